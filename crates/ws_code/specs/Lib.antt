@@ -1,0 +1,6 @@
+pub mod Address
+pub mod Code
+pub mod DataByte
+pub mod FormatWord
+pub mod Push
+pub mod Reason

@@ -1,0 +1,99 @@
+use Rattle.std.specs.Prelude.{ℕ, List, codes}
+use Rattle.ws_code.specs.declared.reason.Reason.{Reason}
+use Rattle.ws_code.specs.declared.reason.Reason.TheVariants.{BadCommand, StraySe, BadSub, SubTooLong, LengthBelowHeader, BadType, BadReserved, BadVariableLength, UnknownOpcode, TooLong, TooShort, NoEscape, UnknownCommand, BadAddress, BadSohLength, Resequencing, BadEraseList, BadRepeat, BadFormatByte, StructuredField, AlternateSize, SaveRestore, Roll, ErrorCode, ReadScreen, ReadImmediate, ReadAlternate, ExtendedAttribute, TransparentData, DisplayStructuredField, TooManyFcws, LeftOutShift, BadAid, EndedInside, BadAnswerByte, BackwardAddress, PastEnd, ZeroLength, FieldPastEnd, FieldOverlap, TableFull, RecordBeforeNegotiation, UnsupportedTerminal, UnaskedAnswer, AnswerMismatch}
+
+-- the number of a reason
+abbrev pub number_of : Reason → ℕ
+number_of BadCommand = 1
+number_of StraySe = 2
+number_of BadSub = 3
+number_of SubTooLong = 4
+number_of LengthBelowHeader = 10
+number_of BadType = 11
+number_of BadReserved = 12
+number_of BadVariableLength = 13
+number_of UnknownOpcode = 14
+number_of TooLong = 15
+number_of TooShort = 16
+number_of NoEscape = 20
+number_of UnknownCommand = 21
+number_of BadAddress = 24
+number_of BadSohLength = 25
+number_of Resequencing = 26
+number_of BadEraseList = 27
+number_of BadRepeat = 28
+number_of BadFormatByte = 29
+number_of StructuredField = 30
+number_of AlternateSize = 31
+number_of SaveRestore = 32
+number_of Roll = 33
+number_of ErrorCode = 34
+number_of ReadScreen = 35
+number_of ReadImmediate = 36
+number_of ReadAlternate = 37
+number_of ExtendedAttribute = 38
+number_of TransparentData = 39
+number_of DisplayStructuredField = 40
+number_of TooManyFcws = 41
+number_of LeftOutShift = 42
+number_of BadAid = 43
+number_of EndedInside = 44
+number_of BadAnswerByte = 45
+number_of BackwardAddress = 50
+number_of PastEnd = 51
+number_of ZeroLength = 52
+number_of FieldPastEnd = 53
+number_of FieldOverlap = 54
+number_of TableFull = 55
+number_of RecordBeforeNegotiation = 60
+number_of UnsupportedTerminal = 61
+number_of UnaskedAnswer = 62
+number_of AnswerMismatch = 63
+
+-- its name, as it is printed
+abbrev pub name_of : Reason → List ℕ
+name_of BadCommand = codes "BadCommand"
+name_of StraySe = codes "StraySe"
+name_of BadSub = codes "BadSub"
+name_of SubTooLong = codes "SubTooLong"
+name_of LengthBelowHeader = codes "LengthBelowHeader"
+name_of BadType = codes "BadType"
+name_of BadReserved = codes "BadReserved"
+name_of BadVariableLength = codes "BadVariableLength"
+name_of UnknownOpcode = codes "UnknownOpcode"
+name_of TooLong = codes "TooLong"
+name_of TooShort = codes "TooShort"
+name_of NoEscape = codes "NoEscape"
+name_of UnknownCommand = codes "UnknownCommand"
+name_of BadAddress = codes "BadAddress"
+name_of BadSohLength = codes "BadSohLength"
+name_of Resequencing = codes "Resequencing"
+name_of BadEraseList = codes "BadEraseList"
+name_of BadRepeat = codes "BadRepeat"
+name_of BadFormatByte = codes "BadFormatByte"
+name_of StructuredField = codes "StructuredField"
+name_of AlternateSize = codes "AlternateSize"
+name_of SaveRestore = codes "SaveRestore"
+name_of Roll = codes "Roll"
+name_of ErrorCode = codes "ErrorCode"
+name_of ReadScreen = codes "ReadScreen"
+name_of ReadImmediate = codes "ReadImmediate"
+name_of ReadAlternate = codes "ReadAlternate"
+name_of ExtendedAttribute = codes "ExtendedAttribute"
+name_of TransparentData = codes "TransparentData"
+name_of DisplayStructuredField = codes "DisplayStructuredField"
+name_of TooManyFcws = codes "TooManyFcws"
+name_of LeftOutShift = codes "LeftOutShift"
+name_of BadAid = codes "BadAid"
+name_of EndedInside = codes "EndedInside"
+name_of BadAnswerByte = codes "BadAnswerByte"
+name_of BackwardAddress = codes "BackwardAddress"
+name_of PastEnd = codes "PastEnd"
+name_of ZeroLength = codes "ZeroLength"
+name_of FieldPastEnd = codes "FieldPastEnd"
+name_of FieldOverlap = codes "FieldOverlap"
+name_of TableFull = codes "TableFull"
+name_of RecordBeforeNegotiation = codes "RecordBeforeNegotiation"
+name_of UnsupportedTerminal = codes "UnsupportedTerminal"
+name_of UnaskedAnswer = codes "UnaskedAnswer"
+name_of AnswerMismatch = codes "AnswerMismatch"

@@ -1,0 +1,73 @@
+ghost use Rattle.std.specs.Prelude.{◌≡◌, ◌≢◌, ◌++◌, ◌∷◌, ◌<◌, [], List, ℕ};
+ghost use Rattle.ws_code.specs.Code.{Rules, Stands, IsSpelled, IsPrefix, IsUnfinished, IsPrefixFree, AreBytes};
+ghost use Rattle.ws_code.specs.Push.{MatchPush};
+
+use crate::Reason;
+
+/// What a machine answers to a byte.
+#[derive(Debug, Drop)]
+pub enum Push<U> {
+    /// The bytes so far begin some unit's spelling.
+    More,
+    /// They are the spelling of this unit.
+    Unit(U),
+    /// They begin no unit's spelling.
+    Bad(Reason),
+}
+
+/// A code that is read byte by byte. A machine is seen as its place and its unfinished spelling.
+///
+/// The units that may stand at one place form a prefix code: no spelling is a prefix of another.
+pub trait Code: Drop {
+    /// What is read.
+    type Unit: Drop;
+    /// Where a unit stands. It says which units may stand there.
+    type Place: Copy;
+
+    ghost rules: { Rules Self.Place Self.Unit };
+
+    ghost place: { Self → Self.Place };
+
+    ghost unfinished: { Self → List ℕ };
+
+    /// Where a list of units begins.
+    fn first() -> Self::Place
+        ensures { result ≡ rules.first };
+
+    /// Where the unit after this one stands.
+    fn after(unit: &Self::Unit) -> Self::Place
+        ensures { result ≡ rules.after unit.now };
+
+    /// A new machine, which has taken no byte.
+    fn start(at: Self::Place) -> Self
+        ensures place { place result ≡ at }
+        ensures fresh { unfinished result ≡ [] };
+
+    /// Takes a byte. After `Unit` or `Bad` a new machine is started.
+    fn push(&mut self, byte: u8) -> Push<Self::Unit>
+        requires { IsUnfinished rules (place self.old) (unfinished self.old) }
+        ensures more { MatchPush result
+            (IsUnfinished rules (place self.old) (unfinished self.old ++ byte ∷ [])
+            × (place self.new ≡ place self.old)
+            × (unfinished self.new ≡ unfinished self.old ++ byte ∷ []))
+            (λ _. Unit {0}) (λ _. Unit {0}) }
+        ensures unit { MatchPush result (Unit {0})
+            (λ unit. IsSpelled rules (place self.old) (unfinished self.old ++ byte ∷ []) unit)
+            (λ _. Unit {0}) }
+        ensures bad { MatchPush result (Unit {0}) (λ _. Unit {0})
+            (λ reason. ¬ IsPrefix rules (place self.old) (unfinished self.old ++ byte ∷ [])
+            × (reason ≡ rules.reason (place self.old) (unfinished self.old) byte)) };
+
+    /// Has no effect, and tells that a unit in hand is in the code's range.
+    fn known(unit: &Self::Unit)
+        ensures { rules.is_unit unit.now };
+
+    // No spelling is empty, and each is of bytes.
+    ghost nonempty: { (unit : Self.Unit) → rules.is_unit unit → rules.spelling unit ≢ [] };
+
+    ghost bytes: { (unit : Self.Unit) → rules.is_unit unit → AreBytes (rules.spelling unit) };
+    // At one place no spelling is a prefix of another, and some unit may stand there.
+    ghost prefix_free: { IsPrefixFree rules };
+
+    ghost begins: { (place : Self.Place) → IsUnfinished rules place [] };
+}

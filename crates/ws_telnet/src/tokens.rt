@@ -1,0 +1,196 @@
+ghost use Rattle.std.specs.Prelude.{◌≡◌, ◌≢◌, ◌++◌, ◌∷◌, ◌<◌, ◌≤◌, [], List, ℕ, ◌⊎◌, IfSome, IfNone};
+ghost use Rattle.ws_telnet.specs.Token.{token_rules, token_reason, IsToken, command_byte, verb_byte};
+ghost use Rattle.ws_code.specs.Code.{IsSpelled, IsPrefix, IsUnfinished};
+ghost use Rattle.ws_code.specs.Push.{MatchPush};
+ghost use Rattle.ws_telnet.specs.Machine.{unfinished_of};
+ghost use Rattle.ws_telnet.specs.TokenLaws.{token_nonempty, token_bytes_are, token_prefix_free, token_begins};
+
+use crate::{CommandCode, Sub, Telnet, Token, Verb};
+use arrayvec::ArrayVec;
+use ws_code::{ByteList, Code, Push, Reason};
+
+/// What a machine waits for.
+#[derive(Clone, Copy, Debug, PartialEq, Eq)]
+enum Phase {
+    Begin,
+    Iac,
+    Negotiation(Verb),
+    SubOption,
+    Content,
+    ContentIac,
+}
+
+/// Reads tokens byte by byte.
+#[derive(Debug, Drop)]
+pub struct Tokens {
+    phase: Phase,
+    option: u8,
+    content: ArrayVec<u8, 64>,
+}
+
+fn command_of(byte: u8) -> Option<CommandCode>
+    ensures some { IfSome result (λ code. command_byte code ≡ byte) }
+    ensures none { IfNone result ((byte < 0xf1) ⊎ (0xf9 < byte)) }
+{
+    match byte {
+        0xf1 => Some(CommandCode::Nop),
+        0xf2 => Some(CommandCode::DataMark),
+        0xf3 => Some(CommandCode::Break),
+        0xf4 => Some(CommandCode::InterruptProcess),
+        0xf5 => Some(CommandCode::AbortOutput),
+        0xf6 => Some(CommandCode::AreYouThere),
+        0xf7 => Some(CommandCode::EraseCharacter),
+        0xf8 => Some(CommandCode::EraseLine),
+        0xf9 => Some(CommandCode::GoAhead),
+        _ => None,
+    }
+}
+
+fn verb_of(byte: u8) -> Option<Verb>
+    ensures some { IfSome result (λ verb. verb_byte verb ≡ byte) }
+    ensures none { IfNone result ((byte < 0xfb) ⊎ (0xfe < byte)) }
+{
+    match byte {
+        0xfb => Some(Verb::Will),
+        0xfc => Some(Verb::Wont),
+        0xfd => Some(Verb::Do),
+        0xfe => Some(Verb::Dont),
+        _ => None,
+    }
+}
+
+impl Tokens {
+    // What follows an FF outside a subnegotiation.
+    fn after_iac(&mut self, byte: u8) -> Push<Token>
+        ensures more { MatchPush result (IsUnfinished token_rules tt (0xff ∷ byte ∷ [])
+            × (unfinished_of self.new ≡ 0xff ∷ byte ∷ [])) (λ _. Unit {0}) (λ _. Unit {0}) }
+        ensures unit { MatchPush result (Unit {0}) (λ unit. IsSpelled token_rules tt (0xff ∷ byte ∷ []) unit) (λ _. Unit {0}) }
+        ensures bad { MatchPush result (Unit {0}) (λ _. Unit {0}) (λ reason. ¬ IsPrefix token_rules tt (0xff ∷ byte ∷ [])
+            × (reason ≡ token_reason (0xff ∷ []) byte)) }
+    {
+        if byte == 0xff {
+            return Push::Unit(Token::Data(byte));
+        }
+        if byte == 0xef {
+            return Push::Unit(Token::Eor);
+        }
+        if byte == 0xfa {
+            self.phase = Phase::SubOption;
+            return Push::More;
+        }
+        if let Some(code) = command_of(byte) {
+            return Push::Unit(Token::Telnet(Telnet::Command(code)));
+        }
+        if let Some(verb) = verb_of(byte) {
+            self.phase = Phase::Negotiation(verb);
+            return Push::More;
+        }
+        if byte == 0xf0 {
+            Push::Bad(Reason::StraySe)
+        } else {
+            Push::Bad(Reason::BadCommand)
+        }
+    }
+}
+
+impl Code for Tokens {
+    type Unit = Token;
+
+    type Place = ();
+
+    ghost rules = { token_rules };
+
+    ghost place = { λ _. tt };
+
+    ghost unfinished = { unfinished_of };
+
+    ghost nonempty = { token_nonempty };
+
+    ghost bytes = { token_bytes_are };
+
+    ghost prefix_free = { token_prefix_free };
+
+    ghost begins = { token_begins };
+
+    fn first() -> () {
+        ()
+    }
+
+    fn after(_unit: &Token) -> () {
+        ()
+    }
+
+    fn start(_at: ()) -> Self {
+        Tokens {
+            phase: Phase::Begin,
+            option: 0,
+            content: ArrayVec::new(),
+        }
+    }
+
+    fn push(&mut self, byte: u8) -> Push<Token> {
+        match self.phase {
+            Phase::Begin => {
+                if byte == 0xff {
+                    self.phase = Phase::Iac;
+                    Push::More
+                } else {
+                    Push::Unit(Token::Data(byte))
+                }
+            }
+            Phase::Iac => self.after_iac(byte),
+            Phase::Negotiation(verb) => Push::Unit(Token::Telnet(Telnet::Option(verb, byte))),
+            Phase::SubOption => {
+                self.option = byte;
+                self.content.clear();
+                self.phase = Phase::Content;
+                Push::More
+            }
+            Phase::Content => {
+                if byte == 0xff {
+                    self.phase = Phase::ContentIac;
+                    Push::More
+                } else if self.content.is_full() {
+                    Push::Bad(Reason::SubTooLong)
+                } else {
+                    self.content.push(byte);
+                    Push::More
+                }
+            }
+            Phase::ContentIac => {
+                if byte == 0xf0 {
+                    let content = std::mem::replace(&mut self.content, ArrayVec::new());
+                    Push::Unit(Token::Telnet(Telnet::Sub(Sub {
+                        option: self.option,
+                        data_: ByteList::of(content),
+                    })))
+                } else if byte != 0xff {
+                    Push::Bad(Reason::BadSub)
+                } else if self.content.is_full() {
+                    Push::Bad(Reason::SubTooLong)
+                } else {
+                    self.content.push(byte);
+                    self.phase = Phase::Content;
+                    Push::More
+                }
+            }
+        }
+    }
+
+    fn known(unit: &Token) {
+        match unit {
+            Token::Data(_byte) => {
+                let _read = *_byte;
+            }
+            Token::Eor => {}
+            Token::Telnet(Telnet::Command(_code)) => {}
+            Token::Telnet(Telnet::Option(_verb, _option)) => {
+                let _read = *_option;
+            }
+            Token::Telnet(Telnet::Sub(_sub)) => {
+                let _read = _sub.option;
+                let _bytes = _sub.data_.as_slice();
+            }
+        }
+    }
+}

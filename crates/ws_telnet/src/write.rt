@@ -1,0 +1,63 @@
+ghost use Rattle.std.specs.Prelude.{◌≡◌, ◌++◌, ◌∷◌, ◌+◌, ◌*◌, ◌≤◌, [], length};
+ghost use Rattle.std.specs.List.{flat_map};
+ghost use Rattle.ws_telnet.specs.Token.{doubled, telnet_spelling, token_spelling};
+
+use crate::{Telnet, Token};
+use arrayvec::ArrayVec;
+
+/// Replaces what the list held by the token's spelling (RFC 854; EOR: RFC 885).
+pub fn spell(token: &Token, into: &mut ArrayVec<u8, 133>)
+    ensures { into.new.items ≡ token_spelling token.now }
+{
+    into.clear();
+    match token {
+        Token::Data(byte) => push_doubled(into, *byte),
+        Token::Eor => {
+            into.push(0xff);
+            into.push(0xef);
+        }
+        Token::Telnet(telnet) => spell_telnet(telnet, into),
+    }
+}
+
+fn spell_telnet(telnet: &Telnet, into: &mut ArrayVec<u8, 133>)
+    requires { into.old.items ≡ [] }
+    ensures { into.new.items ≡ telnet_spelling telnet.now }
+{
+    into.push(0xff);
+    match telnet {
+        Telnet::Command(code) => into.push(code.byte()),
+        Telnet::Option(verb, option) => {
+            into.push(verb.byte());
+            into.push(*option);
+        }
+        Telnet::Sub(sub) => {
+            into.push(0xfa);
+            into.push(sub.option);
+            push_all_doubled(into, sub.data_.as_slice());
+            into.push(0xff);
+            into.push(0xf0);
+        }
+    }
+}
+
+// An FF among a subnegotiation's bytes and a record's is doubled.
+fn push_doubled(into: &mut ArrayVec<u8, 133>, byte: u8)
+    requires { length into.old.items + 2 ≤ 133 }
+    ensures { into.new.items ≡ into.old.items ++ doubled byte }
+{
+    into.push(byte);
+    if byte == 0xff {
+        into.push(byte);
+    }
+}
+
+fn push_all_doubled(into: &mut ArrayVec<u8, 133>, bytes: &[u8])
+    requires { length into.old.items + 2 * length bytes.now ≤ 131 }
+    ensures items { into.new.items ≡ into.old.items ++ flat_map doubled bytes.now }
+    ensures room { length into.new.items ≤ 131 }
+{
+    for byte in bytes {
+        push_doubled(into, *byte);
+    }
+}
