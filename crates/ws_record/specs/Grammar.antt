@@ -1,0 +1,122 @@
+use Rattle.std.specs.Prelude.{◌≡◌, ◌≢◌, ℕ, ◌+◌, ◌/◌, ◌%◌, ◌^◌, ◌<◌, List, [], ◌∷◌, ◌++◌, map, length}
+use Rattle.std.specs.List.{flat_map, AllByRecursion}
+use Rattle.ws_code.specs.Code.{Rules, IsWhole, IsCut, spelling_of}
+use Rattle.ws_telnet.specs.Token.{token_rules}
+use Rattle.ws_telnet.specs.declared.token.Telnet.{Telnet}
+use Rattle.ws_telnet.specs.declared.token.Token.{Token}
+use Rattle.ws_telnet.specs.declared.token.Token.TheVariants.{Data, Eor, Telnet as TelnetToken}
+use Rattle.ws_record.specs.declared.opcode.Opcode.{Opcode}
+use Rattle.ws_record.specs.declared.opcode.Opcode.TheVariants.{NoOperation, Invite, OutputOnly, PutGet, SaveScreen, RestoreScreen, ReadImmediate, ReadScreen, CancelInvite, MessageLightOn, MessageLightOff}
+use Rattle.ws_record.specs.declared.record.Record.{Record}
+use Rattle.ws_record.specs.declared.record.Item.{Item}
+use Rattle.ws_record.specs.declared.record.Item.TheVariants.{Record as RecordItem, Telnet as TelnetItem}
+
+-- Records (RFC 1205, section 3)
+
+-- two bytes, the high one first
+abbrev pub two_bytes : ℕ → List ℕ
+two_bytes n = n / 256 ∷ n % 256 ∷ []
+
+abbrev pub opcode_byte : Opcode → ℕ
+opcode_byte NoOperation = 0x00
+opcode_byte Invite = 0x01
+opcode_byte OutputOnly = 0x02
+opcode_byte PutGet = 0x03
+opcode_byte SaveScreen = 0x04
+opcode_byte RestoreScreen = 0x05
+opcode_byte ReadImmediate = 0x06
+opcode_byte ReadScreen = 0x08
+opcode_byte CancelInvite = 0x0a
+opcode_byte MessageLightOn = 0x0b
+opcode_byte MessageLightOff = 0x0c
+
+-- the ten header bytes of a record of this length
+abbrev pub header : ℕ → ℕ → Opcode → List ℕ
+header len flags opcode = two_bytes len ++ 0x12 ∷ 0xa0 ∷ 0 ∷ 0 ∷ 4 ∷ [] ++ two_bytes flags ++ opcode_byte opcode ∷ []
+
+-- the header is right, and declares the length of the whole
+pub record IsFramed (bytes : List ℕ) : Type 0 where
+  pub flags : ℕ
+  pub opcode : Opcode
+  pub rest : List ℕ
+  pub flags_fit : flags < 2 ^ 16
+  pub length_fits : length bytes < 2 ^ 16
+  pub spelled : bytes ≡ header (length bytes) flags opcode ++ rest
+
+module _ {Place U : Type 0} where
+  -- what stands behind the header is the spelling of a body
+  pub record IsBodyBytes (rules : Rules Place U) (bytes : List ℕ) : Type 0 where
+    pub units : List U
+    pub whole : IsWhole rules units
+    pub spelled : bytes ≡ spelling_of rules units
+
+  -- the bytes of a record, before an FF is doubled
+  abbrev pub record_bytes : Rules Place U → Record U → List ℕ
+  record_bytes rules r = header (10 + length (spelling_of rules r.body)) r.flags r.opcode ++ spelling_of rules r.body
+
+  pub record IsRecord (rules : Rules Place U) (r : Record U) : Type 0 where
+    pub body : IsWhole rules r.body
+    pub flags_fit : r.flags < 2 ^ 16
+    pub length_fits : length (record_bytes rules r) < 2 ^ 16
+
+-- Streams (RFC 885: EOR ends a record; RFC 854: a command may stand between any two tokens)
+
+-- the record bytes that a token carries, and the command that it is
+abbrev pub data_of : Token → List ℕ
+data_of (Data b) = b ∷ []
+data_of Eor = []
+data_of (TelnetToken t) = []
+
+abbrev pub command_of : Token → List Telnet
+command_of (Data b) = []
+command_of Eor = []
+command_of (TelnetToken t) = t ∷ []
+
+abbrev pub carried : List Token → List ℕ
+carried tokens = flat_map data_of tokens
+
+abbrev pub commands : {U : Type 0} → List Token → List (Item U)
+commands tokens = map TelnetItem (flat_map command_of tokens)
+
+abbrev pub HasNoEor : List Token → Type 0
+HasNoEor tokens = AllByRecursion (λ t. t ≢ Eor) tokens
+
+-- the parts, each with an Eor behind it, and the rest
+abbrev pub joined : List (List Token) → List Token → List Token
+joined parts rest = flat_map (λ part. part ++ Eor ∷ []) parts ++ rest
+
+-- A stream whose records' bytes are all so. Nothing stands in an open record.
+pub record IsStream (P : List ℕ → Type 0) (bytes : List ℕ) : Type 0 where
+  pub parts : List (List Token)
+  pub rest : List Token
+  pub no_eor : AllByRecursion HasNoEor parts × HasNoEor rest
+  pub each : AllByRecursion (λ part. P (carried part)) parts
+  pub closed : carried rest ≡ []
+  pub tokens : IsWhole token_rules (joined parts rest)
+  pub spelled : bytes ≡ spelling_of token_rules (joined parts rest)
+
+module _ {Place U : Type 0} where
+  -- tokens before an Eor, and the record whose bytes they carry
+  pub record IsStretch (rules : Rules Place U) (stretch : List Token × Record U) : Type 0 where
+    pub no_eor : HasNoEor stretch.0
+    pub is_record : IsRecord rules stretch.1
+    pub carries : carried stretch.0 ≡ record_bytes rules stretch.1
+
+  -- The bytes hold the items, then an open record of these bytes, then an unfinished token.
+  -- A command inside a record comes before it.
+  pub record Holds (rules : Rules Place U) (bytes : List ℕ) (items : List (Item U)) (record_so_far begun : List ℕ) : Type 0 where
+    pub stretches : List (List Token × Record U)
+    pub rest : List Token
+    pub each : AllByRecursion (IsStretch rules) stretches
+    pub no_eor : HasNoEor rest
+    pub cut : IsCut token_rules bytes (joined (map (λ s. s.0) stretches) rest) begun
+    pub are_items : items ≡ flat_map (λ s. commands s.0 ++ RecordItem s.1 ∷ []) stretches ++ commands rest
+    pub is_open : record_so_far ≡ carried rest
+
+  -- the bytes spell the items
+  abbrev pub Spells : Rules Place U → List ℕ → List (Item U) → Type 0
+  Spells rules bytes items = (record_so_far : List ℕ) × Holds rules bytes items record_so_far []
+
+  -- they are in the grammar, and spell them
+  abbrev pub Accepts : Rules Place U → List ℕ → List (Item U) → Type 0
+  Accepts rules bytes items = Holds rules bytes items [] []

@@ -1,0 +1,12 @@
+//! Records of the 5250 data stream over any body (RFC 1205), and streams of them.
+#![tactic(auto)]
+
+mod laws;
+mod opcode;
+mod raw;
+mod record;
+
+pub use laws::one_reading;
+pub use opcode::Opcode;
+pub use raw::RawBody;
+pub use record::{Head, Item, Record};
