@@ -1,3 +1,5 @@
 pub mod Grammar
+pub mod HeaderSoFar
+pub mod OpenRecord
 pub mod RawBody
 pub mod Refusal
