@@ -196,3 +196,38 @@ pub can_means : (xs : List ℕ) → CanBeFramed xs → HeaderSoFar xs × (1 < le
 can_means xs can =
     let facts = framed_means (xs ++ can.more) can.framed in
     (header_front xs can.more facts.so_far, λ k. omega (arith, facts.declares, length-append xs can.more, get_or-append xs can.more 0 0 (omega arith), get_or-append xs can.more 0 1 k))
+
+-- a byte that no right header has at its place
+module _ (xs : List ℕ) (b : ℕ) (m : List ℕ) (f : IsFramed (xs ++ b ∷ m)) where
+  next_cell : (i : ℕ) → length xs ≡ i → get_or (xs ++ b ∷ m) i 0 ≡ b
+  next_cell i e = subst (λ (n : ℕ). get_or (xs ++ b ∷ m) n 0 ≡ b) e (get_or-append_seam xs b m 0)
+
+  facts : HeaderSoFar (xs ++ b ∷ m)
+  facts = (framed_means (xs ++ b ∷ m) f).so_far
+
+  there : (i : ℕ) → length xs ≡ i → i < length (xs ++ b ∷ m)
+  there i e = omega (arith, length-append xs (b ∷ m))
+
+  pub no_length : length xs ≡ 1 → get_or xs 0 0 ≡ 0 → b < 10 → ⊥
+  no_length e z k = omega (arith, facts.declares (there 1 e), next_cell 1 e, get_or-append xs (b ∷ m) 0 0 (omega arith))
+
+  pub no_kind_high : length xs ≡ 2 → b ≢ 0x12 → ⊥
+  no_kind_high e ne = ne (sym (next_cell 2 e) ∙ facts.kind_high (there 2 e))
+
+  pub no_kind_low : length xs ≡ 3 → b ≢ 0xa0 → ⊥
+  no_kind_low e ne = ne (sym (next_cell 3 e) ∙ facts.kind_low (there 3 e))
+
+  pub no_reserved_high : length xs ≡ 4 → b ≢ 0 → ⊥
+  no_reserved_high e ne = ne (sym (next_cell 4 e) ∙ facts.reserved_high (there 4 e))
+
+  pub no_reserved_low : length xs ≡ 5 → b ≢ 0 → ⊥
+  no_reserved_low e ne = ne (sym (next_cell 5 e) ∙ facts.reserved_low (there 5 e))
+
+  pub no_variable_length : length xs ≡ 6 → b ≢ 4 → ⊥
+  no_variable_length e ne = ne (sym (next_cell 6 e) ∙ facts.variable_length (there 6 e))
+
+  pub no_opcode : length xs ≡ 9 → ((opcode : Opcode) → opcode_byte opcode ≡ b → ⊥) → ⊥
+  no_opcode e none = let o = facts.opcode (there 9 e) in none o.0 (o.1 ∙ next_cell 9 e)
+
+  pub no_room : 1 < length xs → declared xs ≤ length xs → ⊥
+  no_room k e = omega (arith, (framed_means (xs ++ b ∷ m) f).declares, length-append xs (b ∷ m), get_or-append xs (b ∷ m) 0 0 (omega arith), get_or-append xs (b ∷ m) 0 1 k)

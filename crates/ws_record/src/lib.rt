@@ -3,6 +3,7 @@
 
 mod laws;
 mod opcode;
+mod open_record;
 mod raw;
 mod record;
 

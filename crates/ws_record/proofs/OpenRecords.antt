@@ -1,0 +1,272 @@
+use Rattle.std.proofs.Common.{◌≡◌, ◌≢◌, ℕ, ◌+◌, ◌-◌, ◌*◌, ◌/◌, ◌%◌, ◌<◌, ◌≤◌, ◌^◌, Bool, true, false, List, [], ◌∷◌, ◌++◌, ◌⊎◌, inl, inr, Option, Some, None, length, drop, take, get_or, refl, sym, ap, ◌∙◌, subst, arith, append_assoc, length-append, length-take, length-drop}
+use Rattle.std.proofs.Math.ListN.{get_or-append, drop_of_length-le}
+use Rattle.std.proofs.Math.Seq.{get_or-append_seam}
+use Rattle.std.proofs.lemmas.Bool.{le-ltb}
+use Rattle.std.specs.Prelude.{IfSome, nat_lt}
+use Rattle.std.proofs.lemmas.List.{get_or-take, take-append-le, drop-append-le, take_all, append-nil, take-append-drop}
+use Rattle.ws_code.specs.Code.{Rules, IsPrefixFree, IsUnfinished, IsSpelled, IsPrefix, IsCut, AreBytes, place_after}
+use Rattle.ws_code.proofs.CodeLaws.{Begins, one_cut, cut_more, cut_unit, cut_bad, cut_begins, place_after_more}
+use Rattle.ws_code.specs.declared.reason.Reason.{Reason}
+use Rattle.ws_code.specs.declared.reason.Reason.TheVariants.{TooLong, TooShort, EndedInside, UnknownOpcode}
+use Rattle.ws_telnet.specs.declared.token.Token.TheVariants.{Data}
+use Rattle.ws_record.specs.declared.opcode.Opcode.{Opcode}
+use Rattle.ws_record.specs.declared.record.Head.{Head}
+use Rattle.ws_record.specs.Grammar.{IsFramed, IsBodyBytes, header, opcode_byte}
+use Rattle.ws_record.specs.Refusal.{header_reason, IsBodyReason}
+use Rattle.ws_record.specs.HeaderSoFar.{HeaderSoFar, declared}
+use Rattle.ws_record.specs.OpenRecord.{RecordSoFar, no_record, CanBeFramed, IsHead, Keeping, Reads, IsDataRefused, IsEndRefused}
+use Rattle.ws_record.proofs.Headers.{HeaderFacts, can_be_framed, can_means, framed_means, framed_from, header_length, header_append, byte_at, AreBytes-both, no_opcode, no_room, ten_cells}
+
+-- bytes that are fewer than ten are all of their first ten
+pub take_short : (xs : List ℕ) → length (take 10 xs) < 10 → take 10 xs ≡ xs
+take_short xs h = take_all 10 xs (omega (arith, length-take 10 xs))
+
+empty_take : (xs : List ℕ) → take 10 xs ≡ [] → xs ≡ []
+empty_take [] e = refl
+empty_take (x ∷ xs) e = cc
+
+empty_header : HeaderSoFar []
+empty_header = record { declares = λ k. absurd (omega arith); kind_high = λ k. absurd (omega arith); kind_low = λ k. absurd (omega arith); reserved_high = λ k. absurd (omega arith);
+  reserved_low = λ k. absurd (omega arith); variable_length = λ k. absurd (omega arith); opcode = λ k. absurd (omega arith) }
+
+pub nothing_framed : CanBeFramed []
+nothing_framed = can_be_framed [] tt empty_header (λ k. absurd (omega arith))
+
+-- a head comes with the tenth byte
+no_head : (head : Option Head) (bytes : List ℕ) → IsHead head bytes → length bytes < 10 → head ≡ None
+no_head None bytes is short = refl
+no_head (Some h) bytes is short = absurd (omega (arith, length-take 10 bytes, ap length is.2, header_length h.length h.flags h.opcode []))
+
+pub head_long : (h : Head) (bytes : List ℕ) → IsHead (Some h) bytes → 10 ≤ length bytes
+head_long h bytes is = omega (arith, length-take 10 bytes, ap length is.2, header_length h.length h.flags h.opcode [])
+
+-- and says what the first two bytes declare
+pub head_declares : (h : Head) (bytes : List ℕ) → IsHead (Some h) bytes → declared bytes ≡ h.length
+head_declares h bytes is =
+    let cell : (i : ℕ) → i < 10 → get_or bytes i 0 ≡ get_or (header h.length h.flags h.opcode) i 0 = λ i k. sym (get_or-take 10 bytes i 0 k) ∙ ap (λ (l : List ℕ). get_or l i 0) is.2 in
+    let high : get_or bytes 0 0 ≡ h.length / 256 = cell 0 (omega arith) in
+    let low : get_or bytes 1 0 ≡ h.length % 256 = cell 1 (omega arith) in
+    omega arith
+
+-- ten bytes of a right header are the header of what they say
+header_from : (xs : List ℕ) (opcode : Opcode) (n flags : ℕ) → AreBytes xs → HeaderSoFar xs → length xs ≡ 10 → n ≡ declared xs → flags ≡ get_or xs 7 0 * 256 + get_or xs 8 0 → opcode_byte opcode ≡ get_or xs 9 0 → xs ≡ header n flags opcode
+header_from xs opcode n flags are h ten says flag_bytes op =
+    let b0 : get_or xs 0 0 < 256 = byte_at xs 0 are in
+    let b1 : get_or xs 1 0 < 256 = byte_at xs 1 are in
+    let b7 : get_or xs 7 0 < 256 = byte_at xs 7 are in
+    let b8 : get_or xs 8 0 < 256 = byte_at xs 8 are in
+    let c0 : get_or xs 0 0 ≡ n / 256 = omega arith in
+    let c1 : get_or xs 1 0 ≡ n % 256 = omega arith in
+    let c2 : get_or xs 2 0 ≡ 0x12 = h.kind_high (omega arith) in
+    let c3 : get_or xs 3 0 ≡ 0xa0 = h.kind_low (omega arith) in
+    let c4 : get_or xs 4 0 ≡ 0 = h.reserved_high (omega arith) in
+    let c5 : get_or xs 5 0 ≡ 0 = h.reserved_low (omega arith) in
+    let c6 : get_or xs 6 0 ≡ 4 = h.variable_length (omega arith) in
+    let c7 : get_or xs 7 0 ≡ flags / 256 = omega arith in
+    let c8 : get_or xs 8 0 ≡ flags % 256 = omega arith in
+    let c9 : get_or xs 9 0 ≡ opcode_byte opcode = sym op in
+    let none : drop 10 xs ≡ [] = drop_of_length-le xs {i = 10} (omega arith) in
+    ten_cells xs (omega arith) ∙ (cc)
+
+-- data behind ten bytes is refused as too long
+too_long : (xs : List ℕ) (b : ℕ) → 10 ≤ length xs → TooLong ≡ header_reason xs (Data b)
+too_long xs b long =
+    let t2 : nat_lt (length xs) 2 ≡ false = le-ltb (length xs) 2 (omega arith) in
+    let t4 : nat_lt (length xs) 4 ≡ false = le-ltb (length xs) 4 (omega arith) in
+    let t6 : nat_lt (length xs) 6 ≡ false = le-ltb (length xs) 6 (omega arith) in
+    let t7 : nat_lt (length xs) 7 ≡ false = le-ltb (length xs) 7 (omega arith) in
+    let t10 : nat_lt (length xs) 10 ≡ false = le-ltb (length xs) 10 (omega arith) in
+    rw (t2, t4, t6, t7, t10) refl
+
+module _ {Place U : Type 0} (rules : Rules Place U) where
+  -- nothing was read
+  pub reads_nothing : Begins rules → (reader : Keeping Place) → reader.header ≡ [] → reader.place ≡ rules.first → reader.begun ≡ [] → Reads rules reader no_record
+  reads_nothing begins reader h p b = record {
+    bytes = tt; framed = nothing_framed; head = omega arith; header = h; left = tt;
+    cut = record { chain = tt; more = subst (λ (x : List ℕ). IsUnfinished rules rules.first x) (sym b) (begins rules.first); spelled = b };
+    at_place = p }
+
+  no_units : IsPrefixFree rules → Begins rules → (units : List U) (begun : List ℕ) → IsCut rules [] units begun → units ≡ []
+  no_units free begins units begun cut = (one_cut rules free rules.first units [] begun [] cut.chain tt cut.more (begins rules.first) cut.spelled).0
+
+  short_units : IsPrefixFree rules → Begins rules → (bytes : List ℕ) (units : List U) (begun : List ℕ) → length bytes ≤ 10 → IsCut rules (drop 10 bytes) units begun → (units ≡ []) × (begun ≡ [])
+  short_units free begins bytes units begun short cut =
+      one_cut rules free rules.first units [] begun [] cut.chain tt cut.more (begins rules.first) (cut.spelled ∙ drop_of_length-le bytes {i = 10} short)
+
+  pub reads_empty : IsPrefixFree rules → Begins rules → (reader : Keeping Place) (so_far : RecordSoFar U) → Reads rules reader so_far → reader.header ≡ [] → so_far ≡ no_record
+  reads_empty free begins reader so_far r e =
+      let b : so_far.bytes ≡ [] = empty_take so_far.bytes (sym r.header ∙ e) in
+      let short : length so_far.bytes ≤ 10 = omega (arith, ap length b) in
+      let h : so_far.head ≡ None = no_head so_far.head so_far.bytes r.head (omega (arith, ap length b)) in
+      let u : so_far.units ≡ [] = (short_units free begins so_far.bytes so_far.units reader.begun short r.cut).0 in
+      ap (λ (x : List ℕ). let s : RecordSoFar U = record { bytes = x; head = so_far.head; units = so_far.units } in s) b
+      ∙ ap (λ (x : Option Head). let s : RecordSoFar U = record { bytes = []; head = x; units = so_far.units } in s) h
+      ∙ ap (λ (x : List U). let s : RecordSoFar U = record { bytes = []; head = None; units = x } in s) u
+
+  pub reads_filled : (reader : Keeping Place) (so_far : RecordSoFar U) → Reads rules reader so_far → (reader.header ≡ [] → ⊥) → so_far.bytes ≡ [] → ⊥
+  reads_filled reader so_far r ne e = ne (r.header ∙ ap (take 10) e)
+
+  -- a byte of the header
+  pub header_byte : (reader new : Keeping Place) (bytes : List ℕ) (head : Option Head) (units : List U) (b : ℕ) → Reads rules reader (record { bytes = bytes; head = head; units = units }) → length reader.header < 9 → b < 256
+      → (HeaderSoFar reader.header → HeaderSoFar (reader.header ++ b ∷ [])) → new.header ≡ reader.header ++ b ∷ [] → new.place ≡ reader.place → new.begun ≡ reader.begun
+      → Reads rules new (record { bytes = bytes ++ b ∷ []; head = head; units = units })
+  header_byte reader new bytes (Some h) units b r short fits right e p f = absurd (omega (arith, ap length r.header, length-take 10 bytes, head_long h bytes r.head))
+  header_byte reader new bytes None units b r short fits right e p f =
+      let same : reader.header ≡ bytes = r.header ∙ take_short bytes (omega (arith, ap length r.header)) in
+      let total : length (bytes ++ b ∷ []) ≡ length bytes + 1 = length-append bytes (b ∷ []) in
+      let few : length bytes < 9 = omega (arith, ap length same) in
+      let old = can_means bytes r.framed in
+      let new_right : HeaderSoFar (bytes ++ b ∷ []) = subst (λ (x : List ℕ). HeaderSoFar x → HeaderSoFar (x ++ b ∷ [])) same right old.0 in
+      let are : AreBytes (bytes ++ b ∷ []) = AreBytes-both bytes (b ∷ []) r.bytes (fits, tt) in
+      let all : take 10 (bytes ++ b ∷ []) ≡ bytes ++ b ∷ [] = take_all 10 (bytes ++ b ∷ []) (omega arith) in
+      let dropped : drop 10 bytes ≡ drop 10 (bytes ++ b ∷ []) = drop_of_length-le bytes {i = 10} (omega arith) ∙ sym (drop_of_length-le (bytes ++ b ∷ []) {i = 10} (omega arith)) in
+      record {
+        bytes = are;
+        framed = can_be_framed (bytes ++ b ∷ []) are new_right (λ k. omega (arith, new_right.declares k));
+        head = omega arith; header = e ∙ ap (λ (x : List ℕ). x ++ b ∷ []) same ∙ sym all; left = tt;
+        cut = subst (λ (x : List ℕ). IsCut rules x units new.begun) dropped (subst (λ (x : List ℕ). IsCut rules (drop 10 bytes) units x) (sym f) r.cut);
+        at_place = p ∙ r.at_place }
+
+  pub header_refused : (reader : Keeping Place) (so_far : RecordSoFar U) (b : ℕ) (reason : Reason) → Reads rules reader so_far → length reader.header < 10
+      → ((m : List ℕ) → IsFramed (reader.header ++ b ∷ m) → ⊥) → reason ≡ header_reason reader.header (Data b) → IsDataRefused rules so_far.bytes b reason
+  header_refused reader so_far b reason r short bad why =
+      let same : reader.header ≡ so_far.bytes = r.header ∙ take_short so_far.bytes (omega (arith, ap length r.header)) in
+      subst (λ (x : List ℕ). IsDataRefused rules x b reason) same (inl (bad, why))
+
+  -- the tenth byte
+  pub opcode_refused : (reader : Keeping Place) (so_far : RecordSoFar U) (b : ℕ) → Reads rules reader so_far → length reader.header ≡ 9
+      → ((opcode : Opcode) → opcode_byte opcode ≡ b → ⊥) → IsDataRefused rules so_far.bytes b UnknownOpcode
+  opcode_refused reader so_far b r nine none =
+      header_refused reader so_far b UnknownOpcode r (omega arith) (λ m f. no_opcode reader.header b m f nine none) (rw nine refl)
+
+  pub opcode_byte_read : IsPrefixFree rules → Begins rules → (reader new : Keeping Place) (bytes : List ℕ) (head : Option Head) (units : List U) (b flags n : ℕ) (opcode : Opcode) → Reads rules reader (record { bytes = bytes; head = head; units = units }) → length reader.header ≡ 9 → b < 256
+      → HeaderSoFar (reader.header ++ b ∷ []) → n ≡ get_or reader.header 0 0 * 256 + get_or reader.header 1 0 → flags ≡ get_or reader.header 7 0 * 256 + get_or reader.header 8 0 → opcode_byte opcode ≡ b
+      → new.header ≡ reader.header ++ b ∷ [] → new.left ≡ n - 10 → new.place ≡ reader.place → new.begun ≡ reader.begun
+      → (head ≡ None) × Reads rules new (record { bytes = bytes ++ b ∷ []; head = Some (record { flags = flags; opcode = opcode; length = n }); units = units })
+  opcode_byte_read free begins reader new bytes head units b flags n opcode r nine fits right says flag_bytes op e l p f =
+      let same : reader.header ≡ bytes = r.header ∙ take_short bytes (omega (arith, ap length r.header)) in
+      let total : length (bytes ++ b ∷ []) ≡ length bytes + 1 = length-append bytes (b ∷ []) in
+      let few : length bytes ≡ 9 = omega (arith, ap length same) in
+      let new_right : HeaderSoFar (bytes ++ b ∷ []) = subst (λ (x : List ℕ). HeaderSoFar (x ++ b ∷ [])) same right in
+      let are : AreBytes (bytes ++ b ∷ []) = AreBytes-both bytes (b ∷ []) r.bytes (fits, tt) in
+      let all : take 10 (bytes ++ b ∷ []) ≡ bytes ++ b ∷ [] = take_all 10 (bytes ++ b ∷ []) (omega arith) in
+      let dropped : drop 10 bytes ≡ drop 10 (bytes ++ b ∷ []) = drop_of_length-le bytes {i = 10} (omega arith) ∙ sym (drop_of_length-le (bytes ++ b ∷ []) {i = 10} (omega arith)) in
+      let old : (i : ℕ) → i < 9 → get_or (bytes ++ b ∷ []) i 0 ≡ get_or reader.header i 0 = λ i k. get_or-append bytes (b ∷ []) 0 i (omega arith) ∙ ap (λ (x : List ℕ). get_or x i 0) (sym same) in
+      let last : get_or (bytes ++ b ∷ []) 9 0 ≡ b = subst (λ (i : ℕ). get_or (bytes ++ b ∷ []) i 0 ≡ b) few (get_or-append_seam bytes b [] 0) in
+      let n_is : n ≡ declared (bytes ++ b ∷ []) = omega (arith, old 0 (omega arith), old 1 (omega arith)) in
+      let flags_are : flags ≡ get_or (bytes ++ b ∷ []) 7 0 * 256 + get_or (bytes ++ b ∷ []) 8 0 = omega (arith, old 7 (omega arith), old 8 (omega arith)) in
+      let cells : bytes ++ b ∷ [] ≡ header n flags opcode = header_from (bytes ++ b ∷ []) opcode n flags are new_right (omega arith) n_is flags_are (op ∙ sym last) in
+      let ten : 10 ≤ n = omega (arith, new_right.declares (omega arith)) in
+      (no_head head bytes r.head (omega arith), record {
+        bytes = are;
+        framed = can_be_framed (bytes ++ b ∷ []) are new_right (λ k. omega (arith, new_right.declares k));
+        head = (omega (arith, flags_are, byte_at (bytes ++ b ∷ []) 7 are, byte_at (bytes ++ b ∷ []) 8 are), omega (arith, n_is, byte_at (bytes ++ b ∷ []) 0 are, byte_at (bytes ++ b ∷ []) 1 are), all ∙ cells);
+        header = e ∙ ap (λ (x : List ℕ). x ++ b ∷ []) same ∙ sym all; left = omega arith;
+        cut = subst (λ (x : List ℕ). IsCut rules x units new.begun) dropped (subst (λ (x : List ℕ). IsCut rules (drop 10 bytes) units x) (sym f) r.cut);
+        at_place = p ∙ r.at_place })
+
+  -- behind the tenth byte
+
+  -- what a header's end and what is left of the record say of its bytes
+  record InBody (reader : Keeping Place) (bytes : List ℕ) (head : Option Head) : Type 0 where
+    of : Head
+    is : head ≡ Some of
+    long : 10 ≤ length bytes
+    right : HeaderSoFar bytes
+    counted : length bytes + reader.left ≡ declared bytes
+
+  in_body : (reader : Keeping Place) (bytes : List ℕ) (head : Option Head) (units : List U) → Reads rules reader (record { bytes = bytes; head = head; units = units }) → length reader.header ≡ 10 → InBody reader bytes head
+  in_body reader bytes None units r ten = absurd (omega (arith, ap length r.header, length-take 10 bytes, r.head))
+  in_body reader bytes (Some h) units r ten = record {
+    of = h; is = refl; long = head_long h bytes r.head; right = (can_means bytes r.framed).0;
+    counted = r.left ∙ sym (head_declares h bytes r.head) }
+
+  more_framed : (reader : Keeping Place) (bytes : List ℕ) (head : Option Head) (units : List U) (b : ℕ) → (r : Reads rules reader (record { bytes = bytes; head = head; units = units })) → InBody reader bytes head → b < 256 → (reader.left ≡ 0 → ⊥) → CanBeFramed (bytes ++ b ∷ [])
+  more_framed reader bytes head units b r i fits room =
+      let total : length (bytes ++ b ∷ []) ≡ length bytes + 1 = length-append bytes (b ∷ []) in
+      let same : declared (bytes ++ b ∷ []) ≡ declared bytes = (let long : 10 ≤ length bytes = i.long in omega (arith, get_or-append bytes (b ∷ []) 0 0 (omega arith), get_or-append bytes (b ∷ []) 0 1 (omega arith))) in
+      can_be_framed (bytes ++ b ∷ []) (AreBytes-both bytes (b ∷ []) r.bytes (fits, tt)) (header_append bytes (b ∷ []) i.long i.right)
+        (λ _. (let ne : reader.left ≢ 0 = room in let counted : length bytes + reader.left ≡ declared bytes = i.counted in omega arith))
+
+  body_dropped : (bytes : List ℕ) (b : ℕ) → 10 ≤ length bytes → drop 10 bytes ++ b ∷ [] ≡ drop 10 (bytes ++ b ∷ [])
+  body_dropped bytes b long = sym (drop-append-le 10 bytes (b ∷ []) long)
+
+  body_head : (head : Option Head) (bytes : List ℕ) (b : ℕ) → 10 ≤ length bytes → IsHead head bytes → IsHead head (bytes ++ b ∷ [])
+  body_head None bytes b long is = absurd (omega (arith, is))
+  body_head (Some h) bytes b long is = (is.0, is.1, take-append-le 10 bytes (b ∷ []) long ∙ is.2)
+
+  body_left : (reader new : Keeping Place) (head : Option Head) (bytes : List ℕ) (b : ℕ) → (reader.left ≡ 0 → ⊥) → new.left ≡ reader.left - 1 → IfSome head (λ h. length bytes + reader.left ≡ h.length) → IfSome head (λ h. length (bytes ++ b ∷ []) + new.left ≡ h.length)
+  body_left reader new None bytes b room l h = tt
+  body_left reader new (Some k) bytes b room l h = (let ne : reader.left ≢ 0 = room in omega (arith, h, length-append bytes (b ∷ [])))
+
+  pub body_refused : (reader : Keeping Place) (so_far : RecordSoFar U) (b : ℕ) → Reads rules reader so_far → length reader.header ≡ 10 → reader.left ≡ 0 → IsDataRefused rules so_far.bytes b TooLong
+  body_refused reader so_far b r ten none =
+      let i = in_body reader so_far.bytes so_far.head so_far.units r ten in
+      let long : 10 ≤ length so_far.bytes = i.long in
+      inl ((λ m f. no_room so_far.bytes b m f (omega arith) (omega (arith, i.counted))), too_long so_far.bytes b long)
+
+  pub body_more : (reader new : Keeping Place) (so_far : RecordSoFar U) (b : ℕ) → Reads rules reader so_far → length reader.header ≡ 10 → b < 256 → (reader.left ≡ 0 → ⊥)
+      → IsUnfinished rules reader.place (reader.begun ++ b ∷ []) → new.header ≡ reader.header → new.left ≡ reader.left - 1 → new.place ≡ reader.place → new.begun ≡ reader.begun ++ b ∷ []
+      → Reads rules new (record so_far { bytes = so_far.bytes ++ b ∷ [] })
+  body_more reader new so_far b r ten fits room more e l p f =
+      let i = in_body reader so_far.bytes so_far.head so_far.units r ten in
+      let cut = cut_more rules (drop 10 so_far.bytes) so_far.units reader.begun b r.cut (subst (λ (x : Place). IsUnfinished rules x (reader.begun ++ b ∷ [])) r.at_place more) in
+      record {
+        bytes = AreBytes-both so_far.bytes (b ∷ []) r.bytes (fits, tt);
+        framed = more_framed reader so_far.bytes so_far.head so_far.units b r i fits room;
+        head = body_head so_far.head so_far.bytes b i.long r.head;
+        header = e ∙ r.header ∙ sym (take-append-le 10 so_far.bytes (b ∷ []) i.long);
+        left = body_left reader new so_far.head so_far.bytes b room l r.left;
+        cut = subst (λ (x : List ℕ). IsCut rules x so_far.units new.begun) (body_dropped so_far.bytes b i.long) (subst (λ (x : List ℕ). IsCut rules (drop 10 so_far.bytes ++ b ∷ []) so_far.units x) (sym f) cut);
+        at_place = p ∙ r.at_place }
+
+  pub body_unit : Begins rules → (reader new : Keeping Place) (so_far : RecordSoFar U) (b : ℕ) (unit : U) → Reads rules reader so_far → length reader.header ≡ 10 → b < 256 → (reader.left ≡ 0 → ⊥)
+      → IsSpelled rules reader.place (reader.begun ++ b ∷ []) unit → new.header ≡ reader.header → new.left ≡ reader.left - 1 → new.place ≡ rules.after unit → new.begun ≡ []
+      → Reads rules new (record so_far { bytes = so_far.bytes ++ b ∷ []; units = so_far.units ++ unit ∷ [] })
+  body_unit begins reader new so_far b unit r ten fits room whole e l p f =
+      let i = in_body reader so_far.bytes so_far.head so_far.units r ten in
+      let cut = cut_unit rules begins (drop 10 so_far.bytes) so_far.units reader.begun b unit r.cut (subst (λ (x : Place). IsSpelled rules x (reader.begun ++ b ∷ []) unit) r.at_place whole) in
+      record {
+        bytes = AreBytes-both so_far.bytes (b ∷ []) r.bytes (fits, tt);
+        framed = more_framed reader so_far.bytes so_far.head so_far.units b r i fits room;
+        head = body_head so_far.head so_far.bytes b i.long r.head;
+        header = e ∙ r.header ∙ sym (take-append-le 10 so_far.bytes (b ∷ []) i.long);
+        left = body_left reader new so_far.head so_far.bytes b room l r.left;
+        cut = subst (λ (x : List ℕ). IsCut rules x (so_far.units ++ unit ∷ []) new.begun) (body_dropped so_far.bytes b i.long) (subst (λ (x : List ℕ). IsCut rules (drop 10 so_far.bytes ++ b ∷ []) (so_far.units ++ unit ∷ []) x) (sym f) cut);
+        at_place = p ∙ sym (place_after_more rules rules.first so_far.units unit) }
+
+  pub body_bad : IsPrefixFree rules → Begins rules → (reader : Keeping Place) (so_far : RecordSoFar U) (b : ℕ) (reason : Reason) → Reads rules reader so_far → length reader.header ≡ 10 → b < 256 → (reader.left ≡ 0 → ⊥)
+      → (IsPrefix rules reader.place (reader.begun ++ b ∷ []) → ⊥) → reason ≡ rules.reason reader.place reader.begun b → IsDataRefused rules so_far.bytes b reason
+  body_bad free begins reader so_far b reason r ten fits room bad why =
+      let i = in_body reader so_far.bytes so_far.head so_far.units r ten in
+      inr (more_framed reader so_far.bytes so_far.head so_far.units b r i fits room,
+        (λ m body. cut_bad rules free begins rules.first so_far.units body.units reader.begun b m r.cut.chain body.whole.chain r.cut.more
+          (subst (λ (x : Place). IsPrefix rules x (reader.begun ++ b ∷ []) → ⊥) r.at_place bad)
+          (sym body.spelled ∙ drop-append-le 10 so_far.bytes (b ∷ m) i.long ∙ ap (λ x. x ++ b ∷ m) (sym r.cut.spelled) ∙ append_assoc _ reader.begun (b ∷ m))),
+        (so_far.units, reader.begun, r.cut, why ∙ ap (λ (x : Place). rules.reason x reader.begun b) r.at_place))
+
+  -- the end
+
+  pub end_short : (reader : Keeping Place) (so_far : RecordSoFar U) → Reads rules reader so_far → (length reader.header ≡ 10 → reader.left ≡ 0 → ⊥) → IsEndRefused rules so_far.bytes TooShort
+  end_short reader so_far r short = inl ((λ f. short_framed f), refl)
+    where
+      short_framed : IsFramed so_far.bytes → ⊥
+      short_framed f =
+          let facts = framed_means so_far.bytes f in
+          let ten : length reader.header ≡ 10 = omega (arith, ap length r.header, length-take 10 so_far.bytes, facts.long) in
+          let i = in_body reader so_far.bytes so_far.head so_far.units r ten in
+          short ten (omega (arith, i.counted, facts.declares))
+
+  framed_whole : (reader : Keeping Place) (so_far : RecordSoFar U) → Reads rules reader so_far → length reader.header ≡ 10 → reader.left ≡ 0 → IsFramed so_far.bytes
+  framed_whole reader so_far r ten none =
+      let i = in_body reader so_far.bytes so_far.head so_far.units r ten in
+      framed_from so_far.bytes r.bytes (record {
+        long = i.long; short = omega (arith, i.counted, byte_at so_far.bytes 0 r.bytes, byte_at so_far.bytes 1 r.bytes); declares = (let c : length so_far.bytes + reader.left ≡ declared so_far.bytes = i.counted in omega arith); so_far = i.right })
+
+  pub end_inside : IsPrefixFree rules → Begins rules → (reader : Keeping Place) (so_far : RecordSoFar U) → Reads rules reader so_far → length reader.header ≡ 10 → reader.left ≡ 0
+      → (reader.begun ≡ [] → rules.may_end reader.place ≡ true → ⊥) → IsEndRefused rules so_far.bytes EndedInside
+  end_inside free begins reader so_far r ten none inside =
+      inr (framed_whole reader so_far r ten none,
+        (λ body. (let same : (so_far.units ≡ body.units) × (reader.begun ≡ []) =
+            one_cut rules free rules.first so_far.units body.units reader.begun [] r.cut.chain body.whole.chain r.cut.more (begins _) (r.cut.spelled ∙ body.spelled ∙ sym (append-nil _)) in
+          inside same.1 (ap rules.may_end (r.at_place ∙ ap (place_after rules rules.first) same.0) ∙ body.whole.ends))), refl)

@@ -1,0 +1,6 @@
+use Rattle.std.proofs.Common.{◌≡◌, ◌∷◌, ◌++◌, ℕ, ◌+◌, ◌<◌, ◌≤◌, [], length, true, false, refl, sym, ap, ◌∙◌, subst, arith}
+use Rattle.ws_record.proofs.OpenRecords.{reads_nothing}
+use Rattle.ws_record.proofs.open_record.OpenRecord.new.Goals as goal
+
+pub returns : goal.returns
+returns g c = reads_nothing g.B.Code.rules g.met.B.Code.begins _ c.new.ensures c.first-place.ensures c.start.ensures.fresh
