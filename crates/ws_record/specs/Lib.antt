@@ -1,7 +1,10 @@
 pub mod DataStep
 pub mod Grammar
 pub mod HeaderSoFar
+pub mod Live
 pub mod OpenRecord
 pub mod RawBody
 pub mod ReadyRecord
+pub mod ReadyTokens
 pub mod Refusal
+pub mod TokenStep

@@ -2,12 +2,14 @@
 #![tactic(auto)]
 
 mod laws;
+mod live;
 mod opcode;
 mod open_record;
 mod raw;
 mod record;
 
 pub use laws::one_reading;
+pub use live::{Live, Step};
 pub use opcode::Opcode;
 pub use raw::RawBody;
 pub use record::{Head, Item, Record};
