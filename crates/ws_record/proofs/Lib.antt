@@ -1,8 +1,10 @@
+pub mod Decodes
 pub mod Empty
 pub mod Headers
 pub mod Lives
 pub mod OpenRecords
 pub mod Reading
+pub mod Receivers
 pub mod Refusals
 pub mod Steps
 pub mod Streams

@@ -6,5 +6,6 @@ pub mod OpenRecord
 pub mod RawBody
 pub mod ReadyRecord
 pub mod ReadyTokens
+pub mod Receiver
 pub mod Refusal
 pub mod TokenStep

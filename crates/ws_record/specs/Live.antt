@@ -39,5 +39,11 @@ module _ {Place U : Type 0} where
   IsStep rules new bytes items so_far byte (Whole unit) = LeadsWith rules new (bytes ++ byte ∷ []) items so_far.head (so_far.units ++ unit ∷ [])
   IsStep rules new bytes items so_far byte Close = (head : Head) × (so_far.head ≡ Some head) × Leads rules new (bytes ++ byte ∷ []) (items ++ RecordItem (record_of head so_far.units) ∷ []) no_record
   IsStep rules new bytes items so_far byte (Command telnet) = Leads rules new (bytes ++ byte ∷ []) (items ++ TelnetItem telnet ∷ []) so_far
-  IsStep rules new bytes items so_far byte (Refused place reason) = (place ≡ length bytes) × IsRefused rules (bytes ++ byte ∷ []) place reason × (new.failed ≡ true)
+  IsStep rules new bytes items so_far byte (Refused place reason) = (place ≡ length bytes) × IsRefused rules (bytes ++ byte ∷ []) place reason
   IsStep rules new bytes items so_far byte Failed = ⊥
+
+-- a fact where the step says that nothing follows
+abbrev pub OnEnd : {U : Type 0} → Step U → Type 0 → Type 0
+OnEnd (Refused place reason) P = P
+OnEnd Failed P = P
+OnEnd step P = Unit {0}

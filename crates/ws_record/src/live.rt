@@ -1,9 +1,9 @@
-ghost use Rattle.std.specs.Prelude.{◌≡◌, ◌+◌, ◌<◌, ◌^◌, [], List, ℕ, true, length, IfErr, OnOk, OnErr};
+ghost use Rattle.std.specs.Prelude.{◌≡◌, ◌+◌, ◌<◌, ◌^◌, [], List, ℕ, true, false, IsTrue, ◌↔◌, length, IfErr, OnOk, OnErr};
 ghost use Rattle.ws_record.specs.declared.record.Item.{Item};
 ghost use Rattle.ws_record.specs.Grammar.{Accepts};
 ghost use Rattle.ws_record.specs.Refusal.{IsTruncated};
 ghost use Rattle.ws_record.specs.OpenRecord.{RecordSoFar, no_record};
-ghost use Rattle.ws_record.specs.Live.{Leads, IsStep};
+ghost use Rattle.ws_record.specs.Live.{Leads, IsStep, OnEnd};
 ghost use Rattle.ws_record.specs.TokenStep.{Completes};
 
 use std::marker::Model;
@@ -71,16 +71,35 @@ impl<B: Body> Live<B> {
         }
     }
 
+    /// Whether it takes a byte more. Once it answers false it has failed.
+    pub(crate) fn works(&mut self) -> bool
+        ensures works { IsTrue result ↔ ((self.old.failed ≡ false) × (self.old.taken + 1 < 2 ^ 64)) }
+        ensures same { result ≡ true → self.new ≡ self.old }
+        ensures failed { result ≡ false → self.new ≡ record self.old { failed = true } }
+    {
+        if self.has_failed || self.taken == u64::MAX {
+            self.has_failed = true;
+        }
+        !self.has_failed
+    }
+
+    /// It answers `Failed` from now on.
+    pub(crate) fn fail(&mut self)
+        ensures { self.new ≡ record self.old { failed = true } }
+    {
+        self.has_failed = true;
+    }
+
     /// Takes a byte. After `Refused`, and after 18,446,744,073,709,551,615 bytes, it answers `Failed`.
     pub fn push(&mut self, byte: u8) -> Step<B::Unit>
         ensures step { (bytes : List ℕ) (items : List (Item B.Unit)) (so_far : RecordSoFar B.Unit)
             → Leads B.rules self.old bytes items so_far → length bytes + 1 < 2 ^ 64
             → IsStep B.rules self.new bytes items so_far byte result }
-        ensures full { self.old.taken + 1 ≡ 2 ^ 64 → (result ≡ Step.Failed) × (self.new.failed ≡ true) }
-        ensures failed { self.old.failed ≡ true → (result ≡ Step.Failed) × (self.new.failed ≡ true) }
+        ensures full { self.old.taken + 1 ≡ 2 ^ 64 → result ≡ Step.Failed }
+        ensures failed { self.old.failed ≡ true → result ≡ Step.Failed }
+        ensures after { OnEnd result (self.new.failed ≡ true) }
     {
-        if self.has_failed || self.taken == u64::MAX {
-            self.has_failed = true;
+        if !self.works() {
             return Step::Failed;
         }
         let place = self.taken;
@@ -106,9 +125,10 @@ impl<B: Body> Live<B> {
 
     // Takes a token, which ends with the byte at the place.
     fn take(&mut self, place: u64, token: Token) -> Step<B::Unit>
-        ensures { (bytes : List ℕ) (items : List (Item B.Unit)) (so_far : RecordSoFar B.Unit)
+        ensures step { (bytes : List ℕ) (items : List (Item B.Unit)) (so_far : RecordSoFar B.Unit)
             (begun : List ℕ) (byte : ℕ) → Completes B.rules self.old bytes items so_far begun byte token
             → place ≡ length bytes → IsStep B.rules self.new bytes items so_far byte result }
+        ensures after { OnEnd result (self.new.failed ≡ true) }
     {
         match token {
             Token::Telnet(telnet) => Step::Telnet(telnet),
@@ -145,8 +165,7 @@ impl<B: Body> Live<B> {
         ensures failed { self.old.failed ≡ true → result ≡ Err Fault.Failed }
         ensures after { OnErr result (self.new.failed ≡ true) }
     {
-        if self.has_failed || self.taken == u64::MAX {
-            self.has_failed = true;
+        if !self.works() {
             return Err(Fault::Failed);
         }
         if self.is_begun || !self.open_record.is_empty() {

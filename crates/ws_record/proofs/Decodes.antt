@@ -1,0 +1,105 @@
+use Rattle.std.proofs.Common.{true, false, Bool, ◌≡◌, ◌≢◌, ℕ, ◌+◌, ◌<◌, ◌≤◌, List, [], ◌∷◌, ◌++◌, length, drop, take, get_or, refl, sym, ap, ◌∙◌, subst, arith, append_assoc, drop-cons, add-one, length-take, length-append}
+use Rattle.std.specs.List.{AllByRecursion}
+use Rattle.std.proofs.lemmas.Bool.{cases_lt}
+use Rattle.std.proofs.Common.{inl, inr}
+use Rattle.std.proofs.lemmas.List.{take-append-drop, append-nil, take_more}
+use Rattle.ws_code.specs.Code.{Rules, IsPrefixFree}
+use Rattle.ws_code.proofs.CodeLaws.{Begins}
+use Rattle.ws_code.specs.declared.reason.Reason.{Reason}
+use Rattle.ws_code.specs.declared.fault.Fault.{Fault}
+use Rattle.ws_code.specs.declared.fault.Fault.TheVariants.{Refused, Truncated, Memory, Read, Write, Failed}
+use Rattle.ws_telnet.specs.Token.{token_rules}
+use Rattle.ws_record.specs.declared.record.Item.{Item}
+use Rattle.ws_record.specs.Grammar.{Holds, Accepts, Spells, IsStream, carried}
+use Rattle.ws_record.specs.Refusal.{Layer, IsRight, IsOpen, IsFirstClosed, IsRefused, IsTruncated}
+use Rattle.ws_record.specs.Refusal.Layer.{Tokens, Header, Body}
+use Rattle.ws_record.specs.Receiver.{Receiving, Taken, IsTakeFault, IsFeedFault, IsDecodeFault}
+use Rattle.ws_record.proofs.Reading.{parts_no_eor, one_spelling}
+use Rattle.ws_record.proofs.Steps.{parts_of}
+use Rattle.ws_record.proofs.Refusals.{parts_right}
+use Rattle.ws_record.proofs.Receivers.{refused_append}
+
+-- the byte at an index
+pub at_index : (bytes : List ℕ) (i : ℕ) → i < length bytes → take i bytes ++ get_or bytes i 0 ∷ drop (i + 1) bytes ≡ bytes
+at_index bytes i h = ap (λ x. take i bytes ++ x) (sym (drop-cons bytes i 0 h ∙ ap (λ n. get_or bytes i 0 ∷ drop n bytes) (sym (add-one i)))) ∙ take-append-drop i bytes
+
+module _ {Place U : Type 0} (rules : Rules Place U) where
+  -- what is accepted is a stream that is right to each layer
+  accepted_stream : (bytes : List ℕ) (items : List (Item U)) → Accepts rules bytes items → (l : Layer) → IsStream (IsRight rules l) bytes
+  accepted_stream bytes items h l = record {
+    parts = parts_of rules h.stretches; rest = h.rest;
+    no_eor = (parts_no_eor rules h.stretches h.each, h.no_eor);
+    each = parts_right rules h.stretches h.each l;
+    closed = sym h.is_open;
+    tokens = record { chain = h.cut.chain; ends = refl };
+    spelled = sym h.cut.spelled ∙ append-nil _ }
+
+  -- and so none of its bytes is refused
+  pub accepted_open : (before : List ℕ) (byte : ℕ) (after : List ℕ) (items : List (Item U)) → Accepts rules (before ++ byte ∷ after) items → (l : Layer) → IsOpen rules l (before ++ byte ∷ [])
+  accepted_open before byte after items a l = record { more = after;
+    stream = subst (IsStream (IsRight rules l)) (sym (append_assoc before (byte ∷ []) after)) (accepted_stream (before ++ byte ∷ after) items a l) }
+
+  closed_is_not : (l : Layer) (bytes : List ℕ) → IsFirstClosed rules l bytes → IsOpen rules l bytes → ⊥
+  closed_is_not Tokens bytes c o = c o
+  closed_is_not Header bytes c o = c.1 o
+  closed_is_not Body bytes c o = c.1 o
+
+  pub not_refused : (bytes : List ℕ) (items : List (Item U)) (place : ℕ) (reason : Reason) → Accepts rules bytes items → IsRefused rules bytes place reason → ⊥
+  not_refused bytes items place reason a r =
+      closed_is_not r.layer (r.before ++ r.byte ∷ []) r.closed (accepted_open r.before r.byte r.after items (subst (λ (x : List ℕ). Accepts rules x items) r.split a) r.layer)
+
+  -- a list in the grammar meets no fault but that of memory
+  pub only_memory : (bytes : List ℕ) (items : List (Item U)) (fault : Fault) → Accepts rules bytes items → IsDecodeFault rules bytes fault → fault ≡ Memory
+  only_memory bytes items (Refused place reason) a f = absurd (not_refused bytes items place reason a f)
+  only_memory bytes items (Truncated n) a f = absurd (f.1.unfinished items a)
+  only_memory bytes items Memory a f = refl
+  only_memory bytes items Read a f = absurd f
+  only_memory bytes items Write a f = absurd f
+  only_memory bytes items Failed a f = absurd f
+
+  pub one_accepted : IsPrefixFree rules → Begins rules → (bytes : List ℕ) (items others : List (Item U)) → Accepts rules bytes items → Accepts rules bytes others → items ≡ others
+  one_accepted free begins bytes items others a b = one_spelling rules free begins bytes items others ([], a) ([], b)
+
+  -- a fault at a byte of a whole list, and of a piece
+  pub take_decodes : (bytes : List ℕ) (i : ℕ) (fault : Fault) → i < length bytes → IsTakeFault rules (take i bytes) (get_or bytes i 0) fault → IsDecodeFault rules bytes fault
+  take_decodes bytes i (Refused place reason) lt f =
+      subst (λ (x : List ℕ). IsRefused rules x place reason) (append_assoc (take i bytes) (get_or bytes i 0 ∷ []) (drop (i + 1) bytes) ∙ at_index bytes i lt) (refused_append rules (take i bytes ++ get_or bytes i 0 ∷ []) (drop (i + 1) bytes) place reason f.1)
+  take_decodes bytes i (Truncated n) lt f = absurd f
+  take_decodes bytes i Memory lt f = tt
+  take_decodes bytes i Read lt f = absurd f
+  take_decodes bytes i Write lt f = absurd f
+  take_decodes bytes i Failed lt f = absurd f
+
+  pub take_feeds : (bytes piece : List ℕ) (i : ℕ) (fault : Fault) → i < length piece → IsTakeFault rules (bytes ++ take i piece) (get_or piece i 0) fault → IsFeedFault rules bytes piece fault
+  take_feeds bytes piece i (Refused place reason) lt f =
+      (omega (arith, f.0, length-append bytes (take i piece)),
+        subst (λ (x : List ℕ). IsRefused rules x place reason)
+          (append_assoc (bytes ++ take i piece) (get_or piece i 0 ∷ []) (drop (i + 1) piece) ∙ append_assoc bytes (take i piece) (get_or piece i 0 ∷ drop (i + 1) piece) ∙ ap (λ x. bytes ++ x) (at_index piece i lt))
+          (refused_append rules ((bytes ++ take i piece) ++ get_or piece i 0 ∷ []) (drop (i + 1) piece) place reason f.1))
+  take_feeds bytes piece i (Truncated n) lt f = absurd f
+  take_feeds bytes piece i Memory lt f = tt
+  take_feeds bytes piece i Read lt f = absurd f
+  take_feeds bytes piece i Write lt f = absurd f
+  take_feeds bytes piece i Failed lt f = absurd f
+
+  -- the end of a whole list
+  pub end_decodes : (bytes : List ℕ) (fault : Fault) → (fault ≡ Truncated (length bytes)) × IsTruncated rules bytes → IsDecodeFault rules bytes fault
+  end_decodes bytes fault f = subst (λ (x : Fault). IsDecodeFault rules bytes x) (sym f.0) (refl, f.1)
+
+upto_more : (P : ℕ → Type 0) (i : ℕ) → ((n : ℕ) → n ≤ i → P n) → P (i + 1) → (n : ℕ) → n ≤ i + 1 → P n
+upto_more P i below here n h = elim (cases_lt i n) [ inl lt ↦ subst P (let e : i + 1 ≡ n = omega arith in e) here | inr ge ↦ below n ge ]
+
+module _ {Place U : Type 0} (rules : Rules Place U) where
+  -- a byte of a piece with which nothing is complete
+  pub taken_so_far : (new : Receiving Place U) (bytes piece : List ℕ) (items : List (Item U)) (i : ℕ) → i < length piece
+      → ((n : ℕ) → n ≤ i → (so_far begun : List ℕ) × Holds rules (bytes ++ take n piece) items so_far begun)
+      → Taken rules new ((bytes ++ take i piece) ++ get_or piece i 0 ∷ []) (items ++ [])
+      → Taken rules new (bytes ++ take (i + 1) piece) items × ((n : ℕ) → n ≤ i + 1 → (so_far begun : List ℕ) × Holds rules (bytes ++ take n piece) items so_far begun)
+  taken_so_far new bytes piece items i lt before t =
+      let longer : (bytes ++ take i piece) ++ get_or piece i 0 ∷ [] ≡ bytes ++ take (i + 1) piece = append_assoc bytes (take i piece) (get_or piece i 0 ∷ []) ∙ ap (λ x. bytes ++ x) (sym (take_more piece i 0 lt)) in
+      let now : Taken rules new (bytes ++ take (i + 1) piece) items = subst (λ (x : List ℕ). Taken rules new x items) longer (subst (λ (x : List (Item U)). Taken rules new ((bytes ++ take i piece) ++ get_or piece i 0 ∷ []) x) (append-nil items) t) in
+      (now, upto_more (λ n. (so_far begun : List ℕ) × Holds rules (bytes ++ take n piece) items so_far begun) i before (now.leads.0, new.live.begun, now.leads.1.holds))
+
+  -- a byte of a list
+  pub taken_next : (new : Receiving Place U) (bytes : List ℕ) (items : List (Item U)) (i : ℕ) → i < length bytes → Taken rules new (take i bytes ++ get_or bytes i 0 ∷ []) items → Taken rules new (take (i + 1) bytes) items
+  taken_next new bytes items i lt t = subst (λ (x : List ℕ). Taken rules new x items) (sym (take_more bytes i 0 lt)) t

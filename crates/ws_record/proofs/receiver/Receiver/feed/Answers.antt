@@ -1,0 +1,37 @@
+use Rattle.std.proofs.Common.{◌≡◌, ◌++◌, ◌∷◌, [], ℕ, ◌+◌, ◌<◌, ◌≤◌, List, Option, length, take, get_or, Bool, true, false, refl, sym, ap, ◌∙◌, subst, arith, length-take, length-append, append_assoc}
+use Rattle.std.proofs.lemmas.Result.{err_from_is_err_and}
+use Rattle.std.proofs.lemmas.List.{take_all, take_more, append-nil}
+use Rattle.ws_record.specs.declared.record.Item.{Item}
+use Rattle.ws_record.specs.Receiver.{Taken, Receiving, given}
+use Rattle.ws_record.proofs.Decodes.{take_feeds, taken_so_far}
+use Rattle.ws_record.proofs.receiver.Receiver.feed.Goals as goal
+
+pub returns-then-not-works-clause-fault : goal.returns-then-not-works-clause-fault
+returns-then-not-works-clause-fault g c = λ bytes items t fits.
+    let old = subst (λ (k : Receiving g.row.B-Place.Denot g.row.B-Unit.Denot). Taken g.B.Code.rules k bytes items) (sym c.self.view_is) t in
+    let f : ◌≡◌ {A = Bool} false true = c.if-not-works.ensures.works.1 (old.leads.1.works, omega (arith, old.leads.1.count)) in cc
+
+pub returns-in_err-item-clause-fault : goal.returns-in_err-item-clause-fault
+returns-in_err-item-clause-fault g c =
+    let p = err_from_is_err_and c.from_residual.result c.from_residual.ensures.1 in
+    let piece = c.args.piece.now in
+    let i = c.loop-at.at in
+    rw (p.1, p.2) (λ bytes items t fits.
+      take_feeds g.B.Code.rules bytes piece i _ c.loop-at-test.true
+        (c.in_err-item.ensures.fault (bytes ++ take i piece) items (c.loop-at.invariant bytes items t fits).0 (omega (arith, length-append bytes (take i piece), length-take i piece))))
+
+pub returns-in-Some-clause-first : goal.returns-in-Some-clause-first
+returns-in-Some-clause-first g c = λ bytes items t fits n lt. (c.loop-at.invariant bytes items t fits).1 n (omega arith)
+
+pub loop-at-preserved : goal.loop-at-preserved
+loop-at-preserved g c = λ bytes items t fits.
+    let piece = c.args.piece.now in
+    let i = c.loop-at.at in
+    let b = get_or piece i 0 in
+    let inv = c.loop-at.invariant bytes items t fits in
+    let taken = c.in_ok-item.ensures.taken (bytes ++ take i piece) items inv.0 (omega (arith, length-append bytes (take i piece), length-take i piece)) in
+    let quiet = subst (λ (o : Option (Item g.row.B-Unit.Denot)). Taken g.B.Code.rules c.take.new.self ((bytes ++ take i piece) ++ b ∷ []) (items ++ given o)) c.in_default.is taken in
+    taken_so_far g.B.Code.rules c.take.new.self bytes piece items i c.loop-at-test.true inv.1 quiet
+
+pub returns-clause-first : goal.returns-clause-first
+returns-clause-first g c = λ bytes items t fits n lt. (c.loop-at.invariant bytes items t fits).1 n (omega arith)
