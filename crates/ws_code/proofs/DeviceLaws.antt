@@ -1,0 +1,155 @@
+use Rattle.std.specs.Prelude.{◌≡◌, ◌≢◌, ℕ, ◌+◌, ◌-◌, ◌^◌, ◌<◌, ◌≤◌, List, [], ◌∷◌, ◌++◌, length, take, drop, None, Some, refl, Option, ◌⊎◌}
+use Rattle.std.proofs.Common.{inl, inr, min, sym, ap, ◌∙◌, subst, arith, append_assoc, length-append, length-drop, take-append-drop}
+use Rattle.std.proofs.lemmas.List.{append-nil, length-take, length-take-le, take-append-le, nil_from_length}
+use Rattle.std.proofs.Math.Decide.{dec_lt}
+use Rattle.std.proofs.Math.Seq.{take-append-add, take-length}
+use Rattle.std.proofs.lemmas.Grind.{flat_map-append}
+use Rattle.ws_code.specs.Device.{MayTake, MayGive, one_more, Taken, Given, bytes_taken, bytes_given, Writes, WentOut, FailedAfter, FailedWithin, IsWriteFailure, Reads, Gave, GaveAll, ReadFailed, list_gives, Held, held_takes}
+
+-- `&xs[i..]`
+pub rest_from : (xs : List ℕ) (i : ℕ) → take (length xs - i) (drop i xs) ≡ drop i xs
+rest_from xs i = ap (λ k. take k (drop i xs)) (sym (length-drop i xs)) ∙ take-length (drop i xs)
+
+pub length_rest : (xs : List ℕ) (i : ℕ) → length (take (length xs - i) (drop i xs)) ≡ length xs - i
+length_rest xs i = ap length (rest_from xs i) ∙ length-drop i xs
+
+-- a front and a bit more of it
+pub take_front : (xs : List ℕ) (i n : ℕ) → i ≤ length xs → take (i + n) xs ≡ take i xs ++ take n (take (length xs - i) (drop i xs))
+take_front xs i n h =
+    let front : length (take i xs) ≡ i = length-take-le i xs h in
+    ap (λ j. take (j + n) xs) (sym front) ∙ ap (take (length (take i xs) + n)) (sym (take-append-drop i xs)) ∙ take-append-add (take i xs) (drop i xs) n ∙ ap (λ z. take i xs ++ take n z) (sym (rest_from xs i))
+
+module _ {S : Type 0} where
+  writes_more : (takes : MayTake S) (from mid to : S) (ws vs : List Taken) → Writes takes from ws mid → Writes takes mid vs to → Writes takes from (ws ++ vs) to
+  writes_more takes from mid to [] vs p q = let P : S → Type 0 = λ s. Writes takes s vs to in subst P (sym p) q
+  writes_more takes from mid to (w ∷ ws) vs p q = (p.0, p.1, writes_more takes p.0 mid to ws vs p.2 q)
+
+  -- no write, no byte
+  pub went_out_none : (takes : MayTake S) (failures : S → ℕ) (s : S) → WentOut takes failures s s []
+  went_out_none takes failures s = record { writes = []; made = refl; took = refl; uncounted = refl }
+
+  -- one write
+  pub went_out_one : (takes : MayTake S) (failures : S → ℕ) (from to : S) (offered : List ℕ) (count : ℕ) → takes from offered (Some count) to → failures to ≡ failures from → WentOut takes failures from to (take count offered)
+  went_out_one takes failures from to offered count made uncounted = record {
+    writes = record { offered = offered; count = count } ∷ [];
+    made = (to, made, refl);
+    took = append-nil (take count offered);
+    uncounted = uncounted;
+  }
+
+  -- one after the other
+  pub went_out_both : (takes : MayTake S) (failures : S → ℕ) (from mid to : S) (xs ys : List ℕ) → WentOut takes failures from mid xs → WentOut takes failures mid to ys → WentOut takes failures from to (xs ++ ys)
+  went_out_both takes failures from mid to xs ys p q = record {
+    writes = p.writes ++ q.writes;
+    made = writes_more takes from mid to p.writes q.writes p.made q.made;
+    took = flat_map-append (λ (w : Taken). take w.count w.offered) p.writes q.writes ∙ ap (λ z. z ++ bytes_taken q.writes) p.took ∙ ap (λ z. xs ++ z) q.took;
+    uncounted = q.uncounted ∙ p.uncounted;
+  }
+
+  -- a failed write after what went out
+  pub failed_last : (takes : MayTake S) (failures : S → ℕ) (from mid to : S) (xs offered : List ℕ) (answer : Option ℕ) → WentOut takes failures from mid xs → takes mid offered answer to → IsWriteFailure offered answer (failures mid) (failures to) → FailedAfter takes failures from to xs
+  failed_last takes failures from mid to xs offered answer p made failed = record {
+    before = mid;
+    went_out = p;
+    offered = offered;
+    answer = answer;
+    last = made;
+    failed = subst (λ (n : ℕ). IsWriteFailure offered answer n (failures to)) p.uncounted failed;
+  }
+
+  pub failed_after_both : (takes : MayTake S) (failures : S → ℕ) (from mid to : S) (xs ys : List ℕ) → WentOut takes failures from mid xs → FailedAfter takes failures mid to ys → FailedAfter takes failures from to (xs ++ ys)
+  failed_after_both takes failures from mid to xs ys p q = record {
+    before = q.before;
+    went_out = went_out_both takes failures from mid q.before xs ys p q.went_out;
+    offered = q.offered;
+    answer = q.answer;
+    last = q.last;
+    failed = subst (λ (n : ℕ). IsWriteFailure q.offered q.answer n (failures to)) p.uncounted q.failed;
+  }
+
+  -- a failed write in a text's next part is one in the whole text
+  pub failed_within_both : (takes : MayTake S) (failures : S → ℕ) (from mid to : S) (xs ys zs : List ℕ) → WentOut takes failures from mid xs → FailedWithin takes failures mid to ys → FailedWithin takes failures from to (xs ++ (ys ++ zs))
+  failed_within_both takes failures from mid to xs ys zs p q =
+      let inside : q.count ≤ length ys = omega (arith, q.within) in
+      let text : xs ++ take q.count ys ≡ take (length xs + q.count) (xs ++ (ys ++ zs)) = ap (λ z. xs ++ z) (sym (take-append-le q.count ys zs inside)) ∙ sym (take-append-add xs (ys ++ zs) q.count) in
+      record {
+        count = length xs + q.count;
+        within = omega (arith, q.within, length-append xs (ys ++ zs), length-append ys zs);
+        failed = subst (FailedAfter takes failures from to) text (failed_after_both takes failures from mid to xs (take q.count ys) p q.failed);
+      }
+
+  reads_more : (gives : MayGive S) (from mid to : S) (rs : List Given) (r : Given) → Reads gives from rs mid → gives mid r.room (Some r.given) to → r.given ≢ [] → Reads gives from (rs ++ r ∷ []) to
+  reads_more gives from mid to [] r p made some = (to, (let P : S → Type 0 = λ s. gives s r.room (Some r.given) to in subst P (sym p) made), some, refl)
+  reads_more gives from mid to (q ∷ rs) r p made some = (p.0, p.1, p.2, reads_more gives p.0 mid to rs r p.3 made some)
+
+  -- no read, no byte
+  pub gave_none : (gives : MayGive S) (failures : S → ℕ) (s : S) → Gave gives failures s s 0 []
+  gave_none gives failures s = record { reads = []; made = refl; counted = refl; gave = refl; uncounted = refl }
+
+  -- one read more
+  pub gave_more : (gives : MayGive S) (failures : S → ℕ) (from mid to : S) (count : ℕ) (bytes : List ℕ) (room : ℕ) (given : List ℕ) → Gave gives failures from mid count bytes → gives mid room (Some given) to → given ≢ [] → failures to ≡ failures mid → Gave gives failures from to (count + 1) (bytes ++ given)
+  gave_more gives failures from mid to count bytes room given p made some uncounted =
+      let r : Given = record { room = room; given = given } in
+      record {
+        reads = p.reads ++ r ∷ [];
+        made = reads_more gives from mid to p.reads r p.made made some;
+        counted = length-append p.reads (r ∷ []) ∙ ap (λ k. k + 1) p.counted;
+        gave = flat_map-append (λ (q : Given). q.given) p.reads (r ∷ []) ∙ ap (λ z. z ++ (given ++ [])) p.gave ∙ ap (λ z. bytes ++ z) (append-nil given);
+        uncounted = uncounted ∙ p.uncounted;
+      }
+
+  -- a read that gave the end, and one that failed
+  pub gave_all : (gives : MayGive S) (failures : S → ℕ) (from mid to : S) (count : ℕ) (bytes : List ℕ) (room : ℕ) → Gave gives failures from mid count bytes → 0 < room → gives mid room (Some []) to → failures to ≡ failures mid → GaveAll gives failures from to bytes
+  gave_all gives failures from mid to count bytes room p h made uncounted = record { before = mid; count = count; gave = p; room = room; has_room = h; end = made; uncounted = uncounted ∙ p.uncounted }
+
+  pub read_failed : (gives : MayGive S) (failures : S → ℕ) (from mid to : S) (count : ℕ) (bytes : List ℕ) (room : ℕ) → Gave gives failures from mid count bytes → gives mid room None to → failures to ≡ one_more (failures mid) → ReadFailed gives failures from to bytes
+  read_failed gives failures from mid to count bytes room p made counted = record { before = mid; count = count; gave = p; room = room; last = made; counted = counted ∙ ap one_more p.uncounted }
+
+-- some bytes of a slice are not none
+pub take_some : (xs : List ℕ) (n : ℕ) → n ≢ 0 → n ≤ length xs → take n xs ≢ []
+take_some xs n ne h e = ne (sym (length-take-le n xs h) ∙ ap length e)
+
+-- a count that is one more rose, or stands at its greatest value
+pub one_more_rose : (before after : ℕ) → after ≡ one_more before → (before < after) ⊎ (after ≡ 2 ^ 64 - 1)
+one_more_rose before after e = elim (dec_lt before (2 ^ 64 - 1)) [ yes h ↦ inl (omega (arith, e)) | no h ↦ inr (omega (arith, e)) ]
+
+-- ---- what the devices of this crate tell
+
+list_reads : (from to : List ℕ) (rs : List Given) → Reads list_gives from rs to → from ≡ bytes_given rs ++ to
+list_reads from to [] p = p
+list_reads from to (r ∷ rs) p =
+    let given : r.given ≡ take r.room from = p.1.0 in
+    let next : p.0 ≡ drop r.room from = p.1.1 in
+    let rest : p.0 ≡ bytes_given rs ++ to = list_reads p.0 to rs p.3 in
+    sym (take-append-drop r.room from) ∙ ap (λ z. z ++ drop r.room from) (sym given) ∙ ap (λ z. r.given ++ z) (sym next ∙ rest) ∙ sym (append_assoc r.given (bytes_given rs) to)
+
+-- a source over a list gives its front
+pub list_gave : (failures : List ℕ → ℕ) (from to : List ℕ) (count : ℕ) (bytes : List ℕ) → Gave list_gives failures from to count bytes → from ≡ bytes ++ to
+list_gave failures from to count bytes p = list_reads from to p.reads p.made ∙ ap (λ z. z ++ to) p.gave
+
+-- and, when it has given its end, the whole
+pub list_gave_all : (failures : List ℕ → ℕ) (from to : List ℕ) (bytes : List ℕ) → GaveAll list_gives failures from to bytes → from ≡ bytes
+list_gave_all failures from to bytes p =
+    let lengths : 0 ≡ min p.room (length p.before) = ap length p.end.0 ∙ length-take p.room p.before in
+    let none : p.before ≡ [] = nil_from_length p.before (omega (arith, lengths, p.has_room)) in
+    list_gave failures from p.before p.count bytes p.gave ∙ ap (λ z. bytes ++ z) none ∙ append-nil bytes
+
+held_writes : (from to : Held) (ws : List Taken) → Writes held_takes from ws to → to.bytes ≡ from.bytes ++ bytes_taken ws
+held_writes from to [] p = ap (λ (h : Held). h.bytes) (sym p) ∙ sym (append-nil from.bytes)
+held_writes from to (w ∷ ws) p =
+    let whole : take w.count w.offered ≡ w.offered = ap (λ n. take n w.offered) p.1.0 ∙ take-length w.offered in
+    held_writes p.0 to ws p.2 ∙ ap (λ z. z ++ bytes_taken ws) (p.1.1 ∙ ap (λ z. from.bytes ++ z) (sym whole)) ∙ append_assoc from.bytes (take w.count w.offered) (bytes_taken ws)
+
+-- a sink that grows holds what went out
+pub held_went_out : (failures : Held → ℕ) (from to : Held) (bytes : List ℕ) → WentOut held_takes failures from to bytes → to.bytes ≡ from.bytes ++ bytes
+held_went_out failures from to bytes p = held_writes from to p.writes p.made ∙ ap (λ z. from.bytes ++ z) p.took
+
+held_fails : (offered : List ℕ) (answer : Option ℕ) (from mid to : Held) → held_takes mid offered answer to → IsWriteFailure offered answer from.failures to.failures → (to.bytes ≡ mid.bytes) × (to.failures ≡ one_more from.failures)
+held_fails offered None from mid to last failed = (last, failed)
+held_fails offered (Some n) from mid to last failed = absurd (failed.1 (nil_from_length offered (sym last.0 ∙ failed.0)))
+
+-- and counts the failure after it
+pub held_failed_after : (from to : Held) (bytes : List ℕ) → FailedAfter held_takes (λ s. s.failures) from to bytes → (to.bytes ≡ from.bytes ++ bytes) × (to.failures ≡ one_more from.failures)
+held_failed_after from to bytes p =
+    let end : (to.bytes ≡ p.before.bytes) × (to.failures ≡ one_more from.failures) = held_fails p.offered p.answer from p.before to p.last p.failed in
+    (end.0 ∙ held_went_out (λ s. s.failures) from p.before bytes p.went_out, end.1)

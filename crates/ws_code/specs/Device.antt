@@ -1,0 +1,158 @@
+use Rattle.std.specs.Prelude.{◌≡◌, ◌≢◌, ℕ, ◌+◌, ◌-◌, ◌^◌, ◌<◌, min, List, [], ◌∷◌, ◌++◌, length, take, drop, Option, None, Some, ◌⊎◌}
+use Rattle.std.specs.List.{flat_map}
+use Rattle.std.specs.Io.KnownBytes.{Keeps, Appends, Consumes, IsAtEnd}
+
+-- Devices. A source gives bytes and a sink takes them, some at each call. A device counts its failures in 64 bits.
+--
+-- What a device may do at one call is a relation between its states before and after:
+-- `gives s room (Some bytes) t` a read into a slice of that length gave these bytes, and `gives s room None t` it failed;
+-- `takes s bytes (Some n) t` a write took the first n of the bytes, and `takes s bytes None t` it failed.
+-- A device that knows its bytes says by it which they are. One that doesn't still says which calls were made,
+-- since nothing but a call of the device leads from one state to another.
+
+-- what a write may do to a sink: it takes so many of the bytes, or fails
+abbrev pub MayTake : Type 0 → Type 1
+MayTake S = S → List ℕ → Option ℕ → S → Type 0
+
+-- what a read with so much room may do to a source: it gives these bytes, or fails
+abbrev pub MayGive : Type 0 → Type 1
+MayGive S = S → ℕ → Option (List ℕ) → S → Type 0
+
+-- a count after one failure more
+abbrev pub one_more : ℕ → ℕ
+one_more count = min (count + 1) (2 ^ 64 - 1)
+
+-- a write that didn't fail: what it was given, and how many of these bytes the sink took
+pub record Taken : Type 0 where
+  pub offered : List ℕ
+  pub count : ℕ
+
+-- what a sink took by some writes
+abbrev pub bytes_taken : List Taken → List ℕ
+bytes_taken writes = flat_map (λ w. take w.count w.offered) writes
+
+-- a read that didn't fail: the length of the slice, and the bytes that the source gave
+pub record Given : Type 0 where
+  pub room : ℕ
+  pub given : List ℕ
+
+-- what a source gave by some reads
+abbrev pub bytes_given : List Given → List ℕ
+bytes_given reads = flat_map (λ r. r.given) reads
+
+-- a write that is a failure: the sink counts it, or it takes no byte of some
+abbrev pub IsWriteFailure : List ℕ → Option ℕ → ℕ → ℕ → Type 0
+IsWriteFailure offered None before after = after ≡ one_more before
+IsWriteFailure offered (Some count) before after = (count ≡ 0) × (offered ≢ []) × (after ≡ before)
+
+module _ {S : Type 0} where
+  -- the writes, one after another, lead from one state of the sink to the other
+  abbrev pub Writes : MayTake S → S → List Taken → S → Type 0
+  Writes takes from [] to = from ≡ to
+  Writes takes from (w ∷ writes) to = (next : S) × takes from w.offered (Some w.count) next × Writes takes next writes to
+
+  -- between the two states these bytes went out, in order and once, and no write failed
+  pub record WentOut (takes : MayTake S) (failures : S → ℕ) (from to : S) (bytes : List ℕ) : Type 0 where
+    pub writes : List Taken
+    pub made : Writes takes from writes to
+    pub took : bytes_taken writes ≡ bytes
+    pub uncounted : failures to ≡ failures from
+
+  -- these bytes went out, and then a write failed, which was the last
+  pub record FailedAfter (takes : MayTake S) (failures : S → ℕ) (from to : S) (bytes : List ℕ) : Type 0 where
+    pub before : S
+    pub went_out : WentOut takes failures from before bytes
+    pub offered : List ℕ
+    pub answer : Option ℕ
+    pub last : takes before offered answer to
+    pub failed : IsWriteFailure offered answer (failures from) (failures to)
+
+  -- a prefix of the text went out, and not the whole of it, and then a write failed, which was the last
+  pub record FailedWithin (takes : MayTake S) (failures : S → ℕ) (from to : S) (text : List ℕ) : Type 0 where
+    pub count : ℕ
+    pub within : count < length text
+    pub failed : FailedAfter takes failures from to (take count text)
+
+  -- the reads, each of which gave some byte, lead from one state of the source to the other
+  abbrev pub Reads : MayGive S → S → List Given → S → Type 0
+  Reads gives from [] to = from ≡ to
+  Reads gives from (r ∷ reads) to = (next : S) × gives from r.room (Some r.given) next × (r.given ≢ []) × Reads gives next reads to
+
+  -- between the two states so many reads gave these bytes, and none gave the end or failed
+  pub record Gave (gives : MayGive S) (failures : S → ℕ) (from to : S) (count : ℕ) (bytes : List ℕ) : Type 0 where
+    pub reads : List Given
+    pub made : Reads gives from reads to
+    pub counted : length reads ≡ count
+    pub gave : bytes_given reads ≡ bytes
+    pub uncounted : failures to ≡ failures from
+
+  -- the source gave these bytes and then its end, and no read failed
+  pub record GaveAll (gives : MayGive S) (failures : S → ℕ) (from to : S) (bytes : List ℕ) : Type 0 where
+    pub before : S
+    pub count : ℕ
+    pub gave : Gave gives failures from before count bytes
+    pub room : ℕ
+    pub has_room : 0 < room
+    pub end : gives before room (Some []) to
+    pub uncounted : failures to ≡ failures from
+
+  -- the source gave these bytes, and then a read failed, which was the last
+  pub record ReadFailed (gives : MayGive S) (failures : S → ℕ) (from to : S) (bytes : List ℕ) : Type 0 where
+    pub before : S
+    pub count : ℕ
+    pub gave : Gave gives failures from before count bytes
+    pub room : ℕ
+    pub last : gives before room None to
+    pub counted : failures to ≡ one_more (failures from)
+
+  -- what a reader may call a fault of its source, after these bytes: a read failed, or 4,294,967,296 reads didn't reach the end
+  abbrev pub ReadFault : MayGive S → (S → ℕ) → S → S → List ℕ → Type 0
+  ReadFault gives failures from to bytes = ReadFailed gives failures from to bytes ⊎ Gave gives failures from to 4294967296 bytes
+
+-- The devices of this crate.
+
+-- a source over a list gives as many bytes as there is room for, and never fails
+abbrev pub list_gives : List ℕ → ℕ → Option (List ℕ) → List ℕ → Type 0
+list_gives rest room None rest' = ⊥
+list_gives rest room (Some bytes) rest' = (bytes ≡ take room rest) × (rest' ≡ drop room rest)
+
+-- the bytes that a sink holds, and its failures
+pub record Held : Type 0 where
+  pub bytes : List ℕ
+  pub failures : ℕ
+
+-- a sink that grows takes all that it is given, or fails and keeps what it held
+abbrev pub held_takes : Held → List ℕ → Option ℕ → Held → Type 0
+held_takes held bytes None held' = held'.bytes ≡ held.bytes
+held_takes held bytes (Some count) held' = (count ≡ length bytes) × (held'.bytes ≡ held.bytes ++ bytes)
+
+-- a reader or a writer, and its failures
+pub record Counted (D : Type 0) : Type 0 where
+  pub device : D
+  pub failures : ℕ
+
+-- a source over a reader gives what the reader had left, where that is known
+abbrev pub reader_gives : {D : Type 0} → (D → Option (List ℕ)) → Counted D → ℕ → Option (List ℕ) → Counted D → Type 0
+reader_gives remaining s room None t = Keeps (remaining s.device) (remaining t.device)
+reader_gives remaining s room (Some bytes) t = Consumes (remaining s.device) (remaining t.device) bytes × (bytes ≡ [] → 0 < room → IsAtEnd (remaining t.device))
+
+-- a sink over a writer adds to what the writer holds, where that is known
+abbrev pub writer_takes : {D : Type 0} → (D → Option (List ℕ)) → Counted D → List ℕ → Option ℕ → Counted D → Type 0
+writer_takes contents s bytes None t = Keeps (contents s.device) (contents t.device)
+writer_takes contents s bytes (Some count) t = Appends (contents s.device) (contents t.device) (take count bytes)
+
+-- a device for tests: the bytes of a list, so many calls before each fails, and its failures
+pub record Limited : Type 0 where
+  pub bytes : List ℕ
+  pub calls : ℕ
+  pub failures : ℕ
+
+-- a source that gives at most one byte a read, from the front of its bytes
+abbrev pub limited_gives : Limited → ℕ → Option (List ℕ) → Limited → Type 0
+limited_gives s room None t = (s.calls ≡ 0) × (t.calls ≡ 0) × (t.bytes ≡ s.bytes)
+limited_gives s room (Some given) t = (s.calls ≡ t.calls + 1) × (given ≡ take (min room 1) s.bytes) × (t.bytes ≡ drop (min room 1) s.bytes)
+
+-- a sink that takes at most one byte a write, and adds it to its bytes
+abbrev pub limited_takes : Limited → List ℕ → Option ℕ → Limited → Type 0
+limited_takes s bytes None t = (t.calls ≡ s.calls) × (t.bytes ≡ s.bytes)
+limited_takes s bytes (Some count) t = (s.calls ≡ t.calls + 1) × (count ≡ min (length bytes) 1) × (t.bytes ≡ s.bytes ++ take 1 bytes)
