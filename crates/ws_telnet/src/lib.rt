@@ -8,3 +8,6 @@ mod write;
 pub use token::{CommandCode, Sub, Telnet, Token, Verb};
 pub use tokens::Tokens;
 pub use write::spell;
+
+#[cfg(test)]
+mod tests;

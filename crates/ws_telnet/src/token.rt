@@ -1,6 +1,7 @@
-ghost use Rattle.std.specs.Prelude.{◌≡◌, ◌≤◌, ◌<◌, length};
+ghost use Rattle.std.specs.Prelude.{◌≡◌, ◌≤◌, ◌<◌, length, SomeIff};
 ghost use Rattle.ws_telnet.specs.Token.{command_byte, verb_byte};
 
+use arrayvec::ArrayVec;
 use ws_code::ByteList;
 
 /// A command that stands alone after IAC (RFC 854, "TELNET COMMAND STRUCTURE").
@@ -64,6 +65,20 @@ impl Verb {
 pub struct Sub {
     pub option: u8,
     pub data_: ByteList<64>,
+}
+
+impl Sub {
+    /// The subnegotiation of this option and these bytes; none where they are more than 64.
+    pub fn new(option: u8, bytes: &[u8]) -> Option<Sub>
+        ensures { SomeIff result (length bytes.now ≤ 64)
+            (record { option = option; data_ = bytes.now }) }
+    {
+        let content = ArrayVec::try_from(bytes).ok()?;
+        Some(Sub {
+            option,
+            data_: ByteList::of(content),
+        })
+    }
 }
 
 /// A Telnet command, of any kind.
