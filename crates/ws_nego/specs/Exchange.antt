@@ -1,0 +1,102 @@
+use Rattle.std.specs.Prelude.{◌≡◌, ℕ, ◌+◌, List, [], ◌∷◌, ◌++◌, Bool, true, false, Option, Some, None, length, replicate}
+use Rattle.ws_telnet.specs.declared.token.Telnet.{Telnet}
+use Rattle.ws_nego.specs.declared.terminal.TerminalType.{TerminalType}
+use Rattle.ws_nego.specs.declared.options.Direction.{Direction}
+use Rattle.ws_nego.specs.declared.host.Mode.{Mode}
+use Rattle.ws_nego.specs.declared.host.Mode.TheVariants.{Off, On}
+use Rattle.ws_nego.specs.Options.{entry, Answer}
+use Rattle.ws_nego.specs.Station.{StationState, new_station, station_answer}
+use Rattle.ws_nego.specs.Host.{HostState, new_host, after_open, opening, host_answer}
+
+-- An exchange: both ends, and the tokens in flight between them
+
+pub record Exchange : Type 0 where
+  pub station : StationState
+  pub host : HostState
+  pub to_station : List Telnet
+  pub to_host : List Telnet
+  pub count : ℕ  -- how many tokens were ever written
+  pub refused : Bool  -- the host end has refused a token
+
+-- it begins with the host end's first token
+abbrev pub new_exchange : TerminalType → Exchange
+new_exchange terminal = record {
+  station = new_station terminal;
+  host = after_open new_host;
+  to_station = opening ∷ [];
+  to_host = [];
+  count = 1;
+  refused = false;
+}
+
+-- the station takes the first of the tokens in flight to it, and writes its reply
+abbrev pub after_station_takes : Exchange → List Telnet → Exchange
+after_station_takes exchange [] = exchange
+after_station_takes exchange (token ∷ later) =
+    let answer = station_answer exchange.station token in
+    record {
+      station = answer.after;
+      host = exchange.host;
+      to_station = later;
+      to_host = exchange.to_host ++ answer.reply;
+      count = exchange.count + length answer.reply;
+      refused = exchange.refused;
+    }
+
+-- the host end takes the first of the tokens in flight to it, and writes its reply or refuses the token
+abbrev pub after_host_answers : Exchange → List Telnet → Option (Answer HostState) → Exchange
+after_host_answers exchange later None = record exchange { refused = true }
+after_host_answers exchange later (Some answer) = record {
+  station = exchange.station;
+  host = answer.after;
+  to_station = exchange.to_station ++ answer.reply;
+  to_host = later;
+  count = exchange.count + length answer.reply;
+  refused = exchange.refused;
+}
+
+abbrev pub after_host_takes : Exchange → List Telnet → Exchange
+after_host_takes exchange [] = exchange
+after_host_takes exchange (token ∷ later) =
+    after_host_answers exchange later (host_answer exchange.host token)
+
+-- a move brings one token to the station, or one to the host end
+pub data Move : Type 0 where
+  ToStation : Move
+  ToHost : Move
+
+abbrev pub after_move : Move → Exchange → Exchange
+after_move ToStation exchange = after_station_takes exchange exchange.to_station
+after_move ToHost exchange = after_host_takes exchange exchange.to_host
+
+abbrev pub after_moves : List Move → Exchange → Exchange
+after_moves [] exchange = exchange
+after_moves (move ∷ moves) exchange = after_moves moves (after_move move exchange)
+
+-- nothing is in flight
+pub record IsQuiet (exchange : Exchange) : Type 0 where
+  pub to_station : exchange.to_station ≡ []
+  pub to_host : exchange.to_host ≡ []
+
+-- the mode of a direction that is on, or off, at the station: asked is neither
+abbrev pub mode_of : Bool → Mode
+mode_of true = On
+mode_of false = Off
+
+-- every direction is on at both ends or off at both
+abbrev pub TablesAgree : StationState → HostState → Type 0
+TablesAgree station host =
+    (direction : Direction) → entry host.modes direction ≡ mode_of (entry station.on direction)
+
+-- a full delivery: all that is in flight to the station, and then all that is in flight to the host end
+abbrev pub after_all_to_station : Exchange → Exchange
+after_all_to_station exchange = after_moves (replicate (length exchange.to_station) ToStation) exchange
+
+abbrev pub after_all_to_host : Exchange → Exchange
+after_all_to_host exchange = after_moves (replicate (length exchange.to_host) ToHost) exchange
+
+abbrev pub after_delivery : Exchange → Exchange
+after_delivery exchange = after_all_to_host (after_all_to_station exchange)
+
+abbrev pub after_three_deliveries : Exchange → Exchange
+after_three_deliveries exchange = after_delivery (after_delivery (after_delivery exchange))

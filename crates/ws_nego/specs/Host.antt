@@ -1,0 +1,171 @@
+use Rattle.std.specs.Prelude.{ℕ, List, [], ◌∷◌, ◌++◌, Bool, true, false, ◌==◌, ◌&&◌, if◌then◌else◌, Option, Some, None, is_none, is_some}
+use Rattle.ws_telnet.specs.declared.token.Verb.{Verb}
+use Rattle.ws_telnet.specs.declared.token.Verb.TheVariants.{Will, Wont, Do, Dont}
+use Rattle.ws_telnet.specs.declared.token.Sub.{Sub}
+use Rattle.ws_telnet.specs.declared.token.Telnet.{Telnet}
+use Rattle.ws_telnet.specs.declared.token.Telnet.TheVariants.{Command, Option as Negotiate, Sub as Subnegotiate}
+use Rattle.ws_nego.specs.declared.terminal.TerminalType.{TerminalType}
+use Rattle.ws_nego.specs.declared.options.Direction.{Direction}
+use Rattle.ws_nego.specs.declared.options.Direction.TheVariants.{StationTerminalType}
+use Rattle.ws_nego.specs.declared.options.OptionTable.{OptionTable}
+use Rattle.ws_nego.specs.declared.host.Mode.{Mode}
+use Rattle.ws_nego.specs.declared.host.Mode.TheVariants.{Off, Asked, On}
+use Rattle.ws_nego.specs.declared.host.TerminalName.{TerminalName}
+use Rattle.ws_nego.specs.declared.host.TerminalName.TheVariants.{Unknown, Requested, Accepted}
+use Rattle.ws_nego.specs.Terminal.{terminal_named}
+use Rattle.ws_nego.specs.Options.{binary, terminal_type, end_of_record, entry, with_entry, filled, direction_at_host, refusal_of, option_tokens, Answer}
+use Rattle.ws_nego.specs.Station.{name_request}
+
+-- The host end's options (RFC 854, 856, 885, 1091; RFC 4777, section 2)
+
+-- each direction's mode, and what is known of the terminal's name
+pub record HostState : Type 0 where
+  pub modes : OptionTable Mode
+  pub name : TerminalName
+
+abbrev pub new_host : HostState
+new_host = record { modes = filled Off; name = Unknown }
+
+-- the first token of a session, and the host end after it
+abbrev pub opening : Telnet
+opening = Negotiate Do terminal_type
+
+abbrev pub after_open : HostState → HostState
+after_open host = record { modes = with_entry host.modes StationTerminalType Asked; name = host.name }
+
+-- The host end's table: the direction's mode afterwards, and the answer. What was asked for and is
+-- granted or refused isn't answered again (RFC 854, "General Considerations").
+abbrev pub host_row : Verb → Mode → Mode × Option Verb
+host_row Will Off = (On, Some Do)
+host_row Will Asked = (On, None)
+host_row Will On = (On, None)
+host_row Wont Off = (Off, None)
+host_row Wont Asked = (Off, None)
+host_row Wont On = (Off, Some Dont)
+host_row Do Off = (On, Some Will)
+host_row Do Asked = (On, None)
+host_row Do On = (On, None)
+host_row Dont Off = (Off, None)
+host_row Dont Asked = (Off, None)
+host_row Dont On = (Off, Some Wont)
+
+abbrev pub is_on : Mode → Bool
+is_on On = true
+is_on Off = false
+is_on Asked = false
+
+abbrev pub is_asked : Mode → Bool
+is_asked Asked = true
+is_asked Off = false
+is_asked On = false
+
+abbrev pub is_unknown : TerminalName → Bool
+is_unknown Unknown = true
+is_unknown Requested = false
+is_unknown (Accepted terminal) = false
+
+-- the terminal whose name was accepted
+abbrev pub accepted_terminal : TerminalName → Option TerminalType
+accepted_terminal Unknown = None
+accepted_terminal Requested = None
+accepted_terminal (Accepted terminal) = Some terminal
+
+-- WONT TERMINAL-TYPE before a name was accepted
+abbrev pub is_left_nameless : HostState → Verb → Direction → Bool
+is_left_nameless host Wont StationTerminalType = is_none (accepted_terminal host.name)
+is_left_nameless host verb direction = false
+
+-- WILL TERMINAL-TYPE that turns the asked option on, before SEND was written
+abbrev pub may_ask_name : HostState → Verb → Direction → Bool
+may_ask_name host Will StationTerminalType = is_asked host.modes.station_terminal_type && is_unknown host.name
+may_ask_name host verb direction = false
+
+abbrev pub after_name_request : HostState → HostState
+after_name_request host = record { modes = with_entry host.modes StationTerminalType On; name = Requested }
+
+-- what the table says of a verb in a direction
+abbrev pub by_host_table : HostState → Verb → ℕ → Direction → Answer HostState
+by_host_table host verb option direction =
+    let row = host_row verb (entry host.modes direction) in
+    record {
+      after = record { modes = with_entry host.modes direction row.0; name = host.name };
+      reply = option_tokens row.1 option;
+    }
+
+-- what the host end does at a verb of an option, in a direction of its table or in none
+abbrev pub host_option : HostState → Verb → ℕ → Option Direction → Option (Answer HostState)
+host_option host verb option None =
+    Some (record { after = host; reply = option_tokens (refusal_of verb) option })
+host_option host verb option (Some direction) =
+    if is_left_nameless host verb direction then None
+    else (if may_ask_name host verb direction
+    then Some (record { after = after_name_request host; reply = name_request ∷ [] })
+    else Some (by_host_table host verb option direction))
+
+-- what asks for a direction, where it isn't on, and its mode then
+abbrev pub request : Mode → Verb → ℕ → List Telnet
+request On verb option = []
+request Off verb option = Negotiate verb option ∷ []
+request Asked verb option = Negotiate verb option ∷ []
+
+abbrev pub mode_once_requested : Mode → Mode
+mode_once_requested On = On
+mode_once_requested Off = Asked
+mode_once_requested Asked = Asked
+
+-- an accepted name is answered by asking for all that isn't on: END-OF-RECORD, then BINARY, each from
+-- the station first
+abbrev pub requests : OptionTable Mode → List Telnet
+requests modes =
+    request modes.station_end_of_record Do end_of_record
+    ++ request modes.host_end_of_record Will end_of_record
+    ++ request modes.station_binary Do binary
+    ++ request modes.host_binary Will binary
+
+abbrev pub modes_once_requested : OptionTable Mode → OptionTable Mode
+modes_once_requested modes = record {
+  station_binary = mode_once_requested modes.station_binary;
+  station_terminal_type = modes.station_terminal_type;
+  station_end_of_record = mode_once_requested modes.station_end_of_record;
+  host_binary = mode_once_requested modes.host_binary;
+  host_end_of_record = mode_once_requested modes.host_end_of_record;
+}
+
+-- the name in a subnegotiation that is IS of TERMINAL-TYPE (RFC 1091, section 2)
+abbrev pub name_after_is : List ℕ → Option (List ℕ)
+name_after_is [] = None
+name_after_is (code ∷ name) = if code == 0 then Some name else None
+
+abbrev pub name_in : Sub → Option (List ℕ)
+name_in sub = if sub.option == terminal_type then name_after_is sub.data_ else None
+
+-- the name is that of this terminal, or of none
+abbrev pub host_judges : HostState → Option TerminalType → Option (Answer HostState)
+host_judges host None = None
+host_judges host (Some terminal) = Some (record {
+  after = record { modes = modes_once_requested host.modes; name = Accepted terminal };
+  reply = requests host.modes;
+})
+
+-- what the host end does at a name, in each state of its knowledge: the first after SEND is judged
+abbrev pub host_name : HostState → TerminalName → List ℕ → Option (Answer HostState)
+host_name host Requested name = host_judges host (terminal_named name)
+host_name host Unknown name = Some (record { after = host; reply = [] })
+host_name host (Accepted terminal) name = Some (record { after = host; reply = [] })
+
+abbrev pub host_subnegotiation : HostState → Option (List ℕ) → Option (Answer HostState)
+host_subnegotiation host None = Some (record { after = host; reply = [] })
+host_subnegotiation host (Some name) = host_name host host.name name
+
+-- what the host end does at a token; nothing where it refuses the token as UnsupportedTerminal
+abbrev pub host_answer : HostState → Telnet → Option (Answer HostState)
+host_answer host (Command code) = Some (record { after = host; reply = [] })
+host_answer host (Negotiate verb option) = host_option host verb option (direction_at_host verb option)
+host_answer host (Subnegotiate sub) = host_subnegotiation host (name_in sub)
+
+-- records are allowed at the host end
+abbrev pub host_allows_records : HostState → Bool
+host_allows_records host =
+    is_some (accepted_terminal host.name)
+    && (is_on host.modes.station_binary && (is_on host.modes.station_end_of_record
+    && (is_on host.modes.host_binary && is_on host.modes.host_end_of_record)))

@@ -1,0 +1,6 @@
+pub mod Terminal
+pub mod Options
+pub mod Station
+pub mod Host
+pub mod Exchange
+pub mod Dialogue

@@ -1,0 +1,102 @@
+use Rattle.std.specs.Prelude.{◌≡◌, ℕ, List, [], ◌∷◌, ◌==◌, if◌then◌else◌, Option, Some, None}
+use Rattle.std.specs.List.{flat_map}
+use Rattle.ws_telnet.specs.Token.{telnet_spelling}
+use Rattle.ws_telnet.specs.declared.token.Verb.{Verb}
+use Rattle.ws_telnet.specs.declared.token.Verb.TheVariants.{Will, Wont, Do, Dont}
+use Rattle.ws_telnet.specs.declared.token.Telnet.{Telnet}
+use Rattle.ws_telnet.specs.declared.token.Telnet.TheVariants.{Option as Negotiate}
+use Rattle.ws_nego.specs.declared.options.Direction.{Direction}
+use Rattle.ws_nego.specs.declared.options.Direction.TheVariants.{StationBinary, StationTerminalType, StationEndOfRecord, HostBinary, HostEndOfRecord}
+use Rattle.ws_nego.specs.declared.options.OptionTable.{OptionTable}
+
+-- What the option tables of both ends share
+
+-- the option codes of BINARY (RFC 856), TERMINAL-TYPE (RFC 1091) and END-OF-RECORD (RFC 885)
+abbrev pub binary : ℕ
+binary = 0
+
+abbrev pub terminal_type : ℕ
+terminal_type = 0x18
+
+abbrev pub end_of_record : ℕ
+end_of_record = 0x19
+
+-- the entry of a direction
+abbrev pub entry : {T : Type 0} → OptionTable T → Direction → T
+entry table StationBinary = table.station_binary
+entry table StationTerminalType = table.station_terminal_type
+entry table StationEndOfRecord = table.station_end_of_record
+entry table HostBinary = table.host_binary
+entry table HostEndOfRecord = table.host_end_of_record
+
+-- the table with this entry of the direction
+abbrev pub with_entry : {T : Type 0} → OptionTable T → Direction → T → OptionTable T
+with_entry table StationBinary value = record table { station_binary = value }
+with_entry table StationTerminalType value = record table { station_terminal_type = value }
+with_entry table StationEndOfRecord value = record table { station_end_of_record = value }
+with_entry table HostBinary value = record table { host_binary = value }
+with_entry table HostEndOfRecord value = record table { host_end_of_record = value }
+
+-- the table whose entries are all the same
+abbrev pub filled : {T : Type 0} → T → OptionTable T
+filled value = record {
+  station_binary = value;
+  station_terminal_type = value;
+  station_end_of_record = value;
+  host_binary = value;
+  host_end_of_record = value;
+}
+
+-- the direction in which the station performs an option, and that in which the host end does
+abbrev pub station_direction : ℕ → Option Direction
+station_direction option =
+    if option == binary then Some StationBinary
+    else (if option == terminal_type then Some StationTerminalType
+    else (if option == end_of_record then Some StationEndOfRecord
+    else None))
+
+abbrev pub host_direction : ℕ → Option Direction
+host_direction option =
+    if option == binary then Some HostBinary
+    else (if option == end_of_record then Some HostEndOfRecord
+    else None)
+
+-- DO and DONT speak of what the end that gets them performs, WILL and WONT of what the end that wrote
+-- them performs (RFC 854, "Telnet Command Structure")
+abbrev pub direction_at_station : Verb → ℕ → Option Direction
+direction_at_station Do option = station_direction option
+direction_at_station Dont option = station_direction option
+direction_at_station Will option = host_direction option
+direction_at_station Wont option = host_direction option
+
+abbrev pub direction_at_host : Verb → ℕ → Option Direction
+direction_at_host Do option = host_direction option
+direction_at_host Dont option = host_direction option
+direction_at_host Will option = station_direction option
+direction_at_host Wont option = station_direction option
+
+-- an option whose direction isn't in the table is refused, and stays off (RFC 854, "General Considerations")
+abbrev pub refusal_of : Verb → Option Verb
+refusal_of Do = Some Wont
+refusal_of Will = Some Dont
+refusal_of Dont = None
+refusal_of Wont = None
+
+-- the token that answers for an option, where there is an answer
+abbrev pub option_tokens : Option Verb → ℕ → List Telnet
+option_tokens None option = []
+option_tokens (Some verb) option = Negotiate verb option ∷ []
+
+-- the bytes of tokens
+abbrev pub bytes_of : List Telnet → List ℕ
+bytes_of tokens = flat_map telnet_spelling tokens
+
+-- what an end does at a token: its options afterwards, and the tokens of its reply
+pub record Answer (State : Type 0) : Type 0 where
+  pub after : State
+  pub reply : List Telnet
+
+-- there is an answer, with these options afterwards and these bytes for its reply
+abbrev pub AnswersWith : {State : Type 0} → Option (Answer State) → State → List ℕ → Type 0
+AnswersWith None after bytes = ⊥
+AnswersWith (Some answer) after bytes = (after ≡ answer.after) × (bytes ≡ bytes_of answer.reply)

@@ -1,0 +1,70 @@
+use Rattle.std.specs.Prelude.{ℕ, [], ◌∷◌, Bool, true, false, ◌==◌, ◌&&◌, if◌then◌else◌, Option, Some, None}
+use Rattle.std.specs.Str.{bytes_eq}
+use Rattle.ws_telnet.specs.declared.token.Verb.{Verb}
+use Rattle.ws_telnet.specs.declared.token.Verb.TheVariants.{Will, Wont, Do, Dont}
+use Rattle.ws_telnet.specs.declared.token.Sub.{Sub}
+use Rattle.ws_telnet.specs.declared.token.Telnet.{Telnet}
+use Rattle.ws_telnet.specs.declared.token.Telnet.TheVariants.{Command, Option as Negotiate, Sub as Subnegotiate}
+use Rattle.ws_nego.specs.declared.terminal.TerminalType.{TerminalType}
+use Rattle.ws_nego.specs.declared.options.Direction.{Direction}
+use Rattle.ws_nego.specs.declared.options.OptionTable.{OptionTable}
+use Rattle.ws_nego.specs.Terminal.{name_of}
+use Rattle.ws_nego.specs.Options.{terminal_type, entry, with_entry, filled, direction_at_station, refusal_of, option_tokens, Answer}
+
+-- The station's options (RFC 854, 856, 885, 1091; RFC 4777, section 2)
+
+-- its terminal, and which directions are on
+pub record StationState : Type 0 where
+  pub terminal : TerminalType
+  pub on : OptionTable Bool
+
+abbrev pub new_station : TerminalType → StationState
+new_station terminal = record { terminal = terminal; on = filled false }
+
+-- The station's table: whether the direction is on afterwards, and the answer. What is asked and stands
+-- already isn't acknowledged (RFC 854, "General Considerations").
+abbrev pub station_row : Verb → Bool → Bool × Option Verb
+station_row Do false = (true, Some Will)
+station_row Do true = (true, None)
+station_row Will false = (true, Some Do)
+station_row Will true = (true, None)
+station_row Dont false = (false, None)
+station_row Dont true = (false, Some Wont)
+station_row Wont false = (false, None)
+station_row Wont true = (false, Some Dont)
+
+-- SEND, and IS with the terminal's name (RFC 1091, section 2)
+abbrev pub name_request : Telnet
+name_request = Subnegotiate (record { option = terminal_type; data_ = 1 ∷ [] })
+
+abbrev pub name_answer : TerminalType → Telnet
+name_answer terminal = Subnegotiate (record { option = terminal_type; data_ = 0 ∷ name_of terminal })
+
+abbrev pub is_name_request : Sub → Bool
+is_name_request sub = (sub.option == terminal_type) && bytes_eq sub.data_ (1 ∷ [])
+
+-- what the station does at a verb of an option, in a direction of its table or in none
+abbrev pub station_option : StationState → Verb → ℕ → Option Direction → Answer StationState
+station_option station verb option None = record { after = station; reply = option_tokens (refusal_of verb) option }
+station_option station verb option (Some direction) =
+    let row = station_row verb (entry station.on direction) in
+    record {
+      after = record { terminal = station.terminal; on = with_entry station.on direction row.0 };
+      reply = option_tokens row.1 option;
+    }
+
+-- what the station does at a token
+abbrev pub station_answer : StationState → Telnet → Answer StationState
+station_answer station (Command code) = record { after = station; reply = [] }
+station_answer station (Negotiate verb option) =
+    station_option station verb option (direction_at_station verb option)
+station_answer station (Subnegotiate sub) = record {
+  after = station;
+  reply = if is_name_request sub && station.on.station_terminal_type then name_answer station.terminal ∷ [] else [];
+}
+
+-- records are allowed at the station
+abbrev pub station_allows_records : StationState → Bool
+station_allows_records station =
+    station.on.station_binary && (station.on.station_end_of_record
+    && (station.on.host_binary && station.on.host_end_of_record))

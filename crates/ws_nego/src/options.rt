@@ -1,0 +1,161 @@
+ghost use Rattle.std.specs.Prelude.{◌≡◌, ◌≤◌, ◌+◌, ◌++◌, ◌∷◌, [], length};
+ghost use Rattle.ws_nego.specs.Options as spec;
+ghost use Rattle.ws_nego.specs.Options.{entry, with_entry, refusal_of, option_tokens, bytes_of};
+
+use arrayvec::ArrayVec;
+use ws_code::ByteList;
+use ws_telnet::Verb;
+
+/// What an end writes in answer to one token: at most 17 bytes.
+pub type Reply = ByteList<17>;
+
+/// Transmit Binary (RFC 856, section 1).
+pub const BINARY: u8 = 0x00;
+
+/// Terminal Type (RFC 1091, section 1).
+pub const TERMINAL_TYPE: u8 = 0x18;
+
+/// End of Record (RFC 885, section 1).
+pub const END_OF_RECORD: u8 = 0x19;
+
+/// One direction of an option: the end that performs it, and the option (RFC 854, "General
+/// Considerations").
+#[derive(Clone, Copy, Debug, PartialEq, Eq)]
+pub enum Direction {
+    StationBinary,
+    StationTerminalType,
+    StationEndOfRecord,
+    HostBinary,
+    HostEndOfRecord,
+}
+
+/// An entry for each direction.
+#[derive(Clone, Copy, Debug, PartialEq, Eq)]
+pub struct OptionTable<T> {
+    pub station_binary: T,
+    pub station_terminal_type: T,
+    pub station_end_of_record: T,
+    pub host_binary: T,
+    pub host_end_of_record: T,
+}
+
+impl<T: Copy> OptionTable<T> {
+    /// The table whose entries are all the same.
+    pub fn filled(value: T) -> Self
+        ensures { result ≡ spec.filled value }
+    {
+        OptionTable {
+            station_binary: value,
+            station_terminal_type: value,
+            station_end_of_record: value,
+            host_binary: value,
+            host_end_of_record: value,
+        }
+    }
+
+    pub fn get(&self, direction: Direction) -> T
+        ensures { result ≡ entry self.now direction }
+    {
+        match direction {
+            Direction::StationBinary => self.station_binary,
+            Direction::StationTerminalType => self.station_terminal_type,
+            Direction::StationEndOfRecord => self.station_end_of_record,
+            Direction::HostBinary => self.host_binary,
+            Direction::HostEndOfRecord => self.host_end_of_record,
+        }
+    }
+
+    pub fn set(&mut self, direction: Direction, value: T)
+        ensures { self.new ≡ with_entry self.old direction value }
+    {
+        match direction {
+            Direction::StationBinary => self.station_binary = value,
+            Direction::StationTerminalType => self.station_terminal_type = value,
+            Direction::StationEndOfRecord => self.station_end_of_record = value,
+            Direction::HostBinary => self.host_binary = value,
+            Direction::HostEndOfRecord => self.host_end_of_record = value,
+        }
+    }
+}
+
+/// The direction in which the station performs the option.
+fn station_direction(option: u8) -> Option<Direction>
+    ensures { result ≡ spec.station_direction option }
+{
+    match option {
+        BINARY => Some(Direction::StationBinary),
+        TERMINAL_TYPE => Some(Direction::StationTerminalType),
+        END_OF_RECORD => Some(Direction::StationEndOfRecord),
+        _ => None,
+    }
+}
+
+/// The direction in which the host end performs the option.
+fn host_direction(option: u8) -> Option<Direction>
+    ensures { result ≡ spec.host_direction option }
+{
+    match option {
+        BINARY => Some(Direction::HostBinary),
+        END_OF_RECORD => Some(Direction::HostEndOfRecord),
+        _ => None,
+    }
+}
+
+/// The direction of which the verb speaks to the station.
+pub fn direction_at_station(verb: Verb, option: u8) -> Option<Direction>
+    ensures { result ≡ spec.direction_at_station verb option }
+{
+    match verb {
+        Verb::Do | Verb::Dont => station_direction(option),
+        Verb::Will | Verb::Wont => host_direction(option),
+    }
+}
+
+/// The direction of which the verb speaks to the host end.
+pub fn direction_at_host(verb: Verb, option: u8) -> Option<Direction>
+    ensures { result ≡ spec.direction_at_host verb option }
+{
+    match verb {
+        Verb::Do | Verb::Dont => host_direction(option),
+        Verb::Will | Verb::Wont => station_direction(option),
+    }
+}
+
+/// The answer to a verb whose direction isn't in the table (RFC 854, "General Considerations").
+pub fn refusal(verb: Verb) -> Option<Verb>
+    ensures { result ≡ refusal_of verb }
+{
+    match verb {
+        Verb::Do => Some(Verb::Wont),
+        Verb::Will => Some(Verb::Dont),
+        Verb::Dont | Verb::Wont => None,
+    }
+}
+
+/// Appends an option command.
+pub fn push_option(bytes: &mut ArrayVec<u8, 17>, verb: Verb, option: u8)
+    requires { length bytes.old.items + 3 ≤ 17 }
+    ensures { bytes.new.items ≡ bytes.old.items ++ bytes_of (option_tokens (Some verb) option) }
+{
+    bytes.push(0xff);
+    bytes.push(verb.byte());
+    bytes.push(option);
+}
+
+/// The reply of one option command, or the empty one where there is no verb.
+pub fn option_reply(verb: Option<Verb>, option: u8) -> Reply
+    ensures { result ≡ bytes_of (option_tokens verb option) }
+{
+    let mut bytes = ArrayVec::new();
+    if let Some(verb) = verb {
+        push_option(&mut bytes, verb, option);
+    }
+    ByteList::of(bytes)
+}
+
+/// The empty reply.
+pub fn no_reply() -> Reply
+    ensures { result ≡ [] }
+{
+    ByteList::of(ArrayVec::new())
+}

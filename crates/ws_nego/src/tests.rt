@@ -1,0 +1,194 @@
+use super::*;
+use std::process::Abort;
+use std::test::*;
+use ws_code::Reason;
+use ws_telnet::{CommandCode, Sub, Telnet, Verb};
+
+// A subnegotiation of TERMINAL-TYPE: 01 is SEND, 00 and a name is IS.
+fn terminal_type(rt: &impl Abort, bytes: &[u8]) -> Telnet {
+    Telnet::Sub(Sub::new(0x18, bytes).expect(rt, "at most 64 bytes"))
+}
+
+#[test]
+fn station_opening(rt: HostRuntime) {
+    let mut station = StationOptions::new(TerminalType::default());
+    let name = b"\xff\xfa\x18\x00IBM-3179-2\xff\xf0".as_slice();
+    let asks = [
+        (Telnet::Option(Verb::Do, 0x18), b"\xff\xfb\x18".as_slice()),
+        (terminal_type(&rt, &[1]), name),
+        (terminal_type(&rt, &[1]), name),
+        (Telnet::Option(Verb::Do, 0x18), b"".as_slice()),
+        (Telnet::Option(Verb::Do, 0x27), b"\xff\xfc\x27".as_slice()),
+        (Telnet::Option(Verb::Do, 0x19), b"\xff\xfb\x19".as_slice()),
+        (Telnet::Option(Verb::Will, 0x19), b"\xff\xfd\x19".as_slice()),
+        (Telnet::Option(Verb::Do, 0x00), b"\xff\xfb\x00".as_slice()),
+        (Telnet::Option(Verb::Will, 0x00), b"\xff\xfd\x00".as_slice()),
+    ];
+    for (token, reply) in &asks {
+        assert!(rt; !station.records_allowed(), "before {token:?}");
+        assert_eq!(rt; station.answer(token).as_slice(), *reply, "at {token:?}");
+    }
+    assert!(rt; station.records_allowed());
+}
+
+#[test]
+fn binary_off(rt: HostRuntime) {
+    let mut station = StationOptions::new(TerminalType::Ibm5251Model11);
+    for (verb, option) in [
+        (Verb::Do, 0x19),
+        (Verb::Will, 0x19),
+        (Verb::Do, 0x00),
+        (Verb::Will, 0x00),
+    ] {
+        let _reply = station.answer(&Telnet::Option(verb, option));
+    }
+    assert!(rt; station.records_allowed());
+    for reply in [b"\xff\xfc\x00".as_slice(), b"".as_slice()] {
+        let dont = Telnet::Option(Verb::Dont, 0x00);
+        assert_eq!(rt; station.answer(&dont).as_slice(), reply);
+        assert!(rt; !station.records_allowed());
+    }
+}
+
+// What a host end answers after `open`, token by token.
+fn check_host(rt: &impl Abort, rows: &[(Telnet, &[u8])]) -> HostOptions {
+    let mut host = HostOptions::new();
+    assert_eq!(rt; host.open().as_slice(), b"\xff\xfd\x18".as_slice());
+    for (token, reply) in rows {
+        let written = host.answer(token).expect(rt, "no refusal");
+        assert_eq!(rt; written.as_slice(), *reply, "at {token:?}");
+    }
+    host
+}
+
+#[test]
+fn host_opening(rt: HostRuntime) {
+    let requests = b"\xff\xfd\x19\xff\xfb\x19\xff\xfd\x00\xff\xfb\x00".as_slice();
+    let send = b"\xff\xfa\x18\x01\xff\xf0".as_slice();
+    let nothing = b"".as_slice();
+    for (name, terminal) in [
+        (b"\x00IBM-3179-2".as_slice(), TerminalType::Ibm3179Model2),
+        (b"\x00ibm-3179-2".as_slice(), TerminalType::Ibm3179Model2),
+        (b"\x00Ibm-3196-a1".as_slice(), TerminalType::Ibm3196ModelA1),
+    ] {
+        let mut host = check_host(
+            &rt,
+            &[
+                (Telnet::Option(Verb::Will, 0x18), send),
+                (terminal_type(&rt, name), requests),
+                (terminal_type(&rt, name), nothing),
+                (Telnet::Option(Verb::Will, 0x19), nothing),
+                (Telnet::Option(Verb::Do, 0x19), nothing),
+                (Telnet::Option(Verb::Will, 0x00), nothing),
+            ],
+        );
+        assert!(rt; !host.records_allowed());
+        let last = host.answer(&Telnet::Option(Verb::Do, 0x00));
+        assert!(rt; last.expect(&rt, "no refusal").as_slice().is_empty());
+        assert!(rt; host.records_allowed());
+        assert_eq!(rt; host.terminal(), Some(terminal));
+    }
+}
+
+#[test]
+fn eor_first(rt: HostRuntime) {
+    let _host = check_host(
+        &rt,
+        &[
+            (Telnet::Option(Verb::Will, 0x19), b"\xff\xfd\x19".as_slice()),
+            (
+                Telnet::Option(Verb::Will, 0x18),
+                b"\xff\xfa\x18\x01\xff\xf0".as_slice(),
+            ),
+            (
+                terminal_type(&rt, b"\x00IBM-3179-2"),
+                b"\xff\xfb\x19\xff\xfd\x00\xff\xfb\x00".as_slice(),
+            ),
+        ],
+    );
+}
+
+#[test]
+fn no_terminal_type(rt: HostRuntime) {
+    let mut host = check_host(&rt, &[]);
+    let wont = host.answer(&Telnet::Option(Verb::Wont, 0x18));
+    assert!(rt; matches!(wont, Err(Reason::UnsupportedTerminal)));
+    let send = host.answer(&Telnet::Option(Verb::Will, 0x18));
+    assert_eq!(rt;
+        send.expect(&rt, "no refusal").as_slice(),
+        b"\xff\xfa\x18\x01\xff\xf0".as_slice()
+    );
+    let other = host.answer(&terminal_type(&rt, b"\x00IBM-3477-FC"));
+    assert!(rt; matches!(other, Err(Reason::UnsupportedTerminal)));
+    assert_eq!(rt; host.terminal(), None);
+    let known = host.answer(&terminal_type(&rt, b"\x00IBM-5291-1"));
+    assert_eq!(rt; known.expect(&rt, "no refusal").as_slice().len(), 12);
+    assert_eq!(rt; host.terminal(), Some(TerminalType::Ibm5291Model1));
+}
+
+// An option that isn't in a table, a subnegotiation of another option and a command.
+#[test]
+fn unknown_options(rt: HostRuntime) {
+    let mut station = StationOptions::new(TerminalType::default());
+    let mut host = HostOptions::new();
+    for (verb, option, reply) in [
+        (Verb::Do, 0x27, b"\xff\xfc\x27".as_slice()),
+        (Verb::Will, 0x27, b"\xff\xfe\x27".as_slice()),
+        (Verb::Dont, 0x27, b"".as_slice()),
+        (Verb::Wont, 0x27, b"".as_slice()),
+    ] {
+        let token = Telnet::Option(verb, option);
+        assert_eq!(rt; station.answer(&token).as_slice(), reply, "at {token:?}");
+        let written = host.answer(&token).expect(&rt, "no refusal");
+        assert_eq!(rt; written.as_slice(), reply, "at {token:?}");
+    }
+    // Neither does the station let the host end send a name, nor does the host end send one.
+    let will = Telnet::Option(Verb::Will, 0x18);
+    assert_eq!(rt;
+        station.answer(&will).as_slice(),
+        b"\xff\xfe\x18".as_slice()
+    );
+    let written = host.answer(&Telnet::Option(Verb::Do, 0x18));
+    assert_eq!(rt;
+        written.expect(&rt, "no refusal").as_slice(),
+        b"\xff\xfc\x18".as_slice()
+    );
+    for token in [
+        Telnet::Sub(Sub::new(0x27, &[1]).expect(&rt, "short")),
+        Telnet::Command(CommandCode::Nop),
+    ] {
+        assert!(rt; station.answer(&token).as_slice().is_empty());
+        let written = host.answer(&token).expect(&rt, "no refusal");
+        assert!(rt; written.as_slice().is_empty());
+    }
+}
+
+#[test]
+fn terminal_names(rt: HostRuntime) {
+    for (terminal, name) in [
+        (TerminalType::Ibm5251Model11, b"IBM-5251-11".as_slice()),
+        (TerminalType::Ibm5291Model1, b"IBM-5291-1".as_slice()),
+        (TerminalType::Ibm5292Model2, b"IBM-5292-2".as_slice()),
+        (TerminalType::Ibm3196ModelA1, b"IBM-3196-A1".as_slice()),
+        (TerminalType::Ibm3179Model2, b"IBM-3179-2".as_slice()),
+    ] {
+        assert_eq!(rt; terminal.name(), name);
+        assert_eq!(rt; TerminalType::from_name(name), Some(terminal));
+    }
+    for name in [
+        b"".as_slice(),
+        b"IBM-3179-".as_slice(),
+        b"IBM-3179-2 ".as_slice(),
+        b"IBM-3477-FC".as_slice(),
+    ] {
+        assert_eq!(rt; TerminalType::from_name(name), None);
+    }
+}
+
+#[test]
+fn laws_can_be_called() {
+    exchanges_agree();
+    three_deliveries_suffice();
+    once_allowed();
+    dialogues_agree();
+}
