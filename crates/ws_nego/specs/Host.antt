@@ -13,7 +13,7 @@ use Rattle.ws_nego.specs.declared.host.Mode.TheVariants.{Off, Asked, On}
 use Rattle.ws_nego.specs.declared.host.TerminalName.{TerminalName}
 use Rattle.ws_nego.specs.declared.host.TerminalName.TheVariants.{Unknown, Requested, Accepted}
 use Rattle.ws_nego.specs.Terminal.{terminal_named}
-use Rattle.ws_nego.specs.Options.{binary, terminal_type, end_of_record, entry, with_entry, filled, direction_at_host, refusal_of, option_tokens, Answer}
+use Rattle.ws_nego.specs.Options.{binary, terminal_type, end_of_record, entry, with_entry, filled, direction_at_host, refusal_of, option_tokens, Answer, no_effect}
 use Rattle.ws_nego.specs.Station.{name_request}
 
 -- The host end's options (RFC 854, 856, 885, 1091; RFC 4777, section 2)
@@ -71,21 +71,22 @@ accepted_terminal Requested = None
 accepted_terminal (Accepted terminal) = Some terminal
 
 -- WONT TERMINAL-TYPE before a name was accepted
-abbrev pub is_left_nameless : HostState → Verb → Direction → Bool
-is_left_nameless host Wont StationTerminalType = is_none (accepted_terminal host.name)
-is_left_nameless host verb direction = false
+abbrev pub is_name_withheld : HostState → Verb → Direction → Bool
+is_name_withheld host Wont StationTerminalType = is_none (accepted_terminal host.name)
+is_name_withheld host verb direction = false
 
 -- WILL TERMINAL-TYPE that turns the asked option on, before SEND was written
-abbrev pub may_ask_name : HostState → Verb → Direction → Bool
-may_ask_name host Will StationTerminalType = is_asked host.modes.station_terminal_type && is_unknown host.name
-may_ask_name host verb direction = false
+abbrev pub is_name_offered : HostState → Verb → Direction → Bool
+is_name_offered host Will StationTerminalType =
+    is_asked host.modes.station_terminal_type && is_unknown host.name
+is_name_offered host verb direction = false
 
 abbrev pub after_name_request : HostState → HostState
 after_name_request host = record { modes = with_entry host.modes StationTerminalType On; name = Requested }
 
 -- what the table says of a verb in a direction
-abbrev pub by_host_table : HostState → Verb → ℕ → Direction → Answer HostState
-by_host_table host verb option direction =
+abbrev pub host_table_answer : HostState → Verb → ℕ → Direction → Answer HostState
+host_table_answer host verb option direction =
     let row = host_row verb (entry host.modes direction) in
     record {
       after = record { modes = with_entry host.modes direction row.0; name = host.name };
@@ -93,14 +94,14 @@ by_host_table host verb option direction =
     }
 
 -- what the host end does at a verb of an option, in a direction of its table or in none
-abbrev pub host_option : HostState → Verb → ℕ → Option Direction → Option (Answer HostState)
-host_option host verb option None =
+abbrev pub host_option_answer : HostState → Verb → ℕ → Option Direction → Option (Answer HostState)
+host_option_answer host verb option None =
     Some (record { after = host; reply = option_tokens (refusal_of verb) option })
-host_option host verb option (Some direction) =
-    if is_left_nameless host verb direction then None
-    else (if may_ask_name host verb direction
+host_option_answer host verb option (Some direction) =
+    if is_name_withheld host verb direction then None
+    else (if is_name_offered host verb direction
     then Some (record { after = after_name_request host; reply = name_request ∷ [] })
-    else Some (by_host_table host verb option direction))
+    else Some (host_table_answer host verb option direction))
 
 -- what asks for a direction, where it isn't on, and its mode then
 abbrev pub request : Mode → Verb → ℕ → List Telnet
@@ -139,29 +140,30 @@ name_after_is (code ∷ name) = if code == 0 then Some name else None
 abbrev pub name_in : Sub → Option (List ℕ)
 name_in sub = if sub.option == terminal_type then name_after_is sub.data_ else None
 
--- the name is that of this terminal, or of none
-abbrev pub host_judges : HostState → Option TerminalType → Option (Answer HostState)
-host_judges host None = None
-host_judges host (Some terminal) = Some (record {
+-- a name is judged by the terminal type that has it: one without any is refused
+abbrev pub host_judgement : HostState → Option TerminalType → Option (Answer HostState)
+host_judgement host None = None
+host_judgement host (Some terminal) = Some (record {
   after = record { modes = modes_once_requested host.modes; name = Accepted terminal };
   reply = requests host.modes;
 })
 
--- what the host end does at a name, in each state of its knowledge: the first after SEND is judged
-abbrev pub host_name : HostState → TerminalName → List ℕ → Option (Answer HostState)
-host_name host Requested name = host_judges host (terminal_named name)
-host_name host Unknown name = Some (record { after = host; reply = [] })
-host_name host (Accepted terminal) name = Some (record { after = host; reply = [] })
+-- what the host end does at a name: the first after SEND is judged, and no other
+abbrev pub host_name_answer : HostState → TerminalName → List ℕ → Option (Answer HostState)
+host_name_answer host Requested name = host_judgement host (terminal_named name)
+host_name_answer host Unknown name = Some (no_effect host)
+host_name_answer host (Accepted terminal) name = Some (no_effect host)
 
-abbrev pub host_subnegotiation : HostState → Option (List ℕ) → Option (Answer HostState)
-host_subnegotiation host None = Some (record { after = host; reply = [] })
-host_subnegotiation host (Some name) = host_name host host.name name
+abbrev pub host_sub_answer : HostState → Option (List ℕ) → Option (Answer HostState)
+host_sub_answer host None = Some (no_effect host)
+host_sub_answer host (Some name) = host_name_answer host host.name name
 
--- what the host end does at a token; nothing where it refuses the token as UnsupportedTerminal
+-- what the host end does at a token, where it doesn't refuse it as UnsupportedTerminal
 abbrev pub host_answer : HostState → Telnet → Option (Answer HostState)
-host_answer host (Command code) = Some (record { after = host; reply = [] })
-host_answer host (Negotiate verb option) = host_option host verb option (direction_at_host verb option)
-host_answer host (Subnegotiate sub) = host_subnegotiation host (name_in sub)
+host_answer host (Command code) = Some (no_effect host)
+host_answer host (Negotiate verb option) =
+    host_option_answer host verb option (direction_at_host verb option)
+host_answer host (Subnegotiate sub) = host_sub_answer host (name_in sub)
 
 -- records are allowed at the host end
 abbrev pub host_allows_records : HostState → Bool

@@ -96,6 +96,10 @@ pub record Answer (State : Type 0) : Type 0 where
   pub after : State
   pub reply : List Telnet
 
+-- a token without effect
+abbrev pub no_effect : {State : Type 0} → State → Answer State
+no_effect state = record { after = state; reply = [] }
+
 -- there is an answer, with these options afterwards and these bytes for its reply
 abbrev pub AnswersWith : {State : Type 0} → Option (Answer State) → State → List ℕ → Type 0
 AnswersWith None after bytes = ⊥

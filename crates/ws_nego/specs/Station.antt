@@ -9,7 +9,7 @@ use Rattle.ws_nego.specs.declared.terminal.TerminalType.{TerminalType}
 use Rattle.ws_nego.specs.declared.options.Direction.{Direction}
 use Rattle.ws_nego.specs.declared.options.OptionTable.{OptionTable}
 use Rattle.ws_nego.specs.Terminal.{name_of}
-use Rattle.ws_nego.specs.Options.{terminal_type, entry, with_entry, filled, direction_at_station, refusal_of, option_tokens, Answer}
+use Rattle.ws_nego.specs.Options.{terminal_type, entry, with_entry, filled, direction_at_station, refusal_of, option_tokens, Answer, no_effect}
 
 -- The station's options (RFC 854, 856, 885, 1091; RFC 4777, section 2)
 
@@ -44,9 +44,10 @@ abbrev pub is_name_request : Sub → Bool
 is_name_request sub = (sub.option == terminal_type) && bytes_eq sub.data_ (1 ∷ [])
 
 -- what the station does at a verb of an option, in a direction of its table or in none
-abbrev pub station_option : StationState → Verb → ℕ → Option Direction → Answer StationState
-station_option station verb option None = record { after = station; reply = option_tokens (refusal_of verb) option }
-station_option station verb option (Some direction) =
+abbrev pub station_option_answer : StationState → Verb → ℕ → Option Direction → Answer StationState
+station_option_answer station verb option None =
+    record { after = station; reply = option_tokens (refusal_of verb) option }
+station_option_answer station verb option (Some direction) =
     let row = station_row verb (entry station.on direction) in
     record {
       after = record { terminal = station.terminal; on = with_entry station.on direction row.0 };
@@ -55,12 +56,15 @@ station_option station verb option (Some direction) =
 
 -- what the station does at a token
 abbrev pub station_answer : StationState → Telnet → Answer StationState
-station_answer station (Command code) = record { after = station; reply = [] }
+station_answer station (Command code) = no_effect station
 station_answer station (Negotiate verb option) =
-    station_option station verb option (direction_at_station verb option)
+    station_option_answer station verb option (direction_at_station verb option)
 station_answer station (Subnegotiate sub) = record {
   after = station;
-  reply = if is_name_request sub && station.on.station_terminal_type then name_answer station.terminal ∷ [] else [];
+  reply =
+      if is_name_request sub && station.on.station_terminal_type
+      then name_answer station.terminal ∷ []
+      else [];
 }
 
 -- records are allowed at the station

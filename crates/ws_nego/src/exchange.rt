@@ -1,5 +1,5 @@
-// What holds of every exchange between a new station and a new host end. These functions do nothing:
-// a caller gets the law by the call.
+// What holds of every exchange between a new station and a new host end. These functions do
+// nothing: a caller gets the law by the call.
 
 ghost use Rattle.std.specs.Prelude.{◌≡◌, ◌≤◌, ◌+◌, List, [], length, true, false};
 ghost use Rattle.ws_nego.specs.declared.terminal.TerminalType.{TerminalType};
@@ -33,9 +33,9 @@ pub fn three_deliveries_suffice()
         host_allows_records last.host ≡ true }
 {}
 
-/// Once the station allows records, nothing is in flight to it; and once nothing is in flight to the
-/// host end either, this one allows them too. Once the host end allows records, nothing is in flight,
-/// and the station allows them.
+/// Once the station allows records, nothing is in flight to it; and once nothing is in flight to
+/// the host end either, this one allows them too. Once the host end allows records, nothing is in
+/// flight, and the station allows them.
 pub fn once_allowed()
     ensures station { (terminal : TerminalType) (moves : List Move)
         → let now = after_moves moves (new_exchange terminal) in
@@ -50,7 +50,8 @@ pub fn once_allowed()
         → IsQuiet now × (station_allows_records now.station ≡ true) }
 {}
 
-/// The first law, said of all tokens that were ever written and of how many have arrived.
+/// The law of `exchanges_agree`, said of all tokens that were ever written and of how many of them
+/// have arrived.
 pub fn dialogues_agree()
     ensures agree { (terminal : TerminalType) (moves : List Move)
         → let now = after_arrivals moves (new_dialogue terminal) in

@@ -33,8 +33,8 @@ pub enum TerminalName {
     Accepted(TerminalType),
 }
 
-/// The options of a host end. It asks for the terminal's name first, and for BINARY and END-OF-RECORD
-/// in both directions once it has accepted one (RFC 854, 856, 885, 1091; RFC 4777, section 2).
+/// The options of a host end. It asks for the terminal's name first, and once it has accepted one
+/// for BINARY and END-OF-RECORD in both directions (RFC 854, 856, 885, 1091; RFC 4777, section 2).
 #[derive(Debug, Drop)]
 pub struct HostOptions {
     modes: OptionTable<Mode>,
@@ -154,13 +154,13 @@ impl HostOptions {
 
     /// Takes a token from the station, and gives what the host end writes. An option that isn't in
     /// its table is refused. The first WILL TERMINAL-TYPE after `open` is answered by SEND, and the
-    /// first name after SEND is judged: an accepted one is answered by the requests for what isn't on
-    /// yet. Every other subnegotiation, and every command, has no effect.
+    /// first name after SEND is judged: an accepted one is answered by the requests for what isn't
+    /// on yet. Every other subnegotiation, and every command, has no effect.
     ///
     /// # Errors
     ///
-    /// `UnsupportedTerminal` where the judged name is no `TerminalType`'s, and at WONT TERMINAL-TYPE
-    /// before a name was accepted. The options are unchanged.
+    /// `UnsupportedTerminal` where the judged name is no terminal type's, and at WONT TERMINAL-TYPE
+    /// before a name was accepted. The options are then unchanged.
     pub fn answer(&mut self, token: &Telnet) -> Result<Reply, Reason>
         ensures answer { IfOk result (λ reply.
             AnswersWith (host_answer self.old token.now) self.new reply) }
@@ -185,10 +185,10 @@ impl HostOptions {
         let Some(direction) = direction_at_host(verb, option) else {
             return Ok(option_reply(refusal(verb), option));
         };
-        if self.is_left_nameless(verb, direction) {
+        if self.is_name_withheld(verb, direction) {
             return Err(Reason::UnsupportedTerminal);
         }
-        if self.may_ask_name(verb, direction) {
+        if self.is_name_offered(verb, direction) {
             self.modes.station_terminal_type = Mode::On;
             self.name = TerminalName::Requested;
             return Ok(send_reply());
@@ -199,8 +199,8 @@ impl HostOptions {
     }
 
     /// WONT TERMINAL-TYPE before a name was accepted.
-    fn is_left_nameless(&self, verb: Verb, direction: Direction) -> bool
-        ensures { result ≡ spec.is_left_nameless self.now verb direction }
+    fn is_name_withheld(&self, verb: Verb, direction: Direction) -> bool
+        ensures { result ≡ spec.is_name_withheld self.now verb direction }
     {
         match (verb, direction) {
             (Verb::Wont, Direction::StationTerminalType) => self.terminal().is_none(),
@@ -209,8 +209,8 @@ impl HostOptions {
     }
 
     /// WILL TERMINAL-TYPE that answers `open`, before SEND was written.
-    fn may_ask_name(&self, verb: Verb, direction: Direction) -> bool
-        ensures { result ≡ spec.may_ask_name self.now verb direction }
+    fn is_name_offered(&self, verb: Verb, direction: Direction) -> bool
+        ensures { result ≡ spec.is_name_offered self.now verb direction }
     {
         match (verb, direction) {
             (Verb::Will, Direction::StationTerminalType) => {
@@ -247,8 +247,8 @@ impl HostOptions {
         Ok(reply)
     }
 
-    /// Whether records are allowed: a name was accepted, and BINARY and END-OF-RECORD are on in both
-    /// directions.
+    /// Whether records are allowed: a name was accepted, and BINARY and END-OF-RECORD are on in
+    /// both directions.
     pub fn records_allowed(&self) -> bool
         ensures { result ≡ host_allows_records self.now }
     {

@@ -53,6 +53,7 @@ impl<T: Copy> OptionTable<T> {
         }
     }
 
+    /// The entry of a direction.
     pub fn get(&self, direction: Direction) -> T
         ensures { result ≡ entry self.now direction }
     {
@@ -65,6 +66,7 @@ impl<T: Copy> OptionTable<T> {
         }
     }
 
+    /// Replaces the entry of a direction.
     pub fn set(&mut self, direction: Direction, value: T)
         ensures { self.new ≡ with_entry self.old direction value }
     {

@@ -32,8 +32,8 @@ impl TerminalType {
         TerminalType::Ibm3179Model2,
     ];
 
-    /// The terminal type of this name, with letters in either case (RFC 1091); none where no terminal
-    /// type has the name.
+    /// The terminal type of this name, with letters in either case (RFC 1091); none where no
+    /// terminal type has the name.
     #[tactic(auto, unfolding(crate::specs::Terminal::terminal_named))]
     pub fn from_name(name: &[u8]) -> Option<TerminalType>
         ensures value { result ≡ terminal_named name.now }

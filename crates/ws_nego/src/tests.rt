@@ -4,6 +4,13 @@ use std::test::*;
 use ws_code::Reason;
 use ws_telnet::{CommandCode, Sub, Telnet, Verb};
 
+const NOTHING: &[u8] = b"";
+
+// What the host end writes at WILL TERMINAL-TYPE, and at a name that it accepts.
+const SEND: &[u8] = b"\xff\xfa\x18\x01\xff\xf0";
+
+const REQUESTS: &[u8] = b"\xff\xfd\x19\xff\xfb\x19\xff\xfd\x00\xff\xfb\x00";
+
 // A subnegotiation of TERMINAL-TYPE: 01 is SEND, 00 and a name is IS.
 fn terminal_type(rt: &impl Abort, bytes: &[u8]) -> Telnet {
     Telnet::Sub(Sub::new(0x18, bytes).expect(rt, "at most 64 bytes"))
@@ -17,7 +24,7 @@ fn station_opening(rt: HostRuntime) {
         (Telnet::Option(Verb::Do, 0x18), b"\xff\xfb\x18".as_slice()),
         (terminal_type(&rt, &[1]), name),
         (terminal_type(&rt, &[1]), name),
-        (Telnet::Option(Verb::Do, 0x18), b"".as_slice()),
+        (Telnet::Option(Verb::Do, 0x18), NOTHING),
         (Telnet::Option(Verb::Do, 0x27), b"\xff\xfc\x27".as_slice()),
         (Telnet::Option(Verb::Do, 0x19), b"\xff\xfb\x19".as_slice()),
         (Telnet::Option(Verb::Will, 0x19), b"\xff\xfd\x19".as_slice()),
@@ -43,7 +50,7 @@ fn binary_off(rt: HostRuntime) {
         let _reply = station.answer(&Telnet::Option(verb, option));
     }
     assert!(rt; station.records_allowed());
-    for reply in [b"\xff\xfc\x00".as_slice(), b"".as_slice()] {
+    for reply in [b"\xff\xfc\x00".as_slice(), NOTHING] {
         let dont = Telnet::Option(Verb::Dont, 0x00);
         assert_eq!(rt; station.answer(&dont).as_slice(), reply);
         assert!(rt; !station.records_allowed());
@@ -63,29 +70,38 @@ fn check_host(rt: &impl Abort, rows: &[(Telnet, &[u8])]) -> HostOptions {
 
 #[test]
 fn host_opening(rt: HostRuntime) {
-    let requests = b"\xff\xfd\x19\xff\xfb\x19\xff\xfd\x00\xff\xfb\x00".as_slice();
-    let send = b"\xff\xfa\x18\x01\xff\xf0".as_slice();
-    let nothing = b"".as_slice();
+    let name = b"\x00IBM-3179-2";
+    let mut host = check_host(
+        &rt,
+        &[
+            (Telnet::Option(Verb::Will, 0x18), SEND),
+            (terminal_type(&rt, name), REQUESTS),
+            (terminal_type(&rt, name), NOTHING),
+            (Telnet::Option(Verb::Will, 0x19), NOTHING),
+            (Telnet::Option(Verb::Do, 0x19), NOTHING),
+            (Telnet::Option(Verb::Will, 0x00), NOTHING),
+        ],
+    );
+    assert!(rt; !host.records_allowed());
+    let last = host.answer(&Telnet::Option(Verb::Do, 0x00));
+    assert_eq!(rt; last.expect(&rt, "no refusal").as_slice(), NOTHING);
+    assert!(rt; host.records_allowed());
+    assert_eq!(rt; host.terminal(), Some(TerminalType::Ibm3179Model2));
+}
+
+#[test]
+fn lower_case_name(rt: HostRuntime) {
     for (name, terminal) in [
-        (b"\x00IBM-3179-2".as_slice(), TerminalType::Ibm3179Model2),
         (b"\x00ibm-3179-2".as_slice(), TerminalType::Ibm3179Model2),
         (b"\x00Ibm-3196-a1".as_slice(), TerminalType::Ibm3196ModelA1),
     ] {
-        let mut host = check_host(
+        let host = check_host(
             &rt,
             &[
-                (Telnet::Option(Verb::Will, 0x18), send),
-                (terminal_type(&rt, name), requests),
-                (terminal_type(&rt, name), nothing),
-                (Telnet::Option(Verb::Will, 0x19), nothing),
-                (Telnet::Option(Verb::Do, 0x19), nothing),
-                (Telnet::Option(Verb::Will, 0x00), nothing),
+                (Telnet::Option(Verb::Will, 0x18), SEND),
+                (terminal_type(&rt, name), REQUESTS),
             ],
         );
-        assert!(rt; !host.records_allowed());
-        let last = host.answer(&Telnet::Option(Verb::Do, 0x00));
-        assert!(rt; last.expect(&rt, "no refusal").as_slice().is_empty());
-        assert!(rt; host.records_allowed());
         assert_eq!(rt; host.terminal(), Some(terminal));
     }
 }
@@ -96,10 +112,7 @@ fn eor_first(rt: HostRuntime) {
         &rt,
         &[
             (Telnet::Option(Verb::Will, 0x19), b"\xff\xfd\x19".as_slice()),
-            (
-                Telnet::Option(Verb::Will, 0x18),
-                b"\xff\xfa\x18\x01\xff\xf0".as_slice(),
-            ),
+            (Telnet::Option(Verb::Will, 0x18), SEND),
             (
                 terminal_type(&rt, b"\x00IBM-3179-2"),
                 b"\xff\xfb\x19\xff\xfd\x00\xff\xfb\x00".as_slice(),
@@ -114,28 +127,25 @@ fn no_terminal_type(rt: HostRuntime) {
     let wont = host.answer(&Telnet::Option(Verb::Wont, 0x18));
     assert!(rt; matches!(wont, Err(Reason::UnsupportedTerminal)));
     let send = host.answer(&Telnet::Option(Verb::Will, 0x18));
-    assert_eq!(rt;
-        send.expect(&rt, "no refusal").as_slice(),
-        b"\xff\xfa\x18\x01\xff\xf0".as_slice()
-    );
+    assert_eq!(rt; send.expect(&rt, "no refusal").as_slice(), SEND);
     let other = host.answer(&terminal_type(&rt, b"\x00IBM-3477-FC"));
     assert!(rt; matches!(other, Err(Reason::UnsupportedTerminal)));
     assert_eq!(rt; host.terminal(), None);
     let known = host.answer(&terminal_type(&rt, b"\x00IBM-5291-1"));
-    assert_eq!(rt; known.expect(&rt, "no refusal").as_slice().len(), 12);
+    assert_eq!(rt; known.expect(&rt, "no refusal").as_slice(), REQUESTS);
     assert_eq!(rt; host.terminal(), Some(TerminalType::Ibm5291Model1));
 }
 
 // An option that isn't in a table, a subnegotiation of another option and a command.
 #[test]
-fn unknown_options(rt: HostRuntime) {
+fn unnamed_option(rt: HostRuntime) {
     let mut station = StationOptions::new(TerminalType::default());
     let mut host = HostOptions::new();
     for (verb, option, reply) in [
         (Verb::Do, 0x27, b"\xff\xfc\x27".as_slice()),
         (Verb::Will, 0x27, b"\xff\xfe\x27".as_slice()),
-        (Verb::Dont, 0x27, b"".as_slice()),
-        (Verb::Wont, 0x27, b"".as_slice()),
+        (Verb::Dont, 0x27, NOTHING),
+        (Verb::Wont, 0x27, NOTHING),
     ] {
         let token = Telnet::Option(verb, option);
         assert_eq!(rt; station.answer(&token).as_slice(), reply, "at {token:?}");
@@ -176,7 +186,7 @@ fn terminal_names(rt: HostRuntime) {
         assert_eq!(rt; TerminalType::from_name(name), Some(terminal));
     }
     for name in [
-        b"".as_slice(),
+        NOTHING,
         b"IBM-3179-".as_slice(),
         b"IBM-3179-2 ".as_slice(),
         b"IBM-3477-FC".as_slice(),
