@@ -1,9 +1,11 @@
-ghost use Rattle.std.specs.Prelude.{◌≡◌, ◌≢◌, ◌+◌, ◌-◌, ◌*◌, ◌/◌, ◌%◌, ◌<◌, ◌≤◌, ℕ, SomeIff};
-ghost use Rattle.ws_code.specs.Address.{IsRowAndColumn};
+ghost use Rattle.std.specs.Prelude.{◌≡◌, ◌+◌, ◌/◌, ◌%◌, ◌<◌, ◌≤◌, ℕ, SomeIff};
+ghost use Rattle.ws_code.specs.Address.{IsRowAndColumn, place_of};
 
 use std::marker::Model;
 
-/// A cell of the screen, counted from 0.
+/// A cell of the screen of 24 rows and 80 columns (SC30-3533, Set Buffer Address order).
+///
+/// A contract sees it as its place: 0 to 1,919, along the rows from the upper left.
 #[derive(Clone, Copy, Debug, PartialEq, Eq)]
 pub struct Address {
     place: u16,
@@ -22,18 +24,20 @@ impl Model for Address {
 }
 
 impl Address {
+    /// The cell in this row and column, both counted from 1; `None` off the screen.
     pub fn new(row: u8, col: u8) -> Option<Self>
-        ensures { SomeIff result (IsRowAndColumn row col) ((row - 1) * 80 + col - 1) }
+        ensures { SomeIff result (IsRowAndColumn row col) (place_of row col) }
     {
         if row >= 1 && row <= 24 && col >= 1 && col <= 80 {
             Some(Address {
-                place: (row as u16 - 1) * 80 + col as u16 - 1,
+                place: (u16::from(row) - 1) * 80 + u16::from(col) - 1,
             })
         } else {
             None
         }
     }
 
+    /// The cell at this place, counted from 0; `None` off the screen.
     pub fn at(place: u16) -> Option<Self>
         ensures { SomeIff result (place < 1920) place }
     {
@@ -44,6 +48,7 @@ impl Address {
         }
     }
 
+    /// Its row, 1 to 24.
     pub fn row(self) -> u8
         ensures value { result ≡ self / 80 + 1 }
         ensures low { 1 ≤ result }
@@ -52,6 +57,7 @@ impl Address {
         (self.place / 80) as u8 + 1
     }
 
+    /// Its column, 1 to 80.
     pub fn col(self) -> u8
         ensures value { result ≡ self % 80 + 1 }
         ensures low { 1 ≤ result }
@@ -60,6 +66,7 @@ impl Address {
         (self.place % 80) as u8 + 1
     }
 
+    /// Its place, 0 to 1,919.
     pub fn place(self) -> u16
         ensures value { result ≡ self }
         ensures in_range { result < 1920 }
@@ -69,6 +76,7 @@ impl Address {
 }
 
 impl Default for Address {
+    /// The first cell.
     fn default() -> Self
         ensures { result ≡ 0 }
     {

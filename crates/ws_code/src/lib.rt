@@ -22,7 +22,7 @@ pub use data_byte::DataByte;
 pub use device::{DeviceFailed, Sink, Source, write_whole};
 pub use failing_device::{FailingSink, FailingSource, StuckSink};
 pub use fault::Fault;
-pub use format_word::Ffw;
+pub use format_word::{Adjust, Ffw, Shift};
 pub use list::{ByteList, List};
 pub use memory_device::{SliceSource, VecSink};
 pub use reason::Reason;
