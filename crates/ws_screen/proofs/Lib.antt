@@ -1,0 +1,4 @@
+pub mod CommandLemmas
+pub mod FormatLemmas
+pub mod Legal
+pub mod OrderLemmas

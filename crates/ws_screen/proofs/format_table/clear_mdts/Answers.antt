@@ -1,0 +1,7 @@
+use Rattle.std.proofs.Common.{◌≡◌, arith}
+use Rattle.std.proofs.lemmas.List.Edits.{map_over_more}
+use Rattle.ws_screen.specs.Steps.{after_cc1}
+use Rattle.ws_screen.proofs.format_table.clear_mdts.Goals as goal
+
+pub loop-field-preserved : goal.loop-field-preserved
+loop-field-preserved c = rw (c.cleared.ensures, ← c.field-item.is) (map_over_more (after_cc1 c.args.cc1) c.args.fields.now c.loop-field.fields c.loop-field.field-index c.field-item.result (omega arith) c.loop-field.invariant c.field-item.is)

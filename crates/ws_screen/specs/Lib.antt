@@ -1,0 +1,10 @@
+pub mod Cells
+pub mod Controls
+pub mod Events
+pub mod Faults
+pub mod Formats
+pub mod Given
+pub mod Shown
+pub mod States
+pub mod Steps
+pub mod Writes

@@ -1,0 +1,77 @@
+//! What the control characters of a command do.
+ghost use Rattle.std.specs.Prelude.{◌≡◌, ◌<◌, ◌==◌, if◌then◌else◌, true, false, Some, unwrap_or};
+ghost use Rattle.ws_screen.specs.Controls.{cc1_code, clears_mdt, is_nulled, has_bit, goes_home, light};
+
+use crate::Field;
+use ws_code::Address;
+
+/// Whether a CC1 nulls a field.
+pub fn nulls(cc1: u8, field: Field) -> bool
+    ensures { result ≡ is_nulled cc1 field }
+{
+    let code = cc1 / 32;
+    !field.format.bypass()
+        && (code == 5 || code == 7 || (field.format.modified() && (code == 4 || code == 6)))
+}
+
+/// Whether a CC1 turns the MDT of a field off.
+pub fn clears(cc1: u8, bypass: bool) -> bool
+    ensures { result ≡ clears_mdt cc1 bypass }
+{
+    let code = cc1 / 32;
+    code == 3 || code == 7 || (!bypass && (code == 2 || code == 5 || code == 6))
+}
+
+/// Whether the keyboard is locked after a CC1.
+pub fn locked_after(cc1: u8, locked: bool) -> bool
+    ensures { result ≡ (if cc1_code cc1 == 0 then locked else true) }
+{
+    if cc1 / 32 == 0 { locked } else { true }
+}
+
+/// Whether a bit of a byte is on.
+pub fn has(bit: u8, byte: u8) -> bool
+    requires { 0 < bit }
+    ensures { result ≡ has_bit bit byte }
+{
+    byte / bit % 2 == 1
+}
+
+/// Whether a CC2 leaves the keyboard locked.
+pub fn still_locked(cc2: u8, locked: bool) -> bool
+    ensures { result ≡ (if has_bit 0x08 cc2 then false else locked) }
+{
+    if has(0x08, cc2) { false } else { locked }
+}
+
+/// A light after a CC2, one bit of which turns it on and another off.
+pub fn light_after(on: u8, off: u8, cc2: u8, lit: bool) -> bool
+    requires on { 0 < on }
+    requires off { 0 < off }
+    ensures { result ≡ unwrap_or (light on off (Some cc2)) lit }
+{
+    if has(on, cc2) {
+        true
+    } else if has(off, cc2) {
+        false
+    } else {
+        lit
+    }
+}
+
+/// Where the cursor stands after a CC2, and a Move Cursor where there is one.
+pub fn cursor_after(
+    locked: bool,
+    cc2: u8,
+    mc: Option<Address>,
+    home: Address,
+    cursor: Address,
+) -> Address
+    ensures { result ≡ unwrap_or mc (if goes_home locked (Some cc2) then home else cursor) }
+{
+    match mc {
+        Some(place) => place,
+        None if locked && has(0x08, cc2) && !has(0x40, cc2) => home,
+        None => cursor,
+    }
+}

@@ -1,0 +1,11 @@
+use ws_code::Address;
+
+/// What is kept of a Write to Display until its end.
+#[derive(Clone, Copy, Debug)]
+pub struct OpenWrite {
+    /// Where the next byte goes: a cell's place, or 1,920, which is past the last cell.
+    pub address: u16,
+    pub cc2: u8,
+    /// Its last Move Cursor.
+    pub mc: Option<Address>,
+}

@@ -1,0 +1,8 @@
+/// What a pending read asks for.
+#[derive(Clone, Copy, Debug, PartialEq, Eq)]
+pub enum ReadKind {
+    /// Read Input Fields: the cells of all fields.
+    Input,
+    /// Read MDT Fields: the fields whose MDT is on, each with its address.
+    Mdt,
+}
