@@ -8,6 +8,7 @@ mod code;
 mod data_byte;
 mod device;
 mod failing_device;
+pub mod ebcdic;
 mod fault;
 mod format_word;
 mod list;
