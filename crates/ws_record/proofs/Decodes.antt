@@ -27,17 +27,21 @@ module _ {Place U : Type 0} (rules : Rules Place U) where
   -- what is accepted is a stream that is right to each layer
   accepted_stream : (bytes : List ℕ) (items : List (Item U)) → Accepts rules bytes items → (l : Layer) → IsStream (IsRight rules l) bytes
   accepted_stream bytes items h l = record {
-    parts = parts_of rules h.stretches; rest = h.rest;
+    parts = parts_of rules h.stretches;
+    rest = h.rest;
     no_eor = (parts_no_eor rules h.stretches h.each, h.no_eor);
     each = parts_right rules h.stretches h.each l;
     closed = sym h.is_open;
     tokens = record { chain = h.cut.chain; ends = refl };
-    spelled = sym h.cut.spelled ∙ append-nil _ }
+    spelled = sym h.cut.spelled ∙ append-nil _;
+  }
 
   -- and so none of its bytes is refused
   pub accepted_open : (before : List ℕ) (byte : ℕ) (after : List ℕ) (items : List (Item U)) → Accepts rules (before ++ byte ∷ after) items → (l : Layer) → IsOpen rules l (before ++ byte ∷ [])
-  accepted_open before byte after items a l = record { more = after;
-    stream = subst (IsStream (IsRight rules l)) (sym (append_assoc before (byte ∷ []) after)) (accepted_stream (before ++ byte ∷ after) items a l) }
+  accepted_open before byte after items a l = record {
+    more = after;
+    stream = subst (IsStream (IsRight rules l)) (sym (append_assoc before (byte ∷ []) after)) (accepted_stream (before ++ byte ∷ after) items a l);
+  }
 
   closed_is_not : (l : Layer) (bytes : List ℕ) → IsFirstClosed rules l bytes → IsOpen rules l bytes → ⊥
   closed_is_not Tokens bytes c o = c o
@@ -71,11 +75,12 @@ module _ {Place U : Type 0} (rules : Rules Place U) where
   take_decodes bytes i Failed lt f = absurd f
 
   pub take_feeds : (bytes piece : List ℕ) (i : ℕ) (fault : Fault) → i < length piece → IsTakeFault rules (bytes ++ take i piece) (get_or piece i 0) fault → IsFeedFault rules bytes piece fault
-  take_feeds bytes piece i (Refused place reason) lt f =
-      (omega (arith, f.0, length-append bytes (take i piece)),
-        subst (λ (x : List ℕ). IsRefused rules x place reason)
-          (append_assoc (bytes ++ take i piece) (get_or piece i 0 ∷ []) (drop (i + 1) piece) ∙ append_assoc bytes (take i piece) (get_or piece i 0 ∷ drop (i + 1) piece) ∙ ap (λ x. bytes ++ x) (at_index piece i lt))
-          (refused_append rules ((bytes ++ take i piece) ++ get_or piece i 0 ∷ []) (drop (i + 1) piece) place reason f.1))
+  take_feeds bytes piece i (Refused place reason) lt f = (
+    omega (arith, f.0, length-append bytes (take i piece)),
+    subst (λ (x : List ℕ). IsRefused rules x place reason)
+        (append_assoc (bytes ++ take i piece) (get_or piece i 0 ∷ []) (drop (i + 1) piece) ∙ append_assoc bytes (take i piece) (get_or piece i 0 ∷ drop (i + 1) piece) ∙ ap (λ x. bytes ++ x) (at_index piece i lt))
+        (refused_append rules ((bytes ++ take i piece) ++ get_or piece i 0 ∷ []) (drop (i + 1) piece) place reason f.1),
+  )
   take_feeds bytes piece i (Truncated n) lt f = absurd f
   take_feeds bytes piece i Memory lt f = tt
   take_feeds bytes piece i Read lt f = absurd f

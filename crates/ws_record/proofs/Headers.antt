@@ -50,10 +50,19 @@ framed_means xs f =
     let long : 10 ≤ length xs = omega (arith, ap length e, header_length (length xs) f.flags f.opcode f.rest) in
     let says : declared xs ≡ length xs = (let high : get_or xs 0 0 ≡ length xs / 256 = cell 0 in let low : get_or xs 1 0 ≡ length xs % 256 = cell 1 in omega arith) in
     record {
-      long = long; short = f.length_fits; declares = says;
+      long = long;
+      short = f.length_fits;
+      declares = says;
       so_far = record {
-        declares = λ _. omega arith; kind_high = λ _. cell 2; kind_low = λ _. cell 3; reserved_high = λ _. cell 4; reserved_low = λ _. cell 5;
-        variable_length = λ _. cell 6; opcode = λ _. (f.opcode, sym (cell 9)) } }
+        declares = λ _. omega arith;
+        kind_high = λ _. cell 2;
+        kind_low = λ _. cell 3;
+        reserved_high = λ _. cell 4;
+        reserved_low = λ _. cell 5;
+        variable_length = λ _. cell 6;
+        opcode = λ _. (f.opcode, sym (cell 9));
+      };
+    }
 
 -- the other way
 pub framed_from : (xs : List ℕ) → AreBytes xs → HeaderFacts xs → IsFramed xs
@@ -75,8 +84,14 @@ framed_from xs are facts =
     let c7 : get_or xs 7 0 ≡ flags / 256 = omega arith in
     let c8 : get_or xs 8 0 ≡ flags % 256 = omega arith in
     let c9 : get_or xs 9 0 ≡ opcode_byte o.0 = sym o.1 in
-    record { flags = flags; opcode = o.0; rest = drop 10 xs; flags_fit = omega arith; length_fits = facts.short;
-      spelled = ten_cells xs facts.long ∙ (cc) }
+    record {
+      flags = flags;
+      opcode = o.0;
+      rest = drop 10 xs;
+      flags_fit = omega arith;
+      length_fits = facts.short;
+      spelled = ten_cells xs facts.long ∙ (cc);
+    }
 
 -- more bytes behind a whole header
 pub header_append : (xs ys : List ℕ) → 10 ≤ length xs → HeaderSoFar xs → HeaderSoFar (xs ++ ys)
@@ -84,10 +99,13 @@ header_append xs ys long h =
     let cell : (i : ℕ) → i < 10 → get_or (xs ++ ys) i 0 ≡ get_or xs i 0 = λ i k. get_or-append xs ys 0 i (omega arith) in
     record {
       declares = λ _. omega (arith, cell 0 (omega arith), cell 1 (omega arith), h.declares (omega arith));
-      kind_high = λ _. cell 2 (omega arith) ∙ h.kind_high (omega arith); kind_low = λ _. cell 3 (omega arith) ∙ h.kind_low (omega arith);
-      reserved_high = λ _. cell 4 (omega arith) ∙ h.reserved_high (omega arith); reserved_low = λ _. cell 5 (omega arith) ∙ h.reserved_low (omega arith);
+      kind_high = λ _. cell 2 (omega arith) ∙ h.kind_high (omega arith);
+      kind_low = λ _. cell 3 (omega arith) ∙ h.kind_low (omega arith);
+      reserved_high = λ _. cell 4 (omega arith) ∙ h.reserved_high (omega arith);
+      reserved_low = λ _. cell 5 (omega arith) ∙ h.reserved_low (omega arith);
       variable_length = λ _. cell 6 (omega arith) ∙ h.variable_length (omega arith);
-      opcode = λ _. (let o = h.opcode (omega arith) in (o.0, o.1 ∙ sym (cell 9 (omega arith)))) }
+      opcode = λ _. (let o = h.opcode (omega arith) in (o.0, o.1 ∙ sym (cell 9 (omega arith))));
+    }
 
 -- the front of a right header
 pub header_front : (xs ys : List ℕ) → HeaderSoFar (xs ++ ys) → HeaderSoFar xs
@@ -96,10 +114,13 @@ header_front xs ys h =
     let long : length xs ≤ length (xs ++ ys) = omega (arith, length-append xs ys) in
     record {
       declares = λ k. omega (arith, cell 0 (omega arith), cell 1 k, h.declares (omega arith));
-      kind_high = λ k. sym (cell 2 k) ∙ h.kind_high (omega arith); kind_low = λ k. sym (cell 3 k) ∙ h.kind_low (omega arith);
-      reserved_high = λ k. sym (cell 4 k) ∙ h.reserved_high (omega arith); reserved_low = λ k. sym (cell 5 k) ∙ h.reserved_low (omega arith);
+      kind_high = λ k. sym (cell 2 k) ∙ h.kind_high (omega arith);
+      kind_low = λ k. sym (cell 3 k) ∙ h.kind_low (omega arith);
+      reserved_high = λ k. sym (cell 4 k) ∙ h.reserved_high (omega arith);
+      reserved_low = λ k. sym (cell 5 k) ∙ h.reserved_low (omega arith);
       variable_length = λ k. sym (cell 6 k) ∙ h.variable_length (omega arith);
-      opcode = λ k. (let o = h.opcode (omega arith) in (o.0, o.1 ∙ cell 9 k)) }
+      opcode = λ k. (let o = h.opcode (omega arith) in (o.0, o.1 ∙ cell 9 k));
+    }
 
 -- a byte behind bytes that aren't a whole header yet
 pub header_more : (xs : List ℕ) (b : ℕ) → HeaderSoFar xs → (length xs ≡ 1 → 10 ≤ get_or xs 0 0 * 256 + b) → (length xs ≡ 2 → b ≡ 0x12) → (length xs ≡ 3 → b ≡ 0xa0)
@@ -109,12 +130,16 @@ header_more xs b h p1 p2 p3 p4 p5 p6 p9 =
     let new : (i : ℕ) → length xs ≡ i → get_or (xs ++ b ∷ []) i 0 ≡ b = λ i e. subst (λ (n : ℕ). get_or (xs ++ b ∷ []) n 0 ≡ b) e (get_or-append_seam xs b [] 0) in
     let total : length (xs ++ b ∷ []) ≡ length xs + 1 = length-append xs (b ∷ []) in
     let is : (i v : ℕ) → i < length (xs ++ b ∷ []) → (i < length xs → get_or xs i 0 ≡ v) → (length xs ≡ i → b ≡ v) → get_or (xs ++ b ∷ []) i 0 ≡ v =
-        λ i v k f g. elim (cases_lt i (length xs)) [ inl lt ↦ old i lt ∙ f lt | inr ge ↦ (let e : length xs ≡ i = omega arith in new i e ∙ g e) ] in
+    λ i v k f g. elim (cases_lt i (length xs)) [ inl lt ↦ old i lt ∙ f lt | inr ge ↦ (let e : length xs ≡ i = omega arith in new i e ∙ g e) ] in
     record {
       declares = λ k. elim (cases_lt 1 (length xs)) [ inl lt ↦ omega (arith, old 0 (omega arith), old 1 lt, h.declares lt) | inr ge ↦ (let e : length xs ≡ 1 = omega arith in omega (arith, old 0 (omega arith), new 1 e, p1 e)) ];
-      kind_high = λ k. is 2 0x12 k h.kind_high p2; kind_low = λ k. is 3 0xa0 k h.kind_low p3; reserved_high = λ k. is 4 0 k h.reserved_high p4;
-      reserved_low = λ k. is 5 0 k h.reserved_low p5; variable_length = λ k. is 6 4 k h.variable_length p6;
-      opcode = λ k. elim (cases_lt 9 (length xs)) [ inl lt ↦ (let o = h.opcode lt in (o.0, o.1 ∙ sym (old 9 lt))) | inr ge ↦ (let e : length xs ≡ 9 = omega arith in let o = p9 e in (o.0, o.1 ∙ sym (new 9 e))) ] }
+      kind_high = λ k. is 2 0x12 k h.kind_high p2;
+      kind_low = λ k. is 3 0xa0 k h.kind_low p3;
+      reserved_high = λ k. is 4 0 k h.reserved_high p4;
+      reserved_low = λ k. is 5 0 k h.reserved_low p5;
+      variable_length = λ k. is 6 4 k h.variable_length p6;
+      opcode = λ k. elim (cases_lt 9 (length xs)) [ inl lt ↦ (let o = h.opcode lt in (o.0, o.1 ∙ sym (old 9 lt))) | inr ge ↦ (let e : length xs ≡ 9 = omega arith in let o = p9 e in (o.0, o.1 ∙ sym (new 9 e))) ];
+    }
 
 -- what a right record has at the place behind these bytes
 pub framed_next : (xs : List ℕ) (b : ℕ) (m : List ℕ) → IsFramed (xs ++ b ∷ m) → HeaderFacts (xs ++ b ∷ m) × (get_or (xs ++ b ∷ m) (length xs) 0 ≡ b) × (length xs < length (xs ++ b ∷ m))
@@ -151,23 +176,27 @@ completed xs = xs ++ drop (length xs) sample
 completed_at : (xs : List ℕ) (i v w : ℕ) → get_or sample i 0 ≡ w → (i < length xs → get_or xs i 0 ≡ v) → (length xs ≤ i → w ≡ v) → get_or (completed xs) i 0 ≡ v
 unfolding completed
 completed_at xs i v w s f g = elim (cases_lt i (length xs)) [
-    inl lt ↦ get_or-append xs (drop (length xs) sample) 0 i lt ∙ f lt
-  | inr ge ↦ get_or-append_right xs (drop (length xs) sample) i 0 ge ∙ get_or-drop (length xs) sample (i - length xs) 0 ∙ ap (λ n. get_or sample n 0) (let e : length xs + (i - length xs) ≡ i = omega arith in e) ∙ s ∙ g ge ]
+  | inl lt ↦ get_or-append xs (drop (length xs) sample) 0 i lt ∙ f lt
+  | inr ge ↦ get_or-append_right xs (drop (length xs) sample) i 0 ge ∙ get_or-drop (length xs) sample (i - length xs) 0 ∙ ap (λ n. get_or sample n 0) (let e : length xs + (i - length xs) ≡ i = omega arith in e) ∙ s ∙ g ge
+]
 
 completed_header : (xs : List ℕ) → HeaderSoFar xs → HeaderSoFar (completed xs)
 unfolding sample
 completed_header xs h = record {
   declares = λ _. elim (cases_lt 1 (length xs)) [
-      inl lt ↦ omega (arith, h.declares lt, completed_at xs 0 (get_or xs 0 0) 0 refl (λ _. refl) (λ k. absurd (omega arith)), completed_at xs 1 (get_or xs 1 0) 255 refl (λ _. refl) (λ k. absurd (omega arith)))
-    | inr ge ↦ omega (arith, completed_at xs 1 255 255 refl (λ k. absurd (omega arith)) (λ _. refl)) ];
+    | inl lt ↦ omega (arith, h.declares lt, completed_at xs 0 (get_or xs 0 0) 0 refl (λ _. refl) (λ k. absurd (omega arith)), completed_at xs 1 (get_or xs 1 0) 255 refl (λ _. refl) (λ k. absurd (omega arith)))
+    | inr ge ↦ omega (arith, completed_at xs 1 255 255 refl (λ k. absurd (omega arith)) (λ _. refl))
+  ];
   kind_high = λ _. completed_at xs 2 0x12 0x12 refl h.kind_high (λ _. refl);
   kind_low = λ _. completed_at xs 3 0xa0 0xa0 refl h.kind_low (λ _. refl);
   reserved_high = λ _. completed_at xs 4 0 0 refl h.reserved_high (λ _. refl);
   reserved_low = λ _. completed_at xs 5 0 0 refl h.reserved_low (λ _. refl);
   variable_length = λ _. completed_at xs 6 4 4 refl h.variable_length (λ _. refl);
   opcode = λ _. elim (cases_lt 9 (length xs)) [
-      inl lt ↦ (let o = h.opcode lt in (o.0, sym (completed_at xs 9 (opcode_byte o.0) 1 refl (λ _. sym o.1) (λ k. absurd (omega arith)))))
-    | inr ge ↦ (Invite, sym (completed_at xs 9 1 1 refl (λ k. absurd (omega arith)) (λ _. refl))) ] }
+    | inl lt ↦ (let o = h.opcode lt in (o.0, sym (completed_at xs 9 (opcode_byte o.0) 1 refl (λ _. sym o.1) (λ k. absurd (omega arith)))))
+    | inr ge ↦ (Invite, sym (completed_at xs 9 1 1 refl (λ k. absurd (omega arith)) (λ _. refl)))
+  ];
+}
 
 -- Bytes that begin a right header, and aren't more than it declares, can become a right record.
 pub can_be_framed : (xs : List ℕ) → AreBytes xs → HeaderSoFar xs → (1 < length xs → length xs ≤ declared xs) → CanBeFramed xs
@@ -178,8 +207,9 @@ can_be_framed xs are h short =
     let long : 10 ≤ length full = omega (arith, length-append xs tail, length-drop (length xs) sample, sample_length) in
     let is : HeaderSoFar full = completed_header xs h in
     let enough : length full ≤ declared full = elim (cases_lt 1 (length xs)) [
-        inl lt ↦ omega (arith, length-append xs tail, length-drop (length xs) sample, sample_length, is.declares (omega arith), short lt, get_or-append xs tail 0 0 (omega arith), get_or-append xs tail 0 1 lt)
-      | inr ge ↦ omega (arith, length-append xs tail, length-drop (length xs) sample, sample_length, is.declares (omega arith)) ] in
+      | inl lt ↦ omega (arith, length-append xs tail, length-drop (length xs) sample, sample_length, is.declares (omega arith), short lt, get_or-append xs tail 0 0 (omega arith), get_or-append xs tail 0 1 lt)
+      | inr ge ↦ omega (arith, length-append xs tail, length-drop (length xs) sample, sample_length, is.declares (omega arith))
+    ] in
     let pad = replicate (declared full - length full) 0 in
     let total : length (full ++ pad) ≡ declared full = length-append full pad ∙ ap (λ n. length full + n) (length-replicate (declared full - length full) 0) ∙ (let e : length full + (declared full - length full) ≡ declared full = omega arith in e) in
     let bytes : AreBytes full = AreBytes-both xs tail are (AreBytes-drop (length xs) sample sample_are) in
@@ -189,7 +219,8 @@ can_be_framed xs are h short =
       more = tail ++ pad;
       bytes = AreBytes-both tail pad (AreBytes-drop (length xs) sample sample_are) (zeros_are (declared full - length full));
       framed = subst IsFramed (append_assoc xs tail pad) (framed_from (full ++ pad) (AreBytes-both full pad bytes (zeros_are (declared full - length full)))
-        (record { long = omega (arith, total); short = omega (arith, total); declares = same ∙ sym total; so_far = header_append full pad long is })) }
+          (record { long = omega (arith, total); short = omega (arith, total); declares = same ∙ sym total; so_far = header_append full pad long is }));
+    }
 
 -- and the other way
 pub can_means : (xs : List ℕ) → CanBeFramed xs → HeaderSoFar xs × (1 < length xs → length xs ≤ declared xs)

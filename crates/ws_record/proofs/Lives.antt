@@ -26,8 +26,12 @@ one_more bytes b n e = omega (arith, length-append bytes (b ∷ []))
 module _ {Place U : Type 0} (rules : Rules Place U) (can : CanEnd rules) (law : SpellsBytes rules) where
   leads : (live : Watching Place) (bytes : List ℕ) (items : List (Item U)) (so_far : RecordSoFar U) → live.taken ≡ length bytes → Holds rules bytes items so_far.bytes live.begun → Reads rules live.reader so_far → live.failed ≡ false → Leads rules live bytes items so_far
   leads live bytes items so_far count holds reads works = record {
-    count = count; holds = holds; reads = reads; works = works;
-    opened = all_open rules can law bytes items so_far.bytes live.begun so_far.units live.reader.begun holds reads.framed reads.cut }
+    count = count;
+    holds = holds;
+    reads = reads;
+    works = works;
+    opened = all_open rules can law bytes items so_far.bytes live.begun so_far.units live.reader.begun holds reads.framed reads.cut;
+  }
 
   pub leads_nothing : (live : Watching Place) → live.taken ≡ 0 → live.begun ≡ [] → Reads rules live.reader no_record → live.failed ≡ false → Leads rules live [] [] no_record
   leads_nothing live count fresh reads works = leads live [] [] no_record count (subst (λ (x : List ℕ). Holds rules [] [] [] x) (sym fresh) (holds_nothing rules)) reads works
@@ -37,8 +41,8 @@ module _ {Place U : Type 0} (rules : Rules Place U) (can : CanEnd rules) (law : 
       → new.taken ≡ live.taken + 1 → new.begun ≡ live.begun ++ b ∷ [] → new.reader ≡ live.reader → new.failed ≡ false → Leads rules new (bytes ++ b ∷ []) items so_far
   token_more live new bytes items so_far b l more count begun reader works =
       leads new (bytes ++ b ∷ []) items so_far (one_more bytes b new.taken (omega (arith, count, l.count)))
-        (subst (λ (x : List ℕ). Holds rules (bytes ++ b ∷ []) items so_far.bytes x) (sym begun) (holds_more rules bytes items so_far.bytes live.begun b l.holds more))
-        (subst (λ (k : Keeping Place). Reads rules k so_far) (sym reader) l.reads) works
+      (subst (λ (x : List ℕ). Holds rules (bytes ++ b ∷ []) items so_far.bytes x) (sym begun) (holds_more rules bytes items so_far.bytes live.begun b l.holds more))
+      (subst (λ (k : Keeping Place). Reads rules k so_far) (sym reader) l.reads) works
 
   pub token_refused : (live : Watching Place) (bytes : List ℕ) (items : List (Item U)) (so_far : RecordSoFar U) (b place : ℕ) (reason : Reason) → Leads rules live bytes items so_far
       → (IsPrefix token_rules tt (live.begun ++ b ∷ []) → ⊥) → reason ≡ token_rules.reason tt live.begun b → place ≡ live.taken → (place ≡ length bytes) × IsRefused rules (bytes ++ b ∷ []) place reason
@@ -50,32 +54,38 @@ module _ {Place U : Type 0} (rules : Rules Place U) (can : CanEnd rules) (law : 
   pub completes : (live new : Watching Place) (bytes : List ℕ) (items : List (Item U)) (so_far : RecordSoFar U) (b : ℕ) (token : Token) → Leads rules live bytes items so_far → IsSpelled token_rules tt (live.begun ++ b ∷ []) token
       → new.taken ≡ live.taken + 1 → new.begun ≡ [] → new.reader ≡ live.reader → new.failed ≡ false → Completes rules new bytes items so_far live.begun b token
   completes live new bytes items so_far b token l spelled count fresh reader works = record {
-    count = omega (arith, count, l.count); holds = l.holds; spelled = spelled; opened = l.opened; fresh = fresh; works = works;
-    reads = subst (λ (k : Keeping Place). Reads rules k so_far) (sym reader) l.reads }
+    count = omega (arith, count, l.count);
+    holds = l.holds;
+    spelled = spelled;
+    opened = l.opened;
+    fresh = fresh;
+    works = works;
+    reads = subst (λ (k : Keeping Place). Reads rules k so_far) (sym reader) l.reads;
+  }
 
   module _ (old new : Watching Place) (bytes : List ℕ) (items : List (Item U)) (so_far : RecordSoFar U) (begun : List ℕ) (b : ℕ) where
     pub command_step : (t : Telnet) → Completes rules old bytes items so_far begun b (TelnetToken t) → new.taken ≡ old.taken → new.begun ≡ old.begun → new.reader ≡ old.reader → new.failed ≡ old.failed
         → Leads rules new (bytes ++ b ∷ []) (items ++ TelnetItem t ∷ []) so_far
     command_step t c count fresh reader works =
         leads new (bytes ++ b ∷ []) (items ++ TelnetItem t ∷ []) so_far (one_more bytes b new.taken (count ∙ c.count))
-          (subst (λ (x : List ℕ). Holds rules (bytes ++ b ∷ []) (items ++ TelnetItem t ∷ []) so_far.bytes x) (sym (fresh ∙ c.fresh)) (holds_command rules bytes items so_far.bytes begun b t c.holds c.spelled))
-          (subst (λ (k : Keeping Place). Reads rules k so_far) (sym reader) c.reads) (works ∙ c.works)
+        (subst (λ (x : List ℕ). Holds rules (bytes ++ b ∷ []) (items ++ TelnetItem t ∷ []) so_far.bytes x) (sym (fresh ∙ c.fresh)) (holds_command rules bytes items so_far.bytes begun b t c.holds c.spelled))
+        (subst (λ (k : Keeping Place). Reads rules k so_far) (sym reader) c.reads) (works ∙ c.works)
 
     pub data_step : (v : ℕ) (head : Option Head) (units : List U) → Completes rules old bytes items so_far begun b (Data v) → new.taken ≡ old.taken → new.begun ≡ old.begun
         → Reads rules new.reader (record { bytes = so_far.bytes ++ v ∷ []; head = head; units = units }) → new.failed ≡ old.failed
         → Leads rules new (bytes ++ b ∷ []) items (record { bytes = so_far.bytes ++ v ∷ []; head = head; units = units })
     data_step v head units c count fresh reads works =
         leads new (bytes ++ b ∷ []) items _ (one_more bytes b new.taken (count ∙ c.count))
-          (subst (λ (x : List ℕ). Holds rules (bytes ++ b ∷ []) items (so_far.bytes ++ v ∷ []) x) (sym (fresh ∙ c.fresh)) (holds_data rules bytes items so_far.bytes begun b v c.holds c.spelled))
-          reads (works ∙ c.works)
+        (subst (λ (x : List ℕ). Holds rules (bytes ++ b ∷ []) items (so_far.bytes ++ v ∷ []) x) (sym (fresh ∙ c.fresh)) (holds_data rules bytes items so_far.bytes begun b v c.holds c.spelled))
+        reads (works ∙ c.works)
 
     pub end_step : Completes rules old bytes items so_far begun b Eor → new.taken ≡ old.taken → new.begun ≡ old.begun → Reads rules new.reader no_record → new.failed ≡ old.failed
         → (w : IsWholeRecord rules so_far) → Leads rules new (bytes ++ b ∷ []) (items ++ RecordItem (record_of w.head so_far.units) ∷ []) no_record
     end_step c count fresh reads works w =
         leads new (bytes ++ b ∷ []) (items ++ RecordItem (record_of w.head so_far.units) ∷ []) no_record (one_more bytes b new.taken (count ∙ c.count))
-          (subst (λ (x : List ℕ). Holds rules (bytes ++ b ∷ []) (items ++ RecordItem (record_of w.head so_far.units) ∷ []) [] x) (sym (fresh ∙ c.fresh))
-            (holds_record rules bytes items so_far.bytes begun b (record_of w.head so_far.units) c.holds c.spelled w.is_record w.carries))
-          reads (works ∙ c.works)
+        (subst (λ (x : List ℕ). Holds rules (bytes ++ b ∷ []) (items ++ RecordItem (record_of w.head so_far.units) ∷ []) [] x) (sym (fresh ∙ c.fresh))
+        (holds_record rules bytes items so_far.bytes begun b (record_of w.head so_far.units) c.holds c.spelled w.is_record w.carries))
+        reads (works ∙ c.works)
 
     refused_there : (place : ℕ) (reason : Reason) → place ≡ length bytes → IsRefused rules (bytes ++ b ∷ []) (length bytes) reason → IsRefused rules (bytes ++ b ∷ []) place reason
     refused_there place reason at r = subst (λ (p : ℕ). IsRefused rules (bytes ++ b ∷ []) p reason) (sym at) r

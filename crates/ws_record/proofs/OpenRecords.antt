@@ -26,8 +26,15 @@ empty_take [] e = refl
 empty_take (x ∷ xs) e = cc
 
 empty_header : HeaderSoFar []
-empty_header = record { declares = λ k. absurd (omega arith); kind_high = λ k. absurd (omega arith); kind_low = λ k. absurd (omega arith); reserved_high = λ k. absurd (omega arith);
-  reserved_low = λ k. absurd (omega arith); variable_length = λ k. absurd (omega arith); opcode = λ k. absurd (omega arith) }
+empty_header = record {
+  declares = λ k. absurd (omega arith);
+  kind_high = λ k. absurd (omega arith);
+  kind_low = λ k. absurd (omega arith);
+  reserved_high = λ k. absurd (omega arith);
+  reserved_low = λ k. absurd (omega arith);
+  variable_length = λ k. absurd (omega arith);
+  opcode = λ k. absurd (omega arith);
+}
 
 pub nothing_framed : CanBeFramed []
 nothing_framed = can_be_framed [] tt empty_header (λ k. absurd (omega arith))
@@ -82,9 +89,14 @@ module _ {Place U : Type 0} (rules : Rules Place U) where
   -- nothing was read
   pub reads_nothing : Begins rules → (reader : Keeping Place) → reader.header ≡ [] → reader.place ≡ rules.first → reader.begun ≡ [] → Reads rules reader no_record
   reads_nothing begins reader h p b = record {
-    bytes = tt; framed = nothing_framed; head = omega arith; header = h; left = tt;
+    bytes = tt;
+    framed = nothing_framed;
+    head = omega arith;
+    header = h;
+    left = tt;
     cut = record { chain = tt; more = subst (λ (x : List ℕ). IsUnfinished rules rules.first x) (sym b) (begins rules.first); spelled = b };
-    at_place = p }
+    at_place = p;
+  }
 
   no_units : IsPrefixFree rules → Begins rules → (units : List U) (begun : List ℕ) → IsCut rules [] units begun → units ≡ []
   no_units free begins units begun cut = (one_cut rules free rules.first units [] begun [] cut.chain tt cut.more (begins rules.first) cut.spelled).0
@@ -123,9 +135,12 @@ module _ {Place U : Type 0} (rules : Rules Place U) where
       record {
         bytes = are;
         framed = can_be_framed (bytes ++ b ∷ []) are new_right (λ k. omega (arith, new_right.declares k));
-        head = omega arith; header = e ∙ ap (λ (x : List ℕ). x ++ b ∷ []) same ∙ sym all; left = tt;
+        head = omega arith;
+        header = e ∙ ap (λ (x : List ℕ). x ++ b ∷ []) same ∙ sym all;
+        left = tt;
         cut = subst (λ (x : List ℕ). IsCut rules x units new.begun) dropped (subst (λ (x : List ℕ). IsCut rules (drop 10 bytes) units x) (sym f) r.cut);
-        at_place = p ∙ r.at_place }
+        at_place = p ∙ r.at_place;
+      }
 
   pub header_refused : (reader : Keeping Place) (so_far : RecordSoFar U) (b : ℕ) (reason : Reason) → Reads rules reader so_far → length reader.header < 10
       → ((m : List ℕ) → IsFramed (reader.header ++ b ∷ m) → ⊥) → reason ≡ header_reason reader.header (Data b) → IsDataRefused rules so_far.bytes b reason
@@ -156,14 +171,18 @@ module _ {Place U : Type 0} (rules : Rules Place U) where
       let n_is : n ≡ declared (bytes ++ b ∷ []) = omega (arith, old 0 (omega arith), old 1 (omega arith)) in
       let flags_are : flags ≡ get_or (bytes ++ b ∷ []) 7 0 * 256 + get_or (bytes ++ b ∷ []) 8 0 = omega (arith, old 7 (omega arith), old 8 (omega arith)) in
       let cells : bytes ++ b ∷ [] ≡ header n flags opcode = header_from (bytes ++ b ∷ []) opcode n flags are new_right (omega arith) n_is flags_are (op ∙ sym last) in
-      let ten : 10 ≤ n = omega (arith, new_right.declares (omega arith)) in
-      (no_head head bytes r.head (omega arith), record {
-        bytes = are;
-        framed = can_be_framed (bytes ++ b ∷ []) are new_right (λ k. omega (arith, new_right.declares k));
-        head = (omega (arith, flags_are, byte_at (bytes ++ b ∷ []) 7 are, byte_at (bytes ++ b ∷ []) 8 are), omega (arith, n_is, byte_at (bytes ++ b ∷ []) 0 are, byte_at (bytes ++ b ∷ []) 1 are), all ∙ cells);
-        header = e ∙ ap (λ (x : List ℕ). x ++ b ∷ []) same ∙ sym all; left = omega arith;
-        cut = subst (λ (x : List ℕ). IsCut rules x units new.begun) dropped (subst (λ (x : List ℕ). IsCut rules (drop 10 bytes) units x) (sym f) r.cut);
-        at_place = p ∙ r.at_place })
+      let ten : 10 ≤ n = omega (arith, new_right.declares (omega arith)) in (
+        no_head head bytes r.head (omega arith),
+        record {
+          bytes = are;
+          framed = can_be_framed (bytes ++ b ∷ []) are new_right (λ k. omega (arith, new_right.declares k));
+          head = (omega (arith, flags_are, byte_at (bytes ++ b ∷ []) 7 are, byte_at (bytes ++ b ∷ []) 8 are), omega (arith, n_is, byte_at (bytes ++ b ∷ []) 0 are, byte_at (bytes ++ b ∷ []) 1 are), all ∙ cells);
+          header = e ∙ ap (λ (x : List ℕ). x ++ b ∷ []) same ∙ sym all;
+          left = omega arith;
+          cut = subst (λ (x : List ℕ). IsCut rules x units new.begun) dropped (subst (λ (x : List ℕ). IsCut rules (drop 10 bytes) units x) (sym f) r.cut);
+          at_place = p ∙ r.at_place;
+        },
+      )
 
   -- behind the tenth byte
 
@@ -178,15 +197,19 @@ module _ {Place U : Type 0} (rules : Rules Place U) where
   in_body : (reader : Keeping Place) (bytes : List ℕ) (head : Option Head) (units : List U) → Reads rules reader (record { bytes = bytes; head = head; units = units }) → length reader.header ≡ 10 → InBody reader bytes head
   in_body reader bytes None units r ten = absurd (omega (arith, ap length r.header, length-take 10 bytes, r.head))
   in_body reader bytes (Some h) units r ten = record {
-    of = h; is = refl; long = head_long h bytes r.head; right = (can_means bytes r.framed).0;
-    counted = r.left ∙ sym (head_declares h bytes r.head) }
+    of = h;
+    is = refl;
+    long = head_long h bytes r.head;
+    right = (can_means bytes r.framed).0;
+    counted = r.left ∙ sym (head_declares h bytes r.head);
+  }
 
   more_framed : (reader : Keeping Place) (bytes : List ℕ) (head : Option Head) (units : List U) (b : ℕ) → (r : Reads rules reader (record { bytes = bytes; head = head; units = units })) → InBody reader bytes head → b < 256 → (reader.left ≡ 0 → ⊥) → CanBeFramed (bytes ++ b ∷ [])
   more_framed reader bytes head units b r i fits room =
       let total : length (bytes ++ b ∷ []) ≡ length bytes + 1 = length-append bytes (b ∷ []) in
       let same : declared (bytes ++ b ∷ []) ≡ declared bytes = (let long : 10 ≤ length bytes = i.long in omega (arith, get_or-append bytes (b ∷ []) 0 0 (omega arith), get_or-append bytes (b ∷ []) 0 1 (omega arith))) in
       can_be_framed (bytes ++ b ∷ []) (AreBytes-both bytes (b ∷ []) r.bytes (fits, tt)) (header_append bytes (b ∷ []) i.long i.right)
-        (λ _. (let ne : reader.left ≢ 0 = room in let counted : length bytes + reader.left ≡ declared bytes = i.counted in omega arith))
+      (λ _. (let ne : reader.left ≢ 0 = room in let counted : length bytes + reader.left ≡ declared bytes = i.counted in omega arith))
 
   body_dropped : (bytes : List ℕ) (b : ℕ) → 10 ≤ length bytes → drop 10 bytes ++ b ∷ [] ≡ drop 10 (bytes ++ b ∷ [])
   body_dropped bytes b long = sym (drop-append-le 10 bytes (b ∷ []) long)
@@ -218,7 +241,8 @@ module _ {Place U : Type 0} (rules : Rules Place U) where
         header = e ∙ r.header ∙ sym (take-append-le 10 so_far.bytes (b ∷ []) i.long);
         left = body_left reader new so_far.head so_far.bytes b room l r.left;
         cut = subst (λ (x : List ℕ). IsCut rules x so_far.units new.begun) (body_dropped so_far.bytes b i.long) (subst (λ (x : List ℕ). IsCut rules (drop 10 so_far.bytes ++ b ∷ []) so_far.units x) (sym f) cut);
-        at_place = p ∙ r.at_place }
+        at_place = p ∙ r.at_place;
+      }
 
   pub body_unit : Begins rules → (reader new : Keeping Place) (so_far : RecordSoFar U) (b : ℕ) (unit : U) → Reads rules reader so_far → length reader.header ≡ 10 → b < 256 → (reader.left ≡ 0 → ⊥)
       → IsSpelled rules reader.place (reader.begun ++ b ∷ []) unit → new.header ≡ reader.header → new.left ≡ reader.left - 1 → new.place ≡ rules.after unit → new.begun ≡ []
@@ -233,17 +257,20 @@ module _ {Place U : Type 0} (rules : Rules Place U) where
         header = e ∙ r.header ∙ sym (take-append-le 10 so_far.bytes (b ∷ []) i.long);
         left = body_left reader new so_far.head so_far.bytes b room l r.left;
         cut = subst (λ (x : List ℕ). IsCut rules x (so_far.units ++ unit ∷ []) new.begun) (body_dropped so_far.bytes b i.long) (subst (λ (x : List ℕ). IsCut rules (drop 10 so_far.bytes ++ b ∷ []) (so_far.units ++ unit ∷ []) x) (sym f) cut);
-        at_place = p ∙ sym (place_after_more rules rules.first so_far.units unit) }
+        at_place = p ∙ sym (place_after_more rules rules.first so_far.units unit);
+      }
 
   pub body_bad : IsPrefixFree rules → Begins rules → (reader : Keeping Place) (so_far : RecordSoFar U) (b : ℕ) (reason : Reason) → Reads rules reader so_far → length reader.header ≡ 10 → b < 256 → (reader.left ≡ 0 → ⊥)
       → (IsPrefix rules reader.place (reader.begun ++ b ∷ []) → ⊥) → reason ≡ rules.reason reader.place reader.begun b → IsDataRefused rules so_far.bytes b reason
   body_bad free begins reader so_far b reason r ten fits room bad why =
       let i = in_body reader so_far.bytes so_far.head so_far.units r ten in
-      inr (more_framed reader so_far.bytes so_far.head so_far.units b r i fits room,
+      inr (
+        more_framed reader so_far.bytes so_far.head so_far.units b r i fits room,
         (λ m body. cut_bad rules free begins rules.first so_far.units body.units reader.begun b m r.cut.chain body.whole.chain r.cut.more
-          (subst (λ (x : Place). IsPrefix rules x (reader.begun ++ b ∷ []) → ⊥) r.at_place bad)
-          (sym body.spelled ∙ drop-append-le 10 so_far.bytes (b ∷ m) i.long ∙ ap (λ x. x ++ b ∷ m) (sym r.cut.spelled) ∙ append_assoc _ reader.begun (b ∷ m))),
-        (so_far.units, reader.begun, r.cut, why ∙ ap (λ (x : Place). rules.reason x reader.begun b) r.at_place))
+            (subst (λ (x : Place). IsPrefix rules x (reader.begun ++ b ∷ []) → ⊥) r.at_place bad)
+            (sym body.spelled ∙ drop-append-le 10 so_far.bytes (b ∷ m) i.long ∙ ap (λ x. x ++ b ∷ m) (sym r.cut.spelled) ∙ append_assoc _ reader.begun (b ∷ m))),
+        (so_far.units, reader.begun, r.cut, why ∙ ap (λ (x : Place). rules.reason x reader.begun b) r.at_place),
+      )
 
   -- the end
 
@@ -261,12 +288,19 @@ module _ {Place U : Type 0} (rules : Rules Place U) where
   framed_whole reader so_far r ten none =
       let i = in_body reader so_far.bytes so_far.head so_far.units r ten in
       framed_from so_far.bytes r.bytes (record {
-        long = i.long; short = omega (arith, i.counted, byte_at so_far.bytes 0 r.bytes, byte_at so_far.bytes 1 r.bytes); declares = (let c : length so_far.bytes + reader.left ≡ declared so_far.bytes = i.counted in omega arith); so_far = i.right })
+        long = i.long;
+        short = omega (arith, i.counted, byte_at so_far.bytes 0 r.bytes, byte_at so_far.bytes 1 r.bytes);
+        declares = (let c : length so_far.bytes + reader.left ≡ declared so_far.bytes = i.counted in omega arith);
+        so_far = i.right;
+      })
 
   pub end_inside : IsPrefixFree rules → Begins rules → (reader : Keeping Place) (so_far : RecordSoFar U) → Reads rules reader so_far → length reader.header ≡ 10 → reader.left ≡ 0
       → (reader.begun ≡ [] → rules.may_end reader.place ≡ true → ⊥) → IsEndRefused rules so_far.bytes EndedInside
   end_inside free begins reader so_far r ten none inside =
-      inr (framed_whole reader so_far r ten none,
+      inr (
+        framed_whole reader so_far r ten none,
         (λ body. (let same : (so_far.units ≡ body.units) × (reader.begun ≡ []) =
             one_cut rules free rules.first so_far.units body.units reader.begun [] r.cut.chain body.whole.chain r.cut.more (begins _) (r.cut.spelled ∙ body.spelled ∙ sym (append-nil _)) in
-          inside same.1 (ap rules.may_end (r.at_place ∙ ap (place_after rules rules.first) same.0) ∙ body.whole.ends))), refl)
+            inside same.1 (ap rules.may_end (r.at_place ∙ ap (place_after rules rules.first) same.0) ∙ body.whole.ends))),
+        refl,
+      )

@@ -103,10 +103,10 @@ module _ {Place U : Type 0} where
       let a = h.1 in
       let b = k.1 in
       let tokens : joined (map (λ s. s.0) a.stretches) a.rest ≡ joined (map (λ s. s.0) b.stretches) b.rest =
-          one_list token_rules token_prefix_free token_begins _ _ a.cut.chain b.cut.chain (sym (append-nil _) ∙ a.cut.spelled ∙ sym b.cut.spelled ∙ append-nil _) in
+      one_list token_rules token_prefix_free token_begins _ _ a.cut.chain b.cut.chain (sym (append-nil _) ∙ a.cut.spelled ∙ sym b.cut.spelled ∙ append-nil _) in
       let parts : (map (λ s. s.0) a.stretches ≡ map (λ s. s.0) b.stretches) × (a.rest ≡ b.rest) =
-          one_join (map (λ s. s.0) a.stretches) (map (λ s. s.0) b.stretches) a.rest b.rest (parts_no_eor rules a.stretches a.each) (parts_no_eor rules b.stretches b.each) a.no_eor b.no_eor tokens in
+      one_join (map (λ s. s.0) a.stretches) (map (λ s. s.0) b.stretches) a.rest b.rest (parts_no_eor rules a.stretches a.each) (parts_no_eor rules b.stretches b.each) a.no_eor b.no_eor tokens in
       let stretches : a.stretches ≡ b.stretches = one_stretches rules free begins a.stretches b.stretches a.each b.each parts.0 in
       let rest : a.rest ≡ b.rest = parts.1 in
       a.are_items ∙ ap (λ (x : List (List Token × Record U)). flat_map (λ s. commands s.0 ++ RecordItem s.1 ∷ []) x ++ commands a.rest) stretches
-          ∙ ap (λ (x : List Token). flat_map (λ (s : List Token × Record U). commands s.0 ++ RecordItem s.1 ∷ []) b.stretches ++ commands x) rest ∙ sym b.are_items
+      ∙ ap (λ (x : List Token). flat_map (λ (s : List Token × Record U). commands s.0 ++ RecordItem s.1 ∷ []) b.stretches ++ commands x) rest ∙ sym b.are_items

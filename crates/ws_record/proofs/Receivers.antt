@@ -17,9 +17,16 @@ use Rattle.ws_record.specs.Receiver.{Receiving, Taken}
 -- a refusal stands whatever follows
 pub refused_append : {Place U : Type 0} (rules : Rules Place U) (bytes more : List ℕ) (place : ℕ) (reason : Reason) → IsRefused rules bytes place reason → IsRefused rules (bytes ++ more) place reason
 refused_append rules bytes more place reason r = record {
-  before = r.before; byte = r.byte; after = r.after ++ more;
+  before = r.before;
+  byte = r.byte;
+  after = r.after ++ more;
   split = ap (λ x. x ++ more) r.split ∙ append_assoc r.before (r.byte ∷ r.after) more;
-  at_place = r.at_place; layer = r.layer; opened = r.opened; closed = r.closed; why = r.why }
+  at_place = r.at_place;
+  layer = r.layer;
+  opened = r.opened;
+  closed = r.closed;
+  why = r.why;
+}
 
 same_head : (head : Option Head) (kept h : Head) → IfSome head (λ x. kept ≡ x) → head ≡ Some h → kept ≡ h
 same_head None kept h is e = cc
@@ -44,9 +51,9 @@ module _ {Place U : Type 0} (rules : Rules Place U) where
   taken_record old new bytes b items t r step f o u e =
       let kept : old.head ≡ step.0 = same_head t.head old.head step.0 t.is_head step.1 in
       let same : record_of step.0 old.units ≡ r =
-          ap (λ (h : Head). record_of h old.units) (sym kept)
-          ∙ ap (λ (x : ℕ). let s : Record U = record { flags = x; opcode = old.head.opcode; body = old.units } in s) (sym f)
-          ∙ ap (λ (x : _). let s : Record U = record { flags = r.flags; opcode = x; body = old.units } in s) (sym o)
-          ∙ ap (λ (x : List U). let s : Record U = record { flags = r.flags; opcode = r.opcode; body = x } in s) (sym u) in
+      ap (λ (h : Head). record_of h old.units) (sym kept)
+      ∙ ap (λ (x : ℕ). let s : Record U = record { flags = x; opcode = old.head.opcode; body = old.units } in s) (sym f)
+      ∙ ap (λ (x : _). let s : Record U = record { flags = r.flags; opcode = x; body = old.units } in s) (sym o)
+      ∙ ap (λ (x : List U). let s : Record U = record { flags = r.flags; opcode = r.opcode; body = x } in s) (sym u) in
       let leads = subst (λ (x : Record U). Leads rules new.live (bytes ++ b ∷ []) (items ++ RecordItem x ∷ []) no_record) same step.2 in
       record { head = None; is_head = tt; leads = ([], subst (λ (x : List U). Leads rules new.live (bytes ++ b ∷ []) (items ++ RecordItem r ∷ []) (record { bytes = []; head = None; units = x })) (sym e) leads) }

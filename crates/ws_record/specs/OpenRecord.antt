@@ -50,11 +50,11 @@ module _ {Place U : Type 0} where
   -- no record has this byte next
   abbrev pub IsDataRefused : Rules Place U → List ℕ → ℕ → Reason → Type 0
   IsDataRefused rules so_far b reason =
-        (((m : List ℕ) → IsFramed (so_far ++ b ∷ m) → ⊥) × (reason ≡ header_reason so_far (Data b)))
+      (((m : List ℕ) → IsFramed (so_far ++ b ∷ m) → ⊥) × (reason ≡ header_reason so_far (Data b)))
       ⊎ (CanBeFramed (so_far ++ b ∷ []) × ((m : List ℕ) → IsBodyBytes rules (drop 10 (so_far ++ b ∷ m)) → ⊥) × IsBodyReason rules (drop 10 so_far) (Data b) reason)
 
   -- no record ends here
   abbrev pub IsEndRefused : Rules Place U → List ℕ → Reason → Type 0
   IsEndRefused rules so_far reason =
-        ((IsFramed so_far → ⊥) × (reason ≡ TooShort))
+      ((IsFramed so_far → ⊥) × (reason ≡ TooShort))
       ⊎ (IsFramed so_far × (IsBodyBytes rules (drop 10 so_far) → ⊥) × (reason ≡ EndedInside))

@@ -3,10 +3,9 @@ ghost use Rattle.ws_record.specs.declared.record.Item.{Item};
 ghost use Rattle.ws_record.specs.Grammar.{Accepts};
 ghost use Rattle.ws_record.specs.Receiver.{IsDecodeFault};
 
+use crate::{Item, Receiver};
 use std::alloc::Global;
 use ws_code::{Body, Fault};
-
-use crate::{Item, Receiver};
 
 /// The items that the bytes spell.
 ///

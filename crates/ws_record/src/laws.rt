@@ -8,5 +8,4 @@ use ws_code::Body;
 pub fn one_reading<B: Body>()
     ensures { (bytes : List ℕ) (items others : List (Item B.Unit))
         → Spells B.rules bytes items → Spells B.rules bytes others → items ≡ others }
-{
-}
+{}

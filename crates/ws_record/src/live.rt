@@ -6,12 +6,11 @@ ghost use Rattle.ws_record.specs.OpenRecord.{RecordSoFar, no_record};
 ghost use Rattle.ws_record.specs.Live.{Leads, IsStep, OnEnd};
 ghost use Rattle.ws_record.specs.TokenStep.{Completes};
 
+use crate::Head;
+use crate::open_record::{DataStep, OpenRecord};
 use std::marker::Model;
 use ws_code::{Body, Code, Fault, Push, Reason};
 use ws_telnet::{Telnet, Token, Tokens};
-
-use crate::Head;
-use crate::open_record::{DataStep, OpenRecord};
 
 /// What is complete with a byte.
 #[derive(Debug, Drop)]
@@ -156,7 +155,7 @@ impl<B: Body> Live<B> {
     pub fn finish(&mut self) -> Result<(), Fault>
         ensures ok { OnOk result ((self.new ≡ self.old)
             × ((bytes : List ℕ) (items : List (Item B.Unit)) (so_far : RecordSoFar B.Unit)
-                → Leads B.rules self.old bytes items so_far → Accepts B.rules bytes items)) }
+            → Leads B.rules self.old bytes items so_far → Accepts B.rules bytes items)) }
         ensures truncated { IfErr result (λ fault.
             (bytes : List ℕ) (items : List (Item B.Unit)) (so_far : RecordSoFar B.Unit)
             → Leads B.rules self.old bytes items so_far → length bytes + 1 < 2 ^ 64

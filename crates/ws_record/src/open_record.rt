@@ -7,11 +7,10 @@ ghost use Rattle.ws_record.specs.HeaderSoFar.{HeaderSoFar};
 ghost use Rattle.ws_record.specs.OpenRecord.{RecordSoFar, no_record, Reads, IsEndRefused};
 ghost use Rattle.ws_record.specs.DataStep.{IsDataStep, IsWholeRecord};
 
+use crate::{Head, Opcode};
 use arrayvec::ArrayVec;
 use std::marker::Model;
 use ws_code::{Body, Push, Reason};
-
-use crate::{Head, Opcode};
 
 /// What an open record makes of a byte.
 #[derive(Debug, Drop)]
@@ -31,16 +30,32 @@ fn header_refusal(header: &[u8], byte: u8) -> Option<Reason>
 {
     let length = header.len();
     if length == 1 {
-        return if header[0] == 0 && byte < 10 { Some(Reason::LengthBelowHeader) } else { None };
+        return if header[0] == 0 && byte < 10 {
+            Some(Reason::LengthBelowHeader)
+        } else {
+            None
+        };
     }
     if length == 2 {
-        return if byte == 0x12 { None } else { Some(Reason::BadType) };
+        return if byte == 0x12 {
+            None
+        } else {
+            Some(Reason::BadType)
+        };
     }
     if length == 3 {
-        return if byte == 0xa0 { None } else { Some(Reason::BadType) };
+        return if byte == 0xa0 {
+            None
+        } else {
+            Some(Reason::BadType)
+        };
     }
     if length == 4 || length == 5 {
-        return if byte == 0 { None } else { Some(Reason::BadReserved) };
+        return if byte == 0 {
+            None
+        } else {
+            Some(Reason::BadReserved)
+        };
     }
     if length == 6 && byte != 4 {
         return Some(Reason::BadVariableLength);
@@ -131,7 +146,11 @@ impl<B: Body> OpenRecord<B> {
                 let flags = word(header[7], header[8]);
                 self.header.push(byte);
                 self.left = length - 10;
-                DataStep::Open(Head { flags, opcode, length })
+                DataStep::Open(Head {
+                    flags,
+                    opcode,
+                    length,
+                })
             }
         }
     }

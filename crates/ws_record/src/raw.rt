@@ -2,7 +2,6 @@ ghost use Rattle.std.specs.Prelude.{◌≡◌, [], ◌∷◌, refl};
 ghost use Rattle.ws_record.specs.RawBody.{raw_rules, raw_nonempty, raw_prefix_free, raw_begins};
 
 use arrayvec::ArrayVec;
-
 use ws_code::{Body, Code, Push};
 
 /// A body of plain bytes: every byte is a unit, and every list of them may end.
@@ -11,15 +10,21 @@ pub struct RawBody;
 
 impl Code for RawBody {
     type Unit = u8;
+
     type Place = ();
 
     ghost rules = { raw_rules };
+
     ghost place = { λ _. tt };
+
     ghost unfinished = { λ _. [] };
 
     ghost nonempty = { raw_nonempty };
+
     ghost bytes = { λ b h. (h, tt) };
+
     ghost prefix_free = { raw_prefix_free };
+
     ghost begins = { raw_begins };
 
     fn first() -> () {

@@ -4,11 +4,10 @@ ghost use Rattle.ws_record.specs.Grammar.{Accepts, Holds};
 ghost use Rattle.ws_record.specs.Refusal.{IsTruncated};
 ghost use Rattle.ws_record.specs.Receiver.{Taken, given, IsTakeFault, IsFeedFault};
 
+use crate::{Head, Item, Live, Opcode, Record, Step};
 use std::alloc::Global;
 use std::marker::Model;
 use ws_code::{Body, Fault, List};
-
-use crate::{Head, Item, Live, Opcode, Record, Step};
 
 /// Decodes a stream that comes in pieces, and gives its items. Of the bytes it keeps only the units of
 /// the open record.
@@ -42,8 +41,17 @@ impl<B: Body> Receiver<B> {
     pub fn new(alloc: Global) -> Self
         ensures { Taken B.rules result [] [] }
     {
-        let head = Head { flags: 0, opcode: Opcode::NoOperation, length: 0 };
-        Receiver { alloc, live: Live::new(), head, units: Vec::new(alloc) }
+        let head = Head {
+            flags: 0,
+            opcode: Opcode::NoOperation,
+            length: 0,
+        };
+        Receiver {
+            alloc,
+            live: Live::new(),
+            head,
+            units: Vec::new(alloc),
+        }
     }
 
     // Takes a byte, and gives the item that is complete with it.
@@ -72,8 +80,16 @@ impl<B: Body> Receiver<B> {
             }
             Step::Close => {
                 let units = std::mem::replace(&mut self.units, Vec::new(self.alloc));
-                let Head { flags, opcode, length: _ } = self.head;
-                Ok(Some(Item::Record(Record { flags, opcode, body: List::of(units) })))
+                let Head {
+                    flags,
+                    opcode,
+                    length: _,
+                } = self.head;
+                Ok(Some(Item::Record(Record {
+                    flags,
+                    opcode,
+                    body: List::of(units),
+                })))
             }
             Step::Telnet(telnet) => Ok(Some(Item::Telnet(telnet))),
             Step::Refused { place, reason } => Err(Fault::Refused { place, reason }),
@@ -109,10 +125,16 @@ impl<B: Body> Receiver<B> {
         }
         for (at, byte) in piece.iter().enumerate() {
             if let Some(item) = self.take(*byte)? {
-                return Ok(Fed { used: at + 1, item: Some(item) });
+                return Ok(Fed {
+                    used: at + 1,
+                    item: Some(item),
+                });
             }
         }
-        Ok(Fed { used: piece.len(), item: None })
+        Ok(Fed {
+            used: piece.len(),
+            item: None,
+        })
     }
 
     /// Asks whether the stream may end here, and changes nothing where it may. `Truncated` tells how many
@@ -120,7 +142,7 @@ impl<B: Body> Receiver<B> {
     pub fn finish(&mut self) -> Result<(), Fault>
         ensures ok { OnOk result ((self.new ≡ self.old)
             × ((bytes : Seq ℕ) (items : Seq (Item B.Unit))
-                → Taken B.rules self.old bytes items → Accepts B.rules bytes items)) }
+            → Taken B.rules self.old bytes items → Accepts B.rules bytes items)) }
         ensures truncated { IfErr result (λ fault. (bytes : Seq ℕ) (items : Seq (Item B.Unit))
             → Taken B.rules self.old bytes items → length bytes + 1 < 2 ^ 64
             → (fault ≡ Fault.Truncated (length bytes)) × IsTruncated B.rules bytes) }

@@ -1,7 +1,6 @@
+use crate::Opcode;
 use ws_code::List;
 use ws_telnet::Telnet;
-
-use crate::Opcode;
 
 /// What the ten header bytes of a record say (RFC 1205, section 3).
 #[derive(Clone, Copy, Debug, PartialEq, Eq)]

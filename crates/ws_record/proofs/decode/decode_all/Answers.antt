@@ -15,7 +15,7 @@ returns-in_err-item-clause-fault g c =
     let bytes = c.args.bytes.now in
     let i = c.loop-byte.byte-index in
     rw (p.1, p.2) (take_decodes g.B.Code.rules bytes i _ c.loop-byte-test.true
-      (c.in_err-item.ensures.fault (take i bytes) c.loop-byte.items.items c.loop-byte.invariant (omega (arith, length-take i bytes))))
+    (c.in_err-item.ensures.fault (take i bytes) c.loop-byte.items.items c.loop-byte.invariant (omega (arith, length-take i bytes))))
 
 pub returns-in_err-item-clause-only : goal.returns-in_err-item-clause-only
 returns-in_err-item-clause-only g c = λ items a.
@@ -23,7 +23,7 @@ returns-in_err-item-clause-only g c = λ items a.
     let bytes = c.args.bytes.now in
     let i = c.loop-byte.byte-index in
     rw (p.1, p.2) (only_memory g.B.Code.rules bytes items _ a (take_decodes g.B.Code.rules bytes i _ c.loop-byte-test.true
-      (c.in_err-item.ensures.fault (take i bytes) c.loop-byte.items.items c.loop-byte.invariant (omega (arith, length-take i bytes)))))
+    (c.in_err-item.ensures.fault (take i bytes) c.loop-byte.items.items c.loop-byte.invariant (omega (arith, length-take i bytes)))))
 
 pub loop-byte-preserved : goal.loop-byte-preserved
 loop-byte-preserved g c =
@@ -35,11 +35,12 @@ loop-byte-preserved g c =
     let to : Option (Item g.row.B-Unit.Denot) → Type 0 = λ o. Taken rules c.take.new.self (take i bytes ++ get_or bytes i 0 ∷ []) (old ++ given o) in
     let same : List (Item g.row.B-Unit.Denot) → Type 0 = λ x. Taken rules c.take.new.self (take i bytes ++ get_or bytes i 0 ∷ []) x in
     taken_next rules c.take.new.self bytes c.match-branch-2.items.items i c.loop-byte-test.true (elim c.match-branch-2.branch [
-      in-Some+else-is_err w ↦
-        (let item = w.in-Some.item in
-        let pushed : w.push.new.self.items ≡ old ++ item ∷ [] = w.push.ensures.items ∙ ap (λ (x : Bool). if x then old ++ item ∷ [] else old) (w.is_err.ensures.negation ∙ ap not w.if-is_err.false) in
-        rw (w.items-is, pushed) (subst to w.in-Some.is taken))
-    | in_default w ↦ rw w.items-is (subst same (append-nil old) (subst to w.in_default.is taken)) ])
+      | in-Some+else-is_err w ↦
+          (let item = w.in-Some.item in
+          let pushed : w.push.new.self.items ≡ old ++ item ∷ [] = w.push.ensures.items ∙ ap (λ (x : Bool). if x then old ++ item ∷ [] else old) (w.is_err.ensures.negation ∙ ap not w.if-is_err.false) in
+          rw (w.items-is, pushed) (subst to w.in-Some.is taken))
+      | in_default w ↦ rw w.items-is (subst same (append-nil old) (subst to w.in_default.is taken))
+    ])
 
 pub returns-in_err-finish-clause-fault : goal.returns-in_err-finish-clause-fault
 returns-in_err-finish-clause-fault g c =

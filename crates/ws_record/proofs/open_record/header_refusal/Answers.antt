@@ -13,10 +13,11 @@ returns-else-byte-eq160-clause-some c =
 
 pub returns-else-byte-eq0-clause-some : goal.returns-else-byte-eq0-clause-some
 returns-else-byte-eq0-clause-some c = elim c.then-length-eq4.branch [
-    then-length-eq4-via-then-length-eq4 w ↦
+  | then-length-eq4-via-then-length-eq4 w ↦
       (λ m f. no_reserved_high c.args.header.now c.args.byte m f w.if-length-eq4.true c.if-byte-eq0.false, rw w.if-length-eq4.true refl)
   | then-length-eq4-via-else-length-eq4+then-length-eq5 w ↦
-      (λ m f. no_reserved_low c.args.header.now c.args.byte m f w.if-length-eq5.true c.if-byte-eq0.false, rw w.if-length-eq5.true refl) ]
+      (λ m f. no_reserved_low c.args.header.now c.args.byte m f w.if-length-eq5.true c.if-byte-eq0.false, rw w.if-length-eq5.true refl)
+]
 
 pub returns-then-byte-ne4-clause-some : goal.returns-then-byte-ne4-clause-some
 returns-then-byte-ne4-clause-some c =

@@ -20,7 +20,7 @@ pub returns-in-Unit-clause-step : goal.returns-in-Unit-clause-step
 returns-in-Unit-clause-step g c = λ bytes items so_far l fits.
     let old = subst (λ (k : Watching g.row.B-Place.Denot). Leads g.B.Code.rules k bytes items so_far) (sym (c.self.view_is ∙ c.works.ensures.same c.if-not-works.false)) l in
     c.take.ensures.step bytes items so_far _ c.args.byte
-      (completes g.B.Code.rules g.met.B.Body.can_end g.met.B.Code.bytes _ _ bytes items so_far c.args.byte c.in-Unit.token old c.in-Unit.ensures.unit refl c.start-self-inside.ensures.fresh refl old.works) old.count
+    (completes g.B.Code.rules g.met.B.Body.can_end g.met.B.Code.bytes _ _ bytes items so_far c.args.byte c.in-Unit.token old c.in-Unit.ensures.unit refl c.start-self-inside.ensures.fresh refl old.works) old.count
 
 pub returns-in-Bad-clause-step : goal.returns-in-Bad-clause-step
 returns-in-Bad-clause-step g c = λ bytes items so_far l fits.

@@ -10,7 +10,7 @@ use Rattle.ws_record.proofs.live.Live.take.Goals as goal
 pub returns-in-Telnet-clause-step : goal.returns-in-Telnet-clause-step
 returns-in-Telnet-clause-step g c = λ bytes items so_far begun byte done at.
     command_step g.B.Code.rules g.met.B.Body.can_end g.met.B.Code.bytes c.args.self.now c.args.self.now bytes items so_far begun byte c.in-Telnet.telnet
-      (subst (λ (t : Token). Completes g.B.Code.rules c.args.self.now bytes items so_far begun byte t) c.in-Telnet.is done) refl refl refl refl
+    (subst (λ (t : Token). Completes g.B.Code.rules c.args.self.now bytes items so_far begun byte t) c.in-Telnet.is done) refl refl refl refl
 
 pub returns-in-More-clause-step : goal.returns-in-More-clause-step
 returns-in-More-clause-step g c = λ bytes items so_far begun byte done at.

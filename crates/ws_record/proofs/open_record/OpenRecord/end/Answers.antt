@@ -12,6 +12,7 @@ returns-then-self-clause-refused g c = λ so_far r.
     let ten : length c.self.inside.header.items ≡ 10 = eqb-true (length c.self.inside.header.items) 10 (sym c.is_full.ensures.value ∙ c.if-not-is_full.false) in
     let none : c.self.inside.left ≡ 0 = omega (arith, c.if-self-gt0.false) in
     end_inside g.B.Code.rules g.met.B.Code.prefix_free g.met.B.Code.begins _ so_far reads ten none
-      (λ e m. elim c.then-self.branch [
-          then-self-via-then-self w ↦ c.self.invariant.is_inside w.if-self.true e
-        | then-self-via-else-self+then-not-may_end w ↦ (let f : ◌≡◌ {A = Bool} true false = sym m ∙ sym w.may_end.ensures ∙ w.if-not-may_end.true in cc) ])
+    (λ e m. elim c.then-self.branch [
+      | then-self-via-then-self w ↦ c.self.invariant.is_inside w.if-self.true e
+      | then-self-via-else-self+then-not-may_end w ↦ (let f : ◌≡◌ {A = Bool} true false = sym m ∙ sym w.may_end.ensures ∙ w.if-not-may_end.true in cc)
+    ])

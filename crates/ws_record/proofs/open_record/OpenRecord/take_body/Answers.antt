@@ -17,7 +17,7 @@ returns-in-More g c = λ so_far r.
     let more = c.in-More.ensures.more in
     let begun = g.B.Code.unfinished c.self.inside.machine in
     body_more g.B.Code.rules _ _ so_far c.args.byte reads ten (omega arith) c.if-self-eq0.false
-      (subst (λ (p : g.row.B-Place.Denot). IsUnfinished g.B.Code.rules p (begun ++ c.args.byte ∷ [])) c.self.invariant.machine more.0) refl refl refl more.2
+    (subst (λ (p : g.row.B-Place.Denot). IsUnfinished g.B.Code.rules p (begun ++ c.args.byte ∷ [])) c.self.invariant.machine more.0) refl refl refl more.2
 
 pub returns-in-Unit : goal.returns-in-Unit
 returns-in-Unit g c = λ so_far r.
@@ -25,7 +25,7 @@ returns-in-Unit g c = λ so_far r.
     let ten : length c.self.inside.header.items ≡ 10 = ap (λ (k : Keeping g.row.B-Place.Denot). length k.header) c.self.view_is ∙ c.requires in
     let begun = g.B.Code.unfinished c.self.inside.machine in
     body_unit g.B.Code.rules g.met.B.Code.begins _ _ so_far c.args.byte c.in-Unit.unit reads ten (omega arith) c.if-self-eq0.false
-      (subst (λ (p : g.row.B-Place.Denot). IsSpelled g.B.Code.rules p (begun ++ c.args.byte ∷ []) c.in-Unit.unit) c.self.invariant.machine c.in-Unit.ensures.unit) refl refl c.after-self-inside.ensures c.start.ensures.fresh
+    (subst (λ (p : g.row.B-Place.Denot). IsSpelled g.B.Code.rules p (begun ++ c.args.byte ∷ []) c.in-Unit.unit) c.self.invariant.machine c.in-Unit.ensures.unit) refl refl c.after-self-inside.ensures c.start.ensures.fresh
 
 pub returns-in-Bad : goal.returns-in-Bad
 returns-in-Bad g c = λ so_far r.
@@ -34,5 +34,5 @@ returns-in-Bad g c = λ so_far r.
     let begun = g.B.Code.unfinished c.self.inside.machine in
     let bad = c.in-Bad.ensures.bad in
     body_bad g.B.Code.rules g.met.B.Code.prefix_free g.met.B.Code.begins _ so_far c.args.byte c.in-Bad.reason reads ten (omega arith) c.if-self-eq0.false
-      (subst (λ (p : g.row.B-Place.Denot). IsPrefix g.B.Code.rules p (begun ++ c.args.byte ∷ []) → ⊥) c.self.invariant.machine bad.0)
-      (bad.1 ∙ ap (λ (p : g.row.B-Place.Denot). g.B.Code.rules.reason p begun c.args.byte) c.self.invariant.machine)
+    (subst (λ (p : g.row.B-Place.Denot). IsPrefix g.B.Code.rules p (begun ++ c.args.byte ∷ []) → ⊥) c.self.invariant.machine bad.0)
+    (bad.1 ∙ ap (λ (p : g.row.B-Place.Denot). g.B.Code.rules.reason p begun c.args.byte) c.self.invariant.machine)

@@ -17,6 +17,6 @@ returns-in-Some g c = λ so_far r.
     let length_is : c.word-length.result ≡ get_or c.self.inside.header.items 0 0 * 256 + get_or c.self.inside.header.items 1 0 = omega (arith, c.word-length.ensures, cell 0, cell 1) in
     let flags_are : c.word-flags.result ≡ get_or c.self.inside.header.items 7 0 * 256 + get_or c.self.inside.header.items 8 0 = omega (arith, c.word-flags.ensures, cell 7, cell 8) in
     let right = header_more c.self.inside.header.items c.args.byte c.self.invariant.right (λ e. absurd (omega arith)) (λ e. absurd (omega arith)) (λ e. absurd (omega arith)) (λ e. absurd (omega arith))
-        (λ e. absurd (omega arith)) (λ e. absurd (omega arith)) (λ _. (c.in-Some.opcode, c.in-Some.ensures.some)) in
+    (λ e. absurd (omega arith)) (λ e. absurd (omega arith)) (λ _. (c.in-Some.opcode, c.in-Some.ensures.some)) in
     opcode_byte_read g.B.Code.rules g.met.B.Code.prefix_free g.met.B.Code.begins _ _ so_far.bytes so_far.head so_far.units c.args.byte c.word-flags.result c.word-length.result c.in-Some.opcode reads nine (omega arith)
-      right length_is flags_are c.in-Some.ensures.some c.push.ensures.items refl refl refl
+    right length_is flags_are c.in-Some.ensures.some c.push.ensures.items refl refl refl

@@ -17,8 +17,8 @@ returns-in_err-item-clause-fault g c =
     let piece = c.args.piece.now in
     let i = c.loop-at.at in
     rw (p.1, p.2) (λ bytes items t fits.
-      take_feeds g.B.Code.rules bytes piece i _ c.loop-at-test.true
-        (c.in_err-item.ensures.fault (bytes ++ take i piece) items (c.loop-at.invariant bytes items t fits).0 (omega (arith, length-append bytes (take i piece), length-take i piece))))
+    take_feeds g.B.Code.rules bytes piece i _ c.loop-at-test.true
+    (c.in_err-item.ensures.fault (bytes ++ take i piece) items (c.loop-at.invariant bytes items t fits).0 (omega (arith, length-append bytes (take i piece), length-take i piece))))
 
 pub returns-in-Some-clause-first : goal.returns-in-Some-clause-first
 returns-in-Some-clause-first g c = λ bytes items t fits n lt. (c.loop-at.invariant bytes items t fits).1 n (omega arith)

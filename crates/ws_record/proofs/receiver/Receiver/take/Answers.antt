@@ -21,9 +21,9 @@ returns-else-is_err-clause-taken g c = λ bytes items t fits.
     let old = subst (λ (k : Receiving g.row.B-Place.Denot g.row.B-Unit.Denot). Taken g.B.Code.rules k bytes items) (sym c.self.view_is) t in
     let units = c.self.inside.units.items in
     let pushed : c.push-in-Unit.new.self.items ≡ units ++ c.in-Unit.unit ∷ [] =
-        c.push-in-Unit.ensures.items ∙ ap (λ (x : Bool). if x then units ++ c.in-Unit.unit ∷ [] else units) (c.is_err.ensures.negation ∙ ap not c.if-is_err.false) in
+    c.push-in-Unit.ensures.items ∙ ap (λ (x : Bool). if x then units ++ c.in-Unit.unit ∷ [] else units) (c.is_err.ensures.negation ∙ ap not c.if-is_err.false) in
     taken_more g.B.Code.rules _ (bytes ++ c.args.byte ∷ []) items old.head old.is_head
-      (subst (λ (x : List g.row.B-Unit.Denot). LeadsWith g.B.Code.rules c.push.new.self (bytes ++ c.args.byte ∷ []) items old.head x) (sym pushed) (c.in-Unit.ensures.step bytes items _ old.leads.1 fits))
+    (subst (λ (x : List g.row.B-Unit.Denot). LeadsWith g.B.Code.rules c.push.new.self (bytes ++ c.args.byte ∷ []) items old.head x) (sym pushed) (c.in-Unit.ensures.step bytes items _ old.leads.1 fits))
 
 pub returns-in-Close-clause-taken : goal.returns-in-Close-clause-taken
 returns-in-Close-clause-taken g c = λ bytes items t fits.
