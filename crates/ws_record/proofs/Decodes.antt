@@ -1,4 +1,4 @@
-use Rattle.std.proofs.Common.{true, false, Bool, ◌≡◌, ◌≢◌, ℕ, ◌+◌, ◌<◌, ◌≤◌, List, [], ◌∷◌, ◌++◌, length, drop, take, get_or, refl, sym, ap, ◌∙◌, subst, arith, append_assoc, drop-cons, add-one, length-take, length-append}
+use Rattle.std.proofs.Common.{true, false, Bool, ◌≡◌, ◌≢◌, ℕ, ◌+◌, ◌*◌, ◌<◌, ◌≤◌, List, [], ◌∷◌, ◌++◌, length, drop, take, get_or, refl, sym, ap, ◌∙◌, subst, arith, append_assoc, drop-cons, add-one, length-take, length-append}
 use Rattle.std.specs.List.{AllByRecursion}
 use Rattle.std.proofs.lemmas.Bool.{cases_lt}
 use Rattle.std.proofs.Common.{inl, inr}
@@ -14,6 +14,7 @@ use Rattle.ws_record.specs.Grammar.{Holds, Accepts, Spells, IsStream, carried}
 use Rattle.ws_record.specs.Refusal.{Layer, IsRight, IsOpen, IsFirstClosed, IsRefused, IsTruncated}
 use Rattle.ws_record.specs.Refusal.Layer.{Tokens, Header, Body}
 use Rattle.ws_record.specs.Receiver.{Receiving, Taken, IsTakeFault, IsFeedFault, IsDecodeFault}
+use Rattle.ws_code.specs.Device.{MayGive, Gave}
 use Rattle.ws_record.proofs.Reading.{parts_no_eor, one_spelling}
 use Rattle.ws_record.proofs.Steps.{parts_of}
 use Rattle.ws_record.proofs.Refusals.{parts_right}
@@ -64,16 +65,7 @@ module _ {Place U : Type 0} (rules : Rules Place U) where
   pub one_accepted : IsPrefixFree rules → Begins rules → (bytes : List ℕ) (items others : List (Item U)) → Accepts rules bytes items → Accepts rules bytes others → items ≡ others
   one_accepted free begins bytes items others a b = one_spelling rules free begins bytes items others ([], a) ([], b)
 
-  -- a fault at a byte of a whole list, and of a piece
-  pub take_decodes : (bytes : List ℕ) (i : ℕ) (fault : Fault) → i < length bytes → IsTakeFault rules (take i bytes) (get_or bytes i 0) fault → IsDecodeFault rules bytes fault
-  take_decodes bytes i (Refused place reason) lt f =
-      subst (λ (x : List ℕ). IsRefused rules x place reason) (append_assoc (take i bytes) (get_or bytes i 0 ∷ []) (drop (i + 1) bytes) ∙ at_index bytes i lt) (refused_append rules (take i bytes ++ get_or bytes i 0 ∷ []) (drop (i + 1) bytes) place reason f.1)
-  take_decodes bytes i (Truncated n) lt f = absurd f
-  take_decodes bytes i Memory lt f = tt
-  take_decodes bytes i Read lt f = absurd f
-  take_decodes bytes i Write lt f = absurd f
-  take_decodes bytes i Failed lt f = absurd f
-
+  -- a fault at a byte of a piece
   pub take_feeds : (bytes piece : List ℕ) (i : ℕ) (fault : Fault) → i < length piece → IsTakeFault rules (bytes ++ take i piece) (get_or piece i 0) fault → IsFeedFault rules bytes piece fault
   take_feeds bytes piece i (Refused place reason) lt f = (
     omega (arith, f.0, length-append bytes (take i piece)),
@@ -105,6 +97,23 @@ module _ {Place U : Type 0} (rules : Rules Place U) where
       let now : Taken rules new (bytes ++ take (i + 1) piece) items = subst (λ (x : List ℕ). Taken rules new x items) longer (subst (λ (x : List (Item U)). Taken rules new ((bytes ++ take i piece) ++ get_or piece i 0 ∷ []) x) (append-nil items) t) in
       (now, upto_more (λ n. (so_far begun : List ℕ) × Holds rules (bytes ++ take n piece) items so_far begun) i before (now.leads.0, new.live.begun, now.leads.1.holds))
 
-  -- a byte of a list
-  pub taken_next : (new : Receiving Place U) (bytes : List ℕ) (items : List (Item U)) (i : ℕ) → i < length bytes → Taken rules new (take i bytes ++ get_or bytes i 0 ∷ []) items → Taken rules new (take (i + 1) bytes) items
-  taken_next new bytes items i lt t = subst (λ (x : List ℕ). Taken rules new x items) (sym (take_more bytes i 0 lt)) t
+  -- a byte of a piece
+  pub taken_next : (new : Receiving Place U) (bytes piece : List ℕ) (items : List (Item U)) (i : ℕ) → i < length piece → Taken rules new ((bytes ++ take i piece) ++ get_or piece i 0 ∷ []) items → Taken rules new (bytes ++ take (i + 1) piece) items
+  taken_next new bytes piece items i lt t =
+      subst (λ (x : List ℕ). Taken rules new x items) (append_assoc bytes (take i piece) (get_or piece i 0 ∷ []) ∙ ap (λ x. bytes ++ x) (sym (take_more piece i 0 lt))) t
+
+  -- a fault of the first piece
+  pub feed_decodes : (bytes : List ℕ) (fault : Fault) → IsFeedFault rules [] bytes fault → IsDecodeFault rules bytes fault
+  feed_decodes bytes (Refused place reason) f = f.1
+  feed_decodes bytes (Truncated n) f = absurd f
+  feed_decodes bytes Memory f = tt
+  feed_decodes bytes Read f = absurd f
+  feed_decodes bytes Write f = absurd f
+  feed_decodes bytes Failed f = absurd f
+
+-- What the loop over a source keeps: the bytes that it gave lead to the receiver, and are at most 4,096 a read.
+pub record Reading {Place U S : Type 0} (rules : Rules Place U) (gives : MayGive S) (failures : S → ℕ) (from to : S) (reads : ℕ) (receiver : Receiving Place U) (items : List (Item U)) : Type 0 where
+  pub bytes : List ℕ
+  pub gave : Gave gives failures from to reads bytes
+  pub taken : Taken rules receiver bytes items
+  pub few : length bytes ≤ 4096 * reads

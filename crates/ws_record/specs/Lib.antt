@@ -1,4 +1,6 @@
 pub mod DataStep
+pub mod DecodeFrom
+pub mod Escaped
 pub mod Grammar
 pub mod HeaderSoFar
 pub mod Live

@@ -1,11 +1,13 @@
 ghost use Rattle.std.specs.Prelude.{◌≡◌, List, ℕ, IfOk, IfErr, MatchResult};
+ghost use Rattle.ws_code.specs.Device.{GaveAll};
 ghost use Rattle.ws_record.specs.declared.record.Item.{Item};
 ghost use Rattle.ws_record.specs.Grammar.{Accepts};
 ghost use Rattle.ws_record.specs.Receiver.{IsDecodeFault};
+ghost use Rattle.ws_record.specs.DecodeFrom.{IsSourceFault};
 
 use crate::{Item, Receiver};
 use std::alloc::Global;
-use ws_code::{Body, Fault};
+use ws_code::{Body, DeviceFailed, Fault, Source};
 
 /// The items that the bytes spell.
 ///
@@ -21,13 +23,37 @@ pub fn decode_all<B: Body>(alloc: Global, bytes: &[u8]) -> Result<Vec<Item<B::Un
 {
     let mut receiver = Receiver::<B>::new(alloc);
     let mut items = Vec::new(alloc);
-    for byte in bytes {
-        if let Some(item) = receiver.take(*byte)? {
-            if items.push(item).is_err() {
-                return Err(Fault::Memory);
-            }
-        }
-    }
+    receiver.take_all(bytes, &mut items)?;
     receiver.finish()?;
     Ok(items)
+}
+
+/// The items that the bytes of the source spell, up to its end.
+///
+/// `Refused`, `Truncated` and `Memory` as of `decode_all`; `Read` where a read failed, or 4,294,967,296
+/// reads didn't reach the end. A failed read is never taken for the end.
+pub fn decode_from<B: Body, S: Source>(
+    alloc: Global,
+    source: &mut S,
+) -> Result<Vec<Item<B::Unit>>, Fault>
+    ensures accepted { IfOk result (λ items. (bytes : List ℕ)
+        × GaveAll S.gives S.failures source.old source.new bytes
+        × Accepts B.rules bytes items.items) }
+    ensures fault { IfErr result
+        (λ fault. IsSourceFault B.rules S.gives S.failures source.old source.new fault) }
+{
+    let mut receiver = Receiver::<B>::new(alloc);
+    let mut items = Vec::new(alloc);
+    let mut piece = [0u8; 4096];
+    for _ in 0..4_294_967_296u64 {
+        match source.read(&mut piece) {
+            Ok(0) => {
+                receiver.finish()?;
+                return Ok(items);
+            }
+            Ok(given) => receiver.take_all(&piece[..given], &mut items)?,
+            Err(DeviceFailed) => return Err(Fault::Read),
+        }
+    }
+    Err(Fault::Read)
 }

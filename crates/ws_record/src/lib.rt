@@ -10,10 +10,15 @@ mod raw;
 mod receiver;
 mod record;
 
-pub use decode::decode_all;
+pub use decode::{decode_all, decode_from};
 pub use laws::one_reading;
 pub use live::{Live, Step};
 pub use opcode::Opcode;
 pub use raw::RawBody;
 pub use receiver::{Fed, Receiver};
 pub use record::{Head, Item, Record};
+
+#[cfg(test)]
+mod escaped;
+#[cfg(test)]
+mod tests;

@@ -97,6 +97,30 @@ impl<B: Body> Receiver<B> {
         }
     }
 
+    // Takes a whole piece, and adds the items that are complete with its bytes.
+    pub(crate) fn take_all(
+        &mut self,
+        piece: &[u8],
+        items: &mut Vec<Item<B::Unit>>,
+    ) -> Result<(), Fault>
+        ensures taken { OnOk result ((bytes : Seq ℕ) → Taken B.rules self.old bytes items.old.items
+            → length bytes + length piece.now + 1 < 2 ^ 64
+            → Taken B.rules self.new (bytes ++ piece.now) items.new.items) }
+        ensures fault { IfErr result (λ fault. (bytes : Seq ℕ)
+            → Taken B.rules self.old bytes items.old.items
+            → length bytes + length piece.now + 1 < 2 ^ 64
+            → IsFeedFault B.rules bytes piece.now fault) }
+    {
+        for byte in piece {
+            if let Some(item) = self.take(*byte)? {
+                if items.push(item).is_err() {
+                    return Err(Fault::Memory);
+                }
+            }
+        }
+        Ok(())
+    }
+
     /// Takes bytes of the piece until an item is complete, or the piece is used up.
     ///
     /// `Refused` comes in the call that takes the first byte after which the bytes begin no stream, with

@@ -1,0 +1,39 @@
+use Rattle.std.proofs.Common.{◌≡◌, ◌++◌, ◌∷◌, [], ℕ, ◌+◌, ◌<◌, List, Bool, Option, length, take, get_or, refl, sym, ap, ◌∙◌, subst, arith, length-take, length-append}
+use Rattle.std.specs.Prelude.{if◌then◌else◌, not}
+use Rattle.std.proofs.lemmas.Result.{err_from_is_err_and}
+use Rattle.std.proofs.lemmas.List.{take_all, append-nil}
+use Rattle.ws_record.specs.declared.record.Item.{Item}
+use Rattle.ws_record.specs.Receiver.{Taken, given}
+use Rattle.ws_record.proofs.Decodes.{take_feeds, taken_next}
+use Rattle.ws_record.proofs.receiver.Receiver.take_all.Goals.{in-Some+else-is_err, in_default}
+use Rattle.ws_record.proofs.receiver.Receiver.take_all.Goals as goal
+
+pub returns-in_err-item-clause-fault : goal.returns-in_err-item-clause-fault
+returns-in_err-item-clause-fault g c =
+    let p = err_from_is_err_and c.from_residual.result c.from_residual.ensures.1 in
+    let piece = c.args.piece.now in
+    let i = c.loop-byte.byte-index in
+    rw (p.1, p.2) (λ bytes t fits.
+      take_feeds g.B.Code.rules bytes piece i _ c.loop-byte-test.true
+        (c.in_err-item.ensures.fault (bytes ++ take i piece) c.loop-byte.items.items (c.loop-byte.invariant bytes t fits) (omega (arith, length-append bytes (take i piece), length-take i piece))))
+
+pub loop-byte-preserved : goal.loop-byte-preserved
+loop-byte-preserved g c = λ bytes t fits.
+    let piece = c.args.piece.now in
+    let i = c.loop-byte.byte-index in
+    let taken = c.in_ok-item.ensures.taken (bytes ++ take i piece) c.loop-byte.items.items (c.loop-byte.invariant bytes t fits) (omega (arith, length-append bytes (take i piece), length-take i piece)) in
+    let rules = g.B.Code.rules in
+    let old = c.loop-byte.items.items in
+    let to : Option (Item g.row.B-Unit.Denot) → Type 0 = λ o. Taken rules c.take.new.self ((bytes ++ take i piece) ++ get_or piece i 0 ∷ []) (old ++ given o) in
+    let same : List (Item g.row.B-Unit.Denot) → Type 0 = λ x. Taken rules c.take.new.self ((bytes ++ take i piece) ++ get_or piece i 0 ∷ []) x in
+    taken_next rules c.take.new.self bytes piece c.match-branch-2.items.items i c.loop-byte-test.true (elim c.match-branch-2.branch [
+      in-Some+else-is_err w ↦
+        (let item = w.in-Some.item in
+        let pushed : w.push.new.self.items ≡ old ++ item ∷ [] = w.push.ensures.items ∙ ap (λ (x : Bool). if x then old ++ item ∷ [] else old) (w.is_err.ensures.negation ∙ ap not w.if-is_err.false) in
+        rw (w.items-is, pushed) (subst to w.in-Some.is taken))
+    | in_default w ↦ rw w.items-is (subst same (append-nil old) (subst to w.in_default.is taken)) ])
+
+pub returns-clause-taken : goal.returns-clause-taken
+returns-clause-taken g c = λ bytes t fits.
+    let all : take c.loop-byte.byte-index c.args.piece.now ≡ c.args.piece.now = take_all c.loop-byte.byte-index c.args.piece.now c.loop-byte-test.false in
+    subst (λ (x : List ℕ). Taken g.B.Code.rules c.loop-byte.self (bytes ++ x) c.loop-byte.items.items) all (c.loop-byte.invariant bytes t fits)
