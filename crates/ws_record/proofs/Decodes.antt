@@ -14,7 +14,8 @@ use Rattle.ws_record.specs.Grammar.{Holds, Accepts, Spells, IsStream, carried}
 use Rattle.ws_record.specs.Refusal.{Layer, IsRight, IsOpen, IsFirstClosed, IsRefused, IsTruncated}
 use Rattle.ws_record.specs.Refusal.Layer.{Tokens, Header, Body}
 use Rattle.ws_record.specs.Receiver.{Receiving, Taken, IsTakeFault, IsFeedFault, IsDecodeFault}
-use Rattle.ws_code.specs.Device.{MayGive, Gave}
+use Rattle.ws_code.specs.Device.{MayGive, Gave, GaveAll}
+use Rattle.ws_record.specs.DecodeFrom.{IsSourceFault}
 use Rattle.ws_record.proofs.Reading.{parts_no_eor, one_spelling}
 use Rattle.ws_record.proofs.Steps.{parts_of}
 use Rattle.ws_record.proofs.Refusals.{parts_right}
@@ -117,3 +118,16 @@ pub record Reading {Place U S : Type 0} (rules : Rules Place U) (gives : MayGive
   pub gave : Gave gives failures from to reads bytes
   pub taken : Taken rules receiver bytes items
   pub few : length bytes ≤ 4096 * reads
+
+-- a fault of a piece that a source gave
+pub feed_source : {Place U S : Type 0} (rules : Rules Place U) (gives : MayGive S) (failures : S → ℕ) (from to : S) (reads : ℕ) (bytes piece : List ℕ) (fault : Fault) → Gave gives failures from to reads (bytes ++ piece) → IsFeedFault rules bytes piece fault → IsSourceFault rules gives failures from to fault
+feed_source rules gives failures from to reads bytes piece (Refused place reason) gave f = (bytes ++ piece, reads, gave, f.1)
+feed_source rules gives failures from to reads bytes piece (Truncated n) gave f = absurd f
+feed_source rules gives failures from to reads bytes piece Memory gave f = (bytes ++ piece, reads, gave)
+feed_source rules gives failures from to reads bytes piece Read gave f = absurd f
+feed_source rules gives failures from to reads bytes piece Write gave f = absurd f
+feed_source rules gives failures from to reads bytes piece Failed gave f = absurd f
+
+-- a source that ends too early
+pub end_source : {Place U S : Type 0} (rules : Rules Place U) (gives : MayGive S) (failures : S → ℕ) (from to : S) (bytes : List ℕ) (fault : Fault) → GaveAll gives failures from to bytes → (fault ≡ Truncated (length bytes)) × IsTruncated rules bytes → IsSourceFault rules gives failures from to fault
+end_source rules gives failures from to bytes fault gave f = subst (λ (x : Fault). IsSourceFault rules gives failures from to x) (sym f.0) (bytes, gave, refl, f.1)
