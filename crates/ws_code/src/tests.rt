@@ -2,6 +2,7 @@ ghost use Rattle.std.specs.Prelude.{◌≡◌, List, ℕ, length, IfOk};
 ghost use Rattle.ws_code.specs.Device.{GaveAll};
 
 use super::*;
+use arrayvec::ArrayVec;
 use std::alloc::Global;
 use std::test::Fail;
 
@@ -95,4 +96,82 @@ fn a_sink_fails_at_each_write(rt: HostRuntime) {
     }
     assert_eq!(rt; write_whole(&mut StuckSink, b"bytes"), Err(Fault::Write));
     assert_eq!(rt; write_whole(&mut StuckSink, b""), Ok(()));
+}
+
+// The reasons with their numbers and names, as they are printed.
+const REASONS: [(Reason, u8, &[u8]); 45] = [
+    (Reason::BadCommand, 1, b"BadCommand"),
+    (Reason::StraySe, 2, b"StraySe"),
+    (Reason::BadSub, 3, b"BadSub"),
+    (Reason::SubTooLong, 4, b"SubTooLong"),
+    (Reason::LengthBelowHeader, 10, b"LengthBelowHeader"),
+    (Reason::BadType, 11, b"BadType"),
+    (Reason::BadReserved, 12, b"BadReserved"),
+    (Reason::BadVariableLength, 13, b"BadVariableLength"),
+    (Reason::UnknownOpcode, 14, b"UnknownOpcode"),
+    (Reason::TooLong, 15, b"TooLong"),
+    (Reason::TooShort, 16, b"TooShort"),
+    (Reason::NoEscape, 20, b"NoEscape"),
+    (Reason::UnknownCommand, 21, b"UnknownCommand"),
+    (Reason::BadAddress, 24, b"BadAddress"),
+    (Reason::BadSohLength, 25, b"BadSohLength"),
+    (Reason::Resequencing, 26, b"Resequencing"),
+    (Reason::BadEraseList, 27, b"BadEraseList"),
+    (Reason::BadRepeat, 28, b"BadRepeat"),
+    (Reason::BadFormatByte, 29, b"BadFormatByte"),
+    (Reason::StructuredField, 30, b"StructuredField"),
+    (Reason::AlternateSize, 31, b"AlternateSize"),
+    (Reason::SaveRestore, 32, b"SaveRestore"),
+    (Reason::Roll, 33, b"Roll"),
+    (Reason::ErrorCode, 34, b"ErrorCode"),
+    (Reason::ReadScreen, 35, b"ReadScreen"),
+    (Reason::ReadImmediate, 36, b"ReadImmediate"),
+    (Reason::ReadAlternate, 37, b"ReadAlternate"),
+    (Reason::ExtendedAttribute, 38, b"ExtendedAttribute"),
+    (Reason::TransparentData, 39, b"TransparentData"),
+    (
+        Reason::DisplayStructuredField,
+        40,
+        b"DisplayStructuredField",
+    ),
+    (Reason::TooManyFcws, 41, b"TooManyFcws"),
+    (Reason::LeftOutShift, 42, b"LeftOutShift"),
+    (Reason::BadAid, 43, b"BadAid"),
+    (Reason::EndedInside, 44, b"EndedInside"),
+    (Reason::BadAnswerByte, 45, b"BadAnswerByte"),
+    (Reason::BackwardAddress, 50, b"BackwardAddress"),
+    (Reason::PastEnd, 51, b"PastEnd"),
+    (Reason::ZeroLength, 52, b"ZeroLength"),
+    (Reason::FieldPastEnd, 53, b"FieldPastEnd"),
+    (Reason::FieldOverlap, 54, b"FieldOverlap"),
+    (Reason::TableFull, 55, b"TableFull"),
+    (
+        Reason::RecordBeforeNegotiation,
+        60,
+        b"RecordBeforeNegotiation",
+    ),
+    (Reason::UnsupportedTerminal, 61, b"UnsupportedTerminal"),
+    (Reason::UnaskedAnswer, 62, b"UnaskedAnswer"),
+    (Reason::AnswerMismatch, 63, b"AnswerMismatch"),
+];
+
+#[test]
+fn reasons_have_their_numbers_and_names(rt: HostRuntime) {
+    for (reason, number, name) in REASONS {
+        assert_eq!(rt; reason.number(), number);
+        assert_eq!(rt; reason.name(), name);
+    }
+}
+
+#[test]
+fn lists_keep_what_they_hold(rt: HostRuntime) -> Result<(), Fail> {
+    let list = List::of([1u16, 2, 3].to_vec(rt.alloc())?);
+    assert_eq!(rt; list.as_slice(), [1, 2, 3].as_slice());
+    assert_eq!(rt; list.into_inner().as_slice(), [1, 2, 3].as_slice());
+    let mut bytes = ArrayVec::new();
+    bytes.push(0x41);
+    let bytes = ByteList::<4>::of(bytes);
+    assert_eq!(rt; bytes.as_slice(), [0x41].as_slice());
+    assert_eq!(rt; bytes.into_inner().as_slice(), [0x41].as_slice());
+    Ok(())
 }

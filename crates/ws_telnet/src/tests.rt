@@ -1,5 +1,166 @@
 use super::*;
-use std::test::*;
+use arrayvec::ArrayVec;
+use std::alloc::{AllocError, Global};
+use std::process::Abort;
+use std::test::Fail;
+use ws_code::{ByteList, Code, FailingSink, Fault, Push, Reason, VecSink};
+
+// The last token that the bytes bring, or the place at which they are refused and the reason.
+fn last_token(bytes: &[u8]) -> Result<Option<Token>, (usize, Reason)> {
+    let mut tokens = Tokens::start(());
+    let mut last = None;
+    for (at, byte) in bytes.iter().enumerate() {
+        match tokens.push(*byte) {
+            Push::More => {}
+            Push::Unit(token) => {
+                tokens = Tokens::start(());
+                last = Some(token);
+            }
+            Push::Bad(reason) => return Err((at, reason)),
+        }
+    }
+    Ok(last)
+}
+
+// The place at which the bytes are refused, and the reason.
+fn refusal(bytes: &[u8]) -> Option<(usize, Reason)> {
+    last_token(bytes).err()
+}
+
+// IAC SB, the option 18 (hexadecimal), so many bytes 41, and what follows.
+fn begun_sub(alloc: Global, count: usize, end: &[u8]) -> Result<Vec<u8>, AllocError> {
+    let mut bytes = [0xff, 0xfa, 0x18].to_vec(alloc)?;
+    for _ in 0..count {
+        bytes.extend_from_slice(&[0x41])?;
+    }
+    bytes.extend_from_slice(end)?;
+    Ok(bytes)
+}
+
+// The token has the spelling, is read from it, and is written so.
+fn check_spelling(rt: &impl Abort, alloc: Global, token: &Token, wanted: &[u8]) {
+    let mut spelling = ArrayVec::new();
+    spelling.push(0x55);
+    spell(token, &mut spelling);
+    assert_eq!(rt; spelling.as_slice(), wanted, "the spelling of {token:?}");
+    match last_token(wanted) {
+        Ok(Some(read)) => {
+            spell(&read, &mut spelling);
+            assert_eq!(rt;
+                spelling.as_slice(),
+                wanted,
+                "{token:?} is read as {read:?}"
+            );
+        }
+        _ => panic!(rt; "{token:?} isn't read"),
+    }
+    let mut sink = VecSink::new(alloc);
+    assert_eq!(rt; write_token(&mut sink, token), Ok(()));
+    assert_eq!(rt; sink.as_slice(), wanted);
+}
+
+#[test]
+fn bad_tokens(rt: HostRuntime) -> Result<(), Fail> {
+    let rows = [
+        ([0xff, 0x00].as_slice(), 1, Reason::BadCommand),
+        ([0xff, 0xf0].as_slice(), 1, Reason::StraySe),
+        ([0xff, 0xfa, 0x18, 0xff, 0x01].as_slice(), 4, Reason::BadSub),
+    ];
+    for (bytes, at, reason) in rows {
+        assert_eq!(rt; refusal(bytes), Some((at, reason)));
+    }
+    let too_long = begun_sub(rt.alloc(), 65, &[])?;
+    assert_eq!(rt;
+        refusal(too_long.as_slice()),
+        Some((67, Reason::SubTooLong))
+    );
+    let long_by_a_pair = begun_sub(rt.alloc(), 64, &[0xff, 0xff])?;
+    assert_eq!(rt;
+        refusal(long_by_a_pair.as_slice()),
+        Some((68, Reason::SubTooLong))
+    );
+    let longest = begun_sub(rt.alloc(), 64, &[0xff, 0xf0])?;
+    match last_token(longest.as_slice()) {
+        Ok(Some(Token::Telnet(Telnet::Sub(sub)))) => {
+            assert_eq!(rt; sub.option, 0x18);
+            assert_eq!(rt; sub.data_.as_slice(), [0x41; 64].as_slice());
+        }
+        _ => panic!(rt; "no subnegotiation"),
+    }
+    Ok(())
+}
+
+#[test]
+fn spell_ff(rt: HostRuntime) {
+    let mut spelling = ArrayVec::new();
+    spell(&Token::Data(0xff), &mut spelling);
+    assert_eq!(rt; spelling.as_slice(), [0xff, 0xff].as_slice());
+}
+
+#[test]
+fn each_token_has_its_spelling(rt: HostRuntime) {
+    let commands = [
+        (CommandCode::Nop, 0xf1),
+        (CommandCode::DataMark, 0xf2),
+        (CommandCode::Break, 0xf3),
+        (CommandCode::InterruptProcess, 0xf4),
+        (CommandCode::AbortOutput, 0xf5),
+        (CommandCode::AreYouThere, 0xf6),
+        (CommandCode::EraseCharacter, 0xf7),
+        (CommandCode::EraseLine, 0xf8),
+        (CommandCode::GoAhead, 0xf9),
+    ];
+    for (code, byte) in commands {
+        assert_eq!(rt; code.byte(), byte);
+        let token = Token::Telnet(Telnet::Command(code));
+        check_spelling(&rt, rt.alloc(), &token, &[0xff, byte]);
+    }
+    let verbs = [
+        (Verb::Will, 0xfb),
+        (Verb::Wont, 0xfc),
+        (Verb::Do, 0xfd),
+        (Verb::Dont, 0xfe),
+    ];
+    for (verb, byte) in verbs {
+        assert_eq!(rt; verb.byte(), byte);
+        let token = Token::Telnet(Telnet::Option(verb, 0xff));
+        check_spelling(&rt, rt.alloc(), &token, &[0xff, byte, 0xff]);
+    }
+    check_spelling(&rt, rt.alloc(), &Token::Data(0x41), &[0x41]);
+    check_spelling(&rt, rt.alloc(), &Token::Data(0xff), &[0xff, 0xff]);
+    check_spelling(&rt, rt.alloc(), &Token::Eor, &[0xff, 0xef]);
+    let mut content = ArrayVec::new();
+    content.push(0x00);
+    content.push(0xff);
+    content.push(0x41);
+    let sub = Sub {
+        option: 0x18,
+        data_: ByteList::of(content),
+    };
+    let wanted = [0xff, 0xfa, 0x18, 0x00, 0xff, 0xff, 0x41, 0xff, 0xf0];
+    check_spelling(
+        &rt,
+        rt.alloc(),
+        &Token::Telnet(Telnet::Sub(sub)),
+        wanted.as_slice(),
+    );
+}
+
+#[test]
+fn a_token_is_cut_where_the_sink_fails(rt: HostRuntime) {
+    let token = Token::Telnet(Telnet::Option(Verb::Do, 0x19));
+    for writes in 0..4usize {
+        let mut sink = FailingSink::new(rt.alloc(), writes as u64);
+        let written = write_token(&mut sink, &token);
+        assert_eq!(rt; sink.as_slice(), &[0xff, 0xfd, 0x19][..writes]);
+        let wanted = if writes < 3 {
+            Err(Fault::Write)
+        } else {
+            Ok(())
+        };
+        assert_eq!(rt; written, wanted, "after {writes}");
+    }
+}
 
 #[test]
 fn subnegotiation_limit(rt: HostRuntime) {

@@ -1,9 +1,11 @@
-ghost use Rattle.std.specs.Prelude.{◌≡◌, ◌++◌, ◌∷◌, ◌+◌, ◌*◌, ◌≤◌, [], length};
+ghost use Rattle.std.specs.Prelude.{◌≡◌, ◌++◌, ◌∷◌, ◌+◌, ◌*◌, ◌≤◌, [], length, OnOk, IfErr};
 ghost use Rattle.std.specs.List.{flat_map};
+ghost use Rattle.ws_code.specs.Device.{WentOut, FailedWithin};
 ghost use Rattle.ws_telnet.specs.Token.{doubled, telnet_spelling, token_spelling};
 
 use crate::{Telnet, Token};
 use arrayvec::ArrayVec;
+use ws_code::{Fault, Sink, write_whole};
 
 /// Replaces what the list held by the token's spelling (RFC 854; EOR: RFC 885).
 pub fn spell(token: &Token, into: &mut ArrayVec<u8, 133>)
@@ -18,6 +20,20 @@ pub fn spell(token: &Token, into: &mut ArrayVec<u8, 133>)
         }
         Token::Telnet(telnet) => spell_telnet(telnet, into),
     }
+}
+
+/// Writes the token's spelling (RFC 854; EOR: RFC 885).
+///
+/// `Write` is the only fault: the sink failed, and what went out of the spelling is a prefix of it.
+pub fn write_token<S: Sink>(sink: &mut S, token: &Token) -> Result<(), Fault>
+    ensures ok { OnOk result (WentOut S.takes S.failures sink.old sink.new
+        (token_spelling token.now)) }
+    ensures err { IfErr result (λ fault. (fault ≡ Fault.Write)
+        × FailedWithin S.takes S.failures sink.old sink.new (token_spelling token.now)) }
+{
+    let mut spelling = ArrayVec::new();
+    spell(token, &mut spelling);
+    write_whole(sink, spelling.as_slice())
 }
 
 fn spell_telnet(telnet: &Telnet, into: &mut ArrayVec<u8, 133>)
