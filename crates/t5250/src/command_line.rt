@@ -1,0 +1,63 @@
+use crate::fault::{CommandFault, RunFault};
+use clap::error::ErrorKind;
+use clap::{Arg, ArgAction, Command, value_parser};
+use std::alloc::Global;
+use std::convert::AsStr;
+use std::rt::Env;
+use std::{env, io};
+
+/// What a command line asks for.
+#[derive(Clone, Copy, Debug, PartialEq, Eq)]
+pub enum Asked<'a> {
+    /// To check the bytes of a hex text, from the file or from standard input, in pieces of `cut` bytes.
+    Check { file: Option<&'a str>, cut: u16 },
+}
+
+// The commands that the program knows.
+fn program<'a>(alloc: Global) -> Result<Command<'a>, clap::Error> {
+    let cut = Arg::new(alloc, "cut")
+        .long("cut")
+        .value_name("N")
+        .value_parser(value_parser!(u16).range(1..=65535))
+        .action(ArgAction::Set);
+    let file = Arg::new(alloc, "FILE").action(ArgAction::Set);
+    let check = Command::new(alloc, "check").arg(cut)?.arg(file)?;
+    let program = Command::new(alloc, "t5250")
+        .subcommand_required(true)
+        .subcommand(check)?;
+    Ok(program)
+}
+
+// The fault of words that the program can't even take as text.
+fn no_text(alloc: Global) -> Result<clap::Error, clap::Error> {
+    let mut program = program(alloc)?;
+    let error = program.error(ErrorKind::InvalidValue, "a word isn't UTF-8")?;
+    Ok(error)
+}
+
+/// The words of the command line, the program's name first.
+pub fn given_words<R: Env + AllocGlobal>(rt: &R) -> Result<Vec<String>, CommandFault> {
+    let words = match env::args(rt) {
+        Ok(words) => words.collect(rt.alloc()),
+        Err(error) if error.kind() == io::ErrorKind::OutOfMemory => {
+            return Err(CommandFault::Run(RunFault::Memory));
+        }
+        Err(_) => return Err(CommandFault::Words(no_text(rt.alloc())?)),
+    };
+    words.map_err(|_| CommandFault::Run(RunFault::Memory))
+}
+
+/// What the words ask for, of which the first is the program's name.
+///
+/// Without `--cut` the bytes are read in the largest pieces.
+pub fn read_words<'a, S: AsStr>(alloc: Global, words: &'a [S]) -> Result<Asked<'a>, clap::Error> {
+    let mut program = program(alloc)?;
+    let matches = program.try_get_matches_from_mut(words)?;
+    match matches.subcommand() {
+        Some(("check", check)) => Ok(Asked::Check {
+            file: check.get_str("FILE"),
+            cut: check.get_one::<u16>("cut").unwrap_or(u16::MAX),
+        }),
+        _ => Err(program.error(ErrorKind::MissingSubcommand, "no subcommand")?),
+    }
+}

@@ -1,0 +1,62 @@
+//! The program `t5250`, which checks recorded 5250 streams (RFC 1205).
+//!
+//! Its status is 0 where a stream is accepted, 1 where it is refused or truncated, and 2 on a fault. A fault
+//! is one line on standard error, or the text of `clap` for a wrong command line. Faults are looked for in this
+//! order: the command line, reading, hex text, and then those met in running.
+#![tactic(auto)]
+
+mod check;
+mod command_line;
+mod fault;
+mod hex_text;
+mod input;
+#[cfg(test)]
+mod tests;
+
+use crate::check::run_check;
+use crate::command_line::{Asked, given_words, read_words};
+use crate::fault::{CommandFault, RunFault};
+use crate::hex_text::hex_bytes;
+use crate::input::read_input;
+use std::io;
+use std::process::ExitCode;
+use std::rt::Runtime;
+use ws_code::WriteSink;
+
+// What the program was asked for: true where all was accepted.
+fn run<R: Runtime + AllocGlobal>(rt: &R, asked: Asked<'_>) -> Result<bool, RunFault> {
+    match asked {
+        Asked::Check { file, cut } => {
+            let text = read_input(rt, file)?;
+            let bytes = hex_bytes(rt.alloc(), text.as_slice())?;
+            let mut sink = WriteSink::new(io::writer(rt));
+            Ok(run_check(bytes.as_slice(), cut, &mut sink)?)
+        }
+    }
+}
+
+// Reads the command line and does what it asks for.
+fn read_and_run<R: Runtime + AllocGlobal>(rt: &R) -> Result<bool, CommandFault> {
+    let words = given_words(rt)?;
+    let asked = read_words(rt.alloc(), words.as_slice())?;
+    Ok(run(rt, asked)?)
+}
+
+fn main(rt: HostRuntime) -> ExitCode {
+    match read_and_run(&rt) {
+        Ok(true) => ExitCode::SUCCESS,
+        Ok(false) => ExitCode::FAILURE,
+        Err(CommandFault::Words(error)) => {
+            let _ = error.print(&rt);
+            if error.use_stderr() {
+                ExitCode::from(2)
+            } else {
+                ExitCode::SUCCESS
+            }
+        }
+        Err(CommandFault::Run(fault)) => {
+            let _ = eprintln!(rt; "{fault}");
+            ExitCode::from(2)
+        }
+    }
+}
