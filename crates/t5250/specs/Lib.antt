@@ -1,1 +1,3 @@
+pub mod CheckLine
+pub mod Checking
 pub mod HexText

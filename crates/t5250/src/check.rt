@@ -1,8 +1,114 @@
-use ws_code::{Fault, Sink};
+ghost use Rattle.std.specs.Prelude.{◌≡◌, ◌≢◌, ◌++◌, ◌+◌, ◌-◌, ◌∷◌, [], min, ◌<◌, ◌^◌, List as Seq, ℕ, length, IfOk, IfErr, OnOk};
+ghost use Rattle.ws_record.specs.Receiver.{IsFeedFault};
+ghost use Rattle.t5250.specs.CheckLine.{IsVerdict, is_accepted, line_of};
+ghost use Rattle.t5250.specs.declared.verdict.Verdict.{Verdict};
+ghost use Rattle.ws_code.specs.Device.{WentOut};
+ghost use Rattle.t5250.specs.Checking.{Counts, IsCheckFault, verdict_by};
 
-/// Writes whether the bytes are accepted, refused or truncated: true where they are accepted.
+use std::alloc::Global;
+use ws_code::{Body, Fault, Sink, write_whole};
+use ws_record::{Item, Receiver};
+
+use crate::verdict::Verdict;
+
+/// The items that a receiver has given.
+struct Tally {
+    records: u64,
+    commands: u64,
+}
+
+impl Tally {
+    ghost use Rattle.t5250.specs.CheckLine.{record_count, command_count};
+
+    fn count<U>(&mut self, item: &Item<U>)
+        ensures records { self.new.records ≡ min (self.old.records + record_count (item.now ∷ [])) (2 ^ 64 - 1) }
+        ensures commands { self.new.commands ≡ min (self.old.commands + command_count (item.now ∷ [])) (2 ^ 64 - 1) }
+    {
+        match item {
+            Item::Record(_) => self.records = self.records.saturating_add(1),
+            Item::Telnet(_) => self.commands = self.commands.saturating_add(1),
+        }
+    }
+}
+
+/// Writes whether the bytes are accepted, refused or truncated, in one line: true where they are accepted.
 ///
-/// `cut` is the size of the pieces in which they are read, and doesn't change what is written.
-pub fn run_check<S: Sink>(_bytes: &[u8], _cut: u16, _sink: &mut S) -> Result<bool, Fault> {
-    Ok(true)
+/// `cut` is the size of the pieces in which they are read, and doesn't change what is written. `Memory`
+/// where a growth was refused, and then nothing was written; `Write` where the sink failed.
+pub fn check_to<B: Body, S: Sink>(
+    alloc: Global,
+    bytes: &[u8],
+    cut: u16,
+    sink: &mut S,
+) -> Result<bool, Fault>
+    requires { cut ≢ 0 }
+    ensures printed { IfOk result (λ accepted. (verdict : Verdict) × IsVerdict B.rules bytes.now verdict
+        × (accepted ≡ is_accepted verdict)
+        × WentOut S.takes S.failures sink.old sink.new (line_of verdict (length bytes.now))) }
+    ensures fault { IfErr result
+        (λ fault. IsCheckFault B.rules S.takes S.failures sink.old sink.new bytes.now fault) }
+{
+    let verdict = verdict_of::<B>(alloc, bytes, cut)?;
+    let line = match verdict.line(alloc, bytes.len()) {
+        Ok(line) => line,
+        Err(_) => return Err(Fault::Memory),
+    };
+    write_whole(sink, line.as_str().as_bytes())?;
+    Ok(verdict.is_accepted())
+}
+
+// What holds of the bytes, read in pieces of a size.
+fn verdict_of<B: Body>(alloc: Global, bytes: &[u8], cut: u16) -> Result<Verdict, Fault>
+    requires { cut ≢ 0 }
+    ensures verdict { IfOk result (λ verdict. IsVerdict B.rules bytes.now verdict) }
+    ensures fault { IfErr result (λ fault. fault ≡ Fault.Memory) }
+{
+    let mut receiver = Receiver::<B>::new(alloc);
+    let mut tally = Tally { records: 0, commands: 0 };
+    let mut at = 0;
+    while at < bytes.len() {
+        let end = bytes.len().min(at + usize::from(cut));
+        if let Err(fault) = feed_piece(&mut receiver, &bytes[at..end], &mut tally) {
+            return refusal(fault);
+        }
+        at = end;
+    }
+    match receiver.finish() {
+        Ok(()) => Ok(Verdict::Accepted { records: tally.records, commands: tally.commands }),
+        Err(fault) => refusal(fault),
+    }
+}
+
+// The verdict that a fault of a receiver says.
+fn refusal(fault: Fault) -> Result<Verdict, Fault>
+    ensures { result ≡ verdict_by fault }
+{
+    match fault {
+        Fault::Refused { place, reason } => Ok(Verdict::Refused { place, reason }),
+        Fault::Truncated { at } => Ok(Verdict::Truncated { at }),
+        other => Err(other),
+    }
+}
+
+// Feeds a whole piece, and counts the items that are complete with its bytes.
+fn feed_piece<B: Body>(
+    receiver: &mut Receiver<B>,
+    piece: &[u8],
+    tally: &mut Tally,
+) -> Result<(), Fault>
+    ensures counts { OnOk result ((bytes : Seq ℕ) → Counts B.rules receiver.old tally.old bytes
+        → length bytes + length piece.now + 1 < 2 ^ 64
+        → Counts B.rules receiver.new tally.new (bytes ++ piece.now)) }
+    ensures fault { IfErr result (λ fault. (bytes : Seq ℕ) → Counts B.rules receiver.old tally.old bytes
+        → length bytes + length piece.now + 1 < 2 ^ 64 → IsFeedFault B.rules bytes piece.now fault) }
+{
+    let mut rest = piece;
+    while !rest.is_empty() {
+        let fed = receiver.feed(rest)?;
+        if let Some(item) = &fed.item {
+            tally.count(item);
+        }
+        rest = &rest[fed.used..];
+    }
+    Ok(())
 }

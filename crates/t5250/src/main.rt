@@ -10,10 +10,11 @@ mod command_line;
 mod fault;
 mod hex_text;
 mod input;
+mod verdict;
 #[cfg(test)]
 mod tests;
 
-use crate::check::run_check;
+use crate::check::check_to;
 use crate::command_line::{Asked, given_words, read_words};
 use crate::fault::{CommandFault, RunFault};
 use crate::hex_text::hex_bytes;
@@ -22,6 +23,7 @@ use std::io;
 use std::process::ExitCode;
 use std::rt::Runtime;
 use ws_code::WriteSink;
+use ws_record::RawBody;
 
 // What the program was asked for: true where all was accepted.
 fn run<R: Runtime + AllocGlobal>(rt: &R, asked: Asked<'_>) -> Result<bool, RunFault> {
@@ -30,7 +32,7 @@ fn run<R: Runtime + AllocGlobal>(rt: &R, asked: Asked<'_>) -> Result<bool, RunFa
             let text = read_input(rt, file)?;
             let bytes = hex_bytes(rt.alloc(), text.as_slice())?;
             let mut sink = WriteSink::new(io::writer(rt));
-            Ok(run_check(bytes.as_slice(), cut, &mut sink)?)
+            Ok(check_to::<RawBody, _>(rt.alloc(), bytes.as_slice(), cut, &mut sink)?)
         }
     }
 }

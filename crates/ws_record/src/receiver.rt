@@ -1,4 +1,4 @@
-ghost use Rattle.std.specs.Prelude.{◌≡◌, ◌++◌, ◌∷◌, ◌+◌, ◌<◌, ◌≤◌, ◌^◌, [], List as Seq, ℕ, true, length, take, IfOk, IfErr, IfNone, OnOk, OnErr};
+ghost use Rattle.std.specs.Prelude.{◌≡◌, ◌++◌, ◌∷◌, ◌+◌, ◌<◌, ◌≤◌, ◌^◌, [], List as Seq, ℕ, true, length, take, IfOk, IfErr, IfNone, IfSome, OnOk, OnErr};
 ghost use Rattle.ws_record.specs.declared.record.Item.{Item};
 ghost use Rattle.ws_record.specs.Grammar.{Accepts, Holds};
 ghost use Rattle.ws_record.specs.Refusal.{IsTruncated};
@@ -129,6 +129,7 @@ impl<B: Body> Receiver<B> {
     pub fn feed(&mut self, piece: &[u8]) -> Result<Fed<B::Unit>, Fault>
         ensures used { IfOk result (λ fed. fed.used ≤ length piece.now) }
         ensures whole { IfOk result (λ fed. IfNone fed.item (fed.used ≡ length piece.now)) }
+        ensures some { IfOk result (λ fed. IfSome fed.item (λ _. 0 < fed.used)) }
         // The items given are those complete in the bytes taken.
         ensures taken { IfOk result (λ fed. (bytes : Seq ℕ) (items : Seq (Item B.Unit))
             → Taken B.rules self.old bytes items → length bytes + length piece.now + 1 < 2 ^ 64

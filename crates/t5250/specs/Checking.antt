@@ -1,0 +1,34 @@
+use Rattle.std.specs.Prelude.{◌≡◌, ℕ, ◌+◌, ◌≤◌, List, length, Result, Ok, Err}
+use Rattle.ws_code.specs.Code.{Rules}
+use Rattle.ws_code.specs.Device.{MayTake, FailedWithin}
+use Rattle.ws_code.specs.declared.fault.Fault.{Fault}
+use Rattle.ws_code.specs.declared.fault.Fault.TheVariants.{Refused, Truncated, Memory, Read, Write, Failed}
+use Rattle.ws_record.specs.declared.record.Item.{Item}
+use Rattle.ws_record.specs.Receiver.{Receiving, Taken}
+use Rattle.t5250.specs.declared.check.Tally.{Tally}
+use Rattle.t5250.specs.declared.verdict.Verdict.{Verdict}
+use Rattle.t5250.specs.declared.verdict.Verdict.TheVariants as verdicts
+use Rattle.t5250.specs.CheckLine.{IsVerdict, line_of, record_count, command_count}
+
+-- the bytes lead to the receiver, and the tally is of the items that it has given
+pub record Counts {Place U : Type 0} (rules : Rules Place U) (receiver : Receiving Place U) (tally : Tally) (bytes : List ℕ) : Type 0 where
+  pub items : List (Item U)
+  pub taken : Taken rules receiver bytes items
+  pub records : tally.records ≡ record_count items
+  pub commands : tally.commands ≡ command_count items
+  pub few : tally.records + tally.commands ≤ length bytes
+
+-- the verdict that a receiver's fault is, where it is one
+abbrev pub verdict_by : Fault → Result Verdict Fault
+verdict_by (Refused place reason) = Ok (verdicts.Refused place reason)
+verdict_by (Truncated at) = Ok (verdicts.Truncated at)
+verdict_by Memory = Err Memory
+verdict_by Read = Err Read
+verdict_by Write = Err Write
+verdict_by Failed = Err Failed
+
+-- what a check answers where it doesn't print its line: nothing went out, or a part of the line
+abbrev pub IsCheckFault : {Place U S : Type 0} → Rules Place U → MayTake S → (S → ℕ) → S → S → List ℕ → Fault → Type 0
+IsCheckFault rules takes failures from to bytes Memory = to ≡ from
+IsCheckFault rules takes failures from to bytes Write = (verdict : Verdict) × IsVerdict rules bytes verdict × FailedWithin takes failures from to (line_of verdict (length bytes))
+IsCheckFault rules takes failures from to bytes fault = ⊥
