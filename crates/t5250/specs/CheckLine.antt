@@ -33,6 +33,6 @@ is_accepted (Truncated n) = false
 
 -- the line that says it, of so many bytes
 abbrev pub line_of : Verdict → ℕ → List ℕ
-line_of (Accepted records commands) size = codes "accepted: " ++ decimal records ++ codes " records, " ++ decimal commands ++ codes " commands, " ++ decimal size ++ codes " bytes" ++ 10 ∷ []
+line_of (Accepted records commands) size = codes "accepted: " ++ decimal records ++ codes " records, " ++ decimal commands ++ codes " commands, " ++ decimal size ++ (codes " bytes" ++ 10 ∷ [])
 line_of (Refused place reason) size = codes "refused at " ++ decimal place ++ codes ": reason " ++ decimal (number_of reason) ++ codes " " ++ name_of reason ++ 10 ∷ []
 line_of (Truncated n) size = codes "truncated at " ++ decimal n ++ 10 ∷ []

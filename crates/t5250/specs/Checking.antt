@@ -1,14 +1,21 @@
-use Rattle.std.specs.Prelude.{◌≡◌, ℕ, ◌+◌, ◌≤◌, List, length, Result, Ok, Err}
+use Rattle.std.specs.Prelude.{◌≡◌, ℕ, ◌+◌, ◌-◌, ◌^◌, ◌≤◌, min, List, length, Option, Some, None, Result, Ok, Err}
 use Rattle.ws_code.specs.Code.{Rules}
 use Rattle.ws_code.specs.Device.{MayTake, FailedWithin}
 use Rattle.ws_code.specs.declared.fault.Fault.{Fault}
 use Rattle.ws_code.specs.declared.fault.Fault.TheVariants.{Refused, Truncated, Memory, Read, Write, Failed}
 use Rattle.ws_record.specs.declared.record.Item.{Item}
+use Rattle.ws_record.specs.declared.record.Item.TheVariants.{Record, Telnet}
 use Rattle.ws_record.specs.Receiver.{Receiving, Taken}
 use Rattle.t5250.specs.declared.check.Tally.{Tally}
 use Rattle.t5250.specs.declared.verdict.Verdict.{Verdict}
 use Rattle.t5250.specs.declared.verdict.Verdict.TheVariants as verdicts
 use Rattle.t5250.specs.CheckLine.{IsVerdict, line_of, record_count, command_count}
+
+-- the tally after one item more, where there is one
+abbrev pub tally_after : {U : Type 0} → Tally → Option (Item U) → Tally
+tally_after tally None = tally
+tally_after tally (Some (Record r)) = record tally { records = min (tally.records + 1) (2 ^ 64 - 1) }
+tally_after tally (Some (Telnet t)) = record tally { commands = min (tally.commands + 1) (2 ^ 64 - 1) }
 
 -- the bytes lead to the receiver, and the tally is of the items that it has given
 pub record Counts {Place U : Type 0} (rules : Rules Place U) (receiver : Receiving Place U) (tally : Tally) (bytes : List ℕ) : Type 0 where

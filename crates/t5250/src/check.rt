@@ -1,32 +1,33 @@
-ghost use Rattle.std.specs.Prelude.{◌≡◌, ◌≢◌, ◌++◌, ◌+◌, ◌-◌, ◌∷◌, [], min, ◌<◌, ◌^◌, List as Seq, ℕ, length, IfOk, IfErr, OnOk};
+ghost use Rattle.std.specs.Prelude.{◌≡◌, ◌≢◌, ◌++◌, ◌+◌, ◌<◌, ◌^◌, List as Seq, ℕ, length, IfOk, IfErr, OnOk};
 ghost use Rattle.ws_record.specs.Receiver.{IsFeedFault};
 ghost use Rattle.t5250.specs.CheckLine.{IsVerdict, is_accepted, line_of};
 ghost use Rattle.t5250.specs.declared.verdict.Verdict.{Verdict};
 ghost use Rattle.ws_code.specs.Device.{WentOut};
 ghost use Rattle.t5250.specs.Checking.{Counts, IsCheckFault, verdict_by};
 
+use crate::verdict::Verdict;
 use std::alloc::Global;
 use ws_code::{Body, Fault, Sink, write_whole};
-use ws_record::{Item, Receiver};
+use ws_record::{Fed, Item, Receiver};
 
-use crate::verdict::Verdict;
-
-/// The items that a receiver has given.
+/// How many items a receiver has given.
+#[derive(Debug, Drop)]
 struct Tally {
     records: u64,
     commands: u64,
 }
 
 impl Tally {
-    ghost use Rattle.t5250.specs.CheckLine.{record_count, command_count};
+    ghost use Rattle.t5250.specs.Checking.{tally_after};
 
-    fn count<U>(&mut self, item: &Item<U>)
-        ensures records { self.new.records ≡ min (self.old.records + record_count (item.now ∷ [])) (2 ^ 64 - 1) }
-        ensures commands { self.new.commands ≡ min (self.old.commands + command_count (item.now ∷ [])) (2 ^ 64 - 1) }
+    // The count stops at its greatest value.
+    fn count<U: Drop>(&mut self, item: Option<Item<U>>)
+        ensures { self.new ≡ tally_after self.old item }
     {
         match item {
-            Item::Record(_) => self.records = self.records.saturating_add(1),
-            Item::Telnet(_) => self.commands = self.commands.saturating_add(1),
+            None => {}
+            Some(Item::Record(_)) => self.records = self.records.saturating_add(1),
+            Some(Item::Telnet(_)) => self.commands = self.commands.saturating_add(1),
         }
     }
 }
@@ -64,7 +65,10 @@ fn verdict_of<B: Body>(alloc: Global, bytes: &[u8], cut: u16) -> Result<Verdict,
     ensures fault { IfErr result (λ fault. fault ≡ Fault.Memory) }
 {
     let mut receiver = Receiver::<B>::new(alloc);
-    let mut tally = Tally { records: 0, commands: 0 };
+    let mut tally = Tally {
+        records: 0,
+        commands: 0,
+    };
     let mut at = 0;
     while at < bytes.len() {
         let end = bytes.len().min(at + usize::from(cut));
@@ -74,7 +78,10 @@ fn verdict_of<B: Body>(alloc: Global, bytes: &[u8], cut: u16) -> Result<Verdict,
         at = end;
     }
     match receiver.finish() {
-        Ok(()) => Ok(Verdict::Accepted { records: tally.records, commands: tally.commands }),
+        Ok(()) => Ok(Verdict::Accepted {
+            records: tally.records,
+            commands: tally.commands,
+        }),
         Err(fault) => refusal(fault),
     }
 }
@@ -104,11 +111,9 @@ fn feed_piece<B: Body>(
 {
     let mut rest = piece;
     while !rest.is_empty() {
-        let fed = receiver.feed(rest)?;
-        if let Some(item) = &fed.item {
-            tally.count(item);
-        }
-        rest = &rest[fed.used..];
+        let Fed { used, item } = receiver.feed(rest)?;
+        tally.count(item);
+        rest = &rest[used..];
     }
     Ok(())
 }

@@ -10,9 +10,9 @@ mod command_line;
 mod fault;
 mod hex_text;
 mod input;
-mod verdict;
 #[cfg(test)]
 mod tests;
+mod verdict;
 
 use crate::check::check_to;
 use crate::command_line::{Asked, given_words, read_words};
@@ -32,6 +32,8 @@ fn run<R: Runtime + AllocGlobal>(rt: &R, asked: Asked<'_>) -> Result<bool, RunFa
             let text = read_input(rt, file)?;
             let bytes = hex_bytes(rt.alloc(), text.as_slice())?;
             let mut sink = WriteSink::new(io::writer(rt));
+            // The command line lets no 0 through.
+            let cut = cut.max(1);
             Ok(check_to::<RawBody, _>(rt.alloc(), bytes.as_slice(), cut, &mut sink)?)
         }
     }

@@ -1,6 +1,9 @@
+use crate::check::check_to;
 use crate::command_line::{Asked, read_words};
 use crate::hex_text::{TextFault, hex_bytes};
 use std::test::Fail;
+use ws_code::VecSink;
+use ws_record::RawBody;
 
 #[test]
 fn hex_texts(rt: HostRuntime) -> Result<(), Fail> {
@@ -49,6 +52,45 @@ fn command_lines(rt: HostRuntime) -> Result<(), Fail> {
         match read_words(rt.alloc(), words) {
             Err(error) => assert!(rt; error.use_stderr(), "{words:?}"),
             Ok(asked) => panic!(rt; "{words:?} asks for {asked:?}"),
+        }
+    }
+    Ok(())
+}
+
+// The line that is written of a stream, in pieces of every size up to its own, and the status.
+#[test]
+fn check_lines(rt: HostRuntime) -> Result<(), Fail> {
+    let rows: [(&[u8], &str, bool); 7] = [
+        (b"", "accepted: 0 records, 0 commands, 0 bytes\n", true),
+        (
+            b"\xff\xf1",
+            "accepted: 0 records, 1 commands, 2 bytes\n",
+            true,
+        ),
+        (
+            b"\x00\x0a\x12\xa0\x00\x00\x04\x00\x00\x01\xff\xef",
+            "accepted: 1 records, 0 commands, 12 bytes\n",
+            true,
+        ),
+        (
+            b"\x00\x0a\x12\xa0\x00\x00\x04\x00\x00\x01\xff\xef\x00\x0a\x12\xa0\x00\x00\x04\x00\x00\x01\xff\xef",
+            "accepted: 2 records, 0 commands, 24 bytes\n",
+            true,
+        ),
+        (
+            b"\x00\x09",
+            "refused at 1: reason 10 LengthBelowHeader\n",
+            false,
+        ),
+        (b"\xff\x00", "refused at 1: reason 1 BadCommand\n", false),
+        (b"\x00\x0a\x12", "truncated at 3\n", false),
+    ];
+    for (bytes, wanted, accepted) in rows {
+        for cut in 1..26u16 {
+            let mut sink = VecSink::new(rt.alloc());
+            let found = check_to::<RawBody, _>(rt.alloc(), bytes, cut, &mut sink);
+            assert_eq!(rt; found, Ok(accepted), "{wanted}");
+            assert_eq!(rt; sink.as_slice(), wanted.as_bytes());
         }
     }
     Ok(())

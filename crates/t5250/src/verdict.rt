@@ -32,7 +32,9 @@ impl Verdict {
     {
         match self {
             Verdict::Accepted { records, commands } => {
-                format!(in alloc; "accepted: {records} records, {commands} commands, {size} bytes\n")
+                format!(in alloc;
+                    "accepted: {records} records, {commands} commands, {size} bytes\n"
+                )
             }
             Verdict::Refused { place, reason } => {
                 let number = reason.number();

@@ -129,11 +129,7 @@ const REASONS: [(Reason, u8, &str); 45] = [
     (Reason::ReadAlternate, 37, "ReadAlternate"),
     (Reason::ExtendedAttribute, 38, "ExtendedAttribute"),
     (Reason::TransparentData, 39, "TransparentData"),
-    (
-        Reason::DisplayStructuredField,
-        40,
-        "DisplayStructuredField",
-    ),
+    (Reason::DisplayStructuredField, 40, "DisplayStructuredField"),
     (Reason::TooManyFcws, 41, "TooManyFcws"),
     (Reason::LeftOutShift, 42, "LeftOutShift"),
     (Reason::BadAid, 43, "BadAid"),

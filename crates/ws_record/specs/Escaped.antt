@@ -6,8 +6,14 @@ use Rattle.ws_code.specs.declared.reason.Reason.TheVariants.{NoEscape}
 -- every byte is a unit, at the first place 04 alone, and every list may end
 abbrev pub escaped_rules : Rules Bool ℕ
 escaped_rules = record {
-  first = true; after = λ _. false; is_unit = λ b. b < 256; may_stand = λ first b. not first || (b == 0x04); may_end = λ _. true;
-  spelling = λ b. b ∷ []; reason = λ _ _ _. NoEscape }
+  first = true;
+  after = λ _. false;
+  is_unit = λ b. b < 256;
+  may_stand = λ first b. not first || (b == 0x04);
+  may_end = λ _. true;
+  spelling = λ b. b ∷ [];
+  reason = λ _ _ _. NoEscape;
+}
 
 pub escaped_nonempty : (b : ℕ) → b < 256 → escaped_rules.spelling b ≢ []
 escaped_nonempty b h e = cc

@@ -12,15 +12,21 @@ pub struct Escaped {
 
 impl Code for Escaped {
     type Unit = u8;
+
     type Place = bool;
 
     ghost rules = { escaped_rules };
+
     ghost place = { λ e. e.is_first };
+
     ghost unfinished = { λ _. [] };
 
     ghost nonempty = { escaped_nonempty };
+
     ghost bytes = { λ b h. (h, tt) };
+
     ghost prefix_free = { escaped_prefix_free };
+
     ghost begins = { escaped_begins };
 
     fn first() -> bool {

@@ -1,10 +1,8 @@
 use super::*;
-
+use crate::escaped::Escaped;
 use std::alloc::{AllocError, Global};
 use std::test::Fail;
 use ws_code::{Body, Fault};
-
-use crate::escaped::Escaped;
 
 type Row<'a> = (&'a str, &'a [u8], &'a str);
 
@@ -53,7 +51,11 @@ fn steps_told<B: Body>(alloc: Global, bytes: &[u8]) -> Result<String, AllocError
         let step = match live.push(*byte) {
             Step::More => continue,
             Step::Open(head) => {
-                let Head { flags, opcode, length } = head;
+                let Head {
+                    flags,
+                    opcode,
+                    length,
+                } = head;
                 let opcode = opcode.byte();
                 format!(in alloc; "{at} open {flags:04x} {opcode} {length};")?
             }
@@ -81,14 +83,22 @@ fn fed_told(alloc: Global, bytes: &[u8], size: usize) -> Result<String, AllocErr
         if rest.is_empty() {
             break;
         }
-        let piece = if size < rest.len() { &rest[..size] } else { rest };
+        let piece = if size < rest.len() {
+            &rest[..size]
+        } else {
+            rest
+        };
         match receiver.feed(piece) {
             Ok(fed) => {
                 if let Some(item) = &fed.item {
                     text.push_str(item_told(alloc, item)?.as_str())?;
                 }
                 sum = sum.wrapping_add(fed.used as u64);
-                rest = if fed.used < rest.len() { &rest[fed.used..] } else { &[] };
+                rest = if fed.used < rest.len() {
+                    &rest[fed.used..]
+                } else {
+                    &[]
+                };
             }
             Err(fault) => {
                 text.push_str(fault_told(alloc, fault)?.as_str())?;
@@ -107,7 +117,11 @@ fn fed_told(alloc: Global, bytes: &[u8], size: usize) -> Result<String, AllocErr
 const WHOLE: [Row; 22] = [
     ("empty-stream", b"", ""),
     ("empty-stream, a command", b"\xff\xf1", "Command(Nop);"),
-    ("invite", b"\x00\x0a\x12\xa0\x00\x00\x04\x00\x00\x01\xff\xef", "0000 1 [];"),
+    (
+        "invite",
+        b"\x00\x0a\x12\xa0\x00\x00\x04\x00\x00\x01\xff\xef",
+        "0000 1 [];",
+    ),
     (
         "put-ff",
         b"\x00\x0f\x12\xa0\x00\x00\x04\x00\x00\x03\x04\x11\x00\x08\xff\xff\xff\xef",
@@ -115,7 +129,11 @@ const WHOLE: [Row; 22] = [
     ),
     ("header-too-early, length", b"\x00\x09", "refused at 1: 10"),
     ("header-too-early, end", b"\xff\xef", "refused at 1: 16"),
-    ("header-too-early, three bytes", b"\x00\x0a\x12", "truncated at 3"),
+    (
+        "header-too-early, three bytes",
+        b"\x00\x0a\x12",
+        "truncated at 3",
+    ),
     ("header-too-early, half a pair", b"\xff", "truncated at 1"),
     (
         "one-byte-short",
@@ -134,7 +152,11 @@ const WHOLE: [Row; 22] = [
     ),
     ("bad-tokens, command", b"\xff\x00", "refused at 1: 1"),
     ("bad-tokens, stray end", b"\xff\xf0", "refused at 1: 2"),
-    ("bad-tokens, subnegotiation", b"\xff\xfa\x18\xff\x01", "refused at 4: 3"),
+    (
+        "bad-tokens, subnegotiation",
+        b"\xff\xfa\x18\xff\x01",
+        "refused at 4: 3",
+    ),
     (
         "data-past-the-length",
         b"\x00\x0a\x12\xa0\x00\x00\x04\x00\x00\x00\x41",
@@ -151,10 +173,26 @@ const WHOLE: [Row; 22] = [
         "Sub(Sub { option: 24, data_: ByteList { bytes: [1] } });0000 3 [65];",
     ),
     ("a wrong type", b"\x00\x0a\x13", "refused at 2: 11"),
-    ("a wrong type's second byte", b"\x00\x0a\x12\xa1", "refused at 3: 11"),
-    ("reserved bytes", b"\x00\x0a\x12\xa0\x00\x01", "refused at 5: 12"),
-    ("a variable header", b"\x00\x0a\x12\xa0\x00\x00\x05", "refused at 6: 13"),
-    ("no opcode", b"\x00\x0a\x12\xa0\x00\x00\x04\x00\x00\x07", "refused at 9: 14"),
+    (
+        "a wrong type's second byte",
+        b"\x00\x0a\x12\xa1",
+        "refused at 3: 11",
+    ),
+    (
+        "reserved bytes",
+        b"\x00\x0a\x12\xa0\x00\x01",
+        "refused at 5: 12",
+    ),
+    (
+        "a variable header",
+        b"\x00\x0a\x12\xa0\x00\x00\x05",
+        "refused at 6: 13",
+    ),
+    (
+        "no opcode",
+        b"\x00\x0a\x12\xa0\x00\x00\x04\x00\x00\x07",
+        "refused at 9: 14",
+    ),
 ];
 
 #[test]
@@ -214,13 +252,21 @@ fn length_255(rt: HostRuntime) -> Result<(), Fail> {
 #[test]
 fn another_body(rt: HostRuntime) -> Result<(), Fail> {
     let rows: [Row; 3] = [
-        ("no unit", b"\x00\x0a\x12\xa0\x00\x00\x04\x00\x00\x01\xff\xef", "0000 1 [];"),
+        (
+            "no unit",
+            b"\x00\x0a\x12\xa0\x00\x00\x04\x00\x00\x01\xff\xef",
+            "0000 1 [];",
+        ),
         (
             "04 first",
             b"\x00\x0c\x12\xa0\x00\x00\x04\x00\x00\x03\x04\xc1\xff\xef",
             "0000 3 [4, 193];",
         ),
-        ("another first", b"\x00\x0b\x12\xa0\x00\x00\x04\x00\x00\x03\xc1", "refused at 10: 20"),
+        (
+            "another first",
+            b"\x00\x0b\x12\xa0\x00\x00\x04\x00\x00\x03\xc1",
+            "refused at 10: 20",
+        ),
     ];
     for (row, bytes, wanted) in &rows {
         let found = told(rt.alloc(), decode_all::<Escaped>(rt.alloc(), bytes))?;
@@ -252,8 +298,16 @@ fn live_steps(rt: HostRuntime) -> Result<(), Fail> {
             b"\x00\x0b\x12\xa0\x00\x00\x04\x00\x00\x03\xff\xfa\x18\x01\xff\xf0\x41\xff\xef",
             "9 open 0000 3 11;15 telnet;16 unit;18 close;",
         ),
-        ("live-refusals, length", b"\x00\x09\x00", "1 refused at 1: 10;2 failed;"),
-        ("live-refusals, end", b"\xff\xef\x00", "1 refused at 1: 16;2 failed;"),
+        (
+            "live-refusals, length",
+            b"\x00\x09\x00",
+            "1 refused at 1: 10;2 failed;",
+        ),
+        (
+            "live-refusals, end",
+            b"\xff\xef\x00",
+            "1 refused at 1: 16;2 failed;",
+        ),
         (
             "live-refusals, one-byte-short",
             b"\x00\x0b\x12\xa0\x00\x00\x04\x00\x00\x03\xff\xef\x00",
@@ -264,7 +318,11 @@ fn live_steps(rt: HostRuntime) -> Result<(), Fail> {
             b"\x00\x0a\x12\xa0\x00\x00\x04\x00\x00\x00\xff\xff\x00",
             "9 open 0000 0 10;11 refused at 11: 15;12 failed;",
         ),
-        ("live-refusals, bad-tokens", b"\xff\x00\x00", "1 refused at 1: 1;2 failed;"),
+        (
+            "live-refusals, bad-tokens",
+            b"\xff\x00\x00",
+            "1 refused at 1: 1;2 failed;",
+        ),
     ];
     for (row, bytes, wanted) in &rows {
         let found = steps_told::<RawBody>(rt.alloc(), bytes)?;
@@ -311,7 +369,12 @@ fn pieces_of_every_size(rt: HostRuntime) -> Result<(), Fail> {
 #[test]
 fn failed_after_refusal(rt: HostRuntime) -> Result<(), Fail> {
     let mut receiver = Receiver::<RawBody>::new(rt.alloc());
-    assert!(rt; matches!(receiver.feed(b"\x00\x09"), Err(Fault::Refused { place: 1, .. })));
+    assert!(rt;
+        matches!(
+            receiver.feed(b"\x00\x09"),
+            Err(Fault::Refused { place: 1, .. })
+        )
+    );
     assert!(rt; matches!(receiver.feed(b""), Err(Fault::Failed)));
     assert!(rt; matches!(receiver.feed(b"\x00"), Err(Fault::Failed)));
     assert!(rt; matches!(receiver.finish(), Err(Fault::Failed)));

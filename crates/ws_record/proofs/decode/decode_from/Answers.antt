@@ -30,15 +30,19 @@ returns-in_err-take_all-in-Ok-clause-fault g c =
     let given = take c.in-Ok.given c.read.new.into in
     let gave = gave_more g.S.Source.gives g.S.Source.failures c.args.source.now c.loop.source c.read.new.self c.loop.counter inv.bytes (length c.loop.piece) given inv.gave c.in-Ok.ensures.ok.1 (take_some c.read.new.into c.in-Ok.given c.in-Ok.given-test.1 c.in-Ok.ensures.ok.0) c.in-Ok.ensures.ok.2 in
     rw (p.1, p.2) (feed_source g.B.Code.rules g.S.Source.gives g.S.Source.failures c.args.source.now c.read.new.self (c.loop.counter + 1) inv.bytes given _ gave
-      (c.in_err-take_all-in-Ok.ensures.fault inv.bytes inv.taken (omega (arith, inv.few, length-take-le c.in-Ok.given c.read.new.into c.in-Ok.ensures.ok.0, c.in-Ok.ensures.ok.0))))
+    (c.in_err-take_all-in-Ok.ensures.fault inv.bytes inv.taken (omega (arith, inv.few, length-take-le c.in-Ok.given c.read.new.into c.in-Ok.ensures.ok.0, c.in-Ok.ensures.ok.0))))
 
 pub loop-preserved : goal.loop-preserved
 loop-preserved g c =
     let inv = c.loop.invariant in
     let given = take c.in-Ok.given c.read.new.into in
     let gave = gave_more g.S.Source.gives g.S.Source.failures c.args.source.now c.loop.source c.read.new.self c.loop.counter inv.bytes (length c.loop.piece) given inv.gave c.in-Ok.ensures.ok.1 (take_some c.read.new.into c.in-Ok.given c.in-Ok.given-test.1 c.in-Ok.ensures.ok.0) c.in-Ok.ensures.ok.2 in
-    record { bytes = inv.bytes ++ given; gave = gave; taken = c.in_ok-take_all-in-Ok.ensures.taken inv.bytes inv.taken (omega (arith, inv.few, length-take-le c.in-Ok.given c.read.new.into c.in-Ok.ensures.ok.0, c.in-Ok.ensures.ok.0));
-      few = omega (arith, inv.few, length-append inv.bytes given, length-take-le c.in-Ok.given c.read.new.into c.in-Ok.ensures.ok.0, c.in-Ok.ensures.ok.0) }
+    record {
+      bytes = inv.bytes ++ given;
+      gave = gave;
+      taken = c.in_ok-take_all-in-Ok.ensures.taken inv.bytes inv.taken (omega (arith, inv.few, length-take-le c.in-Ok.given c.read.new.into c.in-Ok.ensures.ok.0, c.in-Ok.ensures.ok.0));
+      few = omega (arith, inv.few, length-append inv.bytes given, length-take-le c.in-Ok.given c.read.new.into c.in-Ok.ensures.ok.0, c.in-Ok.ensures.ok.0);
+    }
 
 pub returns-clause-fault : goal.returns-clause-fault
 returns-clause-fault g c =

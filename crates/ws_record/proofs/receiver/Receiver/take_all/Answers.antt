@@ -14,8 +14,8 @@ returns-in_err-item-clause-fault g c =
     let piece = c.args.piece.now in
     let i = c.loop-byte.byte-index in
     rw (p.1, p.2) (λ bytes t fits.
-      take_feeds g.B.Code.rules bytes piece i _ c.loop-byte-test.true
-        (c.in_err-item.ensures.fault (bytes ++ take i piece) c.loop-byte.items.items (c.loop-byte.invariant bytes t fits) (omega (arith, length-append bytes (take i piece), length-take i piece))))
+    take_feeds g.B.Code.rules bytes piece i _ c.loop-byte-test.true
+    (c.in_err-item.ensures.fault (bytes ++ take i piece) c.loop-byte.items.items (c.loop-byte.invariant bytes t fits) (omega (arith, length-append bytes (take i piece), length-take i piece))))
 
 pub loop-byte-preserved : goal.loop-byte-preserved
 loop-byte-preserved g c = λ bytes t fits.
@@ -27,11 +27,12 @@ loop-byte-preserved g c = λ bytes t fits.
     let to : Option (Item g.row.B-Unit.Denot) → Type 0 = λ o. Taken rules c.take.new.self ((bytes ++ take i piece) ++ get_or piece i 0 ∷ []) (old ++ given o) in
     let same : List (Item g.row.B-Unit.Denot) → Type 0 = λ x. Taken rules c.take.new.self ((bytes ++ take i piece) ++ get_or piece i 0 ∷ []) x in
     taken_next rules c.take.new.self bytes piece c.match-branch-2.items.items i c.loop-byte-test.true (elim c.match-branch-2.branch [
-      in-Some+else-is_err w ↦
-        (let item = w.in-Some.item in
-        let pushed : w.push.new.self.items ≡ old ++ item ∷ [] = w.push.ensures.items ∙ ap (λ (x : Bool). if x then old ++ item ∷ [] else old) (w.is_err.ensures.negation ∙ ap not w.if-is_err.false) in
-        rw (w.items-is, pushed) (subst to w.in-Some.is taken))
-    | in_default w ↦ rw w.items-is (subst same (append-nil old) (subst to w.in_default.is taken)) ])
+      | in-Some+else-is_err w ↦
+          (let item = w.in-Some.item in
+          let pushed : w.push.new.self.items ≡ old ++ item ∷ [] = w.push.ensures.items ∙ ap (λ (x : Bool). if x then old ++ item ∷ [] else old) (w.is_err.ensures.negation ∙ ap not w.if-is_err.false) in
+          rw (w.items-is, pushed) (subst to w.in-Some.is taken))
+      | in_default w ↦ rw w.items-is (subst same (append-nil old) (subst to w.in_default.is taken))
+    ])
 
 pub returns-clause-taken : goal.returns-clause-taken
 returns-clause-taken g c = λ bytes t fits.
