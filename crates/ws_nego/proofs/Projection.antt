@@ -22,7 +22,7 @@ in_flight d = record {
   refused = d.refused;
 }
 
--- no more has after_arrivals than was written
+-- no more has arrived than was written
 pub record IsSound (d : Dialogue) : Type 0 where
   pub at_station : d.at_station ≤ length d.to_station
   pub at_host : d.at_host ≤ length d.to_host

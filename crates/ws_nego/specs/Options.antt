@@ -4,7 +4,7 @@ use Rattle.ws_telnet.specs.Token.{telnet_spelling}
 use Rattle.ws_telnet.specs.declared.token.Verb.{Verb}
 use Rattle.ws_telnet.specs.declared.token.Verb.TheVariants.{Will, Wont, Do, Dont}
 use Rattle.ws_telnet.specs.declared.token.Telnet.{Telnet}
-use Rattle.ws_telnet.specs.declared.token.Telnet.TheVariants.{Option as Negotiate}
+use Rattle.ws_telnet.specs.declared.token.Telnet.TheVariants.{Option as Negotiate, Sub as Subnegotiate}
 use Rattle.ws_nego.specs.declared.options.Direction.{Direction}
 use Rattle.ws_nego.specs.declared.options.Direction.TheVariants.{StationBinary, StationTerminalType, StationEndOfRecord, HostBinary, HostEndOfRecord}
 use Rattle.ws_nego.specs.declared.options.OptionTable.{OptionTable}
@@ -86,6 +86,17 @@ refusal_of Wont = None
 abbrev pub option_tokens : Option Verb → ℕ → List Telnet
 option_tokens None option = []
 option_tokens (Some verb) option = Negotiate verb option ∷ []
+
+-- the subnegotiation of TERMINAL-TYPE with this code and these bytes; the codes are IS and SEND (RFC 1091,
+-- section 2)
+abbrev pub terminal_type_token : ℕ → List ℕ → Telnet
+terminal_type_token code bytes = Subnegotiate (record { option = terminal_type; data_ = code ∷ bytes })
+
+abbrev pub is_code : ℕ
+is_code = 0
+
+abbrev pub send_code : ℕ
+send_code = 1
 
 -- the bytes of tokens
 abbrev pub bytes_of : List Telnet → List ℕ

@@ -9,7 +9,7 @@ use Rattle.ws_nego.specs.declared.terminal.TerminalType.{TerminalType}
 use Rattle.ws_nego.specs.declared.options.Direction.{Direction}
 use Rattle.ws_nego.specs.declared.options.OptionTable.{OptionTable}
 use Rattle.ws_nego.specs.Terminal.{name_of}
-use Rattle.ws_nego.specs.Options.{terminal_type, entry, with_entry, filled, direction_at_station, refusal_of, option_tokens, Answer, no_effect}
+use Rattle.ws_nego.specs.Options.{terminal_type, entry, with_entry, filled, direction_at_station, refusal_of, option_tokens, terminal_type_token, is_code, send_code, Answer, no_effect}
 
 -- The station's options (RFC 854, 856, 885, 1091; RFC 4777, section 2)
 
@@ -33,15 +33,15 @@ station_row Dont true = (false, Some Wont)
 station_row Wont false = (false, None)
 station_row Wont true = (false, Some Dont)
 
--- SEND, and IS with the terminal's name (RFC 1091, section 2)
+-- SEND asks for the terminal's name, and IS brings it (RFC 1091, section 2)
 abbrev pub name_request : Telnet
-name_request = Subnegotiate (record { option = terminal_type; data_ = 1 ∷ [] })
+name_request = terminal_type_token send_code []
 
 abbrev pub name_answer : TerminalType → Telnet
-name_answer terminal = Subnegotiate (record { option = terminal_type; data_ = 0 ∷ name_of terminal })
+name_answer terminal = terminal_type_token is_code (name_of terminal)
 
 abbrev pub is_name_request : Sub → Bool
-is_name_request sub = (sub.option == terminal_type) && bytes_eq sub.data_ (1 ∷ [])
+is_name_request sub = (sub.option == terminal_type) && bytes_eq sub.data_ (send_code ∷ [])
 
 -- what the station does at a verb of an option, in a direction of its table or in none
 abbrev pub station_option_answer : StationState → Verb → ℕ → Option Direction → Answer StationState
@@ -70,5 +70,5 @@ station_answer station (Subnegotiate sub) = record {
 -- records are allowed at the station
 abbrev pub station_allows_records : StationState → Bool
 station_allows_records station =
-    station.on.station_binary && (station.on.station_end_of_record
-    && (station.on.host_binary && station.on.host_end_of_record))
+    station.on.station_binary && station.on.station_end_of_record
+    && station.on.host_binary && station.on.host_end_of_record

@@ -7,8 +7,8 @@ ghost use Rattle.ws_nego.specs.Host.{HostState, new_host, opening, after_open, r
 
 use crate::TerminalType;
 use crate::options::{
-    BINARY, Direction, END_OF_RECORD, OptionTable, Reply, TERMINAL_TYPE, direction_at_host,
-    no_reply, option_reply, push_option, refusal,
+    BINARY, Direction, END_OF_RECORD, IS, OptionTable, Reply, SEND, TERMINAL_TYPE,
+    direction_at_host, no_reply, option_reply, push_option, refusal, terminal_type_reply,
 };
 use arrayvec::ArrayVec;
 use std::marker::Model;
@@ -122,14 +122,7 @@ fn request_reply(modes: &OptionTable<Mode>) -> Reply
 fn send_reply() -> Reply
     ensures { result ≡ bytes_of (name_request ∷ []) }
 {
-    let mut bytes = ArrayVec::new();
-    bytes.push(0xff);
-    bytes.push(0xfa);
-    bytes.push(TERMINAL_TYPE);
-    bytes.push(1);
-    bytes.push(0xff);
-    bytes.push(0xf0);
-    ByteList::of(bytes)
+    terminal_type_reply(SEND, &[])
 }
 
 impl HostOptions {
@@ -278,7 +271,7 @@ fn name_in(sub: &Sub) -> Option<&[u8]>
         return None;
     }
     match sub.data_.as_slice() {
-        [0, name @ ..] => Some(name),
+        [IS, name @ ..] => Some(name),
         _ => None,
     }
 }

@@ -1,10 +1,11 @@
-ghost use Rattle.std.specs.Prelude.{◌≡◌, ◌≤◌, ◌+◌, ◌++◌, ◌∷◌, [], length};
+ghost use Rattle.std.specs.Prelude.{◌≡◌, ◌≤◌, ◌<◌, ◌+◌, ◌++◌, ◌∷◌, [], length};
+ghost use Rattle.ws_telnet.specs.Token.{telnet_spelling};
 ghost use Rattle.ws_nego.specs.Options as spec;
-ghost use Rattle.ws_nego.specs.Options.{entry, with_entry, refusal_of, option_tokens, bytes_of};
+ghost use Rattle.ws_nego.specs.Options.{entry, with_entry, refusal_of, option_tokens, terminal_type_token, bytes_of};
 
 use arrayvec::ArrayVec;
 use ws_code::ByteList;
-use ws_telnet::Verb;
+use ws_telnet::{Sub, Telnet, Token, Verb, spell};
 
 /// What an end writes in answer to one token: at most 17 bytes.
 pub type Reply = ByteList<17>;
@@ -17,6 +18,12 @@ pub const TERMINAL_TYPE: u8 = 0x18;
 
 /// End of Record (RFC 885, section 1).
 pub const END_OF_RECORD: u8 = 0x19;
+
+/// The first byte of a subnegotiation of TERMINAL-TYPE that brings a name (RFC 1091, section 2).
+pub const IS: u8 = 0;
+
+/// The one byte of a subnegotiation of TERMINAL-TYPE that asks for a name (RFC 1091, section 2).
+pub const SEND: u8 = 1;
 
 /// One direction of an option: the end that performs it, and the option (RFC 854, "General
 /// Considerations").
@@ -134,17 +141,26 @@ pub fn refusal(verb: Verb) -> Option<Verb>
     }
 }
 
-/// Appends an option command.
+/// Appends a token's spelling.
+fn push_token(bytes: &mut ArrayVec<u8, 17>, token: Telnet)
+    requires { length bytes.old.items + length (telnet_spelling token) ≤ 17 }
+    ensures { bytes.new.items ≡ bytes.old.items ++ telnet_spelling token }
+{
+    let mut spelling = ArrayVec::new();
+    spell(&Token::Telnet(token), &mut spelling);
+    // It fits, by the clause above.
+    bytes.try_extend_from_slice(spelling.as_slice()).unwrap();
+}
+
+/// Appends the token of a verb and an option.
 pub fn push_option(bytes: &mut ArrayVec<u8, 17>, verb: Verb, option: u8)
     requires { length bytes.old.items + 3 ≤ 17 }
     ensures { bytes.new.items ≡ bytes.old.items ++ bytes_of (option_tokens (Some verb) option) }
 {
-    bytes.push(0xff);
-    bytes.push(verb.byte());
-    bytes.push(option);
+    push_token(bytes, Telnet::Option(verb, option));
 }
 
-/// The reply of one option command, or the empty one where there is no verb.
+/// The reply of one option token, or the empty one where there is no verb.
 pub fn option_reply(verb: Option<Verb>, option: u8) -> Reply
     ensures { result ≡ bytes_of (option_tokens verb option) }
 {
@@ -152,6 +168,26 @@ pub fn option_reply(verb: Option<Verb>, option: u8) -> Reply
     if let Some(verb) = verb {
         push_option(&mut bytes, verb, option);
     }
+    ByteList::of(bytes)
+}
+
+/// The reply of one subnegotiation of TERMINAL-TYPE.
+pub fn terminal_type_reply(code: u8, name: &[u8]) -> Reply
+    requires short { length name.now < 64 }
+    requires fits { length (telnet_spelling (terminal_type_token code name.now)) ≤ 17 }
+    ensures { result ≡ bytes_of (terminal_type_token code name.now ∷ []) }
+{
+    let mut content = ArrayVec::new();
+    content.push(code);
+    content.try_extend_from_slice(name).unwrap();
+    let mut bytes = ArrayVec::new();
+    push_token(
+        &mut bytes,
+        Telnet::Sub(Sub {
+            option: TERMINAL_TYPE,
+            data_: ByteList::of(content),
+        }),
+    );
     ByteList::of(bytes)
 }
 

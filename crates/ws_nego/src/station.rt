@@ -5,11 +5,10 @@ ghost use Rattle.ws_nego.specs.Station.{StationState, new_station, name_answer, 
 
 use crate::TerminalType;
 use crate::options::{
-    OptionTable, Reply, TERMINAL_TYPE, direction_at_station, no_reply, option_reply, refusal,
+    IS, OptionTable, Reply, SEND, TERMINAL_TYPE, direction_at_station, no_reply, option_reply,
+    refusal, terminal_type_reply,
 };
-use arrayvec::ArrayVec;
 use std::marker::Model;
-use ws_code::ByteList;
 use ws_telnet::{Sub, Telnet, Verb};
 
 /// The options of a display station. It performs BINARY, TERMINAL-TYPE and END-OF-RECORD when it is
@@ -47,16 +46,7 @@ fn station_row(verb: Verb, on: bool) -> (bool, Option<Verb>)
 fn name_reply(terminal: TerminalType) -> Reply
     ensures { result ≡ bytes_of (name_answer terminal ∷ []) }
 {
-    let mut bytes = ArrayVec::new();
-    bytes.push(0xff);
-    bytes.push(0xfa);
-    bytes.push(TERMINAL_TYPE);
-    bytes.push(0);
-    // A name has at most 11 bytes, none of them FF.
-    bytes.try_extend_from_slice(terminal.name()).unwrap();
-    bytes.push(0xff);
-    bytes.push(0xf0);
-    ByteList::of(bytes)
+    terminal_type_reply(IS, terminal.name())
 }
 
 impl StationOptions {
@@ -122,5 +112,5 @@ impl StationOptions {
 fn is_name_request(sub: &Sub) -> bool
     ensures { result ≡ spec.is_name_request sub.now }
 {
-    sub.option == TERMINAL_TYPE && sub.data_.as_slice() == [1].as_slice()
+    sub.option == TERMINAL_TYPE && sub.data_.as_slice() == [SEND].as_slice()
 }
