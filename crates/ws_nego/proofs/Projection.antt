@@ -8,7 +8,7 @@ use Rattle.ws_nego.specs.Options.{Answer}
 use Rattle.ws_nego.specs.Station.{station_answer}
 use Rattle.ws_nego.specs.Host.{HostState, host_answer}
 use Rattle.ws_nego.specs.Exchange.{Exchange, Move, ToStation, ToHost, new_exchange, after_moves, IsQuiet, TablesAgree, after_host_answers, after_station_takes, after_host_takes}
-use Rattle.ws_nego.specs.Dialogue.{Dialogue, new_dialogue, after_arrival, after_arrivals, station_gets, host_gets, host_writes, IsAllArrived}
+use Rattle.ws_nego.specs.Dialogue.{Dialogue, new_dialogue, after_arrival, after_arrivals, after_station_gets, after_host_gets, after_host_writes, IsAllArrived}
 use Rattle.ws_nego.proofs.Stages.{agrees, at_most_twelve, not_refused}
 
 -- what a dialogue has in flight
@@ -34,7 +34,7 @@ next_one (suc n) [] x rest e = cc
 next_one (suc n) (y ∷ ys) x rest e = let h = next_one n ys x rest e in (h.0, omega arith)
 
 -- one step of the dialogue is one move of the exchange that it has in flight
-follows_station : (d : Dialogue) (later : List Telnet) → drop d.at_station d.to_station ≡ later → IsSound d → in_flight (station_gets d later) ≡ after_station_takes (in_flight d) later
+follows_station : (d : Dialogue) (later : List Telnet) → drop d.at_station d.to_station ≡ later → IsSound d → in_flight (after_station_gets d later) ≡ after_station_takes (in_flight d) later
 follows_station d [] e h = refl
 follows_station d (token ∷ later) e h =
     let reply = (station_answer d.station token).reply in
@@ -43,7 +43,7 @@ follows_station d (token ∷ later) e h =
     let sum : length d.to_station + length (d.to_host ++ reply) ≡ (length d.to_station + length d.to_host) + length reply = omega (arith, length-append d.to_host reply) in
     cc
 
-sound_station : (d : Dialogue) (later : List Telnet) → drop d.at_station d.to_station ≡ later → IsSound d → IsSound (station_gets d later)
+sound_station : (d : Dialogue) (later : List Telnet) → drop d.at_station d.to_station ≡ later → IsSound d → IsSound (after_station_gets d later)
 sound_station d [] e h = h
 sound_station d (token ∷ later) e h =
     let reply = (station_answer d.station token).reply in
@@ -52,7 +52,7 @@ sound_station d (token ∷ later) e h =
       at_host = omega (arith, h.at_host, length-append d.to_host reply);
     }
 
-follows_writes : (d : Dialogue) (token : Telnet) (later : List Telnet) (answer : Option (Answer HostState)) → drop d.at_host d.to_host ≡ token ∷ later → IsSound d → in_flight (host_writes d answer) ≡ after_host_answers (in_flight d) later answer
+follows_writes : (d : Dialogue) (token : Telnet) (later : List Telnet) (answer : Option (Answer HostState)) → drop d.at_host d.to_host ≡ token ∷ later → IsSound d → in_flight (after_host_writes d answer) ≡ after_host_answers (in_flight d) later answer
 follows_writes d token later None e h = refl
 follows_writes d token later (Some answer) e h =
     let here : drop (d.at_host + 1) d.to_host ≡ later = rw add-one (next_one d.at_host d.to_host token later e).0 in
@@ -60,18 +60,18 @@ follows_writes d token later (Some answer) e h =
     let sum : length (d.to_station ++ answer.reply) + length d.to_host ≡ (length d.to_station + length d.to_host) + length answer.reply = omega (arith, length-append d.to_station answer.reply) in
     cc
 
-follows_host : (d : Dialogue) (later : List Telnet) → drop d.at_host d.to_host ≡ later → IsSound d → in_flight (host_gets d later) ≡ after_host_takes (in_flight d) later
+follows_host : (d : Dialogue) (later : List Telnet) → drop d.at_host d.to_host ≡ later → IsSound d → in_flight (after_host_gets d later) ≡ after_host_takes (in_flight d) later
 follows_host d [] e h = refl
 follows_host d (token ∷ later) e h = follows_writes d token later (host_answer d.host token) e h
 
-sound_writes : (d : Dialogue) (token : Telnet) (later : List Telnet) (answer : Option (Answer HostState)) → drop d.at_host d.to_host ≡ token ∷ later → IsSound d → IsSound (host_writes d answer)
+sound_writes : (d : Dialogue) (token : Telnet) (later : List Telnet) (answer : Option (Answer HostState)) → drop d.at_host d.to_host ≡ token ∷ later → IsSound d → IsSound (after_host_writes d answer)
 sound_writes d token later None e h = record { at_station = h.at_station; at_host = h.at_host }
 sound_writes d token later (Some answer) e h = record {
   at_station = omega (arith, h.at_station, length-append d.to_station answer.reply);
   at_host = omega (arith, (next_one d.at_host d.to_host token later e).1);
 }
 
-sound_host : (d : Dialogue) (later : List Telnet) → drop d.at_host d.to_host ≡ later → IsSound d → IsSound (host_gets d later)
+sound_host : (d : Dialogue) (later : List Telnet) → drop d.at_host d.to_host ≡ later → IsSound d → IsSound (after_host_gets d later)
 sound_host d [] e h = h
 sound_host d (token ∷ later) e h = sound_writes d token later (host_answer d.host token) e h
 

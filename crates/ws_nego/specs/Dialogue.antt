@@ -29,10 +29,10 @@ new_dialogue terminal = record {
   refused = false;
 }
 
--- the first of the tokens that haven't arrived comes to the station, which writes its reply
-abbrev pub station_gets : Dialogue → List Telnet → Dialogue
-station_gets dialogue [] = dialogue
-station_gets dialogue (token ∷ later) =
+-- the first of the tokens that haven't arrived at the station comes there, and the station writes its reply
+abbrev pub after_station_gets : Dialogue → List Telnet → Dialogue
+after_station_gets dialogue [] = dialogue
+after_station_gets dialogue (token ∷ later) =
     let answer = station_answer dialogue.station token in
     record {
       station = answer.after;
@@ -44,10 +44,11 @@ station_gets dialogue (token ∷ later) =
       refused = dialogue.refused;
     }
 
--- it comes to the host end, which writes its reply or refuses the token
-abbrev pub host_writes : Dialogue → Option (Answer HostState) → Dialogue
-host_writes dialogue None = record dialogue { refused = true }
-host_writes dialogue (Some answer) = record {
+-- the first of those that haven't arrived at the host end comes there, and it writes its reply or refuses the
+-- token
+abbrev pub after_host_writes : Dialogue → Option (Answer HostState) → Dialogue
+after_host_writes dialogue None = record dialogue { refused = true }
+after_host_writes dialogue (Some answer) = record {
   station = dialogue.station;
   host = answer.after;
   to_station = dialogue.to_station ++ answer.reply;
@@ -57,13 +58,14 @@ host_writes dialogue (Some answer) = record {
   refused = dialogue.refused;
 }
 
-abbrev pub host_gets : Dialogue → List Telnet → Dialogue
-host_gets dialogue [] = dialogue
-host_gets dialogue (token ∷ later) = host_writes dialogue (host_answer dialogue.host token)
+abbrev pub after_host_gets : Dialogue → List Telnet → Dialogue
+after_host_gets dialogue [] = dialogue
+after_host_gets dialogue (token ∷ later) = after_host_writes dialogue (host_answer dialogue.host token)
 
 abbrev pub after_arrival : Move → Dialogue → Dialogue
-after_arrival ToStation dialogue = station_gets dialogue (drop dialogue.at_station dialogue.to_station)
-after_arrival ToHost dialogue = host_gets dialogue (drop dialogue.at_host dialogue.to_host)
+after_arrival ToStation dialogue =
+    after_station_gets dialogue (drop dialogue.at_station dialogue.to_station)
+after_arrival ToHost dialogue = after_host_gets dialogue (drop dialogue.at_host dialogue.to_host)
 
 abbrev pub after_arrivals : List Move → Dialogue → Dialogue
 after_arrivals [] dialogue = dialogue

@@ -13,7 +13,7 @@ use Rattle.ws_nego.specs.declared.host.Mode.TheVariants.{Off, Asked, On}
 use Rattle.ws_nego.specs.declared.host.TerminalName.{TerminalName}
 use Rattle.ws_nego.specs.declared.host.TerminalName.TheVariants.{Unknown, Requested, Accepted}
 use Rattle.ws_nego.specs.Terminal.{terminal_named}
-use Rattle.ws_nego.specs.Options.{binary, terminal_type, end_of_record, is_code, entry, with_entry, filled, direction_at_host, refusal_of, option_tokens, Answer, no_effect}
+use Rattle.ws_nego.specs.Options.{binary, terminal_type, end_of_record, byte_of_is, entry, with_entry, filled, direction_at_host, refusal_of, option_tokens, Answer, no_effect}
 use Rattle.ws_nego.specs.Station.{name_request}
 
 -- The host end's options (RFC 854, 856, 885, 1091; RFC 4777, section 2)
@@ -135,7 +135,7 @@ modes_once_requested modes = record {
 -- the name in a subnegotiation that is IS of TERMINAL-TYPE (RFC 1091, section 2)
 abbrev pub name_after_is : List ℕ → Option (List ℕ)
 name_after_is [] = None
-name_after_is (code ∷ name) = if code == is_code then Some name else None
+name_after_is (code ∷ name) = if code == byte_of_is then Some name else None
 
 abbrev pub name_in : Sub → Option (List ℕ)
 name_in sub = if sub.option == terminal_type then name_after_is sub.data_ else None

@@ -75,7 +75,7 @@ direction_at_host Dont option = host_direction option
 direction_at_host Will option = station_direction option
 direction_at_host Wont option = station_direction option
 
--- an option whose direction isn't in the table is refused, and stays off (RFC 854, "General Considerations")
+-- an option whose direction isn't in the table is refused (RFC 854, "General Considerations")
 abbrev pub refusal_of : Verb → Option Verb
 refusal_of Do = Some Wont
 refusal_of Will = Some Dont
@@ -87,16 +87,15 @@ abbrev pub option_tokens : Option Verb → ℕ → List Telnet
 option_tokens None option = []
 option_tokens (Some verb) option = Negotiate verb option ∷ []
 
--- the subnegotiation of TERMINAL-TYPE with this code and these bytes; the codes are IS and SEND (RFC 1091,
--- section 2)
+-- the subnegotiation of TERMINAL-TYPE that begins with IS or SEND (RFC 1091, section 2)
+abbrev pub byte_of_is : ℕ
+byte_of_is = 0
+
+abbrev pub byte_of_send : ℕ
+byte_of_send = 1
+
 abbrev pub terminal_type_token : ℕ → List ℕ → Telnet
-terminal_type_token code bytes = Subnegotiate (record { option = terminal_type; data_ = code ∷ bytes })
-
-abbrev pub is_code : ℕ
-is_code = 0
-
-abbrev pub send_code : ℕ
-send_code = 1
+terminal_type_token code name = Subnegotiate (record { option = terminal_type; data_ = code ∷ name })
 
 -- the bytes of tokens
 abbrev pub bytes_of : List Telnet → List ℕ

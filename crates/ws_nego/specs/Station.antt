@@ -9,7 +9,7 @@ use Rattle.ws_nego.specs.declared.terminal.TerminalType.{TerminalType}
 use Rattle.ws_nego.specs.declared.options.Direction.{Direction}
 use Rattle.ws_nego.specs.declared.options.OptionTable.{OptionTable}
 use Rattle.ws_nego.specs.Terminal.{name_of}
-use Rattle.ws_nego.specs.Options.{terminal_type, entry, with_entry, filled, direction_at_station, refusal_of, option_tokens, terminal_type_token, is_code, send_code, Answer, no_effect}
+use Rattle.ws_nego.specs.Options.{terminal_type, entry, with_entry, filled, direction_at_station, refusal_of, option_tokens, terminal_type_token, byte_of_is, byte_of_send, Answer, no_effect}
 
 -- The station's options (RFC 854, 856, 885, 1091; RFC 4777, section 2)
 
@@ -35,13 +35,13 @@ station_row Wont true = (false, Some Dont)
 
 -- SEND asks for the terminal's name, and IS brings it (RFC 1091, section 2)
 abbrev pub name_request : Telnet
-name_request = terminal_type_token send_code []
+name_request = terminal_type_token byte_of_send []
 
 abbrev pub name_answer : TerminalType → Telnet
-name_answer terminal = terminal_type_token is_code (name_of terminal)
+name_answer terminal = terminal_type_token byte_of_is (name_of terminal)
 
 abbrev pub is_name_request : Sub → Bool
-is_name_request sub = (sub.option == terminal_type) && bytes_eq sub.data_ (send_code ∷ [])
+is_name_request sub = (sub.option == terminal_type) && bytes_eq sub.data_ (byte_of_send ∷ [])
 
 -- what the station does at a verb of an option, in a direction of its table or in none
 abbrev pub station_option_answer : StationState → Verb → ℕ → Option Direction → Answer StationState
