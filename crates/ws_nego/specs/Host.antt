@@ -34,7 +34,7 @@ abbrev pub after_open : HostState → HostState
 after_open host = record { modes = with_entry host.modes StationTerminalType Asked; name = host.name }
 
 -- The host end's table: the direction's mode afterwards, and the answer. What was asked for and is
--- granted or refused isn't answered again (RFC 854, "General Considerations").
+-- granted or refused isn't answered again (RFC 854, "GENERAL CONSIDERATIONS").
 abbrev pub host_row : Verb → Mode → Mode × Option Verb
 host_row Will Off = (On, Some Do)
 host_row Will Asked = (On, None)

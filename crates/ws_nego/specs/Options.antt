@@ -62,7 +62,7 @@ host_direction option =
     else None)
 
 -- DO and DONT speak of what the end that gets them performs, WILL and WONT of what the end that wrote
--- them performs (RFC 854, "Telnet Command Structure")
+-- them performs (RFC 854, "TELNET COMMAND STRUCTURE")
 abbrev pub direction_at_station : Verb → ℕ → Option Direction
 direction_at_station Do option = station_direction option
 direction_at_station Dont option = station_direction option
@@ -75,7 +75,7 @@ direction_at_host Dont option = host_direction option
 direction_at_host Will option = station_direction option
 direction_at_host Wont option = station_direction option
 
--- an option whose direction isn't in the table is refused (RFC 854, "General Considerations")
+-- an option whose direction isn't in the table is refused (RFC 854, "GENERAL CONSIDERATIONS")
 abbrev pub refusal_of : Verb → Option Verb
 refusal_of Do = Some Wont
 refusal_of Will = Some Dont

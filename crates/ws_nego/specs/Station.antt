@@ -22,7 +22,7 @@ abbrev pub new_station : TerminalType → StationState
 new_station terminal = record { terminal = terminal; on = filled false }
 
 -- The station's table: whether the direction is on afterwards, and the answer. What is asked and stands
--- already isn't acknowledged (RFC 854, "General Considerations").
+-- already isn't acknowledged (RFC 854, "GENERAL CONSIDERATIONS").
 abbrev pub station_row : Verb → Bool → Bool × Option Verb
 station_row Do false = (true, Some Will)
 station_row Do true = (true, None)

@@ -25,8 +25,8 @@ pub const IS: u8 = 0;
 /// The one byte of a subnegotiation of TERMINAL-TYPE that asks for a name (RFC 1091, section 2).
 pub const SEND: u8 = 1;
 
-/// One direction of an option: the end that performs it, and the option (RFC 854, "General
-/// Considerations").
+/// One direction of an option: the end that performs it, and the option (RFC 854, "GENERAL
+/// CONSIDERATIONS").
 #[derive(Clone, Copy, Debug, PartialEq, Eq)]
 pub enum Direction {
     StationBinary,
@@ -130,7 +130,7 @@ pub fn direction_at_host(verb: Verb, option: u8) -> Option<Direction>
     }
 }
 
-/// The answer to a verb whose direction isn't in the table (RFC 854, "General Considerations").
+/// The answer to a verb whose direction isn't in the table (RFC 854, "GENERAL CONSIDERATIONS").
 pub fn refusal(verb: Verb) -> Option<Verb>
     ensures { result ≡ refusal_of verb }
 {
