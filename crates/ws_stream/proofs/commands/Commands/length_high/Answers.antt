@@ -1,0 +1,9 @@
+use Rattle.std.proofs.Common.{◌++◌, [], ◌∷◌, arith}
+use Rattle.ws_stream.specs.Machine.{front_bytes}
+use Rattle.ws_stream.proofs.Unfinished.{step_more, length_begins}
+use Rattle.ws_stream.proofs.commands.Commands.length_high.Goals as goal
+
+pub returns : goal.returns
+returns c =
+    let found = length_begins c.args.self.now.place c.args.front c.args.attribute c.args.byte c.requires.front c.requires.attribute (omega arith) c.requires.begun in
+    step_more (0x1D ∷ front_bytes c.args.front ++ c.args.attribute ∷ []) c.args.byte _ _ _ _ _ c.wait_for.ensures.more c.wait_for.ensures.place c.wait_for.ensures.phase found.0 found.1

@@ -1,0 +1,63 @@
+ghost use Rattle.std.specs.Prelude.{◌≡◌, ◌++◌, ◌∷◌, [], ℕ, true};
+ghost use Rattle.ws_code.specs.Code.{IsSpelled, IsPrefix, IsUnfinished};
+ghost use Rattle.ws_stream.specs.Elements.{element_rules};
+ghost use Rattle.ws_stream.specs.ElementLaws.{element_nonempty, element_bytes, element_prefix_free, element_begins, element_can_end};
+ghost use Rattle.ws_stream.specs.Machine.{unfinished_in, is_sound, IsStep};
+
+mod command;
+mod field;
+mod order;
+mod phase;
+
+use crate::{Element, Place};
+use phase::Phase;
+use ws_code::{Code, Push};
+
+/// Reads a host's body element by element (SC30-3533, commands and orders).
+#[derive(Debug, Drop)]
+pub struct Commands {
+    place: Place,
+    phase: Phase,
+    ghost sound: { is_sound phase ≡ true },
+}
+
+impl Commands {
+    // The byte begins or continues an element.
+    fn wait_for(&mut self, phase: Phase) -> Push<Element>
+        requires { is_sound phase ≡ true }
+        ensures more { result ≡ Push.More }
+        ensures place { self.new.place ≡ self.old.place }
+        ensures phase { self.new.phase ≡ phase }
+    {
+        self.phase = phase;
+        Push::More
+    }
+
+    fn step(&mut self, byte: u8) -> Push<Element>
+        requires { IsUnfinished element_rules self.old.place (unfinished_in self.old.phase) }
+        ensures { IsStep self.old.place (unfinished_in self.old.phase) byte
+            self.new.place self.new.phase result }
+    {
+        match std::mem::replace(&mut self.phase, Phase::Begin) {
+            Phase::Begin => self.begin(byte),
+            Phase::Escape => self.command(byte),
+            Phase::FirstControl(control) => self.first_control(control, byte),
+            Phase::SecondControl(control, cc1) => self.second_control(control, cc1, byte),
+            Phase::SohLength => self.soh_length(byte),
+            Phase::SohByte { count, bytes } => self.soh_byte(count, bytes, byte),
+            Phase::Row(order) => self.row(order, byte),
+            Phase::Column(order, row) => self.column(order, row, byte),
+            Phase::RepeatByte(to) => self.repeat_byte(to, byte),
+            Phase::EraseLength(to) => self.erase_length(to, byte),
+            Phase::EraseKind { to, count, kinds } => self.erase_kind(to, count, kinds, byte),
+            Phase::FieldFirst => self.field_first(byte),
+            Phase::FormatLow(high) => self.format_low(high, byte),
+            Phase::FieldNext(words) => self.field_next(words, byte),
+            Phase::ControlLow(words, high) => self.control_low(words, high, byte),
+            Phase::LengthHigh(front, attribute) => self.length_high(front, attribute, byte),
+            Phase::LengthLow(front, attribute, high) => {
+                self.length_low(front, attribute, high, byte)
+            }
+        }
+    }
+}
