@@ -1,1 +1,2 @@
 pub mod Unfinished
+pub mod Words

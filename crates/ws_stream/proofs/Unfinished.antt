@@ -464,8 +464,7 @@ erase_place place to u =
 pub erase_counted : (place : Place) (to b : ℕ) (items : List ℕ) → IsUnfinished element_rules place (0x03 ∷ row_and_column to) → 2 ≤ b → b ≤ 5 → items ≡ [] → (0x03 ∷ row_and_column to ++ (b - 1 + 1) ∷ items ≡ 0x03 ∷ row_and_column to ++ b ∷ []) × IsUnfinished element_rules place (0x03 ∷ row_and_column to ++ b ∷ [])
 erase_counted place to b items u low high empty =
     let counts : b - 1 + 1 ≡ b = omega (arith, low) in
-    let goes_on = erase_goes_on place to (b - 1) [] (order_allowed place 0x03 (row_and_column to) (omega arith) u) (record { place_fits = erase_place place to u; few = omega (arith, high); more = omega (arith, low); kinds = refl }) in
-    (
+    let goes_on = erase_goes_on place to (b - 1) [] (order_allowed place 0x03 (row_and_column to) (omega arith) u) (record { place_fits = erase_place place to u; few = omega (arith, high); more = omega (arith, low); kinds = refl }) in (
       ap (λ (l : List ℕ). 0x03 ∷ row_and_column to ++ (b - 1 + 1) ∷ l) empty ∙ ap (λ (n : ℕ). 0x03 ∷ row_and_column to ++ n ∷ []) counts,
       subst (λ (n : ℕ). IsUnfinished element_rules place (0x03 ∷ row_and_column to ++ n ∷ [])) counts goes_on,
     )
@@ -474,8 +473,7 @@ pub erase_more : (place : Place) (to count : ℕ) (xs ys : List ℕ) (b : ℕ) �
 erase_more place to count xs ys b u kind items ne =
     let known = erase_so_far place to count xs u in
     let kinds : list_all is_kind (xs ++ b ∷ []) ≡ true = list_all-append is_kind xs (b ∷ []) ∙ and_from (list_all is_kind xs) (list_all is_kind (b ∷ [])) known.kinds (and_from (is_kind b) true kind refl) in
-    let less : length (xs ++ b ∷ []) < count = omega (arith, known.more, length-append xs (b ∷ []), ap length items, ne) in
-    (
+    let less : length (xs ++ b ∷ []) < count = omega (arith, known.more, length-append xs (b ∷ []), ap length items, ne) in (
       ap (λ (l : List ℕ). 0x03 ∷ row_and_column to ++ (count + 1) ∷ l) items,
       erase_goes_on place to count (xs ++ b ∷ []) (order_allowed place 0x03 (row_and_column to ++ (count + 1) ∷ xs) (omega arith) u) (record { place_fits = known.place_fits; few = known.few; more = less; kinds = kinds }),
     )
@@ -488,8 +486,7 @@ some_passed (Some x) P v e h = h.0
 pub format_whole : (place : Place) (high b format : ℕ) (items : List ℕ) → IsUnfinished element_rules place (0x1D ∷ high ∷ []) → IsFfw format → format ≡ high * 256 + b → b < 256 → items ≡ [] → (0x1D ∷ (word format ++ flat_map word items) ≡ 0x1D ∷ high ∷ b ∷ []) × IsUnfinished element_rules place (0x1D ∷ high ∷ b ∷ [])
 format_whole place high b format items u h e small empty =
     let bytes : word format ≡ high ∷ b ∷ [] = ap word e ∙ word_of high b small in
-    let goes_on = words_go_on place (Some format) [] (order_allowed place 0x1D (high ∷ []) (omega arith) u) (record { formatted = h; few = omega arith; words = refl }) in
-    (
+    let goes_on = words_go_on place (Some format) [] (order_allowed place 0x1D (high ∷ []) (omega arith) u) (record { formatted = h; few = omega arith; words = refl }) in (
       ap (λ (l : List ℕ). 0x1D ∷ (word format ++ flat_map word l)) empty ∙ ap (λ (l : List ℕ). 0x1D ∷ (l ++ [])) bytes,
       subst (λ (l : List ℕ). IsUnfinished element_rules place (0x1D ∷ l)) bytes goes_on,
     )

@@ -9,9 +9,11 @@ mod field;
 mod order;
 mod phase;
 
+use crate::spell::spell;
 use crate::{Element, Place};
+use arrayvec::ArrayVec;
 use phase::Phase;
-use ws_code::{Code, Push};
+use ws_code::{Body, Code, Push};
 
 /// Reads a host's body element by element (SC30-3533, commands and orders).
 #[derive(Debug, Drop)]
@@ -59,5 +61,70 @@ impl Commands {
                 self.length_low(front, attribute, high, byte)
             }
         }
+    }
+}
+
+impl Code for Commands {
+    type Unit = Element;
+
+    type Place = Place;
+
+    ghost rules = { element_rules };
+
+    ghost place = { λ m. m.place };
+
+    ghost unfinished = { λ m. unfinished_in m.phase };
+
+    ghost nonempty = { element_nonempty };
+
+    ghost bytes = { element_bytes };
+
+    ghost prefix_free = { element_prefix_free };
+
+    ghost begins = { element_begins };
+
+    fn first() -> Place {
+        Place::CommandsOnly
+    }
+
+    fn after(unit: &Element) -> Place {
+        match unit {
+            Element::ClearUnit
+            | Element::ClearFormat
+            | Element::ReadInput { .. }
+            | Element::ReadMdt { .. } => Place::CommandsOnly,
+            _ => Place::Anything,
+        }
+    }
+
+    fn start(at: Place) -> Self {
+        Commands {
+            place: at,
+            phase: Phase::Begin,
+        }
+    }
+
+    fn push(&mut self, byte: u8) -> Push<Element> {
+        self.step(byte)
+    }
+
+    fn known(unit: &Element) {
+        unit.known();
+    }
+}
+
+impl Body for Commands {
+    ghost can_end = { element_can_end };
+
+    fn may_follow(place: Place, unit: &Element) -> bool {
+        place == Place::Anything || unit.is_command()
+    }
+
+    fn may_end(_place: Place) -> bool {
+        true
+    }
+
+    fn spell(unit: &Element, into: &mut ArrayVec<u8, 32>) {
+        spell(unit, into);
     }
 }

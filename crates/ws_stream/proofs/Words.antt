@@ -1,0 +1,9 @@
+use Rattle.std.specs.Prelude.{◌≡◌, ℕ, ◌*◌, List, [], ◌∷◌, length}
+use Rattle.std.proofs.Common.{arith}
+use Rattle.std.specs.List.{flat_map}
+use Rattle.ws_stream.specs.Elements.{word}
+
+-- words have two bytes each
+pub words_length : (ws : List ℕ) → length (flat_map word ws) ≡ 2 * length ws
+words_length [] = omega arith
+words_length (w ∷ ws) = omega (arith, words_length ws)
