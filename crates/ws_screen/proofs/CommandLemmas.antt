@@ -1,11 +1,11 @@
 -- What each command and the end of a write do to a screen, and what the definitions say of it.
-use Rattle.std.proofs.Common.{◌≡◌, ℕ, ◌+◌, ◌<◌, ◌≤◌, List, [], ◌∷◌, Bool, true, false, Option, Some, None, ◌==◌, slice_index, if◌then◌else◌, unwrap_or, refl, sym, ap, subst, ◌++◌, ◌∙◌, arith, nat_le, nat_lt, ◌&&◌, not, find}
+use Rattle.std.proofs.Common.{◌≡◌, ℕ, ◌<◌, List, [], ◌∷◌, Bool, true, false, Option, Some, None, ◌==◌, slice_index, if◌then◌else◌, unwrap_or, refl, sym, ap, subst, ◌++◌, ◌∙◌, arith, nat_le, nat_lt, ◌&&◌, not, find}
 use borrow.Author.Tests.{lt-ltb, le-leb}
 use Rattle.std.specs.List.{list_any}
 use Rattle.std.specs.Option.{option_map_or, option_or}
 use Rattle.std.specs.Prelude.{map}
 use Rattle.ws_code.specs.FormatWord.{is_bypass, with_mdt}
-use Rattle.ws_stream.specs.declared.element.Element.TheVariants.{ClearUnit, ClearFormat, Write, ReadInput, ReadMdt}
+use Rattle.ws_stream.specs.declared.element.Element.TheVariants.{ClearUnit, ClearFormat, Write}
 use Rattle.ws_screen.specs.declared.field.Field.{Field}
 use Rattle.ws_screen.specs.declared.open_write.OpenWrite.{OpenWrite}
 use Rattle.ws_screen.specs.declared.read_kind.ReadKind.{ReadKind}
@@ -18,7 +18,7 @@ use Rattle.ws_screen.specs.Given.{Follows, FollowsAll, Gives, ends_of}
 use Rattle.ws_screen.specs.Shown.{Shown, holds, home_of, is_open, spans}
 use Rattle.ws_screen.specs.States.{blink, cursor, home, home_set, locked, message}
 use Rattle.ws_screen.specs.Steps.{IsCarried, after_cc1, after_cc2, cursor_after, read_of, unformatted}
-use Rattle.ws_screen.specs.Writes.{address, kept_mc, open_cc2, open_write}
+use Rattle.ws_screen.specs.Writes.{address, kept_mc, open_cc2}
 use Rattle.ws_screen.proofs.FormatLemmas.{fields-clear_unit, fields-clear_format, fields-write, fields-read_input, fields-read_mdt, fields-end, bypass-with_mdt}
 use Rattle.ws_screen.proofs.OrderLemmas.{open_parts}
 

@@ -1,5 +1,5 @@
 -- How the fields after an event follow from those before it.
-use Rattle.std.proofs.Common.{◌≡◌, ◌≢◌, ℕ, zero, suc, ◌+◌, ◌-◌, ◌*◌, ◌/◌, ◌%◌, ◌<◌, ◌≤◌, List, [], ◌∷◌, Bool, true, false, Option, Some, None, length, ◌==◌, if◌then◌else◌, unwrap_or, is_some, refl, sym, ap, subst, ◌∙◌, arith, map, find, nat_lt, nat_le, ◌&&◌, not, take, get_or, add-one}
+use Rattle.std.proofs.Common.{◌≡◌, ◌≢◌, ℕ, zero, suc, ◌+◌, ◌*◌, ◌/◌, ◌%◌, ◌<◌, ◌≤◌, List, [], ◌∷◌, Bool, true, false, Option, Some, None, length, ◌==◌, if◌then◌else◌, unwrap_or, is_some, refl, sym, ap, ◌∙◌, arith, map, find, take, get_or, add-one}
 use Rattle.std.specs.Option.{option_map_or, option_or, option_map}
 use Rattle.std.specs.List.{filter_map, range_with_len, list_any, cons_option}
 use borrow.Author.Tests.{eqb-true, eqb-false, ne_eqb, lt-ltb, le-ltb}
@@ -8,7 +8,7 @@ use Rattle.ws_code.specs.FormatWord.{with_mdt, is_bypass, is_modified}
 use Rattle.ws_stream.specs.declared.element.Element.TheVariants.{ClearUnit, ClearFormat, Write, ReadInput, ReadMdt, Soh, Ra, Ea, Sba, Ic, Mc, Sf, Put}
 use Rattle.ws_screen.specs.declared.field.Field.{Field}
 use Rattle.ws_screen.specs.Controls.{clears_mdt}
-use Rattle.ws_screen.specs.Events.{Event, History, cancelled, did, ended, lit}
+use Rattle.ws_screen.specs.Events.{History, cancelled, did, ended, lit}
 use Rattle.ws_screen.specs.Formats.{cons_some, field_by, field_from, fields, find_last, input_sfs, is_held, mdt_at, starts_at}
 use Rattle.ws_screen.specs.Steps.{after_cc1, insert_field, reformatted}
 use Rattle.ws_screen.specs.Writes.{address}

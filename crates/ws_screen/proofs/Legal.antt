@@ -1,5 +1,5 @@
 -- Legal fields stay legal.
-use Rattle.std.proofs.Common.{◌≡◌, ◌≢◌, ℕ, zero, suc, ◌+◌, ◌<◌, ◌≤◌, List, [], ◌∷◌, Bool, true, false, length, ◌==◌, if◌then◌else◌, refl, sym, ap, ◌∙◌, arith, map, nat_lt, ◌&&◌, ◌||◌, All, ◌⊎◌, inl, inr, nat_le, replicate, Option, Some, None, is_some, not, subst, zero-le}
+use Rattle.std.proofs.Common.{◌≡◌, ◌≢◌, ℕ, zero, suc, ◌+◌, ◌<◌, ◌≤◌, List, [], ◌∷◌, Bool, true, false, length, ◌==◌, if◌then◌else◌, refl, sym, ap, arith, map, nat_lt, ◌&&◌, ◌||◌, All, ◌⊎◌, inl, inr, nat_le, replicate, Option, Some, None, is_some, not, subst, zero-le}
 use borrow.Author.Tests.{lt-leb, ne_eqb}
 use Rattle.std.proofs.lemmas.List.{get_or_past, get_or-replicate, length-replicate, length-map}
 use Rattle.std.specs.Option.{option_map_or}
@@ -9,7 +9,7 @@ use Rattle.ws_screen.specs.Faults.{first_of, sf_faults, shares}
 use Rattle.ws_screen.specs.Formats.{starts_at}
 use Rattle.ws_screen.specs.Shown.{AreApart, IsClean, IsLegal, Shown}
 use Rattle.ws_screen.specs.Steps.{Ends, after_cc1, entered, insert_field, reformatted}
-use Rattle.std.specs.List.{list_any, slice_index_or, slice_index}
+use Rattle.std.specs.List.{list_any, slice_index}
 use borrow.Author.Tests.{ltb-true, ltb-false, clash, eqb-true, eqb-false}
 use Rattle.ws_screen.specs.declared.field.Field.{Field}
 use Rattle.ws_code.specs.DataByte.{is_order}

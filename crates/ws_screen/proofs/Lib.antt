@@ -1,4 +1,6 @@
 pub mod CommandLemmas
 pub mod FormatLemmas
 pub mod Legal
+pub mod LineLemmas
 pub mod OrderLemmas
+pub mod TableLemmas

@@ -1,21 +1,20 @@
 -- What each order does to a screen, and what the definitions say of it.
-use Rattle.std.proofs.Common.{◌≡◌, ◌≢◌, ℕ, ◌+◌, ◌-◌, ◌<◌, ◌≤◌, List, [], ◌∷◌, Bool, true, false, Option, Some, None, length, ◌==◌, slice_index, slice_set, if◌then◌else◌, unwrap_or, count_by, is_some, refl, sym, ap, subst, ◌∙◌, arith, rules, cond, get_or-set_other, eq-eqb, nat_eq, nat_le, nat_lt, ◌&&◌, not}
-use borrow.Author.Tests.{eqb-true, eqb-false, lt-ltb, le-leb}
-use Rattle.std.specs.Option.{option_map_or, option_or, option_map}
-use Rattle.std.proofs.lemmas.Grind.{common_steps, get_or-set_at}
+use Rattle.std.proofs.Common.{◌≡◌, ◌≢◌, ℕ, ◌+◌, ◌<◌, List, [], ◌∷◌, Bool, true, false, Option, Some, None, length, ◌==◌, slice_index, slice_set, if◌then◌else◌, unwrap_or, is_some, refl, sym, ap, ◌∙◌, arith, cond, get_or-set_other, eq-eqb, ◌&&◌, not}
+use borrow.Author.Tests.{eqb-true}
+use Rattle.std.specs.Option.{option_map_or, option_map}
+use Rattle.std.proofs.lemmas.Grind.{get_or-set_at}
 use Rattle.std.proofs.lemmas.List.Sums.{sum_by-cons}
-use Rattle.ws_stream.specs.declared.element.Element.TheVariants.{ClearUnit, ClearFormat, Write, ReadInput, ReadMdt, Soh, Ra, Ea, Sba, Ic, Mc, Sf, Put}
+use Rattle.ws_stream.specs.declared.element.Element.TheVariants.{Soh, Ra, Ea, Sba, Ic, Mc, Sf, Put}
 use Rattle.ws_screen.specs.declared.open_write.OpenWrite.{OpenWrite}
-use Rattle.ws_screen.specs.Cells.{cell, writes}
-use Rattle.ws_screen.specs.Controls.{cc1_code, goes_home, has_bit, is_nulled, light, unlocks}
-use Rattle.ws_screen.specs.Events.{Event, History, cancelled, did, ended, latest, lit, nearest, until}
+use Rattle.ws_screen.specs.Cells.{cell}
+use Rattle.ws_screen.specs.Events.{History, cancelled, did, lit, until}
 use Rattle.ws_screen.specs.Faults.{first_of, sf_faults}
 use Rattle.ws_screen.specs.Formats.{field_from, fields, is_held, starts_at}
 use Rattle.ws_screen.specs.Given.{Follows, Gives}
 use Rattle.ws_screen.specs.Shown.{AreApart, Shown, address_of, spans}
 use Rattle.ws_screen.specs.States.{switches_of}
 use Rattle.ws_screen.specs.Steps.{IsFilled, entered, insert_field, reformatted}
-use Rattle.ws_screen.specs.Writes.{address, advances, begins_write, kept_mc, open_cc2, open_write, sets_address, this_write}
+use Rattle.ws_screen.specs.Writes.{address, advances, kept_mc, open_cc2, open_write, sets_address, this_write}
 use Rattle.ws_screen.proofs.FormatLemmas.{fields-lit, fields-cancelled, fields-none, fields-put, fields-sba, fields-ra, fields-ea, fields-ic, fields-mc, fields-soh}
 use Rattle.ws_stream.specs.FieldOrder.{FieldOrder}
 use Rattle.ws_screen.proofs.Legal.{new_ok, IsNewOk, held-inside}

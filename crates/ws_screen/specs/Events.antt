@@ -1,6 +1,6 @@
 -- What happens to a screen: the elements of a host's body (SC30-3533, display data stream), the end of a write,
 -- what an opcode does at the end of its record (RFC 1205, section 4), and keys.
-use Rattle.std.specs.Prelude.{ℕ, List, [], ◌∷◌, Bool, Option, Some, None, if◌then◌else◌, unwrap_or}
+use Rattle.std.specs.Prelude.{ℕ, List, [], ◌∷◌, Bool, Option, None, if◌then◌else◌, unwrap_or}
 use Rattle.std.specs.Option.{option_or}
 use Rattle.ws_stream.specs.declared.element.Element.{Element}
 

@@ -4,6 +4,7 @@ pub mod Events
 pub mod Faults
 pub mod Formats
 pub mod Given
+pub mod Lines
 pub mod Shown
 pub mod States
 pub mod Steps

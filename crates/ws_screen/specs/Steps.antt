@@ -1,5 +1,5 @@
 -- What the private calls do to the parts of a screen.
-use Rattle.std.specs.Prelude.{ℕ, ◌≡◌, ◌≤◌, ◌+◌, List, [], ◌∷◌, Bool, true, false, Option, Some, None, if◌then◌else◌, nat_lt, map, slice_index, ◌&&◌, ◌==◌, unwrap_or}
+use Rattle.std.specs.Prelude.{ℕ, suc, ◌≡◌, ◌≤◌, ◌+◌, List, [], ◌∷◌, true, false, Option, Some, None, if◌then◌else◌, nat_lt, map, slice_index, ◌&&◌, ◌==◌, unwrap_or}
 use Rattle.std.specs.List.{list_any}
 use Rattle.std.specs.Option.{option_map}
 use Rattle.ws_code.specs.FormatWord.{with_mdt, is_bypass}
@@ -25,6 +25,21 @@ after_cc1 cc1 f = if clears_mdt cc1 (is_bypass f.format) then record f { format 
 abbrev pub insert_field : Field → List Field → List Field
 insert_field f [] = f ∷ []
 insert_field f (x ∷ xs) = if nat_lt f.start x.start then f ∷ x ∷ xs else x ∷ insert_field f xs
+
+-- how many fields start before a place, all of them at the front
+abbrev pub count_before : ℕ → List Field → ℕ
+count_before place [] = 0
+count_before place (f ∷ fs) = if nat_lt f.start place then suc (count_before place fs) else 0
+
+-- the first field that doesn't start before a place
+abbrev pub first_from : ℕ → List Field → Option Field
+first_from place [] = None
+first_from place (f ∷ fs) = if nat_lt f.start place then first_from place fs else Some f
+
+-- the last field that starts before a place
+abbrev pub last_before : ℕ → List Field → Option Field
+last_before place [] = None
+last_before place (f ∷ fs) = if nat_lt f.start place then Some (unwrap_or (last_before place fs) f) else None
 
 -- a field after a Start of Field at its start
 abbrev pub reformatted : ℕ → ℕ → Field → Field

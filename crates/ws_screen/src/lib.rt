@@ -6,9 +6,11 @@ mod cells;
 mod control;
 mod field;
 mod format_table;
+mod lines;
 mod open_write;
 mod read_kind;
 mod screen;
+mod searches;
 
 pub use field::Field;
 pub use read_kind::ReadKind;

@@ -7,10 +7,11 @@ ghost use Rattle.ws_screen.specs.Shown.{IsLegal, AreApart, holds, home_of};
 mod commands;
 mod elements;
 mod orders;
+mod rows;
 
 use crate::format_table::{copy_of, first_open};
 use crate::open_write::OpenWrite;
-use crate::{Field, ReadKind};
+use crate::{Field, ReadKind, searches};
 use arrayvec::ArrayVec;
 use std::marker::Model;
 use ws_code::Address;
@@ -145,6 +146,13 @@ impl Screen {
         ensures legal { AreApart 0 result.items }
     {
         copy_of(self.table.as_slice())
+    }
+
+    /// The input field that holds a cell.
+    pub fn field_at(&self, at: Address) -> Option<Field>
+        ensures { result ≡ find (λ f. holds f at) self.now.fields }
+    {
+        searches::field_at(self.table.as_slice(), at)
     }
 
     /// Where the cursor stands.

@@ -11,7 +11,8 @@ ghost use Rattle.ws_screen.specs.Steps.{IsFilled};
 
 use crate::Screen;
 use crate::cells::{byte_at, fill, write_attributes};
-use crate::format_table::{enter_any, holds_start, overlaps};
+use crate::format_table::enter_any;
+use crate::searches::{holds_start, overlaps};
 use ws_code::{Address, DataByte, Reason};
 use ws_stream::{EraseList, FieldStart, SohBytes};
 

@@ -1,4 +1,4 @@
-use Rattle.std.proofs.Common.{◌≡◌, arith}
+use Rattle.std.proofs.Common.{arith}
 use Rattle.std.proofs.lemmas.List.Edits.{map_over_more}
 use Rattle.ws_screen.specs.Steps.{after_cc1}
 use Rattle.ws_screen.proofs.format_table.clear_mdts.Goals as goal

@@ -1,4 +1,4 @@
-use Rattle.std.proofs.Common.{◌≡◌, ap, not, arith, length, ◌<◌, get_or, true, false, ◌∙◌, sym, Some, refl}
+use Rattle.std.proofs.Common.{◌≡◌, ap, not, get_or, true, false, ◌∙◌, sym, Some, refl}
 use Rattle.std.specs.Prelude.{find}
 use Rattle.ws_screen.specs.Shown.{is_open}
 use Rattle.ws_screen.proofs.FormatLemmas.{find_here, find_none_more}

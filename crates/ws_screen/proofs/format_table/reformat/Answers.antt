@@ -1,7 +1,17 @@
-use Rattle.std.proofs.Common.{◌≡◌, arith}
-use Rattle.std.proofs.lemmas.List.Edits.{map_over_more}
-use Rattle.ws_screen.specs.Steps.{reformatted}
+use Rattle.std.proofs.Common.{get_or, slice_set, ap, ◌∙◌}
+use Rattle.ws_screen.proofs.TableLemmas.{held_below, reformatted_at}
 use Rattle.ws_screen.proofs.format_table.reformat.Goals as goal
 
-pub loop-field-preserved : goal.loop-field-preserved
-loop-field-preserved c = rw (c.with_format.ensures, ← c.field-item.is) (map_over_more (reformatted c.args.start c.args.format) c.args.fields.now c.loop-field.fields c.loop-field.field-index c.field-item.result (omega arith) c.loop-field.invariant c.field-item.is)
+pub bounds-fields-at : goal.bounds-fields-at
+bounds-fields-at c = rw c.count_before-at.ensures.value (held_below c.args.start 0 c.args.fields.now c.requires.apart c.requires.held)
+
+pub bounds-fields-at-2 : goal.bounds-fields-at-2
+bounds-fields-at-2 c = rw c.count_before-at.ensures.value (held_below c.args.start 0 c.args.fields.now c.requires.apart c.requires.held)
+
+pub returns : goal.returns
+returns c =
+    let fields = c.args.fields.now in
+    let field = c.index-fields-at.result in
+    ap (λ f. slice_set fields c.count_before-at.result (record f { format = c.args.format })) c.index-fields-at.is
+    ∙ ap (λ at. slice_set fields at (record (get_or fields at field) { format = c.args.format })) c.count_before-at.ensures.value
+    ∙ reformatted_at c.args.start c.args.format 0 fields field c.requires.apart c.requires.held

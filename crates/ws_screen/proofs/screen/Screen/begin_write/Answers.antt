@@ -1,4 +1,3 @@
-use Rattle.std.proofs.Common.{◌≡◌}
 use Rattle.ws_screen.proofs.CommandLemmas.{write_gives}
 use Rattle.ws_screen.proofs.screen.Screen.begin_write.Goals as goal
 

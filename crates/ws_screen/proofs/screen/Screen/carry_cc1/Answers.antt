@@ -1,4 +1,4 @@
-use Rattle.std.proofs.Common.{◌≡◌, ◌∙◌}
+use Rattle.std.proofs.Common.{◌∙◌}
 use Rattle.ws_screen.proofs.Legal.{apart-ends, apart-cc1, clean-nulled, few-map}
 use Rattle.ws_screen.specs.Steps.{after_cc1}
 use Rattle.ws_screen.proofs.screen.Screen.carry_cc1.Goals as goal

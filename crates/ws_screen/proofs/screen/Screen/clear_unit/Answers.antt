@@ -1,4 +1,4 @@
-use Rattle.std.proofs.Common.{◌≡◌, ◌∙◌}
+use Rattle.std.proofs.Common.{◌∙◌}
 use Rattle.ws_screen.specs.contracts.screen.Screen.{the_view}
 use Rattle.ws_screen.proofs.CommandLemmas.{clear_unit_follows}
 use Rattle.ws_screen.proofs.screen.Screen.clear_unit.Goals as goal

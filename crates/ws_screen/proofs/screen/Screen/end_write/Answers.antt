@@ -1,4 +1,4 @@
-use Rattle.std.proofs.Common.{◌≡◌, ap, sym, ◌∙◌}
+use Rattle.std.proofs.Common.{ap, sym, ◌∙◌}
 use Rattle.ws_screen.specs.contracts.screen.Screen.{the_view}
 use Rattle.ws_screen.proofs.CommandLemmas.{end_follows}
 use Rattle.ws_screen.proofs.screen.Screen.end_write.Goals as goal

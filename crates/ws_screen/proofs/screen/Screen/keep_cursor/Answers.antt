@@ -1,4 +1,3 @@
-use Rattle.std.proofs.Common.{◌≡◌}
 use Rattle.ws_screen.proofs.OrderLemmas.{mc_gives}
 use Rattle.ws_screen.proofs.screen.Screen.keep_cursor.Goals as goal
 

@@ -1,5 +1,4 @@
-use Rattle.std.proofs.Common.{◌≡◌, ◌<◌, arith, sym, ◌∙◌, ap, subst}
-use Rattle.ws_screen.specs.Given.{Follows, Gives}
+use Rattle.std.proofs.Common.{◌<◌, arith}
 use Rattle.ws_screen.proofs.OrderLemmas.{put_gives}
 use Rattle.ws_screen.proofs.screen.Screen.put.Goals as goal
 

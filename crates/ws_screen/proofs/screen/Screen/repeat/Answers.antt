@@ -1,4 +1,3 @@
-use Rattle.std.proofs.Common.{◌≡◌}
 use Rattle.std.proofs.lemmas.Result.{on_ok_weaker}
 use Rattle.ws_screen.proofs.OrderLemmas.{ra_follows}
 use Rattle.ws_screen.proofs.screen.Screen.repeat.Goals as goal

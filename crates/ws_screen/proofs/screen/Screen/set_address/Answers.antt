@@ -1,5 +1,3 @@
-use Rattle.std.proofs.Common.{◌≡◌}
-use Rattle.ws_screen.specs.Given.{Follows, Gives}
 use Rattle.ws_screen.proofs.OrderLemmas.{sba_gives}
 use Rattle.ws_screen.proofs.screen.Screen.set_address.Goals as goal
 

@@ -1,9 +1,7 @@
-use Rattle.std.proofs.Common.{◌≡◌, ◌∙◌, sym, None, Some, ap, ◌+◌, ◌<◌, ◌≤◌, ◌≢◌, refl, arith, Option, is_some, true, IsSome, ◌==◌, ◌&&◌, not}
+use Rattle.std.proofs.Common.{◌≡◌, ◌∙◌, sym, None, ◌+◌, ◌≢◌, refl, arith, ◌==◌, ◌&&◌, not}
 use Rattle.ws_screen.specs.Faults.{first_of, sf_faults}
-use Rattle.ws_screen.specs.Given.{Gives}
-use Rattle.ws_screen.specs.Shown.{address_of}
 use Rattle.ws_screen.proofs.OrderLemmas.{sf_gives}
-use Rattle.ws_screen.proofs.Legal.{apart-entered, few-entered, clean-attributes, attribute-data, sf_inside, new_ok, IsNewOk}
+use Rattle.ws_screen.proofs.Legal.{apart-entered, few-entered, clean-attributes, attribute-data, sf_inside, new_ok}
 use Rattle.ws_screen.proofs.screen.Screen.start_field.Goals as goal
 
 pub enter_any-ends-requires-clause-room : goal.enter_any-ends-requires-clause-room

@@ -1,4 +1,3 @@
-use Rattle.std.proofs.Common.{◌≡◌}
 use Rattle.ws_screen.proofs.OrderLemmas.{soh_gives}
 use Rattle.ws_screen.proofs.screen.Screen.start_header.Goals as goal
 
