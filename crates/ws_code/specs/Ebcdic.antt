@@ -1,5 +1,5 @@
--- Code page 037, which the cells of a display are written in (IBM Character Data Representation Architecture,
--- CCSID 37): bytes 40 to FE, one to one with the characters of Latin-1.
+-- Code page 037, which the cells of a display are written in (IBM Character Data Representation
+-- Architecture, CCSID 37): bytes 40 to FE, one to one with the characters of Latin-1.
 use Rattle.std.specs.Prelude.{ℕ, ◌-◌, List, [], ◌∷◌, Option, Some, None, slice_index, nat_le, nat_lt, ◌&&◌, if◌then◌else◌}
 
 -- the code points of bytes 40 to FE, sixteen to a line

@@ -31,7 +31,8 @@ pub fn to_char(byte: u8) -> Option<char>
     }
 }
 
-/// The byte of a character (code page 037): the one whose character it is. `None` if there is no such byte.
+/// The byte of a character (code page 037): the one whose character it is. `None` if there is no
+/// such byte.
 pub fn from_char(character: char) -> Option<u8>
     ensures { (b : ℕ) → (result ≡ Some b) ↔ (char_of b ≡ Some character) }
 {

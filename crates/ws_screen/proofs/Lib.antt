@@ -1,4 +1,5 @@
 pub mod CommandLemmas
+pub mod ControlLemmas
 pub mod FormatLemmas
 pub mod Legal
 pub mod LineLemmas

@@ -1,5 +1,5 @@
--- What the cells hold, each by its last writer (SC30-3533, Write to Display and Clear Unit commands, the orders
--- Start of Field, Repeat to Address and Erase to Address).
+-- What the cells hold, each by its last writer (SC30-3533, Write to Display and Clear Unit
+-- commands, the orders Start of Field, Repeat to Address and Erase to Address).
 use Rattle.std.specs.Prelude.{ℕ, ◌+◌, Bool, Option, Some, None, ◌==◌, ◌&&◌, not, is_some, if◌then◌else◌}
 use Rattle.std.specs.List.{list_any}
 use Rattle.ws_stream.specs.declared.element.Element.TheVariants.{ClearUnit, Write, ReadInput, ReadMdt, Ra, Ea, Sf, Put}

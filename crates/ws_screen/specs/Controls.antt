@@ -1,4 +1,5 @@
--- What the control characters of a command do (SC30-3533, Write to Display command, control characters 1 and 2).
+-- What the control characters of a command do (SC30-3533, Write to Display command, control
+-- characters 1 and 2).
 use Rattle.std.specs.Prelude.{ℕ, ◌/◌, ◌%◌, Bool, true, false, Option, Some, None, ◌==◌, not, ◌&&◌, ◌||◌, if◌then◌else◌}
 use Rattle.std.specs.Option.{option_map_or}
 use Rattle.ws_code.specs.FormatWord.{is_modified}

@@ -1,18 +1,19 @@
--- What happens to a screen: the elements of a host's body (SC30-3533, display data stream), the end of a write,
--- what an opcode does at the end of its record (RFC 1205, section 4), and keys.
+-- What happens to a screen: the elements of a host's body (SC30-3533, display data stream), the end
+-- of a write, what an opcode does at the end of its record (RFC 1205, section 4), and keys.
 use Rattle.std.specs.Prelude.{ℕ, List, [], ◌∷◌, Bool, Option, None, if◌then◌else◌, unwrap_or}
 use Rattle.std.specs.Option.{option_or}
 use Rattle.ws_stream.specs.declared.element.Element.{Element}
 
--- what a key sets: bytes of cells, MDTs by the start of their field, the cursor, and whether it answered a read
+-- what a key sets: bytes of cells, MDTs by the start of their field, the cursor, and whether it
+-- answered a read
 pub record Edit : Type 0 where
   pub written : ℕ → Option ℕ
   pub modified : ℕ → Option Bool
   pub cursor : ℕ
   pub answered : Bool
 
--- an element that wasn't refused, the end of a write, the message light turned on or off, a pending read
--- cancelled, a key
+-- an element that wasn't refused, the end of a write, the message light turned on or off, a pending
+-- read cancelled, a key
 pub data Event : Type 0 where
   did : Element → Event
   ended : Event
@@ -24,7 +25,8 @@ pub data Event : Type 0 where
 abbrev pub History : Type 0
 History = List Event
 
--- what the latest event that sets a part gave, else what a new screen has; an event is judged by those before it
+-- what the latest event that sets a part gave, else what a new screen has; an event is judged by
+-- those before it
 abbrev pub latest : {X : Type 0} → (History → Event → Option X) → X → History → X
 latest sets new [] = new
 latest sets new (e ∷ h) = unwrap_or (sets h e) (latest sets new h)

@@ -1,5 +1,5 @@
--- Why an element is refused, the reasons in the order in which they are tried (SC30-3533, the orders Start of
--- Field, Repeat to Address, Erase to Address).
+-- Why an element is refused, the reasons in the order in which they are tried (SC30-3533, the
+-- orders Start of Field, Repeat to Address, Erase to Address).
 use Rattle.std.specs.Prelude.{ℕ, ◌+◌, List, [], ◌∷◌, Bool, Option, Some, None, length, ◌==◌, ◌&&◌, not, nat_lt, is_some, if◌then◌else◌, Result, Ok, Err}
 use Rattle.std.specs.List.{list_any}
 use Rattle.ws_code.specs.declared.reason.Reason.{Reason}
@@ -20,8 +20,8 @@ first_of (t ∷ ts) = if t.0 then Some t.1 else first_of ts
 abbrev pub shares : ℕ → ℕ → Field → Bool
 shares s n f = nat_lt s (f.start + f.length) && nat_lt f.start (s + n)
 
--- a Start of Field at an address, over the fields that are held; where an input field's start is held only the
--- first test is made
+-- a Start of Field at an address, over the fields that are held; where an input field's start is
+-- held only the first test is made
 abbrev pub sf_faults : ℕ → List Field → FieldOrder → List (Bool × Reason)
 sf_faults a fields f = let input = is_some f.format in
     let fresh = not (input && list_any (starts_at (a + 1)) fields) in

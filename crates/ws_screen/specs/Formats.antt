@@ -46,16 +46,23 @@ bypass_at a h = option_map_or (λ f. is_bypass f.format) (find (starts_at a) (in
 abbrev pub sets_mdt : ℕ → History → Event → Option Bool
 sets_mdt a h (keyed edit) = edit.modified a
 sets_mdt a h e = option_or
-    (option_map_or (λ f. if starts_at a f then Some (is_modified f.format) else None) (field_by (address h) e) None)
-    (option_map_or (λ cc1. if clears_mdt cc1 (bypass_at a h) then Some false else None) (cc1_of e) None)
+    (option_map_or (λ f. if starts_at a f then Some (is_modified f.format) else None)
+    (field_by (address h) e) None)
+    (option_map_or (λ cc1. if clears_mdt cc1 (bypass_at a h) then Some false else None)
+    (cc1_of e) None)
 
 abbrev pub mdt_at : ℕ → History → Bool
 mdt_at a h = latest (sets_mdt a) false h
 
--- the field that starts at a: the length of its earliest Start of Field, the format word of its latest, its MDT
+-- the field that starts at a: the length of its earliest Start of Field, the format word of its
+-- latest, its MDT
 abbrev pub field_from : History → ℕ → Option Field
 field_from h a = option_map_or (λ newest. option_map_or
-    (λ oldest. Some (record { start = a; length = oldest.length; format = with_mdt newest.format (mdt_at a h) }))
+    (λ oldest. Some (record {
+      start = a;
+      length = oldest.length;
+      format = with_mdt newest.format (mdt_at a h);
+    }))
     (find_last (starts_at a) (input_sfs h)) None) (find (starts_at a) (input_sfs h)) None
 
 -- all fields, by start

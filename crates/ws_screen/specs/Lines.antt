@@ -12,13 +12,16 @@ is_attribute b = nat_le 0x20 b && nat_lt b 0x40
 abbrev pub hides : ℕ → Bool
 hides b = b % 8 == 7
 
--- the attribute nearest before a cell in screen order doesn't let it display; before the first all display
+-- the attribute nearest before a cell in screen order doesn't let it display; before the first all
+-- display
 abbrev pub is_hidden : List ℕ → ℕ → Bool
 is_hidden cells c = option_map_or hides (find is_attribute (reverse (take c cells))) false
 
--- the character that a byte shows: 00 and attributes a blank, 1C an asterisk, what the code page lacks a full stop
+-- the character that a byte shows: 00 and attributes a blank, 1C an asterisk, what the code page
+-- lacks a full stop
 abbrev pub shown_char : ℕ → ℕ
-shown_char b = if (b == 0) || is_attribute b then 0x20 else (if b == 0x1C then 0x2A else unwrap_or (char_of b) 0x2E)
+shown_char b = if (b == 0) || is_attribute b then 0x20
+    else (if b == 0x1C then 0x2A else unwrap_or (char_of b) 0x2E)
 
 -- the character that a cell shows
 abbrev pub shown_at : List ℕ → ℕ → ℕ

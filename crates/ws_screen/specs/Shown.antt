@@ -1,4 +1,5 @@
--- What contracts see of a `Screen`: 24 rows of 80 cells, the format table and the rest of a display's state.
+-- What contracts see of a `Screen`: 24 rows of 80 cells, the format table and the rest of a
+-- display's state.
 use Rattle.std.specs.Prelude.{ℕ, ◌≡◌, ◌≤◌, ◌+◌, List, [], ◌∷◌, Bool, false, Option, Some, None, length, not, find, nat_le, nat_lt, ◌&&◌, slice_index}
 use Rattle.std.specs.Option.{option_map_or}
 use Rattle.ws_code.specs.DataByte.{is_order}
@@ -7,8 +8,9 @@ use Rattle.ws_screen.specs.declared.field.Field.{Field}
 use Rattle.ws_screen.specs.declared.open_write.OpenWrite.{OpenWrite}
 use Rattle.ws_screen.specs.declared.read_kind.ReadKind.{ReadKind}
 
--- the cells in screen order, the fields by start, the key switches (bit n - 1 is key n's), where an Insert Cursor
--- set the home, the cursor's place, the keyboard's lock, the message light, blink, the pending read, the open write
+-- the cells in screen order, the fields by start, the key switches (bit n - 1 is key n's), where an
+-- Insert Cursor set the home, the cursor's place, the keyboard's lock, the message light, blink,
+-- the pending read, the open write
 pub record Shown : Type 0 where
   pub cells : List ℕ
   pub fields : List Field
@@ -33,8 +35,8 @@ holds f c = spans f.start (f.start + f.length) c
 abbrev pub is_open : Field → Bool
 is_open f = not (is_bypass f.format)
 
--- the cursor's home: where an Insert Cursor set it, else the first cell of the first field that keys enter, else
--- the first cell of all
+-- the cursor's home: where an Insert Cursor set it, else the first cell of the first field that
+-- keys enter, else the first cell of all
 abbrev pub home_of : Option ℕ → List Field → ℕ
 home_of (Some place) fields = place
 home_of None fields = option_map_or (λ f. f.start) (find is_open fields) 0
@@ -43,7 +45,8 @@ home_of None fields = option_map_or (λ f. f.start) (find is_open fields) 0
 abbrev pub address_of : Option OpenWrite → ℕ
 address_of o = option_map_or (λ w. w.address) o 0
 
--- fields from a place on, one after another on the screen, none of them empty: so no two share a cell
+-- fields from a place on, one after another on the screen, none of them empty: so no two share a
+-- cell
 abbrev pub AreApart : ℕ → List Field → Type 0
 AreApart low [] = low ≤ 1920
 AreApart low (f ∷ fs) = (low ≤ f.start) × (1 ≤ f.length) × AreApart (f.start + f.length) fs
@@ -52,7 +55,8 @@ AreApart low (f ∷ fs) = (low ≤ f.start) × (1 ≤ f.length) × AreApart (f.s
 abbrev pub IsClean : List ℕ → Type 0
 IsClean cells = (c : ℕ) → is_order (slice_index cells c) ≡ false
 
--- what is true of every screen: its size, clean cells, legal fields, and an address on the screen or just past it
+-- what is true of every screen: its size, clean cells, legal fields, and an address on the screen
+-- or just past it
 pub record IsLegal (s : Shown) : Type 0 where
   pub size : length s.cells ≡ 1920
   pub clean : IsClean s.cells

@@ -1,5 +1,5 @@
--- The rest of a display's state, each part by the last event that set it (SC30-3533, the commands, Start of
--- Header, Insert Cursor and Move Cursor orders; RFC 1205, section 4, opcodes).
+-- The rest of a display's state, each part by the last event that set it (SC30-3533, the commands,
+-- Start of Header, Insert Cursor and Move Cursor orders; RFC 1205, section 4, opcodes).
 use Rattle.std.specs.Prelude.{ℕ, ◌+◌, ◌*◌, List, Bool, true, false, Option, Some, None, slice_index, if◌then◌else◌, unwrap_or}
 use Rattle.std.specs.Option.{option_map_or, option_or}
 use Rattle.ws_stream.specs.declared.element.Element.TheVariants.{ClearUnit, ClearFormat, ReadInput, ReadMdt, Soh, Ic}
@@ -50,7 +50,8 @@ sets_locked h (did ClearUnit) = Some true
 sets_locked h (did ClearFormat) = Some true
 sets_locked h cancelled = Some true
 sets_locked h (keyed edit) = if edit.answered then Some true else None
-sets_locked h e = if unlocks (cc2_of h e) then Some false else option_map_or locks_by_cc1 (cc1_of e) None
+sets_locked h e =
+    if unlocks (cc2_of h e) then Some false else option_map_or locks_by_cc1 (cc1_of e) None
 
 abbrev pub locked : History → Bool
 locked h = latest sets_locked true h

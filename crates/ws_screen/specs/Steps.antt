@@ -19,7 +19,8 @@ Ends f = f.start + f.length ≤ 1920
 
 -- a field after a CC1
 abbrev pub after_cc1 : ℕ → Field → Field
-after_cc1 cc1 f = if clears_mdt cc1 (is_bypass f.format) then record f { format = with_mdt f.format false } else f
+after_cc1 cc1 f =
+    if clears_mdt cc1 (is_bypass f.format) then record f { format = with_mdt f.format false } else f
 
 -- a field in its place by start
 abbrev pub insert_field : Field → List Field → List Field
@@ -39,7 +40,8 @@ first_from place (f ∷ fs) = if nat_lt f.start place then first_from place fs e
 -- the last field that starts before a place
 abbrev pub last_before : ℕ → List Field → Option Field
 last_before place [] = None
-last_before place (f ∷ fs) = if nat_lt f.start place then Some (unwrap_or (last_before place fs) f) else None
+last_before place (f ∷ fs) =
+    if nat_lt f.start place then Some (unwrap_or (last_before place fs) f) else None
 
 -- a field after a Start of Field at its start
 abbrev pub reformatted : ℕ → ℕ → Field → Field
@@ -47,7 +49,8 @@ reformatted start format f = if starts_at start f then record f { format = forma
 
 -- the fields after an input Start of Field
 abbrev pub entered : ℕ → ℕ → ℕ → List Field → List Field
-entered start n format fields = if list_any (starts_at start) fields then map (reformatted start format) fields
+entered start n format fields =
+    if list_any (starts_at start) fields then map (reformatted start format) fields
     else insert_field (record { start = start; length = n; format = format }) fields
 
 -- a CC1 was carried out

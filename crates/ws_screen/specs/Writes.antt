@@ -1,5 +1,5 @@
--- The open write: its address, and what is kept for its end (SC30-3533, Write to Display command and the orders
--- Set Buffer Address, Repeat to Address, Erase to Address, Move Cursor).
+-- The open write: its address, and what is kept for its end (SC30-3533, Write to Display command
+-- and the orders Set Buffer Address, Repeat to Address, Erase to Address, Move Cursor).
 use Rattle.std.specs.Prelude.{ℕ, ◌+◌, Bool, true, false, Option, Some, None, unwrap_or, count_by, is_some}
 use Rattle.std.specs.Option.{option_map_or}
 use Rattle.ws_stream.specs.declared.element.Element.TheVariants.{ClearUnit, ClearFormat, Write, ReadInput, ReadMdt, Ra, Ea, Sba, Mc, Sf, Put}
@@ -41,7 +41,8 @@ advances (did (Put byte)) = true
 advances (did (Sf f)) = true
 advances _ = false
 
--- the address: what the nearest order of this write set it to, or 0, and one more for each byte and field since
+-- the address: what the nearest order of this write set it to, or 0, and one more for each byte and
+-- field since
 abbrev pub address : History → ℕ
 address h = unwrap_or (nearest sets_address (this_write h)) 0
     + count_by advances (until (λ e. is_some (sets_address e)) (this_write h))

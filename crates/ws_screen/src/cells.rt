@@ -5,7 +5,8 @@ ghost use Rattle.ws_screen.specs.Shown.{spans};
 pub fn fill(cells: &mut [u8], from: usize, end: usize, byte: u8)
     requires in_order { from ≤ end }
     requires within { end ≤ length cells.old }
-    ensures { (c : ℕ) → slice_index cells.new c ≡ (if spans from end c then byte else slice_index cells.old c) }
+    ensures { (c : ℕ) → slice_index cells.new c
+        ≡ (if spans from end c then byte else slice_index cells.old c) }
 {
     for c in from..end {
         cells[c] = byte;
@@ -17,7 +18,10 @@ pub fn write_attributes(cells: &mut [u8], at: usize, attribute: u8, length_: usi
     requires size { length cells.old ≡ 1920 }
     requires inside { at < 1920 }
     requires short { length_ < 65536 }
-    ensures { (c : ℕ) → c < 1920 → slice_index cells.new c ≡ (if c == at then attribute else (if ends && not (length_ == 0) && (c == at + 1 + length_) then 0x20 else slice_index cells.old c)) }
+    ensures { (c : ℕ) → c < 1920 → slice_index cells.new c
+        ≡ (if c == at then attribute
+        else (if ends && not (length_ == 0) && (c == at + 1 + length_) then 0x20
+        else slice_index cells.old c)) }
 {
     let end = at + 1 + length_;
     if ends && length_ != 0 && end < 1920 {

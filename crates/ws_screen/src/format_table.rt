@@ -33,6 +33,9 @@ fn cleared(cc1: u8, field: Field) -> Field
 fn clear_mdts(fields: &mut [Field], cc1: u8)
     ensures { fields.new ≡ map (after_cc1 cc1) fields.old }
 {
+    if !clears(cc1, false) {
+        return;
+    }
     for field in fields.iter_mut() {
         *field = cleared(cc1, *field);
     }
@@ -53,6 +56,10 @@ pub fn null_fields(cells: &mut [u8], fields: &[Field], cc1: u8)
         ≡ (if list_any (λ f. is_nulled cc1 f && holds f c) fields.now then 0
         else slice_index cells.old c) }
 {
+    // codes 0 to 3 null no field
+    if cc1 / 32 < 4 {
+        return;
+    }
     for field in fields {
         if nulls(cc1, *field) {
             let start = field.start.place();
@@ -87,10 +94,12 @@ fn insert_by_start(table: &mut ArrayVec<Field, 256>, field: Field)
     table.insert(at, field);
 }
 
-/// Takes an input field into the table, and tells whether its start was new: one that is held keeps its length.
+/// Takes an input field into the table, and tells whether its start was new: one that is held keeps
+/// its length.
 fn enter(table: &mut ArrayVec<Field, 256>, start: u16, length_: u16, format: Ffw) -> bool
     requires apart { AreApart 0 table.old.items }
-    requires room { list_any (starts_at start) table.old.items ≡ false → length table.old.items ≢ 256 }
+    requires room { list_any (starts_at start) table.old.items ≡ false
+        → length table.old.items ≢ 256 }
     requires inside { list_any (starts_at start) table.old.items ≡ false → start < 1920 }
     ensures fresh { result ≡ not (list_any (starts_at start) table.old.items) }
     ensures entered_ { table.new.items ≡ entered start length_ format table.old.items }
@@ -109,8 +118,8 @@ fn enter(table: &mut ArrayVec<Field, 256>, start: u16, length_: u16, format: Ffw
     !held
 }
 
-/// Takes a field into the table if it is an input field, and tells whether an attribute ends it: not where an input
-/// field's start is held.
+/// Takes a field into the table if it is an input field, and tells whether an attribute ends it:
+/// not where an input field's start is held.
 pub fn enter_any(
     table: &mut ArrayVec<Field, 256>,
     start: u16,

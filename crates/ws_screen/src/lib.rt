@@ -1,5 +1,5 @@
-//! A display of 24 rows and 80 columns: its cells, its format table and what a host's elements make of them
-//! (IBM SC30-3533, display data stream). No call takes memory.
+//! A display of 24 rows and 80 columns: its cells, its format table and what a host's elements make
+//! of them (IBM SC30-3533, display data stream). No call takes memory.
 #![tactic(auto)]
 
 mod cells;
@@ -15,3 +15,6 @@ mod searches;
 pub use field::Field;
 pub use read_kind::ReadKind;
 pub use screen::Screen;
+
+#[cfg(test)]
+mod tests;

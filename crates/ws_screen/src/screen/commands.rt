@@ -14,8 +14,8 @@ use crate::{ReadKind, Screen};
 use ws_code::Address;
 
 impl Screen {
-    /// Begins a Write to Display: carries out its CC1, sets the address to row 1 and column 1, and keeps its CC2 for
-    /// the end of the write. No write may be open.
+    /// Begins a Write to Display: carries out its CC1, sets the address to row 1 and column 1, and
+    /// keeps its CC2 for the end of the write. No write may be open.
     pub fn begin_write(&mut self, cc1: u8, cc2: u8)
         requires { self.old.writing ≡ None }
         ensures event { Follows (did (Write cc1 cc2)) self.old self.new }
@@ -44,7 +44,8 @@ impl Screen {
         self.writing = None;
     }
 
-    // Locks the keyboard, nulls fields and turns MDTs off as a CC1 says. MDTs decide while they are still on.
+    // Locks the keyboard, nulls fields and turns MDTs off as a CC1 says. MDTs decide while they are
+    // still on.
     fn carry_cc1(&mut self, cc1: u8)
         ensures { IsCarried cc1 self.old self.new }
     {
@@ -68,8 +69,8 @@ impl Screen {
         self.blink = light_after(0x10, 0x20, cc2, blink);
     }
 
-    // Drops the format table, the key switches, the home, the pending read and the open write, and locks the
-    // keyboard.
+    // Drops the format table, the key switches, the home, the pending read and the open write, and
+    // locks the keyboard.
     fn unformat(&mut self)
         ensures exact { self.new ≡ unformatted self.old }
         ensures legal { IsLegal self.new }

@@ -10,16 +10,17 @@ use ws_code::Reason;
 use ws_stream::Element;
 
 impl Screen {
-    /// Carries out one element of a host's body (SC30-3533, display data stream). A command first ends an open
-    /// write. An order or a byte asks for an open write.
+    /// Carries out one element of a host's body (SC30-3533, display data stream). A command first
+    /// ends an open write. An order or a byte asks for an open write.
     ///
-    /// Refused, with the screen as it was: a byte or a Start of Field past the last cell, an input field without
-    /// cells, a field past the last cell, an input field that shares a cell with another, a 257th one, and an order
-    /// up to a place before the address.
+    /// Refused, with the screen as it was: a byte or a Start of Field past the last cell, an input
+    /// field without cells, a field past the last cell, an input field that shares a cell with
+    /// another, a 257th one, and an order up to a place before the address.
     pub fn apply(&mut self, element: &Element) -> Result<(), Reason>
         requires { NeedsWrite element.now → IsSome self.old.writing }
         ensures fault { refusal result ≡ fault self.old element.now }
-        ensures events { OnOk result (FollowsAll (events_of self.old.writing element.now) self.old self.new) }
+        ensures events { OnOk result
+            (FollowsAll (events_of self.old.writing element.now) self.old self.new) }
         ensures unchanged { OnErr result (self.new ≡ self.old) }
         ensures legal { IsLegal self.new }
         // after a Write to Display, an order or a byte, and only then, a write is open

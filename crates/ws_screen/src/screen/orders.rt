@@ -75,11 +75,13 @@ impl Screen {
         self.writing = Some(open);
     }
 
-    // Writes a byte to the cells from the address through a place, and sets the address to the next.
+    // Writes a byte to the cells from the address through a place, and sets the address to the
+    // next.
     fn fill_through(&mut self, to: Address, byte: u8) -> Result<(), Reason>
         requires writing_ { IsSome self.old.writing }
         requires clean { is_order byte ≡ false }
-        ensures fault { refusal result ≡ (if nat_lt to (address_of self.old.writing) then Some BackwardAddress else None) }
+        ensures fault { refusal result
+            ≡ (if nat_lt to (address_of self.old.writing) then Some BackwardAddress else None) }
         ensures filled { OnOk result (IsFilled to byte self.old self.new) }
         ensures unchanged { OnErr result (self.new ≡ self.old) }
         ensures legal { IsLegal self.new }

@@ -8,11 +8,12 @@ use crate::lines::row_text;
 use arrayvec::ArrayString;
 
 impl Screen {
-    /// The 80 characters of a row from 1 to 24: a blank for 00, for an attribute (20 to 3F) and for a cell that isn't
-    /// displayed, `*` for 1C, else the byte's character of code page 037 or a full stop.
+    /// The 80 characters of a row from 1 to 24: a blank for 00, for an attribute (20 to 3F) and for
+    /// a cell that isn't displayed, `*` for 1C, else the byte's character of code page 037 or a
+    /// full stop.
     ///
-    /// A cell isn't displayed where the attribute nearest before it in screen order ends in the bits 111 (SC30-3533,
-    /// display attributes).
+    /// A cell isn't displayed where the attribute nearest before it in screen order ends in the
+    /// bits 111 (SC30-3533, display attributes).
     pub fn line(&self, row: u8) -> ArrayString<160>
         requires low { 1 ≤ row }
         requires high { row ≤ 24 }

@@ -1,0 +1,285 @@
+ghost use Rattle.std.specs.Prelude.{◌≡◌};
+ghost use Rattle.ws_stream.specs.Elements as Spec;
+
+use crate::{ReadKind, Screen};
+use std::process::Abort;
+use ws_code::{Address, DataByte, Ffw, Reason};
+use ws_stream::{Element, EraseList, FieldStart, SohBytes};
+
+fn place(rt: &impl Abort, place: u16) -> Address {
+    Address::at(place).expect(rt, "a cell")
+}
+
+// A Write to Display that unlocks the keyboard at its end.
+fn begin() -> Element {
+    Element::Write { cc1: 0, cc2: 0x08 }
+}
+
+fn sba(rt: &impl Abort, row: u8, col: u8) -> Element {
+    Element::Sba(Address::new(row, col).expect(rt, "a cell"))
+}
+
+fn put(rt: &impl Abort, byte: u8) -> Element {
+    Element::Put(DataByte::new(byte).expect(rt, "no order code"))
+}
+
+fn input(rt: &impl Abort, format: u16, attribute: u8, length: u16) -> Element {
+    let format = Ffw::new(format).expect(rt, "a format word");
+    Element::Sf(FieldStart::new(Some(format), &[], attribute, length).expect(rt, "a field"))
+}
+
+fn output(rt: &impl Abort, attribute: u8, length: u16) -> Element {
+    Element::Sf(FieldStart::new(None, &[], attribute, length).expect(rt, "a field"))
+}
+
+fn is_command(element: &Element) -> bool
+    ensures { result ≡ Spec.is_command element.now }
+{
+    match element {
+        Element::ClearUnit
+        | Element::ClearFormat
+        | Element::Write { .. }
+        | Element::ReadInput { .. }
+        | Element::ReadMdt { .. } => true,
+        _ => false,
+    }
+}
+
+// Applies elements in turn, up to the first that is refused.
+fn apply_all(rt: &impl Abort, screen: &mut Screen, elements: &[Element]) -> Option<Reason> {
+    for element in elements {
+        let may_stand = is_command(element) || screen.writing();
+        assert!(rt; may_stand);
+        if let Err(reason) = screen.apply(element) {
+            return Some(reason);
+        }
+    }
+    None
+}
+
+// A new screen to which the elements were applied.
+fn shown(rt: &impl Abort, elements: &[Element]) -> Screen {
+    let mut screen = Screen::new();
+    let refused = apply_all(rt, &mut screen, elements);
+    assert_eq!(rt; refused, None);
+    screen
+}
+
+// Why a new screen refuses one of the elements.
+fn refusal(rt: &impl Abort, elements: &[Element]) -> Option<Reason> {
+    let mut screen = Screen::new();
+    apply_all(rt, &mut screen, elements)
+}
+
+// The length and the format word of the input field that holds a cell.
+fn field_at(rt: &impl Abort, screen: &Screen, at: u16) -> Option<(u16, u16)> {
+    let field = screen.field_at(place(rt, at))?;
+    Some((field.length, field.format.value()))
+}
+
+// 256 fields of one cell, three cells apart.
+fn full_table(rt: &impl Abort, descending: bool) -> Screen {
+    let mut screen = shown(rt, &[begin()]);
+    for count in 0..256u16 {
+        let at = if descending {
+            3 * (255 - count)
+        } else {
+            3 * count
+        };
+        let field = [Element::Sba(place(rt, at)), input(rt, 0x4000, 0x20, 1)];
+        let refused = apply_all(rt, &mut screen, &field);
+        assert_eq!(rt; refused, None);
+    }
+    screen
+}
+
+#[test]
+fn field_limits(rt: HostRuntime) {
+    let mut screen = shown(
+        &rt,
+        &[begin(), sba(&rt, 24, 79), input(&rt, 0x4000, 0x20, 1)],
+    );
+    assert_eq!(rt; screen.cell(place(&rt, 1918)), 0x20);
+    assert_eq!(rt; screen.cell(place(&rt, 1919)), 0x00);
+    assert_eq!(rt; field_at(&rt, &screen, 1919), Some((1, 0x4000)));
+    let again = [sba(&rt, 24, 79), input(&rt, 0x4800, 0x20, 0)];
+    assert_eq!(rt; apply_all(&rt, &mut screen, &again), None);
+    assert_eq!(rt; field_at(&rt, &screen, 1919), Some((1, 0x4800)));
+    assert_eq!(rt; screen.fields().len(), 1);
+
+    let too_long = [begin(), sba(&rt, 24, 79), input(&rt, 0x4000, 0x20, 2)];
+    assert_eq!(rt; refusal(&rt, &too_long), Some(Reason::FieldPastEnd));
+    let empty = [begin(), sba(&rt, 24, 79), input(&rt, 0x4000, 0x20, 0)];
+    assert_eq!(rt; refusal(&rt, &empty), Some(Reason::ZeroLength));
+    let overlapping = [
+        begin(),
+        sba(&rt, 6, 52),
+        input(&rt, 0x4000, 0x20, 10),
+        sba(&rt, 6, 54),
+        input(&rt, 0x4000, 0x20, 4),
+    ];
+    assert_eq!(rt; refusal(&rt, &overlapping), Some(Reason::FieldOverlap));
+
+    let mut full = full_table(&rt, false);
+    let one_more = [Element::Sba(place(&rt, 768)), input(&rt, 0x4000, 0x20, 1)];
+    assert_eq!(rt;
+        apply_all(&rt, &mut full, &one_more),
+        Some(Reason::TableFull)
+    );
+    let held = [Element::Sba(place(&rt, 300)), input(&rt, 0x4800, 0x20, 1)];
+    assert_eq!(rt; apply_all(&rt, &mut full, &held), None);
+    assert_eq!(rt; full.fields().len(), 256);
+}
+
+#[test]
+fn descending_256(rt: HostRuntime) {
+    let ascending = full_table(&rt, false).fields();
+    let descending = full_table(&rt, true).fields();
+    assert_eq!(rt; descending.len(), 256);
+    assert_eq!(rt; descending.as_slice(), ascending.as_slice());
+}
+
+#[test]
+fn hidden_field_and_dup(rt: HostRuntime) {
+    let mut screen = shown(
+        &rt,
+        &[
+            begin(),
+            input(&rt, 0x4000, 0x27, 2),
+            put(&rt, 0xC1),
+            put(&rt, 0xC2),
+            sba(&rt, 1, 6),
+            put(&rt, 0x1C),
+            put(&rt, 0x81),
+        ],
+    );
+    screen.end_write();
+    let line = screen.line(1);
+    assert_eq!(rt; line.as_str().len(), 80);
+    assert_eq!(rt; line.as_str().trim_end(), "     *a");
+    assert_eq!(rt; screen.cursor().place(), 1);
+    assert!(rt; !screen.locked());
+}
+
+#[test]
+fn modified_nulled_and_locked(rt: HostRuntime) {
+    let screen = shown(
+        &rt,
+        &[
+            Element::Write { cc1: 0, cc2: 0 },
+            input(&rt, 0x4800, 0x20, 2),
+            put(&rt, 0xC1),
+            put(&rt, 0xC2),
+            Element::Write { cc1: 0xC0, cc2: 0 },
+        ],
+    );
+    for (at, byte) in [(0, 0x20), (1, 0x00), (2, 0x00), (3, 0x20)] {
+        assert_eq!(rt; screen.cell(place(&rt, at)), byte, "at {at}");
+    }
+    assert_eq!(rt; field_at(&rt, &screen, 1), Some((2, 0x4000)));
+    assert!(rt; screen.locked());
+}
+
+#[test]
+fn backward_address(rt: HostRuntime) {
+    let mut screen = shown(&rt, &[begin(), sba(&rt, 1, 5)]);
+    let to = place(&rt, 3);
+    let byte = DataByte::new(0x40).expect(&rt, "a blank");
+    let refused = apply_all(&rt, &mut screen, &[Element::Ra { to, byte }]);
+    assert_eq!(rt; refused, Some(Reason::BackwardAddress));
+    for at in 0..6 {
+        assert_eq!(rt; screen.cell(place(&rt, at)), 0, "at {at}");
+    }
+}
+
+// The codes of CC1 on open fields with MDT off and on, and on bypass fields with MDT off and on:
+// which fields are nulled, which MDTs are on afterwards, and the lock.
+#[test]
+fn cc1_codes(rt: HostRuntime) {
+    let words = [0x4000, 0x4800, 0x6000, 0x6800];
+    let none = [false, false, false, false];
+    let modified = [false, true, false, false];
+    let open = [true, true, false, false];
+    let both = [false, true, false, true];
+    let bypass = [false, false, false, true];
+    let rows = [
+        (0, none, both, false),
+        (1, none, both, true),
+        (2, none, bypass, true),
+        (3, none, none, true),
+        (4, modified, both, true),
+        (5, open, bypass, true),
+        (6, modified, bypass, true),
+        (7, open, none, true),
+    ];
+    for (code, nulled, modified_after, locked) in rows {
+        let mut screen = shown(&rt, &[begin()]);
+        for word in words {
+            let field = [input(&rt, word, 0x20, 1), put(&rt, 0xC1), put(&rt, 0x40)];
+            assert_eq!(rt; apply_all(&rt, &mut screen, &field), None);
+        }
+        let cc1 = code * 32 + 31;
+        assert_eq!(rt;
+            apply_all(&rt, &mut screen, &[Element::Write { cc1, cc2: 0 }]),
+            None
+        );
+        assert_eq!(rt; screen.locked(), locked, "code {code}");
+        for (field, at) in [(0, 1), (1, 4), (2, 7), (3, 10)] {
+            let byte = if nulled[field] { 0x00 } else { 0xC1 };
+            assert_eq!(rt; screen.cell(place(&rt, at)), byte, "code {code} at {at}");
+            let (_, word) = field_at(&rt, &screen, at).expect(&rt, "a field");
+            assert_eq!(rt;
+                word / 0x800 % 2 == 1,
+                modified_after[field],
+                "code {code} at {at}"
+            );
+        }
+    }
+}
+
+// What the other orders, the reads, the opcodes and the end of a write do.
+#[test]
+fn states(rt: HostRuntime) {
+    let mut screen = Screen::new();
+    assert!(rt; screen.locked() && !screen.message() && !screen.blink() && !screen.writing());
+    assert_eq!(rt; screen.cursor().place(), 0);
+    screen.begin_write(0, 0x19);
+    assert!(rt; screen.writing());
+    let orders = [
+        Element::Soh(SohBytes::new(&[0, 0, 0, 0, 0x80, 0, 1]).expect(&rt, "a header")),
+        output(&rt, 0x22, 3),
+        sba(&rt, 2, 1),
+        input(&rt, 0x4000, 0x20, 3),
+        Element::Ic(place(&rt, 5)),
+        Element::Mc(place(&rt, 7)),
+        Element::Ea {
+            to: place(&rt, 81),
+            kinds: EraseList::new(&[0xFF]).expect(&rt, "a type"),
+        },
+    ];
+    assert_eq!(rt; apply_all(&rt, &mut screen, &orders), None);
+    assert_eq!(rt; screen.home().place(), 5);
+    screen.end_write();
+    assert!(rt; !screen.locked() && screen.message() && screen.blink() && !screen.writing());
+    assert_eq!(rt; screen.cursor().place(), 7);
+
+    let read = [Element::ReadMdt { cc1: 0x20, cc2: 0 }];
+    assert_eq!(rt; apply_all(&rt, &mut screen, &read), None);
+    assert_eq!(rt; screen.pending(), Some(ReadKind::Mdt));
+    let mut other = Screen::new();
+    other.assign(&screen);
+    assert_eq!(rt; other.fields().as_slice(), screen.fields().as_slice());
+    assert_eq!(rt; other.pending(), Some(ReadKind::Mdt));
+    other.cancel_read();
+    assert_eq!(rt; other.pending(), None);
+    other.set_message(false);
+    assert!(rt; other.locked() && !other.message());
+    let cleared = [Element::ReadInput { cc1: 0, cc2: 0 }, Element::ClearFormat];
+    assert_eq!(rt; apply_all(&rt, &mut screen, &cleared), None);
+    assert_eq!(rt; screen.pending(), None);
+    assert_eq!(rt; screen.fields().len(), 0);
+    assert_eq!(rt; screen.cursor().place(), 7);
+    assert_eq!(rt; apply_all(&rt, &mut screen, &[Element::ClearUnit]), None);
+    assert_eq!(rt; screen.cursor().place(), 0);
+    assert_eq!(rt; screen.line(1).as_str().trim_end(), "");
+}
