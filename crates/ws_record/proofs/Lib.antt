@@ -1,8 +1,11 @@
 pub mod Decodes
 pub mod Empty
 pub mod Headers
+pub mod LastRecords
 pub mod Lives
+pub mod OpenPrefixes
 pub mod OpenRecords
+pub mod Prefixes
 pub mod Reading
 pub mod Receivers
 pub mod Refusals

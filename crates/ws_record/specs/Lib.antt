@@ -4,6 +4,7 @@ pub mod Escaped
 pub mod Grammar
 pub mod HeaderSoFar
 pub mod Live
+pub mod OpenPrefix
 pub mod OpenRecord
 pub mod RawBody
 pub mod ReadyRecord
