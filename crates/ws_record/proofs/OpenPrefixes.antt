@@ -1,6 +1,6 @@
 use Rattle.std.proofs.Common.{◌≡◌, ℕ, ◌+◌, ◌≤◌, List, [], ◌∷◌, ◌++◌, zero, suc, length, drop, take, get_or, refl, sym, ap, ◌∙◌, subst, arith, append_assoc, length-append}
 use Rattle.std.specs.List.{AllByRecursion}
-use Rattle.std.proofs.lemmas.List.{take-append-le, take-append-drop, take_at, take_more}
+use Rattle.std.proofs.lemmas.List.{append-nil, take-append-le, take-append-drop, take_at, take_more}
 use Rattle.std.proofs.lemmas.Grind.{flat_map-append}
 use Rattle.ws_code.specs.Code.{Rules, IsChain, AreBytes, spelling_of}
 use Rattle.ws_code.specs.declared.reason.Reason.{Reason}
@@ -9,10 +9,10 @@ use Rattle.ws_telnet.specs.Token.{token_rules}
 use Rattle.ws_telnet.specs.declared.token.Token.{Token}
 use Rattle.ws_telnet.specs.declared.token.Token.TheVariants.{Eor}
 use Rattle.ws_record.specs.Grammar.{IsBodyBytes, IsStream, HasNoEor, joined, carried}
-use Rattle.ws_record.specs.Refusal.{Layer, IsRight, IsOpen, IsRefused, IsFirstClosed}
+use Rattle.ws_record.specs.Refusal.{Layer, IsRight, IsOpen, IsRefused, IsTruncated, IsFirstClosed}
 use Rattle.ws_record.specs.Refusal.Layer.{Tokens, Header, Body}
 use Rattle.ws_record.specs.OpenRecord.{CanBeFramed}
-use Rattle.ws_record.specs.OpenPrefix.{BeginsList, IsOpenPrefix, IsFirstClosedTo, AreOpenBelow, IsRefusedByPrefix}
+use Rattle.ws_record.specs.OpenPrefix.{BeginsList, IsOpenPrefix, IsFirstClosedTo, AreOpenBelow, IsRefusedByPrefix, IsTruncatedByPrefix}
 use Rattle.ws_record.proofs.LastRecords.{last_of_stream, stream_of_last}
 use Rattle.ws_record.proofs.OpenRecords.{nothing_framed}
 use Rattle.ws_record.proofs.Prefixes.{parted, list_cut}
@@ -149,3 +149,10 @@ module _ {Place U : Type 0} (rules : Rules Place U) (begins : Begins rules) (can
         closed = closed_from r.layer r.before r.byte opened r.closed;
         why = r.why;
       }
+
+  -- and the same bytes as truncated
+  pub truncated_by_prefix : (bytes : List ℕ) → IsTruncated rules bytes → IsTruncatedByPrefix rules bytes
+  truncated_by_prefix bytes t = record { each = open_below bytes bytes [] (sym (append-nil bytes)) t.opened; unfinished = t.unfinished }
+
+  pub truncated_by_stream : (bytes : List ℕ) → IsTruncatedByPrefix rules bytes → IsTruncated rules bytes
+  truncated_by_stream bytes t = record { opened = all_through bytes bytes [] (sym (append-nil bytes)) t.each; unfinished = t.unfinished }

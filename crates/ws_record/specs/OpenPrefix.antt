@@ -5,7 +5,8 @@ use Rattle.ws_code.specs.declared.reason.Reason.{Reason}
 use Rattle.ws_telnet.specs.Token.{token_rules}
 use Rattle.ws_telnet.specs.declared.token.Token.{Token}
 use Rattle.ws_telnet.specs.declared.token.Token.TheVariants.{Eor}
-use Rattle.ws_record.specs.Grammar.{IsFramed, IsBodyBytes, HasNoEor, joined, carried}
+use Rattle.ws_record.specs.declared.record.Item.{Item}
+use Rattle.ws_record.specs.Grammar.{IsFramed, IsBodyBytes, Accepts, HasNoEor, joined, carried}
 use Rattle.ws_record.specs.Refusal.{EndsWith, Layer, IsReason}
 use Rattle.ws_record.specs.Refusal.Layer.{Tokens, Header, Body}
 use Rattle.ws_record.specs.OpenRecord.{CanBeFramed}
@@ -69,3 +70,8 @@ module _ {Place U : Type 0} where
     pub least : AreOpenBelow rules bytes place
     pub closed : IsFirstClosedTo rules layer (before ++ byte ∷ [])
     pub why : IsReason rules layer before byte reason
+
+  -- no place's prefix is closed to a layer, and yet the bytes aren't in the grammar
+  pub record IsTruncatedByPrefix (rules : Rules Place U) (bytes : List ℕ) : Type 0 where
+    pub each : AreOpenBelow rules bytes (length bytes)
+    pub unfinished : (items : List (Item U)) → Accepts rules bytes items → ⊥

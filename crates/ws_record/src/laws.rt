@@ -2,8 +2,8 @@ ghost use Rattle.std.specs.Prelude.{◌≡◌, List, ℕ};
 ghost use Rattle.ws_code.specs.declared.reason.Reason.{Reason};
 ghost use Rattle.ws_record.specs.declared.record.Item.{Item};
 ghost use Rattle.ws_record.specs.Grammar.{Spells};
-ghost use Rattle.ws_record.specs.OpenPrefix.{IsRefusedByPrefix};
-ghost use Rattle.ws_record.specs.Refusal.{IsRefused};
+ghost use Rattle.ws_record.specs.OpenPrefix.{IsRefusedByPrefix, IsTruncatedByPrefix};
+ghost use Rattle.ws_record.specs.Refusal.{IsRefused, IsTruncated};
 
 use ws_code::Body;
 
@@ -20,4 +20,13 @@ pub fn one_refusal<B: Body>()
         → IsRefused B.rules bytes place reason → IsRefusedByPrefix B.rules bytes place reason }
     ensures and_back { (bytes : List ℕ) (place : ℕ) (reason : Reason)
         → IsRefusedByPrefix B.rules bytes place reason → IsRefused B.rules bytes place reason }
+{}
+
+/// The same bytes are truncated, whether each layer is asked of whole streams or prefix by
+/// prefix of the last record.
+pub fn one_truncation<B: Body>()
+    ensures named { (bytes : List ℕ)
+        → IsTruncated B.rules bytes → IsTruncatedByPrefix B.rules bytes }
+    ensures and_back { (bytes : List ℕ)
+        → IsTruncatedByPrefix B.rules bytes → IsTruncated B.rules bytes }
 {}

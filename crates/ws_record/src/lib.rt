@@ -11,7 +11,7 @@ mod receiver;
 mod record;
 
 pub use decode::{decode_all, decode_from};
-pub use laws::{one_reading, one_refusal};
+pub use laws::{one_reading, one_refusal, one_truncation};
 pub use live::{Live, Step};
 pub use opcode::Opcode;
 pub use raw::RawBody;
