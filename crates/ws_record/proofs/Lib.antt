@@ -1,5 +1,6 @@
 pub mod Decodes
 pub mod Empty
+pub mod Encodings
 pub mod Headers
 pub mod LastRecords
 pub mod Lives
@@ -11,3 +12,4 @@ pub mod Receivers
 pub mod Refusals
 pub mod Steps
 pub mod Streams
+pub mod Writes

@@ -1,5 +1,6 @@
 pub mod DataStep
 pub mod DecodeFrom
+pub mod Encode
 pub mod Escaped
 pub mod Grammar
 pub mod HeaderSoFar

@@ -1,10 +1,14 @@
-ghost use Rattle.std.specs.Prelude.{◌≡◌, List, ℕ};
+ghost use Rattle.std.specs.Prelude.{◌≡◌, List, ℕ, IfOk, IfErr};
+ghost use Rattle.std.specs.List.{AllByRecursion};
 ghost use Rattle.ws_code.specs.declared.reason.Reason.{Reason};
 ghost use Rattle.ws_record.specs.declared.record.Item.{Item};
-ghost use Rattle.ws_record.specs.Grammar.{Spells};
+ghost use Rattle.ws_record.specs.Grammar.{Spells, Accepts};
+ghost use Rattle.ws_record.specs.Encode.{AreEncoded, IsInRange, IsEncodeFault, plain_spelling};
 ghost use Rattle.ws_record.specs.OpenPrefix.{IsRefusedByPrefix, IsTruncatedByPrefix};
 ghost use Rattle.ws_record.specs.Refusal.{IsRefused, IsTruncated};
 
+use crate::{EncodeFault, Item, decode_all, encode};
+use std::alloc::Global;
 use ws_code::Body;
 
 /// A list of bytes spells at most one list of items.
@@ -30,3 +34,30 @@ pub fn one_truncation<B: Body>()
     ensures and_back { (bytes : List ℕ)
         → IsTruncatedByPrefix B.rules bytes → IsTruncated B.rules bytes }
 {}
+
+/// The plain spelling of items that can be encoded is in the grammar, and spells these items and no
+/// others.
+pub fn encoding_spells_its_items<B: Body>()
+    ensures accepted { (items : List (Item B.Unit)) → AreEncoded B.rules items
+        → AllByRecursion IsInRange items → Accepts B.rules (plain_spelling B.rules items) items }
+    ensures only { (items others : List (Item B.Unit)) → AreEncoded B.rules items
+        → AllByRecursion IsInRange items → Spells B.rules (plain_spelling B.rules items) others
+        → others ≡ items }
+{}
+
+/// Encodes the items and decodes what came of it: the items come back.
+///
+/// The faults are those of `encode`; `Memory` also where a growth was refused in decoding.
+pub fn encode_and_decode<B: Body>(
+    alloc: Global,
+    items: &[Item<B::Unit>],
+) -> Result<Vec<Item<B::Unit>>, EncodeFault>
+    ensures same { IfOk result (λ found. found.items ≡ items.now) }
+    ensures fault { IfErr result (IsEncodeFault B.rules items.now) }
+{
+    let bytes = encode::<B>(alloc, items)?;
+    match decode_all::<B>(alloc, bytes.as_slice()) {
+        Ok(found) => Ok(found),
+        Err(_) => Err(EncodeFault::Memory),
+    }
+}

@@ -2,6 +2,8 @@
 #![tactic(auto)]
 
 mod decode;
+mod encoder;
+mod item_writer;
 mod laws;
 mod live;
 mod opcode;
@@ -9,15 +11,22 @@ mod open_record;
 mod raw;
 mod receiver;
 mod record;
+mod record_writer;
 
 pub use decode::{decode_all, decode_from};
-pub use laws::{one_reading, one_refusal, one_truncation};
+pub use encoder::{EncodeFault, encode, encode_to};
+pub use laws::{
+    encode_and_decode, encoding_spells_its_items, one_reading, one_refusal, one_truncation,
+};
 pub use live::{Live, Step};
 pub use opcode::Opcode;
 pub use raw::RawBody;
 pub use receiver::{Fed, Receiver};
 pub use record::{Head, Item, Record};
+pub use record_writer::write_record;
 
+#[cfg(test)]
+mod encode_tests;
 #[cfg(test)]
 mod escaped;
 #[cfg(test)]

@@ -1,0 +1,8 @@
+use Rattle.std.proofs.Common.{take}
+use Rattle.ws_code.specs.Device.{WentOut}
+use Rattle.ws_record.specs.Encode.{plain_spelling}
+use Rattle.ws_record.proofs.item_writer.write_items.Given as goal
+
+-- so far, the items before went out
+abbrev pub invariant-loop-item : goal.invariant-loop-item
+invariant-loop-item g l = WentOut g.S.Sink.takes g.S.Sink.failures l.fn.sink l.sink (plain_spelling g.B.Code.rules (take l.item-index l.items))

@@ -1,0 +1,77 @@
+use Rattle.std.specs.Prelude.{◌≡◌, ℕ, ◌^◌, ◌<◌, ◌≤◌, List, [], ◌∷◌, ◌++◌, length}
+use Rattle.std.specs.List.{flat_map, AllByRecursion}
+use Rattle.ws_code.specs.Code.{Rules, IsWhole}
+use Rattle.ws_code.specs.Device.{MayTake, FailedWithin}
+use Rattle.ws_telnet.specs.Token.{doubled, telnet_spelling, IsTelnet}
+use Rattle.ws_record.specs.declared.record.Item.{Item}
+use Rattle.ws_record.specs.declared.record.Item.TheVariants.{Record as RecordItem, Telnet as TelnetItem}
+use Rattle.ws_record.specs.declared.encoder.EncodeFault.{EncodeFault}
+use Rattle.ws_record.specs.declared.encoder.EncodeFault.TheVariants.{TooBig, BadSequence, Memory, Write}
+use Rattle.ws_record.specs.Grammar.{record_bytes}
+
+-- Encoding: the plain spelling of items, and which lists have one that is read back
+
+-- a record's bytes with each FF doubled, and IAC EOR behind them (RFC 854; RFC 885)
+abbrev pub record_spelling : List ℕ → List ℕ
+record_spelling bytes = flat_map doubled bytes ++ 0xff ∷ 0xef ∷ []
+
+module _ {Place U : Type 0} where
+  abbrev pub item_spelling : Rules Place U → Item U → List ℕ
+  item_spelling rules (RecordItem r) = record_spelling (record_bytes rules r)
+  item_spelling rules (TelnetItem t) = telnet_spelling t
+
+  -- the items one after another, no command inside a record
+  abbrev pub plain_spelling : Rules Place U → List (Item U) → List ℕ
+  plain_spelling rules items = flat_map (item_spelling rules) items
+
+  -- the item can be encoded: a record's list is a body, and its bytes fit the length in the header (RFC 1205, section 3)
+  abbrev pub IsEncoded : Rules Place U → Item U → Type 0
+  IsEncoded rules (RecordItem r) = IsWhole rules r.body × (length (record_bytes rules r) < 2 ^ 16)
+  IsEncoded rules (TelnetItem t) = Unit {0}
+
+  abbrev pub AreEncoded : Rules Place U → List (Item U) → Type 0
+  AreEncoded rules items = AllByRecursion (IsEncoded rules) items
+
+  -- a record's list is no body
+  abbrev pub IsBadSequence : Rules Place U → Item U → Type 0
+  IsBadSequence rules (RecordItem r) = ¬ IsWhole rules r.body
+  IsBadSequence rules (TelnetItem t) = ⊥
+
+  -- it is one, and the record's bytes are more than a header can declare
+  abbrev pub IsTooBig : Rules Place U → Item U → Type 0
+  IsTooBig rules (RecordItem r) = IsWhole rules r.body × (2 ^ 16 ≤ length (record_bytes rules r))
+  IsTooBig rules (TelnetItem t) = ⊥
+
+  -- the item at the index is so, and each before it can be encoded
+  pub record IsFirst (Q : Item U → Type 0) (rules : Rules Place U) (items : List (Item U)) (index : ℕ) : Type 0 where
+    pub before : List (Item U)
+    pub item : Item U
+    pub after : List (Item U)
+    pub split : items ≡ before ++ item ∷ after
+    pub at_index : index ≡ length before
+    pub each : AreEncoded rules before
+    pub is : Q item
+
+  -- the list's own fault: its first item that can't be encoded, and why
+  abbrev pub IsListFault : Rules Place U → List (Item U) → EncodeFault → Type 0
+  IsListFault rules items (TooBig index) = IsFirst (IsTooBig rules) rules items index
+  IsListFault rules items (BadSequence index) = IsFirst (IsBadSequence rules) rules items index
+  IsListFault rules items fault = ⊥
+
+  -- An encoder into memory has the list's own fault, or, where the list has none, a growth was refused.
+  abbrev pub IsEncodeFault : Rules Place U → List (Item U) → EncodeFault → Type 0
+  IsEncodeFault rules items Memory = AreEncoded rules items
+  IsEncodeFault rules items Write = ⊥
+  IsEncodeFault rules items fault = IsListFault rules items fault
+
+  -- An encoder into a sink has the list's own fault, and the sink was left alone;
+  -- or, where the list has none, a write failed after a front of the spelling.
+  abbrev pub IsWriteFault : {S : Type 0} → Rules Place U → List (Item U) → MayTake S → (S → ℕ) → S → S → EncodeFault → Type 0
+  IsWriteFault rules items takes failures from to Write = AreEncoded rules items × FailedWithin takes failures from to (plain_spelling rules items)
+  IsWriteFault rules items takes failures from to Memory = ⊥
+  IsWriteFault rules items takes failures from to fault = IsListFault rules items fault × (to ≡ from)
+
+-- the numbers and lists in the item are those that its type allows; those in a record's units are told by its body
+abbrev pub IsInRange : {U : Type 0} → Item U → Type 0
+IsInRange (RecordItem r) = r.flags < 2 ^ 16
+IsInRange (TelnetItem t) = IsTelnet t
