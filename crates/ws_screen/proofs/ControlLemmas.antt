@@ -1,8 +1,8 @@
 -- A CC1 that nulls no field, or turns no MDT off.
-use Rattle.std.proofs.Common.{◌≡◌, ◌≢◌, ℕ, ◌/◌, ◌%◌, ◌<◌, List, [], ◌∷◌, Bool, true, false, ◌==◌, ◌&&◌, ◌||◌, not, if◌then◌else◌, refl, sym, ap, ◌∙◌, arith, map, slice_index}
+use Rattle.std.proofs.Common.{◌≡◌, ℕ, ◌/◌, ◌<◌, List, [], ◌∷◌, Bool, true, false, ◌==◌, ◌&&◌, ◌||◌, not, refl, ap, arith, map}
 use borrow.Author.Tests.{ne_eqb}
 use Rattle.std.specs.List.{list_any}
-use Rattle.ws_code.specs.FormatWord.{is_bypass, is_modified, with_mdt}
+use Rattle.ws_code.specs.FormatWord.{is_bypass, is_modified}
 use Rattle.ws_screen.specs.declared.field.Field.{Field}
 use Rattle.ws_screen.specs.Controls.{cc1_code, clears_mdt, is_nulled}
 use Rattle.ws_screen.specs.Shown.{is_open, holds}

@@ -75,12 +75,7 @@ fn reformat(fields: &mut [Field], start: u16, format: Ffw)
     ensures { fields.new ≡ map (reformatted start format) fields.old }
 {
     let at = count_before(fields, start);
-    let field = fields[at];
-    fields[at] = Field {
-        start: field.start,
-        length: field.length,
-        format,
-    };
+    fields[at].format = format;
 }
 
 /// Puts a field into its place by start.

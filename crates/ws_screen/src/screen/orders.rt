@@ -120,7 +120,6 @@ impl Screen {
         ensures open_ { OnOk result (IsSome self.new.writing) }
         ensures legal { IsLegal self.new }
     {
-        let _kinds = kinds;
         self.fill_through(to, 0)
     }
 

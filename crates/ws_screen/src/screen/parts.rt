@@ -1,7 +1,7 @@
 //! What a screen tells of its parts.
 ghost use Rattle.std.specs.Prelude.{◌≡◌, false, slice_index, find, is_some};
 ghost use Rattle.ws_code.specs.DataByte.{is_order};
-ghost use Rattle.ws_screen.specs.Shown.{AreApart, holds, home_of};
+ghost use Rattle.ws_screen.specs.Shown.{AreApart, IsLegal, holds, home_of};
 
 use crate::format_table::{copy_of, first_open};
 use crate::{Field, ReadKind, Screen, searches};
@@ -27,7 +27,8 @@ impl Screen {
     /// The input fields by start. No two share a cell, and all end on the screen.
     pub fn fields(&self) -> ArrayVec<Field, 256>
         ensures fields { result.items ≡ self.now.fields }
-        ensures legal { AreApart 0 result.items }
+        ensures apart { AreApart 0 result.items }
+        ensures legal { IsLegal self.now }
     {
         copy_of(self.table.as_slice())
     }

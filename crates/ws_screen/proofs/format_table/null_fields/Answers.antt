@@ -1,4 +1,4 @@
-use Rattle.std.proofs.Common.{◌≡◌, refl}
+use Rattle.std.proofs.Common.{refl}
 use Rattle.ws_screen.proofs.ControlLemmas.{nothing_nulled}
 use Rattle.ws_screen.proofs.format_table.null_fields.Goals as goal
 

@@ -12,6 +12,5 @@ pub returns : goal.returns
 returns c =
     let fields = c.args.fields.now in
     let field = c.index-fields-at.result in
-    ap (λ f. slice_set fields c.count_before-at.result (record f { format = c.args.format })) c.index-fields-at.is
-    ∙ ap (λ at. slice_set fields at (record (get_or fields at field) { format = c.args.format })) c.count_before-at.ensures.value
+    ap (λ at. slice_set fields at (record (get_or fields at field) { format = c.args.format })) c.count_before-at.ensures.value
     ∙ reformatted_at c.args.start c.args.format 0 fields field c.requires.apart c.requires.held
