@@ -13,8 +13,8 @@ use Rattle.ws_record.specs.Receiver.{Receiving, Taken, given, IsFeedFault, IsDec
 use Rattle.ws_record.proofs.Receivers.{refused_append}
 use Rattle.t5250.specs.declared.verdict.Verdict.{Verdict}
 use Rattle.t5250.specs.declared.check.Tally.{Tally}
-use Rattle.t5250.specs.CheckLine.{IsVerdict, record_count, command_count}
-use Rattle.t5250.specs.Checking.{Counts, tally_after, verdict_by}
+use Rattle.t5250.specs.CheckLine.{IsVerdict, record_count, command_count, verdict_by}
+use Rattle.t5250.specs.Checking.{Counts, tally_after}
 
 record_count-append : {U : Type 0} (xs ys : List (Item U)) → record_count (xs ++ ys) ≡ record_count xs + record_count ys
 record_count-append [] ys = omega arith

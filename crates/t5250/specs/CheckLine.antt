@@ -1,6 +1,8 @@
-use Rattle.std.specs.Prelude.{◌≡◌, ℕ, ◌+◌, List, [], ◌∷◌, ◌++◌, Bool, true, false, length, codes}
+use Rattle.std.specs.Prelude.{◌≡◌, ℕ, ◌+◌, List, [], ◌∷◌, ◌++◌, Bool, true, false, length, codes, Result, Ok, Err}
 use Rattle.std.specs.Fmt.{decimal}
 use Rattle.ws_code.specs.Code.{Rules}
+use Rattle.ws_code.specs.declared.fault.Fault.{Fault}
+use Rattle.ws_code.specs.declared.fault.Fault.TheVariants as faults
 use Rattle.ws_code.specs.Reason.{number_of, name_of}
 use Rattle.ws_record.specs.declared.record.Item.{Item}
 use Rattle.ws_record.specs.declared.record.Item.TheVariants.{Record, Telnet}
@@ -36,3 +38,12 @@ abbrev pub line_of : Verdict → ℕ → List ℕ
 line_of (Accepted records commands) size = codes "accepted: " ++ decimal records ++ codes " records, " ++ decimal commands ++ codes " commands, " ++ decimal size ++ (codes " bytes" ++ 10 ∷ [])
 line_of (Refused place reason) size = codes "refused at " ++ decimal place ++ codes ": reason " ++ decimal (number_of reason) ++ codes " " ++ name_of reason ++ 10 ∷ []
 line_of (Truncated n) size = codes "truncated at " ++ decimal n ++ 10 ∷ []
+
+-- the verdict that a receiver's fault is, where it is one
+abbrev pub verdict_by : Fault → Result Verdict Fault
+verdict_by (faults.Refused place reason) = Ok (Refused place reason)
+verdict_by (faults.Truncated at) = Ok (Truncated at)
+verdict_by faults.Memory = Err faults.Memory
+verdict_by faults.Read = Err faults.Read
+verdict_by faults.Write = Err faults.Write
+verdict_by faults.Failed = Err faults.Failed

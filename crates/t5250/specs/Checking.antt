@@ -8,7 +8,6 @@ use Rattle.ws_record.specs.declared.record.Item.TheVariants.{Record, Telnet}
 use Rattle.ws_record.specs.Receiver.{Receiving, Taken}
 use Rattle.t5250.specs.declared.check.Tally.{Tally}
 use Rattle.t5250.specs.declared.verdict.Verdict.{Verdict}
-use Rattle.t5250.specs.declared.verdict.Verdict.TheVariants as verdicts
 use Rattle.t5250.specs.CheckLine.{IsVerdict, line_of, record_count, command_count}
 
 -- the tally after one item more, where there is one
@@ -24,15 +23,6 @@ pub record Counts {Place U : Type 0} (rules : Rules Place U) (receiver : Receivi
   pub records : tally.records ≡ record_count items
   pub commands : tally.commands ≡ command_count items
   pub few : tally.records + tally.commands ≤ length bytes
-
--- the verdict that a receiver's fault is, where it is one
-abbrev pub verdict_by : Fault → Result Verdict Fault
-verdict_by (Refused place reason) = Ok (verdicts.Refused place reason)
-verdict_by (Truncated at) = Ok (verdicts.Truncated at)
-verdict_by Memory = Err Memory
-verdict_by Read = Err Read
-verdict_by Write = Err Write
-verdict_by Failed = Err Failed
 
 -- what a check answers where it doesn't print its line: nothing went out, or a part of the line
 abbrev pub IsCheckFault : {Place U S : Type 0} → Rules Place U → MayTake S → (S → ℕ) → S → S → List ℕ → Fault → Type 0

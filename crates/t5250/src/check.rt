@@ -3,9 +3,9 @@ ghost use Rattle.ws_record.specs.Receiver.{IsFeedFault};
 ghost use Rattle.t5250.specs.CheckLine.{IsVerdict, is_accepted, line_of};
 ghost use Rattle.t5250.specs.declared.verdict.Verdict.{Verdict};
 ghost use Rattle.ws_code.specs.Device.{WentOut};
-ghost use Rattle.t5250.specs.Checking.{Counts, IsCheckFault, verdict_by};
+ghost use Rattle.t5250.specs.Checking.{Counts, IsCheckFault};
 
-use crate::verdict::Verdict;
+use crate::verdict::{Verdict, verdict_by_fault};
 use std::alloc::Global;
 use ws_code::{Body, Fault, Sink, write_whole};
 use ws_record::{Fed, Item, Receiver};
@@ -73,7 +73,7 @@ fn verdict_of<B: Body>(alloc: Global, bytes: &[u8], cut: u16) -> Result<Verdict,
     while at < bytes.len() {
         let end = bytes.len().min(at + usize::from(cut));
         if let Err(fault) = feed_piece(&mut receiver, &bytes[at..end], &mut tally) {
-            return refusal(fault);
+            return verdict_by_fault(fault);
         }
         at = end;
     }
@@ -82,18 +82,7 @@ fn verdict_of<B: Body>(alloc: Global, bytes: &[u8], cut: u16) -> Result<Verdict,
             records: tally.records,
             commands: tally.commands,
         }),
-        Err(fault) => refusal(fault),
-    }
-}
-
-// The verdict that a fault of a receiver says.
-fn refusal(fault: Fault) -> Result<Verdict, Fault>
-    ensures { result ≡ verdict_by fault }
-{
-    match fault {
-        Fault::Refused { place, reason } => Ok(Verdict::Refused { place, reason }),
-        Fault::Truncated { at } => Ok(Verdict::Truncated { at }),
-        other => Err(other),
+        Err(fault) => verdict_by_fault(fault),
     }
 }
 

@@ -11,6 +11,8 @@ use std::{env, io};
 pub enum Asked<'a> {
     /// To check the bytes of a hex text, from the file or from standard input, in pieces of `cut` bytes.
     Check { file: Option<&'a str>, cut: u16 },
+    /// To show the items of a hex text, and the screen that they make.
+    Show { file: Option<&'a str> },
 }
 
 // The commands that the program knows.
@@ -20,12 +22,20 @@ fn program<'a>(alloc: Global) -> Result<Command<'a>, clap::Error> {
         .value_name("N")
         .value_parser(value_parser!(u16).range(1..=65535))
         .action(ArgAction::Set);
-    let file = Arg::new(alloc, "FILE").action(ArgAction::Set);
-    let check = Command::new(alloc, "check").arg(cut)?.arg(file)?;
+    let check = Command::new(alloc, "check")
+        .arg(cut)?
+        .arg(hex_file(alloc))?;
+    let show = Command::new(alloc, "show").arg(hex_file(alloc))?;
     let program = Command::new(alloc, "t5250")
         .subcommand_required(true)
-        .subcommand(check)?;
+        .subcommand(check)?
+        .subcommand(show)?;
     Ok(program)
+}
+
+// A hex text; without it, standard input is read.
+fn hex_file<'a>(alloc: Global) -> Arg<'a> {
+    Arg::new(alloc, "FILE").action(ArgAction::Set)
 }
 
 // The fault of words that the program can't even take as text.
@@ -57,6 +67,9 @@ pub fn read_words<'a, S: AsStr>(alloc: Global, words: &'a [S]) -> Result<Asked<'
         Some(("check", check)) => Ok(Asked::Check {
             file: check.get_str("FILE"),
             cut: check.get_one::<u16>("cut").unwrap_or(u16::MAX),
+        }),
+        Some(("show", show)) => Ok(Asked::Show {
+            file: show.get_str("FILE"),
         }),
         _ => Err(program.error(ErrorKind::MissingSubcommand, "no subcommand")?),
     }

@@ -1,4 +1,4 @@
-//! The program `t5250`, which checks recorded 5250 streams (RFC 1205).
+//! The program `t5250`, which checks and shows recorded 5250 streams (RFC 1205).
 //!
 //! Its status is 0 where a stream is accepted, 1 where it is refused or truncated, and 2 on a fault. A fault
 //! is one line on standard error, or the text of `clap` for a wrong command line. Faults are looked for in this
@@ -7,9 +7,13 @@
 
 mod check;
 mod command_line;
+mod element_text;
 mod fault;
 mod hex_text;
 mod input;
+mod item_text;
+mod screen_text;
+mod show;
 #[cfg(test)]
 mod tests;
 mod verdict;
@@ -19,11 +23,12 @@ use crate::command_line::{Asked, given_words, read_words};
 use crate::fault::{CommandFault, RunFault};
 use crate::hex_text::hex_bytes;
 use crate::input::read_input;
+use crate::show::show_to;
 use std::io;
 use std::process::ExitCode;
 use std::rt::Runtime;
 use ws_code::WriteSink;
-use ws_record::RawBody;
+use ws_stream::Commands;
 
 // What the program was asked for: true where all was accepted.
 fn run<R: Runtime + AllocGlobal>(rt: &R, asked: Asked<'_>) -> Result<bool, RunFault> {
@@ -34,7 +39,13 @@ fn run<R: Runtime + AllocGlobal>(rt: &R, asked: Asked<'_>) -> Result<bool, RunFa
             let mut sink = WriteSink::new(io::writer(rt));
             // The command line lets no 0 through.
             let cut = cut.max(1);
-            Ok(check_to::<RawBody, _>(rt.alloc(), bytes.as_slice(), cut, &mut sink)?)
+            Ok(check_to::<Commands, _>(rt.alloc(), bytes.as_slice(), cut, &mut sink)?)
+        }
+        Asked::Show { file } => {
+            let text = read_input(rt, file)?;
+            let bytes = hex_bytes(rt.alloc(), text.as_slice())?;
+            let mut sink = WriteSink::new(io::writer(rt));
+            Ok(show_to(rt.alloc(), bytes.as_slice(), &mut sink)?)
         }
     }
 }

@@ -1,9 +1,8 @@
 ghost use Rattle.std.specs.Prelude.{◌≡◌, ◌<◌, ◌≢◌, List, ℕ, length, IfOk, IfErr, string_bytes};
-ghost use Rattle.t5250.specs.declared.verdict.Verdict.{Verdict};
-ghost use Rattle.t5250.specs.CheckLine.{IsVerdict, line_of, is_accepted};
+ghost use Rattle.t5250.specs.CheckLine.{verdict_by};
 
 use std::alloc::{AllocError, Global};
-use ws_code::Reason;
+use ws_code::{Fault, Reason};
 
 /// What holds of a stream.
 #[derive(Clone, Copy, Debug, PartialEq, Eq)]
@@ -43,5 +42,16 @@ impl Verdict {
             }
             Verdict::Truncated { at } => format!(in alloc; "truncated at {at}\n"),
         }
+    }
+}
+
+/// The verdict that a fault of a receiver is; the fault itself, where it says nothing of the stream.
+pub fn verdict_by_fault(fault: Fault) -> Result<Verdict, Fault>
+    ensures { result ≡ verdict_by fault }
+{
+    match fault {
+        Fault::Refused { place, reason } => Ok(Verdict::Refused { place, reason }),
+        Fault::Truncated { at } => Ok(Verdict::Truncated { at }),
+        other => Err(other),
     }
 }

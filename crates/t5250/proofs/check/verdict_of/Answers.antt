@@ -9,16 +9,16 @@ returns-in-Err-clause-verdict g c =
     let bytes = c.args.bytes.now in
     let at = c.loop-at.at in
     let end = c.min-end.result in
-    (verdict_means g.B.Code.rules bytes _ c.refusal.result
-    (piece_decodes g.B.Code.rules bytes at end _ (omega arith) (c.in-Err.ensures.fault (take at bytes) c.loop-at.invariant.counts (omega (arith, length-take at bytes, length-take (end - at) (drop at bytes), length-drop at bytes)))) c.refusal.ensures).0
+    (verdict_means g.B.Code.rules bytes _ c.verdict_by_fault.result
+    (piece_decodes g.B.Code.rules bytes at end _ (omega arith) (c.in-Err.ensures.fault (take at bytes) c.loop-at.invariant.counts (omega (arith, length-take at bytes, length-take (end - at) (drop at bytes), length-drop at bytes)))) c.verdict_by_fault.ensures).0
 
 pub returns-in-Err-clause-fault : goal.returns-in-Err-clause-fault
 returns-in-Err-clause-fault g c =
     let bytes = c.args.bytes.now in
     let at = c.loop-at.at in
     let end = c.min-end.result in
-    (verdict_means g.B.Code.rules bytes _ c.refusal.result
-    (piece_decodes g.B.Code.rules bytes at end _ (omega arith) (c.in-Err.ensures.fault (take at bytes) c.loop-at.invariant.counts (omega (arith, length-take at bytes, length-take (end - at) (drop at bytes), length-drop at bytes)))) c.refusal.ensures).1
+    (verdict_means g.B.Code.rules bytes _ c.verdict_by_fault.result
+    (piece_decodes g.B.Code.rules bytes at end _ (omega arith) (c.in-Err.ensures.fault (take at bytes) c.loop-at.invariant.counts (omega (arith, length-take at bytes, length-take (end - at) (drop at bytes), length-drop at bytes)))) c.verdict_by_fault.ensures).1
 
 pub loop-at-preserved : goal.loop-at-preserved
 loop-at-preserved g c =
@@ -43,11 +43,11 @@ returns-clause-verdict g c =
     let bytes = c.args.bytes.now in
     let all : take c.loop-at.at bytes ≡ bytes = take_all c.loop-at.at bytes (omega (arith, c.loop-at-test.false)) in
     let k = subst (λ (x : List ℕ). Counts g.B.Code.rules c.loop-at.receiver c.loop-at.tally x) all c.loop-at.invariant.counts in
-    (verdict_means g.B.Code.rules bytes _ c.refusal-in-Err-finish.result (end_decodes g.B.Code.rules bytes _ (c.in-Err-finish.ensures.truncated bytes k.items k.taken (omega arith))) c.refusal-in-Err-finish.ensures).0
+    (verdict_means g.B.Code.rules bytes _ c.verdict_by_fault-in-Err-finish.result (end_decodes g.B.Code.rules bytes _ (c.in-Err-finish.ensures.truncated bytes k.items k.taken (omega arith))) c.verdict_by_fault-in-Err-finish.ensures).0
 
 pub returns-clause-fault : goal.returns-clause-fault
 returns-clause-fault g c =
     let bytes = c.args.bytes.now in
     let all : take c.loop-at.at bytes ≡ bytes = take_all c.loop-at.at bytes (omega (arith, c.loop-at-test.false)) in
     let k = subst (λ (x : List ℕ). Counts g.B.Code.rules c.loop-at.receiver c.loop-at.tally x) all c.loop-at.invariant.counts in
-    (verdict_means g.B.Code.rules bytes _ c.refusal-in-Err-finish.result (end_decodes g.B.Code.rules bytes _ (c.in-Err-finish.ensures.truncated bytes k.items k.taken (omega arith))) c.refusal-in-Err-finish.ensures).1
+    (verdict_means g.B.Code.rules bytes _ c.verdict_by_fault-in-Err-finish.result (end_decodes g.B.Code.rules bytes _ (c.in-Err-finish.ensures.truncated bytes k.items k.taken (omega arith))) c.verdict_by_fault-in-Err-finish.ensures).1
