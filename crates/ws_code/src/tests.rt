@@ -202,3 +202,76 @@ fn code_page(rt: HostRuntime) {
     assert_eq!(rt; ebcdic::from_char('\u{9F}'), None);
     assert_eq!(rt; ebcdic::from_char('€'), None);
 }
+
+#[test]
+fn addresses(rt: HostRuntime) -> Result<(), Fail> {
+    let cells = [
+        (1, 1, 0),
+        (1, 80, 79),
+        (2, 1, 80),
+        (6, 53, 452),
+        (24, 80, 1919),
+    ];
+    for (row, col, place) in cells {
+        let address = Address::new(row, col).ok_or("row and column")?;
+        assert_eq!(rt; address.place(), place);
+        let same = Address::at(place).ok_or("place")?;
+        assert_eq!(rt; same, address);
+        assert_eq!(rt; (same.row(), same.col()), (row, col));
+    }
+    for (row, col) in [(0, 1), (25, 1), (1, 0), (1, 81)] {
+        assert_eq!(rt; Address::new(row, col), None);
+    }
+    assert_eq!(rt; Address::at(1920), None);
+    assert_eq!(rt; Address::default().place(), 0);
+    Ok(())
+}
+
+#[test]
+fn data_bytes(rt: HostRuntime) {
+    let orders = [
+        0x01, 0x02, 0x03, 0x04, 0x10, 0x11, 0x12, 0x13, 0x14, 0x15, 0x1d,
+    ];
+    for byte in 0..=255u8 {
+        let value = DataByte::new(byte).map(|data| data.value());
+        let expected = if orders.contains(&byte) {
+            None
+        } else {
+            Some(byte)
+        };
+        assert_eq!(rt; value, expected);
+    }
+}
+
+#[test]
+fn format_words(rt: HostRuntime) -> Result<(), Fail> {
+    for word in [0x3fff, 0x4400, 0x4600, 0x4700, 0x8000] {
+        assert_eq!(rt; Ffw::new(word), None);
+    }
+    let plain = Ffw::new(0x4000).ok_or("plain")?;
+    assert_eq!(rt; plain, Ffw::default());
+    assert!(rt; !plain.bypass() && !plain.dup() && !plain.modified());
+    assert!(rt; !plain.monocase() && !plain.mandatory_enter());
+    assert_eq!(rt; (plain.shift(), plain.adjust()), (Shift::Alphabetic, None));
+    assert_eq!(rt; plain.with_modified(true).value(), 0x4800);
+    let full = Ffw::new(0x7d2e).ok_or("full")?;
+    assert!(rt; full.bypass() && full.dup() && full.modified());
+    assert!(rt; full.monocase() && full.mandatory_enter());
+    assert_eq!(rt;
+        (full.shift(), full.adjust()),
+        (Shift::DigitsOnly, Some(Adjust::RightBlank))
+    );
+    assert_eq!(rt; full.with_modified(false).value(), 0x752e);
+    let shifts = [
+        (0x4100, Shift::AlphabeticOnly),
+        (0x4200, Shift::Numeric),
+        (0x4300, Shift::NumericOnly),
+    ];
+    for (word, shift) in shifts {
+        assert_eq!(rt; Ffw::new(word).ok_or("shift")?.shift(), shift);
+    }
+    for (word, adjust) in [(0x4005, Adjust::RightZero), (0x4007, Adjust::MandatoryFill)] {
+        assert_eq!(rt; Ffw::new(word).ok_or("adjust")?.adjust(), Some(adjust));
+    }
+    Ok(())
+}

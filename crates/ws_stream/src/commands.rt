@@ -16,10 +16,17 @@ use phase::Phase;
 use ws_code::{Body, Code, Push};
 
 /// Reads a host's body element by element (SC30-3533, commands and orders).
+///
+/// At the beginning, and after Clear Unit, Clear Format Table and the reads, only commands stand. A byte is
+/// refused at once where no element goes on with it: as no command (`NoEscape`, `UnknownCommand`), as a
+/// command or an order that is left out (`StructuredField` to `ReadAlternate`, `ExtendedAttribute`,
+/// `TransparentData`, `DisplayStructuredField`), or for its value (`BadAddress` to `BadFormatByte`,
+/// `TooManyFcws`, `LeftOutShift`).
 #[derive(Debug, Drop)]
 pub struct Commands {
     place: Place,
     phase: Phase,
+    // The bytes of a field so far don't tell by themselves which part of it each one is.
     ghost sound: { is_sound phase ≡ true },
 }
 
@@ -35,6 +42,7 @@ impl Commands {
         Push::More
     }
 
+    // The answer to a byte, by what was waited for.
     fn step(&mut self, byte: u8) -> Push<Element>
         requires { IsUnfinished element_rules self.old.place (unfinished_in self.old.phase) }
         ensures { IsStep self.old.place (unfinished_in self.old.phase) byte
