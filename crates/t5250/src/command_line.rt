@@ -20,13 +20,18 @@ fn program<'a>(alloc: Global) -> Result<Command<'a>, clap::Error> {
     let cut = Arg::new(alloc, "cut")
         .long("cut")
         .value_name("N")
+        .help("Reads the bytes in pieces of N, from 1 to 65535")
         .value_parser(value_parser!(u16).range(1..=65535))
         .action(ArgAction::Set);
     let check = Command::new(alloc, "check")
+        .about("Tells whether a stream is accepted, refused or truncated")
         .arg(cut)?
         .arg(hex_file(alloc))?;
-    let show = Command::new(alloc, "show").arg(hex_file(alloc))?;
+    let show = Command::new(alloc, "show")
+        .about("Prints a stream's records, and the screen that they make")
+        .arg(hex_file(alloc))?;
     let program = Command::new(alloc, "t5250")
+        .about("Reads recorded 5250 streams")
         .subcommand_required(true)
         .subcommand(check)?
         .subcommand(show)?;
@@ -35,7 +40,9 @@ fn program<'a>(alloc: Global) -> Result<Command<'a>, clap::Error> {
 
 // A hex text; without it, standard input is read.
 fn hex_file<'a>(alloc: Global) -> Arg<'a> {
-    Arg::new(alloc, "FILE").action(ArgAction::Set)
+    Arg::new(alloc, "FILE")
+        .help("A hex text; without it, standard input is read")
+        .action(ArgAction::Set)
 }
 
 // The fault of words that the program can't even take as text.
