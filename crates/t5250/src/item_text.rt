@@ -1,9 +1,8 @@
+use crate::element_text::{element_text, push_hex};
 use std::alloc::{AllocError, Global};
 use ws_record::Record;
 use ws_stream::Element;
 use ws_telnet::{CommandCode, Telnet, Verb};
-
-use crate::element_text::{element_text, push_hex};
 
 /// The line of a Telnet command whose last byte is at the place.
 pub fn telnet_text(alloc: Global, place: u64, telnet: &Telnet) -> Result<String, AllocError> {

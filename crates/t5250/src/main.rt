@@ -7,6 +7,8 @@
 
 mod check;
 mod command_line;
+#[cfg(test)]
+mod command_rows;
 mod element_text;
 mod fault;
 mod hex_text;

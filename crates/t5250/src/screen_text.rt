@@ -18,10 +18,16 @@ pub fn screen_text(alloc: Global, screen: &Screen) -> Result<String, AllocError>
 // The cursor, the keyboard's lock, message light and blinking cursor, and the number of fields.
 fn state_text(alloc: Global, screen: &Screen) -> Result<String, AllocError> {
     let (row, col) = (screen.cursor().row(), screen.cursor().col());
-    let locked = if screen.locked() { "locked" } else { "unlocked" };
+    let locked = if screen.locked() {
+        "locked"
+    } else {
+        "unlocked"
+    };
     let (message, blink) = (on_or_off(screen.message()), on_or_off(screen.blink()));
     let fields = screen.fields().len();
-    format!(in alloc; "cursor {row} {col}, {locked}, message {message}, blink {blink}, fields {fields}\n")
+    format!(in alloc;
+        "cursor {row} {col}, {locked}, message {message}, blink {blink}, fields {fields}\n"
+    )
 }
 
 fn on_or_off(is_on: bool) -> &'static str {

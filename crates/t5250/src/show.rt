@@ -1,12 +1,11 @@
+use crate::item_text::{record_text, telnet_text};
+use crate::screen_text::screen_text;
+use crate::verdict::{Verdict, verdict_by_fault};
 use std::alloc::{AllocError, Global};
 use ws_code::{Body, Code, Fault, Reason, Sink, write_whole};
 use ws_record::{Fed, Item, Opcode, Receiver, Record};
 use ws_screen::Screen;
 use ws_stream::{Commands, Element};
-
-use crate::item_text::{record_text, telnet_text};
-use crate::screen_text::screen_text;
-use crate::verdict::{Verdict, verdict_by_fault};
 
 /// Writes the items of a stream, and the screen that they make: true where the stream is accepted.
 ///

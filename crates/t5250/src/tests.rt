@@ -1,7 +1,7 @@
 use crate::check::check_to;
 use crate::command_line::{Asked, read_words};
-use crate::show::show_to;
 use crate::hex_text::{TextFault, hex_bytes};
+use crate::show::show_to;
 use std::test::Fail;
 use ws_code::VecSink;
 use ws_record::RawBody;
@@ -139,7 +139,12 @@ fn show_lines(rt: HostRuntime) -> Result<(), Fail> {
             "at 1 telnet NOP\nat 4 telnet DO 24\nat 9 telnet SB 24\nat 17 telnet SB 24 01FF\nscreen\ncursor 1 1, locked, message off, blink off, fields 0\n",
             true,
         ),
-        ("header-too-early", b"\x00\x0a\x12", "truncated at 3\n", false),
+        (
+            "header-too-early",
+            b"\x00\x0a\x12",
+            "truncated at 3\n",
+            false,
+        ),
     ];
     for (row, bytes, wanted, accepted) in rows {
         let (text, found) = shown(&rt, bytes)?;
@@ -152,9 +157,16 @@ fn show_lines(rt: HostRuntime) -> Result<(), Fail> {
 // `show-past-end`: the grammar accepts what the screen refuses.
 #[test]
 fn check_past_end(rt: HostRuntime) -> Result<(), Fail> {
-    let bytes = b"\x00\x13\x12\xa0\x00\x00\x04\x00\x00\x03\x04\x11\x00\x00\x11\x18\x50\xc1\xc2\xff\xef";
+    let bytes =
+        b"\x00\x13\x12\xa0\x00\x00\x04\x00\x00\x03\x04\x11\x00\x00\x11\x18\x50\xc1\xc2\xff\xef";
     let mut sink = VecSink::new(rt.alloc());
-    assert_eq!(rt; check_to::<Commands, _>(rt.alloc(), bytes, 7, &mut sink), Ok(true));
-    assert_eq!(rt; sink.as_slice(), b"accepted: 1 records, 0 commands, 21 bytes\n".as_slice());
+    assert_eq!(rt;
+        check_to::<Commands, _>(rt.alloc(), bytes, 7, &mut sink),
+        Ok(true)
+    );
+    assert_eq!(rt;
+        sink.as_slice(),
+        b"accepted: 1 records, 0 commands, 21 bytes\n".as_slice()
+    );
     Ok(())
 }
