@@ -43,7 +43,8 @@ pub fn check_to<B: Body, S: Sink>(
     sink: &mut S,
 ) -> Result<bool, Fault>
     requires { cut ≢ 0 }
-    ensures printed { IfOk result (λ accepted. (verdict : Verdict) × IsVerdict B.rules bytes.now verdict
+    ensures printed { IfOk result (λ accepted. (verdict : Verdict)
+        × IsVerdict B.rules bytes.now verdict
         × (accepted ≡ is_accepted verdict)
         × WentOut S.takes S.failures sink.old sink.new (line_of verdict (length bytes.now))) }
     ensures fault { IfErr result
@@ -95,7 +96,8 @@ fn feed_piece<B: Body>(
     ensures counts { OnOk result ((bytes : Seq ℕ) → Counts B.rules receiver.old tally.old bytes
         → length bytes + length piece.now + 1 < 2 ^ 64
         → Counts B.rules receiver.new tally.new (bytes ++ piece.now)) }
-    ensures fault { IfErr result (λ fault. (bytes : Seq ℕ) → Counts B.rules receiver.old tally.old bytes
+    ensures fault { IfErr result (λ fault. (bytes : Seq ℕ)
+        → Counts B.rules receiver.old tally.old bytes
         → length bytes + length piece.now + 1 < 2 ^ 64 → IsFeedFault B.rules bytes piece.now fault) }
 {
     let mut rest = piece;

@@ -108,11 +108,11 @@ module _ {S : Type 0} (takes : MayTake S) (failures : S → ℕ) where
   doubling_fails from mid to bytes start at d k iac f =
       let rest : List ℕ = 0xff ∷ flat_map doubled (drop (at + 1) bytes) in
       let text : d.out ++ (run bytes start (at + 1) ++ rest) ≡ flat_map doubled bytes = sym (append_assoc d.out (run bytes start (at + 1)) rest)
-          ∙ ap (λ z. z ++ rest) (through d.out bytes start at d.within k d.text ∙ ap (λ n. flat_map doubled (take at bytes) ++ n ∷ []) iac)
-          ∙ append_assoc (flat_map doubled (take at bytes)) (0xff ∷ []) rest
-          ∙ sym (append_assoc (flat_map doubled (take at bytes)) (0xff ∷ 0xff ∷ []) (flat_map doubled (drop (at + 1) bytes)))
-          ∙ ap (λ z. z ++ flat_map doubled (drop (at + 1) bytes)) (ap (λ n. flat_map doubled (take at bytes) ++ doubled n) (sym iac) ∙ sym (doubled_more bytes at k))
-          ∙ doubled_all bytes (at + 1) in
+      ∙ ap (λ z. z ++ rest) (through d.out bytes start at d.within k d.text ∙ ap (λ n. flat_map doubled (take at bytes) ++ n ∷ []) iac)
+      ∙ append_assoc (flat_map doubled (take at bytes)) (0xff ∷ []) rest
+      ∙ sym (append_assoc (flat_map doubled (take at bytes)) (0xff ∷ 0xff ∷ []) (flat_map doubled (drop (at + 1) bytes)))
+      ∙ ap (λ z. z ++ flat_map doubled (drop (at + 1) bytes)) (ap (λ n. flat_map doubled (take at bytes) ++ doubled n) (sym iac) ∙ sym (doubled_more bytes at k))
+      ∙ doubled_all bytes (at + 1) in
       subst (FailedWithin takes failures from to) text (failed_within_both takes failures from mid to d.out (run bytes start (at + 1)) rest d.went_out f)
 
   -- the last run

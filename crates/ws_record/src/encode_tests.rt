@@ -1,5 +1,4 @@
 use super::*;
-
 use crate::escaped::Escaped;
 use std::alloc::{AllocError, Global};
 use std::test::Fail;
@@ -13,7 +12,9 @@ const PUT_FF: [u8; 18] = [
 
 // The bytes of a record with one byte in its body.
 fn short_spelling(opcode: u8, byte: u8) -> [u8; 13] {
-    [0x00, 0x0b, 0x12, 0xa0, 0x00, 0x00, 0x04, 0x00, 0x00, opcode, byte, 0xff, 0xef]
+    [
+        0x00, 0x0b, 0x12, 0xa0, 0x00, 0x00, 0x04, 0x00, 0x00, opcode, byte, 0xff, 0xef,
+    ]
 }
 
 fn item(alloc: Global, opcode: Opcode, bytes: &[u8]) -> Result<Item<u8>, AllocError> {
@@ -52,7 +53,10 @@ fn put_ff(rt: HostRuntime) -> Result<(), Fail> {
     let encoded = encode::<RawBody>(rt.alloc(), items.as_slice())?;
     assert_eq!(rt; encoded.as_slice(), PUT_FF.as_slice());
     let mut sink = VecSink::new(rt.alloc());
-    assert_eq!(rt; encode_to::<RawBody, VecSink>(items.as_slice(), &mut sink), Ok(()));
+    assert_eq!(rt;
+        encode_to::<RawBody, VecSink>(items.as_slice(), &mut sink),
+        Ok(())
+    );
     assert_eq!(rt; sink.as_slice(), PUT_FF.as_slice());
     let mut sink = VecSink::new(rt.alloc());
     assert_eq!(rt; write_record(&mut sink, 0, Opcode::PutGet, &body), Ok(()));
@@ -100,7 +104,10 @@ fn largest_raw_record(rt: HostRuntime) -> Result<(), Fail> {
     let items = vec![in rt.alloc(); repeated(rt.alloc(), 0x40, 65_525)?]?;
     let encoded = encode::<RawBody>(rt.alloc(), items.as_slice())?;
     assert_eq!(rt; encoded.len(), 65_539);
-    assert_eq!(rt; &encoded[..6], [0xff, 0xff, 0xff, 0xff, 0x12, 0xa0].as_slice());
+    assert_eq!(rt;
+        &encoded[..6],
+        [0xff, 0xff, 0xff, 0xff, 0x12, 0xa0].as_slice()
+    );
     assert_eq!(rt; &encoded[65_535..], [0x40, 0x40, 0xff, 0xef].as_slice());
     let items = vec![in rt.alloc(); repeated(rt.alloc(), 0x40, 65_526)?]?;
     let fault = fault_of::<RawBody>(rt.alloc(), items.as_slice())?;
@@ -121,10 +128,26 @@ fn bad_sequence_first(rt: HostRuntime) -> Result<(), Fail> {
     second_bad.push(repeated(alloc, 0xc1, 1)?)?;
     second_bad.push(repeated(alloc, 0xc1, 1)?)?;
     let rows = [
-        ("one byte", one.as_slice(), EncodeFault::BadSequence { index: 0 }),
-        ("too big too", large.as_slice(), EncodeFault::BadSequence { index: 0 }),
-        ("too big before", first_too_big.as_slice(), EncodeFault::TooBig { index: 0 }),
-        ("behind another", second_bad.as_slice(), EncodeFault::BadSequence { index: 1 }),
+        (
+            "one byte",
+            one.as_slice(),
+            EncodeFault::BadSequence { index: 0 },
+        ),
+        (
+            "too big too",
+            large.as_slice(),
+            EncodeFault::BadSequence { index: 0 },
+        ),
+        (
+            "too big before",
+            first_too_big.as_slice(),
+            EncodeFault::TooBig { index: 0 },
+        ),
+        (
+            "behind another",
+            second_bad.as_slice(),
+            EncodeFault::BadSequence { index: 1 },
+        ),
     ];
     for (row, items, wanted) in &rows {
         assert_eq!(rt; fault_of::<Escaped>(alloc, items)?, *wanted, "{row}");
@@ -158,9 +181,15 @@ fn commands_between_records(rt: HostRuntime) -> Result<(), Fail> {
 #[test]
 fn flags_and_an_empty_body(rt: HostRuntime) {
     let mut sink = VecSink::new(rt.alloc());
-    assert_eq!(rt; write_record(&mut sink, 0x80ff, Opcode::CancelInvite, &[]), Ok(()));
+    assert_eq!(rt;
+        write_record(&mut sink, 0x80ff, Opcode::CancelInvite, &[]),
+        Ok(())
+    );
     let wanted = b"\x00\x0a\x12\xa0\x00\x00\x04\x80\xff\xff\x0a\xff\xef";
     assert_eq!(rt; sink.as_slice(), wanted.as_slice());
     let mut stuck = ws_code::StuckSink;
-    assert_eq!(rt; write_record(&mut stuck, 0, Opcode::Invite, &[]), Err(Fault::Write));
+    assert_eq!(rt;
+        write_record(&mut stuck, 0, Opcode::Invite, &[]),
+        Err(Fault::Write)
+    );
 }

@@ -14,6 +14,7 @@ use ws_telnet::Telnet;
 
 // The ends of a subnegotiation (RFC 854; RFC 855).
 const SB: u8 = 0xfa;
+
 const SE: u8 = 0xf0;
 
 /// Writes the plain spelling of items that can be encoded. `Write` is the only fault.
@@ -40,7 +41,7 @@ fn write_encoded<B: Body, S: Sink>(sink: &mut S, encoded: &Record<B::Unit>) -> R
         (record_spelling (record_bytes B.rules encoded.now))) }
     ensures err { IfErr result (λ fault. (fault ≡ Fault.Write)
         × FailedWithin S.takes S.failures sink.old sink.new
-            (record_spelling (record_bytes B.rules encoded.now))) }
+        (record_spelling (record_bytes B.rules encoded.now))) }
 {
     let units = encoded.body.as_slice();
     let length = 10 + body_length::<B>(units).unwrap_or(0);
@@ -51,7 +52,8 @@ fn write_encoded<B: Body, S: Sink>(sink: &mut S, encoded: &Record<B::Unit>) -> R
 
 /// How many bytes the units are spelled with; none for more than a record has room for, 65,525.
 pub fn body_length<B: Body>(units: &[B::Unit]) -> Option<u16>
-    ensures some { IfSome result (λ n. (n ≡ length (spelling_of B.rules units.now)) × (n ≤ 65525)) }
+    ensures some { IfSome result (λ n.
+        (n ≡ length (spelling_of B.rules units.now)) × (n ≤ 65525)) }
     ensures none { IfNone result (65525 < length (spelling_of B.rules units.now)) }
 {
     let mut spelling = ArrayVec::new();
@@ -72,7 +74,7 @@ fn write_units<B: Body, S: Sink>(sink: &mut S, units: &[B::Unit]) -> Result<(), 
         (flat_map doubled (spelling_of B.rules units.now))) }
     ensures err { IfErr result (λ fault. (fault ≡ Fault.Write)
         × FailedWithin S.takes S.failures sink.old sink.new
-            (flat_map doubled (spelling_of B.rules units.now))) }
+        (flat_map doubled (spelling_of B.rules units.now))) }
 {
     let mut spelling = ArrayVec::new();
     for unit in units {

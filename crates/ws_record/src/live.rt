@@ -72,7 +72,8 @@ impl<B: Body> Live<B> {
 
     /// Whether it takes a byte more. Once it answers false it has failed.
     pub(crate) fn works(&mut self) -> bool
-        ensures works { IsTrue result ↔ ((self.old.failed ≡ false) × (self.old.taken + 1 < 2 ^ 64)) }
+        ensures works { IsTrue result
+            ↔ ((self.old.failed ≡ false) × (self.old.taken + 1 < 2 ^ 64)) }
         ensures same { result ≡ true → self.new ≡ self.old }
         ensures failed { result ≡ false → self.new ≡ record self.old { failed = true } }
     {

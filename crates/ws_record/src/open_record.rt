@@ -24,8 +24,10 @@ pub enum DataStep<U> {
 // The reason why a byte can't stand behind these in a header, before the opcode.
 fn header_refusal(header: &[u8], byte: u8) -> Option<Reason>
     requires { length header.now < 9 }
-    ensures none { IfNone result (HeaderSoFar header.now → HeaderSoFar (header.now ++ byte ∷ [])) }
-    ensures some { IfSome result (λ reason. ((m : List ℕ) → IsFramed (header.now ++ byte ∷ m) → ⊥)
+    ensures none { IfNone result (HeaderSoFar header.now
+        → HeaderSoFar (header.now ++ byte ∷ [])) }
+    ensures some { IfSome result (λ reason.
+        ((m : List ℕ) → IsFramed (header.now ++ byte ∷ m) → ⊥)
         × (reason ≡ header_reason header.now (Data byte))) }
 {
     let length = header.len();
@@ -185,9 +187,11 @@ impl<B: Body> OpenRecord<B> {
 
     /// Ends the record, where it is whole, and answers else why not. The next one begins.
     pub fn end(&mut self) -> Option<Reason>
-        ensures whole { IfNone result ((so_far : RecordSoFar B.Unit) → Reads B.rules self.old so_far
+        ensures whole { IfNone result ((so_far : RecordSoFar B.Unit)
+            → Reads B.rules self.old so_far
             → IsWholeRecord B.rules so_far × Reads B.rules self.new no_record) }
-        ensures refused { IfSome result (λ reason. (so_far : RecordSoFar B.Unit) → Reads B.rules self.old so_far
+        ensures refused { IfSome result (λ reason. (so_far : RecordSoFar B.Unit)
+            → Reads B.rules self.old so_far
             → IsEndRefused B.rules so_far.bytes reason) }
     {
         if !self.header.is_full() || self.left > 0 {

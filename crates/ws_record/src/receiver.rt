@@ -103,7 +103,8 @@ impl<B: Body> Receiver<B> {
         piece: &[u8],
         items: &mut Vec<Item<B::Unit>>,
     ) -> Result<(), Fault>
-        ensures taken { OnOk result ((bytes : Seq ℕ) → Taken B.rules self.old bytes items.old.items
+        ensures taken { OnOk result ((bytes : Seq ℕ)
+            → Taken B.rules self.old bytes items.old.items
             → length bytes + length piece.now + 1 < 2 ^ 64
             → Taken B.rules self.new (bytes ++ piece.now) items.new.items) }
         ensures fault { IfErr result (λ fault. (bytes : Seq ℕ)

@@ -10,6 +10,7 @@ use ws_code::{Fault, Sink, write_whole};
 
 // A command among a stream's bytes, and the end of a record (RFC 854; RFC 885).
 pub const IAC: u8 = 0xff;
+
 pub const EOR: u8 = 0xef;
 
 /// Writes a whole record with its IAC EOR, each FF of it doubled (RFC 1205, section 3).
@@ -27,7 +28,7 @@ pub fn write_record<S: Sink>(
         (record_spelling (header (10 + length body.now) flags opcode ++ body.now))) }
     ensures err { IfErr result (λ fault. (fault ≡ Fault.Write)
         × FailedWithin S.takes S.failures sink.old sink.new
-            (record_spelling (header (10 + length body.now) flags opcode ++ body.now))) }
+        (record_spelling (header (10 + length body.now) flags opcode ++ body.now))) }
 {
     let length = 10 + body.len() as u16;
     write_doubled(sink, &header_bytes(length, flags, opcode))?;

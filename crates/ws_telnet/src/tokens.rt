@@ -64,8 +64,10 @@ impl Tokens {
     fn after_iac(&mut self, byte: u8) -> Push<Token>
         ensures more { MatchPush result (IsUnfinished token_rules tt (0xff ∷ byte ∷ [])
             × (unfinished_of self.new ≡ 0xff ∷ byte ∷ [])) (λ _. Unit {0}) (λ _. Unit {0}) }
-        ensures unit { MatchPush result (Unit {0}) (λ unit. IsSpelled token_rules tt (0xff ∷ byte ∷ []) unit) (λ _. Unit {0}) }
-        ensures bad { MatchPush result (Unit {0}) (λ _. Unit {0}) (λ reason. ¬ IsPrefix token_rules tt (0xff ∷ byte ∷ [])
+        ensures unit { MatchPush result (Unit {0})
+            (λ unit. IsSpelled token_rules tt (0xff ∷ byte ∷ []) unit) (λ _. Unit {0}) }
+        ensures bad { MatchPush result (Unit {0}) (λ _. Unit {0})
+            (λ reason. ¬ IsPrefix token_rules tt (0xff ∷ byte ∷ [])
             × (reason ≡ token_reason (0xff ∷ []) byte)) }
     {
         if byte == 0xff {

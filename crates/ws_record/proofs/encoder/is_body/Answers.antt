@@ -7,11 +7,10 @@ pub returns-then-not-may_follow : goal.returns-then-not-may_follow
 returns-then-not-may_follow g c =
     let rules = g.B.Code.rules in
     let units = c.args.units.now in
-    let unit = c.unit-item.result in
-    (
+    let unit = c.unit-item.result in (
       λ f. absurd (let e : ◌≡◌ {A = Bool} false true = f in cc),
       λ w. (let stands = chain_at rules rules.first units c.loop-unit.unit-index unit c.loop-unit-test.true c.unit-item.is w.chain in
-      let e : ◌≡◌ {A = Bool} false true = sym c.if-not-may_follow.true ∙ c.may_follow.ensures ∙ ap (λ (p : g.row.B-Place.Denot). rules.may_stand p unit) c.loop-unit.invariant.leads ∙ stands.may_stand in e),
+          let e : ◌≡◌ {A = Bool} false true = sym c.if-not-may_follow.true ∙ c.may_follow.ensures ∙ ap (λ (p : g.row.B-Place.Denot). rules.may_stand p unit) c.loop-unit.invariant.leads ∙ stands.may_stand in e),
     )
 
 pub loop-unit-preserved : goal.loop-unit-preserved

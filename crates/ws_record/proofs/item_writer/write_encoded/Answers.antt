@@ -59,5 +59,8 @@ returns-clause-err g c =
     let rules = g.B.Code.rules in
     let units = c.as_slice-units.result.now in
     let text = text_of rules c.args.encoded.now c.header_bytes.result units c.body_length.result c.unwrap_or-length.result c.requires c.as_slice-units.ensures c.body_length.ensures.some c.body_length.ensures.none c.unwrap_or-length.ensures c.header_bytes.ensures in
-    IfErr-weaker c.write_whole.result _ _ (λ fault q. (q.0, third_fails g.S.Sink.takes g.S.Sink.failures c.args.sink.now c.write_doubled.new.sink c.write_units.new.sink c.write_whole.new.sink
-    (flat_map doubled c.header_bytes.result) (flat_map doubled (spelling_of rules units)) (0xff ∷ 0xef ∷ []) _ text c.in_ok-write_doubled.ensures.ok c.in_ok-write_units.ensures.ok q.1)) c.write_whole.ensures.err
+    IfErr-weaker c.write_whole.result _ _ (λ fault q. (
+      q.0,
+      third_fails g.S.Sink.takes g.S.Sink.failures c.args.sink.now c.write_doubled.new.sink c.write_units.new.sink c.write_whole.new.sink
+          (flat_map doubled c.header_bytes.result) (flat_map doubled (spelling_of rules units)) (0xff ∷ 0xef ∷ []) _ text c.in_ok-write_doubled.ensures.ok c.in_ok-write_units.ensures.ok q.1,
+    )) c.write_whole.ensures.err

@@ -38,5 +38,8 @@ returns-in_ok-write_doubled-in-Sub-clause-err g c =
     let content = c.as_slice.result.now in
     let opening : List ℕ = 0xff ∷ 0xfa ∷ sub.option ∷ [] in
     let text = ap (λ (z : List ℕ). opening ++ (flat_map doubled z ++ 0xff ∷ 0xf0 ∷ [])) c.as_slice.ensures.value ∙ ap telnet_spelling (sym c.in-Sub.is) in
-    IfErr-weaker c.write_whole-in-Sub-2.result _ _ (λ fault q. (q.0, third_fails g.S.Sink.takes g.S.Sink.failures c.args.sink.now c.write_whole-in-Sub.new.sink c.write_doubled.new.sink c.write_whole-in-Sub-2.new.sink
-    opening (flat_map doubled content) (0xff ∷ 0xf0 ∷ []) _ text c.in_ok-write_whole-in-Sub.ensures.ok c.in_ok-write_doubled-in-Sub.ensures.ok q.1)) c.write_whole-in-Sub-2.ensures.err
+    IfErr-weaker c.write_whole-in-Sub-2.result _ _ (λ fault q. (
+      q.0,
+      third_fails g.S.Sink.takes g.S.Sink.failures c.args.sink.now c.write_whole-in-Sub.new.sink c.write_doubled.new.sink c.write_whole-in-Sub-2.new.sink
+          opening (flat_map doubled content) (0xff ∷ 0xf0 ∷ []) _ text c.in_ok-write_whole-in-Sub.ensures.ok c.in_ok-write_doubled-in-Sub.ensures.ok q.1,
+    )) c.write_whole-in-Sub-2.ensures.err

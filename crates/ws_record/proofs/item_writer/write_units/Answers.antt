@@ -17,8 +17,11 @@ returns-in_err-write_doubled-clause-err g c =
     let unit = c.unit-item.result in
     let e = c.in_err-write_doubled.ensures.err in
     let failed = subst (λ (z : List ℕ). FailedWithin takes failures c.loop-unit.sink c.write_doubled.new.sink (flat_map doubled z)) (c.as_slice.ensures.value ∙ c.spell.ensures) e.1 in
-    rw (p.1, p.2) (e.0, subst (FailedWithin takes failures c.args.sink.now c.write_doubled.new.sink) (sym (doubled_each spelling units))
-    (each_fails takes failures (λ (u : g.row.B-Unit.Denot). flat_map doubled (spelling u)) c.args.sink.now c.loop-unit.sink c.write_doubled.new.sink units c.loop-unit.unit-index unit c.loop-unit-test.true c.unit-item.is c.loop-unit.invariant failed))
+    rw (p.1, p.2) (
+      e.0,
+      subst (FailedWithin takes failures c.args.sink.now c.write_doubled.new.sink) (sym (doubled_each spelling units))
+          (each_fails takes failures (λ (u : g.row.B-Unit.Denot). flat_map doubled (spelling u)) c.args.sink.now c.loop-unit.sink c.write_doubled.new.sink units c.loop-unit.unit-index unit c.loop-unit-test.true c.unit-item.is c.loop-unit.invariant failed),
+    )
 
 pub loop-unit-preserved : goal.loop-unit-preserved
 loop-unit-preserved g c =

@@ -54,5 +54,8 @@ returns-clause-err g c =
     let start = c.loop-at.start in
     let at = c.loop-at.at in
     IfErr-weaker c.write_whole-2.result _ _
-    (λ fault p. (p.0, doubling_ends_failed takes failures c.args.sink.now c.loop-at.sink c.write_whole-2.new.sink bytes start at c.loop-at.invariant c.loop-at-test.false
-    (subst (FailedWithin takes failures c.loop-at.sink c.write_whole-2.new.sink) (run_rest bytes start at c.loop-at-test.false) p.1))) c.write_whole-2.ensures.err
+    (λ fault p. (
+      p.0,
+      doubling_ends_failed takes failures c.args.sink.now c.loop-at.sink c.write_whole-2.new.sink bytes start at c.loop-at.invariant c.loop-at-test.false
+          (subst (FailedWithin takes failures c.loop-at.sink c.write_whole-2.new.sink) (run_rest bytes start at c.loop-at-test.false) p.1),
+    )) c.write_whole-2.ensures.err

@@ -33,5 +33,8 @@ pub returns-clause-err : goal.returns-clause-err
 returns-clause-err g c =
     let body = c.args.body.now in
     let text = record_text c.header_bytes.result body ∙ ap (λ (z : List ℕ). record_spelling (z ++ body)) c.header_bytes.ensures in
-    IfErr-weaker c.write_whole.result _ _ (λ fault q. (q.0, third_fails g.S.Sink.takes g.S.Sink.failures c.args.sink.now c.write_doubled.new.sink c.write_doubled-2.new.sink c.write_whole.new.sink
-    (flat_map doubled c.header_bytes.result) (flat_map doubled body) (0xff ∷ 0xef ∷ []) _ text c.in_ok-write_doubled.ensures.ok c.in_ok-write_doubled-2.ensures.ok q.1)) c.write_whole.ensures.err
+    IfErr-weaker c.write_whole.result _ _ (λ fault q. (
+      q.0,
+      third_fails g.S.Sink.takes g.S.Sink.failures c.args.sink.now c.write_doubled.new.sink c.write_doubled-2.new.sink c.write_whole.new.sink
+          (flat_map doubled c.header_bytes.result) (flat_map doubled body) (0xff ∷ 0xef ∷ []) _ text c.in_ok-write_doubled.ensures.ok c.in_ok-write_doubled-2.ensures.ok q.1,
+    )) c.write_whole.ensures.err
