@@ -1,5 +1,5 @@
 //! The format table: the input fields by start.
-ghost use Rattle.std.specs.Prelude.{◌≡◌, ◌≢◌, ◌≤◌, ◌<◌, ◌+◌, ℕ, length, map, if◌then◌else◌, slice_index, All, ◌&&◌, not, true, false, IsSome, is_some, find};
+ghost use Rattle.std.specs.Prelude.{◌≡◌, ◌≢◌, ◌≤◌, ◌<◌, ℕ, length, map, if◌then◌else◌, slice_index, All, ◌&&◌, not, true, false, IsSome, is_some, find};
 ghost use Rattle.std.specs.Option.{option_map_or};
 ghost use Rattle.std.specs.List.{list_any};
 ghost use Rattle.arrayvec.specs.ArrayVec.{array_vec_len};

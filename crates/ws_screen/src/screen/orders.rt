@@ -1,5 +1,5 @@
 //! The orders and the bytes of a write.
-ghost use Rattle.std.specs.Prelude.{◌≡◌, ◌≢◌, ◌<◌, Some, None, IsSome, OnOk, OnErr, Ok, Err, false, nat_lt, if◌then◌else◌};
+ghost use Rattle.std.specs.Prelude.{◌≡◌, Some, None, IsSome, OnOk, OnErr, false, nat_lt, if◌then◌else◌};
 ghost use Rattle.ws_code.specs.DataByte.{is_order};
 ghost use Rattle.ws_code.specs.declared.reason.Reason.TheVariants.{BackwardAddress};
 ghost use Rattle.ws_stream.specs.declared.element.Element.TheVariants.{Soh, Ra, Ea, Sba, Ic, Mc, Sf, Put};
