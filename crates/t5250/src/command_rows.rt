@@ -289,3 +289,73 @@ fn encoded_and_read_back(rt: HostRuntime) -> Result<(), Fail> {
     encoding_spells_its_items::<Commands>();
     Ok(())
 }
+
+// `length-255`: the length's FF is doubled too.
+#[test]
+fn length_255(rt: HostRuntime) -> Result<(), Fail> {
+    let mut bytes = Vec::new(rt.alloc());
+    bytes.extend_from_slice(b"\x00\xff\xff\x12\xa0\x00\x00\x04\x00\x00\x03\x04\x11\x00\x00")?;
+    for _ in 0..241 {
+        bytes.push(0x40)?;
+    }
+    bytes.extend_from_slice(b"\xff\xef")?;
+    assert_eq!(rt; bytes.len(), 258);
+    let found = told(
+        rt.alloc(),
+        decode_all::<Commands>(rt.alloc(), bytes.as_slice()),
+    )?;
+    assert_eq!(rt; found.as_str(), "0000 3 242;");
+    Ok(())
+}
+
+// `bad-tokens`: a subnegotiation with as many bytes as there may be, and with one too many.
+#[test]
+fn longest_subnegotiation(rt: HostRuntime) -> Result<(), Fail> {
+    for (tail, wanted) in [
+        (b"\x41".as_slice(), "refused at 67: 4"),
+        (b"\xff\xff", "refused at 68: 4"),
+    ] {
+        let mut bytes = vec![in rt.alloc(); 0x41; 67]?;
+        bytes[0] = 0xff;
+        bytes[1] = 0xfa;
+        bytes[2] = 0x18;
+        bytes.extend_from_slice(tail)?;
+        let found = told(
+            rt.alloc(),
+            decode_all::<Commands>(rt.alloc(), bytes.as_slice()),
+        )?;
+        assert_eq!(rt; found.as_str(), wanted);
+    }
+    Ok(())
+}
+
+// `put-ff-in-pieces`: cut in two at each place, and byte by byte.
+#[test]
+fn put_ff_in_pieces(rt: HostRuntime) -> Result<(), Fail> {
+    let bytes =
+        b"\x00\x0f\x12\xa0\x00\x00\x04\x00\x00\x03\x04\x11\x00\x08\xff\xff\xff\xef".as_slice();
+    for size in 1..19 {
+        let mut receiver = Receiver::<Commands>::new(rt.alloc());
+        let mut text = String::new(rt.alloc());
+        let mut sum = 0usize;
+        for piece in bytes.chunks(size) {
+            let fed = receiver.feed(piece).or(Err("refused"))?;
+            sum = sum.wrapping_add(fed.used);
+            if let Some(item) = &fed.item {
+                text.push_str(item_told(rt.alloc(), item)?.as_str())?;
+            }
+        }
+        assert!(rt; receiver.finish().is_ok());
+        assert_eq!(rt; text.as_str(), "0000 3 2;", "in pieces of {size}");
+        assert_eq!(rt; sum, 18);
+    }
+    for size in 0..19 {
+        let mut receiver = Receiver::<Commands>::new(rt.alloc());
+        let (first, second) = bytes.split_at(size);
+        let before = receiver.feed(first).or(Err("refused"))?;
+        let after = receiver.feed(second).or(Err("refused"))?;
+        assert_eq!(rt; before.used.wrapping_add(after.used), 18);
+        assert!(rt; before.item.is_some() != after.item.is_some());
+    }
+    Ok(())
+}
