@@ -1,14 +1,14 @@
-use Rattle.std.specs.Prelude.{◌≡◌, ◌≢◌, ℕ, ◌+◌, ◌<◌, ◌≤◌, ◌/◌, ◌%◌, ◌==◌, List, [], ◌∷◌, ◌++◌, length, Bool, true, false, ◌&&◌, nat_le, nat_lt, Option, Some, None, refl}
+use Rattle.std.specs.Prelude.{◌≡◌, ◌≢◌, ℕ, ◌+◌, ◌<◌, ◌≤◌, ◌/◌, ◌%◌, ◌==◌, List, [], ◌∷◌, ◌++◌, length, Bool, true, Option, Some, None, refl}
 use Rattle.std.proofs.Common.{inl, inr, sym, ap, ◌∙◌, subst, arith, append_assoc, length-append}
-use Rattle.std.specs.List.{flat_map, list_all, AllByRecursion}
+use Rattle.std.specs.List.{flat_map, list_all}
 use Rattle.std.proofs.lemmas.Bool.{and_parts, or_cases, leb-true, ltb-true, eqb-true, both_ways}
 use Rattle.std.proofs.lemmas.List.{append-nil}
-use Rattle.ws_code.specs.Code.{Rules, Stands, IsSpelled, IsPrefix, IsPrefixFree, IsUnfinished, IsChain, place_after, AreBytes}
+use Rattle.ws_code.specs.Code.{IsPrefixFree, IsUnfinished, IsChain, place_after, AreBytes}
 use Rattle.ws_code.specs.DataByte.{IsData, is_order}
 use Rattle.ws_code.specs.FormatWord.{IsFfw}
-use Rattle.ws_stream.specs.Parts.{is_kind, IsEraseList}
+use Rattle.ws_stream.specs.Parts.{is_kind}
 use Rattle.ws_stream.specs.FieldOrder.{FieldOrder, IsFieldOrder, HasFormat, is_control}
-use Rattle.ws_stream.specs.Elements.{element_rules, spelling, IsElement, word, format_bytes, row_and_column}
+use Rattle.ws_stream.specs.Elements.{element_rules, spelling, IsElement, word, format_bytes}
 use Rattle.ws_stream.specs.declared.place.Place.{Place}
 use Rattle.ws_stream.specs.declared.element.Element.{Element}
 use Rattle.ws_stream.specs.declared.element.Element.TheVariants.{ClearUnit, ClearFormat, Write, ReadInput, ReadMdt, Soh, Ra, Ea, Sba, Ic, Mc, Sf, Put}

@@ -1,4 +1,4 @@
-use Rattle.std.specs.Prelude.{ℕ, ◌≡◌, ◌+◌, List, [], ◌∷◌, ◌++◌, Bool, true, false, nat_le, nat_lt, ◌&&◌, Option, Some, None}
+use Rattle.std.specs.Prelude.{ℕ, ◌≡◌, ◌+◌, List, [], ◌∷◌, ◌++◌, Bool, true, nat_le, nat_lt, ◌&&◌, Option, Some, None}
 use Rattle.std.specs.List.{flat_map, list_all}
 use Rattle.ws_code.specs.Code.{IsSpelled, IsPrefix, IsUnfinished}
 use Rattle.ws_code.specs.declared.code.Push.{Push}

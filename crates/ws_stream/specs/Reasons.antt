@@ -1,4 +1,4 @@
-use Rattle.std.specs.Prelude.{ℕ, ◌==◌, nat_le, nat_lt, ◌&&◌, ◌<◌, List, [], ◌∷◌, length, Bool, true, false, if◌then◌else◌}
+use Rattle.std.specs.Prelude.{ℕ, ◌==◌, nat_le, nat_lt, ◌&&◌, List, [], ◌∷◌, Bool, if◌then◌else◌}
 use Rattle.std.specs.List.{list_any}
 use Rattle.ws_code.specs.declared.reason.Reason.{Reason}
 use Rattle.ws_code.specs.declared.reason.Reason.TheVariants.{NoEscape, UnknownCommand, BadAddress, BadSohLength, Resequencing, BadEraseList, BadRepeat, BadFormatByte, StructuredField, AlternateSize, SaveRestore, Roll, ErrorCode, ReadScreen, ReadImmediate, ReadAlternate, ExtendedAttribute, TransparentData, DisplayStructuredField, TooManyFcws, LeftOutShift}

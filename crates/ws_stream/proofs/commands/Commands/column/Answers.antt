@@ -1,6 +1,7 @@
 use Rattle.std.proofs.Common.{[], ◌∷◌}
 use Rattle.ws_stream.specs.Machine.{order_byte}
-use Rattle.ws_stream.proofs.Unfinished.{step_more, column_repeat, column_erase}
+use Rattle.ws_stream.proofs.Unfinished.{step_more}
+use Rattle.ws_stream.proofs.UnfinishedAddress.{column_repeat, column_erase}
 use Rattle.ws_stream.proofs.commands.Commands.column.Goals as goal
 
 pub returns-in-Ra : goal.returns-in-Ra

@@ -1,10 +1,11 @@
-use Rattle.std.proofs.Common.{◌≡◌, ◌+◌, ◌*◌, ◌++◌, [], ◌∷◌, arith}
+use Rattle.std.proofs.Common.{◌+◌, ◌*◌, ◌++◌, [], ◌∷◌, arith}
 use Rattle.std.specs.Prelude.{nat_le}
 use Rattle.std.specs.List.{list_all}
 use Rattle.std.proofs.lemmas.Bool.{and_parts, leb-true}
 use Rattle.ws_stream.specs.FieldOrder.{is_control}
 use Rattle.ws_stream.specs.Machine.{words_bytes}
-use Rattle.ws_stream.proofs.Unfinished.{step_more, follows_byte, control_fits, control_whole}
+use Rattle.ws_stream.proofs.Unfinished.{step_more}
+use Rattle.ws_stream.proofs.UnfinishedField.{follows_byte, control_fits, control_whole}
 use Rattle.ws_stream.proofs.commands.Commands.control_low.Goals as goal
 
 pub push-requires : goal.push-requires

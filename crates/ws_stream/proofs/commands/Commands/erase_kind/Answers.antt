@@ -1,7 +1,8 @@
-use Rattle.std.proofs.Common.{◌≡◌, ◌∷◌, ◌++◌, ◌+◌, true, sym, ap, ◌∙◌}
+use Rattle.std.proofs.Common.{◌≡◌, ◌∷◌, ◌++◌, ◌+◌, true, ap, ◌∙◌}
 use Rattle.ws_stream.specs.Parts.{is_kind}
 use Rattle.ws_stream.specs.Elements.{row_and_column}
-use Rattle.ws_stream.proofs.Unfinished.{step_more, erase_more}
+use Rattle.ws_stream.proofs.Unfinished.{step_more}
+use Rattle.ws_stream.proofs.UnfinishedAddress.{erase_more}
 use Rattle.ws_stream.proofs.commands.Commands.erase_kind.Goals as goal
 use Rattle.ws_stream.proofs.commands.Commands.erase_kind.Goals.{else-byte-ne0-via-then-byte-ne0+else-byte-ne255, else-byte-ne0-via-else-byte-ne0}
 

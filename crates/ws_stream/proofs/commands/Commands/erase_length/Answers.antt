@@ -1,9 +1,10 @@
-use Rattle.std.proofs.Common.{◌∷◌}
+use Rattle.std.proofs.Common.{◌∷◌, arith}
 use Rattle.ws_stream.specs.Elements.{row_and_column}
-use Rattle.ws_stream.proofs.Unfinished.{step_more, erase_counted}
+use Rattle.ws_stream.proofs.Unfinished.{step_more}
+use Rattle.ws_stream.proofs.UnfinishedAddress.{erase_counted}
 use Rattle.ws_stream.proofs.commands.Commands.erase_length.Goals as goal
 
 pub returns : goal.returns
 returns c =
-    let found = erase_counted c.args.self.now.place c.args.to c.args.byte c.new.result.items c.requires c.if-byte-lt2.false c.if-byte-gt5.false c.new.ensures in
+    let found = erase_counted c.args.self.now.place c.args.to c.args.byte c.new.result.items c.requires (omega arith) (omega arith) c.new.ensures in
     step_more (0x03 ∷ row_and_column c.args.to) c.args.byte _ _ _ _ _ c.wait_for.ensures.more c.wait_for.ensures.place c.wait_for.ensures.phase found.0 found.1

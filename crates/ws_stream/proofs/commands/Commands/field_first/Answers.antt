@@ -1,7 +1,8 @@
 use Rattle.std.proofs.Common.{ℕ, [], ◌∷◌, ◌*◌, not, refl, arith, ap, ◌∙◌, subst}
 use Rattle.std.specs.Prelude.{None}
 use Rattle.ws_code.specs.FormatWord.{IsFfw}
-use Rattle.ws_stream.proofs.Unfinished.{step_more, order_allowed, attribute_goes_on, format_begins, some_passed}
+use Rattle.ws_stream.proofs.Unfinished.{step_more, order_allowed}
+use Rattle.ws_stream.proofs.UnfinishedField.{attribute_goes_on, format_begins, some_passed}
 use Rattle.ws_stream.proofs.commands.Commands.field_first.Goals as goal
 
 pub returns-in-32-to-63 : goal.returns-in-32-to-63

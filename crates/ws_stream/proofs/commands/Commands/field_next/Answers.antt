@@ -1,10 +1,11 @@
-use Rattle.std.proofs.Common.{◌≡◌, ◌<◌, ◌≤◌, [], ◌∷◌, length, refl, arith, sym, ◌∙◌}
+use Rattle.std.proofs.Common.{◌≡◌, ◌<◌, ◌≤◌, ◌∷◌, length, refl, arith, sym, ◌∙◌}
 use Rattle.std.specs.Prelude.{Some, nat_le}
 use Rattle.std.specs.List.{list_all}
 use Rattle.std.proofs.lemmas.Bool.{and_parts, leb-true, eqb-true, eqb-false}
 use Rattle.ws_stream.specs.FieldOrder.{is_control}
 use Rattle.ws_stream.specs.Machine.{words_bytes}
-use Rattle.ws_stream.proofs.Unfinished.{step_more, order_allowed, attribute_goes_on, control_goes_on_word, bad_part, many_reason, byte_reason, words_known, follows_here}
+use Rattle.ws_stream.proofs.Unfinished.{step_more, order_allowed}
+use Rattle.ws_stream.proofs.UnfinishedField.{attribute_goes_on, control_goes_on_word, bad_part, many_reason, byte_reason, words_known, follows_here}
 use Rattle.ws_stream.proofs.commands.Commands.field_next.Goals as goal
 use Rattle.ws_stream.proofs.commands.Commands.field_next.Goals.{in_default-via-then-byte-lt32, in_default-via-else-byte-lt32+else-byte-lt64+then-byte-lt128}
 

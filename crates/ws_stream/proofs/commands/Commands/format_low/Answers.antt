@@ -1,6 +1,7 @@
 use Rattle.std.proofs.Common.{◌≡◌, ◌+◌, ◌*◌, [], ◌∷◌, arith, sym, subst}
 use Rattle.ws_code.specs.FormatWord.{IsFfw}
-use Rattle.ws_stream.proofs.Unfinished.{step_more, format_whole}
+use Rattle.ws_stream.proofs.Unfinished.{step_more}
+use Rattle.ws_stream.proofs.UnfinishedField.{format_whole}
 use Rattle.ws_stream.proofs.commands.Commands.format_low.Goals as goal
 
 pub returns-in-Some : goal.returns-in-Some

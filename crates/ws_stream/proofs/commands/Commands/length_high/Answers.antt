@@ -1,6 +1,7 @@
 use Rattle.std.proofs.Common.{◌++◌, [], ◌∷◌, arith}
 use Rattle.ws_stream.specs.Machine.{front_bytes}
-use Rattle.ws_stream.proofs.Unfinished.{step_more, length_begins}
+use Rattle.ws_stream.proofs.Unfinished.{step_more}
+use Rattle.ws_stream.proofs.UnfinishedField.{length_begins}
 use Rattle.ws_stream.proofs.commands.Commands.length_high.Goals as goal
 
 pub returns : goal.returns

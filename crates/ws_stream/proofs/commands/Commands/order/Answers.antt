@@ -1,5 +1,8 @@
 use Rattle.std.proofs.Common.{[], refl}
-use Rattle.ws_stream.proofs.Unfinished.{step_more_at, soh_begins, order_begins, field_begins}
+use Rattle.ws_stream.proofs.Unfinished.{step_more_at}
+use Rattle.ws_stream.proofs.UnfinishedAddress.{order_begins}
+use Rattle.ws_stream.proofs.UnfinishedField.{field_begins}
+use Rattle.ws_stream.proofs.UnfinishedHeader.{soh_begins}
 use Rattle.ws_stream.specs.declared.commands.phase.Order.TheVariants.{Ra, Ea, Sba, Ic, Mc}
 use Rattle.ws_stream.proofs.commands.Commands.order.Goals as goal
 

@@ -1,6 +1,7 @@
 use Rattle.std.proofs.Common.{[], ◌∷◌, refl, arith}
 use Rattle.ws_stream.specs.Machine.{order_byte}
-use Rattle.ws_stream.proofs.Unfinished.{step_more, row_goes_on, order_allowed, address_code}
+use Rattle.ws_stream.proofs.Unfinished.{step_more, order_allowed}
+use Rattle.ws_stream.proofs.UnfinishedAddress.{row_goes_on, address_code}
 use Rattle.ws_stream.proofs.commands.Commands.row.Goals as goal
 
 pub returns : goal.returns

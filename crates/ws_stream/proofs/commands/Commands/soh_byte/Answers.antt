@@ -1,5 +1,6 @@
 use Rattle.std.proofs.Common.{◌≡◌, ◌∷◌, length, sym, ◌∙◌, arith}
-use Rattle.ws_stream.proofs.Unfinished.{step_more, soh_more, soh_whole}
+use Rattle.ws_stream.proofs.Unfinished.{step_more}
+use Rattle.ws_stream.proofs.UnfinishedHeader.{soh_more, soh_whole}
 use Rattle.ws_stream.proofs.commands.Commands.soh_byte.Goals as goal
 use Rattle.ws_stream.proofs.commands.Commands.soh_byte.Goals.{else-len-eq2-via-then-len-eq2+else-byte-ne0, else-len-eq2-via-else-len-eq2}
 

@@ -1,8 +1,9 @@
-use Rattle.std.proofs.Common.{[], ◌∷◌}
-use Rattle.ws_stream.proofs.Unfinished.{step_more, soh_counted}
+use Rattle.std.proofs.Common.{[], ◌∷◌, arith}
+use Rattle.ws_stream.proofs.Unfinished.{step_more}
+use Rattle.ws_stream.proofs.UnfinishedHeader.{soh_counted}
 use Rattle.ws_stream.proofs.commands.Commands.soh_length.Goals as goal
 
 pub returns : goal.returns
 returns c =
-    let found = soh_counted c.args.self.now.place c.args.byte c.new-2.result.items c.requires c.if-byte-gt7.false c.if-byte-eq0.false c.new-2.ensures in
+    let found = soh_counted c.args.self.now.place c.args.byte c.new-2.result.items c.requires (omega arith) c.if-byte-eq0.false c.new-2.ensures in
     step_more (0x01 ∷ []) c.args.byte _ _ _ _ _ c.wait_for.ensures.more c.wait_for.ensures.place c.wait_for.ensures.phase found.0 found.1
