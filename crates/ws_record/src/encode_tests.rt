@@ -40,9 +40,11 @@ fn fault_of<B: ws_code::Body<Unit = u8>>(
 ) -> Result<EncodeFault, &'static str> {
     let mut sink = VecSink::new(alloc);
     let written = encode_to::<B, VecSink>(items, &mut sink);
-    match (encode::<B>(alloc, items), written) {
-        (Err(fault), Err(other)) if fault == other && sink.as_slice().is_empty() => Ok(fault),
-        _ => Err("no fault, or two, or something was written"),
+    let fault = encode::<B>(alloc, items).err().ok_or("encoded")?;
+    if written == Err(fault) && sink.as_slice().is_empty() {
+        Ok(fault)
+    } else {
+        Err("another fault, or something was written")
     }
 }
 
@@ -81,7 +83,8 @@ fn encode_sink_fails(rt: HostRuntime) -> Result<(), Fail> {
     for writes in 0..19usize {
         let mut sink = FailingSink::new(rt.alloc(), writes as u64);
         let written = encode_to::<RawBody, FailingSink>(items.as_slice(), &mut sink);
-        assert_eq!(rt; sink.as_slice(), &PUT_FF[..writes.min(18)]);
+        assert_eq!(rt; sink.as_slice().len(), writes.min(18));
+        assert!(rt; PUT_FF.starts_with(sink.as_slice()));
         if writes < 18 {
             assert_eq!(rt; written, Err(EncodeFault::Write), "after {writes}");
             assert_eq!(rt; sink.failures(), 1);
@@ -93,7 +96,8 @@ fn encode_sink_fails(rt: HostRuntime) -> Result<(), Fail> {
     for writes in 0..19usize {
         let mut sink = FailingSink::new(rt.alloc(), writes as u64);
         let written = write_record(&mut sink, 0, Opcode::PutGet, &body);
-        assert_eq!(rt; sink.as_slice(), &PUT_FF[..writes.min(18)]);
+        assert_eq!(rt; sink.as_slice().len(), writes.min(18));
+        assert!(rt; PUT_FF.starts_with(sink.as_slice()));
         assert_eq!(rt; written.is_ok(), writes == 18, "after {writes}");
     }
     Ok(())
@@ -104,11 +108,8 @@ fn largest_raw_record(rt: HostRuntime) -> Result<(), Fail> {
     let items = vec![in rt.alloc(); repeated(rt.alloc(), 0x40, 65_525)?]?;
     let encoded = encode::<RawBody>(rt.alloc(), items.as_slice())?;
     assert_eq!(rt; encoded.len(), 65_539);
-    assert_eq!(rt;
-        &encoded[..6],
-        [0xff, 0xff, 0xff, 0xff, 0x12, 0xa0].as_slice()
-    );
-    assert_eq!(rt; &encoded[65_535..], [0x40, 0x40, 0xff, 0xef].as_slice());
+    assert!(rt; encoded.starts_with(b"\xff\xff\xff\xff\x12\xa0"));
+    assert!(rt; encoded.ends_with(b"\x40\x40\xff\xef"));
     let items = vec![in rt.alloc(); repeated(rt.alloc(), 0x40, 65_526)?]?;
     let fault = fault_of::<RawBody>(rt.alloc(), items.as_slice())?;
     assert_eq!(rt; fault, EncodeFault::TooBig { index: 0 });
