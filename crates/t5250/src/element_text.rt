@@ -1,7 +1,7 @@
 use std::alloc::{AllocError, Global};
 use ws_stream::{Element, FieldStart};
 
-/// The line of an element but a Put, without blanks before it and a line's end.
+/// The line of an element, without blanks before it and a line's end.
 pub fn element_text(alloc: Global, element: &Element) -> Result<String, AllocError> {
     match element {
         Element::ClearUnit => String::from_str(alloc, "CLEAR-UNIT"),
