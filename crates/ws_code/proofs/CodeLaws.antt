@@ -1,8 +1,16 @@
-use Rattle.std.proofs.Common.{true, ◌≡◌, ◌≢◌, ℕ, ◌+◌, ◌<◌, ◌≤◌, List, [], ◌∷◌, ◌++◌, ◌⊎◌, inl, inr, length, refl, sym, ap, ◌∙◌, subst, arith, append_assoc, length-append}
-use Rattle.std.specs.List.{flat_map}
+use Rattle.std.proofs.Common.{true, ◌≡◌, ℕ, List, [], ◌∷◌, ◌++◌, ◌⊎◌, inl, inr, length, refl, sym, ap, ◌∙◌, subst, arith, append_assoc, length-append}
 use Rattle.std.proofs.lemmas.List.{append_cancel_left, append-nil}
 use Rattle.std.proofs.lemmas.Grind.{flat_map-append}
-use Rattle.ws_code.specs.Code.{Rules, Stands, IsSpelled, IsPrefix, IsUnfinished, IsChain, IsCut, IsWhole, IsPrefixFree, place_after, spelling_of}
+use Rattle.ws_code.specs.Code.{Rules, Stands, IsSpelled, IsPrefix, IsUnfinished, IsChain, IsCut, IsWhole, IsPrefixFree, AreBytes, place_after, spelling_of}
+
+-- a list of bytes in two parts
+pub AreBytes-append : (xs ys : List ℕ) → AreBytes xs → AreBytes ys → AreBytes (xs ++ ys)
+AreBytes-append [] ys h k = k
+AreBytes-append (x ∷ xs) ys h k = (h.0, AreBytes-append xs ys h.1 k)
+
+pub AreBytes-front : (xs ys : List ℕ) → AreBytes (xs ++ ys) → AreBytes xs
+AreBytes-front [] ys h = tt
+AreBytes-front (x ∷ xs) ys h = (h.0, AreBytes-front xs ys h.1)
 
 -- of two lists that begin one list, one begins the other
 pub one_begins : {A : Type 0} (a b x y : List A) → a ++ x ≡ b ++ y → ((r : List A) × (b ≡ a ++ r) × (x ≡ r ++ y)) ⊎ ((r : List A) × (a ≡ b ++ r) × (y ≡ r ++ x))

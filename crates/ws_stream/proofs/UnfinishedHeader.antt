@@ -2,9 +2,10 @@ use Rattle.std.specs.Prelude.{◌≡◌, ◌≢◌, ℕ, zero, suc, ◌+◌, ◌
 use Rattle.std.proofs.Common.{sym, ap, ◌∙◌, subst, arith, length-append}
 use Rattle.std.proofs.lemmas.List.{length-replicate}
 use Rattle.ws_code.specs.Code.{IsSpelled, IsUnfinished, AreBytes}
+use Rattle.ws_code.proofs.CodeLaws.{AreBytes-append}
 use Rattle.ws_stream.specs.Parts.{IsSoh}
 use Rattle.ws_stream.specs.Elements.{element_rules, spelling, IsElement, allows_orders}
-use Rattle.ws_stream.specs.ElementLaws.{first, no_code, AreBytes-append}
+use Rattle.ws_stream.specs.ElementLaws.{first, no_code}
 use Rattle.ws_stream.specs.declared.place.Place.{Place}
 use Rattle.ws_stream.specs.declared.element.Element.{Element}
 use Rattle.ws_stream.specs.declared.element.Element.TheVariants.{Soh, Put}

@@ -5,6 +5,7 @@ use Rattle.std.proofs.lemmas.Bool.{and_parts, or_cases, leb-true, ltb-true, eqb-
 use Rattle.std.proofs.lemmas.List.{append-nil}
 use Rattle.ws_code.specs.Code.{IsPrefixFree, IsUnfinished, IsChain, place_after, AreBytes}
 use Rattle.ws_code.specs.DataByte.{IsData, is_order}
+use Rattle.ws_code.proofs.CodeLaws.{AreBytes-append}
 use Rattle.ws_code.specs.FormatWord.{IsFfw}
 use Rattle.ws_stream.specs.Parts.{is_kind}
 use Rattle.ws_stream.specs.FieldOrder.{FieldOrder, IsFieldOrder, HasFormat, is_control}
@@ -41,10 +42,6 @@ element_nonempty (Ic place) h e = cc
 element_nonempty (Mc place) h e = cc
 element_nonempty (Sf f) h e = cc
 element_nonempty (Put byte) h e = cc
-
-pub AreBytes-append : (xs ys : List ℕ) → AreBytes xs → AreBytes ys → AreBytes (xs ++ ys)
-AreBytes-append [] ys h k = k
-AreBytes-append (x ∷ xs) ys h k = (h.0, AreBytes-append xs ys h.1 k)
 
 kind_byte : (k : ℕ) → is_kind k ≡ true → k < 256
 kind_byte k h = elim (or_cases (k == 0) (k == 0xFF) h) [ inl e ↦ (let f : k ≡ 0 = eqb-true k 0 e in omega arith) | inr e ↦ (let f : k ≡ 0xFF = eqb-true k 0xFF e in omega arith) ]

@@ -1,4 +1,4 @@
-use Rattle.std.specs.Prelude.{◌≡◌, ◌≢◌, ℕ, ◌+◌, ◌<◌, ◌≤◌, ◌==◌, List, [], ◌∷◌, ◌++◌, if◌then◌else◌, length, Bool, true, false, not, ◌&&◌}
+use Rattle.std.specs.Prelude.{ℕ, ◌<◌, ◌≤◌, ◌==◌, List, [], ◌∷◌, ◌++◌, if◌then◌else◌, length, Bool, true, false, not, ◌&&◌}
 use Rattle.std.specs.List.{flat_map}
 use Rattle.ws_code.specs.Code.{Rules, AreBytes}
 use Rattle.ws_code.specs.declared.reason.Reason.{Reason}
@@ -7,7 +7,6 @@ use Rattle.ws_telnet.specs.declared.token.CommandCode.{CommandCode}
 use Rattle.ws_telnet.specs.declared.token.CommandCode.TheVariants.{Nop, DataMark, Break, InterruptProcess, AbortOutput, AreYouThere, EraseCharacter, EraseLine, GoAhead}
 use Rattle.ws_telnet.specs.declared.token.Verb.{Verb}
 use Rattle.ws_telnet.specs.declared.token.Verb.TheVariants.{Will, Wont, Do, Dont}
-use Rattle.ws_telnet.specs.declared.token.Sub.{Sub}
 use Rattle.ws_telnet.specs.declared.token.Telnet.{Telnet}
 use Rattle.ws_telnet.specs.declared.token.Telnet.TheVariants.{Command, Option as Negotiate, Sub as Subnegotiate}
 use Rattle.ws_telnet.specs.declared.token.Token.{Token}

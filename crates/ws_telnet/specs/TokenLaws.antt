@@ -1,17 +1,16 @@
-use Rattle.std.specs.Prelude.{◌≡◌, ◌≢◌, ℕ, ◌+◌, ◌<◌, ◌≤◌, ◌==◌, List, [], ◌∷◌, ◌++◌, ◌⊎◌, length, Bool, true, false, refl}
-use Rattle.std.proofs.Common.{inl, inr, sym, ap, ◌∙◌, subst, arith, append_assoc, length-append, eqb, eq-eqb}
-use Rattle.std.specs.List.{flat_map, AllByRecursion}
+use Rattle.std.specs.Prelude.{◌≡◌, ◌≢◌, ℕ, ◌<◌, ◌≤◌, ◌==◌, List, [], ◌∷◌, ◌++◌, ◌⊎◌, length, true, false, refl}
+use Rattle.std.proofs.Common.{inl, inr, sym, ap, ◌∙◌, subst, arith, append_assoc}
+use Rattle.std.specs.List.{flat_map}
 use Rattle.std.proofs.lemmas.Bool.Decides.{eqb_tells}
-use Rattle.std.proofs.lemmas.List.{append_cancel_left, append-nil}
-use Rattle.std.proofs.lemmas.Grind.{flat_map-append}
-use Rattle.ws_code.specs.Code.{Rules, Stands, IsSpelled, IsPrefix, IsPrefixFree, IsUnfinished, AreBytes}
-use Rattle.ws_telnet.specs.Token.{token_rules, IsToken, token_spelling, telnet_spelling, doubled, command_byte, verb_byte, ends_in_iac}
+use Rattle.std.proofs.lemmas.List.{append-nil}
+use Rattle.ws_code.specs.Code.{IsPrefixFree, IsUnfinished, AreBytes}
+use Rattle.ws_code.proofs.CodeLaws.{AreBytes-append}
+use Rattle.ws_telnet.specs.Token.{token_rules, IsToken, token_spelling, telnet_spelling, doubled, command_byte, verb_byte}
 use Rattle.ws_telnet.specs.declared.token.CommandCode.{CommandCode}
 use Rattle.ws_telnet.specs.declared.token.CommandCode.TheVariants.{Nop, DataMark, Break, InterruptProcess, AbortOutput, AreYouThere, EraseCharacter, EraseLine, GoAhead}
 use Rattle.ws_telnet.specs.declared.token.Verb.{Verb}
 use Rattle.ws_telnet.specs.declared.token.Verb.TheVariants.{Will, Wont, Do, Dont}
 use Rattle.ws_telnet.specs.declared.token.Sub.{Sub}
-use Rattle.ws_telnet.specs.declared.token.Telnet.{Telnet}
 use Rattle.ws_telnet.specs.declared.token.Telnet.TheVariants.{Command, Option as Negotiate, Sub as Subnegotiate}
 use Rattle.ws_telnet.specs.declared.token.Token.{Token}
 use Rattle.ws_telnet.specs.declared.token.Token.TheVariants.{Data, Eor, Telnet as TelnetToken}
@@ -147,14 +146,6 @@ not_after_iac Eor b rest ne lt e = let f : 0xef ≡ b = cc in ne (sym f)
 not_after_iac (TelnetToken (Command code)) b rest ne lt e = let f : command_byte code ≡ b = cc in omega (arith, command_low code)
 not_after_iac (TelnetToken (Negotiate verb o)) b rest ne lt e = let f : verb_byte verb ≡ b = cc in omega (arith, verb_low verb)
 not_after_iac (TelnetToken (Subnegotiate sub)) b rest ne lt e = let f : 0xfa ≡ b = cc in omega arith
-
-pub AreBytes-append : (xs ys : List ℕ) → AreBytes xs → AreBytes ys → AreBytes (xs ++ ys)
-AreBytes-append [] ys h k = k
-AreBytes-append (x ∷ xs) ys h k = (h.0, AreBytes-append xs ys h.1 k)
-
-pub AreBytes-front : (xs ys : List ℕ) → AreBytes (xs ++ ys) → AreBytes xs
-AreBytes-front [] ys h = tt
-AreBytes-front (x ∷ xs) ys h = (h.0, AreBytes-front xs ys h.1)
 
 doubled_bytes : (b : ℕ) → b < 256 → AreBytes (doubled b)
 doubled_bytes b h = elim (iac_or_not b) [

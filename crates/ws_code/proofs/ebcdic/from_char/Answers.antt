@@ -1,4 +1,4 @@
-use Rattle.std.proofs.Common.{◌≡◌, sym, ◌∙◌}
+use Rattle.std.proofs.Common.{sym, ◌∙◌}
 use Rattle.ws_code.proofs.CodePage.{byte_of-some, byte_of-none}
 use Rattle.ws_code.proofs.ebcdic.from_char.Goals as goal
 

@@ -1,4 +1,4 @@
-use Rattle.std.proofs.Common.{◌≡◌, ◌∷◌, [], ℕ, List, sym, ap, subst}
+use Rattle.std.proofs.Common.{◌∷◌, [], ℕ, List, sym, ap, subst}
 use Rattle.ws_code.specs.Code.{IsUnfinished}
 use Rattle.ws_telnet.specs.Token.{token_rules}
 use Rattle.ws_telnet.proofs.Unfinished.{sub_begins, negotiation_begins}

@@ -1,9 +1,7 @@
-use Rattle.std.proofs.Common.{◌≡◌, ◌≢◌, ◌++◌, ◌∷◌, [], ℕ, List, ◌<◌, ◌≤◌, length, refl, sym, ap, subst, ◌∙◌, arith, eqb-true, ne_eqb, length-append, append_assoc}
+use Rattle.std.proofs.Common.{◌≡◌, ◌≢◌, ◌++◌, ◌∷◌, [], ℕ, List, ◌≤◌, length, refl, sym, ap, subst, ◌∙◌, arith, eqb-true, ne_eqb, length-append}
 use Rattle.std.proofs.lemmas.Bool.{eqb-false}
-use Rattle.std.specs.List.{flat_map}
-use Rattle.ws_code.specs.Code.{IsUnfinished, IsPrefix, IsSpelled, AreBytes}
-use Rattle.ws_telnet.specs.Token.{token_rules, doubled}
-use Rattle.ws_telnet.specs.Machine.{unfinished_of, unfinished_in}
+use Rattle.ws_code.specs.Code.{IsUnfinished, AreBytes}
+use Rattle.ws_telnet.specs.Token.{token_rules}
 use Rattle.ws_telnet.proofs.Unfinished.{iac_goes_on, sub_option, sub_ends, sub_goes_on, sub_so_far, sub_so_far_content, IsSubSoFar, sub_full, sub_full_pair, sub_bad, content_even, content_odd, content_more_plain, content_more_iac, bytes_more, sub_whole}
 use Rattle.ws_telnet.proofs.tokens.TokensCode.push.Goals as goal
 
