@@ -13,7 +13,7 @@ use Rattle.ws_record.specs.declared.record.Item.{Item}
 use Rattle.ws_record.specs.Grammar.{Holds, Accepts, Spells, IsStream, carried}
 use Rattle.ws_record.specs.Refusal.{Layer, IsRight, IsOpen, IsFirstClosed, IsRefused, IsTruncated}
 use Rattle.ws_record.specs.Refusal.Layer.{Tokens, Header, Body}
-use Rattle.ws_record.specs.Receiver.{Receiving, Taken, IsTakeFault, IsFeedFault, IsDecodeFault}
+use Rattle.ws_record.specs.Receiver.{Receiving, Taken, IsTakeFault, IsFeedFault, NoneBefore, IsDecodeFault}
 use Rattle.ws_code.specs.Device.{MayGive, Gave, GaveAll}
 use Rattle.ws_record.specs.DecodeFrom.{IsSourceFault}
 use Rattle.ws_record.proofs.Reading.{parts_no_eor, one_spelling}
@@ -79,6 +79,17 @@ module _ {Place U : Type 0} (rules : Rules Place U) where
   take_feeds bytes piece i Read lt f = absurd f
   take_feeds bytes piece i Write lt f = absurd f
   take_feeds bytes piece i Failed lt f = absurd f
+
+  -- one before which nothing was complete
+  pub none_before : (bytes piece : List ℕ) (items : List (Item U)) (i : ℕ) (fault : Fault) → i < length piece
+      → ((n : ℕ) → n ≤ i → (so_far begun : List ℕ) × Holds rules (bytes ++ take n piece) items so_far begun)
+      → IsTakeFault rules (bytes ++ take i piece) (get_or piece i 0) fault → NoneBefore rules bytes piece items fault
+  none_before bytes piece items i (Refused place reason) lt before f = λ n h. before n (omega (arith, f.0, length-append bytes (take i piece), length-take i piece))
+  none_before bytes piece items i (Truncated n) lt before f = tt
+  none_before bytes piece items i Memory lt before f = tt
+  none_before bytes piece items i Read lt before f = tt
+  none_before bytes piece items i Write lt before f = tt
+  none_before bytes piece items i Failed lt before f = tt
 
   -- the end of a whole list
   pub end_decodes : (bytes : List ℕ) (fault : Fault) → (fault ≡ Truncated (length bytes)) × IsTruncated rules bytes → IsDecodeFault rules bytes fault

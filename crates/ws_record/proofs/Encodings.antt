@@ -18,6 +18,7 @@ use Rattle.ws_record.specs.Grammar.{IsRecord, Holds, Accepts, joined, record_byt
 use Rattle.ws_record.specs.Encode.{record_spelling, item_spelling, plain_spelling, IsEncoded, AreEncoded, IsInRange, IsFirst}
 use Rattle.ws_record.proofs.Steps.{holds_data, holds_command, holds_record, holds_nothing}
 use Rattle.ws_record.proofs.Headers.{header_length}
+use Rattle.ws_record.proofs.Refusals.{SpellsBytes, list_bytes}
 
 opcode_fits : (o : Opcode) → opcode_byte o < 256
 opcode_fits NoOperation = omega arith
@@ -43,19 +44,11 @@ header_bytes_are n f o rest hn hf h =
     (high_fits n hn, (low_fits n, (omega arith, (omega arith, (omega arith, (omega arith, (omega arith, (high_fits f hf, (low_fits f, (opcode_fits o, h))))))))))
 
 module _ {Place U : Type 0} (rules : Rules Place U) where
-  -- the law that each spelling is of bytes
-  abbrev pub SpellsBytes : Type 0
-  SpellsBytes = (unit : U) → rules.is_unit unit → AreBytes (rules.spelling unit)
-
-  chain_bytes : SpellsBytes → (place : Place) (units : List U) → IsChain rules place units → AreBytes (spelling_of rules units)
-  chain_bytes law place [] c = tt
-  chain_bytes law place (u ∷ units) c = AreBytes-append (rules.spelling u) (spelling_of rules units) (law u c.0.is_unit) (chain_bytes law (rules.after u) units c.1)
-
-  record_bytes_are : SpellsBytes → (r : Record U) → IsRecord rules r → AreBytes (record_bytes rules r)
+  record_bytes_are : SpellsBytes rules → (r : Record U) → IsRecord rules r → AreBytes (record_bytes rules r)
   record_bytes_are law r is =
       let n : ℕ = 10 + length (spelling_of rules r.body) in
       let fits : n < 2 ^ 16 = omega (arith, is.length_fits, header_length n r.flags r.opcode (spelling_of rules r.body)) in
-      header_bytes_are n r.flags r.opcode (spelling_of rules r.body) fits is.flags_fit (chain_bytes law rules.first r.body is.body.chain)
+      header_bytes_are n r.flags r.opcode (spelling_of rules r.body) fits is.flags_fit (list_bytes rules law rules.first r.body is.body.chain)
 
   -- the front of a token behind whole ones
   holds_begun : (bytes : List ℕ) (items : List (Item U)) (so_far begun : List ℕ) → Holds rules bytes items so_far [] → IsUnfinished token_rules tt begun → Holds rules (bytes ++ begun) items so_far begun
@@ -92,7 +85,7 @@ module _ {Place U : Type 0} (rules : Rules Place U) where
       (holds_all (bytes ++ doubled v) items (so_far ++ v ∷ []) vs are.1 (holds_doubled bytes items so_far v are.0 h)))
 
   -- a record
-  holds_record_item : SpellsBytes → (bytes : List ℕ) (items : List (Item U)) (r : Record U) → IsRecord rules r → Holds rules bytes items [] [] → Holds rules (bytes ++ record_spelling (record_bytes rules r)) (items ++ RecordItem r ∷ []) [] []
+  holds_record_item : SpellsBytes rules → (bytes : List ℕ) (items : List (Item U)) (r : Record U) → IsRecord rules r → Holds rules bytes items [] [] → Holds rules (bytes ++ record_spelling (record_bytes rules r)) (items ++ RecordItem r ∷ []) [] []
   holds_record_item law bytes items r is h =
       let content : List ℕ = record_bytes rules r in
       let all : Holds rules (bytes ++ flat_map doubled content) items content [] = holds_all bytes items [] content (record_bytes_are law r is) h in
@@ -114,11 +107,11 @@ module _ {Place U : Type 0} (rules : Rules Place U) where
       holds_command_item bytes items (0xff ∷ 0xfa ∷ sub.option ∷ flat_map doubled sub.data_ ++ 0xff ∷ []) 0xf0 (Subnegotiate sub) range
       (let l : List ℕ → List ℕ = λ z. 0xff ∷ 0xfa ∷ sub.option ∷ z in ap l (sym (append_assoc (flat_map doubled sub.data_) (0xff ∷ []) (0xf0 ∷ [])))) h
 
-  holds_item : SpellsBytes → (bytes : List ℕ) (items : List (Item U)) (item : Item U) → IsEncoded rules item → IsInRange item → Holds rules bytes items [] [] → Holds rules (bytes ++ item_spelling rules item) (items ++ item ∷ []) [] []
+  holds_item : SpellsBytes rules → (bytes : List ℕ) (items : List (Item U)) (item : Item U) → IsEncoded rules item → IsInRange item → Holds rules bytes items [] [] → Holds rules (bytes ++ item_spelling rules item) (items ++ item ∷ []) [] []
   holds_item law bytes items (RecordItem r) encoded range h = holds_record_item law bytes items r (record { body = encoded.0; flags_fit = range; length_fits = encoded.1 }) h
   holds_item law bytes items (TelnetItem t) encoded range h = holds_telnet_item bytes items t range h
 
-  holds_items : SpellsBytes → (bytes : List ℕ) (items more : List (Item U)) → AreEncoded rules more → AllByRecursion IsInRange more → Holds rules bytes items [] [] → Holds rules (bytes ++ plain_spelling rules more) (items ++ more) [] []
+  holds_items : SpellsBytes rules → (bytes : List ℕ) (items more : List (Item U)) → AreEncoded rules more → AllByRecursion IsInRange more → Holds rules bytes items [] [] → Holds rules (bytes ++ plain_spelling rules more) (items ++ more) [] []
   holds_items law bytes items [] encoded range h =
       subst (λ (z : List ℕ). Holds rules z (items ++ []) [] []) (sym (append-nil bytes)) (subst (λ (z : List (Item U)). Holds rules bytes z [] []) (sym (append-nil items)) h)
   holds_items law bytes items (item ∷ more) encoded range h =
@@ -127,7 +120,7 @@ module _ {Place U : Type 0} (rules : Rules Place U) where
       (holds_items law (bytes ++ item_spelling rules item) (items ++ item ∷ []) more encoded.1 range.1 (holds_item law bytes items item encoded.0 range.0 h)))
 
   -- the plain spelling of items that can be encoded is in the grammar, and spells them
-  pub spelling_accepted : SpellsBytes → (items : List (Item U)) → AreEncoded rules items → AllByRecursion IsInRange items → Accepts rules (plain_spelling rules items) items
+  pub spelling_accepted : SpellsBytes rules → (items : List (Item U)) → AreEncoded rules items → AllByRecursion IsInRange items → Accepts rules (plain_spelling rules items) items
   spelling_accepted law items encoded range = holds_items law [] [] items encoded range (holds_nothing rules)
 
   -- the unit at an index of a chain stands where those before it lead

@@ -5,6 +5,7 @@ use Rattle.std.proofs.lemmas.List.{get_or-drop}
 use Rattle.std.proofs.lemmas.Bool.{cases_lt}
 use Rattle.std.proofs.lemmas.List.{length-replicate, append-nil}
 use Rattle.ws_code.specs.Code.{AreBytes}
+use Rattle.ws_code.proofs.CodeLaws.{AreBytes-append}
 use Rattle.ws_record.specs.declared.opcode.Opcode.{Opcode}
 use Rattle.ws_record.specs.declared.opcode.Opcode.TheVariants.{Invite}
 use Rattle.ws_record.specs.Grammar.{IsFramed, header, two_bytes, opcode_byte}
@@ -141,17 +142,9 @@ header_more xs b h p1 p2 p3 p4 p5 p6 p9 =
       opcode = λ k. elim (cases_lt 9 (length xs)) [ inl lt ↦ (let o = h.opcode lt in (o.0, o.1 ∙ sym (old 9 lt))) | inr ge ↦ (let e : length xs ≡ 9 = omega arith in let o = p9 e in (o.0, o.1 ∙ sym (new 9 e))) ];
     }
 
--- what a right record has at the place behind these bytes
-pub framed_next : (xs : List ℕ) (b : ℕ) (m : List ℕ) → IsFramed (xs ++ b ∷ m) → HeaderFacts (xs ++ b ∷ m) × (get_or (xs ++ b ∷ m) (length xs) 0 ≡ b) × (length xs < length (xs ++ b ∷ m))
-framed_next xs b m f = (framed_means (xs ++ b ∷ m) f, get_or-append_seam xs b m 0, omega (arith, length-append xs (b ∷ m)))
-
-zeros_are : (n : ℕ) → AreBytes (replicate n 0)
+pub zeros_are : (n : ℕ) → AreBytes (replicate n 0)
 zeros_are zero = tt
 zeros_are (suc n) = (omega arith, zeros_are n)
-
-pub AreBytes-both : (xs ys : List ℕ) → AreBytes xs → AreBytes ys → AreBytes (xs ++ ys)
-AreBytes-both [] ys h k = k
-AreBytes-both (x ∷ xs) ys h k = (h.0, AreBytes-both xs ys h.1 k)
 
 pub AreBytes-drop : (n : ℕ) (xs : List ℕ) → AreBytes xs → AreBytes (drop n xs)
 AreBytes-drop zero xs h = h
@@ -212,13 +205,13 @@ can_be_framed xs are h short =
     ] in
     let pad = replicate (declared full - length full) 0 in
     let total : length (full ++ pad) ≡ declared full = length-append full pad ∙ ap (λ n. length full + n) (length-replicate (declared full - length full) 0) ∙ (let e : length full + (declared full - length full) ≡ declared full = omega arith in e) in
-    let bytes : AreBytes full = AreBytes-both xs tail are (AreBytes-drop (length xs) sample sample_are) in
+    let bytes : AreBytes full = AreBytes-append xs tail are (AreBytes-drop (length xs) sample sample_are) in
     let same : declared (full ++ pad) ≡ declared full = omega (arith, get_or-append full pad 0 0 (omega arith), get_or-append full pad 0 1 (omega arith)) in
     let small : declared full < 2 ^ 16 = omega (arith, byte_at full 0 bytes, byte_at full 1 bytes) in
     record {
       more = tail ++ pad;
-      bytes = AreBytes-both tail pad (AreBytes-drop (length xs) sample sample_are) (zeros_are (declared full - length full));
-      framed = subst IsFramed (append_assoc xs tail pad) (framed_from (full ++ pad) (AreBytes-both full pad bytes (zeros_are (declared full - length full)))
+      bytes = AreBytes-append tail pad (AreBytes-drop (length xs) sample sample_are) (zeros_are (declared full - length full));
+      framed = subst IsFramed (append_assoc xs tail pad) (framed_from (full ++ pad) (AreBytes-append full pad bytes (zeros_are (declared full - length full)))
           (record { long = omega (arith, total); short = omega (arith, total); declares = same ∙ sym total; so_far = header_append full pad long is }));
     }
 
@@ -238,9 +231,6 @@ module _ (xs : List ℕ) (b : ℕ) (m : List ℕ) (f : IsFramed (xs ++ b ∷ m))
 
   there : (i : ℕ) → length xs ≡ i → i < length (xs ++ b ∷ m)
   there i e = omega (arith, length-append xs (b ∷ m))
-
-  pub no_length : length xs ≡ 1 → get_or xs 0 0 ≡ 0 → b < 10 → ⊥
-  no_length e z k = omega (arith, facts.declares (there 1 e), next_cell 1 e, get_or-append xs (b ∷ m) 0 0 (omega arith))
 
   pub no_kind_high : length xs ≡ 2 → b ≢ 0x12 → ⊥
   no_kind_high e ne = ne (sym (next_cell 2 e) ∙ facts.kind_high (there 2 e))

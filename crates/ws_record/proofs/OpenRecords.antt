@@ -5,7 +5,7 @@ use Rattle.std.proofs.lemmas.Bool.{le-ltb}
 use Rattle.std.specs.Prelude.{IfSome, nat_lt}
 use Rattle.std.proofs.lemmas.List.{get_or-take, take-append-le, drop-append-le, take_all, append-nil, take-append-drop}
 use Rattle.ws_code.specs.Code.{Rules, IsPrefixFree, IsUnfinished, IsSpelled, IsPrefix, IsCut, AreBytes, place_after}
-use Rattle.ws_code.proofs.CodeLaws.{Begins, one_cut, cut_more, cut_unit, cut_bad, cut_begins, place_after_more}
+use Rattle.ws_code.proofs.CodeLaws.{AreBytes-append, Begins, one_cut, cut_more, cut_unit, cut_bad, cut_begins, place_after_more}
 use Rattle.ws_code.specs.declared.reason.Reason.{Reason}
 use Rattle.ws_code.specs.declared.reason.Reason.TheVariants.{TooLong, TooShort, EndedInside, UnknownOpcode}
 use Rattle.ws_telnet.specs.declared.token.Token.TheVariants.{Data}
@@ -15,7 +15,7 @@ use Rattle.ws_record.specs.Grammar.{IsFramed, IsBodyBytes, header, opcode_byte}
 use Rattle.ws_record.specs.Refusal.{header_reason, IsBodyReason}
 use Rattle.ws_record.specs.HeaderSoFar.{HeaderSoFar, declared}
 use Rattle.ws_record.specs.OpenRecord.{RecordSoFar, no_record, CanBeFramed, IsHead, Keeping, Reads, IsDataRefused, IsEndRefused}
-use Rattle.ws_record.proofs.Headers.{HeaderFacts, can_be_framed, can_means, framed_means, framed_from, header_length, header_append, byte_at, AreBytes-both, no_opcode, no_room, ten_cells}
+use Rattle.ws_record.proofs.Headers.{HeaderFacts, can_be_framed, can_means, framed_means, framed_from, header_length, header_append, byte_at, no_opcode, no_room, ten_cells}
 
 -- bytes that are fewer than ten are all of their first ten
 pub take_short : (xs : List ℕ) → length (take 10 xs) < 10 → take 10 xs ≡ xs
@@ -98,9 +98,6 @@ module _ {Place U : Type 0} (rules : Rules Place U) where
     at_place = p;
   }
 
-  no_units : IsPrefixFree rules → Begins rules → (units : List U) (begun : List ℕ) → IsCut rules [] units begun → units ≡ []
-  no_units free begins units begun cut = (one_cut rules free rules.first units [] begun [] cut.chain tt cut.more (begins rules.first) cut.spelled).0
-
   short_units : IsPrefixFree rules → Begins rules → (bytes : List ℕ) (units : List U) (begun : List ℕ) → length bytes ≤ 10 → IsCut rules (drop 10 bytes) units begun → (units ≡ []) × (begun ≡ [])
   short_units free begins bytes units begun short cut =
       one_cut rules free rules.first units [] begun [] cut.chain tt cut.more (begins rules.first) (cut.spelled ∙ drop_of_length-le bytes {i = 10} short)
@@ -129,7 +126,7 @@ module _ {Place U : Type 0} (rules : Rules Place U) where
       let few : length bytes < 9 = omega (arith, ap length same) in
       let old = can_means bytes r.framed in
       let new_right : HeaderSoFar (bytes ++ b ∷ []) = subst (λ (x : List ℕ). HeaderSoFar x → HeaderSoFar (x ++ b ∷ [])) same right old.0 in
-      let are : AreBytes (bytes ++ b ∷ []) = AreBytes-both bytes (b ∷ []) r.bytes (fits, tt) in
+      let are : AreBytes (bytes ++ b ∷ []) = AreBytes-append bytes (b ∷ []) r.bytes (fits, tt) in
       let all : take 10 (bytes ++ b ∷ []) ≡ bytes ++ b ∷ [] = take_all 10 (bytes ++ b ∷ []) (omega arith) in
       let dropped : drop 10 bytes ≡ drop 10 (bytes ++ b ∷ []) = drop_of_length-le bytes {i = 10} (omega arith) ∙ sym (drop_of_length-le (bytes ++ b ∷ []) {i = 10} (omega arith)) in
       record {
@@ -163,7 +160,7 @@ module _ {Place U : Type 0} (rules : Rules Place U) where
       let total : length (bytes ++ b ∷ []) ≡ length bytes + 1 = length-append bytes (b ∷ []) in
       let few : length bytes ≡ 9 = omega (arith, ap length same) in
       let new_right : HeaderSoFar (bytes ++ b ∷ []) = subst (λ (x : List ℕ). HeaderSoFar (x ++ b ∷ [])) same right in
-      let are : AreBytes (bytes ++ b ∷ []) = AreBytes-both bytes (b ∷ []) r.bytes (fits, tt) in
+      let are : AreBytes (bytes ++ b ∷ []) = AreBytes-append bytes (b ∷ []) r.bytes (fits, tt) in
       let all : take 10 (bytes ++ b ∷ []) ≡ bytes ++ b ∷ [] = take_all 10 (bytes ++ b ∷ []) (omega arith) in
       let dropped : drop 10 bytes ≡ drop 10 (bytes ++ b ∷ []) = drop_of_length-le bytes {i = 10} (omega arith) ∙ sym (drop_of_length-le (bytes ++ b ∷ []) {i = 10} (omega arith)) in
       let old : (i : ℕ) → i < 9 → get_or (bytes ++ b ∷ []) i 0 ≡ get_or reader.header i 0 = λ i k. get_or-append bytes (b ∷ []) 0 i (omega arith) ∙ ap (λ (x : List ℕ). get_or x i 0) (sym same) in
@@ -208,7 +205,7 @@ module _ {Place U : Type 0} (rules : Rules Place U) where
   more_framed reader bytes head units b r i fits room =
       let total : length (bytes ++ b ∷ []) ≡ length bytes + 1 = length-append bytes (b ∷ []) in
       let same : declared (bytes ++ b ∷ []) ≡ declared bytes = (let long : 10 ≤ length bytes = i.long in omega (arith, get_or-append bytes (b ∷ []) 0 0 (omega arith), get_or-append bytes (b ∷ []) 0 1 (omega arith))) in
-      can_be_framed (bytes ++ b ∷ []) (AreBytes-both bytes (b ∷ []) r.bytes (fits, tt)) (header_append bytes (b ∷ []) i.long i.right)
+      can_be_framed (bytes ++ b ∷ []) (AreBytes-append bytes (b ∷ []) r.bytes (fits, tt)) (header_append bytes (b ∷ []) i.long i.right)
       (λ _. (let ne : reader.left ≢ 0 = room in let counted : length bytes + reader.left ≡ declared bytes = i.counted in omega arith))
 
   body_dropped : (bytes : List ℕ) (b : ℕ) → 10 ≤ length bytes → drop 10 bytes ++ b ∷ [] ≡ drop 10 (bytes ++ b ∷ [])
@@ -235,7 +232,7 @@ module _ {Place U : Type 0} (rules : Rules Place U) where
       let i = in_body reader so_far.bytes so_far.head so_far.units r ten in
       let cut = cut_more rules (drop 10 so_far.bytes) so_far.units reader.begun b r.cut (subst (λ (x : Place). IsUnfinished rules x (reader.begun ++ b ∷ [])) r.at_place more) in
       record {
-        bytes = AreBytes-both so_far.bytes (b ∷ []) r.bytes (fits, tt);
+        bytes = AreBytes-append so_far.bytes (b ∷ []) r.bytes (fits, tt);
         framed = more_framed reader so_far.bytes so_far.head so_far.units b r i fits room;
         head = body_head so_far.head so_far.bytes b i.long r.head;
         header = e ∙ r.header ∙ sym (take-append-le 10 so_far.bytes (b ∷ []) i.long);
@@ -251,7 +248,7 @@ module _ {Place U : Type 0} (rules : Rules Place U) where
       let i = in_body reader so_far.bytes so_far.head so_far.units r ten in
       let cut = cut_unit rules begins (drop 10 so_far.bytes) so_far.units reader.begun b unit r.cut (subst (λ (x : Place). IsSpelled rules x (reader.begun ++ b ∷ []) unit) r.at_place whole) in
       record {
-        bytes = AreBytes-both so_far.bytes (b ∷ []) r.bytes (fits, tt);
+        bytes = AreBytes-append so_far.bytes (b ∷ []) r.bytes (fits, tt);
         framed = more_framed reader so_far.bytes so_far.head so_far.units b r i fits room;
         head = body_head so_far.head so_far.bytes b i.long r.head;
         header = e ∙ r.header ∙ sym (take-append-le 10 so_far.bytes (b ∷ []) i.long);
@@ -273,16 +270,6 @@ module _ {Place U : Type 0} (rules : Rules Place U) where
       )
 
   -- the end
-
-  pub end_short : (reader : Keeping Place) (so_far : RecordSoFar U) → Reads rules reader so_far → (length reader.header ≡ 10 → reader.left ≡ 0 → ⊥) → IsEndRefused rules so_far.bytes TooShort
-  end_short reader so_far r short = inl ((λ f. short_framed f), refl)
-    where
-      short_framed : IsFramed so_far.bytes → ⊥
-      short_framed f =
-          let facts = framed_means so_far.bytes f in
-          let ten : length reader.header ≡ 10 = omega (arith, ap length r.header, length-take 10 so_far.bytes, facts.long) in
-          let i = in_body reader so_far.bytes so_far.head so_far.units r ten in
-          short ten (omega (arith, i.counted, facts.declares))
 
   framed_whole : (reader : Keeping Place) (so_far : RecordSoFar U) → Reads rules reader so_far → length reader.header ≡ 10 → reader.left ≡ 0 → IsFramed so_far.bytes
   framed_whole reader so_far r ten none =

@@ -9,7 +9,7 @@ use Rattle.std.proofs.lemmas.Grind.{flat_map-append}
 use Rattle.ws_code.specs.Code.{Rules, Stands, IsPrefixFree, IsPrefix, IsUnfinished, IsChain, IsWhole, IsCut, IsSpelled, AreBytes, spelling_of, place_after}
 use Rattle.ws_code.specs.declared.reason.Reason.{Reason}
 use Rattle.ws_code.specs.declared.reason.Reason.TheVariants.{EndedInside, TooShort}
-use Rattle.ws_code.proofs.CodeLaws.{Begins, CanEnd, cut_begins, cut_bad, cut_ends, chain_append, cut_unit, cut_more, no_end, one_cut}
+use Rattle.ws_code.proofs.CodeLaws.{AreBytes-append, Begins, CanEnd, cut_begins, cut_bad, cut_ends, chain_append, cut_unit, cut_more, no_end, one_cut}
 use Rattle.ws_telnet.specs.Token.{token_rules, token_spelling, doubled, IsToken}
 use Rattle.ws_telnet.specs.TokenLaws.{token_prefix_free, token_begins}
 use Rattle.ws_telnet.specs.declared.token.Telnet.{Telnet}
@@ -21,7 +21,7 @@ use Rattle.ws_record.specs.Grammar.{IsFramed, IsBodyBytes, IsRecord, IsStretch, 
 use Rattle.ws_record.specs.Refusal.{Layer, IsRight, IsOpen, IsRefused, IsTruncated, IsReason, IsFirstClosed, EndsWith, IsBodyReason, header_reason}
 use Rattle.ws_record.specs.Refusal.Layer.{Tokens, Header, Body}
 use Rattle.ws_record.specs.OpenRecord.{CanBeFramed, IsDataRefused, IsEndRefused}
-use Rattle.ws_record.proofs.Headers.{AreBytes-both}
+use Rattle.ws_record.proofs.Headers.{zeros_are}
 use Rattle.ws_record.proofs.Reading.{one_join, parts_no_eor}
 use Rattle.ws_record.proofs.Streams.{open_stream, bad_token, bad_data, bad_eor, HasNoEor-append, AllByRecursion-append, carried-append, joined_more, joined_eor}
 use Rattle.ws_record.proofs.Steps.{parts_of, token_more, holds_data}
@@ -29,10 +29,6 @@ use Rattle.ws_record.proofs.Steps.{parts_of, token_more, holds_data}
 AreBytes-back : (xs ys : List ℕ) → AreBytes (xs ++ ys) → AreBytes ys
 AreBytes-back [] ys h = h
 AreBytes-back (x ∷ xs) ys h = AreBytes-back xs ys h.1
-
-zeros_are : (n : ℕ) → AreBytes (replicate n 0)
-zeros_are zero = tt
-zeros_are (suc n) = (omega arith, zeros_are n)
 
 -- bytes that fill a header up
 padding : (so_far : List ℕ) → (fill : List ℕ) × AreBytes fill × (10 ≤ length (so_far ++ fill)) × (drop 10 (so_far ++ fill) ≡ drop 10 so_far)
@@ -47,9 +43,9 @@ module _ {Place U : Type 0} (rules : Rules Place U) where
   abbrev pub SpellsBytes : Type 0
   SpellsBytes = (u : U) → rules.is_unit u → AreBytes (rules.spelling u)
 
-  list_bytes : SpellsBytes → (place : Place) (us : List U) → IsChain rules place us → AreBytes (spelling_of rules us)
+  pub list_bytes : SpellsBytes → (place : Place) (us : List U) → IsChain rules place us → AreBytes (spelling_of rules us)
   list_bytes law place [] c = tt
-  list_bytes law place (u ∷ us) c = AreBytes-both (rules.spelling u) (spelling_of rules us) (law u c.0.is_unit) (list_bytes law (rules.after u) us c.1)
+  list_bytes law place (u ∷ us) c = AreBytes-append (rules.spelling u) (spelling_of rules us) (law u c.0.is_unit) (list_bytes law (rules.after u) us c.1)
 
   -- a record is right to each layer
   pub record_right : (r : Record U) → IsRecord rules r → (l : Layer) → IsRight rules l (record_bytes rules r)
@@ -76,7 +72,7 @@ module _ {Place U : Type 0} (rules : Rules Place U) where
       let are : AreBytes ends.1 = AreBytes-back (drop 10 so_far) ends.1 (subst AreBytes ends.3 (list_bytes law rules.first ends.0 ends.2.chain)) in
       let dropped : drop 10 (so_far ++ (fill.0 ++ ends.1)) ≡ drop 10 so_far ++ ends.1 =
       ap (drop 10) (sym (append_assoc so_far fill.0 ends.1)) ∙ drop-append-le 10 (so_far ++ fill.0) ends.1 fill.2 ∙ ap (λ x. x ++ ends.1) fill.3 in
-      (fill.0 ++ ends.1, AreBytes-both fill.0 ends.1 fill.1 are, record { units = ends.0; whole = ends.2; spelled = dropped ∙ sym ends.3 })
+      (fill.0 ++ ends.1, AreBytes-append fill.0 ends.1 fill.1 are, record { units = ends.0; whole = ends.2; spelled = dropped ∙ sym ends.3 })
 
   pub can_be_right : CanEnd rules → SpellsBytes → (so_far : List ℕ) (units : List U) (begun : List ℕ) → CanBeFramed so_far → IsCut rules (drop 10 so_far) units begun → (l : Layer) → (more : List ℕ) × AreBytes more × IsRight rules l (so_far ++ more)
   can_be_right can law so_far units begun framed cut Tokens = ([], tt, tt)

@@ -75,9 +75,6 @@ module _ {S : Type 0} (takes : MayTake S) (failures : S → ℕ) where
     pub within : start ≤ at
     pub text : out ++ run bytes start at ≡ flat_map doubled (take at bytes)
 
-  pub doubling_begins : (from : S) (bytes : List ℕ) → IsDoubling from from bytes 0 0
-  doubling_begins from bytes = record { out = []; went_out = went_out_none takes failures from; within = omega arith; text = refl }
-
   -- what has gone out with the run through the next byte
   through : (out bytes : List ℕ) (start at : ℕ) → start ≤ at → at < length bytes → out ++ run bytes start at ≡ flat_map doubled (take at bytes) → out ++ run bytes start (at + 1) ≡ flat_map doubled (take at bytes) ++ get_or bytes at 0 ∷ []
   through out bytes start at h k e =

@@ -1,9 +1,10 @@
-use Rattle.std.specs.Prelude.{◌≡◌, ℕ, ◌≤◌, List, [], ◌∷◌, ◌++◌, Option, Some, None, IfSome, length}
+use Rattle.std.specs.Prelude.{◌≡◌, ℕ, ◌+◌, ◌≤◌, List, [], ◌∷◌, ◌++◌, Option, Some, None, IfSome, length, take}
 use Rattle.ws_code.specs.Code.{Rules}
 use Rattle.ws_code.specs.declared.fault.Fault.{Fault}
 use Rattle.ws_code.specs.declared.fault.Fault.TheVariants.{Refused, Truncated, Memory, Read, Write, Failed}
 use Rattle.ws_record.specs.declared.record.Head.{Head}
 use Rattle.ws_record.specs.declared.record.Item.{Item}
+use Rattle.ws_record.specs.Grammar.{Holds}
 use Rattle.ws_record.specs.Refusal.{IsRefused, IsTruncated}
 use Rattle.ws_record.specs.Live.{Watching, LeadsWith}
 
@@ -36,6 +37,11 @@ module _ {Place U : Type 0} where
   IsFeedFault rules bytes piece (Refused place reason) = (length bytes ≤ place) × IsRefused rules (bytes ++ piece) place reason
   IsFeedFault rules bytes piece Memory = Unit {0}
   IsFeedFault rules bytes piece fault = ⊥
+
+  -- where a byte of the piece is refused, no further item is complete before it
+  abbrev pub NoneBefore : Rules Place U → List ℕ → List ℕ → List (Item U) → Fault → Type 0
+  NoneBefore rules bytes piece items (Refused place reason) = (n : ℕ) → length bytes + n ≤ place → (so_far begun : List ℕ) × Holds rules (bytes ++ take n piece) items so_far begun
+  NoneBefore rules bytes piece items fault = Unit {0}
 
   -- what a decoder of all the bytes answers where it gives no items
   abbrev pub IsDecodeFault : Rules Place U → List ℕ → Fault → Type 0

@@ -24,10 +24,15 @@ pub use raw::RawBody;
 pub use receiver::{Fed, Receiver};
 pub use record::{Head, Item, Record};
 pub use record_writer::write_record;
+pub use ws_code::{
+    DeviceFailed, Fault, ReadSource, Sink, SliceSource, Source, VecSink, WriteSink, write_whole,
+};
 
 #[cfg(test)]
 mod encode_tests;
 #[cfg(test)]
 mod escaped;
+#[cfg(test)]
+mod feed_tests;
 #[cfg(test)]
 mod tests;

@@ -27,7 +27,8 @@ pub enum Step<U> {
     Telnet(Telnet),
     /// Nothing, and nothing will be: this byte is refused. The place counts bytes from 0.
     Refused { place: u64, reason: Reason },
-    /// An earlier byte was refused, or 18,446,744,073,709,551,615 bytes were taken.
+    /// An earlier byte was refused, an end was asked for where none may be, or 18,446,744,073,709,551,615
+    /// bytes were taken.
     Failed,
 }
 
@@ -90,7 +91,8 @@ impl<B: Body> Live<B> {
         self.has_failed = true;
     }
 
-    /// Takes a byte. After `Refused`, and after 18,446,744,073,709,551,615 bytes, it answers `Failed`.
+    /// Takes a byte. After `Refused`, after a `finish` that answered `Truncated`, and after
+    /// 18,446,744,073,709,551,615 bytes, it answers `Failed`.
     pub fn push(&mut self, byte: u8) -> Step<B::Unit>
         ensures step { (bytes : List ℕ) (items : List (Item B.Unit)) (so_far : RecordSoFar B.Unit)
             → Leads B.rules self.old bytes items so_far → length bytes + 1 < 2 ^ 64

@@ -2,7 +2,7 @@ ghost use Rattle.std.specs.Prelude.{◌≡◌, ◌++◌, ◌∷◌, ◌+◌, ◌
 ghost use Rattle.ws_record.specs.declared.record.Item.{Item};
 ghost use Rattle.ws_record.specs.Grammar.{Accepts, Holds};
 ghost use Rattle.ws_record.specs.Refusal.{IsTruncated};
-ghost use Rattle.ws_record.specs.Receiver.{Taken, given, IsTakeFault, IsFeedFault};
+ghost use Rattle.ws_record.specs.Receiver.{Taken, given, IsTakeFault, IsFeedFault, NoneBefore};
 
 use crate::{Head, Item, Live, Opcode, Record, Step};
 use std::alloc::Global;
@@ -122,11 +122,13 @@ impl<B: Body> Receiver<B> {
         Ok(())
     }
 
-    /// Takes bytes of the piece until an item is complete, or the piece is used up.
+    /// Takes bytes of the piece until an item is complete, or the piece is used up (RFC 885: a record ends
+    /// with IAC EOR; RFC 1205).
     ///
     /// `Refused` comes in the call that takes the first byte after which the bytes begin no stream, with
-    /// its place counted from the first byte of all; `Memory` where a growth was refused. After any of
-    /// them, and after 18,446,744,073,709,551,615 bytes, every call answers `Failed`.
+    /// its place counted from the first byte of all, and the items before it in calls of their own;
+    /// `Memory` where a growth was refused. After any fault, and after 18,446,744,073,709,551,615 bytes,
+    /// every call answers `Failed`.
     pub fn feed(&mut self, piece: &[u8]) -> Result<Fed<B::Unit>, Fault>
         ensures used { IfOk result (λ fed. fed.used ≤ length piece.now) }
         ensures whole { IfOk result (λ fed. IfNone fed.item (fed.used ≡ length piece.now)) }
@@ -143,6 +145,11 @@ impl<B: Body> Receiver<B> {
         ensures fault { IfErr result (λ fault. (bytes : Seq ℕ) (items : Seq (Item B.Unit))
             → Taken B.rules self.old bytes items → length bytes + length piece.now + 1 < 2 ^ 64
             → IsFeedFault B.rules bytes piece.now fault) }
+        // Each item before a refused byte was given in an earlier call.
+        ensures none_before { IfErr result (λ fault. (bytes : Seq ℕ) (items : Seq (Item B.Unit))
+            → Taken B.rules self.old bytes items → length bytes + length piece.now + 1 < 2 ^ 64
+            → NoneBefore B.rules bytes piece.now items fault) }
+        ensures full { self.old.live.taken + 1 ≡ 2 ^ 64 → result ≡ Err Fault.Failed }
         ensures after { OnErr result (self.new.live.failed ≡ true) }
         ensures failed { self.old.live.failed ≡ true → result ≡ Err Fault.Failed }
     {
@@ -164,7 +171,8 @@ impl<B: Body> Receiver<B> {
     }
 
     /// Asks whether the stream may end here, and changes nothing where it may. `Truncated` tells how many
-    /// bytes were taken, where they end inside a token or a record; then every call answers `Failed`.
+    /// bytes were taken, where they end inside a token or a record; then every call answers `Failed`, as
+    /// this one does after an earlier fault and after 18,446,744,073,709,551,615 bytes.
     pub fn finish(&mut self) -> Result<(), Fault>
         ensures ok { OnOk result ((self.new ≡ self.old)
             × ((bytes : Seq ℕ) (items : Seq (Item B.Unit))
@@ -172,6 +180,7 @@ impl<B: Body> Receiver<B> {
         ensures truncated { IfErr result (λ fault. (bytes : Seq ℕ) (items : Seq (Item B.Unit))
             → Taken B.rules self.old bytes items → length bytes + 1 < 2 ^ 64
             → (fault ≡ Fault.Truncated (length bytes)) × IsTruncated B.rules bytes) }
+        ensures full { self.old.live.taken + 1 ≡ 2 ^ 64 → result ≡ Err Fault.Failed }
         ensures after { OnErr result (self.new.live.failed ≡ true) }
         ensures failed { self.old.live.failed ≡ true → result ≡ Err Fault.Failed }
     {

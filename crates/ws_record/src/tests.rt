@@ -2,9 +2,9 @@ use super::*;
 use crate::escaped::Escaped;
 use std::alloc::{AllocError, Global};
 use std::test::Fail;
-use ws_code::{Body, Fault};
+use ws_code::{Body, Fault, SliceSource};
 
-type Row<'a> = (&'a str, &'a [u8], &'a str);
+pub type Row<'a> = (&'a str, &'a [u8], &'a str);
 
 // What the bytes decode to, as text.
 fn told(alloc: Global, found: Result<Vec<Item<u8>>, Fault>) -> Result<String, AllocError> {
@@ -20,7 +20,7 @@ fn told(alloc: Global, found: Result<Vec<Item<u8>>, Fault>) -> Result<String, Al
     }
 }
 
-fn fault_told(alloc: Global, fault: Fault) -> Result<String, AllocError> {
+pub fn fault_told(alloc: Global, fault: Fault) -> Result<String, AllocError> {
     match fault {
         Fault::Refused { place, reason } => {
             let number = reason.number();
@@ -31,7 +31,7 @@ fn fault_told(alloc: Global, fault: Fault) -> Result<String, AllocError> {
     }
 }
 
-fn item_told(alloc: Global, item: &Item<u8>) -> Result<String, AllocError> {
+pub fn item_told(alloc: Global, item: &Item<u8>) -> Result<String, AllocError> {
     match item {
         Item::Record(record) => {
             let flags = record.flags;
@@ -70,47 +70,6 @@ fn steps_told<B: Body>(alloc: Global, bytes: &[u8]) -> Result<String, AllocError
         };
         text.push_str(step.as_str())?;
     }
-    Ok(text)
-}
-
-// The items of the bytes in pieces of a size, and what came after each.
-fn fed_told(alloc: Global, bytes: &[u8], size: usize) -> Result<String, AllocError> {
-    let mut receiver = Receiver::<RawBody>::new(alloc);
-    let mut text = String::new(alloc);
-    let mut sum = 0u64;
-    let mut rest = bytes;
-    for _ in 0..1000 {
-        if rest.is_empty() {
-            break;
-        }
-        let piece = if size < rest.len() {
-            &rest[..size]
-        } else {
-            rest
-        };
-        match receiver.feed(piece) {
-            Ok(fed) => {
-                if let Some(item) = &fed.item {
-                    text.push_str(item_told(alloc, item)?.as_str())?;
-                }
-                sum = sum.wrapping_add(fed.used as u64);
-                rest = if fed.used < rest.len() {
-                    &rest[fed.used..]
-                } else {
-                    &[]
-                };
-            }
-            Err(fault) => {
-                text.push_str(fault_told(alloc, fault)?.as_str())?;
-                return Ok(text);
-            }
-        }
-    }
-    if let Err(fault) = receiver.finish() {
-        text.push_str(fault_told(alloc, fault)?.as_str())?;
-    }
-    let used = format!(in alloc; "{sum} bytes")?;
-    text.push_str(used.as_str())?;
     Ok(text)
 }
 
@@ -200,17 +159,28 @@ fn whole_lists(rt: HostRuntime) -> Result<(), Fail> {
     for (row, bytes, wanted) in &WHOLE {
         let found = told(rt.alloc(), decode_all::<RawBody>(rt.alloc(), bytes))?;
         assert_eq!(rt; found.as_str(), *wanted, "{row}");
+        let mut source = SliceSource::new(bytes);
+        let found = decode_from::<RawBody, SliceSource>(rt.alloc(), &mut source);
+        let found = told(rt.alloc(), found)?;
+        assert_eq!(rt; found.as_str(), *wanted, "{row} from a source");
     }
+    one_reading::<RawBody>();
+    one_refusal::<RawBody>();
+    one_truncation::<RawBody>();
     Ok(())
 }
 
 // `bad-tokens`: a subnegotiation with as many bytes as there may be, and with one too many.
 #[test]
 fn bad_tokens(rt: HostRuntime) -> Result<(), Fail> {
-    for (tail, wanted) in [
-        (b"\x41".as_slice(), "refused at 67: 4"),
-        (b"\xff\xff", "refused at 68: 4"),
-        (b"\xff\xf0", "accepted"),
+    for (tail, wanted, step) in [
+        (
+            b"\x41".as_slice(),
+            "refused at 67: 4",
+            "67 refused at 67: 4;",
+        ),
+        (b"\xff\xff", "refused at 68: 4", "68 refused at 68: 4;"),
+        (b"\xff\xf0", "accepted", "68 telnet;"),
     ] {
         let mut bytes = vec![in rt.alloc(); 0x41; 67]?;
         bytes[0] = 0xff;
@@ -225,6 +195,8 @@ fn bad_tokens(rt: HostRuntime) -> Result<(), Fail> {
             Err(fault) => fault_told(rt.alloc(), fault)?,
         };
         assert_eq!(rt; found.as_str(), wanted);
+        let steps = steps_told::<RawBody>(rt.alloc(), bytes.as_slice())?;
+        assert_eq!(rt; steps.as_str(), step);
     }
     Ok(())
 }
@@ -275,112 +247,59 @@ fn another_body(rt: HostRuntime) -> Result<(), Fail> {
     Ok(())
 }
 
+const STEPS: [Row; 9] = [
+    (
+        "live-invite",
+        b"\x00\x0a\x12\xa0\x00\x00\x04\x00\x00\x01\xff\xef",
+        "9 open 0000 1 10;11 close;",
+    ),
+    (
+        "live-nop",
+        b"\x00\x0a\xff\xf1\x12\xa0\x00\x00\x04\x00\x00\x01\xff\xef",
+        "3 telnet;11 open 0000 1 10;13 close;",
+    ),
+    (
+        "put-ff",
+        b"\x00\x0f\x12\xa0\x00\x00\x04\x00\x00\x03\x04\x11\x00\x08\xff\xff\xff\xef",
+        "9 open 0000 3 15;10 unit;11 unit;12 unit;13 unit;15 unit;17 close;",
+    ),
+    (
+        "sub-inside-a-record",
+        b"\x00\x0b\x12\xa0\x00\x00\x04\x00\x00\x03\xff\xfa\x18\x01\xff\xf0\x41\xff\xef",
+        "9 open 0000 3 11;15 telnet;16 unit;18 close;",
+    ),
+    (
+        "live-refusals, length",
+        b"\x00\x09\x00",
+        "1 refused at 1: 10;2 failed;",
+    ),
+    (
+        "live-refusals, end",
+        b"\xff\xef\x00",
+        "1 refused at 1: 16;2 failed;",
+    ),
+    (
+        "live-refusals, one-byte-short",
+        b"\x00\x0b\x12\xa0\x00\x00\x04\x00\x00\x03\xff\xef\x00",
+        "9 open 0000 3 11;11 refused at 11: 16;12 failed;",
+    ),
+    (
+        "live-refusals, one-byte-long",
+        b"\x00\x0a\x12\xa0\x00\x00\x04\x00\x00\x00\xff\xff\x00",
+        "9 open 0000 0 10;11 refused at 11: 15;12 failed;",
+    ),
+    (
+        "live-refusals, bad-tokens",
+        b"\xff\x00\x00",
+        "1 refused at 1: 1;2 failed;",
+    ),
+];
+
 #[test]
 fn live_steps(rt: HostRuntime) -> Result<(), Fail> {
-    let rows: [Row; 9] = [
-        (
-            "live-invite",
-            b"\x00\x0a\x12\xa0\x00\x00\x04\x00\x00\x01\xff\xef",
-            "9 open 0000 1 10;11 close;",
-        ),
-        (
-            "live-nop",
-            b"\x00\x0a\xff\xf1\x12\xa0\x00\x00\x04\x00\x00\x01\xff\xef",
-            "3 telnet;11 open 0000 1 10;13 close;",
-        ),
-        (
-            "put-ff",
-            b"\x00\x0f\x12\xa0\x00\x00\x04\x00\x00\x03\x04\x11\x00\x08\xff\xff\xff\xef",
-            "9 open 0000 3 15;10 unit;11 unit;12 unit;13 unit;15 unit;17 close;",
-        ),
-        (
-            "sub-inside-a-record",
-            b"\x00\x0b\x12\xa0\x00\x00\x04\x00\x00\x03\xff\xfa\x18\x01\xff\xf0\x41\xff\xef",
-            "9 open 0000 3 11;15 telnet;16 unit;18 close;",
-        ),
-        (
-            "live-refusals, length",
-            b"\x00\x09\x00",
-            "1 refused at 1: 10;2 failed;",
-        ),
-        (
-            "live-refusals, end",
-            b"\xff\xef\x00",
-            "1 refused at 1: 16;2 failed;",
-        ),
-        (
-            "live-refusals, one-byte-short",
-            b"\x00\x0b\x12\xa0\x00\x00\x04\x00\x00\x03\xff\xef\x00",
-            "9 open 0000 3 11;11 refused at 11: 16;12 failed;",
-        ),
-        (
-            "live-refusals, one-byte-long",
-            b"\x00\x0a\x12\xa0\x00\x00\x04\x00\x00\x00\xff\xff\x00",
-            "9 open 0000 0 10;11 refused at 11: 15;12 failed;",
-        ),
-        (
-            "live-refusals, bad-tokens",
-            b"\xff\x00\x00",
-            "1 refused at 1: 1;2 failed;",
-        ),
-    ];
-    for (row, bytes, wanted) in &rows {
+    for (row, bytes, wanted) in &STEPS {
         let found = steps_told::<RawBody>(rt.alloc(), bytes)?;
         assert_eq!(rt; found.as_str(), *wanted, "{row}");
     }
-    Ok(())
-}
-
-// The same items in pieces of every size, whose used bytes sum up to all.
-#[test]
-fn pieces_of_every_size(rt: HostRuntime) -> Result<(), Fail> {
-    let rows: [Row; 5] = [
-        (
-            "put-ff-in-pieces",
-            b"\x00\x0f\x12\xa0\x00\x00\x04\x00\x00\x03\x04\x11\x00\x08\xff\xff\xff\xef",
-            "0000 3 [4, 17, 0, 8, 255];18 bytes",
-        ),
-        (
-            "ff-in-every-cut",
-            b"\x00\x0b\x12\xa0\x00\x00\x04\x00\x00\x03\xff\xff\xff\xef",
-            "0000 3 [255];14 bytes",
-        ),
-        (
-            "sub-inside-a-record",
-            b"\x00\x0b\x12\xa0\x00\x00\x04\x00\x00\x03\xff\xfa\x18\x01\xff\xf0\x41\xff\xef",
-            "Sub(Sub { option: 24, data_: ByteList { bytes: [1] } });0000 3 [65];19 bytes",
-        ),
-        (
-            "one-byte-short",
-            b"\x00\x0b\x12\xa0\x00\x00\x04\x00\x00\x03\xff\xef",
-            "refused at 11: 16",
-        ),
-        ("header-too-early", b"\x00\x0a\x12", "truncated at 33 bytes"),
-    ];
-    for (row, bytes, wanted) in &rows {
-        for size in 1..20 {
-            let found = fed_told(rt.alloc(), bytes, size)?;
-            assert_eq!(rt; found.as_str(), *wanted, "{row} in pieces of {size}");
-        }
-    }
-    Ok(())
-}
-
-#[test]
-fn failed_after_refusal(rt: HostRuntime) -> Result<(), Fail> {
-    let mut receiver = Receiver::<RawBody>::new(rt.alloc());
-    assert!(rt;
-        matches!(
-            receiver.feed(b"\x00\x09"),
-            Err(Fault::Refused { place: 1, .. })
-        )
-    );
-    assert!(rt; matches!(receiver.feed(b""), Err(Fault::Failed)));
-    assert!(rt; matches!(receiver.feed(b"\x00"), Err(Fault::Failed)));
-    assert!(rt; matches!(receiver.finish(), Err(Fault::Failed)));
-    let mut live = Live::<RawBody>::new();
-    assert!(rt; matches!(live.push(0xff), Step::More));
-    assert!(rt; matches!(live.finish(), Err(Fault::Truncated { at: 1 })));
-    assert!(rt; matches!(live.push(0xef), Step::Failed));
     Ok(())
 }

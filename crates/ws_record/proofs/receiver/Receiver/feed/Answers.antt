@@ -3,7 +3,7 @@ use Rattle.std.proofs.lemmas.Result.{err_from_is_err_and}
 use Rattle.std.proofs.lemmas.List.{take_all, take_more, append-nil}
 use Rattle.ws_record.specs.declared.record.Item.{Item}
 use Rattle.ws_record.specs.Receiver.{Taken, Receiving, given}
-use Rattle.ws_record.proofs.Decodes.{take_feeds, taken_so_far}
+use Rattle.ws_record.proofs.Decodes.{take_feeds, none_before, taken_so_far}
 use Rattle.ws_record.proofs.receiver.Receiver.feed.Goals as goal
 
 pub returns-then-not-works-clause-fault : goal.returns-then-not-works-clause-fault
@@ -19,6 +19,16 @@ returns-in_err-item-clause-fault g c =
     rw (p.1, p.2) (λ bytes items t fits.
     take_feeds g.B.Code.rules bytes piece i _ c.loop-at-test.true
     (c.in_err-item.ensures.fault (bytes ++ take i piece) items (c.loop-at.invariant bytes items t fits).0 (omega (arith, length-append bytes (take i piece), length-take i piece))))
+
+pub returns-in_err-item-clause-none_before : goal.returns-in_err-item-clause-none_before
+returns-in_err-item-clause-none_before g c =
+    let p = err_from_is_err_and c.from_residual.result c.from_residual.ensures.1 in
+    let piece = c.args.piece.now in
+    let i = c.loop-at.at in
+    rw (p.1, p.2) (λ bytes items t fits.
+    let inv = c.loop-at.invariant bytes items t fits in
+    none_before g.B.Code.rules bytes piece items i _ c.loop-at-test.true inv.1
+    (c.in_err-item.ensures.fault (bytes ++ take i piece) items inv.0 (omega (arith, length-append bytes (take i piece), length-take i piece))))
 
 pub returns-in-Some-clause-first : goal.returns-in-Some-clause-first
 returns-in-Some-clause-first g c = λ bytes items t fits n lt. (c.loop-at.invariant bytes items t fits).1 n (omega arith)
