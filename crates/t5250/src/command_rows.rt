@@ -1,11 +1,8 @@
+use crate::item_text::{record_text, telnet_text};
 use std::alloc::{AllocError, Global};
 use std::test::Fail;
-use ws_code::{DataByte, Fault, List, SliceSource, VecSink};
-use ws_record::{
-    EncodeFault, Item, Live, Opcode, Receiver, Record, Step, decode_all, decode_from, encode,
-    encode_and_decode, encode_to, encoding_spells_its_items, one_reading, one_refusal,
-    one_truncation,
-};
+use ws_code::{Fault, SliceSource};
+use ws_record::{Fed, Item, Live, Receiver, Step, decode_all, decode_from};
 use ws_stream::{Commands, Element};
 
 type Row<'a> = (&'a str, &'a [u8], &'a str);
@@ -108,50 +105,72 @@ const REFUSED: [Row; 23] = [
     ("header-too-early, half a pair", b"\xff", "truncated at 1"),
 ];
 
-const ACCEPTED: [Row; 8] = [
-    ("empty-stream", b"", ""),
-    ("empty-stream, a command", b"\xff\xf1", "Command(Nop);"),
+// A row, its bytes, the places of its items' last bytes, and the items as they are shown.
+type Accepted<'a> = (&'a str, &'a [u8], &'a [u64], &'a str);
+
+pub const PUT_FF: &[u8] =
+    b"\x00\x0f\x12\xa0\x00\x00\x04\x00\x00\x03\x04\x11\x00\x08\xff\xff\xff\xef";
+
+pub const PUT_FF_SHOWN: &str = "at 17 record flags 0000 opcode 3\n  WRITE 00 08\n  PUT FF\n";
+
+const ACCEPTED: [Accepted; 8] = [
+    ("empty-stream", b"", &[], ""),
+    (
+        "empty-stream, a command",
+        b"\xff\xf1",
+        &[1],
+        "at 1 telnet NOP\n",
+    ),
     (
         "invite",
         b"\x00\x0a\x12\xa0\x00\x00\x04\x00\x00\x01\xff\xef",
-        "0000 1 0;",
+        &[11],
+        "at 11 record flags 0000 opcode 1\n",
     ),
-    (
-        "put-ff",
-        b"\x00\x0f\x12\xa0\x00\x00\x04\x00\x00\x03\x04\x11\x00\x08\xff\xff\xff\xef",
-        "0000 3 2;",
-    ),
+    ("put-ff", PUT_FF, &[17], PUT_FF_SHOWN),
     (
         "nop-inside-a-header",
         b"\x00\x0a\xff\xf1\x12\xa0\x00\x00\x04\x00\x00\x01\xff\xef",
-        "Command(Nop);0000 1 0;",
+        &[3, 13],
+        "at 3 telnet NOP\nat 13 record flags 0000 opcode 1\n",
     ),
     (
         "a clear",
         b"\x00\x0c\x12\xa0\x00\x00\x04\x00\x00\x03\x04\x40\xff\xef",
-        "0000 3 1;",
+        &[13],
+        "at 13 record flags 0000 opcode 3\n  CLEAR-UNIT\n",
     ),
     (
         "past-end",
         b"\x00\x13\x12\xa0\x00\x00\x04\x00\x00\x03\x04\x11\x00\x00\x11\x18\x50\xc1\xc2\xff\xef",
-        "0000 3 4;",
+        &[20],
+        "at 20 record flags 0000 opcode 3\n  WRITE 00 00\n  SBA 24 80\n  PUT C1C2\n",
     ),
     (
         "invite-twice",
         b"\x00\x0a\x12\xa0\x00\x00\x04\x00\x00\x01\xff\xef\x00\x0a\x12\xa0\x00\x00\x04\x00\x00\x01\xff\xef",
-        "0000 1 0;0000 1 0;",
+        &[11, 23],
+        "at 11 record flags 0000 opcode 1\nat 23 record flags 0000 opcode 1\n",
     ),
 ];
 
-// What the bytes decode to, as text: of a record its flags, opcode and number of elements.
-fn told(alloc: Global, found: Result<Vec<Item<Element>>, Fault>) -> Result<String, AllocError> {
+// What the bytes decode to, as text: the items as they are shown with their places, or the fault.
+pub fn told(
+    alloc: Global,
+    found: Result<Vec<Item<Element>>, Fault>,
+    places: &[u64],
+) -> Result<String, AllocError> {
     match found {
-        Ok(items) => {
+        Ok(items) if items.len() == places.len() => {
             let mut text = String::new(alloc);
-            for item in &items {
-                text.push_str(item_told(alloc, item)?.as_str())?;
+            for (item, place) in items.iter().zip(places) {
+                text.push_str(item_told(alloc, *place, item)?.as_str())?;
             }
             Ok(text)
+        }
+        Ok(items) => {
+            let count = items.len();
+            format!(in alloc; "{count} items")
         }
         Err(fault) => fault_told(alloc, fault),
     }
@@ -168,30 +187,59 @@ fn fault_told(alloc: Global, fault: Fault) -> Result<String, AllocError> {
     }
 }
 
-fn item_told(alloc: Global, item: &Item<Element>) -> Result<String, AllocError> {
+fn item_told(alloc: Global, place: u64, item: &Item<Element>) -> Result<String, AllocError> {
     match item {
-        Item::Record(record) => {
-            let flags = record.flags;
-            let opcode = record.opcode.byte();
-            let count = record.body.as_slice().len();
-            format!(in alloc; "{flags:04x} {opcode} {count};")
-        }
-        Item::Telnet(telnet) => format!(in alloc; "{telnet:?};"),
+        Item::Record(record) => record_text(alloc, place, record),
+        Item::Telnet(telnet) => telnet_text(alloc, place, telnet),
     }
+}
+
+// Feeds a piece up to its end, behind so many bytes, and adds what it gives to the text.
+fn hear(
+    alloc: Global,
+    receiver: &mut Receiver<Commands>,
+    before: usize,
+    piece: &[u8],
+    text: &mut String,
+) -> Result<(), AllocError> {
+    let mut taken = before as u64;
+    let mut rest = piece;
+    for _ in 0..9 {
+        match receiver.feed(rest) {
+            Ok(Fed { used, item }) => {
+                taken = taken.saturating_add(used as u64);
+                rest = &rest[used..];
+                match &item {
+                    Some(item) => {
+                        let place = taken.saturating_sub(1);
+                        text.push_str(item_told(alloc, place, item)?.as_str())?;
+                    }
+                    None => return Ok(()),
+                }
+            }
+            Err(fault) => return text.push_str(fault_told(alloc, fault)?.as_str()),
+        }
+    }
+    Ok(())
 }
 
 #[test]
 fn commands_decode(rt: HostRuntime) -> Result<(), Fail> {
-    for (row, bytes, wanted) in &ACCEPTED {
-        let found = told(rt.alloc(), decode_all::<Commands>(rt.alloc(), bytes))?;
+    let alloc = rt.alloc();
+    for (row, bytes, places, wanted) in &ACCEPTED {
+        let found = told(alloc, decode_all::<Commands>(alloc, bytes), places)?;
         assert_eq!(rt; found.as_str(), *wanted, "{row}");
         let mut source = SliceSource::new(bytes);
-        let found = decode_from::<Commands, SliceSource>(rt.alloc(), &mut source);
-        let found = told(rt.alloc(), found)?;
+        let found = decode_from::<Commands, SliceSource>(alloc, &mut source);
+        let found = told(alloc, found, places)?;
         assert_eq!(rt; found.as_str(), *wanted, "{row} from a source");
+        let mut receiver = Receiver::<Commands>::new(alloc);
+        let mut text = String::new(alloc);
+        hear(alloc, &mut receiver, 0, bytes, &mut text)?;
+        assert_eq!(rt; text.as_str(), *wanted, "{row} by a receiver");
     }
     for (row, bytes, wanted) in &REFUSED {
-        let found = told(rt.alloc(), decode_all::<Commands>(rt.alloc(), bytes))?;
+        let found = told(alloc, decode_all::<Commands>(alloc, bytes), &[])?;
         assert_eq!(rt; found.as_str(), *wanted, "{row}");
     }
     Ok(())
@@ -229,133 +277,57 @@ fn live_refusals(rt: HostRuntime) -> Result<(), Fail> {
     Ok(())
 }
 
-fn record(alloc: Global, body: Vec<Element>) -> Result<Vec<Item<Element>>, AllocError> {
-    let record = Record {
-        flags: 0,
-        opcode: Opcode::PutGet,
-        body: List::of(body),
-    };
-    Ok(vec![in alloc; Item::Record(record)]?)
-}
-
-// A Write to Display and the byte so many times.
-fn puts(alloc: Global, byte: DataByte, count: usize) -> Result<Vec<Item<Element>>, AllocError> {
-    let mut body = vec![in alloc; Element::Write { cc1: 0, cc2: 8 }]?;
-    for _ in 0..count {
-        body.push(Element::Put(byte))?;
-    }
-    record(alloc, body)
-}
-
-#[test]
-fn encode_limits(rt: HostRuntime) -> Result<(), Fail> {
-    let alloc = rt.alloc();
-    let byte = DataByte::new(0xc1).ok_or("C1")?;
-    let alone = record(alloc, vec![in alloc; Element::Put(byte)]?)?;
-    let fault = encode::<Commands>(alloc, alone.as_slice()).err();
-    assert_eq!(rt; fault, Some(EncodeFault::BadSequence { index: 0 }));
-    let byte = DataByte::new(0x40).ok_or("40")?;
-    let largest = puts(alloc, byte, 65_521)?;
-    let encoded = encode::<Commands>(alloc, largest.as_slice())?;
-    let first = [0xff, 0xff, 0xff, 0xff, 0x12, 0xa0];
-    assert!(rt; encoded.as_slice().starts_with(&first));
-    assert_eq!(rt; encoded.len(), 65_539);
-    let larger = puts(alloc, byte, 65_522)?;
-    let fault = encode::<Commands>(alloc, larger.as_slice()).err();
-    assert_eq!(rt; fault, Some(EncodeFault::TooBig { index: 0 }));
-    Ok(())
-}
-
-// `put-ff` by each way to bytes and back, and the laws at commands.
-#[test]
-fn encoded_and_read_back(rt: HostRuntime) -> Result<(), Fail> {
-    let alloc = rt.alloc();
-    let items = puts(alloc, DataByte::new(0xff).ok_or("FF")?, 1)?;
-    let bytes = b"\x00\x0f\x12\xa0\x00\x00\x04\x00\x00\x03\x04\x11\x00\x08\xff\xff\xff\xef";
-    let encoded = encode::<Commands>(alloc, items.as_slice())?;
-    assert_eq!(rt; encoded.as_slice(), bytes.as_slice());
-    let mut sink = VecSink::new(alloc);
-    assert_eq!(rt;
-        encode_to::<Commands, VecSink>(items.as_slice(), &mut sink),
-        Ok(())
-    );
-    assert_eq!(rt; sink.as_slice(), bytes.as_slice());
-    let back = encode_and_decode::<Commands>(alloc, items.as_slice())?;
-    let wanted = told(alloc, Ok(items))?;
-    assert_eq!(rt; told(alloc, Ok(back))?.as_str(), wanted.as_str());
-    one_reading::<Commands>();
-    one_refusal::<Commands>();
-    one_truncation::<Commands>();
-    encoding_spells_its_items::<Commands>();
-    Ok(())
-}
-
-// `length-255`: the length's FF is doubled too.
-#[test]
-fn length_255(rt: HostRuntime) -> Result<(), Fail> {
-    let mut bytes = Vec::new(rt.alloc());
-    bytes.extend_from_slice(b"\x00\xff\xff\x12\xa0\x00\x00\x04\x00\x00\x03\x04\x11\x00\x00")?;
-    for _ in 0..241 {
-        bytes.push(0x40)?;
-    }
-    bytes.extend_from_slice(b"\xff\xef")?;
-    assert_eq!(rt; bytes.len(), 258);
-    let found = told(
-        rt.alloc(),
-        decode_all::<Commands>(rt.alloc(), bytes.as_slice()),
-    )?;
-    assert_eq!(rt; found.as_str(), "0000 3 242;");
-    Ok(())
-}
-
 // `bad-tokens`: a subnegotiation with as many bytes as there may be, and with one too many.
 #[test]
 fn longest_subnegotiation(rt: HostRuntime) -> Result<(), Fail> {
+    let alloc = rt.alloc();
     for (tail, wanted) in [
         (b"\x41".as_slice(), "refused at 67: 4"),
         (b"\xff\xff", "refused at 68: 4"),
+        (b"\xff\xf0", "accepted"),
     ] {
-        let mut bytes = vec![in rt.alloc(); 0x41; 67]?;
+        let mut bytes = vec![in alloc; 0x41; 67]?;
         bytes[0] = 0xff;
         bytes[1] = 0xfa;
         bytes[2] = 0x18;
         bytes.extend_from_slice(tail)?;
-        let found = told(
-            rt.alloc(),
-            decode_all::<Commands>(rt.alloc(), bytes.as_slice()),
-        )?;
+        let found = first_refusal(alloc, bytes.as_slice())?;
         assert_eq!(rt; found.as_str(), wanted);
+        match decode_all::<Commands>(alloc, bytes.as_slice()) {
+            Ok(items) => {
+                let text = told(alloc, Ok(items), &[68])?;
+                assert!(rt; text.as_str().starts_with("at 68 telnet SB 24 4141"));
+                assert_eq!(rt; text.len(), 148);
+            }
+            Err(fault) => assert_eq!(rt; fault_told(alloc, fault)?.as_str(), wanted),
+        }
     }
     Ok(())
 }
 
-// `put-ff-in-pieces`: cut in two at each place, and byte by byte.
+// `put-ff-in-pieces`: cut in two at each place, and into pieces of each size.
 #[test]
 fn put_ff_in_pieces(rt: HostRuntime) -> Result<(), Fail> {
-    let bytes =
-        b"\x00\x0f\x12\xa0\x00\x00\x04\x00\x00\x03\x04\x11\x00\x08\xff\xff\xff\xef".as_slice();
+    let alloc = rt.alloc();
+    let (bytes, wanted) = (PUT_FF, PUT_FF_SHOWN);
     for size in 1..19 {
-        let mut receiver = Receiver::<Commands>::new(rt.alloc());
-        let mut text = String::new(rt.alloc());
-        let mut sum = 0usize;
+        let mut receiver = Receiver::<Commands>::new(alloc);
+        let mut text = String::new(alloc);
+        let mut before = 0usize;
         for piece in bytes.chunks(size) {
-            let fed = receiver.feed(piece).or(Err("refused"))?;
-            sum = sum.wrapping_add(fed.used);
-            if let Some(item) = &fed.item {
-                text.push_str(item_told(rt.alloc(), item)?.as_str())?;
-            }
+            hear(alloc, &mut receiver, before, piece, &mut text)?;
+            before = before.wrapping_add(piece.len());
         }
         assert!(rt; receiver.finish().is_ok());
-        assert_eq!(rt; text.as_str(), "0000 3 2;", "in pieces of {size}");
-        assert_eq!(rt; sum, 18);
+        assert_eq!(rt; text.as_str(), wanted, "in pieces of {size}");
     }
     for size in 0..19 {
-        let mut receiver = Receiver::<Commands>::new(rt.alloc());
+        let mut receiver = Receiver::<Commands>::new(alloc);
+        let mut text = String::new(alloc);
         let (first, second) = bytes.split_at(size);
-        let before = receiver.feed(first).or(Err("refused"))?;
-        let after = receiver.feed(second).or(Err("refused"))?;
-        assert_eq!(rt; before.used.wrapping_add(after.used), 18);
-        assert!(rt; before.item.is_some() != after.item.is_some());
+        hear(alloc, &mut receiver, 0, first, &mut text)?;
+        hear(alloc, &mut receiver, size, second, &mut text)?;
+        assert_eq!(rt; text.as_str(), wanted, "cut behind {size}");
     }
     Ok(())
 }

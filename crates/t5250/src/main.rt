@@ -10,12 +10,16 @@ mod command_line;
 #[cfg(test)]
 mod command_rows;
 mod element_text;
+#[cfg(test)]
+mod encoding_rows;
 mod fault;
 mod hex_text;
 mod input;
 mod item_text;
 mod screen_text;
 mod show;
+#[cfg(test)]
+mod show_rows;
 #[cfg(test)]
 mod tests;
 mod verdict;
@@ -59,18 +63,27 @@ fn read_and_run<R: Runtime + AllocGlobal>(rt: &R) -> Result<bool, CommandFault> 
     Ok(run(rt, asked)?)
 }
 
+// Prints what `clap` says: of a wrong command line on standard error, where it was asked for help on standard
+// output.
+fn tell(rt: &HostRuntime, error: &clap::Error) -> ExitCode {
+    let printed = error.print(rt);
+    if error.use_stderr() {
+        return ExitCode::from(2);
+    }
+    match printed {
+        Ok(()) => ExitCode::SUCCESS,
+        Err(_) => {
+            let _ = eprintln!(rt; "{fault}", fault = RunFault::Write);
+            ExitCode::from(2)
+        }
+    }
+}
+
 fn main(rt: HostRuntime) -> ExitCode {
     match read_and_run(&rt) {
         Ok(true) => ExitCode::SUCCESS,
         Ok(false) => ExitCode::FAILURE,
-        Err(CommandFault::Words(error)) => {
-            let _ = error.print(&rt);
-            if error.use_stderr() {
-                ExitCode::from(2)
-            } else {
-                ExitCode::SUCCESS
-            }
-        }
+        Err(CommandFault::Words(error)) => tell(&rt, &error),
         Err(CommandFault::Run(fault)) => {
             let _ = eprintln!(rt; "{fault}");
             ExitCode::from(2)

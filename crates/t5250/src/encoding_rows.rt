@@ -1,0 +1,97 @@
+use crate::command_rows::{PUT_FF, PUT_FF_SHOWN, told};
+use std::alloc::{AllocError, Global};
+use std::test::Fail;
+use ws_code::{DataByte, List, VecSink};
+use ws_record::{
+    EncodeFault, Item, Opcode, Record, decode_all, encode, encode_and_decode, encode_to,
+    encoding_spells_its_items, one_reading, one_refusal, one_truncation,
+};
+use ws_stream::{Commands, Element};
+
+fn record(alloc: Global, body: Vec<Element>) -> Result<Vec<Item<Element>>, AllocError> {
+    let record = Record {
+        flags: 0,
+        opcode: Opcode::PutGet,
+        body: List::of(body),
+    };
+    Ok(vec![in alloc; Item::Record(record)]?)
+}
+
+// A Write to Display and the byte so many times.
+fn puts(
+    alloc: Global,
+    cc2: u8,
+    byte: DataByte,
+    count: usize,
+) -> Result<Vec<Item<Element>>, AllocError> {
+    let mut body = vec![in alloc; Element::Write { cc1: 0, cc2 }]?;
+    for _ in 0..count {
+        body.push(Element::Put(byte))?;
+    }
+    record(alloc, body)
+}
+
+#[test]
+fn encode_limits(rt: HostRuntime) -> Result<(), Fail> {
+    let alloc = rt.alloc();
+    let byte = DataByte::new(0xc1).ok_or("C1")?;
+    let alone = record(alloc, vec![in alloc; Element::Put(byte)]?)?;
+    let fault = encode::<Commands>(alloc, alone.as_slice()).err();
+    assert_eq!(rt; fault, Some(EncodeFault::BadSequence { index: 0 }));
+    let byte = DataByte::new(0x40).ok_or("40")?;
+    let largest = puts(alloc, 8, byte, 65_521)?;
+    let encoded = encode::<Commands>(alloc, largest.as_slice())?;
+    let first = [0xff, 0xff, 0xff, 0xff, 0x12, 0xa0];
+    assert!(rt; encoded.as_slice().starts_with(&first));
+    assert_eq!(rt; encoded.len(), 65_539);
+    let larger = puts(alloc, 8, byte, 65_522)?;
+    let fault = encode::<Commands>(alloc, larger.as_slice()).err();
+    assert_eq!(rt; fault, Some(EncodeFault::TooBig { index: 0 }));
+    Ok(())
+}
+
+// `put-ff` by each way to bytes and back, and the laws at commands.
+#[test]
+fn encoded_and_read_back(rt: HostRuntime) -> Result<(), Fail> {
+    let alloc = rt.alloc();
+    let items = puts(alloc, 8, DataByte::new(0xff).ok_or("FF")?, 1)?;
+    let (bytes, wanted) = (PUT_FF, PUT_FF_SHOWN);
+    let encoded = encode::<Commands>(alloc, items.as_slice())?;
+    assert_eq!(rt; encoded.as_slice(), bytes);
+    let mut sink = VecSink::new(alloc);
+    assert_eq!(rt;
+        encode_to::<Commands, VecSink>(items.as_slice(), &mut sink),
+        Ok(())
+    );
+    assert_eq!(rt; sink.as_slice(), bytes);
+    let back = encode_and_decode::<Commands>(alloc, items.as_slice())?;
+    assert_eq!(rt; told(alloc, Ok(items), &[17])?.as_str(), wanted);
+    assert_eq!(rt; told(alloc, Ok(back), &[17])?.as_str(), wanted);
+    one_reading::<Commands>();
+    one_refusal::<Commands>();
+    one_truncation::<Commands>();
+    encoding_spells_its_items::<Commands>();
+    Ok(())
+}
+
+// `length-255`: the length's FF is doubled too.
+#[test]
+fn length_255(rt: HostRuntime) -> Result<(), Fail> {
+    let alloc = rt.alloc();
+    let mut bytes = Vec::new(alloc);
+    bytes.extend_from_slice(b"\x00\xff\xff\x12\xa0\x00\x00\x04\x00\x00\x03\x04\x11\x00\x00")?;
+    for _ in 0..241 {
+        bytes.push(0x40)?;
+    }
+    bytes.extend_from_slice(b"\xff\xef")?;
+    assert_eq!(rt; bytes.len(), 258);
+    let found = told(
+        alloc,
+        decode_all::<Commands>(alloc, bytes.as_slice()),
+        &[257],
+    )?;
+    let items = puts(alloc, 0, DataByte::new(0x40).ok_or("40")?, 241)?;
+    let wanted = told(alloc, Ok(items), &[257])?;
+    assert_eq!(rt; found.as_str(), wanted.as_str());
+    Ok(())
+}
