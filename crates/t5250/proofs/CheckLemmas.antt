@@ -112,6 +112,3 @@ module _ {Place U : Type 0} (rules : Rules Place U) where
   -- what a fault says of the bytes
   pub verdict_means : (bytes : List ℕ) (fault : Fault) (r : Result Verdict Fault) → IsDecodeFault rules bytes fault → r ≡ verdict_by fault → IfOk r (IsVerdict rules bytes) × IfErr r (λ f. f ≡ Memory)
   verdict_means bytes fault r f e = subst (λ (x : Result Verdict Fault). IfOk x (IsVerdict rules bytes) × IfErr x (λ f. f ≡ Memory)) (sym e) (by_fault bytes fault f)
-
-  pub end_decodes : (bytes : List ℕ) (fault : Fault) → (fault ≡ Truncated (length bytes)) × IsTruncated rules bytes → IsDecodeFault rules bytes fault
-  end_decodes bytes fault f = subst (λ (x : Fault). IsDecodeFault rules bytes x) (sym f.0) (refl, f.1)

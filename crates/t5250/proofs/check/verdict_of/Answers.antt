@@ -1,7 +1,8 @@
 use Rattle.std.proofs.Common.{◌≡◌, ◌++◌, [], ℕ, ◌+◌, ◌-◌, ◌<◌, ◌≤◌, List, length, take, drop, refl, sym, ap, ◌∙◌, subst, arith, length-append, length-take, length-drop}
 use Rattle.std.proofs.lemmas.List.{take_all}
 use Rattle.t5250.specs.Checking.{Counts}
-use Rattle.t5250.proofs.CheckLemmas.{counts_piece, piece_decodes, verdict_means, end_decodes}
+use Rattle.ws_record.proofs.Decodes.{end_decodes}
+use Rattle.t5250.proofs.CheckLemmas.{counts_piece, piece_decodes, verdict_means}
 use Rattle.t5250.proofs.check.verdict_of.Goals as goal
 
 pub returns-in-Err-clause-verdict : goal.returns-in-Err-clause-verdict
