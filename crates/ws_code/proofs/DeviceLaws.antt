@@ -1,10 +1,9 @@
-use Rattle.std.specs.Prelude.{◌≡◌, ◌≢◌, ℕ, ◌+◌, ◌-◌, ◌^◌, ◌<◌, ◌≤◌, List, [], ◌∷◌, ◌++◌, length, take, drop, None, Some, refl, Option, ◌⊎◌}
-use Rattle.std.proofs.Common.{inl, inr, min, sym, ap, ◌∙◌, subst, arith, append_assoc, length-append, length-drop, take-append-drop}
-use Rattle.std.proofs.lemmas.List.{append-nil, length-take, length-take-le, take-append-le, nil_from_length}
-use Rattle.std.proofs.Math.Decide.{dec_lt}
+use Rattle.std.specs.Prelude.{◌≡◌, ◌≢◌, ℕ, ◌+◌, ◌-◌, ◌<◌, ◌≤◌, List, [], ◌∷◌, ◌++◌, length, take, drop, Some, refl}
+use Rattle.std.proofs.Common.{sym, ap, ◌∙◌, subst, arith, append_assoc, length-append, length-drop, take-append-drop}
+use Rattle.std.proofs.lemmas.List.{append-nil, length-take-le, take-append-le}
 use Rattle.std.proofs.Math.Seq.{take-append-add, take-length}
 use Rattle.std.proofs.lemmas.Grind.{flat_map-append}
-use Rattle.ws_code.specs.Device.{MayTake, MayGive, one_more, Taken, Given, bytes_taken, bytes_given, Writes, WentOut, FailedAfter, FailedWithin, IsWriteFailure, Reads, Gave, GaveAll, ReadFailed, list_gives, Held, held_takes}
+use Rattle.ws_code.specs.Device.{MayTake, MayGive, Taken, Given, bytes_taken, Writes, WentOut, FailedAfter, FailedWithin, IsWriteFailure, Reads, Gave, GaveAll, Held, held_takes}
 
 -- `&xs[i..]`
 pub rest_from : (xs : List ℕ) (i : ℕ) → take (length xs - i) (drop i xs) ≡ drop i xs
@@ -47,16 +46,6 @@ module _ {S : Type 0} where
   }
 
   -- a failed write after what went out
-  pub failed_last : (takes : MayTake S) (failures : S → ℕ) (from mid to : S) (xs offered : List ℕ) (answer : Option ℕ) → WentOut takes failures from mid xs → takes mid offered answer to → IsWriteFailure offered answer (failures mid) (failures to) → FailedAfter takes failures from to xs
-  failed_last takes failures from mid to xs offered answer p made failed = record {
-    before = mid;
-    went_out = p;
-    offered = offered;
-    answer = answer;
-    last = made;
-    failed = subst (λ (n : ℕ). IsWriteFailure offered answer n (failures to)) p.uncounted failed;
-  }
-
   pub failed_after_both : (takes : MayTake S) (failures : S → ℕ) (from mid to : S) (xs ys : List ℕ) → WentOut takes failures from mid xs → FailedAfter takes failures mid to ys → FailedAfter takes failures from to (xs ++ ys)
   failed_after_both takes failures from mid to xs ys p q = record {
     before = q.before;
@@ -82,10 +71,6 @@ module _ {S : Type 0} where
   reads_more gives from mid to [] r p made some = (to, (let P : S → Type 0 = λ s. gives s r.room (Some r.given) to in subst P (sym p) made), some, refl)
   reads_more gives from mid to (q ∷ rs) r p made some = (p.0, p.1, p.2, reads_more gives p.0 mid to rs r p.3 made some)
 
-  -- no read, no byte
-  pub gave_none : (gives : MayGive S) (failures : S → ℕ) (s : S) → Gave gives failures s s 0 []
-  gave_none gives failures s = record { reads = []; made = refl; counted = refl; gave = refl; uncounted = refl }
-
   -- one read more
   pub gave_more : (gives : MayGive S) (failures : S → ℕ) (from mid to : S) (count : ℕ) (bytes : List ℕ) (room : ℕ) (given : List ℕ) → Gave gives failures from mid count bytes → gives mid room (Some given) to → given ≢ [] → failures to ≡ failures mid → Gave gives failures from to (count + 1) (bytes ++ given)
   gave_more gives failures from mid to count bytes room given p made some uncounted =
@@ -98,41 +83,15 @@ module _ {S : Type 0} where
         uncounted = uncounted ∙ p.uncounted;
       }
 
-  -- a read that gave the end, and one that failed
+  -- a read that gave the end
   pub gave_all : (gives : MayGive S) (failures : S → ℕ) (from mid to : S) (count : ℕ) (bytes : List ℕ) (room : ℕ) → Gave gives failures from mid count bytes → 0 < room → gives mid room (Some []) to → failures to ≡ failures mid → GaveAll gives failures from to bytes
   gave_all gives failures from mid to count bytes room p h made uncounted = record { before = mid; count = count; gave = p; room = room; has_room = h; end = made; uncounted = uncounted ∙ p.uncounted }
-
-  pub read_failed : (gives : MayGive S) (failures : S → ℕ) (from mid to : S) (count : ℕ) (bytes : List ℕ) (room : ℕ) → Gave gives failures from mid count bytes → gives mid room None to → failures to ≡ one_more (failures mid) → ReadFailed gives failures from to bytes
-  read_failed gives failures from mid to count bytes room p made counted = record { before = mid; count = count; gave = p; room = room; last = made; counted = counted ∙ ap one_more p.uncounted }
 
 -- some bytes of a slice are not none
 pub take_some : (xs : List ℕ) (n : ℕ) → n ≢ 0 → n ≤ length xs → take n xs ≢ []
 take_some xs n ne h e = ne (sym (length-take-le n xs h) ∙ ap length e)
 
--- a count that is one more rose, or stands at its greatest value
-pub one_more_rose : (before after : ℕ) → after ≡ one_more before → (before < after) ⊎ (after ≡ 2 ^ 64 - 1)
-one_more_rose before after e = elim (dec_lt before (2 ^ 64 - 1)) [ yes h ↦ inl (omega (arith, e)) | no h ↦ inr (omega (arith, e)) ]
-
 -- ---- what the devices of this crate tell
-
-list_reads : (from to : List ℕ) (rs : List Given) → Reads list_gives from rs to → from ≡ bytes_given rs ++ to
-list_reads from to [] p = p
-list_reads from to (r ∷ rs) p =
-    let given : r.given ≡ take r.room from = p.1.0 in
-    let next : p.0 ≡ drop r.room from = p.1.1 in
-    let rest : p.0 ≡ bytes_given rs ++ to = list_reads p.0 to rs p.3 in
-    sym (take-append-drop r.room from) ∙ ap (λ z. z ++ drop r.room from) (sym given) ∙ ap (λ z. r.given ++ z) (sym next ∙ rest) ∙ sym (append_assoc r.given (bytes_given rs) to)
-
--- a source over a list gives its front
-pub list_gave : (failures : List ℕ → ℕ) (from to : List ℕ) (count : ℕ) (bytes : List ℕ) → Gave list_gives failures from to count bytes → from ≡ bytes ++ to
-list_gave failures from to count bytes p = list_reads from to p.reads p.made ∙ ap (λ z. z ++ to) p.gave
-
--- and, when it has given its end, the whole
-pub list_gave_all : (failures : List ℕ → ℕ) (from to : List ℕ) (bytes : List ℕ) → GaveAll list_gives failures from to bytes → from ≡ bytes
-list_gave_all failures from to bytes p =
-    let lengths : 0 ≡ min p.room (length p.before) = ap length p.end.0 ∙ length-take p.room p.before in
-    let none : p.before ≡ [] = nil_from_length p.before (omega (arith, lengths, p.has_room)) in
-    list_gave failures from p.before p.count bytes p.gave ∙ ap (λ z. bytes ++ z) none ∙ append-nil bytes
 
 held_writes : (from to : Held) (ws : List Taken) → Writes held_takes from ws to → to.bytes ≡ from.bytes ++ bytes_taken ws
 held_writes from to [] p = ap (λ (h : Held). h.bytes) (sym p) ∙ sym (append-nil from.bytes)
@@ -143,13 +102,3 @@ held_writes from to (w ∷ ws) p =
 -- a sink that grows holds what went out
 pub held_went_out : (failures : Held → ℕ) (from to : Held) (bytes : List ℕ) → WentOut held_takes failures from to bytes → to.bytes ≡ from.bytes ++ bytes
 held_went_out failures from to bytes p = held_writes from to p.writes p.made ∙ ap (λ z. from.bytes ++ z) p.took
-
-held_fails : (offered : List ℕ) (answer : Option ℕ) (from mid to : Held) → held_takes mid offered answer to → IsWriteFailure offered answer from.failures to.failures → (to.bytes ≡ mid.bytes) × (to.failures ≡ one_more from.failures)
-held_fails offered None from mid to last failed = (last, failed)
-held_fails offered (Some n) from mid to last failed = absurd (failed.1 (nil_from_length offered (sym last.0 ∙ failed.0)))
-
--- and counts the failure after it
-pub held_failed_after : (from to : Held) (bytes : List ℕ) → FailedAfter held_takes (λ s. s.failures) from to bytes → (to.bytes ≡ from.bytes ++ bytes) × (to.failures ≡ one_more from.failures)
-held_failed_after from to bytes p =
-    let end : (to.bytes ≡ p.before.bytes) × (to.failures ≡ one_more from.failures) = held_fails p.offered p.answer from p.before to p.last p.failed in
-    (end.0 ∙ held_went_out (λ s. s.failures) from p.before bytes p.went_out, end.1)

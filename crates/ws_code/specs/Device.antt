@@ -7,8 +7,9 @@ use Rattle.std.specs.Io.KnownBytes.{Keeps, Appends, Consumes, IsAtEnd}
 -- What a device may do at one call is a relation between its states before and after:
 -- `gives s room (Some bytes) t` a read into a slice of that length gave these bytes, and `gives s room None t` it failed;
 -- `takes s bytes (Some n) t` a write took the first n of the bytes, and `takes s bytes None t` it failed.
--- A device that knows its bytes says by it which they are. One that doesn't still says which calls were made,
--- since nothing but a call of the device leads from one state to another.
+-- A device that knows its bytes says by it which they are. Of one that doesn't, the relation still says which calls
+-- were made, but only in code that is generic over the device: to such code nothing but a call of the device leads
+-- from one state to another. Code for one device can come from state to state in other ways.
 
 -- what a write may do to a sink: it takes so many of the bytes, or fails
 abbrev pub MayTake : Type 0 → Type 1

@@ -43,7 +43,8 @@ pub trait Sink {
 
 /// Writes all the bytes, in as many writes as the sink asks for.
 ///
-/// `Write` is the only fault: a write failed, or took no byte. Then only bytes before it went out.
+/// `Write` is the only fault: a write failed, or took no byte. That write is the last, and what went out
+/// before it is a proper prefix of the bytes.
 pub fn write_whole<S: Sink>(sink: &mut S, bytes: &[u8]) -> Result<(), Fault>
     ensures ok { OnOk result (WentOut S.takes S.failures sink.old sink.new bytes.now) }
     ensures err { IfErr result (λ fault. (fault ≡ Fault.Write)

@@ -9,10 +9,10 @@ pub enum Fault {
     Truncated { at: u64 },
     /// A growth was refused.
     Memory,
-    /// The source failed, or was read too often.
+    /// The source failed, or 4,294,967,296 reads were made before its end came.
     Read,
-    /// The sink failed.
+    /// The sink failed, or took no byte of some.
     Write,
-    /// An earlier call has failed.
+    /// An earlier call has failed, or 18,446,744,073,709,551,615 bytes were taken.
     Failed,
 }

@@ -29,7 +29,7 @@ pub enum Reason {
     UnknownOpcode,
     /// A byte past the declared length of its record.
     TooLong,
-    /// A record that ends before its declared length.
+    /// A record that ends inside its header, or before its declared length.
     TooShort,
 
     // Body (SC30-3533, commands and orders)
@@ -77,7 +77,7 @@ pub enum Reason {
     LeftOutShift,
     /// A key's byte that no key has.
     BadAid,
-    /// A record that ends inside a unit of its body.
+    /// A record that ends inside a unit of its body, or where the body may not end.
     EndedInside,
     /// An order code in a station's answer.
     BadAnswerByte,
