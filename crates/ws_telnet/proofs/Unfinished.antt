@@ -6,7 +6,7 @@ use Rattle.std.proofs.lemmas.Grind.{flat_map-append}
 use Rattle.ws_code.specs.Code.{IsSpelled, IsPrefix, IsUnfinished, AreBytes}
 use Rattle.ws_code.proofs.CodeLaws.{AreBytes-append, AreBytes-front}
 use Rattle.ws_telnet.specs.Token.{token_rules, doubled, verb_byte, ends_in_iac}
-use Rattle.ws_telnet.specs.TokenLaws.{iac_or_not, doubled_plain, content_front, content_left, content_left_pair, content_end, in_sub, not_after_iac}
+use Rattle.ws_telnet.specs.TokenLaws.{iac_or_not, doubled_plain, content_front, content_left, content_left_pair, content_end, in_sub}
 use Rattle.ws_telnet.specs.declared.token.Verb.{Verb}
 use Rattle.ws_telnet.specs.declared.token.Token.TheVariants.{Eor, Telnet as TelnetToken}
 use Rattle.ws_telnet.specs.declared.token.Telnet.TheVariants.{Option as Negotiate, Sub as Subnegotiate}
@@ -123,9 +123,6 @@ negotiation_begins verb b h = record {
   stands = record { is_unit = omega arith; may_stand = refl };
   spelled = ap (λ n. 0xff ∷ n ∷ 0 ∷ []) h;
 }
-
-pub no_token : (b : ℕ) → b ≢ 0xef → b < 0xf1 → IsPrefix token_rules tt (0xff ∷ b ∷ []) → ⊥
-no_token b ne lt p = not_after_iac p.unit b p.rest ne lt p.spelled
 
 pub sub_so_far_content : (option : ℕ) (xs : List ℕ) → IsUnfinished token_rules tt (0xff ∷ 0xfa ∷ option ∷ flat_map doubled xs) → IsSubSoFar option xs
 sub_so_far_content option xs u = sub_so_far option xs [] (subst (λ (l : List ℕ). IsUnfinished token_rules tt (0xff ∷ 0xfa ∷ option ∷ l)) (sym (append-nil (flat_map doubled xs))) u)

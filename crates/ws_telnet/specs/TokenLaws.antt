@@ -139,14 +139,6 @@ in_sub (TelnetToken (Command code)) option rest h e = let f : command_byte code 
 in_sub (TelnetToken (Negotiate verb o)) option rest h e = let f : verb_byte verb ≡ 0xfa = cc in absurd (omega (arith, verb_low verb))
 in_sub (TelnetToken (Subnegotiate sub)) option rest h e = let f : sub.option ≡ option = cc in (sub.data_, subst (λ (n : ℕ). n < 256) f h.0, h.1, h.2, cc)
 
--- no token has these bytes
-pub not_after_iac : (t : Token) (b : ℕ) (rest : List ℕ) → b ≢ 0xef → b < 0xf1 → token_spelling t ≡ 0xff ∷ b ∷ rest → ⊥
-not_after_iac (Data d) b rest ne lt e = not_data d b [] rest (omega arith) (append-nil (doubled d) ∙ e)
-not_after_iac Eor b rest ne lt e = let f : 0xef ≡ b = cc in ne (sym f)
-not_after_iac (TelnetToken (Command code)) b rest ne lt e = let f : command_byte code ≡ b = cc in omega (arith, command_low code)
-not_after_iac (TelnetToken (Negotiate verb o)) b rest ne lt e = let f : verb_byte verb ≡ b = cc in omega (arith, verb_low verb)
-not_after_iac (TelnetToken (Subnegotiate sub)) b rest ne lt e = let f : 0xfa ≡ b = cc in omega arith
-
 doubled_bytes : (b : ℕ) → b < 256 → AreBytes (doubled b)
 doubled_bytes b h = elim (iac_or_not b) [
   | inl k ↦ subst (λ (n : ℕ). AreBytes (doubled n)) (sym k) (omega arith, (omega arith, tt))

@@ -7,7 +7,7 @@ mod write;
 
 pub use token::{CommandCode, Sub, Telnet, Token, Verb};
 pub use tokens::Tokens;
-pub use write::{spell, write_token};
+pub use write::{spell, write_telnet, write_token};
 
 #[cfg(test)]
 mod tests;

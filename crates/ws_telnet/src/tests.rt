@@ -5,21 +5,26 @@ use std::process::Abort;
 use std::test::Fail;
 use ws_code::{ByteList, Code, FailingSink, Fault, Push, Reason, VecSink};
 
-// The last token that the bytes bring, or the place at which they are refused and the reason.
-fn last_token(bytes: &[u8]) -> Result<Option<Token>, (usize, Reason)> {
-    let mut tokens = Tokens::start(());
+// The last unit that the bytes bring, or the place at which they are refused and the reason.
+fn last_unit<C: Code>(bytes: &[u8]) -> Result<Option<C::Unit>, (usize, Reason)> {
+    let mut machine = C::start(C::first());
     let mut last = None;
     for (at, byte) in bytes.iter().enumerate() {
-        match tokens.push(*byte) {
+        match machine.push(*byte) {
             Push::More => {}
-            Push::Unit(token) => {
-                tokens = Tokens::start(());
-                last = Some(token);
+            Push::Unit(unit) => {
+                C::known(&unit);
+                machine = C::start(C::after(&unit));
+                last = Some(unit);
             }
             Push::Bad(reason) => return Err((at, reason)),
         }
     }
     Ok(last)
+}
+
+fn last_token(bytes: &[u8]) -> Result<Option<Token>, (usize, Reason)> {
+    last_unit::<Tokens>(bytes)
 }
 
 // The place at which the bytes are refused, and the reason.
@@ -57,6 +62,11 @@ fn check_spelling(rt: &impl Abort, alloc: Global, token: &Token, wanted: &[u8]) 
     let mut sink = VecSink::new(alloc);
     assert_eq!(rt; write_token(&mut sink, token), Ok(()));
     assert_eq!(rt; sink.as_slice(), wanted);
+    if let Token::Telnet(telnet) = token {
+        let mut sink = VecSink::new(alloc);
+        assert_eq!(rt; write_telnet(&mut sink, telnet), Ok(()));
+        assert_eq!(rt; sink.as_slice(), wanted);
+    }
 }
 
 #[test]
@@ -98,7 +108,7 @@ fn spell_ff(rt: HostRuntime) {
 }
 
 #[test]
-fn each_token_has_its_spelling(rt: HostRuntime) {
+fn each_command_has_its_spelling(rt: HostRuntime) {
     let commands = [
         (CommandCode::Nop, 0xf1),
         (CommandCode::DataMark, 0xf2),
@@ -115,6 +125,10 @@ fn each_token_has_its_spelling(rt: HostRuntime) {
         let token = Token::Telnet(Telnet::Command(code));
         check_spelling(&rt, rt.alloc(), &token, &[0xff, byte]);
     }
+}
+
+#[test]
+fn each_token_has_its_spelling(rt: HostRuntime) {
     let verbs = [
         (Verb::Will, 0xfb),
         (Verb::Wont, 0xfc),
@@ -147,18 +161,21 @@ fn each_token_has_its_spelling(rt: HostRuntime) {
 }
 
 #[test]
-fn a_token_is_cut_where_the_sink_fails(rt: HostRuntime) {
+fn a_spelling_is_cut_where_the_sink_fails(rt: HostRuntime) {
     let token = Token::Telnet(Telnet::Option(Verb::Do, 0x19));
+    let telnet = Telnet::Option(Verb::Do, 0x19);
     for writes in 0..4usize {
-        let mut sink = FailingSink::new(rt.alloc(), writes as u64);
-        let written = write_token(&mut sink, &token);
-        assert_eq!(rt; sink.as_slice(), &[0xff, 0xfd, 0x19][..writes]);
         let wanted = if writes < 3 {
             Err(Fault::Write)
         } else {
             Ok(())
         };
-        assert_eq!(rt; written, wanted, "after {writes}");
+        let mut sink = FailingSink::new(rt.alloc(), writes as u64);
+        assert_eq!(rt; write_token(&mut sink, &token), wanted, "after {writes}");
+        assert_eq!(rt; sink.as_slice(), &[0xff, 0xfd, 0x19][..writes]);
+        let mut sink = FailingSink::new(rt.alloc(), writes as u64);
+        assert_eq!(rt; write_telnet(&mut sink, &telnet), wanted, "after {writes}");
+        assert_eq!(rt; sink.as_slice(), &[0xff, 0xfd, 0x19][..writes]);
     }
 }
 

@@ -7,14 +7,23 @@ use ws_code::ByteList;
 /// A command that stands alone after IAC (RFC 854, "TELNET COMMAND STRUCTURE").
 #[derive(Clone, Copy, Debug, PartialEq, Eq)]
 pub enum CommandCode {
+    /// NOP, F1: no operation.
     Nop,
+    /// DM, F2: the place in the data at which a Synch ends.
     DataMark,
+    /// BRK, F3: the break key.
     Break,
+    /// IP, F4: the process is to be interrupted.
     InterruptProcess,
+    /// AO, F5: output is to be run to its end without being sent.
     AbortOutput,
+    /// AYT, F6: the other end is asked for a sign that it is there.
     AreYouThere,
+    /// EC, F7: the last character is to be erased.
     EraseCharacter,
+    /// EL, F8: the last line is to be erased.
     EraseLine,
+    /// GA, F9: the other end may send.
     GoAhead,
 }
 
@@ -40,9 +49,13 @@ impl CommandCode {
 /// What an end says of an option (RFC 854, "TELNET COMMAND STRUCTURE").
 #[derive(Clone, Copy, Debug, PartialEq, Eq)]
 pub enum Verb {
+    /// FB: the sender offers to perform the option, or confirms that it performs it.
     Will,
+    /// FC: the sender refuses to perform the option, or stops.
     Wont,
+    /// FD: the sender asks the other end to perform the option, or confirms that it may.
     Do,
+    /// FE: the sender wants the other end not to perform the option, or to stop.
     Dont,
 }
 
@@ -63,7 +76,9 @@ impl Verb {
 /// A subnegotiation (RFC 855): its option, and at most 64 bytes.
 #[derive(Debug, Drop)]
 pub struct Sub {
+    /// The option's byte, which is any.
     pub option: u8,
+    /// What stands between the option and the end, an FF once: each is spelled FF FF.
     pub data_: ByteList<64>,
 }
 
@@ -81,21 +96,24 @@ impl Sub {
     }
 }
 
-/// A Telnet command, of any kind.
+/// A Telnet command, of any kind (RFC 854, "TELNET COMMAND STRUCTURE").
 #[derive(Debug, Drop)]
 pub enum Telnet {
+    /// FF and the code's byte.
     Command(CommandCode),
-    /// The option's byte is any.
+    /// FF, the verb's byte and the option's, which is any and isn't doubled.
     Option(Verb, u8),
+    /// FF FA, the option's byte, the data, and FF F0.
     Sub(Sub),
 }
 
-/// What a stream of bytes is made of.
+/// What a stream of bytes is made of (RFC 854; EOR: RFC 885).
 #[derive(Debug, Drop)]
 pub enum Token {
-    /// A byte of a record.
+    /// A byte of a record. FF is spelled FF FF.
     Data(u8),
-    /// The end of a record (RFC 885).
+    /// The end of a record, FF EF (RFC 885).
     Eor,
+    /// A Telnet command. It may stand inside a record too.
     Telnet(Telnet),
 }

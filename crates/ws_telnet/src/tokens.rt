@@ -20,7 +20,14 @@ enum Phase {
     ContentIac,
 }
 
-/// Reads tokens byte by byte.
+/// Reads tokens byte by byte (RFC 854; EOR: RFC 885). A token comes with the last byte of its spelling.
+///
+/// `Bad` comes with the first byte after which the bytes begin no token. Its reason is
+/// - `BadCommand` (1) at 00 to EE after an FF, outside a subnegotiation;
+/// - `StraySe` (2) at F0 after an FF, outside a subnegotiation;
+/// - `BadSub` (3) at a byte other than FF and F0 after an FF in a subnegotiation's data;
+/// - `SubTooLong` (4) at the byte that completes a 65th byte of a subnegotiation's data: another than FF, or
+///   the second FF of a pair.
 #[derive(Debug, Drop)]
 pub struct Tokens {
     phase: Phase,
@@ -93,6 +100,65 @@ impl Tokens {
             Push::Bad(Reason::BadCommand)
         }
     }
+
+    // What follows the option or the data of a subnegotiation.
+    fn after_content(&mut self, byte: u8) -> Push<Token>
+        requires phase { self.old.phase ≡ Phase.Content }
+        requires begun { IsUnfinished token_rules tt (unfinished_of self.old) }
+        ensures more { MatchPush result
+            (IsUnfinished token_rules tt (unfinished_of self.old ++ byte ∷ [])
+            × (unfinished_of self.new ≡ unfinished_of self.old ++ byte ∷ []))
+            (λ _. Unit {0}) (λ _. Unit {0}) }
+        ensures unit { MatchPush result (Unit {0})
+            (λ unit. IsSpelled token_rules tt (unfinished_of self.old ++ byte ∷ []) unit)
+            (λ _. Unit {0}) }
+        ensures bad { MatchPush result (Unit {0}) (λ _. Unit {0})
+            (λ reason. ¬ IsPrefix token_rules tt (unfinished_of self.old ++ byte ∷ [])
+            × (reason ≡ token_reason (unfinished_of self.old) byte)) }
+    {
+        if byte == 0xff {
+            self.phase = Phase::ContentIac;
+            Push::More
+        } else if self.content.is_full() {
+            Push::Bad(Reason::SubTooLong)
+        } else {
+            self.content.push(byte);
+            Push::More
+        }
+    }
+
+    // What follows an FF in a subnegotiation.
+    fn after_content_iac(&mut self, byte: u8) -> Push<Token>
+        requires phase { self.old.phase ≡ Phase.ContentIac }
+        requires begun { IsUnfinished token_rules tt (unfinished_of self.old) }
+        ensures more { MatchPush result
+            (IsUnfinished token_rules tt (unfinished_of self.old ++ byte ∷ [])
+            × (unfinished_of self.new ≡ unfinished_of self.old ++ byte ∷ []))
+            (λ _. Unit {0}) (λ _. Unit {0}) }
+        ensures unit { MatchPush result (Unit {0})
+            (λ unit. IsSpelled token_rules tt (unfinished_of self.old ++ byte ∷ []) unit)
+            (λ _. Unit {0}) }
+        ensures bad { MatchPush result (Unit {0}) (λ _. Unit {0})
+            (λ reason. ¬ IsPrefix token_rules tt (unfinished_of self.old ++ byte ∷ [])
+            × (reason ≡ token_reason (unfinished_of self.old) byte)) }
+    {
+        if byte == 0xf0 {
+            let content = std::mem::replace(&mut self.content, ArrayVec::new());
+            return Push::Unit(Token::Telnet(Telnet::Sub(Sub {
+                option: self.option,
+                data_: ByteList::of(content),
+            })));
+        }
+        if byte != 0xff {
+            return Push::Bad(Reason::BadSub);
+        }
+        if self.content.is_full() {
+            return Push::Bad(Reason::SubTooLong);
+        }
+        self.content.push(byte);
+        self.phase = Phase::Content;
+        Push::More
+    }
 }
 
 impl Code for Tokens {
@@ -148,34 +214,8 @@ impl Code for Tokens {
                 self.phase = Phase::Content;
                 Push::More
             }
-            Phase::Content => {
-                if byte == 0xff {
-                    self.phase = Phase::ContentIac;
-                    Push::More
-                } else if self.content.is_full() {
-                    Push::Bad(Reason::SubTooLong)
-                } else {
-                    self.content.push(byte);
-                    Push::More
-                }
-            }
-            Phase::ContentIac => {
-                if byte == 0xf0 {
-                    let content = std::mem::replace(&mut self.content, ArrayVec::new());
-                    Push::Unit(Token::Telnet(Telnet::Sub(Sub {
-                        option: self.option,
-                        data_: ByteList::of(content),
-                    })))
-                } else if byte != 0xff {
-                    Push::Bad(Reason::BadSub)
-                } else if self.content.is_full() {
-                    Push::Bad(Reason::SubTooLong)
-                } else {
-                    self.content.push(byte);
-                    self.phase = Phase::Content;
-                    Push::More
-                }
-            }
+            Phase::Content => self.after_content(byte),
+            Phase::ContentIac => self.after_content_iac(byte),
         }
     }
 

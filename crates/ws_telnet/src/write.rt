@@ -36,6 +36,20 @@ pub fn write_token<S: Sink>(sink: &mut S, token: &Token) -> Result<(), Fault>
     write_whole(sink, spelling.as_slice())
 }
 
+/// Writes a command's spelling (RFC 854).
+///
+/// `Write` is the only fault: the sink failed, and what went out of the spelling is a prefix of it.
+pub fn write_telnet<S: Sink>(sink: &mut S, telnet: &Telnet) -> Result<(), Fault>
+    ensures ok { OnOk result (WentOut S.takes S.failures sink.old sink.new
+        (telnet_spelling telnet.now)) }
+    ensures err { IfErr result (λ fault. (fault ≡ Fault.Write)
+        × FailedWithin S.takes S.failures sink.old sink.new (telnet_spelling telnet.now)) }
+{
+    let mut bytes = ArrayVec::new();
+    spell_telnet(telnet, &mut bytes);
+    write_whole(sink, bytes.as_slice())
+}
+
 fn spell_telnet(telnet: &Telnet, into: &mut ArrayVec<u8, 133>)
     requires { into.old.items ≡ [] }
     ensures { into.new.items ≡ telnet_spelling telnet.now }

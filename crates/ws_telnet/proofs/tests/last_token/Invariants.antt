@@ -1,7 +1,0 @@
-use Rattle.ws_code.specs.Code.{IsUnfinished}
-use Rattle.ws_telnet.specs.Machine.{unfinished_of}
-use Rattle.ws_telnet.specs.Token.{token_rules}
-use Rattle.ws_telnet.proofs.tests.last_token.Given as goal
-
-abbrev pub invariant-loop-at : goal.invariant-loop-at
-invariant-loop-at l = IsUnfinished token_rules tt (unfinished_of l.tokens)
