@@ -1,7 +1,7 @@
 use Rattle.std.specs.Prelude.{◌≡◌, ◌≢◌, ℕ, zero, suc, ◌+◌, ◌-◌, ◌*◌, ◌<◌, ◌≤◌, ◌/◌, ◌%◌, List, [], ◌∷◌, ◌++◌, length, replicate, true, refl}
 use Rattle.std.proofs.Common.{sym, ap, ◌∙◌, subst, arith, length-append}
 use Rattle.std.specs.List.{list_all}
-use Rattle.std.proofs.lemmas.Bool.{and_from}
+use Rattle.std.proofs.lemmas.Bool.{and_from, and_parts}
 use Rattle.std.proofs.lemmas.List.{length-replicate}
 use Rattle.std.proofs.lemmas.List.Folds.{list_all-append}
 use Rattle.ws_code.specs.Code.{Stands, IsUnfinished}
@@ -9,7 +9,7 @@ use Rattle.ws_code.specs.DataByte.{is_order}
 use Rattle.ws_code.specs.Address.{IsRowAndColumn, place_of}
 use Rattle.ws_stream.specs.Parts.{IsEraseList, is_kind}
 use Rattle.ws_stream.specs.Elements.{element_rules, spelling, IsElement, allows_orders, row_and_column}
-use Rattle.ws_stream.specs.ElementLaws.{first, second, no_code, list_all_front}
+use Rattle.ws_stream.specs.ElementLaws.{first, second, no_code}
 use Rattle.ws_stream.specs.Machine.{order_byte}
 use Rattle.ws_stream.specs.declared.place.Place.{Place}
 use Rattle.ws_stream.specs.declared.element.Element.{Element}
@@ -164,7 +164,7 @@ erase_so_far place to count xs u =
       place_fits = omega (arith, row, found.2);
       few = omega (arith, n, found.3.1);
       more = omega (arith, n, ap length l, length-append xs (u.next ∷ u.rest));
-      kinds = list_all_front is_kind xs (u.next ∷ u.rest) (subst (λ (l : List ℕ). list_all is_kind l ≡ true) l found.3.2);
+      kinds = (and_parts (list_all is_kind xs) (list_all is_kind (u.next ∷ u.rest)) (sym (list_all-append is_kind xs (u.next ∷ u.rest)) ∙ ap (list_all is_kind) (sym l) ∙ found.3.2)).0;
     }
 
 pub erase_goes_on : (place : Place) (to count : ℕ) (xs : List ℕ) → allows_orders place ≡ true → IsEraseSoFar to count xs → IsUnfinished element_rules place (0x03 ∷ row_and_column to ++ (count + 1) ∷ xs)

@@ -6,10 +6,10 @@ use Rattle.std.proofs.lemmas.List.Folds.{list_all-append}
 use Rattle.std.proofs.lemmas.Grind.{flat_map-append}
 use Rattle.ws_code.specs.Code.{Stands, IsPrefix, IsUnfinished}
 use Rattle.ws_code.specs.FormatWord.{IsFfw}
-use Rattle.ws_stream.specs.FieldOrder.{FieldOrder, IsFieldOrder, HasFormat, is_control}
+use Rattle.ws_stream.specs.FieldOrder.{FieldOrder, IsFieldOrder, HasFormat, is_control, is_attribute}
 use Rattle.ws_stream.specs.Elements.{element_rules, spelling, IsElement, allows_orders, word, format_bytes}
-use Rattle.ws_stream.specs.ElementLaws.{first, no_code, list_all_back, format_front, controls_front, control_low}
-use Rattle.ws_stream.specs.Machine.{front_bytes, is_front, is_attribute}
+use Rattle.ws_stream.specs.ElementLaws.{first, no_code, format_front, controls_front, control_low}
+use Rattle.ws_stream.specs.Machine.{front_bytes, is_front}
 use Rattle.ws_stream.specs.Reasons.{element_reason}
 use Rattle.ws_code.specs.declared.reason.Reason.TheVariants.{TooManyFcws, BadFormatByte}
 use Rattle.ws_stream.specs.declared.commands.phase.FieldWords.{FieldWords}
@@ -124,7 +124,7 @@ words_front f w controls rest h format words e =
       attribute = f.attribute;
       length = f.length;
       few = omega (arith, h.few, ap Rattle.std.specs.Prelude.length found.1, length-append controls found.0);
-      words = list_all_back is_control controls found.0 (subst (λ (l : List ℕ). list_all is_control l ≡ true) found.1 h.words);
+      words = (and_parts (list_all is_control controls) (list_all is_control found.0) (sym (list_all-append is_control controls found.0) ∙ ap (list_all is_control) (sym found.1) ∙ h.words)).1;
       low = h.low;
       high = h.high;
       bytes = found.2;

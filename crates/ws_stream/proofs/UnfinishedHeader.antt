@@ -2,7 +2,7 @@ use Rattle.std.specs.Prelude.{◌≡◌, ◌≢◌, ℕ, zero, suc, ◌+◌, ◌
 use Rattle.std.proofs.Common.{sym, ap, ◌∙◌, subst, arith, length-append}
 use Rattle.std.proofs.lemmas.List.{length-replicate}
 use Rattle.ws_code.specs.Code.{IsSpelled, IsUnfinished, AreBytes}
-use Rattle.ws_code.proofs.CodeLaws.{AreBytes-append}
+use Rattle.ws_code.proofs.CodeLaws.{AreBytes-append, AreBytes-front}
 use Rattle.ws_stream.specs.Parts.{IsSoh}
 use Rattle.ws_stream.specs.Elements.{element_rules, spelling, IsElement, allows_orders}
 use Rattle.ws_stream.specs.ElementLaws.{first, no_code}
@@ -44,10 +44,6 @@ third_more (a ∷ []) b h k = refl
 third_more (a ∷ c ∷ []) b h k = k refl
 third_more (a ∷ c ∷ d ∷ xs) b h k = h
 
-bytes_front : (xs ys : List ℕ) → AreBytes (xs ++ ys) → AreBytes xs
-bytes_front [] ys h = tt
-bytes_front (x ∷ xs) ys h = (h.0, bytes_front xs ys h.1)
-
 in_soh : (u : Element) (rest : List ℕ) → IsElement u → spelling u ≡ 0x01 ∷ rest → (bytes : List ℕ) × IsSoh bytes × AreBytes bytes × (length bytes ∷ bytes ≡ rest)
 in_soh (Soh bytes) rest h e = (bytes, h.0, h.1, cc)
 in_soh (Put b) rest h e = no_code b 0x01 h (ap first e) refl
@@ -70,7 +66,7 @@ soh_so_far place count xs u =
       few = omega (arith, n, found.1.0);
       more = omega (arith, n, ap length l, length-append xs (u.next ∷ u.rest));
       third = third_front xs (u.next ∷ u.rest) (subst (λ (l : List ℕ). slice_index l 2 ≡ 0) l found.1.1);
-      bytes = bytes_front xs (u.next ∷ u.rest) (subst AreBytes l found.2);
+      bytes = AreBytes-front xs (u.next ∷ u.rest) (subst AreBytes l found.2);
     }
 
 pub soh_goes_on : (place : Place) (count : ℕ) (xs : List ℕ) → allows_orders place ≡ true → IsSohSoFar count xs → IsUnfinished element_rules place (0x01 ∷ count ∷ xs)

@@ -1,8 +1,9 @@
-use Rattle.std.specs.Prelude.{◌≡◌, ◌≢◌, ℕ, ◌+◌, ◌<◌, ◌≤◌, ◌/◌, ◌%◌, ◌==◌, List, [], ◌∷◌, ◌++◌, length, Bool, true, Option, Some, None, refl}
+use Rattle.std.specs.Prelude.{◌≡◌, ◌≢◌, ℕ, ◌+◌, ◌<◌, ◌≤◌, ◌/◌, ◌%◌, ◌==◌, List, [], ◌∷◌, ◌++◌, length, true, Option, Some, None, refl}
 use Rattle.std.proofs.Common.{inl, inr, sym, ap, ◌∙◌, subst, arith, append_assoc, length-append}
 use Rattle.std.specs.List.{flat_map, list_all}
 use Rattle.std.proofs.lemmas.Bool.{and_parts, or_cases, leb-true, ltb-true, eqb-true, both_ways}
 use Rattle.std.proofs.lemmas.List.{append-nil}
+use Rattle.std.proofs.lemmas.List.Folds.{list_all-append}
 use Rattle.ws_code.specs.Code.{IsPrefixFree, IsUnfinished, IsChain, place_after, AreBytes}
 use Rattle.ws_code.specs.DataByte.{IsData, is_order}
 use Rattle.ws_code.proofs.CodeLaws.{AreBytes-append}
@@ -123,14 +124,6 @@ controls_none (z ∷ zs) a b x y h low e =
     let head : z / 256 ≡ b = cc in
     absurd (omega (arith, control, head, low))
 
-pub list_all_back : (p : ℕ → Bool) (xs ys : List ℕ) → list_all p (xs ++ ys) ≡ true → list_all p ys ≡ true
-list_all_back p [] ys h = h
-list_all_back p (x ∷ xs) ys h = list_all_back p xs ys (and_parts (p x) (list_all p (xs ++ ys)) h).1
-
-pub list_all_front : (p : ℕ → Bool) (xs ys : List ℕ) → list_all p (xs ++ ys) ≡ true → list_all p xs ≡ true
-list_all_front p [] ys h = refl
-list_all_front p (x ∷ xs) ys h = let parts = and_parts (p x) (list_all p (xs ++ ys)) h in rw (parts.0, list_all_front p xs ys parts.1) refl
-
 same_field : (f g : FieldOrder) → f.format ≡ g.format → f.controls ≡ g.controls → f.attribute ≡ g.attribute → f.length ≡ g.length → f ≡ g
 same_field f g a b c d =
     ap (λ (x : Option ℕ). let r : FieldOrder = record { format = x; controls = f.controls; attribute = f.attribute; length = f.length } in r) a
@@ -167,7 +160,7 @@ same_start f g (Some w) rest is hf hg e =
     e ∙ ap (λ (o : Option ℕ). (format_bytes o ++ flat_map word f.controls ++ f.attribute ∷ word f.length) ++ rest) is ∙ ap (λ (l : List ℕ). word w ++ l) (append_assoc (flat_map word f.controls) (f.attribute ∷ word f.length) rest) in
     let front : (g.format ≡ Some w) × IsFfw w × (flat_map word g.controls ++ g.attribute ∷ word g.length ≡ flat_map word f.controls ++ f.attribute ∷ (word f.length ++ rest)) = format_front g.format g.controls g.attribute (word g.length) w _ hg.formatted hg.high legal.0 begins in
     let more : (zs : List ℕ) × (g.controls ≡ f.controls ++ zs) × (flat_map word zs ++ g.attribute ∷ word g.length ≡ f.attribute ∷ (word f.length ++ rest)) = controls_front g.controls f.controls g.attribute (word g.length) _ hf.words (omega (arith, hg.high)) front.2 in
-    let last : (more.0 ≡ []) × (g.attribute ≡ f.attribute) × (word g.length ≡ word f.length ++ rest) = controls_none more.0 g.attribute f.attribute (word g.length) (word f.length ++ rest) (list_all_back is_control f.controls more.0 (subst (λ (l : List ℕ). list_all is_control l ≡ true) more.1 hg.words)) (omega (arith, hf.high)) more.2 in
+    let last : (more.0 ≡ []) × (g.attribute ≡ f.attribute) × (word g.length ≡ word f.length ++ rest) = controls_none more.0 g.attribute f.attribute (word g.length) (word f.length ++ rest) (and_parts (list_all is_control f.controls) (list_all is_control more.0) (sym (list_all-append is_control f.controls more.0) ∙ ap (list_all is_control) (sym more.1) ∙ hg.words)).1 (omega (arith, hf.high)) more.2 in
     let controls : g.controls ≡ f.controls = more.1 ∙ ap (λ (l : List ℕ). f.controls ++ l) last.0 ∙ append-nil f.controls in
     let length : word g.length ≡ word f.length ++ rest = last.2 in
     same_field f g (is ∙ sym front.0) (sym controls) (sym last.1) (sym (same_word g.length f.length (cc) (cc)))

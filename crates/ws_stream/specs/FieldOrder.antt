@@ -13,6 +13,10 @@ pub record FieldOrder : Type 0 where
 abbrev pub is_control : ℕ → Bool
 is_control w = nat_le 0x8000 w && nat_lt w 0x10000
 
+-- an attribute is 20 to 3F, in a Start of Field and as a byte of a cell
+abbrev pub is_attribute : ℕ → Bool
+is_attribute b = nat_le 0x20 b && nat_lt b 0x40
+
 -- control words stand only behind a format word
 abbrev pub HasFormat : Option ℕ → List ℕ → Type 0
 HasFormat None controls = controls ≡ []

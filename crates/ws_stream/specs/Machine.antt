@@ -1,9 +1,9 @@
-use Rattle.std.specs.Prelude.{ℕ, ◌≡◌, ◌+◌, List, [], ◌∷◌, ◌++◌, Bool, true, nat_le, nat_lt, ◌&&◌, Option, Some, None}
+use Rattle.std.specs.Prelude.{ℕ, ◌≡◌, ◌+◌, List, [], ◌∷◌, ◌++◌, Bool, true, nat_le, ◌&&◌, Option, Some, None}
 use Rattle.std.specs.List.{flat_map, list_all}
 use Rattle.ws_code.specs.Code.{IsSpelled, IsPrefix, IsUnfinished}
 use Rattle.ws_code.specs.declared.code.Push.{Push}
 use Rattle.ws_code.specs.declared.code.Push.TheVariants.{More, Unit as Whole, Bad}
-use Rattle.ws_stream.specs.FieldOrder.{is_control}
+use Rattle.ws_stream.specs.FieldOrder.{is_control, is_attribute}
 use Rattle.ws_stream.specs.Elements.{element_rules, word, row_and_column}
 use Rattle.ws_stream.specs.Reasons.{element_reason}
 use Rattle.ws_stream.specs.declared.place.Place.{Place}
@@ -72,9 +72,6 @@ are_words w = nat_le 0x4000 w.format && list_all is_control w.controls.items
 abbrev pub is_front : Option FieldWords → Bool
 is_front None = true
 is_front (Some w) = are_words w
-
-abbrev pub is_attribute : ℕ → Bool
-is_attribute b = nat_le 0x20 b && nat_lt b 0x40
 
 abbrev pub is_sound : Phase → Bool
 is_sound (FormatLow high) = nat_le 0x40 high

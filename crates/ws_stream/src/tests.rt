@@ -70,14 +70,30 @@ fn alternate_refused(rt: HostRuntime) {
     );
 }
 
+// A length above 7.
+#[test]
+fn soh_length(rt: HostRuntime) {
+    expect_refused(&rt, &[0x01, 0x08], 5, 25);
+}
+
 #[test]
 fn resequencing(rt: HostRuntime) {
     expect_refused(&rt, &[0x01, 0x03, 0x00, 0x00, 0x01], 8, 26);
 }
 
+// A length below 2, and a type that is neither 00 nor FF.
 #[test]
 fn erase_list(rt: HostRuntime) {
     expect_refused(&rt, &[0x03, 0x01, 0x01, 0x01], 7, 27);
+    expect_refused(&rt, &[0x03, 0x01, 0x01, 0x02, 0x01], 8, 27);
+}
+
+// At the first byte, after the format word and after a control word.
+#[test]
+fn format_byte(rt: HostRuntime) {
+    expect_refused(&rt, &[0x1d, 0x1f], 5, 29);
+    expect_refused(&rt, &[0x1d, 0x40, 0x00, 0x40], 7, 29);
+    expect_refused(&rt, &[0x1d, 0x40, 0x00, 0x80, 0x01, 0x40], 9, 29);
 }
 
 #[test]
@@ -104,6 +120,7 @@ fn no_escape(rt: HostRuntime) {
 fn bad_address(rt: HostRuntime) {
     expect_refused(&rt, &[0x11, 0x18, 0x51], 6, 24);
     expect_refused(&rt, &[0x11, 0x00], 5, 24);
+    expect_refused(&rt, &[0x11, 0x01, 0x00], 6, 24);
 }
 
 // A ninth control word.

@@ -1,7 +1,8 @@
 ghost use Rattle.std.specs.Prelude.{◌≡◌, ◌∷◌, ◌++◌, [], ℕ, true, nat_le, ◌&&◌};
 ghost use Rattle.ws_code.specs.Code.{IsUnfinished};
 ghost use Rattle.ws_stream.specs.Elements.{element_rules};
-ghost use Rattle.ws_stream.specs.Machine.{words_bytes, front_bytes, are_words, is_front, is_attribute, IsStep};
+ghost use Rattle.ws_stream.specs.FieldOrder.{is_attribute};
+ghost use Rattle.ws_stream.specs.Machine.{words_bytes, front_bytes, are_words, is_front, IsStep};
 
 use super::Commands;
 use super::phase::{FieldWords, Phase};
