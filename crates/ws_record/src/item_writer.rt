@@ -2,7 +2,7 @@ ghost use Rattle.std.specs.Prelude.{◌≡◌, ◌+◌, ◌<◌, ◌≤◌, ◌^
 ghost use Rattle.std.specs.List.{flat_map};
 ghost use Rattle.ws_code.specs.Code.{spelling_of};
 ghost use Rattle.ws_code.specs.Device.{WentOut, FailedWithin};
-ghost use Rattle.ws_telnet.specs.Token.{doubled, telnet_spelling};
+ghost use Rattle.ws_telnet.specs.Token.{doubled};
 ghost use Rattle.ws_record.specs.Grammar.{record_bytes};
 ghost use Rattle.ws_record.specs.Encode.{AreEncoded, record_spelling, plain_spelling};
 
@@ -10,12 +10,7 @@ use crate::record_writer::{EOR, IAC, header_bytes, write_doubled};
 use crate::{Item, Record};
 use arrayvec::ArrayVec;
 use ws_code::{Body, Fault, Sink, write_whole};
-use ws_telnet::Telnet;
-
-// The ends of a subnegotiation (RFC 854; RFC 855).
-const SB: u8 = 0xfa;
-
-const SE: u8 = 0xf0;
+use ws_telnet::write_telnet;
 
 /// Writes the plain spelling of items that can be encoded. `Write` is the only fault.
 pub fn write_items<B: Body, S: Sink>(sink: &mut S, items: &[Item<B::Unit>]) -> Result<(), Fault>
@@ -82,22 +77,4 @@ fn write_units<B: Body, S: Sink>(sink: &mut S, units: &[B::Unit]) -> Result<(), 
         write_doubled(sink, spelling.as_slice())?;
     }
     Ok(())
-}
-
-// Writes a command.
-fn write_telnet<S: Sink>(sink: &mut S, telnet: &Telnet) -> Result<(), Fault>
-    ensures ok { OnOk result (WentOut S.takes S.failures sink.old sink.new
-        (telnet_spelling telnet.now)) }
-    ensures err { IfErr result (λ fault. (fault ≡ Fault.Write)
-        × FailedWithin S.takes S.failures sink.old sink.new (telnet_spelling telnet.now)) }
-{
-    match telnet {
-        Telnet::Command(code) => write_whole(sink, &[IAC, code.byte()]),
-        Telnet::Option(verb, option) => write_whole(sink, &[IAC, verb.byte(), *option]),
-        Telnet::Sub(sub) => {
-            write_whole(sink, &[IAC, SB, sub.option])?;
-            write_doubled(sink, sub.data_.as_slice())?;
-            write_whole(sink, &[IAC, SE])
-        }
-    }
 }
