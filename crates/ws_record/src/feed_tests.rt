@@ -21,7 +21,7 @@ impl Cut {
         match self {
             Cut::Pieces(size) => count.checked_rem(size) == Some(0),
             Cut::Two(first) => count == first,
-            Cut::Bits(bits) => bits.wrapping_shr(at as u32) & 1 == 1,
+            Cut::Bits(bits) => bits.wrapping_shr(at.min(31) as u32) & 1 == 1,
         }
     }
 }
