@@ -11,7 +11,7 @@ pub enum Fault {
     Memory,
     /// The source failed, or 4,294,967,296 reads were made before its end came.
     Read,
-    /// The sink failed, or took no byte of some.
+    /// The sink failed, or took none of the bytes that it was given.
     Write,
     /// An earlier call has failed, or 18,446,744,073,709,551,615 bytes were taken.
     Failed,
