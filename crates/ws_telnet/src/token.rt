@@ -9,13 +9,13 @@ use ws_code::ByteList;
 pub enum CommandCode {
     /// NOP, F1: no operation.
     Nop,
-    /// DM, F2: the place in the data at which a Synch ends.
+    /// DM, F2: the part of a Synch that stands in the data.
     DataMark,
     /// BRK, F3: the break key.
     Break,
     /// IP, F4: the process is to be interrupted.
     InterruptProcess,
-    /// AO, F5: output is to be run to its end without being sent.
+    /// AO, F5: the process is to run to its end, and its output isn't to be sent.
     AbortOutput,
     /// AYT, F6: the other end is asked for a sign that it is there.
     AreYouThere,
@@ -78,7 +78,7 @@ impl Verb {
 pub struct Sub {
     /// The option's byte, which is any.
     pub option: u8,
-    /// What stands between the option and the end, an FF once: each is spelled FF FF.
+    /// The bytes between the option and the end. An FF among them is spelled FF FF.
     pub data_: ByteList<64>,
 }
 
