@@ -75,24 +75,24 @@ sound_host : (d : Dialogue) (later : List Telnet) → drop d.at_host d.to_host �
 sound_host d [] e h = h
 sound_host d (token ∷ later) e h = sound_writes d token later (host_answer d.host token) e h
 
--- a dialogue after its arrivals, and the exchange that it has in flight
-pub record Stands (t : TerminalType) (ms : List Move) (d : Dialogue) : Type 0 where
+-- after some arrivals a dialogue has in flight what the same moves make of the exchange that it had in flight
+pub record Follows (ms : List Move) (d : Dialogue) : Type 0 where
   pub same : in_flight (after_arrivals ms d) ≡ after_moves ms (in_flight d)
   pub sound : IsSound (after_arrivals ms d)
 
-pub stands : (t : TerminalType) (ms : List Move) (d : Dialogue) → IsSound d → Stands t ms d
-stands t [] d h = record { same = refl; sound = h }
-stands t (ToStation ∷ ms) d h =
+pub follows : (ms : List Move) (d : Dialogue) → IsSound d → Follows ms d
+follows [] d h = record { same = refl; sound = h }
+follows (ToStation ∷ ms) d h =
     let later = drop d.at_station d.to_station in
-    let rest = stands t ms (after_arrival ToStation d) (sound_station d later refl h) in
+    let rest = follows ms (after_arrival ToStation d) (sound_station d later refl h) in
     record { same = rest.same ∙ ap (after_moves ms) (follows_station d later refl h); sound = rest.sound }
-stands t (ToHost ∷ ms) d h =
+follows (ToHost ∷ ms) d h =
     let later = drop d.at_host d.to_host in
-    let rest = stands t ms (after_arrival ToHost d) (sound_host d later refl h) in
+    let rest = follows ms (after_arrival ToHost d) (sound_host d later refl h) in
     record { same = rest.same ∙ ap (after_moves ms) (follows_host d later refl h); sound = rest.sound }
 
-pub from_start : (t : TerminalType) (ms : List Move) → Stands t ms (new_dialogue t)
-from_start t ms = stands t ms (new_dialogue t) (record { at_station = lit≤ tt; at_host = lit≤ tt })
+pub from_start : (t : TerminalType) (ms : List Move) → Follows ms (new_dialogue t)
+from_start t ms = follows ms (new_dialogue t) (record { at_station = lit≤ tt; at_host = lit≤ tt })
 
 -- the exchange of a dialogue, and what is known of it
 module _ (t : TerminalType) (ms : List Move) where

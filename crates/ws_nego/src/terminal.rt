@@ -1,13 +1,19 @@
 ghost use Rattle.std.specs.Prelude.{◌≡◌, ◌≤◌, ◌↔◌, length, IsTrue};
 ghost use Rattle.ws_nego.specs.Terminal.{name_of, is_name_of, terminal_named};
 
-/// A display of 24 rows and 80 columns (RFC 1205).
+/// A display of 24 rows and 80 columns (RFC 1205). Each has a name in the option TERMINAL-TYPE (RFC
+/// 1091).
 #[derive(Clone, Copy, Debug, PartialEq, Eq)]
 pub enum TerminalType {
+    /// IBM-5251-11, a monochrome display.
     Ibm5251Model11,
+    /// IBM-5291-1, a monochrome display.
     Ibm5291Model1,
+    /// IBM-5292-2, a colour display.
     Ibm5292Model2,
+    /// IBM-3196-A1, a monochrome display.
     Ibm3196ModelA1,
+    /// IBM-3179-2, a colour display.
     Ibm3179Model2,
 }
 
