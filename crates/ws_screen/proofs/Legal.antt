@@ -1,6 +1,7 @@
 -- Legal fields stay legal.
 use Rattle.std.proofs.Common.{◌≡◌, ◌≢◌, ℕ, zero, suc, ◌+◌, ◌<◌, ◌≤◌, List, [], ◌∷◌, Bool, true, false, length, ◌==◌, if◌then◌else◌, refl, sym, ap, arith, map, nat_lt, ◌&&◌, ◌||◌, All, ◌⊎◌, inl, inr, nat_le, replicate, Option, Some, None, is_some, not, subst, zero-le}
 use borrow.Author.Tests.{lt-leb, ne_eqb}
+use Rattle.std.proofs.lemmas.Bool.{or_parts, false≢true}
 use Rattle.std.proofs.lemmas.List.{get_or_past, get_or-replicate, length-replicate, length-map}
 use Rattle.std.specs.Option.{option_map_or}
 use Rattle.ws_code.specs.FormatWord.{is_bypass, with_mdt}
@@ -10,7 +11,7 @@ use Rattle.ws_screen.specs.Formats.{starts_at}
 use Rattle.ws_screen.specs.Shown.{AreApart, IsClean, IsLegal, Shown}
 use Rattle.ws_screen.specs.Steps.{Ends, after_cc1, entered, insert_field, reformatted}
 use Rattle.std.specs.List.{list_any, slice_index}
-use borrow.Author.Tests.{ltb-true, ltb-false, clash, eqb-true, eqb-false}
+use borrow.Author.Tests.{ltb-true, ltb-false, eqb-true, eqb-false}
 use Rattle.ws_screen.specs.declared.field.Field.{Field}
 use Rattle.ws_code.specs.DataByte.{is_order}
 use Rattle.ws_code.specs.declared.reason.Reason.{Reason}
@@ -54,10 +55,6 @@ apart-reformatted start format fs h = apart-map (reformatted start format) (λ f
     length_kept true f = refl
     length_kept false f = refl
 
-or_parts : (s t : Bool) → (s || t) ≡ false → (s ≡ false) × (t ≡ false)
-or_parts true t e = absurd (clash (sym e))
-or_parts false t e = (refl, e)
-
 -- two spans that share no cell
 beside : (s n a m : ℕ) → (nat_lt s (a + m) && nat_lt a (s + n)) ≡ false → (a + m ≤ s) ⊎ (s + n ≤ a)
 beside s n a m e = go (nat_lt s (a + m)) refl (nat_lt a (s + n)) refl e
@@ -65,7 +62,7 @@ beside s n a m e = go (nat_lt s (a + m)) refl (nat_lt a (s + n)) refl e
     go : (t : Bool) → nat_lt s (a + m) ≡ t → (u : Bool) → nat_lt a (s + n) ≡ u → (t && u) ≡ false → (a + m ≤ s) ⊎ (s + n ≤ a)
     go false p u q e = inl (ltb-false s (a + m) p)
     go true p false q e = inr (ltb-false a (s + n) q)
-    go true p true q e = absurd (clash (sym e))
+    go true p true q e = absurd (false≢true (sym e))
 
 pub apart-insert : (f : Field) → 1 ≤ f.length → Ends f → (low : ℕ) (fs : List Field) → AreApart low fs → low ≤ f.start → list_any (shares f.start f.length) fs ≡ false → AreApart low (insert_field f fs)
 apart-insert f some ends low [] h at none = (at, some, ends)
@@ -93,7 +90,7 @@ clean-nulled old new t clean is c = go (t c) (is c)
 
 -- a held start is on the screen
 pub held-inside : (s low : ℕ) (fs : List Field) → AreApart low fs → list_any (starts_at s) fs ≡ true → s < 1920
-held-inside s low [] h e = absurd (clash e)
+held-inside s low [] h e = absurd (false≢true e)
 held-inside s low (x ∷ xs) h e = go (x.start == s) refl e (held-inside s (x.start + x.length) xs h.2)
   where
     go : (t : Bool) → (x.start == s) ≡ t → (t || list_any (starts_at s) xs) ≡ true → (list_any (starts_at s) xs ≡ true → s < 1920) → s < 1920

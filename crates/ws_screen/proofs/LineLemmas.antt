@@ -8,7 +8,8 @@ use Rattle.std.specs.Str.{encode_utf8_all}
 use Rattle.std.proofs.lemmas.List.{take_more, reverse-append, map-append}
 use Rattle.std.proofs.lemmas.Str.{encodes-append, length-encode}
 use borrow.Author.Tests.{lt-ltb}
-use Rattle.ws_screen.specs.Lines.{is_attribute, hides, is_hidden}
+use Rattle.ws_stream.specs.FieldOrder.{is_attribute}
+use Rattle.ws_screen.specs.Lines.{hides, is_hidden}
 
 -- the attribute in force behind a cell
 pub is_hidden-more : (cells : List ℕ) (c : ℕ) → c < length cells → is_hidden cells (c + 1) ≡ (if is_attribute (slice_index cells c) then hides (slice_index cells c) else is_hidden cells c)

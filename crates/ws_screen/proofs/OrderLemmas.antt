@@ -2,6 +2,7 @@
 use Rattle.std.proofs.Common.{◌≡◌, ◌≢◌, ℕ, ◌+◌, ◌<◌, List, [], ◌∷◌, Bool, true, false, Option, Some, None, length, ◌==◌, slice_index, slice_set, if◌then◌else◌, unwrap_or, is_some, refl, sym, ap, ◌∙◌, arith, cond, get_or-set_other, eq-eqb, ◌&&◌, not}
 use borrow.Author.Tests.{eqb-true}
 use Rattle.std.specs.Option.{option_map_or, option_map}
+use Rattle.std.proofs.lemmas.Bool.{false≢true}
 use Rattle.std.proofs.lemmas.Grind.{get_or-set_at}
 use Rattle.std.proofs.lemmas.List.Sums.{sum_by-cons}
 use Rattle.ws_stream.specs.declared.element.Element.TheVariants.{Soh, Ra, Ea, Sba, Ic, Mc, Sf, Put}
@@ -22,9 +23,6 @@ use Rattle.ws_screen.proofs.FormatLemmas.{fields-sf_output, fields-sf_new, field
 use Rattle.ws_screen.specs.declared.field.Field.{Field}
 use Rattle.std.specs.List.{list_any}
 use Rattle.std.specs.Prelude.{map}
-
-pub clash : false ≡ true → ⊥
-clash e = cc
 
 -- an open write of these parts
 abbrev opened : History → ℕ → Option ℕ → Option OpenWrite
@@ -55,7 +53,7 @@ cell-put h cells a b size inside at is c small = go (c == address h) refl
   where
     go : (t : Bool) → (c == address h) ≡ t → slice_index (slice_set cells a b) c ≡ unwrap_or (if t then Some b else None) (cell c h)
     go true e = let here : c ≡ a = eqb-true c (address h) e ∙ at in get_or-set_at cells a c b 0 here (omega arith)
-    go false e = let other : c ≢ a = λ k. clash (sym e ∙ eq-eqb c (address h) (k ∙ sym at)) in get_or-set_other cells a c b 0 other ∙ is c small
+    go false e = let other : c ≢ a = λ k. false≢true (sym e ∙ eq-eqb c (address h) (k ∙ sym at)) in get_or-set_other cells a c b 0 other ∙ is c small
 
 pub put_gives : (h : History) (s : Shown) (o : OpenWrite) (b : ℕ) → length s.cells ≡ 1920 → o.address < 1920 → s.writing ≡ Some o → Gives h s
     → Gives (did (Put b) ∷ h) (record s { cells = slice_set s.cells o.address b; writing = Some (record o { address = o.address + 1 }) })
@@ -142,7 +140,7 @@ pub ra_follows : (s new : Shown) (place b : ℕ) → is_some s.writing ≡ true 
 ra_follows s new place b some done = go s.writing refl
   where
     go : (w : Option OpenWrite) → s.writing ≡ w → Follows (did (Ra place b)) s new
-    go None e = absurd (clash (ap is_some (sym e) ∙ some))
+    go None e = absurd (false≢true (ap is_some (sym e) ∙ some))
     go (Some o) e = let at : _ = filled_from s new o place b e done in
         record { after = λ h g. rw at.0 (ra_given h s new.cells o place b e at.1 g) }
 
@@ -150,7 +148,7 @@ pub ea_follows : (s new : Shown) (place : ℕ) (kinds : List ℕ) → is_some s.
 ea_follows s new place kinds some done = go s.writing refl
   where
     go : (w : Option OpenWrite) → s.writing ≡ w → Follows (did (Ea place kinds)) s new
-    go None e = absurd (clash (ap is_some (sym e) ∙ some))
+    go None e = absurd (false≢true (ap is_some (sym e) ∙ some))
     go (Some o) e = let at : _ = filled_from s new o place 0 e done in
         record { after = λ h g. rw at.0 (ea_given h s new.cells o place kinds e at.1 g) }
 
@@ -224,9 +222,9 @@ fields-sf h f a fs at is apart ok = go f.format refl
         (if t then map (reformatted (a + 1) w) fs else insert_field (record { start = a + 1; length = f.length; format = w }) fs) ≡ fields (did (Sf f) ∷ h)
     held w e true p (Some y) q = rw is (rw (← at) (sym (fields-sf_held h f (record { start = address h + 1; length = f.length; format = w }) y (ap (λ o. option_map_or (λ v. Some (record { start = address h + 1; length = f.length; format = v })) o None) e) (rw at q))))
     held w e true p None q = let small : a + 1 < 1920 = held-inside (a + 1) 0 fs apart p in
-        absurd (clash (ap is_some (sym q) ∙ sym (is_held-from h (a + 1) small) ∙ ap (list_any (starts_at (a + 1))) (sym is) ∙ p))
+        absurd (false≢true (ap is_some (sym q) ∙ sym (is_held-from h (a + 1) small) ∙ ap (list_any (starts_at (a + 1))) (sym is) ∙ p))
     held w e false p (Some y) q = let fit : IsNewOk a f.length fs = new_ok a fs f (ap is_some e) p ok in let small : a + 1 < 1920 = omega (arith, fit.ends, fit.some) in
-        absurd (clash (sym (ap (list_any (starts_at (a + 1))) (sym is) ∙ p) ∙ is_held-from h (a + 1) small ∙ ap is_some q))
+        absurd (false≢true (sym (ap (list_any (starts_at (a + 1))) (sym is) ∙ p) ∙ is_held-from h (a + 1) small ∙ ap is_some q))
     held w e false p None q = let fit : IsNewOk a f.length fs = new_ok a fs f (ap is_some e) p ok in let small : a + 1 < 1920 = omega (arith, fit.ends, fit.some) in
         rw is (rw (← at) (sym (fields-sf_new h f (record { start = address h + 1; length = f.length; format = w }) (ap (λ o. option_map_or (λ v. Some (record { start = address h + 1; length = f.length; format = v })) o None) e) (rw at small) (rw at q))))
 

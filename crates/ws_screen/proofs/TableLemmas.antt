@@ -1,7 +1,7 @@
 -- What a search by halves tells of fields by start.
 use Rattle.std.proofs.Common.{◌≡◌, ◌≢◌, ℕ, zero, suc, ◌+◌, ◌<◌, ◌≤◌, List, [], ◌∷◌, Bool, true, false, Option, Some, None, length, ◌==◌, if◌then◌else◌, unwrap_or, refl, sym, ap, ◌∙◌, arith, map, find, nat_lt, nat_le, ◌&&◌, ◌||◌, get_or, insert, slice_set}
 use borrow.Author.Tests.{eqb-false, ltb-true, ltb-false, lt-ltb, le-ltb, ne_eqb}
-use Rattle.std.proofs.lemmas.Bool.{lt-leb}
+use Rattle.std.proofs.lemmas.Bool.{lt-leb, false≢true}
 use Rattle.std.specs.Option.{option_map_or}
 use Rattle.std.specs.List.{list_any}
 use Rattle.std.specs.List.Sorted.{IsPartitionPoint, IsNonDecreasingBy}
@@ -10,9 +10,6 @@ use Rattle.ws_screen.specs.Faults.{shares}
 use Rattle.ws_screen.specs.Formats.{starts_at}
 use Rattle.ws_screen.specs.Shown.{AreApart, holds}
 use Rattle.ws_screen.specs.Steps.{count_before, first_from, last_before, insert_field, reformatted}
-
-clash : {X : Type 0} → false ≡ true → X
-clash e = absurd (cc)
 
 -- THE FIELDS RISE
 
@@ -123,7 +120,7 @@ held_below s low fs apart held = go (nat_lt (count_before s fs) (length fs)) ref
   where
     go : (t : Bool) → nat_lt (count_before s fs) (length fs) ≡ t → count_before s fs < length fs
     go true q = ltb-true _ _ q
-    go false q = clash (sym (held_at s low fs apart ∙ ap (λ o. option_map_or (starts_at s) o false) (first_from-none s fs (ltb-false _ _ q))) ∙ held)
+    go false q = absurd (false≢true (sym (held_at s low fs apart ∙ ap (λ o. option_map_or (starts_at s) o false) (first_from-none s fs (ltb-false _ _ q))) ∙ held))
 
 kept : (s w low : ℕ) (fs : List Field) → AreApart low fs → s < low → map (reformatted s w) fs ≡ fs
 kept s w low [] apart small = refl
@@ -134,7 +131,7 @@ kept s w low (f ∷ fs) apart small =
 -- one field is reformatted
 pub reformatted_at : (s w low : ℕ) (fs : List Field) (d : Field) → AreApart low fs → list_any (starts_at s) fs ≡ true
     → slice_set fs (count_before s fs) (record (get_or fs (count_before s fs) d) { format = w }) ≡ map (reformatted s w) fs
-reformatted_at s w low [] d apart held = clash held
+reformatted_at s w low [] d apart held = absurd (false≢true held)
 reformatted_at s w low (f ∷ fs) d apart held = go (nat_lt f.start s) refl held (reformatted_at s w (f.start + f.length) fs d apart.2)
   where
     go : (t : Bool) → nat_lt f.start s ≡ t → ((f.start == s) || list_any (starts_at s) fs) ≡ true
@@ -151,7 +148,7 @@ reformatted_at s w low (f ∷ fs) d apart held = go (nat_lt f.start s) refl held
 
         which : (u : Bool) → (f.start == s) ≡ u → (u || list_any (starts_at s) fs) ≡ true → record f { format = w } ∷ fs ≡ (if u then record f { format = w } else f) ∷ map (reformatted s w) fs
         which true r held = ap (λ l. record f { format = w } ∷ l) (sym (kept s w (f.start + f.length) fs apart.2 (omega (arith, apart.1, behind))))
-        which false r held = clash (sym (none_at s (f.start + f.length) fs apart.2 (omega (arith, apart.1, behind))) ∙ held)
+        which false r held = absurd (false≢true (sym (none_at s (f.start + f.length) fs apart.2 (omega (arith, apart.1, behind))) ∙ held))
 
 -- a new start goes behind the fields before it
 pub inserted_at : (f : Field) (fs : List Field) → list_any (starts_at f.start) fs ≡ false → insert_field f fs ≡ insert fs (count_before f.start fs) f
@@ -161,7 +158,7 @@ inserted_at f (x ∷ xs) new = go (nat_lt x.start f.start) refl (x.start == f.st
     go : (t : Bool) → nat_lt x.start f.start ≡ t → (u : Bool) → (x.start == f.start) ≡ u → (u || list_any (starts_at f.start) xs) ≡ false
         → (list_any (starts_at f.start) xs ≡ false → insert_field f xs ≡ insert xs (count_before f.start xs) f)
         → (if nat_lt f.start x.start then f ∷ x ∷ xs else x ∷ insert_field f xs) ≡ insert (x ∷ xs) (if t then suc (count_before f.start xs) else 0) f
-    go t q true r new ih = clash (sym new)
+    go t q true r new ih = absurd (false≢true (sym new))
     go true q false r new ih = let before : x.start < f.start = ltb-true x.start f.start q in
         rw (le-ltb f.start x.start (omega arith)) (ap (λ l. x ∷ l) (ih new))
     go false q false r new ih = let behind : f.start ≤ x.start = ltb-false x.start f.start q in
@@ -239,8 +236,8 @@ holder_at c low (f ∷ fs) apart = go (nat_lt f.start (c + 1)) refl (holder_at c
 
 pub or-then : (a b r t : Bool) → r ≡ a → r ≡ true → t ≡ (a || b) → r ≡ t
 or-then true b r t p q e = p ∙ sym e
-or-then false b r t p q e = clash (sym p ∙ q)
+or-then false b r t p q e = absurd (false≢true (sym p ∙ q))
 
 pub or-else : (a b r s t : Bool) → r ≡ a → r ≡ false → s ≡ b → t ≡ (a || b) → s ≡ t
-or-else true b r s t p q u e = clash (sym q ∙ p)
+or-else true b r s t p q u e = absurd (false≢true (sym q ∙ p))
 or-else false b r s t p q u e = u ∙ sym e

@@ -1,12 +1,9 @@
 -- What a row of a display shows (SC30-3533, display attributes).
-use Rattle.std.specs.Prelude.{ℕ, ◌-◌, ◌*◌, ◌%◌, List, Bool, false, ◌==◌, ◌||◌, ◌&&◌, nat_le, nat_lt, if◌then◌else◌, map, find, reverse, take, slice_index, unwrap_or}
+use Rattle.std.specs.Prelude.{ℕ, ◌-◌, ◌*◌, ◌%◌, List, Bool, false, ◌==◌, ◌||◌, if◌then◌else◌, map, find, reverse, take, slice_index, unwrap_or}
 use Rattle.std.specs.Option.{option_map_or}
 use Rattle.std.specs.List.{range_with_len}
 use Rattle.ws_code.specs.Ebcdic.{char_of}
-
--- 20 to 3F, whoever wrote it
-abbrev pub is_attribute : ℕ → Bool
-is_attribute b = nat_le 0x20 b && nat_lt b 0x40
+use Rattle.ws_stream.specs.FieldOrder.{is_attribute}
 
 -- what stands behind it doesn't display
 abbrev pub hides : ℕ → Bool

@@ -2,12 +2,13 @@ ghost use Rattle.std.specs.Prelude.{◌≡◌, ◌+◌};
 
 use ws_code::{Address, Ffw};
 
-/// An input field of the format table.
+/// An input field of the format table (SC30-3533, Start of Field order).
 #[derive(Clone, Copy, Debug, Default, PartialEq, Eq)]
 pub struct Field {
-    /// Its first cell.
+    /// Its first cell: not that of row 1 and column 1, since a Start of Field puts an attribute in
+    /// the cell before it.
     pub start: Address,
-    /// Its number of cells, 1 to 1,920.
+    /// Its number of cells, 1 to 1,919.
     pub length: u16,
     /// Its format word, with its MDT.
     pub format: Ffw,

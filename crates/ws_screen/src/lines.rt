@@ -2,13 +2,14 @@
 ghost use Rattle.std.specs.Prelude.{◌≡◌, ◌≤◌, ◌<◌, ◌+◌, length, map, find, reverse, if◌then◌else◌};
 ghost use Rattle.std.specs.List.{range_with_len};
 ghost use Rattle.std.specs.Str.{encode_utf8_all};
+ghost use Rattle.ws_stream.specs.FieldOrder as Attribute;
 ghost use Rattle.ws_screen.specs.Lines as Spec;
 
 use arrayvec::ArrayString;
 use ws_code::ebcdic;
 
 fn is_attribute(byte: u8) -> bool
-    ensures { result ≡ Spec.is_attribute byte }
+    ensures { result ≡ Attribute.is_attribute byte }
 {
     byte >= 0x20 && byte < 0x40
 }
@@ -22,7 +23,7 @@ fn hides(attribute: u8) -> bool
 
 /// Whether the cells behind a byte are hidden, if the byte itself is or isn't.
 fn hides_after(byte: u8, hidden: bool) -> bool
-    ensures { result ≡ (if Spec.is_attribute byte then Spec.hides byte else hidden) }
+    ensures { result ≡ (if Attribute.is_attribute byte then Spec.hides byte else hidden) }
 {
     if is_attribute(byte) {
         hides(byte)
@@ -33,7 +34,7 @@ fn hides_after(byte: u8, hidden: bool) -> bool
 
 /// The last attribute of a list.
 fn last_attribute(cells: &[u8]) -> Option<u8>
-    ensures { result ≡ find Spec.is_attribute (reverse cells.now) }
+    ensures { result ≡ find Attribute.is_attribute (reverse cells.now) }
 {
     cells.iter().rev().copied().find(|byte| is_attribute(*byte))
 }

@@ -1,4 +1,4 @@
-/// What a pending read asks for.
+/// What a pending read asks for (SC30-3533, Read Input Fields and Read MDT Fields commands).
 #[derive(Clone, Copy, Debug, PartialEq, Eq)]
 pub enum ReadKind {
     /// Read Input Fields: the cells of all fields.

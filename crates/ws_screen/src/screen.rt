@@ -16,7 +16,9 @@ use arrayvec::ArrayVec;
 use std::marker::Model;
 use ws_code::Address;
 
-/// A display.
+/// A display of 24 rows and 80 columns (SC30-3533, display data stream).
+///
+/// A contract sees it as the record `Shown`.
 #[derive(Drop)]
 pub struct Screen {
     cells: [u8; 1920],

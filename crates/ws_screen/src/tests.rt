@@ -1,10 +1,7 @@
-ghost use Rattle.std.specs.Prelude.{◌≡◌};
-ghost use Rattle.ws_stream.specs.Elements as Spec;
-
 use crate::{ReadKind, Screen};
 use std::process::Abort;
-use ws_code::{Address, DataByte, Ffw, Reason};
-use ws_stream::{Element, EraseList, FieldStart, SohBytes};
+use ws_code::{Address, Body, Code, DataByte, Ffw, Reason};
+use ws_stream::{Commands, Element, EraseList, FieldStart, SohBytes};
 
 fn place(rt: &impl Abort, place: u16) -> Address {
     Address::at(place).expect(rt, "a cell")
@@ -32,23 +29,10 @@ fn output(rt: &impl Abort, attribute: u8, length: u16) -> Element {
     Element::Sf(FieldStart::new(None, &[], attribute, length).expect(rt, "a field"))
 }
 
-fn is_command(element: &Element) -> bool
-    ensures { result ≡ Spec.is_command element.now }
-{
-    match element {
-        Element::ClearUnit
-        | Element::ClearFormat
-        | Element::Write { .. }
-        | Element::ReadInput { .. }
-        | Element::ReadMdt { .. } => true,
-        _ => false,
-    }
-}
-
 // Applies elements in turn, up to the first that is refused.
 fn apply_all(rt: &impl Abort, screen: &mut Screen, elements: &[Element]) -> Option<Reason> {
     for element in elements {
-        let may_stand = is_command(element) || screen.writing();
+        let may_stand = Commands::may_follow(Commands::first(), element) || screen.writing();
         assert!(rt; may_stand);
         if let Err(reason) = screen.apply(element) {
             return Some(reason);
@@ -237,6 +221,28 @@ fn cc1_codes(rt: HostRuntime) {
     }
 }
 
+// The home after each element: where an Insert Cursor set it, else at the first cell of the first
+// open field, else at row 1 and column 1.
+#[test]
+fn homes(rt: HostRuntime) {
+    let header = SohBytes::new(&[]).expect(&rt, "a header");
+    let mut screen = shown(&rt, &[begin()]);
+    let rows = [
+        ([Element::Sba(place(&rt, 100))], 0),
+        ([input(&rt, 0x4000, 0x20, 1)], 101),
+        ([Element::Sba(place(&rt, 20))], 101),
+        ([input(&rt, 0x6000, 0x20, 1)], 101),
+        ([Element::Sba(place(&rt, 40))], 101),
+        ([input(&rt, 0x4000, 0x20, 1)], 41),
+        ([Element::Ic(place(&rt, 5))], 5),
+        ([Element::Soh(header)], 0),
+    ];
+    for (element, home) in &rows {
+        assert_eq!(rt; apply_all(&rt, &mut screen, element), None);
+        assert_eq!(rt; screen.home().place(), *home);
+    }
+}
+
 // What the other orders, the reads, the opcodes and the end of a write do.
 #[test]
 fn states(rt: HostRuntime) {
@@ -274,8 +280,10 @@ fn states(rt: HostRuntime) {
     assert_eq!(rt; other.pending(), None);
     other.set_message(false);
     assert!(rt; other.locked() && !other.message());
-    let cleared = [Element::ReadInput { cc1: 0, cc2: 0 }, Element::ClearFormat];
-    assert_eq!(rt; apply_all(&rt, &mut screen, &cleared), None);
+    let read = [Element::ReadInput { cc1: 0, cc2: 0 }];
+    assert_eq!(rt; apply_all(&rt, &mut screen, &read), None);
+    assert_eq!(rt; screen.pending(), Some(ReadKind::Input));
+    assert_eq!(rt; apply_all(&rt, &mut screen, &[Element::ClearFormat]), None);
     assert_eq!(rt; screen.pending(), None);
     assert_eq!(rt; screen.fields().len(), 0);
     assert_eq!(rt; screen.cursor().place(), 7);

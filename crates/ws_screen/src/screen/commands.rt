@@ -14,8 +14,9 @@ use crate::{ReadKind, Screen};
 use ws_code::Address;
 
 impl Screen {
-    /// Begins a Write to Display: carries out its CC1, sets the address to row 1 and column 1, and
-    /// keeps its CC2 for the end of the write. No write may be open.
+    /// Begins a Write to Display (SC30-3533, Write to Display command): carries out its CC1, sets
+    /// the address to row 1 and column 1, and keeps its CC2 for the end of the write. No write may
+    /// be open.
     pub fn begin_write(&mut self, cc1: u8, cc2: u8)
         requires { self.old.writing ≡ None }
         ensures event { Follows (did (Write cc1 cc2)) self.old self.new }
@@ -30,7 +31,8 @@ impl Screen {
         });
     }
 
-    /// Ends the open write, if one is open: carries out its CC2 and its last Move Cursor.
+    /// Ends the open write, if one is open: carries out its CC2 and its last Move Cursor (SC30-3533,
+    /// Write to Display command, Move Cursor order).
     pub fn end_write(&mut self)
         ensures events { FollowsAll (ends_of self.old.writing) self.old self.new }
         ensures closed { self.new.writing ≡ None }

@@ -2,7 +2,8 @@ use Rattle.std.proofs.Common.{◌≡◌, ◌++◌, ◌+◌, ◌-◌, ◌≤◌, 
 use Rattle.std.specs.List.{range_with_len}
 use Rattle.std.specs.Prelude.{encode_utf8}
 use Rattle.std.specs.Str.{encode_utf8_all}
-use Rattle.ws_screen.specs.Lines.{is_attribute, hides, shown_at, shown_char}
+use Rattle.ws_stream.specs.FieldOrder.{is_attribute}
+use Rattle.ws_screen.specs.Lines.{hides, shown_at, shown_char}
 use Rattle.ws_screen.proofs.LineLemmas.{is_hidden-more, text-more, two_bytes}
 use Rattle.ws_screen.proofs.lines.row_text.Goals as goal
 
