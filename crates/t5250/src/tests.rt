@@ -2,6 +2,7 @@ use crate::check::check_to;
 use crate::command_line::{Asked, read_words};
 use crate::fault::RunFault;
 use crate::hex_text::{TextFault, hex_bytes};
+use std::io;
 use std::test::Fail;
 use ws_code::{Fault, VecSink};
 use ws_record::RawBody;
@@ -87,6 +88,14 @@ fn fault_lines(rt: HostRuntime) -> Result<(), Fail> {
         (RunFault::Memory, "memory"),
         (RunFault::from(Fault::Memory), "memory"),
         (RunFault::from(Fault::Write), "cannot write"),
+        (
+            RunFault::from(io::Error::from(io::ErrorKind::NotFound)),
+            "cannot read",
+        ),
+        (
+            RunFault::from(io::Error::from(io::ErrorKind::OutOfMemory)),
+            "memory",
+        ),
         (RunFault::Write, "cannot write"),
     ];
     for (fault, wanted) in &rows {
