@@ -1,4 +1,4 @@
-use Rattle.std.proofs.Common.{◌≡◌, ℕ, ◌+◌, List, [], ◌∷◌, length, true, false, Bool, refl, sym, ap, ◌∙◌, arith, eqb-true, eqb}
+use Rattle.std.proofs.Common.{◌≡◌, List, [], ◌∷◌, length, true, false, refl, arith, eqb-true}
 use Rattle.std.specs.Prelude.{◌==◌}
 
 -- what a test of a length against 0 says of a list

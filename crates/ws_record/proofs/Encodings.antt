@@ -2,7 +2,7 @@ use Rattle.std.proofs.Common.{◌≡◌, ℕ, ◌+◌, ◌/◌, ◌%◌, ◌^◌
 use Rattle.std.specs.List.{flat_map, AllByRecursion}
 use Rattle.std.proofs.lemmas.List.{append-nil, take_more, length-take-le}
 use Rattle.ws_code.specs.Code.{Rules, Stands, IsUnfinished, IsChain, AreBytes, spelling_of, place_after}
-use Rattle.ws_code.proofs.CodeLaws.{AreBytes-append, chain_more, place_after_more}
+use Rattle.ws_code.proofs.CodeLaws.{chain_more, place_after_more}
 use Rattle.ws_telnet.specs.Token.{token_rules, telnet_spelling, doubled, IsTelnet, command_byte, verb_byte}
 use Rattle.ws_telnet.specs.TokenLaws.{iac_or_not, doubled_plain}
 use Rattle.ws_telnet.specs.declared.token.Telnet.{Telnet}

@@ -1,6 +1,6 @@
-use Rattle.std.proofs.Common.{true, false, Bool, ◌≡◌, ◌≢◌, ℕ, ◌+◌, ◌<◌, ◌≤◌, List, [], ◌∷◌, ◌++◌, Option, Some, None, length, drop, refl, sym, ap, ◌∙◌, subst, arith, length-append}
-use Rattle.ws_code.specs.Code.{Rules, IsUnfinished, IsSpelled, IsPrefix, IsPrefixFree}
-use Rattle.ws_code.proofs.CodeLaws.{Begins, CanEnd}
+use Rattle.std.proofs.Common.{false, ◌≡◌, ℕ, ◌+◌, List, [], ◌∷◌, ◌++◌, Option, length, sym, ap, ◌∙◌, subst, arith, length-append}
+use Rattle.ws_code.specs.Code.{Rules, IsUnfinished, IsSpelled, IsPrefix}
+use Rattle.ws_code.proofs.CodeLaws.{CanEnd}
 use Rattle.ws_code.specs.declared.reason.Reason.{Reason}
 use Rattle.ws_telnet.specs.Token.{token_rules}
 use Rattle.ws_telnet.specs.declared.token.Telnet.{Telnet}
@@ -10,7 +10,7 @@ use Rattle.ws_record.specs.declared.record.Head.{Head}
 use Rattle.ws_record.specs.declared.record.Item.{Item}
 use Rattle.ws_record.specs.declared.record.Item.TheVariants.{Record as RecordItem, Telnet as TelnetItem}
 use Rattle.ws_record.specs.Grammar.{Holds, Accepts}
-use Rattle.ws_record.specs.Refusal.{Layer, IsOpen, IsRefused, IsTruncated}
+use Rattle.ws_record.specs.Refusal.{IsRefused, IsTruncated}
 use Rattle.ws_record.specs.OpenRecord.{RecordSoFar, no_record, Keeping, Reads, IsDataRefused, IsEndRefused}
 use Rattle.ws_record.specs.DataStep.{record_of, IsWholeRecord}
 use Rattle.ws_record.specs.Live.{Watching, Leads}

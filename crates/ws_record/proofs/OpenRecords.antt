@@ -1,21 +1,21 @@
-use Rattle.std.proofs.Common.{◌≡◌, ◌≢◌, ℕ, ◌+◌, ◌-◌, ◌*◌, ◌/◌, ◌%◌, ◌<◌, ◌≤◌, ◌^◌, Bool, true, false, List, [], ◌∷◌, ◌++◌, ◌⊎◌, inl, inr, Option, Some, None, length, drop, take, get_or, refl, sym, ap, ◌∙◌, subst, arith, append_assoc, length-append, length-take, length-drop}
+use Rattle.std.proofs.Common.{◌≡◌, ◌≢◌, ℕ, ◌+◌, ◌-◌, ◌*◌, ◌/◌, ◌%◌, ◌<◌, ◌≤◌, true, false, List, [], ◌∷◌, ◌++◌, inl, inr, Option, Some, None, length, drop, take, get_or, refl, sym, ap, ◌∙◌, subst, arith, append_assoc, length-append, length-take}
 use Rattle.std.proofs.Math.ListN.{get_or-append, drop_of_length-le}
 use Rattle.std.proofs.Math.Seq.{get_or-append_seam}
 use Rattle.std.proofs.lemmas.Bool.{le-ltb}
 use Rattle.std.specs.Prelude.{IfSome, nat_lt}
-use Rattle.std.proofs.lemmas.List.{get_or-take, take-append-le, drop-append-le, take_all, append-nil, take-append-drop}
+use Rattle.std.proofs.lemmas.List.{get_or-take, take-append-le, drop-append-le, take_all, append-nil}
 use Rattle.ws_code.specs.Code.{Rules, IsPrefixFree, IsUnfinished, IsSpelled, IsPrefix, IsCut, AreBytes, place_after}
-use Rattle.ws_code.proofs.CodeLaws.{AreBytes-append, Begins, one_cut, cut_more, cut_unit, cut_bad, cut_begins, place_after_more}
+use Rattle.ws_code.proofs.CodeLaws.{AreBytes-append, Begins, one_cut, cut_more, cut_unit, cut_bad, place_after_more}
 use Rattle.ws_code.specs.declared.reason.Reason.{Reason}
-use Rattle.ws_code.specs.declared.reason.Reason.TheVariants.{TooLong, TooShort, EndedInside, UnknownOpcode}
+use Rattle.ws_code.specs.declared.reason.Reason.TheVariants.{TooLong, EndedInside, UnknownOpcode}
 use Rattle.ws_telnet.specs.declared.token.Token.TheVariants.{Data}
 use Rattle.ws_record.specs.declared.opcode.Opcode.{Opcode}
 use Rattle.ws_record.specs.declared.record.Head.{Head}
-use Rattle.ws_record.specs.Grammar.{IsFramed, IsBodyBytes, header, opcode_byte}
-use Rattle.ws_record.specs.Refusal.{header_reason, IsBodyReason}
+use Rattle.ws_record.specs.Grammar.{IsFramed, header, opcode_byte}
+use Rattle.ws_record.specs.Refusal.{header_reason}
 use Rattle.ws_record.specs.HeaderSoFar.{HeaderSoFar, declared}
 use Rattle.ws_record.specs.OpenRecord.{RecordSoFar, no_record, CanBeFramed, IsHead, Keeping, Reads, IsDataRefused, IsEndRefused}
-use Rattle.ws_record.proofs.Headers.{HeaderFacts, can_be_framed, can_means, framed_means, framed_from, header_length, header_append, byte_at, no_opcode, no_room, ten_cells}
+use Rattle.ws_record.proofs.Headers.{can_be_framed, can_means, framed_from, header_length, header_append, byte_at, no_opcode, no_room, ten_cells}
 
 -- bytes that are fewer than ten are all of their first ten
 pub take_short : (xs : List ℕ) → length (take 10 xs) < 10 → take 10 xs ≡ xs

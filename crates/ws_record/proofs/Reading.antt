@@ -1,19 +1,19 @@
 use Rattle.std.specs.Prelude.{◌==◌}
-use Rattle.std.proofs.Common.{◌≡◌, true, false, ◌≢◌, ℕ, ◌+◌, ◌/◌, ◌%◌, ◌<◌, ◌≤◌, ◌^◌, List, [], ◌∷◌, ◌++◌, ◌⊎◌, inl, inr, map, length, refl, sym, ap, ◌∙◌, subst, arith, append_assoc, length-append}
+use Rattle.std.proofs.Common.{◌≡◌, true, false, ℕ, ◌/◌, ◌%◌, List, [], ◌∷◌, ◌++◌, map, refl, sym, ap, ◌∙◌, arith, append_assoc}
 use Rattle.std.specs.List.{flat_map, AllByRecursion}
-use Rattle.std.proofs.lemmas.List.{append_cancel_left, append-nil}
-use Rattle.ws_code.specs.Code.{Rules, IsPrefixFree, IsWhole, spelling_of}
+use Rattle.std.proofs.lemmas.List.{append-nil}
+use Rattle.ws_code.specs.Code.{Rules, IsPrefixFree, spelling_of}
 use Rattle.ws_code.proofs.CodeLaws.{one_list, Begins}
 use Rattle.ws_telnet.specs.Token.{token_rules}
 use Rattle.ws_telnet.specs.TokenLaws.{token_prefix_free, token_begins}
 use Rattle.ws_telnet.specs.declared.token.Token.{Token}
-use Rattle.ws_telnet.specs.declared.token.Token.TheVariants.{Data, Eor, Telnet as TelnetToken}
+use Rattle.ws_telnet.specs.declared.token.Token.TheVariants.{Eor}
 use Rattle.ws_record.specs.declared.opcode.Opcode.{Opcode}
 use Rattle.ws_record.specs.declared.opcode.Opcode.TheVariants.{NoOperation, Invite, OutputOnly, PutGet, SaveScreen, RestoreScreen, ReadImmediate, ReadScreen, CancelInvite, MessageLightOn, MessageLightOff}
 use Rattle.ws_record.specs.declared.record.Record.{Record}
 use Rattle.ws_record.specs.declared.record.Item.{Item}
-use Rattle.ws_record.specs.declared.record.Item.TheVariants.{Record as RecordItem, Telnet as TelnetItem}
-use Rattle.ws_record.specs.Grammar.{opcode_byte, header, record_bytes, IsRecord, HasNoEor, joined, IsStretch, Holds, Spells, commands, command_of, carried}
+use Rattle.ws_record.specs.declared.record.Item.TheVariants.{Record as RecordItem}
+use Rattle.ws_record.specs.Grammar.{opcode_byte, record_bytes, IsRecord, HasNoEor, joined, IsStretch, Spells, commands, carried}
 
 -- what stands before the first Eor is determined
 pub one_part : (p q x y : List Token) → HasNoEor p → HasNoEor q → p ++ Eor ∷ x ≡ q ++ Eor ∷ y → (p ≡ q) × (x ≡ y)

@@ -1,4 +1,4 @@
-use Rattle.std.proofs.Common.{true, false, Bool, ◌≡◌, ◌≢◌, ℕ, ◌+◌, ◌<◌, ◌≤◌, List, [], ◌∷◌, ◌++◌, Option, Some, None, length, drop, take, get_or, refl, sym, ap, ◌∙◌, subst, arith, append_assoc, length-append}
+use Rattle.std.proofs.Common.{◌≡◌, ℕ, List, [], ◌∷◌, ◌++◌, Option, Some, None, sym, ap, ◌∙◌, subst, append_assoc}
 use Rattle.std.specs.Prelude.{IfSome}
 use Rattle.std.proofs.lemmas.List.{append-nil}
 use Rattle.ws_code.specs.Code.{Rules}
@@ -7,11 +7,10 @@ use Rattle.ws_record.specs.declared.record.Head.{Head}
 use Rattle.ws_record.specs.declared.record.Record.{Record}
 use Rattle.ws_record.specs.declared.record.Item.{Item}
 use Rattle.ws_record.specs.declared.record.Item.TheVariants.{Record as RecordItem}
-use Rattle.ws_record.specs.Grammar.{Holds, Accepts}
 use Rattle.ws_record.specs.Refusal.{IsRefused}
-use Rattle.ws_record.specs.OpenRecord.{RecordSoFar, no_record}
+use Rattle.ws_record.specs.OpenRecord.{no_record}
 use Rattle.ws_record.specs.DataStep.{record_of}
-use Rattle.ws_record.specs.Live.{Watching, Leads, LeadsWith}
+use Rattle.ws_record.specs.Live.{Leads, LeadsWith}
 use Rattle.ws_record.specs.Receiver.{Receiving, Taken}
 
 -- a refusal stands whatever follows

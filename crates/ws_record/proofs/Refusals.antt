@@ -1,29 +1,25 @@
-use Rattle.std.proofs.Common.{true, ◌≡◌, ◌≢◌, ℕ, ◌+◌, ◌-◌, ◌^◌, ◌<◌, ◌≤◌, List, [], ◌∷◌, ◌++◌, ◌⊎◌, inl, inr, map, length, drop, take, refl, sym, ap, ◌∙◌, subst, arith, append_assoc, length-append}
-use Rattle.std.specs.List.{flat_map, AllByRecursion}
-use Rattle.std.proofs.Common.{zero, suc, Bool}
+use Rattle.std.proofs.Common.{◌≡◌, ℕ, ◌+◌, ◌-◌, ◌≤◌, List, [], ◌∷◌, ◌++◌, inl, inr, length, drop, refl, sym, ap, ◌∙◌, subst, arith, append_assoc, length-append}
+use Rattle.std.specs.List.{AllByRecursion}
 use Rattle.std.proofs.Math.ListN.{replicate, drop_of_length-le}
 use Rattle.std.proofs.lemmas.Bool.{cases_lt}
 use Rattle.std.proofs.lemmas.List.{length-replicate}
-use Rattle.std.proofs.lemmas.List.{append_cancel_left, append-nil, map-append, drop-append-le}
-use Rattle.std.proofs.lemmas.Grind.{flat_map-append}
-use Rattle.ws_code.specs.Code.{Rules, Stands, IsPrefixFree, IsPrefix, IsUnfinished, IsChain, IsWhole, IsCut, IsSpelled, AreBytes, spelling_of, place_after}
+use Rattle.std.proofs.lemmas.List.{append-nil, drop-append-le}
+use Rattle.ws_code.specs.Code.{Rules, IsPrefix, IsChain, IsCut, IsSpelled, AreBytes, spelling_of}
 use Rattle.ws_code.specs.declared.reason.Reason.{Reason}
-use Rattle.ws_code.specs.declared.reason.Reason.TheVariants.{EndedInside, TooShort}
-use Rattle.ws_code.proofs.CodeLaws.{AreBytes-append, Begins, CanEnd, cut_begins, cut_bad, cut_ends, chain_append, cut_unit, cut_more, no_end, one_cut}
-use Rattle.ws_telnet.specs.Token.{token_rules, token_spelling, doubled, IsToken}
-use Rattle.ws_telnet.specs.TokenLaws.{token_prefix_free, token_begins}
-use Rattle.ws_telnet.specs.declared.token.Telnet.{Telnet}
+use Rattle.ws_code.proofs.CodeLaws.{AreBytes-append, CanEnd, cut_ends, one_cut}
+use Rattle.ws_telnet.specs.Token.{token_rules}
+use Rattle.ws_telnet.specs.TokenLaws.{token_prefix_free}
 use Rattle.ws_telnet.specs.declared.token.Token.{Token}
-use Rattle.ws_telnet.specs.declared.token.Token.TheVariants.{Data, Eor, Telnet as TelnetToken}
+use Rattle.ws_telnet.specs.declared.token.Token.TheVariants.{Data, Eor}
 use Rattle.ws_record.specs.declared.record.Record.{Record}
 use Rattle.ws_record.specs.declared.record.Item.{Item}
-use Rattle.ws_record.specs.Grammar.{IsFramed, IsBodyBytes, IsRecord, IsStretch, Holds, Accepts, HasNoEor, joined, carried, header, record_bytes, IsStream}
-use Rattle.ws_record.specs.Refusal.{Layer, IsRight, IsOpen, IsRefused, IsTruncated, IsReason, IsFirstClosed, EndsWith, IsBodyReason, header_reason}
+use Rattle.ws_record.specs.Grammar.{IsFramed, IsBodyBytes, IsRecord, IsStretch, Holds, HasNoEor, joined, carried, header, record_bytes}
+use Rattle.ws_record.specs.Refusal.{Layer, IsRight, IsOpen, IsRefused, IsTruncated, EndsWith}
 use Rattle.ws_record.specs.Refusal.Layer.{Tokens, Header, Body}
 use Rattle.ws_record.specs.OpenRecord.{CanBeFramed, IsDataRefused, IsEndRefused}
 use Rattle.ws_record.proofs.Headers.{zeros_are}
 use Rattle.ws_record.proofs.Reading.{one_join, parts_no_eor}
-use Rattle.ws_record.proofs.Streams.{open_stream, bad_token, bad_data, bad_eor, HasNoEor-append, AllByRecursion-append, carried-append, joined_more, joined_eor}
+use Rattle.ws_record.proofs.Streams.{open_stream, bad_token, bad_data, bad_eor, AllByRecursion-append, joined_eor}
 use Rattle.ws_record.proofs.Steps.{parts_of, token_more, holds_data}
 
 AreBytes-back : (xs ys : List ℕ) → AreBytes (xs ++ ys) → AreBytes ys

@@ -1,21 +1,19 @@
-use Rattle.std.proofs.Common.{true, ◌≡◌, ◌≢◌, ℕ, ◌+◌, ◌-◌, ◌^◌, ◌<◌, ◌≤◌, List, [], ◌∷◌, ◌++◌, ◌⊎◌, inl, inr, map, length, drop, take, refl, sym, ap, ◌∙◌, subst, arith, append_assoc, length-append}
-use Rattle.std.specs.List.{flat_map, AllByRecursion}
-use Rattle.std.proofs.lemmas.List.{append_cancel_left, append-nil, map-append, drop-append-le}
+use Rattle.std.proofs.Common.{◌≡◌, ℕ, List, [], ◌∷◌, ◌++◌, map, refl, sym, ap, ◌∙◌, subst, append_assoc}
+use Rattle.std.specs.List.{flat_map}
+use Rattle.std.proofs.lemmas.List.{append-nil, map-append}
 use Rattle.std.proofs.lemmas.Grind.{flat_map-append}
-use Rattle.ws_code.specs.Code.{Rules, Stands, IsPrefixFree, IsPrefix, IsUnfinished, IsChain, IsWhole, IsCut, IsSpelled, AreBytes, spelling_of, place_after}
-use Rattle.ws_code.specs.declared.reason.Reason.{Reason}
-use Rattle.ws_code.specs.declared.reason.Reason.TheVariants.{EndedInside, TooShort}
-use Rattle.ws_code.proofs.CodeLaws.{Begins, CanEnd, cut_begins, cut_bad, cut_ends, chain_append, cut_unit, cut_more, no_end}
-use Rattle.ws_telnet.specs.Token.{token_rules, token_spelling, doubled, IsToken}
-use Rattle.ws_telnet.specs.TokenLaws.{token_prefix_free, token_begins}
+use Rattle.ws_code.specs.Code.{Rules, IsUnfinished, IsCut, IsSpelled}
+use Rattle.ws_code.proofs.CodeLaws.{cut_unit, cut_more}
+use Rattle.ws_telnet.specs.Token.{token_rules}
+use Rattle.ws_telnet.specs.TokenLaws.{token_begins}
 use Rattle.ws_telnet.specs.declared.token.Telnet.{Telnet}
 use Rattle.ws_telnet.specs.declared.token.Token.{Token}
 use Rattle.ws_telnet.specs.declared.token.Token.TheVariants.{Data, Eor, Telnet as TelnetToken}
 use Rattle.ws_record.specs.declared.record.Record.{Record}
 use Rattle.ws_record.specs.declared.record.Item.{Item}
 use Rattle.ws_record.specs.declared.record.Item.TheVariants.{Record as RecordItem, Telnet as TelnetItem}
-use Rattle.ws_record.specs.Grammar.{IsRecord, IsStretch, Holds, joined, carried, commands, command_of, record_bytes, HasNoEor}
-use Rattle.ws_record.proofs.Streams.{open_stream, bad_token, bad_data, bad_eor, HasNoEor-append, AllByRecursion-append, carried-append, joined_more, joined_eor}
+use Rattle.ws_record.specs.Grammar.{IsRecord, IsStretch, Holds, joined, carried, commands, command_of, record_bytes}
+use Rattle.ws_record.proofs.Streams.{HasNoEor-append, AllByRecursion-append, carried-append, joined_more, joined_eor}
 
 module _ {Place U : Type 0} (rules : Rules Place U) where
   -- the parts of the stretches

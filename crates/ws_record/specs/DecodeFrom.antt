@@ -2,7 +2,7 @@ use Rattle.std.specs.Prelude.{◌≡◌, ℕ, List, length}
 use Rattle.ws_code.specs.Code.{Rules}
 use Rattle.ws_code.specs.Device.{MayGive, Gave, GaveAll, ReadFault}
 use Rattle.ws_code.specs.declared.fault.Fault.{Fault}
-use Rattle.ws_code.specs.declared.fault.Fault.TheVariants.{Refused, Truncated, Memory, Read, Write, Failed}
+use Rattle.ws_code.specs.declared.fault.Fault.TheVariants.{Refused, Truncated, Memory, Read}
 use Rattle.ws_record.specs.Refusal.{IsRefused, IsTruncated}
 
 -- What a decoder of a source answers where it gives no items: the bytes that the source gave are refused, or

@@ -1,6 +1,6 @@
-use Rattle.std.specs.Prelude.{◌≡◌, ◌≢◌, ◌<◌, ◌==◌, ◌||◌, not, ℕ, List, [], ◌∷◌, ◌++◌, Bool, true, false, refl}
+use Rattle.std.specs.Prelude.{◌≢◌, ◌<◌, ◌==◌, ◌||◌, not, ℕ, [], ◌∷◌, Bool, true, false, refl}
 use Rattle.std.proofs.Common.{arith}
-use Rattle.ws_code.specs.Code.{Rules, Stands, IsPrefixFree, IsUnfinished}
+use Rattle.ws_code.specs.Code.{Rules, IsPrefixFree, IsUnfinished}
 use Rattle.ws_code.specs.declared.reason.Reason.TheVariants.{NoEscape}
 
 -- every byte is a unit, at the first place 04 alone, and every list may end

@@ -1,11 +1,10 @@
-use Rattle.std.specs.Prelude.{◌≡◌, ◌≢◌, Bool, true, false, ℕ, ◌+◌, ◌*◌, ◌<◌, ◌≤◌, ◌^◌, List, [], ◌∷◌, ◌++◌, ◌⊎◌, Option, Some, None, IfSome, length, drop, take, slice_index}
-use Rattle.ws_code.specs.Code.{Rules, IsCut, IsUnfinished, AreBytes, place_after}
+use Rattle.std.specs.Prelude.{◌≡◌, ℕ, ◌+◌, ◌<◌, ◌^◌, List, [], ◌∷◌, ◌++◌, ◌⊎◌, Option, Some, None, IfSome, length, drop, take}
+use Rattle.ws_code.specs.Code.{Rules, IsCut, AreBytes, place_after}
 use Rattle.ws_code.specs.declared.reason.Reason.{Reason}
 use Rattle.ws_code.specs.declared.reason.Reason.TheVariants.{EndedInside, TooShort}
 use Rattle.ws_telnet.specs.declared.token.Token.TheVariants.{Data}
-use Rattle.ws_record.specs.declared.opcode.Opcode.{Opcode}
 use Rattle.ws_record.specs.declared.record.Head.{Head}
-use Rattle.ws_record.specs.Grammar.{IsFramed, IsBodyBytes, header, opcode_byte}
+use Rattle.ws_record.specs.Grammar.{IsFramed, IsBodyBytes, header}
 use Rattle.ws_record.specs.Refusal.{header_reason, IsBodyReason}
 
 -- An open record: its bytes, what its header says once that is whole, and the units of its body.

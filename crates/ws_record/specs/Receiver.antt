@@ -1,7 +1,7 @@
 use Rattle.std.specs.Prelude.{◌≡◌, ℕ, ◌+◌, ◌≤◌, List, [], ◌∷◌, ◌++◌, Option, Some, None, IfSome, length, take}
 use Rattle.ws_code.specs.Code.{Rules}
 use Rattle.ws_code.specs.declared.fault.Fault.{Fault}
-use Rattle.ws_code.specs.declared.fault.Fault.TheVariants.{Refused, Truncated, Memory, Read, Write, Failed}
+use Rattle.ws_code.specs.declared.fault.Fault.TheVariants.{Refused, Truncated, Memory}
 use Rattle.ws_record.specs.declared.record.Head.{Head}
 use Rattle.ws_record.specs.declared.record.Item.{Item}
 use Rattle.ws_record.specs.Grammar.{Holds}

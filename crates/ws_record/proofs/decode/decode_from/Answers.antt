@@ -1,9 +1,9 @@
-use Rattle.std.proofs.Common.{◌≡◌, ◌≢◌, ◌++◌, [], ℕ, ◌+◌, ◌*◌, ◌<◌, ◌≤◌, List, Option, Some, length, take, refl, sym, ap, ◌∙◌, subst, arith, length-append, inl, inr}
+use Rattle.std.proofs.Common.{◌≡◌, ◌++◌, ℕ, ◌+◌, Some, length, take, subst, arith, length-append, inr}
 use Rattle.std.proofs.lemmas.List.{length-take-le}
 use Rattle.std.proofs.lemmas.Result.{err_from_is_err_and}
 use Rattle.ws_code.specs.Device.{Gave}
 use Rattle.ws_code.proofs.DeviceLaws.{gave_more, gave_all, take_some}
-use Rattle.ws_record.proofs.Decodes.{Reading, feed_source, end_source}
+use Rattle.ws_record.proofs.Decodes.{feed_source, end_source}
 use Rattle.ws_record.proofs.decode.decode_from.Goals as goal
 
 pub returns-in_err-finish-in-Ok-eq0-clause-fault : goal.returns-in_err-finish-in-Ok-eq0-clause-fault

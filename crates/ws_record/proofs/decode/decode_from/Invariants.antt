@@ -1,4 +1,3 @@
-use Rattle.std.proofs.Common.{◌≡◌, ◌≤◌, ◌*◌, List, ℕ, length}
 use Rattle.ws_record.proofs.Decodes.{Reading}
 use Rattle.ws_record.proofs.decode.decode_from.Given as goal
 

@@ -1,4 +1,4 @@
-use Rattle.std.proofs.Common.{refl, arith}
+use Rattle.std.proofs.Common.{refl}
 use Rattle.ws_record.proofs.Headers.{no_kind_high, no_kind_low, no_reserved_high, no_reserved_low, no_variable_length}
 use Rattle.ws_record.proofs.open_record.header_refusal.Goals.{then-length-eq4-via-then-length-eq4, then-length-eq4-via-else-length-eq4+then-length-eq5}
 use Rattle.ws_record.proofs.open_record.header_refusal.Goals as goal

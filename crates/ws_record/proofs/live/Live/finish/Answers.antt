@@ -1,7 +1,5 @@
-use Rattle.std.proofs.Common.{◌≡◌, ◌∷◌, ◌++◌, ℕ, ◌+◌, ◌<◌, [], List, length, Bool, true, false, refl, sym, ap, ◌∙◌, subst, arith}
+use Rattle.std.proofs.Common.{sym, ap, ◌∙◌, subst}
 use Rattle.ws_record.specs.Live.{Watching, Leads}
-use Rattle.ws_record.specs.OpenRecord.{no_record, RecordSoFar}
-use Rattle.ws_code.specs.declared.fault.Fault.{Fault}
 use Rattle.ws_code.specs.declared.fault.Fault.TheVariants.{Truncated}
 use Rattle.ws_record.proofs.Lives.{cut_short}
 use Rattle.ws_record.proofs.live.Live.finish.Goals.{then-self-via-then-self, then-self-via-else-self+then-not-is_empty}

@@ -1,4 +1,4 @@
-use Rattle.std.proofs.Common.{◌≡◌, ◌∷◌, ◌++◌, ℕ, ◌+◌, ◌<◌, [], List, length, Bool, true, false, refl, sym, ap, ◌∙◌, subst, arith}
+use Rattle.std.proofs.Common.{refl}
 use Rattle.ws_record.proofs.Lives.{ready_between, leads_nothing}
 use Rattle.ws_record.proofs.live.Live.new.Goals as goal
 

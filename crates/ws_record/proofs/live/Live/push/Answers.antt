@@ -1,6 +1,5 @@
-use Rattle.std.proofs.Common.{◌≡◌, ◌∷◌, ◌++◌, ℕ, ◌+◌, ◌<◌, [], List, length, Bool, true, false, refl, sym, ap, ◌∙◌, subst, arith}
+use Rattle.std.proofs.Common.{refl, sym, ◌∙◌, subst}
 use Rattle.ws_record.specs.Live.{Watching, Leads}
-use Rattle.ws_record.specs.TokenStep.{Completes}
 use Rattle.ws_record.proofs.Lives.{ready_between, token_more, token_refused, completes}
 use Rattle.ws_record.proofs.live.Live.push.Goals as goal
 

@@ -1,9 +1,8 @@
-use Rattle.std.proofs.Common.{◌≡◌, ◌∷◌, ◌++◌, ℕ, ◌+◌, ◌<◌, [], List, length, Bool, true, false, refl, sym, ap, ◌∙◌, subst, arith}
-use Rattle.ws_record.specs.Live.{Watching, Leads}
+use Rattle.std.proofs.Common.{◌∷◌, ◌++◌, [], refl, sym, subst}
+use Rattle.ws_record.specs.Live.{Watching}
 use Rattle.ws_record.specs.TokenStep.{Completes}
-use Rattle.ws_record.specs.OpenRecord.{IsDataRefused, Keeping, Reads}
 use Rattle.ws_telnet.specs.declared.token.Token.{Token}
-use Rattle.ws_telnet.specs.declared.token.Token.TheVariants.{Data, Eor, Telnet as TelnetToken}
+use Rattle.ws_telnet.specs.declared.token.Token.TheVariants.{Data, Eor}
 use Rattle.ws_record.proofs.Lives.{command_step, data_step, data_refused, end_step, end_refused}
 use Rattle.ws_record.proofs.live.Live.take.Goals as goal
 

@@ -1,7 +1,6 @@
-use Rattle.std.proofs.Common.{Bool, ◌≡◌, ◌∷◌, ◌++◌, ℕ, ◌+◌, ◌<◌, ◌≤◌, [], length, true, false, refl, sym, ap, ◌∙◌, subst, arith}
+use Rattle.std.proofs.Common.{Bool, ◌≡◌, length, true, false, sym, ◌∙◌, subst, arith}
 use Rattle.ws_record.specs.OpenRecord.{Keeping, Reads}
 use Rattle.ws_record.proofs.OpenRecords.{end_inside}
-use Rattle.std.proofs.lemmas.Bool.{eqb-false}
 use Rattle.std.proofs.Common.{eqb-true}
 use Rattle.ws_record.proofs.open_record.OpenRecord.end.Goals.{then-self-via-then-self, then-self-via-else-self+then-not-may_end}
 use Rattle.ws_record.proofs.open_record.OpenRecord.end.Goals as goal

@@ -1,4 +1,4 @@
-use Rattle.std.proofs.Common.{◌≡◌, ◌∷◌, ◌++◌, ℕ, ◌+◌, ◌<◌, ◌≤◌, [], length, true, false, refl, sym, ap, ◌∙◌, subst, arith}
+use Rattle.std.proofs.Common.{sym, ◌∙◌, subst}
 use Rattle.ws_record.specs.OpenRecord.{Keeping, Reads}
 use Rattle.ws_record.proofs.OpenRecords.{reads_empty, reads_filled}
 use Rattle.ws_record.proofs.Empty.{is_empty_means, is_filled_means}

@@ -1,4 +1,3 @@
-use Rattle.std.proofs.Common.{◌≡◌, ◌∷◌, ◌++◌, ℕ, ◌+◌, ◌<◌, ◌≤◌, [], length, true, false, refl, sym, ap, ◌∙◌, subst, arith}
 use Rattle.ws_record.proofs.OpenRecords.{reads_nothing}
 use Rattle.ws_record.proofs.open_record.OpenRecord.new.Goals as goal
 

@@ -1,4 +1,4 @@
-use Rattle.std.proofs.Common.{◌≡◌, ◌∷◌, ◌++◌, ℕ, ◌+◌, ◌<◌, ◌≤◌, [], length, true, false, refl, sym, ap, ◌∙◌, subst, arith}
+use Rattle.std.proofs.Common.{◌≡◌, ◌∷◌, ◌++◌, [], length, refl, sym, ap, ◌∙◌, subst, arith}
 use Rattle.ws_record.specs.OpenRecord.{Keeping, Reads}
 use Rattle.ws_record.proofs.OpenRecords.{body_refused, body_more, body_unit, body_bad}
 use Rattle.ws_code.specs.Code.{IsUnfinished, IsSpelled, IsPrefix}

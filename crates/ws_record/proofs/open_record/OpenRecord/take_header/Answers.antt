@@ -1,4 +1,4 @@
-use Rattle.std.proofs.Common.{◌≡◌, ◌∷◌, ◌++◌, ℕ, ◌+◌, ◌<◌, ◌≤◌, [], length, true, false, refl, sym, ap, ◌∙◌, subst, arith}
+use Rattle.std.proofs.Common.{◌∷◌, ◌++◌, ◌<◌, [], length, refl, sym, ap, subst, arith}
 use Rattle.ws_record.specs.OpenRecord.{Keeping, Reads}
 use Rattle.ws_record.proofs.OpenRecords.{header_byte}
 use Rattle.ws_record.specs.HeaderSoFar.{HeaderSoFar}

@@ -1,4 +1,4 @@
-use Rattle.std.proofs.Common.{◌≡◌, ◌∷◌, ◌++◌, ℕ, List, get_or, ◌*◌, ◌+◌, ◌<◌, ◌≤◌, [], length, true, false, refl, sym, ap, ◌∙◌, subst, arith}
+use Rattle.std.proofs.Common.{◌≡◌, ℕ, List, get_or, ◌*◌, ◌+◌, length, refl, sym, ap, ◌∙◌, subst, arith}
 use Rattle.ws_record.specs.OpenRecord.{Keeping, Reads}
 use Rattle.ws_record.proofs.OpenRecords.{opcode_refused, opcode_byte_read}
 use Rattle.ws_record.proofs.Headers.{header_more}

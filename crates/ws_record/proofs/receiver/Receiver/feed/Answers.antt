@@ -1,6 +1,5 @@
-use Rattle.std.proofs.Common.{◌≡◌, ◌++◌, ◌∷◌, [], ℕ, ◌+◌, ◌<◌, ◌≤◌, List, Option, length, take, get_or, Bool, true, false, refl, sym, ap, ◌∙◌, subst, arith, length-take, length-append, append_assoc}
+use Rattle.std.proofs.Common.{◌≡◌, ◌++◌, ◌∷◌, [], Option, take, get_or, Bool, true, false, sym, subst, arith, length-take, length-append}
 use Rattle.std.proofs.lemmas.Result.{err_from_is_err_and}
-use Rattle.std.proofs.lemmas.List.{take_all, take_more, append-nil}
 use Rattle.ws_record.specs.declared.record.Item.{Item}
 use Rattle.ws_record.specs.Receiver.{Taken, Receiving, given}
 use Rattle.ws_record.proofs.Decodes.{take_feeds, none_before, taken_so_far}

@@ -1,4 +1,4 @@
-use Rattle.std.proofs.Common.{◌≡◌, ◌++◌, ℕ, ◌+◌, ◌<◌, ◌≤◌, ◌^◌, List, length, take}
+use Rattle.std.proofs.Common.{◌++◌, ℕ, ◌+◌, ◌<◌, ◌≤◌, ◌^◌, List, length, take}
 use Rattle.ws_record.specs.declared.record.Item.{Item}
 use Rattle.ws_record.specs.Grammar.{Holds}
 use Rattle.ws_record.specs.Receiver.{Taken}

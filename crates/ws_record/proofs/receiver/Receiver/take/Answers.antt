@@ -1,6 +1,5 @@
-use Rattle.std.proofs.Common.{◌≡◌, ◌∷◌, ◌++◌, ℕ, ◌+◌, ◌<◌, [], List, length, Bool, true, false, refl, sym, ap, ◌∙◌, subst, arith}
+use Rattle.std.proofs.Common.{◌≡◌, ◌∷◌, ◌++◌, [], List, Bool, refl, sym, ap, ◌∙◌, subst}
 use Rattle.std.specs.Prelude.{if◌then◌else◌, not}
-use Rattle.ws_record.specs.declared.record.Item.{Item}
 use Rattle.ws_record.specs.Live.{LeadsWith}
 use Rattle.ws_record.specs.Receiver.{Receiving, Taken}
 use Rattle.ws_record.proofs.Receivers.{taken_more, taken_command, taken_record}
