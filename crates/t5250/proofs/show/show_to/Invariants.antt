@@ -1,4 +1,4 @@
-use Rattle.std.proofs.Common.{ℕ, ◌≤◌, length}
+use Rattle.std.proofs.Common.{◌≤◌, length}
 use Rattle.t5250.proofs.show.show_to.Given as goal
 
 -- the rest is no longer than the bytes
