@@ -1,1 +1,5 @@
+pub mod Applies
 pub mod CheckLemmas
+pub mod Rows
+pub mod Shows
+pub mod Texts

@@ -1,4 +1,4 @@
-use crate::item_text::{record_text, telnet_text};
+use crate::item_text::item_text;
 use std::alloc::{AllocError, Global};
 use std::test::Fail;
 use ws_code::{Fault, SliceSource};
@@ -164,7 +164,7 @@ pub fn told(
         Ok(items) if items.len() == places.len() => {
             let mut text = String::new(alloc);
             for (item, place) in items.iter().zip(places) {
-                text.push_str(item_told(alloc, *place, item)?.as_str())?;
+                text.push_str(item_text(alloc, *place, item)?.as_str())?;
             }
             Ok(text)
         }
@@ -187,13 +187,6 @@ fn fault_told(alloc: Global, fault: Fault) -> Result<String, AllocError> {
     }
 }
 
-fn item_told(alloc: Global, place: u64, item: &Item<Element>) -> Result<String, AllocError> {
-    match item {
-        Item::Record(record) => record_text(alloc, place, record),
-        Item::Telnet(telnet) => telnet_text(alloc, place, telnet),
-    }
-}
-
 // Feeds a piece up to its end, behind so many bytes, and adds what it gives to the text.
 fn hear(
     alloc: Global,
@@ -212,7 +205,7 @@ fn hear(
                 match &item {
                     Some(item) => {
                         let place = taken.saturating_sub(1);
-                        text.push_str(item_told(alloc, place, item)?.as_str())?;
+                        text.push_str(item_text(alloc, place, item)?.as_str())?;
                     }
                     None => return Ok(()),
                 }

@@ -5,6 +5,7 @@
 //! order: the command line, reading, hex text, and then those met in running.
 #![tactic(auto)]
 
+mod apply;
 mod check;
 mod command_line;
 #[cfg(test)]
@@ -22,6 +23,7 @@ mod show;
 mod show_rows;
 #[cfg(test)]
 mod tests;
+mod text;
 mod verdict;
 
 use crate::check::check_to;

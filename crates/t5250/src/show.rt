@@ -1,94 +1,149 @@
-use crate::item_text::{record_text, telnet_text};
+ghost use Rattle.std.specs.Prelude.{◌≡◌, List, [], ℕ, true, length, None, IfOk, IfErr, IfSome, OnOk};
+ghost use Rattle.ws_screen.specs.Events.{History};
+ghost use Rattle.ws_screen.specs.Given.{Gives};
+ghost use Rattle.ws_code.specs.Device.{WentOut};
+ghost use Rattle.t5250.specs.CheckLine.{line_of, is_accepted};
+ghost use Rattle.t5250.specs.ItemLines as Lines;
+ghost use Rattle.t5250.specs.ScreenLines.{IsScreenText};
+ghost use Rattle.t5250.specs.StreamText.{IsShown, IsPart, IsTextFault, IsShowFault, IsWholeItem, GoesOn, lines_of, placed_by, fault_of, after_items};
+
+use crate::apply::apply_item;
+use crate::item_text::item_text;
 use crate::screen_text::screen_text;
 use crate::verdict::{Verdict, verdict_by_fault};
-use std::alloc::{AllocError, Global};
-use ws_code::{Body, Code, Fault, Reason, Sink, write_whole};
-use ws_record::{Fed, Item, Opcode, Receiver, Record};
+use std::alloc::Global;
+use ws_code::{Fault, Reason, Sink, write_whole};
+use ws_record::{Fed, Item, Receiver};
 use ws_screen::Screen;
 use ws_stream::{Commands, Element};
 
 /// Writes the items of a stream, and the screen that they make: true where the stream is accepted.
 ///
 /// A record is written and then applied. Where the stream is refused or ends too early, or a record can't
-/// be applied, the line of a check is the last. `Memory` where a growth was refused, `Write` where the
-/// sink failed; then the lines before went out.
-pub fn show_to<S: Sink>(alloc: Global, bytes: &[u8], sink: &mut S) -> Result<bool, Fault> {
-    let mut receiver = Receiver::<Commands>::new(alloc);
+/// be applied, the line of a check is the last. `Memory` where a growth was refused, and then the lines
+/// before went out; `Write` where the sink failed, and then a proper prefix of the lines.
+pub fn show_to<S: Sink>(alloc: Global, bytes: &[u8], sink: &mut S) -> Result<bool, Fault>
+    ensures printed { IfOk result (λ accepted. (text : List ℕ) × IsShown bytes.now accepted text
+        × WentOut S.takes S.failures sink.old sink.new text) }
+    ensures fault { IfErr result
+        (λ fault. IsShowFault S.takes S.failures sink.old sink.new bytes.now fault) }
+{
     let mut screen = Screen::new();
-    let mut taken = 0u64;
+    match show_items(alloc, bytes, &mut screen, sink)? {
+        None => write_screen(alloc, &screen, sink),
+        Some(verdict) => write_verdict(alloc, verdict, bytes.len(), sink),
+    }
+}
+
+// Writes the items, and carries them out on a new screen. Gives the verdict where the stream isn't accepted,
+// or the screen refuses an item.
+fn show_items<S: Sink>(
+    alloc: Global,
+    bytes: &[u8],
+    screen: &mut Screen,
+    sink: &mut S,
+) -> Result<Option<Verdict>, Fault>
+    requires given { Gives [] screen.old }
+    ensures ok { IfOk result (λ end. (lines : List ℕ) × IsPart bytes.now lines
+        × WentOut S.takes S.failures sink.old sink.new lines
+        × GoesOn bytes.now screen.new lines end) }
+    ensures err { IfErr result
+        (λ fault. IsShowFault S.takes S.failures sink.old sink.new bytes.now fault) }
+{
+    let mut receiver = Receiver::<Commands>::new(alloc);
     let mut rest = bytes;
     while !rest.is_empty() {
         let Fed { used, item } = match receiver.feed(rest) {
             Ok(fed) => fed,
-            Err(fault) => return write_verdict(alloc, verdict_by_fault(fault)?, bytes, sink),
+            Err(fault) => return Ok(Some(verdict_by_fault(fault)?)),
         };
-        taken = taken.saturating_add(used as u64);
-        rest = &rest[used..];
-        if let Some(item) = item {
-            let place = taken.saturating_sub(1);
-            if let Err(reason) = show_item(alloc, place, &item, &mut screen, sink)? {
-                return write_verdict(alloc, Verdict::Refused { place, reason }, bytes, sink);
-            }
+        rest = rest.split_at(used).1;
+        let place = bytes.len().saturating_sub(rest.len()).saturating_sub(1) as u64;
+        if let Some(reason) = show_item(alloc, place, &item, screen, sink)? {
+            return Ok(Some(Verdict::Refused { place, reason }));
         }
     }
-    if let Err(fault) = receiver.finish() {
-        return write_verdict(alloc, verdict_by_fault(fault)?, bytes, sink);
+    match receiver.finish() {
+        Ok(()) => Ok(None),
+        Err(fault) => Ok(Some(verdict_by_fault(fault)?)),
     }
-    write_text(sink, screen_text(alloc, &screen))?;
-    Ok(true)
 }
 
-// Writes an item, and applies it where it is a record.
+// Writes an item and carries it out, if there is one. Gives the reason for which the screen refuses it.
 fn show_item<S: Sink>(
     alloc: Global,
     place: u64,
-    item: &Item<Element>,
+    item: &Option<Item<Element>>,
     screen: &mut Screen,
     sink: &mut S,
-) -> Result<Result<(), Reason>, Fault> {
-    match item {
-        Item::Telnet(telnet) => {
-            write_text(sink, telnet_text(alloc, place, telnet))?;
-            Ok(Ok(()))
-        }
-        Item::Record(record) => {
-            write_text(sink, record_text(alloc, place, record))?;
-            Ok(apply_record(screen, record))
-        }
-    }
+) -> Result<Option<Reason>, Fault>
+    requires whole { IfSome item.now IsWholeItem }
+    requires closed { screen.old.writing ≡ None }
+    ensures written { IfOk result (λ _. WentOut S.takes S.failures sink.old sink.new
+        (lines_of (placed_by place item.now))) }
+    ensures refused { IfOk result (λ found. (h : History) → Gives h screen.old
+        → found ≡ fault_of h (placed_by place item.now)) }
+    ensures after { IfOk result (λ found. found ≡ None → (h : History) → Gives h screen.old
+        → Gives (after_items h (placed_by place item.now)) screen.new) }
+    ensures closed { IfOk result (λ found. found ≡ None → screen.new.writing ≡ None) }
+    ensures err { IfErr result (IsTextFault S.takes S.failures sink.old sink.new
+        (λ text. text ≡ lines_of (placed_by place item.now))) }
+{
+    let Some(item) = item else {
+        return Ok(None);
+    };
+    write_item(alloc, place, item, sink)?;
+    Ok(apply_item(screen, item).err())
 }
 
-// Carries out a record's elements, ends its write, and lets its opcode act.
-fn apply_record(screen: &mut Screen, record: &Record<Element>) -> Result<(), Reason> {
-    for element in record.body.as_slice() {
-        // A body opens a write before its first order.
-        if screen.writing() || Commands::may_follow(Commands::first(), element) {
-            screen.apply(element)?;
-        }
-    }
-    screen.end_write();
-    match record.opcode {
-        Opcode::CancelInvite => screen.cancel_read(),
-        Opcode::MessageLightOn => screen.set_message(true),
-        Opcode::MessageLightOff => screen.set_message(false),
-        _ => {}
-    }
-    Ok(())
+// Writes an item's lines.
+fn write_item<S: Sink>(
+    alloc: Global,
+    place: u64,
+    item: &Item<Element>,
+    sink: &mut S,
+) -> Result<(), Fault>
+    ensures ok { OnOk result (WentOut S.takes S.failures sink.old sink.new
+        (Lines.item_text place item.now)) }
+    ensures err { IfErr result (IsTextFault S.takes S.failures sink.old sink.new
+        (λ text. text ≡ Lines.item_text place item.now)) }
+{
+    let Ok(text) = item_text(alloc, place, item) else {
+        return Err(Fault::Memory);
+    };
+    write_whole(sink, text.as_str().as_bytes())
 }
 
+// Writes the line of a verdict of so many bytes: true where it is that they are accepted.
 fn write_verdict<S: Sink>(
     alloc: Global,
     verdict: Verdict,
-    bytes: &[u8],
+    size: usize,
     sink: &mut S,
-) -> Result<bool, Fault> {
-    write_text(sink, verdict.line(alloc, bytes.len()))?;
+) -> Result<bool, Fault>
+    ensures ok { IfOk result (λ accepted. (accepted ≡ is_accepted verdict)
+        × WentOut S.takes S.failures sink.old sink.new (line_of verdict size)) }
+    ensures err { IfErr result (IsTextFault S.takes S.failures sink.old sink.new
+        (λ text. text ≡ line_of verdict size)) }
+{
+    let Ok(line) = verdict.line(alloc, size) else {
+        return Err(Fault::Memory);
+    };
+    write_whole(sink, line.as_str().as_bytes())?;
     Ok(verdict.is_accepted())
 }
 
-fn write_text<S: Sink>(sink: &mut S, text: Result<String, AllocError>) -> Result<(), Fault> {
-    match text {
-        Ok(text) => write_whole(sink, text.as_str().as_bytes()),
-        Err(_) => Err(Fault::Memory),
-    }
+// Writes a screen's lines.
+fn write_screen<S: Sink>(alloc: Global, screen: &Screen, sink: &mut S) -> Result<bool, Fault>
+    ensures ok { IfOk result (λ accepted. (accepted ≡ true) × ((text : List ℕ)
+        × IsScreenText screen.now text
+        × WentOut S.takes S.failures sink.old sink.new text)) }
+    ensures err { IfErr result
+        (IsTextFault S.takes S.failures sink.old sink.new (IsScreenText screen.now)) }
+{
+    let Ok(text) = screen_text(alloc, screen) else {
+        return Err(Fault::Memory);
+    };
+    write_whole(sink, text.as_str().as_bytes())?;
+    Ok(true)
 }

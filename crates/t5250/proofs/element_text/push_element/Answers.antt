@@ -1,0 +1,8 @@
+use Rattle.std.proofs.Common.{◌≡◌, ◌++◌, codes, OnOk, string_bytes, ℕ, List, subst}
+use Rattle.t5250.specs.ItemLines as Shown
+use Rattle.t5250.proofs.element_text.push_element.Goals as goal
+
+pub returns-in-Ea : goal.returns-in-Ea
+returns-in-Ea c =
+    rw c.in-Ea.is (subst (λ (k : List ℕ). OnOk c.push_fill-in-Ea.result (string_bytes c.push_fill-in-Ea.new.text ≡ string_bytes c.args.text.now ++ (codes "EA " ++ Shown.fill_text c.in-Ea.to k)))
+    c.as_slice-in-Ea.ensures.value c.push_fill-in-Ea.ensures)

@@ -1,0 +1,124 @@
+use Rattle.std.specs.Prelude.{◌≡◌, ℕ, ◌+◌, ◌<◌, List, [], ◌∷◌, ◌++◌, ◌⊎◌, Bool, true, false, Option, None, Some, IfSome, length, take, map}
+use Rattle.std.specs.List.{flat_map}
+use Rattle.ws_code.specs.Code.{IsChain}
+use Rattle.ws_code.specs.Device.{MayTake, WentOut, FailedWithin}
+use Rattle.ws_code.specs.declared.fault.Fault.{Fault}
+use Rattle.ws_code.specs.declared.fault.Fault.TheVariants.{Memory, Write}
+use Rattle.ws_code.specs.declared.reason.Reason.{Reason}
+use Rattle.ws_record.specs.Grammar.{Holds, Accepts}
+use Rattle.ws_record.specs.Refusal.{IsRefused, IsTruncated}
+use Rattle.ws_record.specs.declared.record.Item.{Item}
+use Rattle.ws_record.specs.declared.record.Item.TheVariants.{Record as RecordItem, Telnet as TelnetItem}
+use Rattle.ws_stream.specs.Elements.{element_rules}
+use Rattle.ws_stream.specs.declared.element.Element.{Element}
+use Rattle.ws_screen.specs.Events.{History}
+use Rattle.ws_screen.specs.Given.{Gives}
+use Rattle.ws_screen.specs.Shown.{Shown}
+use Rattle.t5250.specs.CheckLine.{line_of, is_accepted}
+use Rattle.t5250.specs.ItemLines.{item_text}
+use Rattle.t5250.specs.ScreenLines.{IsScreenText}
+use Rattle.t5250.specs.Showing.{after_item, item_fault}
+use Rattle.t5250.specs.declared.verdict.Verdict.{Verdict}
+use Rattle.t5250.specs.declared.verdict.Verdict.TheVariants.{Refused, Truncated}
+
+-- What is shown of a stream: the lines of its items, and those of the screen or of a refusal.
+
+-- an item with the place of its last byte
+abbrev pub Placed : Type 0
+Placed = ℕ × Item Element
+
+abbrev pub items_of : List Placed → List (Item Element)
+items_of placed = map (λ x. x.1) placed
+
+abbrev pub lines_of : List Placed → List ℕ
+lines_of placed = flat_map (λ x. item_text x.0 x.1) placed
+
+-- the events so far and those of the items
+abbrev pub after_items : History → List Placed → History
+after_items h [] = h
+after_items h (x ∷ xs) = after_items (after_item h x.1) xs
+
+-- the bytes hold the items, and perhaps a part of one more
+abbrev pub HoldsItems : List ℕ → List (Item Element) → Type 0
+HoldsItems bytes items = (so_far : List ℕ) × (begun : List ℕ) × Holds element_rules bytes items so_far begun
+
+-- behind the items before, the item is complete with the byte at its place, and not before
+abbrev pub IsComplete : List ℕ → List (Item Element) → Placed → Type 0
+IsComplete bytes before x = (x.0 < length bytes) × HoldsItems (take x.0 bytes) before × HoldsItems (take (x.0 + 1) bytes) (before ++ x.1 ∷ [])
+
+-- each of the items is, one after another, and the screen refuses none
+abbrev pub AreShown : List ℕ → List (Item Element) → History → List Placed → Type 0
+AreShown bytes before h [] = Unit {0}
+AreShown bytes before h (x ∷ xs) = IsComplete bytes before x × (item_fault h x.1 ≡ None) × AreShown bytes (before ++ x.1 ∷ []) (after_item h x.1) xs
+
+-- The ends. The bytes are accepted, and what the items make of a screen is shown.
+abbrev pub IsScreenEnd : List ℕ → List Placed → List ℕ → Type 0
+IsScreenEnd bytes placed text = Accepts element_rules bytes (items_of placed) × ((s : Shown) × Gives (after_items [] placed) s × IsScreenText s text)
+
+-- A byte is refused behind the items.
+abbrev pub IsRefusedEnd : List ℕ → List Placed → List ℕ → Type 0
+IsRefusedEnd bytes placed text = (place : ℕ) × (reason : Reason) × IsRefused element_rules bytes place reason × HoldsItems (take place bytes) (items_of placed) × (text ≡ line_of (Refused place reason) (length bytes))
+
+-- The bytes end too early behind them.
+abbrev pub IsTruncatedEnd : List ℕ → List Placed → List ℕ → Type 0
+IsTruncatedEnd bytes placed text = IsTruncated element_rules bytes × HoldsItems bytes (items_of placed) × (text ≡ line_of (Truncated (length bytes)) (length bytes))
+
+-- The screen refuses the next item, which is shown too.
+abbrev pub IsUnappliedEnd : List ℕ → List Placed → List ℕ → Type 0
+IsUnappliedEnd bytes placed text = (x : Placed) × (reason : Reason) × IsComplete bytes (items_of placed) x × (item_fault (after_items [] placed) x.1 ≡ Some reason) × (text ≡ item_text x.0 x.1 ++ line_of (Refused x.0 reason) (length bytes))
+
+abbrev pub IsEnd : List ℕ → List Placed → Bool → List ℕ → Type 0
+IsEnd bytes placed true text = IsScreenEnd bytes placed text
+IsEnd bytes placed false text = IsRefusedEnd bytes placed text ⊎ (IsTruncatedEnd bytes placed text ⊎ IsUnappliedEnd bytes placed text)
+
+-- the whole text
+pub record IsShown (bytes : List ℕ) (accepted : Bool) (text : List ℕ) : Type 0 where
+  pub placed : List Placed
+  pub shown : AreShown bytes [] [] placed
+  pub end : List ℕ
+  pub ends : IsEnd bytes placed accepted end
+  pub lines : text ≡ lines_of placed ++ end
+
+-- the lines of the first items, the last of which the screen may refuse
+abbrev pub lines_with : List Placed → Option Placed → List ℕ
+lines_with placed None = lines_of placed
+lines_with placed (Some x) = lines_of placed ++ item_text x.0 x.1
+
+pub record IsPart (bytes : List ℕ) (text : List ℕ) : Type 0 where
+  pub placed : List Placed
+  pub shown : AreShown bytes [] [] placed
+  pub last : Option Placed
+  pub complete : IfSome last (IsComplete bytes (items_of placed))
+  pub lines : text ≡ lines_with placed last
+
+-- the units of a record's body may stand one after another
+abbrev pub IsWholeItem : Item Element → Type 0
+IsWholeItem (RecordItem r) = IsChain element_rules element_rules.first r.body
+IsWholeItem (TelnetItem telnet) = Unit {0}
+
+module _ {S : Type 0} (takes : MayTake S) (failures : S → ℕ) (from to : S) where
+  -- a text didn't go out whole
+  abbrev pub IsTextFault : (List ℕ → Type 0) → Fault → Type 0
+  IsTextFault IsText Memory = to ≡ from
+  IsTextFault IsText Write = (text : List ℕ) × IsText text × FailedWithin takes failures from to text
+  IsTextFault IsText fault = ⊥
+
+  -- what is answered where not all is shown: the first lines went out, or a part of them
+  abbrev pub IsShowFault : List ℕ → Fault → Type 0
+  IsShowFault bytes Memory = (text : List ℕ) × IsPart bytes text × WentOut takes failures from to text
+  IsShowFault bytes Write = (text : List ℕ) × (IsPart bytes text ⊎ ((accepted : Bool) × IsShown bytes accepted text)) × FailedWithin takes failures from to text
+  IsShowFault bytes fault = ⊥
+
+-- Items one by one: none, or one with its place.
+abbrev pub placed_by : ℕ → Option (Item Element) → List Placed
+placed_by place None = []
+placed_by place (Some item) = (place, item) ∷ []
+
+abbrev pub fault_of : History → List Placed → Option Reason
+fault_of h [] = None
+fault_of h (x ∷ xs) = item_fault h x.1
+
+-- how the lines go on behind those of the items: with the line of a verdict, or with the screen's
+abbrev pub GoesOn : List ℕ → Shown → List ℕ → Option Verdict → Type 0
+GoesOn bytes screen lines None = (text : List ℕ) → IsScreenText screen text → IsShown bytes true (lines ++ text)
+GoesOn bytes screen lines (Some verdict) = (is_accepted verdict ≡ false) × IsShown bytes false (lines ++ line_of verdict (length bytes))
