@@ -12,7 +12,8 @@ use ws_record::{Item, Opcode, Record};
 use ws_screen::Screen;
 use ws_stream::Element;
 
-/// Carries out an item: a record as below, and nothing for a Telnet command.
+/// Carries out an item: a record's elements, the end of its write and its opcode (SC30-3533; RFC 1205,
+/// section 4). A Telnet command has no effect. Refused for the first reason that the screen has.
 pub fn apply_item(screen: &mut Screen, item: &Item<Element>) -> Result<(), Reason>
     requires whole { IsWholeItem item.now }
     requires closed { screen.old.writing ≡ None }
@@ -27,8 +28,7 @@ pub fn apply_item(screen: &mut Screen, item: &Item<Element>) -> Result<(), Reaso
     }
 }
 
-// Carries out a record's elements, ends its write, and lets its opcode act. Refused for the first
-// reason that the screen has.
+// Carries out a record's elements, ends its write, and lets its opcode act.
 fn apply_record(screen: &mut Screen, applied: &Record<Element>) -> Result<(), Reason>
     requires chain { IsChain element_rules element_rules.first applied.now.body }
     requires closed { screen.old.writing ≡ None }
