@@ -17,7 +17,8 @@ use ws_stream::Element;
 pub fn apply_item(screen: &mut Screen, item: &Item<Element>) -> Result<(), Reason>
     requires whole { IsWholeItem item.now }
     requires closed { screen.old.writing ≡ None }
-    ensures fault { (h : History) → Gives h screen.old → refusal result ≡ item_fault h item.now }
+    ensures fault { (h : History) → Gives h screen.old
+        → refusal result ≡ item_fault h item.now }
     ensures after { OnOk result ((h : History) → Gives h screen.old
         → Gives (after_item h item.now) screen.new) }
     ensures closed { OnOk result (screen.new.writing ≡ None) }
