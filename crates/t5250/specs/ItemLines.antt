@@ -14,7 +14,7 @@ use Rattle.ws_record.specs.declared.record.Item.{Item}
 use Rattle.ws_record.specs.declared.record.Item.TheVariants.{Record as RecordItem, Telnet as TelnetItem}
 use Rattle.ws_stream.specs.FieldOrder.{FieldOrder}
 use Rattle.ws_stream.specs.declared.element.Element.{Element}
-use Rattle.ws_stream.specs.declared.element.Element.TheVariants.{ClearUnit, ClearFormat, Write, ReadInput, ReadMdt, Soh, Ra, Ea, Sba, Ic, Mc, Sf, Put}
+use Rattle.ws_stream.specs.declared.element.Element.TheVariants.{ClearUnit, ClearFormat, Write, ReadInput, ReadMdt, ReadMdtAlternate, Soh, Ra, Ea, Sba, Ic, Mc, Sf, Put}
 
 -- The lines of items, as texts in bytes. Numbers are in decimal, hex is in upper case.
 
@@ -54,6 +54,7 @@ element_text ClearFormat = codes "CLEAR-FORMAT"
 element_text (Write cc1 cc2) = codes "WRITE " ++ controls_text cc1 cc2
 element_text (ReadInput cc1 cc2) = codes "READ-INPUT " ++ controls_text cc1 cc2
 element_text (ReadMdt cc1 cc2) = codes "READ-MDT " ++ controls_text cc1 cc2
+element_text (ReadMdtAlternate cc1 cc2) = codes "READ-MDT-ALTERNATE " ++ controls_text cc1 cc2
 element_text (Soh bytes) = codes "SOH" ++ hex_behind_blank bytes
 element_text (Ra to byte) = codes "RA " ++ fill_text to (byte ∷ [])
 element_text (Ea to kinds) = codes "EA " ++ fill_text to kinds
