@@ -1,6 +1,7 @@
 pub mod Decodes
 pub mod Empty
 pub mod Encodings
+pub mod Fronts
 pub mod Headers
 pub mod LastRecords
 pub mod Lives

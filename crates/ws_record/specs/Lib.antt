@@ -1,3 +1,4 @@
+pub mod Arrived
 pub mod DataStep
 pub mod DecodeFrom
 pub mod Encode

@@ -1,8 +1,9 @@
-ghost use Rattle.std.specs.Prelude.{◌≡◌, List, ℕ, IfOk, IfErr};
+ghost use Rattle.std.specs.Prelude.{◌≡◌, ◌++◌, List, ℕ, length, IfOk, IfErr};
 ghost use Rattle.std.specs.List.{AllByRecursion};
 ghost use Rattle.ws_code.specs.declared.reason.Reason.{Reason};
 ghost use Rattle.ws_record.specs.declared.record.Item.{Item};
-ghost use Rattle.ws_record.specs.Grammar.{Spells, Accepts};
+ghost use Rattle.ws_record.specs.Arrived.{arrived};
+ghost use Rattle.ws_record.specs.Grammar.{Holds, Spells, Accepts};
 ghost use Rattle.ws_record.specs.Encode.{AreEncoded, IsInRange, IsEncodeFault, plain_spelling};
 ghost use Rattle.ws_record.specs.OpenPrefix.{IsRefusedByPrefix, IsTruncatedByPrefix};
 ghost use Rattle.ws_record.specs.Refusal.{IsRefused, IsTruncated};
@@ -43,6 +44,22 @@ pub fn encoding_spells_its_items<B: Body>()
     ensures only { (items others : List (Item B.Unit)) → AreEncoded B.rules items
         → AllByRecursion IsInRange items → Spells B.rules (plain_spelling B.rules items) others
         → others ≡ items }
+{}
+
+/// Of items that can be encoded, those whose spelling ends in a front of their plain spelling are complete in it,
+/// and nothing in it is refused.
+pub fn fronts_hold_items<B: Body>()
+    ensures held { (items : List (Item B.Unit)) → AreEncoded B.rules items
+        → AllByRecursion IsInRange items → (front rest : List ℕ)
+        → plain_spelling B.rules items ≡ front ++ rest
+        → (so_far begun : List ℕ) × Holds B.rules front (arrived B.rules items (length front)) so_far begun }
+    ensures unrefused { (items : List (Item B.Unit)) → AreEncoded B.rules items
+        → AllByRecursion IsInRange items → (front rest : List ℕ)
+        → plain_spelling B.rules items ≡ front ++ rest
+        → (place : ℕ) (reason : Reason) → IsRefused B.rules front place reason → ⊥ }
+    ensures one { (bytes : List ℕ) (items others : List (Item B.Unit))
+        → ((so_far begun : List ℕ) × Holds B.rules bytes items so_far begun)
+        → ((so_far begun : List ℕ) × Holds B.rules bytes others so_far begun) → items ≡ others }
 {}
 
 /// Encodes the items and decodes what came of it: the items come back.

@@ -16,7 +16,8 @@ mod record_writer;
 pub use decode::{decode_all, decode_from};
 pub use encoder::{EncodeFault, encode, encode_to};
 pub use laws::{
-    encode_and_decode, encoding_spells_its_items, one_reading, one_refusal, one_truncation,
+    encode_and_decode, encoding_spells_its_items, fronts_hold_items, one_reading, one_refusal,
+    one_truncation,
 };
 pub use live::{Live, Step};
 pub use opcode::Opcode;
