@@ -1,9 +1,9 @@
 use Rattle.std.specs.Prelude.{◌≡◌, ◌≢◌, ℕ, ◌+◌, ◌-◌, ◌<◌, ◌≤◌, List, [], ◌∷◌, ◌++◌, length, take, drop, Some, refl}
-use Rattle.std.proofs.Common.{sym, ap, ◌∙◌, subst, arith, append_assoc, length-append, length-drop, take-append-drop}
-use Rattle.std.proofs.lemmas.List.{append-nil, length-take-le, take-append-le}
-use Rattle.std.proofs.Math.Seq.{take-append-add, take-length}
+use Rattle.std.proofs.Common.{sym, ap, ◌∙◌, subst, arith, append_assoc, length-append, length-drop, take-append-drop, lit≤, inl, inr}
+use Rattle.std.proofs.lemmas.List.{append-nil, nil_from_length, length-take, length-take-le, take-append-le}
+use Rattle.std.proofs.Math.Seq.{take-append-add, take-length, drop-nil}
 use Rattle.std.proofs.lemmas.Grind.{flat_map-append}
-use Rattle.ws_code.specs.Device.{MayTake, MayGive, Taken, Given, bytes_taken, Writes, WentOut, FailedAfter, FailedWithin, IsWriteFailure, Reads, Gave, GaveAll, Held, held_takes}
+use Rattle.ws_code.specs.Device.{MayTake, MayGive, Taken, Given, bytes_taken, Writes, WentOut, FailedAfter, FailedWithin, IsWriteFailure, Reads, bytes_given, most_reads, Gave, GaveAll, ReadFailed, ReadFault, list_gives, Held, held_takes}
 
 -- `&xs[i..]`
 pub rest_from : (xs : List ℕ) (i : ℕ) → take (length xs - i) (drop i xs) ≡ drop i xs
@@ -21,17 +21,17 @@ take_front xs i n h =
 module _ {S : Type 0} where
   writes_more : (takes : MayTake S) (from mid to : S) (ws vs : List Taken) → Writes takes from ws mid → Writes takes mid vs to → Writes takes from (ws ++ vs) to
   writes_more takes from mid to [] vs p q = let P : S → Type 0 = λ s. Writes takes s vs to in subst P (sym p) q
-  writes_more takes from mid to (w ∷ ws) vs p q = (p.0, p.1, writes_more takes p.0 mid to ws vs p.2 q)
+  writes_more takes from mid to (w ∷ ws) vs p q = (p.0, p.1, p.2, writes_more takes p.0 mid to ws vs p.3 q)
 
   -- no write, no byte
   pub went_out_none : (takes : MayTake S) (failures : S → ℕ) (s : S) → WentOut takes failures s s []
   went_out_none takes failures s = record { writes = []; made = refl; took = refl; uncounted = refl }
 
   -- one write
-  pub went_out_one : (takes : MayTake S) (failures : S → ℕ) (from to : S) (offered : List ℕ) (count : ℕ) → takes from offered (Some count) to → failures to ≡ failures from → WentOut takes failures from to (take count offered)
-  went_out_one takes failures from to offered count made uncounted = record {
+  pub went_out_one : (takes : MayTake S) (failures : S → ℕ) (from to : S) (offered : List ℕ) (count : ℕ) → takes from offered (Some count) to → count ≢ 0 → failures to ≡ failures from → WentOut takes failures from to (take count offered)
+  went_out_one takes failures from to offered count made some uncounted = record {
     writes = record { offered = offered; count = count } ∷ [];
-    made = (to, made, refl);
+    made = (to, made, some, refl);
     took = append-nil (take count offered);
     uncounted = uncounted;
   }
@@ -72,20 +72,21 @@ module _ {S : Type 0} where
   reads_more gives from mid to (q ∷ rs) r p made some = (p.0, p.1, p.2, reads_more gives p.0 mid to rs r p.3 made some)
 
   -- one read more
-  pub gave_more : (gives : MayGive S) (failures : S → ℕ) (from mid to : S) (count : ℕ) (bytes : List ℕ) (room : ℕ) (given : List ℕ) → Gave gives failures from mid count bytes → gives mid room (Some given) to → given ≢ [] → failures to ≡ failures mid → Gave gives failures from to (count + 1) (bytes ++ given)
-  gave_more gives failures from mid to count bytes room given p made some uncounted =
+  pub gave_more : (gives : MayGive S) (failures : S → ℕ) (from mid to : S) (count : ℕ) (bytes : List ℕ) (room : ℕ) (given : List ℕ) → Gave gives failures from mid count bytes → count < most_reads → gives mid room (Some given) to → given ≢ [] → failures to ≡ failures mid → Gave gives failures from to (count + 1) (bytes ++ given)
+  gave_more gives failures from mid to count bytes room given p one_left made some uncounted =
       let r : Given = record { room = room; given = given } in
       record {
         reads = p.reads ++ r ∷ [];
         made = reads_more gives from mid to p.reads r p.made made some;
         counted = length-append p.reads (r ∷ []) ∙ ap (λ k. k + 1) p.counted;
+        within = omega (arith, one_left);
         gave = flat_map-append (λ (q : Given). q.given) p.reads (r ∷ []) ∙ ap (λ z. z ++ (given ++ [])) p.gave ∙ ap (λ z. bytes ++ z) (append-nil given);
         uncounted = uncounted ∙ p.uncounted;
       }
 
   -- a read that gave the end
-  pub gave_all : (gives : MayGive S) (failures : S → ℕ) (from mid to : S) (count : ℕ) (bytes : List ℕ) (room : ℕ) → Gave gives failures from mid count bytes → 0 < room → gives mid room (Some []) to → failures to ≡ failures mid → GaveAll gives failures from to bytes
-  gave_all gives failures from mid to count bytes room p h made uncounted = record { before = mid; count = count; gave = p; room = room; has_room = h; end = made; uncounted = uncounted ∙ p.uncounted }
+  pub gave_all : (gives : MayGive S) (failures : S → ℕ) (from mid to : S) (count : ℕ) (bytes : List ℕ) (room : ℕ) → Gave gives failures from mid count bytes → count < most_reads → 0 < room → gives mid room (Some []) to → failures to ≡ failures mid → GaveAll gives failures from to bytes
+  gave_all gives failures from mid to count bytes room p one_left h made uncounted = record { before = mid; count = count; gave = p; one_left = one_left; room = room; has_room = h; end = made; uncounted = uncounted ∙ p.uncounted }
 
 -- some bytes of a slice are not none
 pub take_some : (xs : List ℕ) (n : ℕ) → n ≢ 0 → n ≤ length xs → take n xs ≢ []
@@ -97,8 +98,47 @@ held_writes : (from to : Held) (ws : List Taken) → Writes held_takes from ws t
 held_writes from to [] p = ap (λ (h : Held). h.bytes) (sym p) ∙ sym (append-nil from.bytes)
 held_writes from to (w ∷ ws) p =
     let whole : take w.count w.offered ≡ w.offered = ap (λ n. take n w.offered) p.1.0 ∙ take-length w.offered in
-    held_writes p.0 to ws p.2 ∙ ap (λ z. z ++ bytes_taken ws) (p.1.1 ∙ ap (λ z. from.bytes ++ z) (sym whole)) ∙ append_assoc from.bytes (take w.count w.offered) (bytes_taken ws)
+    held_writes p.0 to ws p.3 ∙ ap (λ z. z ++ bytes_taken ws) (p.1.1 ∙ ap (λ z. from.bytes ++ z) (sym whole)) ∙ append_assoc from.bytes (take w.count w.offered) (bytes_taken ws)
 
 -- a sink that grows holds what went out
 pub held_went_out : (failures : Held → ℕ) (from to : Held) (bytes : List ℕ) → WentOut held_takes failures from to bytes → to.bytes ≡ from.bytes ++ bytes
 held_went_out failures from to bytes p = held_writes from to p.writes p.made ∙ ap (λ z. from.bytes ++ z) p.took
+
+list_reads : (from to : List ℕ) (rs : List Given) → Reads list_gives from rs to → from ≡ bytes_given rs ++ to
+list_reads from to [] p = p
+list_reads from to (r ∷ rs) p =
+    sym (take-append-drop r.room from)
+    ∙ ap (λ z. z ++ drop r.room from) (sym p.1.0)
+    ∙ ap (λ z. r.given ++ z) (sym p.1.1 ∙ list_reads p.0 to rs p.3)
+    ∙ sym (append_assoc r.given (bytes_given rs) to)
+
+-- each read gave some byte
+reads_count : {S : Type 0} (gives : MayGive S) (from to : S) (rs : List Given) → Reads gives from rs to → length rs ≤ length (bytes_given rs)
+reads_count gives from to [] p = lit≤ tt
+reads_count gives from to (r ∷ rs) p =
+    let some : length r.given ≢ 0 = λ e. p.2 (nil_from_length r.given e) in
+    omega (arith, some, reads_count gives p.0 to rs p.3, length-append r.given (bytes_given rs))
+
+-- what a source over a list gave is the list's front, the rest is left, and there were no more reads than bytes
+pub list_gave : (failures : List ℕ → ℕ) (from to : List ℕ) (count : ℕ) (bytes : List ℕ) → Gave list_gives failures from to count bytes → (from ≡ bytes ++ to) × (count ≤ length bytes)
+list_gave failures from to count bytes p =
+    (list_reads from to p.reads p.made ∙ ap (λ z. z ++ to) p.gave, omega (arith, reads_count list_gives from to p.reads p.made, p.counted, ap length p.gave))
+
+-- up to its end it gave the list, and nothing is left
+pub list_gave_all : (failures : List ℕ → ℕ) (from to bytes : List ℕ) → GaveAll list_gives failures from to bytes → (bytes ≡ from) × (to ≡ [])
+list_gave_all failures from to bytes p =
+    let front = list_gave failures from p.before p.count bytes p.gave in
+    let some : length p.before ≡ 0 = omega (arith, p.has_room, ap length p.end.0, length-take p.room p.before) in
+    let none : p.before ≡ [] = nil_from_length p.before some in
+    (sym (append-nil bytes) ∙ ap (λ z. bytes ++ z) (sym none) ∙ sym front.0, p.end.1 ∙ ap (drop p.room) none ∙ drop-nil p.room)
+
+-- it never fails
+pub list_fails_never : (failures : List ℕ → ℕ) (from to bytes : List ℕ) → ReadFailed list_gives failures from to bytes → ⊥
+list_fails_never failures from to bytes p = p.last
+
+-- and a reader of a list of fewer bytes than the most reads meets no fault
+pub list_no_fault : (failures : List ℕ → ℕ) (from to bytes : List ℕ) → length from < most_reads → ReadFault list_gives failures from to bytes → ⊥
+list_no_fault failures from to bytes few (inl p) = p.last
+list_no_fault failures from to bytes few (inr p) =
+    let gave = list_gave failures from to most_reads bytes p in
+    absurd (omega (arith, few, gave.1, ap length gave.0, length-append bytes to))

@@ -1,4 +1,4 @@
-use Rattle.std.specs.Prelude.{◌≡◌, ◌≢◌, ℕ, ◌+◌, ◌-◌, ◌^◌, ◌<◌, min, List, [], ◌∷◌, ◌++◌, length, take, drop, Option, None, Some, ◌⊎◌}
+use Rattle.std.specs.Prelude.{◌≡◌, ◌≢◌, ℕ, ◌+◌, ◌-◌, ◌^◌, ◌<◌, ◌≤◌, min, List, [], ◌∷◌, ◌++◌, length, take, drop, Option, None, Some, ◌⊎◌}
 use Rattle.std.specs.List.{flat_map}
 use Rattle.std.specs.Io.KnownBytes.{Keeps, Appends, Consumes, IsAtEnd}
 
@@ -41,16 +41,20 @@ pub record Given : Type 0 where
 abbrev pub bytes_given : List Given → List ℕ
 bytes_given reads = flat_map (λ r. r.given) reads
 
+-- the most reads that one call makes of its source
+abbrev pub most_reads : ℕ
+most_reads = 4294967296
+
 -- a write that is a failure: the sink counts it, or it takes no byte of some
 abbrev pub IsWriteFailure : List ℕ → Option ℕ → ℕ → ℕ → Type 0
 IsWriteFailure offered None before after = after ≡ one_more before
 IsWriteFailure offered (Some count) before after = (count ≡ 0) × (offered ≢ []) × (after ≡ before)
 
 module _ {S : Type 0} where
-  -- the writes, one after another, lead from one state of the sink to the other
+  -- the writes, each of which took some byte, lead one after another from one state of the sink to the other
   abbrev pub Writes : MayTake S → S → List Taken → S → Type 0
   Writes takes from [] to = from ≡ to
-  Writes takes from (w ∷ writes) to = (next : S) × takes from w.offered (Some w.count) next × Writes takes next writes to
+  Writes takes from (w ∷ writes) to = (next : S) × takes from w.offered (Some w.count) next × (w.count ≢ 0) × Writes takes next writes to
 
   -- between the two states these bytes went out, in order and once, and no write failed
   pub record WentOut (takes : MayTake S) (failures : S → ℕ) (from to : S) (bytes : List ℕ) : Type 0 where
@@ -74,41 +78,44 @@ module _ {S : Type 0} where
     pub within : count < length text
     pub failed : FailedAfter takes failures from to (take count text)
 
-  -- the reads, each of which gave some byte, lead from one state of the source to the other
+  -- the reads, each of which gave some byte, lead one after another from one state of the source to the other
   abbrev pub Reads : MayGive S → S → List Given → S → Type 0
   Reads gives from [] to = from ≡ to
   Reads gives from (r ∷ reads) to = (next : S) × gives from r.room (Some r.given) next × (r.given ≢ []) × Reads gives next reads to
 
-  -- between the two states so many reads gave these bytes, and none gave the end or failed
+  -- between the two states so many reads, no more than one call may make, gave these bytes, and none gave the end or failed
   pub record Gave (gives : MayGive S) (failures : S → ℕ) (from to : S) (count : ℕ) (bytes : List ℕ) : Type 0 where
     pub reads : List Given
     pub made : Reads gives from reads to
     pub counted : length reads ≡ count
+    pub within : count ≤ most_reads
     pub gave : bytes_given reads ≡ bytes
     pub uncounted : failures to ≡ failures from
 
-  -- the source gave these bytes and then its end, and no read failed
+  -- the source gave these bytes and then, by one read more, its end, and no read failed
   pub record GaveAll (gives : MayGive S) (failures : S → ℕ) (from to : S) (bytes : List ℕ) : Type 0 where
     pub before : S
     pub count : ℕ
     pub gave : Gave gives failures from before count bytes
+    pub one_left : count < most_reads
     pub room : ℕ
     pub has_room : 0 < room
     pub end : gives before room (Some []) to
     pub uncounted : failures to ≡ failures from
 
-  -- the source gave these bytes, and then a read failed, which was the last
+  -- the source gave these bytes, and then one read more failed, which was the last
   pub record ReadFailed (gives : MayGive S) (failures : S → ℕ) (from to : S) (bytes : List ℕ) : Type 0 where
     pub before : S
     pub count : ℕ
     pub gave : Gave gives failures from before count bytes
+    pub one_left : count < most_reads
     pub room : ℕ
     pub last : gives before room None to
     pub counted : failures to ≡ one_more (failures from)
 
-  -- what a reader may call a fault of its source, after these bytes: a read failed, or 4,294,967,296 reads didn't reach the end
+  -- what a reader may call a fault of its source, after these bytes: a read failed, or the most reads didn't reach the end
   abbrev pub ReadFault : MayGive S → (S → ℕ) → S → S → List ℕ → Type 0
-  ReadFault gives failures from to bytes = ReadFailed gives failures from to bytes ⊎ Gave gives failures from to 4294967296 bytes
+  ReadFault gives failures from to bytes = ReadFailed gives failures from to bytes ⊎ Gave gives failures from to most_reads bytes
 
 -- The devices of this crate.
 

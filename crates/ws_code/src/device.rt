@@ -53,8 +53,9 @@ pub fn write_whole<S: Sink>(sink: &mut S, bytes: &[u8]) -> Result<(), Fault>
     let mut at = 0;
     while at < bytes.len() {
         match sink.write(&bytes[at..]) {
-            Ok(0) | Err(DeviceFailed) => return Err(Fault::Write),
+            Ok(0) => return Err(Fault::Write),
             Ok(taken) => at += taken,
+            Err(DeviceFailed) => return Err(Fault::Write),
         }
     }
     Ok(())

@@ -1,5 +1,5 @@
-ghost use Rattle.std.specs.Prelude.{◌≡◌, [], List, ℕ};
-ghost use Rattle.ws_code.specs.Device.{Held, list_gives, held_takes};
+ghost use Rattle.std.specs.Prelude.{◌≡◌, ◌≤◌, ◌<◌, ◌++◌, [], List, ℕ, length};
+ghost use Rattle.ws_code.specs.Device.{Held, list_gives, held_takes, most_reads, Gave, GaveAll, ReadFault};
 
 use crate::{DeviceFailed, Sink, Source};
 use std::alloc::Global;
@@ -45,6 +45,17 @@ impl Source for SliceSource<'_> {
         Ok(taken)
     }
 }
+
+/// What a `SliceSource` gives is its slice: some reads give its front, and reads up to the end the whole of
+/// it. A reader meets no fault in a slice of fewer than 4,294,967,296 bytes.
+pub fn slices_are_given_whole()
+    ensures front { (from to : List ℕ) (reads : ℕ) (bytes : List ℕ)
+        → Gave list_gives (λ _. 0) from to reads bytes → (from ≡ bytes ++ to) × (reads ≤ length bytes) }
+    ensures whole { (from to bytes : List ℕ)
+        → GaveAll list_gives (λ _. 0) from to bytes → (bytes ≡ from) × (to ≡ []) }
+    ensures no_fault { (from to bytes : List ℕ) → length from < most_reads
+        → ReadFault list_gives (λ _. 0) from to bytes → ⊥ }
+{}
 
 /// Keeps what is written in a `Vec` that grows. A growth that is refused is a failure, and the bytes stay.
 #[derive(Debug, Drop)]
