@@ -1,5 +1,5 @@
-use Rattle.std.proofs.Common.{true, ◌≡◌, ℕ, List, [], ◌∷◌, ◌++◌, ◌⊎◌, inl, inr, length, refl, sym, ap, ◌∙◌, subst, arith, append_assoc, length-append}
-use Rattle.std.proofs.lemmas.List.{append_cancel_left, append-nil}
+use Rattle.std.proofs.Common.{true, ◌≡◌, ℕ, ◌+◌, ◌<◌, List, [], ◌∷◌, ◌++◌, ◌⊎◌, inl, inr, length, take, get_or, refl, sym, ap, ◌∙◌, subst, arith, append_assoc, length-append}
+use Rattle.std.proofs.lemmas.List.{append_cancel_left, append-nil, take_more}
 use Rattle.std.proofs.lemmas.Grind.{flat_map-append}
 use Rattle.ws_code.specs.Code.{Rules, Stands, IsSpelled, IsPrefix, IsUnfinished, IsChain, IsCut, IsWhole, IsPrefixFree, AreBytes, place_after, spelling_of}
 
@@ -72,6 +72,15 @@ module _ {Place U : Type 0} where
   pub place_after_more : (rules : Rules Place U) (place : Place) (us : List U) (u : U) → place_after rules place (us ++ u ∷ []) ≡ rules.after u
   place_after_more rules place [] u = refl
   place_after_more rules place (v ∷ us) u = place_after_more rules (rules.after v) us u
+
+  -- the units of a list before an index, and the one there
+  pub chain_next : (rules : Rules Place U) (units : List U) (i : ℕ) (unit : U) → i < length units → unit ≡ get_or units i unit → IsChain rules rules.first (take i units) → Stands rules (place_after rules rules.first (take i units)) unit
+      → IsChain rules rules.first (take (i + 1) units) × (rules.after unit ≡ place_after rules rules.first (take (i + 1) units))
+  chain_next rules units i unit k e c s =
+      let next : take i units ++ unit ∷ [] ≡ take (i + 1) units = ap (λ u. take i units ++ u ∷ []) e ∙ sym (take_more units i unit k) in (
+        subst (IsChain rules rules.first) next (chain_more rules rules.first (take i units) unit c s),
+        sym (place_after_more rules rules.first (take i units) unit) ∙ ap (place_after rules rules.first) next,
+      )
 
   -- the law on what may begin, for every place
   abbrev pub Begins : Rules Place U → Type 0

@@ -1,6 +1,7 @@
 use Rattle.std.proofs.Common.{◌≡◌, Bool, take, true, false, sym, ap, ◌∙◌}
 use Rattle.ws_code.specs.Code.{place_after}
-use Rattle.ws_record.proofs.Encodings.{chain_at, chain_next}
+use Rattle.ws_code.proofs.CodeLaws.{chain_next}
+use Rattle.ws_record.proofs.Encodings.{chain_at}
 use Rattle.ws_record.proofs.encoder.is_body.Goals as goal
 
 pub returns-then-not-may_follow : goal.returns-then-not-may_follow
