@@ -1,3 +1,6 @@
+ghost use Rattle.std.specs.Prelude.{IfOk};
+ghost use Rattle.t5250.specs.Answering.{HasPieces};
+
 use crate::fault::{CommandFault, RunFault};
 use clap::error::ErrorKind;
 use clap::{Arg, ArgAction, Command, value_parser};
@@ -9,10 +12,26 @@ use std::{env, io};
 /// What a command line asks for.
 #[derive(Clone, Copy, Debug, PartialEq, Eq)]
 pub enum Asked<'a> {
-    /// To check the bytes of a hex text, from the file or from standard input, in pieces of `cut` bytes.
-    Check { file: Option<&'a str>, cut: u16 },
+    /// To check the bytes of a hex text, in pieces of `cut` bytes: as a station's answers, or as a host's
+    /// commands.
+    Check {
+        file: Option<&'a str>,
+        cut: u16,
+        answers: bool,
+    },
     /// To show the items of a hex text, and the screen that they make.
-    Show { file: Option<&'a str> },
+    Show {
+        file: Option<&'a str>,
+    },
+}
+
+impl<'a> Asked<'a> {
+    /// The file that is to be read; without it, standard input is.
+    pub fn file(self) -> Option<&'a str> {
+        match self {
+            Asked::Check { file, .. } | Asked::Show { file } => file,
+        }
+    }
 }
 
 // The commands that the program knows.
@@ -23,8 +42,13 @@ fn program<'a>(alloc: Global) -> Result<Command<'a>, clap::Error> {
         .help("Reads the bytes in pieces of N, from 1 to 65535")
         .value_parser(value_parser!(u16).range(1..=65535))
         .action(ArgAction::Set);
+    let answers = Arg::new(alloc, "answers")
+        .long("answers")
+        .help("Reads a station's answers, and not a host's commands")
+        .action(ArgAction::SetTrue);
     let check = Command::new(alloc, "check")
         .about("Tells whether a stream is accepted, refused or truncated")
+        .arg(answers)?
         .arg(cut)?
         .arg(hex_file(alloc))?;
     let show = Command::new(alloc, "show")
@@ -67,13 +91,17 @@ pub fn given_words<R: Env + AllocGlobal>(rt: &R) -> Result<Vec<String>, CommandF
 /// What the words ask for, of which the first is the program's name.
 ///
 /// Without `--cut` the bytes are read in the largest pieces.
-pub fn read_words<'a, S: AsStr>(alloc: Global, words: &'a [S]) -> Result<Asked<'a>, clap::Error> {
+pub fn read_words<'a, S: AsStr>(alloc: Global, words: &'a [S]) -> Result<Asked<'a>, clap::Error>
+    ensures { IfOk result HasPieces }
+{
     let mut program = program(alloc)?;
     let matches = program.try_get_matches_from_mut(words)?;
     match matches.subcommand() {
         Some(("check", check)) => Ok(Asked::Check {
             file: check.get_str("FILE"),
-            cut: check.get_one::<u16>("cut").unwrap_or(u16::MAX),
+            // No 0 comes through.
+            cut: check.get_one::<u16>("cut").unwrap_or(u16::MAX).max(1),
+            answers: check.get_flag("answers"),
         }),
         Some(("show", show)) => Ok(Asked::Show {
             file: show.get_str("FILE"),

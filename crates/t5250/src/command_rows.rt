@@ -58,9 +58,9 @@ const REFUSED: [Row; 23] = [
         "refused at 33: 41",
     ),
     (
-        "alternate-refused",
-        b"\x00\x0e\x12\xa0\x00\x00\x04\x00\x00\x03\x04\x82\x00\x00\xff\xef",
-        "refused at 11: 37",
+        "immediate-still-refused",
+        b"\x00\x0e\x12\xa0\x00\x00\x04\x00\x00\x03\x04\x72\x00\x00\xff\xef",
+        "refused at 11: 36",
     ),
     (
         "resequencing",
@@ -75,7 +75,7 @@ const REFUSED: [Row; 23] = [
     (
         "left-out-shift, 7",
         b"\x00\x20\x12\xa0\x00\x00\x04\x00\x00\x03\x04\x11\x00\x00\x1d\x47",
-        "refused at 15: 42",
+        "truncated at 16",
     ),
     (
         "left-out-shift, 4",
@@ -113,7 +113,7 @@ pub const PUT_FF: &[u8] =
 
 pub const PUT_FF_SHOWN: &str = "at 17 record flags 0000 opcode 3\n  WRITE 00 08\n  PUT FF\n";
 
-const ACCEPTED: [Accepted; 8] = [
+const ACCEPTED: [Accepted; 9] = [
     ("empty-stream", b"", &[], ""),
     (
         "empty-stream, a command",
@@ -139,6 +139,12 @@ const ACCEPTED: [Accepted; 8] = [
         b"\x00\x0c\x12\xa0\x00\x00\x04\x00\x00\x03\x04\x40\xff\xef",
         &[13],
         "at 13 record flags 0000 opcode 3\n  CLEAR-UNIT\n",
+    ),
+    (
+        "alternate-refused",
+        b"\x00\x0e\x12\xa0\x00\x00\x04\x00\x00\x03\x04\x82\x00\x00\xff\xef",
+        &[15],
+        "at 15 record flags 0000 opcode 3\n  READ-MDT-ALTERNATE 00 00\n",
     ),
     (
         "past-end",

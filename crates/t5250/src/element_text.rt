@@ -17,7 +17,13 @@ pub fn push_element(alloc: Global, text: &mut String, element: &Element) -> Resu
         Element::Write { cc1, cc2 } => push_command(alloc, text, "WRITE ", *cc1, *cc2),
         Element::ReadInput { cc1, cc2 } => push_command(alloc, text, "READ-INPUT ", *cc1, *cc2),
         Element::ReadMdt { cc1, cc2 } => push_command(alloc, text, "READ-MDT ", *cc1, *cc2),
-        Element::ReadMdtAlternate { cc1, cc2 } => push_command(alloc, text, "READ-MDT-ALTERNATE ", *cc1, *cc2),
+        Element::ReadMdtAlternate { cc1, cc2 } => push_command(
+            alloc,
+            text,
+            "READ-MDT-ALTERNATE ",
+            *cc1,
+            *cc2,
+        ),
         Element::Soh(bytes) => {
             text.push_str("SOH")?;
             push_hex_behind_blank(alloc, text, bytes.as_slice())

@@ -1,19 +1,31 @@
+ghost use Rattle.std.specs.Prelude.{◌≡◌};
+ghost use Rattle.t5250.specs.RunFaults.{run_fault, text_run_fault};
+
 use crate::hex_text::TextFault;
 use std::io;
 use thiserror::Error;
-use ws_code::Fault;
+use ws_code::{Fault, Reason};
 
-/// What ends the program with status 2, other than a wrong command line.
-#[derive(Debug, Drop, Error)]
+/// What ends the program with status 2, other than a wrong command line. Each has one line.
+#[derive(Clone, Copy, Debug, PartialEq, Eq, Drop, Error)]
 pub enum RunFault {
     #[error("cannot read")]
     Read,
-    #[error(transparent)]
-    Text(#[from] TextFault),
+    #[error("not hex")]
+    NotHex,
     #[error("memory")]
     Memory,
     #[error("cannot write")]
     Write,
+    /// What a command tells of its stream in a line, and never ends with.
+    #[error("refused at {place}: reason {number} {name}", number = .reason.number(), name = .reason.name())]
+    Refused { place: u64, reason: Reason },
+    /// The same.
+    #[error("truncated at {at}")]
+    Truncated { at: u64 },
+    /// A call behind a fault, which no command makes.
+    #[error("failed")]
+    Failed,
 }
 
 /// What ends the program before it runs, or in running.
@@ -42,12 +54,27 @@ impl From<RunFault> for CommandFault {
 }
 
 impl From<Fault> for RunFault {
-    // What runs here reads from memory, so it is the sink that failed, or memory.
+    ghost from_gives = { λ fault told. told ≡ run_fault fault };
+
     fn from(fault: Fault) -> Self {
-        if fault == Fault::Memory {
-            RunFault::Memory
-        } else {
-            RunFault::Write
+        match fault {
+            Fault::Refused { place, reason } => RunFault::Refused { place, reason },
+            Fault::Truncated { at } => RunFault::Truncated { at },
+            Fault::Memory => RunFault::Memory,
+            Fault::Read => RunFault::Read,
+            Fault::Write => RunFault::Write,
+            Fault::Failed => RunFault::Failed,
+        }
+    }
+}
+
+impl From<TextFault> for RunFault {
+    ghost from_gives = { λ fault told. told ≡ text_run_fault fault };
+
+    fn from(fault: TextFault) -> Self {
+        match fault {
+            TextFault::NotHex => RunFault::NotHex,
+            TextFault::Memory => RunFault::Memory,
         }
     }
 }

@@ -17,6 +17,7 @@ mod fault;
 mod hex_text;
 mod input;
 mod item_text;
+mod program;
 mod screen_text;
 mod show;
 #[cfg(test)]
@@ -26,69 +27,46 @@ mod tests;
 mod text;
 mod verdict;
 
-use crate::check::check_to;
-use crate::command_line::{Asked, given_words, read_words};
+use crate::command_line::{given_words, read_words};
 use crate::fault::{CommandFault, RunFault};
-use crate::hex_text::hex_bytes;
 use crate::input::read_input;
-use crate::show::show_to;
+use crate::program::{answer, status};
 use std::io;
 use std::process::ExitCode;
 use std::rt::Runtime;
 use ws_code::WriteSink;
-use ws_stream::Commands;
 
-// What the program was asked for: true where all was accepted.
-fn run<R: Runtime + AllocGlobal>(rt: &R, asked: Asked<'_>) -> Result<bool, RunFault> {
-    match asked {
-        Asked::Check { file, cut } => {
-            let text = read_input(rt, file)?;
-            let bytes = hex_bytes(rt.alloc(), text.as_slice())?;
-            let mut sink = WriteSink::new(io::writer(rt));
-            // The command line lets no 0 through.
-            let cut = cut.max(1);
-            Ok(check_to::<Commands, _>(rt.alloc(), bytes.as_slice(), cut, &mut sink)?)
-        }
-        Asked::Show { file } => {
-            let text = read_input(rt, file)?;
-            let bytes = hex_bytes(rt.alloc(), text.as_slice())?;
-            let mut sink = WriteSink::new(io::writer(rt));
-            Ok(show_to(rt.alloc(), bytes.as_slice(), &mut sink)?)
-        }
-    }
-}
-
-// Reads the command line and does what it asks for.
-fn read_and_run<R: Runtime + AllocGlobal>(rt: &R) -> Result<bool, CommandFault> {
+// Reads the command line and the input, and writes what is asked for: true where all was accepted.
+fn run<R: Runtime + AllocGlobal>(rt: &R) -> Result<bool, CommandFault> {
     let words = given_words(rt)?;
     let asked = read_words(rt.alloc(), words.as_slice())?;
-    Ok(run(rt, asked)?)
+    let text = read_input(rt, asked.file())?;
+    let mut sink = WriteSink::new(io::writer(rt));
+    Ok(answer(rt.alloc(), asked, text.as_slice(), &mut sink)?)
 }
 
-// Prints what `clap` says: of a wrong command line on standard error, where it was asked for help on standard
-// output.
-fn tell(rt: &HostRuntime, error: &clap::Error) -> ExitCode {
-    let printed = error.print(rt);
-    if error.use_stderr() {
-        return ExitCode::from(2);
+// Tells of a fault in its line, of a wrong command line in the text of `clap`, both on standard error. Help
+// that was asked for goes to standard output, and is no fault.
+fn tell(rt: &HostRuntime, fault: CommandFault) -> Result<bool, CommandFault> {
+    match fault {
+        CommandFault::Words(words) => match words.print(rt) {
+            Ok(()) if !words.use_stderr() => Ok(true),
+            Err(_) if !words.use_stderr() => tell_run(rt, RunFault::Write),
+            _ => Err(CommandFault::Words(words)),
+        },
+        CommandFault::Run(fault) => tell_run(rt, fault),
     }
-    match printed {
-        Ok(()) => ExitCode::SUCCESS,
-        Err(_) => {
-            let _ = eprintln!(rt; "{fault}", fault = RunFault::Write);
-            ExitCode::from(2)
-        }
-    }
+}
+
+fn tell_run(rt: &HostRuntime, fault: RunFault) -> Result<bool, CommandFault> {
+    let _ = eprintln!(rt; "{fault}");
+    Err(CommandFault::Run(fault))
 }
 
 fn main(rt: HostRuntime) -> ExitCode {
-    match read_and_run(&rt) {
-        Ok(true) => ExitCode::SUCCESS,
-        Ok(false) => ExitCode::FAILURE,
-        Err(CommandFault::Words(error)) => tell(&rt, &error),
-        Err(CommandFault::Run(fault)) => {
-            let _ = eprintln!(rt; "{fault}");
-            ExitCode::from(2)
-        }
-    }
+    let outcome = match run(&rt) {
+        Ok(accepted) => Ok(accepted),
+        Err(fault) => tell(&rt, fault),
+    };
+    ExitCode::from(status(&outcome))
 }

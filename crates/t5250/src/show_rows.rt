@@ -37,8 +37,8 @@ const SHOWN: [Row; 9] = [
     ),
     (
         "each element",
-        b"\x00\x36\x12\xa0\x00\x00\x04\x00\x00\x02\x04\x50\x04\x11\x20\x1d\x01\x04\x00\x00\x00\x18\x1d\x22\x00\x03\x02\x01\x05\x5c\x03\x01\x07\x03\x00\xff\xff\x13\x0c\x02\x14\x0c\x03\x11\x0c\x01\xc1\x04\x42\x00\x00\x04\x52\x00\x00\xff\xef",
-        "at 56 record flags 0000 opcode 2\n  CLEAR-FORMAT\n  WRITE 20 1D\n  SOH 00000018\n  SF 22 3\n  RA 1 5 5C\n  EA 1 7 00FF\n  IC 12 2\n  MC 12 3\n  SBA 12 1\n  PUT C1\n  READ-INPUT 00 00\n  READ-MDT 00 00\nscreen\n 1  ****\n12 A\ncursor 12 3, unlocked, message on, blink on, fields 0\n",
+        b"\x00\x3a\x12\xa0\x00\x00\x04\x00\x00\x02\x04\x50\x04\x11\x20\x1d\x01\x04\x00\x00\x00\x18\x1d\x22\x00\x03\x02\x01\x05\x5c\x03\x01\x07\x03\x00\xff\xff\x13\x0c\x02\x14\x0c\x03\x11\x0c\x01\xc1\x04\x42\x00\x00\x04\x52\x00\x00\x04\x82\x01\x80\xff\xef",
+        "at 60 record flags 0000 opcode 2\n  CLEAR-FORMAT\n  WRITE 20 1D\n  SOH 00000018\n  SF 22 3\n  RA 1 5 5C\n  EA 1 7 00FF\n  IC 12 2\n  MC 12 3\n  SBA 12 1\n  PUT C1\n  READ-INPUT 00 00\n  READ-MDT 00 00\n  READ-MDT-ALTERNATE 01 80\nscreen\n 1  ****\n12 A\ncursor 12 3, unlocked, message on, blink on, fields 0\n",
         true,
     ),
     (

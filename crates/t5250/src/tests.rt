@@ -2,9 +2,10 @@ use crate::check::check_to;
 use crate::command_line::{Asked, read_words};
 use crate::fault::RunFault;
 use crate::hex_text::{TextFault, hex_bytes};
+use crate::program::{answer, status};
 use std::io;
 use std::test::Fail;
-use ws_code::{Fault, VecSink};
+use ws_code::{FailingSink, Fault, Reason, VecSink};
 use ws_record::RawBody;
 use ws_stream::Commands;
 
@@ -19,24 +20,76 @@ fn hex_texts(rt: HostRuntime) -> Result<(), Fail> {
     Ok(())
 }
 
+// What is asked of a check without any word.
+fn check<'a>() -> Asked<'a> {
+    Asked::Check {
+        file: None,
+        cut: u16::MAX,
+        answers: false,
+    }
+}
+
 #[test]
 fn command_lines(rt: HostRuntime) -> Result<(), Fail> {
     let cut = u16::MAX;
     let file = Some("a.hex");
-    let rows: [(&[&str], Asked<'_>); 7] = [
-        (&["t5250", "check"], Asked::Check { file: None, cut }),
-        (&["t5250", "check", "a.hex"], Asked::Check { file, cut }),
+    let rows: [(&[&str], Asked<'_>); 10] = [
+        (&["t5250", "check"], check()),
+        (
+            &["t5250", "check", "a.hex"],
+            Asked::Check {
+                file,
+                cut,
+                answers: false,
+            },
+        ),
         (
             &["t5250", "check", "--cut", "1"],
-            Asked::Check { file: None, cut: 1 },
+            Asked::Check {
+                file: None,
+                cut: 1,
+                answers: false,
+            },
         ),
         (
             &["t5250", "check", "--cut=65535", "a.hex"],
-            Asked::Check { file, cut: 65535 },
+            Asked::Check {
+                file,
+                cut: 65535,
+                answers: false,
+            },
         ),
         (
             &["t5250", "check", "a.hex", "--cut", "7"],
-            Asked::Check { file, cut: 7 },
+            Asked::Check {
+                file,
+                cut: 7,
+                answers: false,
+            },
+        ),
+        (
+            &["t5250", "check", "--answers"],
+            Asked::Check {
+                file: None,
+                cut,
+                answers: true,
+            },
+        ),
+        (
+            &["t5250", "check", "--cut", "7", "--answers", "a.hex"],
+            Asked::Check {
+                file,
+                cut: 7,
+                answers: true,
+            },
+        ),
+        (
+            &["t5250", "check", "--", "--answers"],
+            Asked::Check {
+                file: Some("--answers"),
+                cut,
+                answers: false,
+            },
         ),
         (&["t5250", "show"], Asked::Show { file: None }),
         (&["t5250", "show", "a.hex"], Asked::Show { file }),
@@ -44,6 +97,8 @@ fn command_lines(rt: HostRuntime) -> Result<(), Fail> {
     for (words, asked) in rows {
         assert_eq!(rt; read_words(rt.alloc(), words)?, asked);
     }
+    assert_eq!(rt; Asked::Show { file }.file(), file);
+    assert_eq!(rt; check().file(), None);
     Ok(())
 }
 
@@ -59,7 +114,10 @@ fn wrong_command_lines(rt: HostRuntime) -> Result<(), Fail> {
         ["t5250", "check", "--cut", "one"].as_slice(),
         ["t5250", "check", "--cut", "1", "--cut", "2"].as_slice(),
         ["t5250", "check", "--cut"].as_slice(),
+        ["t5250", "check", "--answers", "--answers"].as_slice(),
+        ["t5250", "check", "--answers=1"].as_slice(),
         ["t5250", "show", "--cut", "1"].as_slice(),
+        ["t5250", "show", "--answers"].as_slice(),
         ["t5250", "show", "a.hex", "b.hex"].as_slice(),
     ];
     for words in wrong {
@@ -78,16 +136,23 @@ fn wrong_command_lines(rt: HostRuntime) -> Result<(), Fail> {
     Ok(())
 }
 
-// The lines of status 2.
+// The lines of status 2, and the fault that each comes from.
 #[test]
 fn fault_lines(rt: HostRuntime) -> Result<(), Fail> {
+    let reason = Reason::BadSub;
     let rows = [
         (RunFault::Read, "cannot read"),
         (RunFault::from(TextFault::NotHex), "not hex"),
         (RunFault::from(TextFault::Memory), "memory"),
-        (RunFault::Memory, "memory"),
+        (
+            RunFault::from(Fault::Refused { place: 7, reason }),
+            "refused at 7: reason 3 BadSub",
+        ),
+        (RunFault::from(Fault::Truncated { at: 9 }), "truncated at 9"),
         (RunFault::from(Fault::Memory), "memory"),
+        (RunFault::from(Fault::Read), "cannot read"),
         (RunFault::from(Fault::Write), "cannot write"),
+        (RunFault::from(Fault::Failed), "failed"),
         (
             RunFault::from(io::Error::from(io::ErrorKind::NotFound)),
             "cannot read",
@@ -96,12 +161,64 @@ fn fault_lines(rt: HostRuntime) -> Result<(), Fail> {
             RunFault::from(io::Error::from(io::ErrorKind::OutOfMemory)),
             "memory",
         ),
-        (RunFault::Write, "cannot write"),
     ];
     for (fault, wanted) in &rows {
         let line = format!(in rt.alloc(); "{fault}")?;
         assert_eq!(rt; line.as_str(), *wanted);
     }
+    Ok(())
+}
+
+// From a hex text to what is written, and the status. The first is `bob`'s answer.
+#[test]
+fn answered(rt: HostRuntime) -> Result<(), Fail> {
+    let answer_of_bob = "00 13 12 A0 00 00 04 00 00 03 06 38 F1 11 06 35 C2 D6 C2 FF EF";
+    let answers = Asked::Check {
+        file: None,
+        cut: 1,
+        answers: true,
+    };
+    let show = Asked::Show { file: None };
+    let rows = [
+        (
+            answers,
+            answer_of_bob,
+            "accepted: 1 records, 0 commands, 21 bytes\n",
+            0,
+        ),
+        (
+            check(),
+            answer_of_bob,
+            "refused at 10: reason 20 NoEscape\n",
+            1,
+        ),
+        (
+            show,
+            answer_of_bob,
+            "refused at 10: reason 20 NoEscape\n",
+            1,
+        ),
+        (
+            show,
+            "FFF1",
+            "at 1 telnet NOP\nscreen\ncursor 1 1, locked, message off, blink off, fields 0\n",
+            0,
+        ),
+        (check(), "000a12a", "", 2),
+        (show, "0g", "", 2),
+    ];
+    for (asked, text, wanted, exit) in rows {
+        let mut sink = VecSink::new(rt.alloc());
+        let outcome = answer(rt.alloc(), asked, text.as_bytes(), &mut sink);
+        assert_eq!(rt; status(&outcome), exit, "{text}");
+        assert_eq!(rt; sink.as_slice(), wanted.as_bytes(), "{text}");
+        if exit == 2 {
+            assert_eq!(rt; outcome, Err(RunFault::NotHex));
+        }
+    }
+    let mut sink = FailingSink::new(rt.alloc(), 40);
+    let outcome = answer(rt.alloc(), answers, answer_of_bob.as_bytes(), &mut sink);
+    assert_eq!(rt; outcome, Err(RunFault::Write));
     Ok(())
 }
 

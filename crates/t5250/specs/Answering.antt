@@ -1,0 +1,66 @@
+use Rattle.std.specs.Prelude.{◌≡◌, ◌≢◌, ℕ, List, Bool, true, false, Result, Ok, Err, IsErr, ◌⊎◌, length}
+use Rattle.hex.specs.Hex.{decode_of}
+use Rattle.ws_code.specs.Code.{Rules}
+use Rattle.ws_code.specs.Device.{MayTake, WentOut}
+use Rattle.ws_code.specs.declared.fault.Fault.{Fault}
+use Rattle.ws_code.specs.declared.fault.Fault.TheVariants as device
+use Rattle.ws_stream.specs.Elements.{element_rules}
+use Rattle.ws_stream.specs.AnswerParts.{answer_rules}
+use Rattle.t5250.specs.HexText.{without_blanks}
+use Rattle.t5250.specs.CheckLine.{IsVerdict, is_accepted, line_of}
+use Rattle.t5250.specs.Checking.{IsCheckFault}
+use Rattle.t5250.specs.StreamText.{IsShown, IsShowFault}
+use Rattle.t5250.specs.declared.command_line.Asked.{Asked}
+use Rattle.t5250.specs.declared.command_line.Asked.TheVariants.{Check, Show}
+use Rattle.t5250.specs.declared.fault.RunFault.{RunFault}
+use Rattle.t5250.specs.declared.fault.RunFault.TheVariants.{Read, NotHex, Memory, Write, Refused, Truncated, Failed}
+use Rattle.t5250.specs.declared.verdict.Verdict.{Verdict}
+
+-- What the program makes of an input: what it writes, and what it answers where that isn't all.
+
+-- bytes are read in pieces, which aren't empty
+abbrev pub HasPieces : Asked → Type 0
+HasPieces (Check file cut answers) = cut ≢ 0
+HasPieces asked = Unit {0}
+
+-- the bytes of a hex text
+abbrev pub IsHexOf : List ℕ → List ℕ → Type 0
+IsHexOf bytes text = decode_of (without_blanks text) ≡ Ok bytes
+
+module _ {S : Type 0} (takes : MayTake S) (failures : S → ℕ) (from to : S) where
+  -- the line of a check went out
+  abbrev pub HasChecked : {Place U : Type 0} → Rules Place U → List ℕ → Bool → Type 0
+  HasChecked rules bytes accepted = (verdict : Verdict) × IsVerdict rules bytes verdict × (accepted ≡ is_accepted verdict) × WentOut takes failures from to (line_of verdict (length bytes))
+
+  -- what is shown of a stream went out
+  abbrev pub HasShown : List ℕ → Bool → Type 0
+  HasShown bytes accepted = (text : List ℕ) × IsShown bytes accepted text × WentOut takes failures from to text
+
+  -- the program did what it was asked for with its input: with the commands of a host, or the answers of a
+  -- station, that a hex text tells
+  abbrev pub HasAnswered : Asked → List ℕ → Bool → Type 0
+  HasAnswered (Check file cut false) input accepted = (bytes : List ℕ) × IsHexOf bytes input × HasChecked element_rules bytes accepted
+  HasAnswered (Check file cut true) input accepted = (bytes : List ℕ) × IsHexOf bytes input × HasChecked answer_rules bytes accepted
+  HasAnswered (Show file) input accepted = (bytes : List ℕ) × IsHexOf bytes input × HasShown bytes accepted
+
+  -- what is answered of a hex text where a command answers such faults of its bytes
+  abbrev pub IsHexFault : (List ℕ → Fault → Type 0) → List ℕ → RunFault → Type 0
+  IsHexFault IsFault input NotHex = (to ≡ from) × IsErr (decode_of (without_blanks input))
+  IsHexFault IsFault input Memory = (to ≡ from) ⊎ ((bytes : List ℕ) × IsHexOf bytes input × IsFault bytes device.Memory)
+  IsHexFault IsFault input Write = (bytes : List ℕ) × IsHexOf bytes input × IsFault bytes device.Write
+  IsHexFault IsFault input Read = ⊥
+  IsHexFault IsFault input (Refused place reason) = ⊥
+  IsHexFault IsFault input (Truncated at) = ⊥
+  IsHexFault IsFault input Failed = ⊥
+
+  -- what the program answers where it didn't do all that it was asked for
+  abbrev pub IsAnswerFault : Asked → List ℕ → RunFault → Type 0
+  IsAnswerFault (Check file cut false) input fault = IsHexFault (IsCheckFault element_rules takes failures from to) input fault
+  IsAnswerFault (Check file cut true) input fault = IsHexFault (IsCheckFault answer_rules takes failures from to) input fault
+  IsAnswerFault (Show file) input fault = IsHexFault (IsShowFault takes failures from to) input fault
+
+-- the exit status: 0 where all was accepted, 1 where it wasn't, 2 on a fault
+abbrev pub status_of : {E : Type 0} → Result Bool E → ℕ
+status_of (Ok true) = 0
+status_of (Ok false) = 1
+status_of (Err fault) = 2

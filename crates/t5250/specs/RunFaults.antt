@@ -1,0 +1,19 @@
+use Rattle.ws_code.specs.declared.fault.Fault.{Fault}
+use Rattle.ws_code.specs.declared.fault.Fault.TheVariants as device
+use Rattle.t5250.specs.declared.fault.RunFault.{RunFault}
+use Rattle.t5250.specs.declared.fault.RunFault.TheVariants.{Read, NotHex, Memory, Write, Refused, Truncated, Failed}
+use Rattle.t5250.specs.declared.hex_text.TextFault.{TextFault}
+use Rattle.t5250.specs.declared.hex_text.TextFault.TheVariants as texts
+
+-- a fault of a command, and of hex text, as the program's own
+abbrev pub run_fault : Fault → RunFault
+run_fault (device.Refused place reason) = Refused place reason
+run_fault (device.Truncated at) = Truncated at
+run_fault device.Memory = Memory
+run_fault device.Read = Read
+run_fault device.Write = Write
+run_fault device.Failed = Failed
+
+abbrev pub text_run_fault : TextFault → RunFault
+text_run_fault texts.NotHex = NotHex
+text_run_fault texts.Memory = Memory

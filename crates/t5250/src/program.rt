@@ -1,0 +1,83 @@
+ghost use Rattle.std.specs.Prelude.{◌≡◌, ◌≢◌, IfOk, IfErr};
+ghost use Rattle.ws_stream.specs.Elements.{element_rules};
+ghost use Rattle.t5250.specs.Answering.{HasPieces, HasAnswered, HasChecked, HasShown, IsAnswerFault, IsHexFault, IsHexOf, status_of};
+ghost use Rattle.t5250.specs.Checking.{IsCheckFault};
+ghost use Rattle.t5250.specs.StreamText.{IsShowFault};
+ghost use Rattle.std.specs.Prelude.{List as Seq, ℕ};
+
+use crate::check::check_to;
+use crate::command_line::Asked;
+use crate::fault::RunFault;
+use crate::hex_text::hex_bytes;
+use crate::show::show_to;
+use std::alloc::Global;
+use ws_code::{Body, Sink};
+use ws_stream::{Answers, Commands};
+
+/// Does what the program was asked for with the whole of its input: true where all was accepted.
+///
+/// What is asked for by `asked` is written to the sink; a file that it names was read before. `NotHex` comes
+/// where the input had to be hex text and isn't, and then nothing was written; `Memory` where a growth was
+/// refused, and `Write` where the sink failed, and then the first part of the text may have gone out.
+pub fn answer<S: Sink>(
+    alloc: Global,
+    asked: Asked<'_>,
+    text: &[u8],
+    sink: &mut S,
+) -> Result<bool, RunFault>
+    requires { HasPieces asked }
+    ensures done { IfOk result (λ accepted.
+        HasAnswered S.takes S.failures sink.old sink.new asked.entry text.now accepted) }
+    ensures fault { IfErr result (λ fault.
+        IsAnswerFault S.takes S.failures sink.old sink.new asked.entry text.now fault) }
+{
+    match asked {
+        Asked::Check { cut, answers, .. } => {
+            if answers {
+                check_text::<Answers, S>(alloc, text, cut, sink)
+            } else {
+                check_text::<Commands, S>(alloc, text, cut, sink)
+            }
+        }
+        Asked::Show { .. } => show_text(alloc, text, sink),
+    }
+}
+
+// Writes the line of a check of the bytes that a hex text tells.
+fn check_text<B: Body, S: Sink>(
+    alloc: Global,
+    text: &[u8],
+    cut: u16,
+    sink: &mut S,
+) -> Result<bool, RunFault>
+    requires { cut ≢ 0 }
+    ensures done { IfOk result (λ accepted. (bytes : Seq ℕ) × IsHexOf bytes text.now
+        × HasChecked S.takes S.failures sink.old sink.new B.rules bytes accepted) }
+    ensures fault { IfErr result (IsHexFault S.takes S.failures sink.old sink.new
+        (IsCheckFault B.rules S.takes S.failures sink.old sink.new) text.now) }
+{
+    let bytes = hex_bytes(alloc, text)?;
+    Ok(check_to::<B, S>(alloc, bytes.as_slice(), cut, sink)?)
+}
+
+// Writes what is shown of the bytes that a hex text tells.
+fn show_text<S: Sink>(alloc: Global, text: &[u8], sink: &mut S) -> Result<bool, RunFault>
+    ensures done { IfOk result (λ accepted. (bytes : Seq ℕ) × IsHexOf bytes text.now
+        × HasShown S.takes S.failures sink.old sink.new bytes accepted) }
+    ensures fault { IfErr result (IsHexFault S.takes S.failures sink.old sink.new
+        (IsShowFault S.takes S.failures sink.old sink.new) text.now) }
+{
+    let bytes = hex_bytes(alloc, text)?;
+    Ok(show_to(alloc, bytes.as_slice(), sink)?)
+}
+
+/// The exit status of an outcome: 0 where all was accepted, 1 where it wasn't, 2 on a fault.
+pub fn status<E>(outcome: &Result<bool, E>) -> u8
+    ensures { result ≡ status_of outcome.now }
+{
+    match outcome {
+        Ok(true) => 0,
+        Ok(false) => 1,
+        Err(_) => 2,
+    }
+}
