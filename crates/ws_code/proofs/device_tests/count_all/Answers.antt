@@ -1,7 +1,7 @@
 use Rattle.std.proofs.Common.{◌≢◌, ◌++◌, length, take, arith, length-append}
 use Rattle.std.proofs.lemmas.List.{length-take-le}
 use Rattle.ws_code.proofs.DeviceLaws.{gave_more, take_some}
-use Rattle.ws_code.proofs.tests.count_all.Goals as goal
+use Rattle.ws_code.proofs.device_tests.count_all.Goals as goal
 
 pub loop-preserved : goal.loop-preserved
 loop-preserved g c =

@@ -1,7 +1,7 @@
 use Rattle.std.proofs.Common.{◌∙◌, ap, List, ℕ, ◌++◌}
 use Rattle.ws_code.specs.Device.{Held}
 use Rattle.ws_code.proofs.DeviceLaws.{held_went_out}
-use Rattle.ws_code.proofs.tests.kept.Goals as goal
+use Rattle.ws_code.proofs.device_tests.kept.Goals as goal
 
 pub returns : goal.returns
 returns c = record {

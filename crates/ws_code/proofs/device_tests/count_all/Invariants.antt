@@ -1,6 +1,6 @@
 use Rattle.std.proofs.Common.{◌≡◌, ◌≤◌, ◌*◌, List, ℕ, length}
 use Rattle.ws_code.specs.Device.{Gave}
-use Rattle.ws_code.proofs.tests.count_all.Given as goal
+use Rattle.ws_code.proofs.device_tests.count_all.Given as goal
 
 abbrev pub invariant-loop : goal.invariant-loop
 invariant-loop g l = record {
