@@ -1,0 +1,12 @@
+use Rattle.std.specs.Prelude.{List, Bool, true, false, filter}
+use Rattle.ws_session.specs.declared.world.Event.{Event}
+use Rattle.ws_session.specs.declared.world.Event.TheVariants.{StationRefused, HostRefused}
+
+-- an end has refused what the other wrote
+abbrev pub is_refusal : Event → Bool
+is_refusal (StationRefused place reason) = true
+is_refusal (HostRefused place reason) = true
+is_refusal event = false
+
+abbrev pub refusals_in : List Event → List Event
+refusals_in events = filter is_refusal events

@@ -1,0 +1,35 @@
+use Rattle.std.specs.Prelude.{◌≡◌, ℕ, List, [], take, true}
+use Rattle.ws_nego.specs.Host.{host_allows_records}
+use Rattle.ws_nego.specs.Station.{station_allows_records}
+use Rattle.ws_record.specs.Arrived.{arrived}
+use Rattle.ws_screen.specs.Formats.{fields}
+use Rattle.ws_stream.specs.AnswerParts.{answer_rules}
+use Rattle.ws_stream.specs.Elements.{element_rules}
+use Rattle.ws_session.specs.declared.world.Event.{Event}
+use Rattle.ws_session.specs.HostLeads.{HostHolding, HostLeads}
+use Rattle.ws_session.specs.HostSide.{asked}
+use Rattle.ws_session.specs.StationLeads.{Holding, StationLeads}
+use Rattle.ws_session.specs.StationSide.{screen_at}
+use Rattle.ws_session.specs.World.{World, down_bytes, up_bytes, to_station, to_host}
+
+-- What is reported of a session: its events, both ends, and the bytes in flight to the station and to the host end.
+-- It is that of this world of whole items.
+pub record IsReport (told : List Event) (station : Holding) (host : HostHolding) (down up : List ℕ) (w : World) : Type 0 where
+  pub events : told ≡ w.events
+  pub screen : station.screen ≡ screen_at w.station
+  pub station_options : station.options ≡ w.station.options
+  pub host_options : host.options ≡ w.host.options
+  pub fields : host.screen.fields ≡ fields w.host.kept
+  pub asked : host.screen.pending ≡ asked w.host
+  pub to_station : down ≡ to_station w
+  pub to_host : up ≡ to_host w
+  -- each end goes on from there: it has taken the bytes that have arrived, and their items left it on its side
+  pub station_leads : StationLeads station (take w.at_station (down_bytes w)) (arrived element_rules w.down w.at_station) w.station
+  pub host_leads : HostLeads host (take w.at_host (up_bytes w)) (arrived answer_rules w.up w.at_host) w.host
+
+-- nothing is in flight, and records are allowed at both ends
+pub record IsOpened (station : Holding) (host : HostHolding) (down up : List ℕ) : Type 0 where
+  pub to_station : down ≡ []
+  pub to_host : up ≡ []
+  pub at_station : station_allows_records station.options ≡ true
+  pub at_host : host_allows_records host.options ≡ true
