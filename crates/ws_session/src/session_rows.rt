@@ -2,9 +2,9 @@
 // `c` cancels, `e` is Enter, `a` and `u` bring all to the station and to the host end, `5` and `t` five and ten bytes
 // to the station, `1` a byte each way 200 times; a capital letter is typed.
 use super::*;
-use std::alloc::AllocError;
+use std::alloc::{AllocError, Global};
 use std::test::Fail;
-use ws_code::{Address, Aid, Ffw, List};
+use ws_code::{Address, Aid, Fault, Ffw, List};
 use ws_keys::{Key, KeyRefusal};
 use ws_nego::TerminalType;
 use ws_record::Opcode;
