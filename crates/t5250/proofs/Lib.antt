@@ -1,4 +1,3 @@
-pub mod Applies
 pub mod CheckLemmas
 pub mod Rows
 pub mod Shows

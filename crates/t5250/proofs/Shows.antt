@@ -29,8 +29,7 @@ use Rattle.t5250.specs.declared.verdict.Verdict.{Verdict}
 use Rattle.t5250.specs.declared.verdict.Verdict.TheVariants.{Refused, Truncated}
 use Rattle.t5250.specs.CheckLine.{line_of, is_accepted, verdict_by}
 use Rattle.t5250.specs.ItemLines.{item_text}
-use Rattle.t5250.specs.Showing.{after_item, item_fault}
-use Rattle.t5250.specs.StreamText.{Placed, items_of, lines_of, after_items, HoldsItems, IsComplete, AreShown, IsShown, IsPart, IsTextFault, IsShowFault, IsWholeItem, GoesOn, placed_by, fault_of}
+use Rattle.t5250.specs.StreamText.{Placed, items_of, lines_of, after_item, item_fault, after_items, HoldsItems, IsComplete, AreShown, IsShown, IsPart, IsTextFault, IsShowFault, IsWholeItem, GoesOn, placed_by, fault_of}
 
 -- Items that are shown one after another.
 

@@ -5,5 +5,4 @@ pub mod HexText
 pub mod ItemLines
 pub mod RunFaults
 pub mod ScreenLines
-pub mod Showing
 pub mod StreamText

@@ -11,13 +11,14 @@ use Rattle.ws_record.specs.declared.record.Item.{Item}
 use Rattle.ws_record.specs.declared.record.Item.TheVariants.{Record as RecordItem, Telnet as TelnetItem}
 use Rattle.ws_stream.specs.Elements.{element_rules}
 use Rattle.ws_stream.specs.declared.element.Element.{Element}
+use Rattle.ws_screen.specs.Bodies.{body_fault}
 use Rattle.ws_screen.specs.Events.{History}
 use Rattle.ws_screen.specs.Given.{Gives}
 use Rattle.ws_screen.specs.Shown.{Shown}
+use Rattle.ws_session.specs.StationSide.{after_record}
 use Rattle.t5250.specs.CheckLine.{line_of, is_accepted}
 use Rattle.t5250.specs.ItemLines.{item_text}
 use Rattle.t5250.specs.ScreenLines.{IsScreenText}
-use Rattle.t5250.specs.Showing.{after_item, item_fault}
 use Rattle.t5250.specs.declared.verdict.Verdict.{Verdict}
 use Rattle.t5250.specs.declared.verdict.Verdict.TheVariants.{Refused, Truncated}
 
@@ -32,6 +33,16 @@ items_of placed = map (λ x. x.1) placed
 
 abbrev pub lines_of : List Placed → List ℕ
 lines_of placed = flat_map (λ x. item_text x.0 x.1) placed
+
+-- the events so far and those of an item: a record is applied as a station does, a Telnet command has no effect
+abbrev pub after_item : History → Item Element → History
+after_item h (RecordItem r) = after_record h r
+after_item h (TelnetItem telnet) = h
+
+-- why the screen refuses an item
+abbrev pub item_fault : History → Item Element → Option Reason
+item_fault h (RecordItem r) = body_fault h r.body
+item_fault h (TelnetItem telnet) = None
 
 -- the events so far and those of the items
 abbrev pub after_items : History → List Placed → History

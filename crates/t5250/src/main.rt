@@ -5,7 +5,6 @@
 //! order: the command line, reading, hex text, and then those met in running.
 #![tactic(auto)]
 
-mod apply;
 mod check;
 mod command_line;
 #[cfg(test)]

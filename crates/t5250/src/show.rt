@@ -1,13 +1,13 @@
 ghost use Rattle.std.specs.Prelude.{◌≡◌, List, [], ℕ, true, length, None, IfOk, IfErr, IfSome, OnOk};
 ghost use Rattle.ws_screen.specs.Events.{History};
+ghost use Rattle.ws_screen.specs.Faults.{refusal};
 ghost use Rattle.ws_screen.specs.Given.{Gives};
 ghost use Rattle.ws_code.specs.Device.{WentOut};
 ghost use Rattle.t5250.specs.CheckLine.{line_of, is_accepted};
 ghost use Rattle.t5250.specs.ItemLines as Lines;
 ghost use Rattle.t5250.specs.ScreenLines.{IsScreenText};
-ghost use Rattle.t5250.specs.StreamText.{IsShown, IsPart, IsTextFault, IsShowFault, IsWholeItem, GoesOn, lines_of, placed_by, fault_of, after_items};
+ghost use Rattle.t5250.specs.StreamText.{IsShown, IsPart, IsTextFault, IsShowFault, IsWholeItem, GoesOn, lines_of, placed_by, item_fault, fault_of, after_item, after_items};
 
-use crate::apply::apply_item;
 use crate::item_text::item_text;
 use crate::screen_text::screen_text;
 use crate::verdict::{Verdict, verdict_by_fault};
@@ -15,6 +15,7 @@ use std::alloc::Global;
 use ws_code::{Fault, Reason, Sink, write_whole};
 use ws_record::{Fed, Item, Receiver};
 use ws_screen::Screen;
+use ws_session::apply_record;
 use ws_stream::{Commands, Element};
 
 /// Writes the items of a stream, and the screen that they make: true where the stream is accepted.
@@ -94,6 +95,22 @@ fn show_item<S: Sink>(
     };
     write_item(alloc, place, item, sink)?;
     Ok(apply_item(screen, item).err())
+}
+
+// Carries out an item: a record as a station does; a Telnet command has no effect.
+fn apply_item(screen: &mut Screen, item: &Item<Element>) -> Result<(), Reason>
+    requires whole { IsWholeItem item.now }
+    requires closed { screen.old.writing ≡ None }
+    ensures fault { (h : History) → Gives h screen.old
+        → refusal result ≡ item_fault h item.now }
+    ensures after { OnOk result ((h : History) → Gives h screen.old
+        → Gives (after_item h item.now) screen.new) }
+    ensures closed { OnOk result (screen.new.writing ≡ None) }
+{
+    match item {
+        Item::Record(record) => apply_record(screen, record),
+        Item::Telnet(_) => Ok(()),
+    }
 }
 
 // Writes an item's lines.
