@@ -43,7 +43,7 @@ module _ {Place U : Type 0} (rules : Rules Place U) where
     stream = subst (IsStream (IsRight rules l)) (sym (append_assoc before (byte ∷ []) after)) (accepted_stream (before ++ byte ∷ after) items a l);
   }
 
-  closed_is_not : (l : Layer) (bytes : List ℕ) → IsFirstClosed rules l bytes → IsOpen rules l bytes → ⊥
+  pub closed_is_not : (l : Layer) (bytes : List ℕ) → IsFirstClosed rules l bytes → IsOpen rules l bytes → ⊥
   closed_is_not Tokens bytes c o = c o
   closed_is_not Header bytes c o = c.1 o
   closed_is_not Body bytes c o = c.1 o

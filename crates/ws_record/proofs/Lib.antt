@@ -1,6 +1,8 @@
+pub mod BothWays
 pub mod Decodes
 pub mod Empty
 pub mod Encodings
+pub mod Faults
 pub mod Fronts
 pub mod Headers
 pub mod LastRecords

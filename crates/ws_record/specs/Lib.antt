@@ -2,7 +2,6 @@ pub mod Arrived
 pub mod DataStep
 pub mod DecodeFrom
 pub mod Encode
-pub mod Escaped
 pub mod Grammar
 pub mod HeaderSoFar
 pub mod Live
@@ -13,4 +12,5 @@ pub mod ReadyRecord
 pub mod ReadyTokens
 pub mod Receiver
 pub mod Refusal
+pub mod Tests
 pub mod TokenStep

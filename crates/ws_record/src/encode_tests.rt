@@ -33,6 +33,15 @@ fn repeated(alloc: Global, byte: u8, count: usize) -> Result<Item<u8>, AllocErro
     item(alloc, Opcode::PutGet, body.as_slice())
 }
 
+// A record of an escape and so many bytes.
+fn escaped(alloc: Global, count: usize) -> Result<Item<u8>, AllocError> {
+    let mut body = vec![in alloc; 0x04]?;
+    for _ in 0..count {
+        body.push(0x41)?;
+    }
+    item(alloc, Opcode::PutGet, body.as_slice())
+}
+
 // The fault of the items, into memory and into a sink that stays empty.
 fn fault_of<B: ws_code::Body<Unit = u8>>(
     alloc: Global,
@@ -122,12 +131,13 @@ fn bad_sequence_first(rt: HostRuntime) -> Result<(), Fail> {
     let one = vec![in alloc; repeated(alloc, 0xc1, 1)?]?;
     let large = vec![in alloc; repeated(alloc, 0xc1, 65_526)?]?;
     let mut first_too_big = Vec::new(alloc);
-    first_too_big.push(repeated(alloc, 0x04, 65_526)?)?;
+    first_too_big.push(escaped(alloc, 65_525)?)?;
     first_too_big.push(repeated(alloc, 0xc1, 1)?)?;
     let mut second_bad = Vec::new(alloc);
-    second_bad.push(repeated(alloc, 0x04, 3)?)?;
+    second_bad.push(escaped(alloc, 2)?)?;
     second_bad.push(repeated(alloc, 0xc1, 1)?)?;
     second_bad.push(repeated(alloc, 0xc1, 1)?)?;
+    let ends_early = vec![in alloc; escaped(alloc, 2)?, item(alloc, Opcode::PutGet, &[0x04])?]?;
     let rows = [
         (
             "one byte",
@@ -149,13 +159,19 @@ fn bad_sequence_first(rt: HostRuntime) -> Result<(), Fail> {
             second_bad.as_slice(),
             EncodeFault::BadSequence { index: 1 },
         ),
+        (
+            "may not end",
+            ends_early.as_slice(),
+            EncodeFault::BadSequence { index: 1 },
+        ),
     ];
     for (row, items, wanted) in &rows {
         assert_eq!(rt; fault_of::<Escaped>(alloc, items)?, *wanted, "{row}");
     }
-    let items = vec![in alloc; item(alloc, Opcode::OutputOnly, &[0x04])?]?;
+    let items = vec![in alloc; escaped(alloc, 1)?]?;
     let encoded = encode::<Escaped>(alloc, items.as_slice())?;
-    assert_eq!(rt; encoded.as_slice(), short_spelling(2, 0x04).as_slice());
+    let wanted = b"\x00\x0c\x12\xa0\x00\x00\x04\x00\x00\x03\x04\x41\xff\xef";
+    assert_eq!(rt; encoded.as_slice(), wanted.as_slice());
     Ok(())
 }
 

@@ -1,23 +1,24 @@
 ghost use Rattle.std.specs.Prelude.{◌≡◌, [], ◌∷◌, refl};
-ghost use Rattle.ws_record.specs.Escaped.{escaped_rules, escaped_nonempty, escaped_prefix_free, escaped_begins};
+ghost use Rattle.ws_record.specs.Tests.Escaped.{escaped_rules, escaped_nonempty, escaped_prefix_free, escaped_begins, escaped_can_end};
 
 use arrayvec::ArrayVec;
 use ws_code::{Body, Code, Push, Reason};
 
-/// A body for tests: bytes, the first of which must be 04.
+/// A body for tests: bytes, the first of which must be 04, an escape. Behind an escape it may not end. A place is
+/// the byte before it, if there is one.
 #[derive(Debug, Drop)]
 pub struct Escaped {
-    is_first: bool,
+    before: Option<u8>,
 }
 
 impl Code for Escaped {
     type Unit = u8;
 
-    type Place = bool;
+    type Place = Option<u8>;
 
     ghost rules = { escaped_rules };
 
-    ghost place = { λ e. e.is_first };
+    ghost place = { λ e. e.before };
 
     ghost unfinished = { λ _. [] };
 
@@ -29,20 +30,20 @@ impl Code for Escaped {
 
     ghost begins = { escaped_begins };
 
-    fn first() -> bool {
-        true
+    fn first() -> Option<u8> {
+        None
     }
 
-    fn after(_unit: &u8) -> bool {
-        false
+    fn after(unit: &u8) -> Option<u8> {
+        Some(*unit)
     }
 
-    fn start(at: bool) -> Self {
-        Escaped { is_first: at }
+    fn start(at: Option<u8>) -> Self {
+        Escaped { before: at }
     }
 
     fn push(&mut self, byte: u8) -> Push<u8> {
-        if self.is_first && byte != 0x04 {
+        if self.before.is_none() && byte != 0x04 {
             Push::Bad(Reason::NoEscape)
         } else {
             Push::Unit(byte)
@@ -55,14 +56,17 @@ impl Code for Escaped {
 }
 
 impl Body for Escaped {
-    ghost can_end = { λ _. ([], tt, refl) };
+    ghost can_end = { escaped_can_end };
 
-    fn may_follow(place: bool, unit: &u8) -> bool {
-        !place || *unit == 0x04
+    fn may_follow(place: Option<u8>, unit: &u8) -> bool {
+        place.is_some() || *unit == 0x04
     }
 
-    fn may_end(_place: bool) -> bool {
-        true
+    fn may_end(place: Option<u8>) -> bool {
+        match place {
+            Some(before) => before != 0x04,
+            None => true,
+        }
     }
 
     fn spell(unit: &u8, into: &mut ArrayVec<u8, 32>) {

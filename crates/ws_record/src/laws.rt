@@ -1,4 +1,5 @@
-ghost use Rattle.std.specs.Prelude.{◌≡◌, ◌++◌, List, ℕ, length, IfOk, IfErr};
+ghost use Rattle.std.specs.Prelude.{◌≡◌, ◌++◌, ◌<◌, ◌⊎◌, List, ℕ, length, IfOk, IfErr, MatchResult};
+ghost use Rattle.ws_code.specs.Device.{most_reads};
 ghost use Rattle.std.specs.List.{AllByRecursion};
 ghost use Rattle.ws_code.specs.declared.reason.Reason.{Reason};
 ghost use Rattle.ws_record.specs.declared.record.Item.{Item};
@@ -8,9 +9,9 @@ ghost use Rattle.ws_record.specs.Encode.{AreEncoded, IsInRange, IsEncodeFault, p
 ghost use Rattle.ws_record.specs.OpenPrefix.{IsRefusedByPrefix, IsTruncatedByPrefix};
 ghost use Rattle.ws_record.specs.Refusal.{IsRefused, IsTruncated};
 
-use crate::{EncodeFault, Item, decode_all, encode};
+use crate::{EncodeFault, Item, decode_all, decode_from, encode};
 use std::alloc::Global;
-use ws_code::Body;
+use ws_code::{Body, Fault, SliceSource};
 
 /// A list of bytes spells at most one list of items.
 pub fn one_reading<B: Body>()
@@ -34,6 +35,15 @@ pub fn one_truncation<B: Body>()
         → IsTruncated B.rules bytes → IsTruncatedByPrefix B.rules bytes }
     ensures and_back { (bytes : List ℕ)
         → IsTruncatedByPrefix B.rules bytes → IsTruncated B.rules bytes }
+{}
+
+/// Bytes are refused at one place and for one reason, or they are truncated, and not both.
+pub fn one_fault<B: Body>()
+    ensures refused { (bytes : List ℕ) (place other : ℕ) (reason another : Reason)
+        → IsRefused B.rules bytes place reason → IsRefused B.rules bytes other another
+        → (place ≡ other) × (reason ≡ another) }
+    ensures apart { (bytes : List ℕ) (place : ℕ) (reason : Reason)
+        → IsRefused B.rules bytes place reason → IsTruncated B.rules bytes → ⊥ }
 {}
 
 /// The plain spelling of items that can be encoded is in the grammar, and spells these items and no
@@ -77,4 +87,29 @@ pub fn encode_and_decode<B: Body>(
         Ok(found) => Ok(found),
         Err(_) => Err(EncodeFault::Memory),
     }
+}
+
+/// Decodes the bytes at once, and through a source over them: the same items, or the same fault, unless one of
+/// the two was refused a growth. The bytes are fewer than 4,294,967,296, since so many reads of a source are made
+/// at most.
+pub fn decode_both_ways<B: Body>(
+    alloc: Global,
+    bytes: &[u8],
+) -> (
+    Result<Vec<Item<B::Unit>>, Fault>,
+    Result<Vec<Item<B::Unit>>, Fault>,
+)
+    requires { length bytes.now < most_reads }
+    ensures alike { MatchResult result.0
+        (λ found. MatchResult result.1
+        (λ others. found.items ≡ others.items)
+        (λ other. other ≡ Fault.Memory))
+        (λ fault. MatchResult result.1
+        (λ others. fault ≡ Fault.Memory)
+        (λ other. (fault ≡ Fault.Memory) ⊎ (other ≡ Fault.Memory) ⊎ (fault ≡ other))) }
+{
+    let mut source = SliceSource::new(bytes);
+    let at_once = decode_all::<B>(alloc, bytes);
+    let from_source = decode_from::<B, SliceSource>(alloc, &mut source);
+    (at_once, from_source)
 }

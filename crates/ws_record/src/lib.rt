@@ -16,8 +16,8 @@ mod record_writer;
 pub use decode::{decode_all, decode_from};
 pub use encoder::{EncodeFault, encode, encode_to};
 pub use laws::{
-    encode_and_decode, encoding_spells_its_items, fronts_hold_items, one_reading, one_refusal,
-    one_truncation,
+    decode_both_ways, encode_and_decode, encoding_spells_its_items, fronts_hold_items, one_fault,
+    one_reading, one_refusal, one_truncation,
 };
 pub use live::{Live, Step};
 pub use opcode::Opcode;
@@ -35,5 +35,7 @@ mod encode_tests;
 mod escaped;
 #[cfg(test)]
 mod feed_tests;
+#[cfg(test)]
+mod size_tests;
 #[cfg(test)]
 mod tests;

@@ -165,6 +165,8 @@ fn whole_lists(rt: HostRuntime) -> Result<(), Fail> {
         assert_eq!(rt; found.as_str(), *wanted, "{row} from a source");
     }
     one_reading::<RawBody>();
+    one_fault::<RawBody>();
+    fronts_hold_items::<RawBody>();
     one_refusal::<RawBody>();
     one_truncation::<RawBody>();
     Ok(())
@@ -220,10 +222,10 @@ fn length_255(rt: HostRuntime) -> Result<(), Fail> {
     Ok(())
 }
 
-// A body whose first unit must be 04, at a place of its own.
+// A body whose first byte must be 04, behind which it may not end.
 #[test]
 fn another_body(rt: HostRuntime) -> Result<(), Fail> {
-    let rows: [Row; 3] = [
+    let rows: [Row; 4] = [
         (
             "no unit",
             b"\x00\x0a\x12\xa0\x00\x00\x04\x00\x00\x01\xff\xef",
@@ -238,6 +240,11 @@ fn another_body(rt: HostRuntime) -> Result<(), Fail> {
             "another first",
             b"\x00\x0b\x12\xa0\x00\x00\x04\x00\x00\x03\xc1",
             "refused at 10: 20",
+        ),
+        (
+            "an end behind 04",
+            b"\x00\x0b\x12\xa0\x00\x00\x04\x00\x00\x03\x04\xff\xef",
+            "refused at 12: 44",
         ),
     ];
     for (row, bytes, wanted) in &rows {
