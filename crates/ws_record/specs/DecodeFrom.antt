@@ -6,7 +6,8 @@ use Rattle.ws_code.specs.declared.fault.Fault.TheVariants.{Refused, Truncated, M
 use Rattle.ws_record.specs.Refusal.{IsRefused, IsTruncated}
 
 -- What a decoder of a source answers where it gives no items: the bytes that the source gave are refused, or
--- end too early, or a growth was refused, or the source failed.
+-- end too early, or a growth was refused, or a read failed, or the most reads didn't reach the end.
+-- Each of these words counts the reads: no more are made than one call may make.
 abbrev pub IsSourceFault : {Place U S : Type 0} → Rules Place U → MayGive S → (S → ℕ) → S → S → Fault → Type 0
 IsSourceFault rules gives failures from to (Refused place reason) = (bytes : List ℕ) × (reads : ℕ) × Gave gives failures from to reads bytes × IsRefused rules bytes place reason
 IsSourceFault rules gives failures from to (Truncated n) = (bytes : List ℕ) × GaveAll gives failures from to bytes × (n ≡ length bytes) × IsTruncated rules bytes

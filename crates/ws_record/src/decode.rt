@@ -30,8 +30,8 @@ pub fn decode_all<B: Body>(alloc: Global, bytes: &[u8]) -> Result<Vec<Item<B::Un
 
 /// The items that the bytes of the source spell, up to its end.
 ///
-/// `Refused`, `Truncated` and `Memory` as of `decode_all`; `Read` where a read failed, or 4,294,967,296
-/// reads didn't reach the end. A failed read is never taken for the end.
+/// `Refused`, `Truncated` and `Memory` as of `decode_all`; `Read` exactly where a read failed, or 4,294,967,296
+/// reads didn't reach the end. No more reads are made than these. A failed read is never taken for the end.
 pub fn decode_from<B: Body, S: Source>(
     alloc: Global,
     source: &mut S,
