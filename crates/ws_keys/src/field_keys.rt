@@ -1,0 +1,97 @@
+//! Keys that change the open field and enter no character.
+ghost use Rattle.std.specs.Prelude.{◌≡◌, ◌≤◌, ◌+◌, ◌-◌, ◌∷◌, [], Some, false, MatchResult};
+ghost use Rattle.ws_screen.specs.Keyed.{after_edit, field_edit, cells_of, open_field};
+ghost use Rattle.ws_keys.specs.Changes.{changed, AsksChange};
+ghost use Rattle.ws_keys.specs.Keys as Spec;
+ghost use Rattle.ws_keys.specs.declared.key.Key.TheVariants as Pressing;
+
+use crate::answer::Answer;
+use crate::edit::{Change, FieldEdit, is_signed};
+use crate::key::KeyRefusal;
+use crate::movement::next_field;
+use ws_code::Address;
+use ws_screen::{Field, Screen};
+
+// The open field, at an unlocked keyboard.
+pub fn entered(screen: &Screen) -> Result<Field, KeyRefusal>
+    ensures { MatchResult result
+        (λ field. (screen.now.locked ≡ false) × (open_field screen.now ≡ Some field)
+        × (1 ≤ field.length) × (field.start + field.length ≤ 1920))
+        (λ why. Spec.first_of (Spec.locked screen.now ∷ Spec.protected screen.now ∷ []) ≡ Some why) }
+{
+    if screen.locked() {
+        return Err(KeyRefusal::Locked);
+    }
+    match screen.open_field() {
+        Some(field) => Ok(field),
+        None => Err(KeyRefusal::Protected),
+    }
+}
+
+// Changes the open field at the cursor.
+pub fn change_field(screen: &mut Screen, field: &Field, change: Change, to: Address)
+    requires open_ { open_field screen.old ≡ Some field.now }
+    requires asked { AsksChange change field.now.format (screen.old.cursor - field.now.start) field.now.length }
+    ensures { screen.new ≡ after_edit (field_edit field.now
+        (changed change field.now.format (cells_of screen.old field.now) (screen.old.cursor - field.now.start)) to)
+        screen.old }
+{
+    let edit = FieldEdit {
+        change,
+        format: field.format,
+        at: screen.cursor().place() - field.start.place(),
+    };
+    screen.edit_field(field, &edit, to);
+}
+
+pub fn delete(screen: &mut Screen) -> Result<Option<Answer>, KeyRefusal>
+    ensures { Spec.Pressed Pressing.Delete screen.old screen.new result }
+{
+    let field = entered(screen)?;
+    let to = screen.cursor();
+    change_field(screen, &field, Change::Delete, to);
+    Ok(None)
+}
+
+pub fn exit_field(screen: &mut Screen) -> Result<Option<Answer>, KeyRefusal>
+    ensures { Spec.Pressed Pressing.FieldExit screen.old screen.new result }
+{
+    let field = entered(screen)?;
+    let to = next_field(screen);
+    change_field(screen, &field, Change::Exit, to);
+    Ok(None)
+}
+
+pub fn exit_with_minus(screen: &mut Screen) -> Result<Option<Answer>, KeyRefusal>
+    ensures { Spec.Pressed Pressing.FieldMinus screen.old screen.new result }
+{
+    let field = entered(screen)?;
+    if !is_signed(field.format) {
+        return Err(KeyRefusal::WrongCharacter);
+    }
+    let to = next_field(screen);
+    change_field(screen, &field, Change::Minus, to);
+    Ok(None)
+}
+
+pub fn dup(screen: &mut Screen) -> Result<Option<Answer>, KeyRefusal>
+    ensures { Spec.Pressed Pressing.Dup screen.old screen.new result }
+{
+    let field = entered(screen)?;
+    if !field.format.dup() {
+        return Err(KeyRefusal::DupNotAllowed);
+    }
+    let to = next_field(screen);
+    change_field(screen, &field, Change::Dup, to);
+    Ok(None)
+}
+
+pub fn erase_input(screen: &mut Screen) -> Result<Option<Answer>, KeyRefusal>
+    ensures { Spec.Pressed Pressing.EraseInput screen.old screen.new result }
+{
+    if screen.locked() {
+        return Err(KeyRefusal::Locked);
+    }
+    screen.erase_input();
+    Ok(None)
+}

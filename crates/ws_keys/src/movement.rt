@@ -1,0 +1,125 @@
+//! Where keys move the cursor.
+ghost use Rattle.std.specs.Prelude.{◌≡◌, ◌<◌, ◌+◌, ◌%◌, ◌∷◌, ◌&&◌, [], Some, None, find, nat_lt, if◌then◌else◌};
+ghost use Rattle.ws_screen.specs.Formats.{find_last};
+ghost use Rattle.ws_screen.specs.Keyed.{cursor_edit};
+ghost use Rattle.ws_screen.specs.Shown.{is_open};
+ghost use Rattle.ws_keys.specs.Keys as Spec;
+
+use crate::answer::Answer;
+use crate::key::KeyRefusal;
+use ws_code::Address;
+use ws_screen::{Field, Screen};
+
+// The place some cells on, from the last to the first.
+pub fn moved(from: Address, cells: u16) -> Address
+    requires { cells < 1920 }
+    ensures { result ≡ (from + cells) % 1920 }
+{
+    match Address::at((from.place() + cells) % 1920) {
+        Some(to) => to,
+        None => from,
+    }
+}
+
+// A key that only moves the cursor.
+pub fn move_to(screen: &mut Screen, to: Address) -> Result<Option<Answer>, KeyRefusal>
+    ensures { Spec.Does (Spec.locked screen.old ∷ []) (Some (cursor_edit to)) None
+        screen.old screen.new result }
+{
+    if screen.locked() {
+        return Err(KeyRefusal::Locked);
+    }
+    screen.move_cursor(to);
+    Ok(None)
+}
+
+// The next field.
+pub fn next_field(screen: &Screen) -> Address
+    ensures { result ≡ Spec.next_field screen.now }
+{
+    let fields = screen.fields();
+    let cursor = screen.cursor();
+    match first_behind(fields.as_slice(), cursor).or(first_open(fields.as_slice())) {
+        Some(field) => field.start,
+        None => cursor,
+    }
+}
+
+// Whether keys enter a field that starts behind a place.
+fn opens_behind(field: &Field, at: Address) -> bool
+    ensures { result ≡ (is_open field.now && nat_lt at field.now.start) }
+{
+    !field.format.bypass() && at.place() < field.start.place()
+}
+
+// Whether keys enter a field that starts before a place.
+fn opens_before(field: &Field, at: Address) -> bool
+    ensures { result ≡ (is_open field.now && nat_lt field.now.start at) }
+{
+    !field.format.bypass() && field.start.place() < at.place()
+}
+
+// The first field behind a place, of those that keys enter.
+fn first_behind(fields: &[Field], at: Address) -> Option<Field>
+    ensures { result ≡ find (λ f. is_open f && nat_lt at f.start) fields.now }
+{
+    for field in fields {
+        if opens_behind(field, at) {
+            return Some(*field);
+        }
+    }
+    None
+}
+
+// The first field that keys enter.
+fn first_open(fields: &[Field]) -> Option<Field>
+    ensures { result ≡ find is_open fields.now }
+{
+    for field in fields {
+        if !field.format.bypass() {
+            return Some(*field);
+        }
+    }
+    None
+}
+
+// The field to go back to.
+pub fn field_before(screen: &Screen) -> Address
+    ensures { result ≡ Spec.field_before screen.now }
+{
+    let fields = screen.fields();
+    let cursor = screen.cursor();
+    match last_before(fields.as_slice(), cursor).or(last_open(fields.as_slice())) {
+        Some(field) => field.start,
+        None => cursor,
+    }
+}
+
+// The later one of two fields, where it passes.
+fn last_of(last: Option<Field>, passes: bool, field: Field) -> Option<Field>
+    ensures { result ≡ (if passes then Some field else last) }
+{
+    if passes { Some(field) } else { last }
+}
+
+// The last field that starts before a place, of those that keys enter.
+fn last_before(fields: &[Field], at: Address) -> Option<Field>
+    ensures { result ≡ find_last (λ f. is_open f && nat_lt f.start at) fields.now }
+{
+    let mut last = None;
+    for field in fields {
+        last = last_of(last, opens_before(field, at), *field);
+    }
+    last
+}
+
+// The last field that keys enter.
+fn last_open(fields: &[Field]) -> Option<Field>
+    ensures { result ≡ find_last is_open fields.now }
+{
+    let mut last = None;
+    for field in fields {
+        last = last_of(last, !field.format.bypass(), *field);
+    }
+    last
+}

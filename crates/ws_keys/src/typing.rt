@@ -1,0 +1,143 @@
+//! Keys that enter a character.
+ghost use Rattle.std.specs.Prelude.{◌≡◌, ◌≤◌, ◌<◌, ◌+◌, ◌&&◌, true, false, ◌==◌, slice_index, Some, MatchResult};
+ghost use Rattle.ws_code.specs.DataByte.{is_order};
+ghost use Rattle.ws_screen.specs.Keyed.{open_field};
+ghost use Rattle.ws_keys.specs.Contents as Contents;
+ghost use Rattle.ws_keys.specs.Keys as Spec;
+ghost use Rattle.ws_keys.specs.declared.key.Key.TheVariants as Pressing;
+ghost use Rattle.ws_keys.specs.declared.key.KeyRefusal.TheVariants as Why;
+
+use crate::answer::Answer;
+use crate::edit::{Change, is_signed};
+use crate::field_keys::{change_field, entered};
+use crate::key::KeyRefusal;
+use crate::movement::{moved, next_field};
+use ws_code::{Address, Shift, ebcdic};
+use ws_screen::{Field, Screen};
+
+// Whether a shift lets a character in.
+fn allows(shift: Shift, character: char) -> bool
+    ensures { result ≡ Spec.allows shift character }
+{
+    match shift {
+        Shift::Alphabetic | Shift::Numeric => true,
+        Shift::AlphabeticOnly => {
+            matches!(character, 'A'..='Z' | 'a'..='z' | ',' | '.' | '-' | ' ')
+        }
+        Shift::NumericOnly => matches!(character, '0'..='9' | ',' | '.' | '-' | ' ' | '+'),
+        Shift::DigitsOnly | Shift::SignedNumeric => matches!(character, '0'..='9'),
+    }
+}
+
+// A character as a field takes it.
+fn as_entered(field: &Field, character: char) -> char
+    ensures { result ≡ Spec.as_entered field.now character }
+{
+    if field.format.monocase() {
+        character.to_ascii_uppercase()
+    } else {
+        character
+    }
+}
+
+// A field's last cell.
+fn last_cell(field: &Field) -> u16
+    requires some { 1 ≤ field.now.length }
+    requires within { field.now.start + field.now.length ≤ 1920 }
+    ensures { result ≡ Spec.last_cell field.now }
+{
+    field.start.place() + field.length - 1
+}
+
+// Whether the cursor stands in the sign cell of a signed numeric field.
+fn at_sign(screen: &Screen, field: &Field) -> bool
+    requires some { 1 ≤ field.now.length }
+    requires within { field.now.start + field.now.length ≤ 1920 }
+    ensures { result ≡ (Contents.is_signed field.now && (screen.now.cursor == Spec.last_cell field.now)) }
+{
+    is_signed(field.format) && screen.cursor().place() == last_cell(field)
+}
+
+// The byte of a character that the open field takes at the cursor.
+fn byte_for(screen: &Screen, field: &Field, character: char) -> Result<u8, KeyRefusal>
+    requires some { 1 ≤ field.now.length }
+    requires within { field.now.start + field.now.length ≤ 1920 }
+    ensures { MatchResult result
+        (λ byte. (Spec.forbids screen.now character field.now ≡ false)
+        × (byte ≡ Spec.byte_entered field.now character) × (is_order byte ≡ false))
+        (λ why. (Spec.forbids screen.now character field.now ≡ true) × (why ≡ Why.WrongCharacter)) }
+{
+    if !allows(field.format.shift(), character) {
+        return Err(KeyRefusal::WrongCharacter);
+    }
+    if at_sign(screen, field) {
+        return Err(KeyRefusal::WrongCharacter);
+    }
+    match ebcdic::from_char(as_entered(field, character)) {
+        Some(byte) => Ok(byte),
+        None => Err(KeyRefusal::WrongCharacter),
+    }
+}
+
+// Where the cursor goes after a character.
+fn after_character(screen: &Screen, field: &Field) -> Address
+    requires open_ { open_field screen.now ≡ Some field.now }
+    requires some { 1 ≤ field.now.length }
+    requires within { field.now.start + field.now.length ≤ 1920 }
+    ensures { result ≡ Spec.after_character screen.now field.now }
+{
+    if screen.cursor().place() == last_cell(field) {
+        next_field(screen)
+    } else {
+        moved(screen.cursor(), 1)
+    }
+}
+
+pub fn type_character(screen: &mut Screen, character: char) -> Result<Option<Answer>, KeyRefusal>
+    ensures { Spec.Pressed (Pressing.Char character) screen.old screen.new result }
+{
+    let field = entered(screen)?;
+    let byte = byte_for(screen, &field, character)?;
+    let to = after_character(screen, &field);
+    change_field(screen, &field, Change::Put(byte), to);
+    Ok(None)
+}
+
+// The last cell that characters are entered in.
+fn last_entered(field: &Field) -> u16
+    requires { field.now.start + field.now.length ≤ 1920 }
+    ensures value { result ≡ Spec.last_entered field.now }
+    ensures within { 1 ≤ field.now.start + field.now.length → result < 1920 }
+{
+    let end = field.start.place() + field.length;
+    if is_signed(field.format) {
+        end.saturating_sub(2)
+    } else {
+        end.saturating_sub(1)
+    }
+}
+
+// Whether a byte can be inserted: the last cell that characters are entered in is empty.
+fn has_room(screen: &Screen, field: &Field) -> bool
+    requires some { 1 ≤ field.now.length }
+    requires within { field.now.start + field.now.length ≤ 1920 }
+    ensures { result ≡ (slice_index screen.now.cells (Spec.last_entered field.now) == 0) }
+{
+    let Some(at) = Address::at(last_entered(field)) else {
+        unreachable!()
+    };
+    screen.cell(at) == 0
+}
+
+pub fn insert_character(screen: &mut Screen, character: char) -> Result<Option<Answer>, KeyRefusal>
+    ensures { Spec.Pressed (Pressing.Insert character) screen.old screen.new result }
+{
+    let field = entered(screen)?;
+    let byte = byte_for(screen, &field, character)?;
+    if !has_room(screen, &field) {
+        return Err(KeyRefusal::NoRoom);
+    }
+    let to = after_character(screen, &field);
+    change_field(screen, &field, Change::Insert(byte), to);
+    Ok(None)
+}
