@@ -10,6 +10,7 @@ use ws_code::{Body, Code};
 pub fn is_body(body: &[Element]) -> bool
     ensures same { result ≡ spec.is_body body.now }
     ensures chain { result ≡ true → IsChain element_rules element_rules.first body.now }
+    ensures only { IsChain element_rules element_rules.first body.now → result ≡ true }
 {
     let mut place = Commands::first();
     for element in body {

@@ -1,10 +1,12 @@
 //! The commands of a host's body, and the end of a write.
-ghost use Rattle.std.specs.Prelude.{◌≡◌, None, IsSome};
+ghost use Rattle.std.specs.Prelude.{◌≡◌, Some, None, IsSome};
+ghost use Rattle.ws_stream.specs.declared.element.Element.{Element as AnElement};
 ghost use Rattle.ws_stream.specs.declared.element.Element.TheVariants.{ClearUnit, ClearFormat, Write};
 ghost use Rattle.ws_screen.specs.Events.{did};
-ghost use Rattle.ws_screen.specs.Given.{Follows, FollowsAll, ends_of};
+ghost use Rattle.ws_screen.specs.Given.{Follows, FollowsAll, ends_of, events_of};
 ghost use Rattle.ws_screen.specs.Shown.{IsLegal};
-ghost use Rattle.ws_screen.specs.Steps.{IsCarried, after_cc2, unformatted, read_of};
+ghost use Rattle.ws_screen.specs.Reads.{read_in};
+ghost use Rattle.ws_screen.specs.Steps.{IsCarried, after_cc2, unformatted};
 
 use crate::cells::fill;
 use crate::control::{cursor_after, light_after, locked_after, still_locked};
@@ -103,13 +105,17 @@ impl Screen {
         self.cursor = Address::default();
     }
 
-    // A read, outside of a write: carries out its CC1 and its CC2, and becomes the pending read.
+    // A read: ends an open write, carries out its CC1 and its CC2, and becomes the pending read.
     pub(super) fn read(&mut self, kind: ReadKind, cc1: u8, cc2: u8)
-        requires { self.old.writing ≡ None }
-        ensures event { Follows (did (read_of kind cc1 cc2)) self.old self.new }
+        ensures events { (e : AnElement) → read_in e ≡ Some (record {
+          kind = kind;
+          cc1 = cc1;
+          cc2 = cc2;
+        }) → FollowsAll (events_of self.old.writing e) self.old self.new }
         ensures closed { self.new.writing ≡ None }
         ensures legal { IsLegal self.new }
     {
+        self.end_write();
         self.carry_cc1(cc1);
         self.carry_cc2(cc2, None);
         self.pending = Some(kind);
