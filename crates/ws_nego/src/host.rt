@@ -7,13 +7,13 @@ ghost use Rattle.ws_nego.specs.Host.{HostState, new_host, opening, after_open, r
 
 use crate::TerminalType;
 use crate::options::{
-    BINARY, Direction, END_OF_RECORD, IS, OptionTable, Reply, SEND, TERMINAL_TYPE,
-    direction_at_host, no_reply, option_reply, push_option, refusal, terminal_type_reply,
+    Direction, IS, OptionTable, Reply, SEND, direction_at_host, no_reply, option_reply,
+    push_option, refusal, terminal_type_reply,
 };
 use arrayvec::ArrayVec;
 use std::marker::Model;
 use ws_code::{ByteList, Reason};
-use ws_telnet::{Sub, Telnet, Verb};
+use ws_telnet::{BINARY, END_OF_RECORD, Sub, TERMINAL_TYPE, Telnet, Verb};
 
 /// What a host end knows of a direction.
 #[derive(Clone, Copy, Debug, PartialEq, Eq)]

@@ -5,19 +5,10 @@ ghost use Rattle.ws_nego.specs.Options.{entry, with_entry, refusal_of, option_to
 
 use arrayvec::ArrayVec;
 use ws_code::ByteList;
-use ws_telnet::{Sub, Telnet, Token, Verb, spell};
+use ws_telnet::{BINARY, END_OF_RECORD, Sub, TERMINAL_TYPE, Telnet, Token, Verb, spell};
 
 /// What an end writes in answer to one token: at most 17 bytes.
 pub type Reply = ByteList<17>;
-
-/// Transmit Binary (RFC 856, section 1).
-pub const BINARY: u8 = 0x00;
-
-/// Terminal Type (RFC 1091, section 1).
-pub const TERMINAL_TYPE: u8 = 0x18;
-
-/// End of Record (RFC 885, section 1).
-pub const END_OF_RECORD: u8 = 0x19;
 
 /// The first byte of a subnegotiation of TERMINAL-TYPE that brings a name (RFC 1091, section 2).
 pub const IS: u8 = 0;

@@ -5,11 +5,11 @@ ghost use Rattle.ws_nego.specs.Station.{StationState, new_station, name_answer, 
 
 use crate::TerminalType;
 use crate::options::{
-    IS, OptionTable, Reply, SEND, TERMINAL_TYPE, direction_at_station, no_reply, option_reply,
-    refusal, terminal_type_reply,
+    IS, OptionTable, Reply, SEND, direction_at_station, no_reply, option_reply, refusal,
+    terminal_type_reply,
 };
 use std::marker::Model;
-use ws_telnet::{Sub, Telnet, Verb};
+use ws_telnet::{Sub, TERMINAL_TYPE, Telnet, Verb};
 
 /// The options of a display station. It performs BINARY, TERMINAL-TYPE and END-OF-RECORD when it is
 /// asked to, lets the host end perform BINARY and END-OF-RECORD, and never asks by itself (RFC 854,

@@ -5,7 +5,7 @@ ghost use Rattle.ws_code.specs.Push.{MatchPush};
 ghost use Rattle.ws_telnet.specs.Machine.{unfinished_of};
 ghost use Rattle.ws_telnet.specs.TokenLaws.{token_nonempty, token_bytes_are, token_prefix_free, token_begins};
 
-use crate::{CommandCode, Sub, Telnet, Token, Verb};
+use crate::{CommandCode, EOR, IAC, SB, SE, Sub, Telnet, Token, Verb};
 use arrayvec::ArrayVec;
 use ws_code::{ByteList, Code, Push, Reason};
 
@@ -77,13 +77,13 @@ impl Tokens {
             (λ reason. ¬ IsPrefix token_rules tt (0xff ∷ byte ∷ [])
             × (reason ≡ token_reason (0xff ∷ []) byte)) }
     {
-        if byte == 0xff {
+        if byte == IAC {
             return Push::Unit(Token::Data(byte));
         }
-        if byte == 0xef {
+        if byte == EOR {
             return Push::Unit(Token::Eor);
         }
-        if byte == 0xfa {
+        if byte == SB {
             self.phase = Phase::SubOption;
             return Push::More;
         }
@@ -94,7 +94,7 @@ impl Tokens {
             self.phase = Phase::Negotiation(verb);
             return Push::More;
         }
-        if byte == 0xf0 {
+        if byte == SE {
             Push::Bad(Reason::StraySe)
         } else {
             Push::Bad(Reason::BadCommand)
@@ -116,7 +116,7 @@ impl Tokens {
             (λ reason. ¬ IsPrefix token_rules tt (unfinished_of self.old ++ byte ∷ [])
             × (reason ≡ token_reason (unfinished_of self.old) byte)) }
     {
-        if byte == 0xff {
+        if byte == IAC {
             self.phase = Phase::ContentIac;
             Push::More
         } else if self.content.is_full() {
@@ -142,14 +142,14 @@ impl Tokens {
             (λ reason. ¬ IsPrefix token_rules tt (unfinished_of self.old ++ byte ∷ [])
             × (reason ≡ token_reason (unfinished_of self.old) byte)) }
     {
-        if byte == 0xf0 {
+        if byte == SE {
             let content = std::mem::replace(&mut self.content, ArrayVec::new());
             return Push::Unit(Token::Telnet(Telnet::Sub(Sub {
                 option: self.option,
                 data_: ByteList::of(content),
             })));
         }
-        if byte != 0xff {
+        if byte != IAC {
             return Push::Bad(Reason::BadSub);
         }
         if self.content.is_full() {
@@ -199,7 +199,7 @@ impl Code for Tokens {
     fn push(&mut self, byte: u8) -> Push<Token> {
         match self.phase {
             Phase::Begin => {
-                if byte == 0xff {
+                if byte == IAC {
                     self.phase = Phase::Iac;
                     Push::More
                 } else {

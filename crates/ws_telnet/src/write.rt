@@ -3,7 +3,7 @@ ghost use Rattle.std.specs.List.{flat_map};
 ghost use Rattle.ws_code.specs.Device.{WentOut, FailedWithin};
 ghost use Rattle.ws_telnet.specs.Token.{doubled, telnet_spelling, token_spelling};
 
-use crate::{Telnet, Token};
+use crate::{EOR, IAC, SB, SE, Telnet, Token};
 use arrayvec::ArrayVec;
 use ws_code::{Fault, Sink, write_whole};
 
@@ -15,8 +15,8 @@ pub fn spell(token: &Token, into: &mut ArrayVec<u8, 133>)
     match token {
         Token::Data(byte) => push_doubled(into, *byte),
         Token::Eor => {
-            into.push(0xff);
-            into.push(0xef);
+            into.push(IAC);
+            into.push(EOR);
         }
         Token::Telnet(telnet) => spell_telnet(telnet, into),
     }
@@ -54,7 +54,7 @@ fn spell_telnet(telnet: &Telnet, into: &mut ArrayVec<u8, 133>)
     requires { into.old.items ≡ [] }
     ensures { into.new.items ≡ telnet_spelling telnet.now }
 {
-    into.push(0xff);
+    into.push(IAC);
     match telnet {
         Telnet::Command(code) => into.push(code.byte()),
         Telnet::Option(verb, option) => {
@@ -62,11 +62,11 @@ fn spell_telnet(telnet: &Telnet, into: &mut ArrayVec<u8, 133>)
             into.push(*option);
         }
         Telnet::Sub(sub) => {
-            into.push(0xfa);
+            into.push(SB);
             into.push(sub.option);
             push_all_doubled(into, sub.data_.as_slice());
-            into.push(0xff);
-            into.push(0xf0);
+            into.push(IAC);
+            into.push(SE);
         }
     }
 }
@@ -77,7 +77,7 @@ fn push_doubled(into: &mut ArrayVec<u8, 133>, byte: u8)
     ensures { into.new.items ≡ into.old.items ++ doubled byte }
 {
     into.push(byte);
-    if byte == 0xff {
+    if byte == IAC {
         into.push(byte);
     }
 }

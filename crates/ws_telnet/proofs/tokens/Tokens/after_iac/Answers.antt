@@ -4,9 +4,9 @@ use Rattle.ws_telnet.specs.Token.{token_rules}
 use Rattle.ws_telnet.proofs.Unfinished.{sub_begins, negotiation_begins}
 use Rattle.ws_telnet.proofs.tokens.Tokens.after_iac.Goals as goal
 
-pub returns-then-byte-eq250-clause-more : goal.returns-then-byte-eq250-clause-more
-returns-then-byte-eq250-clause-more c =
-    (subst (λ (n : ℕ). IsUnfinished token_rules tt (255 ∷ n ∷ [])) (sym c.if-byte-eq250.true) sub_begins, ap (λ (n : ℕ). let l : List ℕ = 255 ∷ n ∷ [] in l) (sym c.if-byte-eq250.true))
+pub returns-then-byte-eq-SB-clause-more : goal.returns-then-byte-eq-SB-clause-more
+returns-then-byte-eq-SB-clause-more c =
+    (subst (λ (n : ℕ). IsUnfinished token_rules tt (255 ∷ n ∷ [])) (sym c.if-byte-eq-SB.true) sub_begins, ap (λ (n : ℕ). let l : List ℕ = 255 ∷ n ∷ [] in l) (sym c.if-byte-eq-SB.true))
 
 pub returns-in-Some-verb_of-clause-more : goal.returns-in-Some-verb_of-clause-more
 returns-in-Some-verb_of-clause-more c =
