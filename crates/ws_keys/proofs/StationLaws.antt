@@ -1,17 +1,15 @@
 -- A station's answer holds what the station sent, over every list of fields that is the station's but for MDTs.
-use Rattle.std.proofs.Common.{◌≡◌, ℕ, zero, suc, ◌+◌, ◌-◌, ◌<◌, ◌≤◌, List, [], ◌∷◌, ◌++◌, Bool, true, false, Option, Some, None, length, find, if◌then◌else◌, refl, sym, ap, ◌∙◌, subst, arith, map, take, drop, get_or, filter, inl, inr, length-append, length-take, length-drop}
-use Rattle.std.specs.Prelude.{Result, Ok, Err, sum_by, All, ◌==◌, ◌&&◌, ◌||◌, nat_le, slice_index}
-use Rattle.std.specs.Option.{option_map_or}
-use Rattle.std.specs.List.{flat_map, list_any, list_all}
+use Rattle.std.proofs.Common.{◌≡◌, ℕ, zero, suc, ◌+◌, ◌-◌, ◌<◌, ◌≤◌, List, [], ◌∷◌, Bool, true, false, Some, length, find, if◌then◌else◌, refl, sym, ap, ◌∙◌, subst, arith, map, take, drop, get_or, filter, inl, inr, length-append, length-take, length-drop}
+use Rattle.std.specs.Prelude.{Result, Ok, Err, sum_by, All, ◌==◌, slice_index}
+use Rattle.std.specs.List.{flat_map, list_any}
 use Rattle.std.specs.List.Sorted.{IsStrictlyIncreasing}
 use borrow.Author.Tests.{ne_eqb}
-use Rattle.std.proofs.lemmas.Bool.{eq-eqb, false≢true, and_parts, and_from, leb-true, le-leb}
+use Rattle.std.proofs.lemmas.Bool.{eq-eqb}
 use Rattle.std.proofs.lemmas.List.{length-map, get_or-map}
-use Rattle.std.proofs.lemmas.List.Elements.{All-cons, All-head, All-tail}
+use Rattle.std.proofs.lemmas.List.Elements.{All-cons}
 use Rattle.std.proofs.lemmas.List.Sums.{sum_by-cons}
 use Rattle.ws_code.specs.FormatWord.{shift_number, with_mdt}
 use Rattle.ws_stream.specs.declared.answer_part.AnswerPart.{AnswerPart}
-use Rattle.ws_stream.specs.declared.answer_part.AnswerPart.TheVariants.{Head, Byte, At}
 use Rattle.ws_screen.specs.declared.field.Field.{Field}
 use Rattle.ws_screen.specs.declared.read_kind.ReadKind.{ReadKind}
 use Rattle.ws_screen.specs.declared.read_kind.ReadKind.TheVariants.{Input, Mdt, MdtAlternate}
@@ -23,7 +21,6 @@ use Rattle.ws_keys.proofs.ContentLemmas.{length-negated}
 use Rattle.ws_screen.proofs.Legal.{apart-le}
 use Rattle.ws_screen.specs.Keyed.{returns_data}
 use Rattle.ws_keys.specs.Contents.{field_parts, field_content, has_mdt, sent_length, sent_cells, is_negative, treated, blank_for_null, sent_as, modified, content, all_input, data_parts, answer_parts}
-use Rattle.ws_keys.specs.Parsing.{NoByteFirst, IsFault, IsFit, addresses, fits_field, rising_from}
 use Rattle.ws_keys.specs.Splits.{CutsInput, ReadsModified, SplitsData, Splits, FitsField, SameFields, cut, cut_input, read_back, answer_of, IsSplit, ReadsBack}
 use Rattle.ws_keys.specs.declared.host_answer.HostFault.{HostFault}
 use Rattle.ws_keys.specs.declared.host_answer.HostFault.TheVariants.{Reason, Memory}
