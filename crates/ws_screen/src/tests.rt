@@ -1,7 +1,7 @@
-use crate::{ReadKind, Screen};
+use crate::{CellEdit, ReadKind, Screen, apply_elements};
 use std::process::Abort;
-use ws_code::{Address, Body, Code, DataByte, Ffw, Reason};
-use ws_stream::{Commands, Element, EraseList, FieldStart, SohBytes};
+use ws_code::{Address, Aid, Body, Code, DataByte, Ffw, Reason};
+use ws_stream::{Commands, Element, EraseList, FieldStart, SohBytes, is_body};
 
 fn place(rt: &impl Abort, place: u16) -> Address {
     Address::at(place).expect(rt, "a cell")
@@ -283,6 +283,13 @@ fn states(rt: HostRuntime) {
     let read = [Element::ReadInput { cc1: 0, cc2: 0 }];
     assert_eq!(rt; apply_all(&rt, &mut screen, &read), None);
     assert_eq!(rt; screen.pending(), Some(ReadKind::Input));
+    let read = [Element::ReadMdtAlternate {
+        cc1: 0x20,
+        cc2: 0x06,
+    }];
+    assert_eq!(rt; apply_all(&rt, &mut screen, &read), None);
+    assert_eq!(rt; screen.pending(), Some(ReadKind::MdtAlternate));
+    assert!(rt; screen.locked() && !screen.message());
     assert_eq!(rt; apply_all(&rt, &mut screen, &[Element::ClearFormat]), None);
     assert_eq!(rt; screen.pending(), None);
     assert_eq!(rt; screen.fields().len(), 0);
@@ -290,4 +297,53 @@ fn states(rt: HostRuntime) {
     assert_eq!(rt; apply_all(&rt, &mut screen, &[Element::ClearUnit]), None);
     assert_eq!(rt; screen.cursor().place(), 0);
     assert_eq!(rt; screen.line(1).as_str().trim_end(), "");
+}
+
+// An edit that leaves the cells as they are.
+struct Unchanged;
+
+impl CellEdit for Unchanged {
+    ghost asks = { λ edit n. Unit {0} };
+
+    ghost becomes = { λ edit cells. cells };
+
+    fn carry_out(&self, _cells: &mut [u8]) {}
+}
+
+// A body on a screen, and what a key may do to it then.
+#[test]
+fn keyed(rt: HostRuntime) {
+    let body = [
+        begin(),
+        Element::Soh(SohBytes::new(&[0, 0, 0, 0, 0, 0, 4]).expect(&rt, "a header")),
+        sba(&rt, 6, 52),
+        input(&rt, 0x4000, 0x20, 10),
+        Element::ReadMdtAlternate { cc1: 0, cc2: 0 },
+    ];
+    let mut screen = Screen::new();
+    screen.end_write();
+    let whole = is_body(&body);
+    assert!(rt; whole);
+    assert_eq!(rt; apply_elements(&mut screen, &body), Ok(()));
+    screen.known();
+    let enter = Aid::from_byte(0xF1).expect(&rt, "Enter");
+    assert!(rt; screen.returns_data(enter));
+    let third = Aid::function(3).expect(&rt, "F3");
+    assert!(rt; !screen.returns_data(third));
+
+    let field = screen.open_field().expect(&rt, "an open field");
+    let on_screen = field.start.place() as u32 + field.length as u32 <= 1920;
+    assert!(rt; on_screen);
+    assert_eq!(rt; screen.field_cells(&field), [0; 10].as_slice());
+    screen.edit_field(&field, &Unchanged, place(&rt, 453));
+    assert_eq!(rt; field_at(&rt, &screen, 452), Some((10, 0x4800)));
+    assert_eq!(rt; screen.cursor().place(), 453);
+    screen.move_cursor(place(&rt, 7));
+    assert_eq!(rt; screen.cursor().place(), 7);
+    screen.erase_input();
+    assert_eq!(rt; field_at(&rt, &screen, 452), Some((10, 0x4000)));
+    assert_eq!(rt; screen.cursor().place(), 452);
+    screen.answer_read();
+    assert!(rt; screen.locked());
+    assert_eq!(rt; screen.pending(), None);
 }
