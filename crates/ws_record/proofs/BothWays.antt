@@ -34,6 +34,17 @@ module _ {Place U : Type 0} (rules : Rules Place U) (failures : List ℕ → ℕ
   fault_at bytes from to same few fault f =
       source_fault bytes to few fault (subst (λ (x : List ℕ). IsSourceFault rules list_gives failures x to fault) same f)
 
+  -- the answer of a source over bytes is one to these bytes
+  pub source_accepts : {A : Type 0} (from_source : Result A Fault) (items : A → List (Item U)) (bytes from to : List ℕ) → from ≡ bytes
+      → IfOk from_source (λ a. (given : List ℕ) × GaveAll list_gives failures from to given × Accepts rules given (items a)) → IfOk from_source (λ a. Accepts rules bytes (items a))
+  source_accepts (Ok a) items bytes from to same q = subst (λ (x : List ℕ). Accepts rules x (items a)) ((list_gave_all failures from to q.0 q.1).0 ∙ same) q.2
+  source_accepts (Err f) items bytes from to same q = tt
+
+  pub source_faults : {A : Type 0} (from_source : Result A Fault) (bytes from to : List ℕ) → from ≡ bytes → length bytes < most_reads
+      → IfErr from_source (λ f. IsSourceFault rules list_gives failures from to f) → IfErr from_source (λ f. IsDecodeFault rules bytes f)
+  source_faults (Ok a) bytes from to same few q = tt
+  source_faults (Err f) bytes from to same few q = fault_at bytes from to same few f q
+
   -- both answers
   pub both_ways : {A : Type 0} → IsPrefixFree rules → Begins rules → (at_once from_source : Result A Fault) (items : A → List (Item U)) (bytes from to : List ℕ) → from ≡ bytes → length bytes < most_reads
       → IfOk at_once (λ a. Accepts rules bytes (items a)) → IfErr at_once (λ f. IsDecodeFault rules bytes f)

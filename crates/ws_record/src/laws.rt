@@ -7,6 +7,7 @@ ghost use Rattle.ws_record.specs.Arrived.{arrived};
 ghost use Rattle.ws_record.specs.Grammar.{Holds, Spells, Accepts};
 ghost use Rattle.ws_record.specs.Encode.{AreEncoded, IsInRange, IsEncodeFault, plain_spelling};
 ghost use Rattle.ws_record.specs.OpenPrefix.{IsRefusedByPrefix, IsTruncatedByPrefix};
+ghost use Rattle.ws_record.specs.Receiver.{IsDecodeFault};
 ghost use Rattle.ws_record.specs.Refusal.{IsRefused, IsTruncated};
 
 use crate::{EncodeFault, Item, decode_all, decode_from, encode};
@@ -100,6 +101,10 @@ pub fn decode_both_ways<B: Body>(
     Result<Vec<Item<B::Unit>>, Fault>,
 )
     requires { length bytes.now < most_reads }
+    ensures accepted { IfOk result.0 (λ items. Accepts B.rules bytes.now items.items) }
+    ensures fault { IfErr result.0 (λ fault. IsDecodeFault B.rules bytes.now fault) }
+    ensures source_accepted { IfOk result.1 (λ items. Accepts B.rules bytes.now items.items) }
+    ensures source_fault { IfErr result.1 (λ fault. IsDecodeFault B.rules bytes.now fault) }
     ensures alike { MatchResult result.0
         (λ found. MatchResult result.1
         (λ others. found.items ≡ others.items)
