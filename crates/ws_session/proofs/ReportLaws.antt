@@ -8,7 +8,7 @@ use Rattle.ws_stream.specs.AnswerParts.{answer_rules}
 use Rattle.ws_stream.specs.Elements.{element_rules}
 use Rattle.ws_session.specs.declared.world.Event.{Event}
 use Rattle.ws_session.specs.declared.world.Move.{Move}
-use Rattle.ws_session.specs.Answered.{answers_in}
+use Rattle.ws_session.specs.Answered.{answers_in, answers_coming}
 use Rattle.ws_session.specs.Deliveries.{three_deliveries}
 use Rattle.ws_session.specs.HostLeads.{HostHolding}
 use Rattle.ws_session.specs.Refusals.{refusals_in}
@@ -17,6 +17,7 @@ use Rattle.ws_session.specs.StationLeads.{Holding}
 use Rattle.ws_session.specs.World.{World, new_world, down_bytes, up_bytes, after_moves}
 use Rattle.ws_session.proofs.Agreements.{agree_when_quiet}
 use Rattle.ws_session.proofs.Calms.{none_refused}
+use Rattle.ws_session.proofs.Comings.{rest_on_its_way}
 use Rattle.ws_session.proofs.Flights.{not_more}
 use Rattle.ws_session.proofs.Openings.{opens}
 use Rattle.ws_session.proofs.Worlds.{sound}
@@ -45,8 +46,8 @@ module _ (t : TerminalType) (ms : List Move) (told : List Event) (station : Hold
   pub unrefused : refusals_in told ≡ []
   unrefused = ap refusals_in r.events ∙ none_refused t ms
 
-  pub answers_first : (later : List HostAnswer) × (now.answered ≡ answers_in told ++ later)
-  answers_first = let s = sound t ms in (s.later, s.answered ∙ ap (λ l. answers_in l ++ s.later) (sym r.events))
+  pub answers_first : (later : List HostAnswer) × (now.answered ≡ answers_in told ++ later) × (length later ≡ length (answers_coming now))
+  answers_first = let s = sound t ms in (s.later, s.answered ∙ ap (λ l. answers_in l ++ s.later) (sym r.events), rest_on_its_way t now s)
 
   pub tables_agree : down ≡ [] → up ≡ [] → TablesAgree station.options host.options
   tables_agree d u =

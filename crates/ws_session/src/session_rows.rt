@@ -144,7 +144,8 @@ fn typed_while_arriving_stays_on_the_screen(rt: HostRuntime) {
         let text = if row == 6 { "BO" } else { "" };
         assert_eq!(rt; line.as_str().trim(), text, "row {row}");
     }
-    assert!(rt; screen.line(6).as_str()[52..].starts_with("BO"));
+    let typed = Address::at(452).expect(&rt, "a cell");
+    assert_eq!(rt; screen.cell(typed), 0xc2);
     assert_eq!(rt; (screen.cursor().row(), screen.cursor().col()), (6, 55));
     assert!(rt; screen.locked() && screen.message() && !screen.blink());
     assert_eq!(rt; screen.fields().len(), 1);

@@ -22,5 +22,7 @@ pub returns : goal.returns
 returns c =
     let s = c.self.inside in
     let old : HostHolding = record { receiver = s.receiver; options = s.options; screen = s.kept; cancelling = s.cancelling; failed = s.has_failed } in
-    record { read = subst (λ (h : HostHolding). (k : ReadKind) → h.screen.pending ≡ Some k → IsRead (read_answer k h.screen.fields c.args.parts.now) c.split_answer.result) c.self.view_is
-        (asked_read old.screen.pending old.screen.fields c.args.parts.now c.in-Some.kind c.split_answer.result (sym c.pending.ensures ∙ c.in-Some.is) c.split_answer.ensures.split) }
+    record {
+      read = subst (λ (h : HostHolding). (k : ReadKind) → h.screen.pending ≡ Some k → IsRead (read_answer k h.screen.fields c.args.parts.now) c.split_answer.result) c.self.view_is
+          (asked_read old.screen.pending old.screen.fields c.args.parts.now c.in-Some.kind c.split_answer.result (sym c.pending.ensures ∙ c.in-Some.is) c.split_answer.ensures.split);
+    }
