@@ -1,5 +1,5 @@
 use Rattle.std.specs.Prelude.{if◌then◌else◌, filter}
-use Rattle.std.proofs.Common.{◌≡◌, ℕ, ◌+◌, ◌-◌, ◌<◌, ◌≤◌, List, [], ◌∷◌, ◌++◌, Bool, true, false, nat_lt, Option, Some, length, refl, ap, ◌∙◌, sym, arith}
+use Rattle.std.proofs.Common.{◌≡◌, ℕ, suc, ◌+◌, ◌-◌, ◌<◌, ◌≤◌, List, [], ◌∷◌, ◌++◌, Bool, true, false, nat_lt, Option, Some, length, refl, ap, ◌∙◌, sym, arith}
 use Rattle.std.proofs.lemmas.Bool.Decides.{nat_tests}
 use Rattle.ws_code.specs.Code.{Rules}
 use Rattle.ws_telnet.specs.declared.token.Telnet.{Telnet}
@@ -48,7 +48,7 @@ no_answers (u ∷ us) items = no_answers us items
 -- each of those on its way says what is awaited
 as_many : (places : List Field) (asked : Option ReadKind) (es : List Sent) (later : List HostAnswer) → Waits places asked es later → length later ≡ length (filter is_answer (sents es))
 as_many places asked [] later w = ap length w
-as_many places asked (Replies parts ∷ es) later (kind, fs, x, rest, a, b, c, d, w) = ap length d ∙ ap (λ n. n + 1) (as_many places asked es rest w)
+as_many places asked (Replies parts ∷ es) later (kind, fs, x, rest, a, b, c, d, w) = ap length d ∙ ap suc (as_many places asked es rest w)
 as_many places asked (Ends ∷ es) later w = as_many places asked es later w
 as_many places asked (Signal flags ∷ es) later w = as_many places asked es later w
 
