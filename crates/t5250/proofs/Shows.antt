@@ -12,7 +12,7 @@ use Rattle.ws_code.specs.declared.reason.Reason.{Reason}
 use Rattle.ws_telnet.specs.declared.token.Token.{Token}
 use Rattle.ws_telnet.specs.declared.token.Telnet.{Telnet}
 use Rattle.ws_record.specs.Grammar.{Accepts, IsStretch, commands, command_of}
-use Rattle.ws_record.specs.Refusal.{IsRefused, IsTruncated}
+use Rattle.ws_record.specs.Refusal.{Layer, IsOpen, IsRefused, IsTruncated}
 use Rattle.ws_record.specs.Receiver.{Receiving, Taken, given, IsFeedFault, NoneBefore}
 use Rattle.ws_record.specs.declared.record.Record.{Record}
 use Rattle.ws_record.specs.declared.record.Item.{Item}
@@ -38,12 +38,15 @@ take_on bytes before rest e n = ap (take (length before + n)) (sym e) ∙ take-a
 
 -- an item that is complete with the last byte that was used
 pub complete_by : (bytes before rest : List ℕ) → before ++ rest ≡ bytes → (items : List (Item Element)) (item : Item Element) (used place : ℕ) → 0 < used → used ≤ length rest → place + 1 ≡ length before + used
-    → ((n : ℕ) → n < used → HoldsItems (before ++ take n rest) items) → HoldsItems (before ++ take used rest) (items ++ item ∷ []) → IsComplete bytes items (place, item)
-complete_by bytes before rest e items item used place some within at first now = (
-  omega (arith, ap length e, length-append before rest),
-  subst (λ (z : List ℕ). HoldsItems z items) (sym (take_on bytes before rest e (used - 1)) ∙ ap (λ k. take k bytes) (let f : length before + (used - 1) ≡ place = omega arith in f)) (first (used - 1) (omega arith)),
-  subst (λ (z : List ℕ). HoldsItems z (items ++ item ∷ [])) (sym (take_on bytes before rest e used) ∙ ap (λ k. take k bytes) (let f : length before + used ≡ place + 1 = omega arith in f)) now,
-)
+    → ((n : ℕ) → n < used → HoldsItems (before ++ take n rest) items) → HoldsItems (before ++ take used rest) (items ++ item ∷ []) → ((layer : Layer) → IsOpen element_rules layer (before ++ take used rest)) → IsComplete bytes items (place, item)
+complete_by bytes before rest e items item used place some within at first whole opened =
+    let through : before ++ take used rest ≡ take (place + 1) bytes = sym (take_on bytes before rest e used) ∙ ap (λ k. take k bytes) (let f : length before + used ≡ place + 1 = omega arith in f) in
+    record {
+      within = omega (arith, ap length e, length-append before rest);
+      opened = λ layer. subst (λ (z : List ℕ). IsOpen element_rules layer z) through (opened layer);
+      not_before = subst (λ (z : List ℕ). HoldsItems z items) (sym (take_on bytes before rest e (used - 1)) ∙ ap (λ k. take k bytes) (let f : length before + (used - 1) ≡ place = omega arith in f)) (first (used - 1) (omega arith));
+      with_it = subst (λ (z : List ℕ). HoldsItems z (items ++ item ∷ [])) through whole;
+    }
 
 pub shown_more : (bytes : List ℕ) (before : List (Item Element)) (h : History) (placed : List Placed) (x : Placed) → AreShown bytes before h placed → IsComplete bytes (before ++ items_of placed) x → item_fault (after_items h placed) x.1 ≡ None → AreShown bytes before h (placed ++ x ∷ [])
 shown_more bytes before h [] x s c none = (subst (λ (z : List (Item Element)). IsComplete bytes z x) (append-nil before) c, none, tt)
@@ -93,12 +96,12 @@ whole_given bytes items (Some i) h = last_whole bytes items i h
 
 -- the item that a piece's front completes
 pub next_complete : (bytes before rest after : List ℕ) → before ++ rest ≡ bytes → (items : List (Item Element)) (item : Option (Item Element)) (used place : ℕ) → IfSome item (λ _. 0 < used) → used ≤ length rest → after ≡ drop used rest → place ≡ length bytes - length after - 1
-    → ((n : ℕ) → n < used → HoldsItems (before ++ take n rest) items) → HoldsItems (before ++ take used rest) (items ++ given item) → (i : Item Element) → item ≡ Some i → IsComplete bytes items (place, i)
-next_complete bytes before rest after e items None used place some within is at first now i same = cc
-next_complete bytes before rest after e items (Some j) used place some within is at first now i same =
+    → ((n : ℕ) → n < used → HoldsItems (before ++ take n rest) items) → (receiver : Receiving Place Element) → Taken element_rules receiver (before ++ take used rest) (items ++ given item) → (i : Item Element) → item ≡ Some i → IsComplete bytes items (place, i)
+next_complete bytes before rest after e items None used place some within is at first receiver taken i same = cc
+next_complete bytes before rest after e items (Some j) used place some within is at first receiver taken i same =
     let equal : j ≡ i = cc in
     subst (λ (k : Item Element). IsComplete bytes items (place, k)) equal
-    (complete_by bytes before rest e items j used place some within (omega (arith, at, ap length is, length-drop used rest, ap length e, length-append before rest)) first now)
+    (complete_by bytes before rest e items j used place some within (omega (arith, at, ap length is, length-drop used rest, ap length e, length-append before rest)) first (held_by receiver (before ++ take used rest) (items ++ j ∷ []) taken) taken.leads.1.opened)
 
 shown_by : (bytes : List ℕ) (placed : List Placed) (place : ℕ) (item : Option (Item Element)) → AreShown bytes [] [] placed → ((i : Item Element) → item ≡ Some i → IsComplete bytes (items_of placed) (place, i)) → None ≡ fault_of (after_items [] placed) (placed_by place item) → AreShown bytes [] [] (placed ++ placed_by place item)
 shown_by bytes placed place None s c none = subst (AreShown bytes [] []) (sym (append-nil placed)) s

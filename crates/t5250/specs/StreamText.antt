@@ -6,7 +6,7 @@ use Rattle.ws_code.specs.declared.fault.Fault.{Fault}
 use Rattle.ws_code.specs.declared.fault.Fault.TheVariants.{Memory, Write}
 use Rattle.ws_code.specs.declared.reason.Reason.{Reason}
 use Rattle.ws_record.specs.Grammar.{Holds, Accepts}
-use Rattle.ws_record.specs.Refusal.{IsRefused, IsTruncated}
+use Rattle.ws_record.specs.Refusal.{Layer, IsOpen, IsRefused, IsTruncated}
 use Rattle.ws_record.specs.declared.record.Item.{Item}
 use Rattle.ws_record.specs.declared.record.Item.TheVariants.{Record as RecordItem, Telnet as TelnetItem}
 use Rattle.ws_stream.specs.Elements.{element_rules}
@@ -53,9 +53,13 @@ after_items h (x ∷ xs) = after_items (after_item h x.1) xs
 abbrev pub HoldsItems : List ℕ → List (Item Element) → Type 0
 HoldsItems bytes items = (so_far : List ℕ) × (begun : List ℕ) × Holds element_rules bytes items so_far begun
 
--- behind the items before, the item is complete with the byte at its place, and not before
-abbrev pub IsComplete : List ℕ → List (Item Element) → Placed → Type 0
-IsComplete bytes before x = (x.0 < length bytes) × HoldsItems (take x.0 bytes) before × HoldsItems (take (x.0 + 1) bytes) (before ++ x.1 ∷ [])
+-- behind the items before, the item is complete with the byte at its place, and not before, and no layer refuses
+-- a byte up to that one
+pub record IsComplete (bytes : List ℕ) (before : List (Item Element)) (x : Placed) : Type 0 where
+  pub within : x.0 < length bytes
+  pub opened : (layer : Layer) → IsOpen element_rules layer (take (x.0 + 1) bytes)
+  pub not_before : HoldsItems (take x.0 bytes) before
+  pub with_it : HoldsItems (take (x.0 + 1) bytes) (before ++ x.1 ∷ [])
 
 -- each of the items is, one after another, and the screen refuses none
 abbrev pub AreShown : List ℕ → List (Item Element) → History → List Placed → Type 0

@@ -34,28 +34,61 @@ impl<'a> Asked<'a> {
     }
 }
 
+// What `--help` prints behind the options.
+const HEX_AND_STATUS: &str = "\
+A stream is read as hex text: two hex digits for each byte, in either case.
+Blanks, tabs and line ends don't count.
+
+Exit status:
+  0  the whole stream is accepted
+  1  it is refused at a byte, or ends too early
+  2  a fault, told in one line on standard error: cannot read, not hex,
+     memory, cannot write; or a wrong command line";
+
+const CHECK_EXAMPLES: &str = "\
+It prints one line, as one of:
+  accepted: 1 records, 0 commands, 12 bytes
+  refused at 11: reason 30 StructuredField
+  truncated at 3
+
+Examples:
+  t5250 check capture.hex
+  t5250 check --answers --cut 1 < answers.hex";
+
+const SHOW_EXAMPLES: &str = "\
+Each item is printed with the place of its last byte, counted from 0.
+Where the stream isn't accepted, the line of `check` is the last.
+
+Examples:
+  t5250 show capture.hex
+  echo 000A12A0000004000001FFEF | t5250 show";
+
 // The commands that the program knows.
 fn program<'a>(alloc: Global) -> Result<Command<'a>, clap::Error> {
     let cut = Arg::new(alloc, "cut")
         .long("cut")
         .value_name("N")
-        .help("Reads the bytes in pieces of N, from 1 to 65535")
+        .help("Reads the bytes in pieces of N, from 1 to 65535; the line stays the same")
         .value_parser(value_parser!(u16).range(1..=65535))
         .action(ArgAction::Set);
     let answers = Arg::new(alloc, "answers")
         .long("answers")
-        .help("Reads a station's answers, and not a host's commands")
+        .help("Reads what a station sends, and not what a host sends")
         .action(ArgAction::SetTrue);
     let check = Command::new(alloc, "check")
         .about("Tells whether a stream is accepted, refused or truncated")
+        .after_help(CHECK_EXAMPLES)
         .arg(answers)?
         .arg(cut)?
         .arg(hex_file(alloc))?;
     let show = Command::new(alloc, "show")
-        .about("Prints a stream's records, and the screen that they make")
+        .about("Prints a stream's records and Telnet commands, and the screen that they make")
+        .after_help(SHOW_EXAMPLES)
         .arg(hex_file(alloc))?;
     let program = Command::new(alloc, "t5250")
-        .about("Reads recorded 5250 streams")
+        .version("0.1.0")
+        .about("Reads recorded IBM 5250 streams over Telnet (RFC 1205)")
+        .after_help(HEX_AND_STATUS)
         .subcommand_required(true)
         .subcommand(check)?
         .subcommand(show)?;

@@ -22,6 +22,8 @@ mod show;
 #[cfg(test)]
 mod show_rows;
 #[cfg(test)]
+mod size_rows;
+#[cfg(test)]
 mod tests;
 mod text;
 mod verdict;

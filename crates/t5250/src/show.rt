@@ -1,4 +1,4 @@
-ghost use Rattle.std.specs.Prelude.{◌≡◌, List, [], ℕ, true, length, None, IfOk, IfErr, IfSome, OnOk};
+ghost use Rattle.std.specs.Prelude.{◌≡◌, ◌++◌, Bool, List, [], ℕ, true, length, None, IfOk, IfErr, IfSome, OnOk};
 ghost use Rattle.ws_screen.specs.Events.{History};
 ghost use Rattle.ws_screen.specs.Faults.{refusal};
 ghost use Rattle.ws_screen.specs.Given.{Gives};
@@ -22,12 +22,15 @@ use ws_stream::{Commands, Element};
 ///
 /// A record is written and then applied. Where the stream is refused or ends too early, or a record can't
 /// be applied, the line of a check is the last. `Memory` where a growth was refused, and then the lines
-/// before went out; `Write` where the sink failed, and then a proper prefix of the lines.
+/// before went out; `Write` where the sink failed, and then a proper prefix of the lines. The lines that went out
+/// begin all of them.
 pub fn show_to<S: Sink>(alloc: Global, bytes: &[u8], sink: &mut S) -> Result<bool, Fault>
     ensures printed { IfOk result (λ accepted. (text : List ℕ) × IsShown bytes.now accepted text
         × WentOut S.takes S.failures sink.old sink.new text) }
     ensures fault { IfErr result
         (λ fault. IsShowFault S.takes S.failures sink.old sink.new bytes.now fault) }
+    ensures parts_begin { (accepted : Bool) (whole part : List ℕ) → IsShown bytes.now accepted whole
+        → IsPart bytes.now part → (rest : List ℕ) × (whole ≡ part ++ rest) }
 {
     let mut screen = Screen::new();
     match show_items(alloc, bytes, &mut screen, sink)? {

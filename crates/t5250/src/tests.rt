@@ -169,45 +169,34 @@ fn fault_lines(rt: HostRuntime) -> Result<(), Fail> {
     Ok(())
 }
 
-// From a hex text to what is written, and the status. The first is `bob`'s answer.
+// From the words and a hex text to what is written, and the status. The first text is `bob`'s answer.
 #[test]
 fn answered(rt: HostRuntime) -> Result<(), Fail> {
-    let answer_of_bob = "00 13 12 A0 00 00 04 00 00 03 06 38 F1 11 06 35 C2 D6 C2 FF EF";
-    let answers = Asked::Check {
-        file: None,
-        cut: 1,
-        answers: true,
-    };
-    let show = Asked::Show { file: None };
+    let bob = "00 13 12 A0 00 00 04 00 00 03 06 38 F1 11 06 35 C2 D6 C2 FF EF";
+    let refused = "refused at 10: reason 20 NoEscape\n";
+    let answers: &[&str] = &["t5250", "check", "--answers", "--cut", "1"];
+    let check: &[&str] = &["t5250", "check"];
+    let show: &[&str] = &["t5250", "show"];
     let rows = [
         (
             answers,
-            answer_of_bob,
+            bob,
             "accepted: 1 records, 0 commands, 21 bytes\n",
             0,
         ),
-        (
-            check(),
-            answer_of_bob,
-            "refused at 10: reason 20 NoEscape\n",
-            1,
-        ),
-        (
-            show,
-            answer_of_bob,
-            "refused at 10: reason 20 NoEscape\n",
-            1,
-        ),
+        (check, bob, refused, 1),
+        (show, bob, refused, 1),
         (
             show,
             "FFF1",
             "at 1 telnet NOP\nscreen\ncursor 1 1, locked, message off, blink off, fields 0\n",
             0,
         ),
-        (check(), "000a12a", "", 2),
+        (check, "000a12a", "", 2),
         (show, "0g", "", 2),
     ];
-    for (asked, text, wanted, exit) in rows {
+    for (words, text, wanted, exit) in rows {
+        let asked = read_words(rt.alloc(), words)?;
         let mut sink = VecSink::new(rt.alloc());
         let outcome = answer(rt.alloc(), asked, text.as_bytes(), &mut sink);
         assert_eq!(rt; status(&outcome), exit, "{text}");
@@ -216,8 +205,9 @@ fn answered(rt: HostRuntime) -> Result<(), Fail> {
             assert_eq!(rt; outcome, Err(RunFault::NotHex));
         }
     }
+    let asked = read_words(rt.alloc(), answers)?;
     let mut sink = FailingSink::new(rt.alloc(), 40);
-    let outcome = answer(rt.alloc(), answers, answer_of_bob.as_bytes(), &mut sink);
+    let outcome = answer(rt.alloc(), asked, bob.as_bytes(), &mut sink);
     assert_eq!(rt; outcome, Err(RunFault::Write));
     Ok(())
 }

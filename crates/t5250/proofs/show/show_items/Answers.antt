@@ -65,7 +65,7 @@ returns-in_err-reason-clause-err g c =
     let place = c.saturating_sub-place.result in
     let taken = c.in-Ok.ensures.taken w.before items w.taken (omega (arith, ap length w.on, length-append w.before rest)) in
     let first = c.in-Ok.ensures.first w.before items w.taken (omega (arith, ap length w.on, length-append w.before rest)) in
-    let complete = next_complete bytes w.before rest c.split_at.result.1.now w.on items item used place c.in-Ok.ensures.some c.in-Ok.ensures.used c.split_at.ensures.back (c.saturating_sub-place.ensures ∙ ap (λ (n : ℕ). n - 1) c.saturating_sub.ensures) first (held_by c.feed.new.self (w.before ++ take used rest) (items ++ given item) taken) in
+    let complete = next_complete bytes w.before rest c.split_at.result.1.now w.on items item used place c.in-Ok.ensures.some c.in-Ok.ensures.used c.split_at.ensures.back (c.saturating_sub-place.ensures ∙ ap (λ (n : ℕ). n - 1) c.saturating_sub.ensures) first c.feed.new.self taken in
     rw (p.1, p.2) (item_fails takes failures bytes w.placed (placed_by place item) c.args.sink.now c.loop-rest.sink c.show_item.new.sink w.shown (part_more takes failures bytes w.placed place item w.shown complete) w.went _ c.in_err-reason.ensures.err)
 
 pub returns-in-Some-clause-ok : goal.returns-in-Some-clause-ok
@@ -81,7 +81,7 @@ returns-in-Some-clause-ok g c =
     let place = c.saturating_sub-place.result in
     let taken = c.in-Ok.ensures.taken w.before items w.taken (omega (arith, ap length w.on, length-append w.before rest)) in
     let first = c.in-Ok.ensures.first w.before items w.taken (omega (arith, ap length w.on, length-append w.before rest)) in
-    let complete = next_complete bytes w.before rest c.split_at.result.1.now w.on items item used place c.in-Ok.ensures.some c.in-Ok.ensures.used c.split_at.ensures.back (c.saturating_sub-place.ensures ∙ ap (λ (n : ℕ). n - 1) c.saturating_sub.ensures) first (held_by c.feed.new.self (w.before ++ take used rest) (items ++ given item) taken) in (
+    let complete = next_complete bytes w.before rest c.split_at.result.1.now w.on items item used place c.in-Ok.ensures.some c.in-Ok.ensures.used c.split_at.ensures.back (c.saturating_sub-place.ensures ∙ ap (λ (n : ℕ). n - 1) c.saturating_sub.ensures) first c.feed.new.self taken in (
       lines_of w.placed ++ lines_of (placed_by place item),
       part_more takes failures bytes w.placed place item w.shown complete,
       went_out_both takes failures c.args.sink.now c.loop-rest.sink c.show_item.new.sink (lines_of w.placed) (lines_of (placed_by place item)) w.went c.in_ok-reason.ensures.written,
@@ -101,7 +101,7 @@ loop-rest-preserved-in_default g c =
     let place = c.saturating_sub-place.result in
     let taken = c.in-Ok.ensures.taken w.before items w.taken (omega (arith, ap length w.on, length-append w.before rest)) in
     let first = c.in-Ok.ensures.first w.before items w.taken (omega (arith, ap length w.on, length-append w.before rest)) in
-    let complete = next_complete bytes w.before rest c.split_at.result.1.now w.on items item used place c.in-Ok.ensures.some c.in-Ok.ensures.used c.split_at.ensures.back (c.saturating_sub-place.ensures ∙ ap (λ (n : ℕ). n - 1) c.saturating_sub.ensures) first (held_by c.feed.new.self (w.before ++ take used rest) (items ++ given item) taken) in
+    let complete = next_complete bytes w.before rest c.split_at.result.1.now w.on items item used place c.in-Ok.ensures.some c.in-Ok.ensures.used c.split_at.ensures.back (c.saturating_sub-place.ensures ∙ ap (λ (n : ℕ). n - 1) c.saturating_sub.ensures) first c.feed.new.self taken in
     shows_next takes failures bytes rest c.split_at.result.1.now c.loop-rest.receiver c.feed.new.self c.loop-rest.screen c.show_item.new.screen c.args.sink.now c.loop-rest.sink c.show_item.new.sink w used place item c.split_at.ensures.back complete taken
     (sym c.in_default.is ∙ c.in_ok-reason.ensures.refused (after_items [] w.placed) w.given)
     (c.in_ok-reason.ensures.after c.in_default.is (after_items [] w.placed) w.given)
@@ -121,7 +121,7 @@ loop-rest-preserved-in_default-2 g c =
     let place = c.saturating_sub-place.result in
     let taken = c.in-Ok.ensures.taken w.before items w.taken (omega (arith, ap length w.on, length-append w.before rest)) in
     let first = c.in-Ok.ensures.first w.before items w.taken (omega (arith, ap length w.on, length-append w.before rest)) in
-    let complete = next_complete bytes w.before rest c.split_at.result.1.now w.on items item used place c.in-Ok.ensures.some c.in-Ok.ensures.used c.split_at.ensures.back (c.saturating_sub-place.ensures ∙ ap (λ (n : ℕ). n - 1) c.saturating_sub.ensures) first (held_by c.feed.new.self (w.before ++ take used rest) (items ++ given item) taken) in
+    let complete = next_complete bytes w.before rest c.split_at.result.1.now w.on items item used place c.in-Ok.ensures.some c.in-Ok.ensures.used c.split_at.ensures.back (c.saturating_sub-place.ensures ∙ ap (λ (n : ℕ). n - 1) c.saturating_sub.ensures) first c.feed.new.self taken in
     shows_next takes failures bytes rest c.split_at.result.1.now c.loop-rest.receiver c.feed.new.self c.loop-rest.screen c.show_item.new.screen c.args.sink.now c.loop-rest.sink c.show_item.new.sink w used place item c.split_at.ensures.back complete taken
     (sym c.in_default.is ∙ c.in_ok-reason.ensures.refused (after_items [] w.placed) w.given)
     (c.in_ok-reason.ensures.after c.in_default.is (after_items [] w.placed) w.given)
@@ -141,7 +141,7 @@ loop-rest-preserved g c =
     let place = c.saturating_sub-place.result in
     let taken = c.in-Ok.ensures.taken w.before items w.taken (omega (arith, ap length w.on, length-append w.before rest)) in
     let first = c.in-Ok.ensures.first w.before items w.taken (omega (arith, ap length w.on, length-append w.before rest)) in
-    let complete = next_complete bytes w.before rest c.split_at.result.1.now w.on items item used place c.in-Ok.ensures.some c.in-Ok.ensures.used c.split_at.ensures.back (c.saturating_sub-place.ensures ∙ ap (λ (n : ℕ). n - 1) c.saturating_sub.ensures) first (held_by c.feed.new.self (w.before ++ take used rest) (items ++ given item) taken) in
+    let complete = next_complete bytes w.before rest c.split_at.result.1.now w.on items item used place c.in-Ok.ensures.some c.in-Ok.ensures.used c.split_at.ensures.back (c.saturating_sub-place.ensures ∙ ap (λ (n : ℕ). n - 1) c.saturating_sub.ensures) first c.feed.new.self taken in
     shows_next takes failures bytes rest c.split_at.result.1.now c.loop-rest.receiver c.feed.new.self c.loop-rest.screen c.show_item.new.screen c.args.sink.now c.loop-rest.sink c.show_item.new.sink w used place item c.split_at.ensures.back complete taken
     (sym c.in_default.is ∙ c.in_ok-reason.ensures.refused (after_items [] w.placed) w.given)
     (c.in_ok-reason.ensures.after c.in_default.is (after_items [] w.placed) w.given)

@@ -5,6 +5,7 @@ use Rattle.t5250.specs.declared.verdict.Verdict.{Verdict}
 use Rattle.t5250.specs.CheckLine.{line_of}
 use Rattle.t5250.specs.ScreenLines.{IsScreenText}
 use Rattle.t5250.specs.StreamText.{IsShown, GoesOn}
+use Rattle.t5250.proofs.Parts.{part_begins}
 use Rattle.t5250.proofs.Shows.{end_fails}
 use Rattle.t5250.proofs.show.show_to.Goals as goal
 
@@ -54,3 +55,12 @@ returns-in-Some-clause-fault g c =
     IfErr-weaker c.write_verdict.result _ _ (λ fault f.
     end_fails g.S.Sink.takes g.S.Sink.failures bytes lines c.args.sink.now c.show_items.new.sink c.write_verdict.new.sink (λ text. text ≡ line) so_far.1 so_far.2
     (λ text is. (false, subst (λ (z : List ℕ). IsShown bytes false (lines ++ z)) (sym is) goes.1)) fault f) c.write_verdict.ensures.err
+
+pub returns-in_err-show_items-clause-parts_begin : goal.returns-in_err-show_items-clause-parts_begin
+returns-in_err-show_items-clause-parts_begin g c = part_begins c.args.bytes.now
+
+pub returns-in-None-clause-parts_begin : goal.returns-in-None-clause-parts_begin
+returns-in-None-clause-parts_begin g c = part_begins c.args.bytes.now
+
+pub returns-in-Some-clause-parts_begin : goal.returns-in-Some-clause-parts_begin
+returns-in-Some-clause-parts_begin g c = part_begins c.args.bytes.now
