@@ -1,6 +1,5 @@
-use Rattle.std.proofs.Common.{◌≡◌, refl, sym, subst}
+use Rattle.std.proofs.Common.{refl}
 use Rattle.ws_stream.specs.declared.element.Element.TheVariants.{ReadInput, ReadMdt, ReadMdtAlternate}
-use Rattle.ws_screen.specs.Given.{FollowsAll, events_of}
 use Rattle.ws_screen.proofs.screen.Screen.apply.Goals as goal
 
 pub returns-in-ReadInput-clause-events : goal.returns-in-ReadInput-clause-events
