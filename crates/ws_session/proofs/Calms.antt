@@ -9,9 +9,9 @@ use Rattle.ws_stream.specs.AnswerParts.{answer_rules}
 use Rattle.ws_stream.specs.Elements.{element_rules}
 use Rattle.ws_stream.specs.declared.answer_part.AnswerPart.{AnswerPart}
 use Rattle.ws_stream.specs.declared.element.Element.{Element}
-use Rattle.ws_session.specs.declared.host_end.HostEvent.{HostEvent}
-use Rattle.ws_session.specs.declared.host_end.SendFault.TheVariants.{Failed as SendFailed}
-use Rattle.ws_session.specs.declared.station.KeyFault.TheVariants.{Failed as KeyFailed}
+use Rattle.ws_session.specs.declared.host_event.HostEvent.{HostEvent}
+use Rattle.ws_session.specs.declared.send_fault.SendFault.TheVariants.{Failed as SendFailed}
+use Rattle.ws_session.specs.declared.key_fault.KeyFault.TheVariants.{Failed as KeyFailed}
 use Rattle.ws_session.specs.declared.world.Event.{Event}
 use Rattle.ws_session.specs.declared.world.Event.TheVariants.{Host, KeyRefused, SendRefused}
 use Rattle.ws_session.specs.declared.world.Move.{Move}

@@ -1,0 +1,12 @@
+use Rattle.std.proofs.Common.{◌++◌, ℕ, ◌+◌, ◌<◌, ◌^◌, List, length, take}
+use Rattle.ws_nego.specs.declared.terminal.TerminalType.{TerminalType}
+use Rattle.ws_record.specs.declared.record.Item.{Item}
+use Rattle.ws_stream.specs.declared.element.Element.{Element}
+use Rattle.ws_session.specs.Playing.{HasCome}
+use Rattle.ws_session.proofs.player.Player.take_all.Given as goal
+
+-- the bytes so far have brought the player here
+abbrev pub invariant-loop-byte : goal.invariant-loop-byte
+invariant-loop-byte g l = (start : g.row.S.Denot) (t : TerminalType) (bytes : List ℕ) (items : List (Item Element))
+    → HasCome g.S.Sink.takes g.S.Sink.failures t l.keys start l.fn.self l.fn.sink bytes items → length bytes + length l.piece < 2 ^ 64
+    → (next : List (Item Element)) × HasCome g.S.Sink.takes g.S.Sink.failures t l.keys start l.self l.sink (bytes ++ take l.byte-index l.piece) next

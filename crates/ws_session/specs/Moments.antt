@@ -1,0 +1,85 @@
+use Rattle.std.specs.Prelude.{◌≡◌, ℕ, ◌+◌, List, [], ◌∷◌, ◌++◌, Bool, true, false, if◌then◌else◌, nat_lt}
+use Rattle.ws_record.specs.declared.record.Item.{Item}
+use Rattle.ws_record.specs.declared.record.Item.TheVariants.{Record as RecordItem, Telnet as TelnetItem}
+use Rattle.ws_stream.specs.declared.answer_part.AnswerPart.{AnswerPart}
+use Rattle.ws_stream.specs.declared.element.Element.{Element}
+use Rattle.ws_keys.specs.declared.key.Key.{Key}
+use Rattle.ws_session.specs.Reaction.{Reaction, Refuses, GoesOn, empty_record}
+use Rattle.ws_session.specs.StationSide.{StationSide, screen_at, station_takes, KeyReaction, RefusesKey, Silent, Answers, Signals, station_key, answer_record}
+
+-- A station by itself: the items that it takes and the keys that are pressed, in the order of their moments
+
+pub data Moment : Type 0 where
+  Arrives : Item Element → Moment
+  Presses : Key → Moment
+
+-- what a station does: the side that it comes to, what it writes, and how many keys it refuses
+pub record Outcome : Type 0 where
+  pub side : StationSide
+  pub written : List (Item AnswerPart)
+  pub refused : ℕ
+
+abbrev pub unmoved : StationSide → Outcome
+unmoved s = record { side = s; written = []; refused = 0 }
+
+abbrev pub followed_by : Outcome → Outcome → Outcome
+followed_by a b = record { side = b.side; written = a.written ++ b.written; refused = a.refused + b.refused }
+
+-- at an item; where it refuses one it does nothing
+abbrev pub at_item : StationSide → Reaction StationSide (List (Item AnswerPart)) → Outcome
+at_item s (Refuses reason) = unmoved s
+at_item s (GoesOn next items) = record { side = next; written = items; refused = 0 }
+
+-- at a key
+abbrev pub at_key : StationSide → KeyReaction → Outcome
+at_key s (RefusesKey fault) = record { side = s; written = []; refused = 1 }
+at_key s (Silent next) = unmoved next
+at_key s (Answers next kind aid) =
+    record { side = next; written = answer_record (screen_at s) kind aid ∷ []; refused = 0 }
+at_key s (Signals opcode flags) = record { side = s; written = empty_record flags opcode ∷ []; refused = 0 }
+
+abbrev pub at_moment : StationSide → Moment → Outcome
+at_moment s (Arrives item) = at_item s (station_takes s item)
+at_moment s (Presses key) = at_key s (station_key s key)
+
+-- at one moment after another
+abbrev pub outcome : StationSide → List Moment → Outcome
+outcome s [] = unmoved s
+outcome s (m ∷ ms) = followed_by (at_moment s m) (outcome (at_moment s m).side ms)
+
+-- and none of the items is refused
+abbrev pub goes_on : Reaction StationSide (List (Item AnswerPart)) → Bool
+goes_on (Refuses reason) = false
+goes_on (GoesOn next items) = true
+
+abbrev pub is_taken : StationSide → Moment → Bool
+is_taken s (Arrives item) = goes_on (station_takes s item)
+is_taken s (Presses key) = true
+
+abbrev pub AreTaken : StationSide → List Moment → Type 0
+AreTaken s [] = Unit {0}
+AreTaken s (m ∷ ms) = (is_taken s m ≡ true) × AreTaken (at_moment s m).side ms
+
+-- Keys at their numbers: each is pressed as soon as all before it are and so many records have been applied.
+
+-- of keys still to be pressed, those that are pressed once so many records have been applied, and those that aren't
+abbrev pub due : ℕ → List (ℕ × Key) → List Moment
+due n [] = []
+due n (k ∷ ks) = if nat_lt n k.0 then [] else Presses k.1 ∷ due n ks
+
+abbrev pub later : ℕ → List (ℕ × Key) → List (ℕ × Key)
+later n [] = []
+later n (k ∷ ks) = if nat_lt n k.0 then k ∷ ks else later n ks
+
+abbrev pub one_record : Item Element → ℕ
+one_record (RecordItem r) = 1
+one_record (TelnetItem token) = 0
+
+-- the moments of items, where so many records have been applied before them
+abbrev pub moments_from : ℕ → List (ℕ × Key) → List (Item Element) → List Moment
+moments_from n keys [] = due n keys
+moments_from n keys (item ∷ items) =
+    due n keys ++ Arrives item ∷ moments_from (n + one_record item) (later n keys) items
+
+abbrev pub moments : List (ℕ × Key) → List (Item Element) → List Moment
+moments keys items = moments_from 0 keys items

@@ -1,0 +1,41 @@
+use Rattle.std.specs.Prelude.{◌≡◌, ℕ, ◌+◌, ◌≤◌, List, [], ◌∷◌, length, drop}
+use Rattle.ws_code.specs.Device.{MayTake, WentOut}
+use Rattle.ws_nego.specs.declared.terminal.TerminalType.{TerminalType}
+use Rattle.ws_record.specs.declared.record.Item.{Item}
+use Rattle.ws_record.specs.Encode.{plain_spelling}
+use Rattle.ws_stream.specs.AnswerParts.{answer_rules}
+use Rattle.ws_stream.specs.declared.element.Element.{Element}
+use Rattle.ws_keys.specs.declared.key.Key.{Key}
+use Rattle.ws_session.specs.declared.player.Player.{Player}
+use Rattle.ws_session.specs.Moments.{Outcome, later, one_record}
+use Rattle.ws_session.specs.StationLeads.{StationLeads}
+use Rattle.ws_session.specs.StationRun.{IsBehind, behind, run_text, counted}
+
+-- How far a run has come
+
+-- how many records the items are, before which there were so many
+abbrev pub records_from : ℕ → List (Item Element) → ℕ
+records_from n [] = n
+records_from n (item ∷ items) = records_from (n + one_record item) items
+
+-- the keys that aren't due behind the items
+abbrev pub left_from : ℕ → List (ℕ × Key) → List (Item Element) → List (ℕ × Key)
+left_from n keys [] = later n keys
+left_from n keys (item ∷ items) = left_from (n + one_record item) (later n keys) items
+
+module _ {S : Type 0} (takes : MayTake S) (failures : S → ℕ) where
+  -- the player has done this, and what it wrote went out
+  pub record HasDone (bytes : List ℕ) (items : List (Item Element)) (old new : Player) (from to : S) (did : Outcome) : Type 0 where
+    pub leads : StationLeads new.station bytes items did.side
+    pub refused : (before : ℕ) → old.keys_refused ≡ counted before → new.keys_refused ≡ counted (before + did.refused)
+    pub records : new.records ≡ old.records
+    pub wrote : WentOut takes failures from to (plain_spelling answer_rules did.written)
+
+  -- the bytes have brought it here
+  pub record HasCome (terminal : TerminalType) (keys : List (ℕ × Key)) (start : S) (player : Player) (now : S) (bytes : List ℕ) (items : List (Item Element)) : Type 0 where
+    pub is_behind : IsBehind terminal keys bytes items player.station
+    pub refused : player.keys_refused ≡ counted (behind terminal keys items).refused
+    pub records : player.records ≡ records_from 0 items
+    pub left : drop player.pressed keys ≡ left_from 0 keys items
+    pub few : player.records ≤ length bytes
+    pub wrote : WentOut takes failures start now (run_text terminal keys items)

@@ -1,0 +1,26 @@
+use ws_keys::HostAnswer;
+use ws_nego::{Reply, TerminalType};
+
+/// What a host end tells its caller.
+#[derive(Debug, Drop)]
+pub enum HostEvent {
+    /// Records are allowed, and this is the terminal.
+    Ready(TerminalType),
+    /// The asked read is answered, and over.
+    Answer(HostAnswer),
+    /// The Attention key was pressed (RFC 1205, section 3, ATN).
+    Attention,
+    /// The System Request key was pressed (RFC 1205, section 3, SRQ).
+    SystemRequest,
+    /// The cancel has arrived, and the asked read is over.
+    Cancelled,
+}
+
+/// What a byte gives a host end.
+#[derive(Debug, Drop)]
+pub struct HostStep {
+    /// What it writes.
+    pub reply: Reply,
+    /// What it tells its caller.
+    pub event: Option<HostEvent>,
+}

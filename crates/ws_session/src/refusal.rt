@@ -1,0 +1,12 @@
+use ws_code::Reason;
+
+/// Why an end takes no more bytes. Every later call but a look at its screen answers `Failed`.
+#[derive(Clone, Copy, Debug, PartialEq, Eq)]
+pub enum Refusal {
+    /// This byte is refused, or the item that it ends. The place counts bytes from 0.
+    At { place: u64, reason: Reason },
+    /// An earlier byte was refused, or 18,446,744,073,709,551,615 bytes were taken.
+    Failed,
+    /// A growth was refused. A station takes no memory and never answers so.
+    Memory,
+}

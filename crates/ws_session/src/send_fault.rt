@@ -1,0 +1,22 @@
+use ws_code::Reason;
+
+/// Why a host end doesn't send or cancel: the first that applies. Nothing is changed by one.
+#[derive(Clone, Copy, Debug, PartialEq, Eq)]
+pub enum SendFault {
+    /// The host end has refused a byte.
+    Failed,
+    /// Records aren't allowed yet.
+    NotAllowed,
+    /// A read is asked or a cancel is unanswered, and the body isn't empty.
+    ReadOutstanding,
+    /// No read is asked, or a cancel is unanswered.
+    NoReadToCancel,
+    /// The elements are no body.
+    BadSequence,
+    /// The screen refuses an element, by one of the reasons 50 to 55.
+    Screen(Reason),
+    /// The record would be of more than 65,535 bytes.
+    TooBig,
+    /// A growth was refused.
+    Memory,
+}
