@@ -1,0 +1,89 @@
+// Runs of a station over devices.
+use crate::end_rows::{BOB, BOB_ANSWER, OPENED, OPENING, key, record};
+use crate::{Station, run_station};
+use std::test::Fail;
+use ws_code::{FailingSink, FailingSource, Fault, Reason, SliceSource, StuckSink, VecSink};
+use ws_keys::Key;
+use ws_nego::TerminalType;
+
+// The opening and a record, with B, O, B, Enter behind it.
+#[test]
+fn a_run_stops_where_a_device_fails(rt: HostRuntime) -> Result<(), Fail> {
+    let alloc = rt.alloc();
+    let mut stream = Vec::new(alloc);
+    stream.extend_from_slice(OPENING)?;
+    stream.extend_from_slice(record(&rt, alloc, BOB).as_slice())?;
+    let mut text = Vec::new(alloc);
+    text.extend_from_slice(OPENED)?;
+    text.extend_from_slice(BOB_ANSWER)?;
+    assert_eq!(rt; (stream.as_slice().len(), text.as_slice().len()), (52, 52));
+    let mut keys: Vec<(u32, Key)> = Vec::new(alloc);
+    keys.push((0, Key::Tab))?;
+    for letter in b"BOBe".as_slice() {
+        keys.push((1, key(&rt, *letter)))?;
+    }
+    for calls in 0..=52u8 {
+        let station = Station::new(TerminalType::Ibm3179Model2);
+        let mut source = SliceSource::new(stream.as_slice());
+        let mut sink = FailingSink::new(alloc, u64::from(calls));
+        match run_station(station, &mut source, &mut sink, keys.as_slice()) {
+            Ok(played) => assert_eq!(rt; (calls, played.keys_refused), (52, 1)),
+            Err(fault) => assert_eq!(rt; (fault, calls < 52), (Fault::Write, true)),
+        }
+        assert_eq!(rt;
+            Some(sink.as_slice()),
+            text.as_slice().get(..usize::from(calls))
+        );
+    }
+    // How many bytes are written by so many that are read.
+    for (read, written) in [
+        (0u64, 0usize),
+        (2, 0),
+        (3, 3),
+        (8, 3),
+        (9, 19),
+        (12, 22),
+        (15, 25),
+        (18, 28),
+        (21, 31),
+        (51, 31),
+        (52, 52),
+    ] {
+        let station = Station::new(TerminalType::Ibm3179Model2);
+        let mut source = FailingSource::new(stream.as_slice(), read);
+        let mut sink = VecSink::new(alloc);
+        let fault = run_station(station, &mut source, &mut sink, keys.as_slice()).err();
+        assert_eq!(rt; fault, Some(Fault::Read));
+        assert_eq!(rt; Some(sink.as_slice()), text.as_slice().get(..written));
+    }
+    Ok(())
+}
+
+// A run that ends inside a token or a record, or at a byte that is refused.
+#[test]
+fn a_run_tells_where_it_stops(rt: HostRuntime) -> Result<(), Fail> {
+    for (bytes, fault) in [
+        (b"\xff\xfd".as_slice(), Fault::Truncated { at: 2 }),
+        (b"\xff\xf1\x00".as_slice(), Fault::Truncated { at: 3 }),
+        (
+            b"\x00\x09".as_slice(),
+            Fault::Refused {
+                place: 1,
+                reason: Reason::LengthBelowHeader,
+            },
+        ),
+        (
+            b"\x00\x0a\x12\xa0\x00\x00\x04\x00\x00\x01\xff\xef".as_slice(),
+            Fault::Refused {
+                place: 11,
+                reason: Reason::RecordBeforeNegotiation,
+            },
+        ),
+    ] {
+        let station = Station::new(TerminalType::Ibm3179Model2);
+        let mut source = SliceSource::new(bytes);
+        let stopped = run_station(station, &mut source, &mut StuckSink, &[]).err();
+        assert_eq!(rt; stopped, Some(fault));
+    }
+    Ok(())
+}

@@ -1,0 +1,176 @@
+// A station by itself, by worked examples.
+use crate::end_rows::{
+    BOB, OPENING, PAST_END, key, last_event, push_all, ready_host, ready_station, record,
+};
+use crate::{HostEvent, KeyFault, Refusal, Station, write_answer};
+use std::process::Abort;
+use std::test::Fail;
+use ws_code::{Address, Fault, Reason, StuckSink, VecSink};
+use ws_keys::{Key, KeyRefusal};
+use ws_nego::TerminalType;
+
+// What keys do, each by a letter: nothing told, an answer, or why it is refused.
+fn press_all(rt: &impl Abort, station: &mut Station, letters: &[u8], outcomes: &[u8]) {
+    assert_eq!(rt; letters.len(), outcomes.len());
+    for (letter, outcome) in letters.iter().zip(outcomes.iter()) {
+        let told = match station.key(key(rt, *letter)) {
+            Ok(None) => b'.',
+            Ok(Some(_)) => b'A',
+            Err(KeyFault::Failed) => b'F',
+            Err(KeyFault::NotReady) => b'n',
+            Err(KeyFault::Key(KeyRefusal::Locked)) => b'L',
+            Err(KeyFault::Key(KeyRefusal::Protected)) => b'P',
+            Err(KeyFault::Key(KeyRefusal::WrongCharacter)) => b'W',
+            Err(KeyFault::Key(KeyRefusal::DupNotAllowed)) => b'D',
+            Err(KeyFault::Key(KeyRefusal::NoRoom)) => b'N',
+            Err(KeyFault::Key(KeyRefusal::NoReadPending)) => b'R',
+            Err(KeyFault::Key(KeyRefusal::MandatoryEnter)) => b'M',
+        };
+        assert_eq!(rt; told, *outcome, "key {letter}");
+    }
+}
+
+// Where a station refuses a record of this body, counted from the record's first byte, and why.
+fn refused_at(rt: &impl Abort, station: &mut Station, bytes: &[u8]) -> (usize, Reason) {
+    for (place, byte) in bytes.iter().enumerate() {
+        if let Err(refusal) = station.push(*byte) {
+            match refusal {
+                Refusal::At { reason, .. } => return (place, reason),
+                _ => panic!(rt; "a place"),
+            }
+        }
+    }
+    panic!(rt; "a refusal")
+}
+
+#[test]
+fn station_opening(rt: HostRuntime) -> Result<(), Fail> {
+    let alloc = rt.alloc();
+    let mut station = Station::new(TerminalType::Ibm3179Model2);
+    let named = b"\xff\xfa\x18\x00IBM-3179-2\xff\xf0".as_slice();
+    for (taken, written) in [
+        (b"\xff\xfd\x18".as_slice(), b"\xff\xfb\x18".as_slice()),
+        (b"\xff\xfa\x18\x01\xff\xf0".as_slice(), named),
+        (b"\xff\xfa\x18\x01\xff\xf0".as_slice(), named),
+        (b"\xff\xfd\x18".as_slice(), b"".as_slice()),
+        (b"\xff\xfd\x27".as_slice(), b"\xff\xfc\x27".as_slice()),
+        (
+            b"\xff\xfd\x19\xff\xfb\x19\xff\xfd\x00\xff\xfb\x00".as_slice(),
+            b"\xff\xfb\x19\xff\xfd\x19\xff\xfb\x00\xff\xfd\x00".as_slice(),
+        ),
+    ] {
+        let reply = push_all(&rt, alloc, &mut station, taken)?;
+        assert_eq!(rt; reply.as_slice(), written);
+    }
+    Ok(())
+}
+
+#[test]
+fn stations_refuse_records(rt: HostRuntime) -> Result<(), Fail> {
+    let alloc = rt.alloc();
+    // A record before negotiation.
+    let mut early = Station::new(TerminalType::Ibm3179Model2);
+    let invite = b"\x00\x0a\x12\xa0\x00\x00\x04\x00\x00\x01\xff\xef";
+    assert_eq!(rt;
+        refused_at(&rt, &mut early, invite),
+        (11, Reason::RecordBeforeNegotiation)
+    );
+    press_all(&rt, &mut early, b"A", b"F");
+    // A data byte past the screen's end. What was on the screen stays, a letter typed inside the record too.
+    let past_end = record(&rt, alloc, PAST_END);
+    assert!(rt; past_end.len() == 21);
+    let mut station = ready_station(&rt, alloc, BOB)?;
+    push_all(&rt, alloc, &mut station, &past_end[..10])?;
+    press_all(&rt, &mut station, b"B", b".");
+    assert_eq!(rt;
+        refused_at(&rt, &mut station, &past_end[10..]),
+        (10, Reason::PastEnd)
+    );
+    assert_eq!(rt; station.push(0).err(), Some(Refusal::Failed));
+    let first = Address::new(6, 53).expect(&rt, "a cell");
+    assert_eq!(rt; station.screen().cell(first), 0xc2);
+    Ok(())
+}
+
+#[test]
+fn keys_are_refused(rt: HostRuntime) -> Result<(), Fail> {
+    let alloc = rt.alloc();
+    let no_read = b"\x04\x40\x04\x11\x00\x08\x11\x06\x34\x1d\x40\x00\x20\x00\x0a".as_slice();
+    let mandatory =
+        b"\x04\x40\x04\x11\x00\x08\x11\x06\x34\x1d\x40\x08\x20\x00\x0a\x04\x52\x00\x00".as_slice();
+    let mut closed = Station::new(TerminalType::Ibm3179Model2);
+    press_all(&rt, &mut closed, b"east", b"nnnL");
+    for (body, letters, outcomes) in [
+        (b"".as_slice(), b"t".as_slice(), b"L".as_slice()),
+        (
+            BOB,
+            b"odlArABCDEFGHIJiee".as_slice(),
+            b"WD.P...........NAL".as_slice(),
+        ),
+        (no_read, b"e".as_slice(), b"R".as_slice()),
+        (mandatory, b"ec".as_slice(), b"MA".as_slice()),
+    ] {
+        press_all(
+            &rt,
+            &mut ready_station(&rt, alloc, body)?,
+            letters,
+            outcomes,
+        );
+    }
+    Ok(())
+}
+
+// No allocator is passed to the station, nor to its keys.
+#[test]
+fn the_largest_record_is_kept_without_memory(rt: HostRuntime) -> Result<(), Fail> {
+    let mut station = Station::new(TerminalType::Ibm3179Model2);
+    for byte in OPENING {
+        assert!(rt; station.push(*byte).is_ok());
+    }
+    for byte in b"\xff\xff\xff\xff\x12\xa0\x00\x00\x04\x00\x00\x03".as_slice() {
+        assert!(rt; station.push(*byte).is_ok());
+    }
+    for _i in 0..32_760u16 {
+        assert!(rt; station.push(0x04).is_ok());
+        assert!(rt; station.push(0x40).is_ok());
+    }
+    for byte in b"\x04\x11\x00\x08\xc1\xff\xef".as_slice() {
+        assert!(rt; station.push(*byte).is_ok());
+    }
+    assert_eq!(rt; station.screen().cell(Address::default()), 0xc1);
+    Ok(())
+}
+
+#[test]
+fn attention_records(rt: HostRuntime) -> Result<(), Fail> {
+    let alloc = rt.alloc();
+    let mut station = ready_station(&rt, alloc, b"")?;
+    for (letter, written) in [
+        (
+            b'a',
+            b"\x00\x0a\x12\xa0\x00\x00\x04\x40\x00\x00\xff\xef".as_slice(),
+        ),
+        (
+            b's',
+            b"\x00\x0a\x12\xa0\x00\x00\x04\x04\x00\x00\xff\xef".as_slice(),
+        ),
+    ] {
+        match station.key(key(&rt, letter)) {
+            Ok(Some(answer)) => {
+                let mut sink = VecSink::new(alloc);
+                assert!(rt; write_answer(&mut sink, &answer).is_ok());
+                assert_eq!(rt; sink.as_slice(), written);
+                assert_eq!(rt; write_answer(&mut StuckSink, &answer), Err(Fault::Write));
+                let mut host = ready_host(&rt, alloc);
+                let event = last_event(&rt, &mut host, written);
+                match (letter, event) {
+                    (b'a', Some(HostEvent::Attention)) | (b's', Some(HostEvent::SystemRequest)) =>
+                        {}
+                    _ => panic!(rt; "its event"),
+                }
+            }
+            _ => panic!(rt; "a record"),
+        }
+    }
+    Ok(())
+}
