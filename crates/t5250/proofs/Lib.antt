@@ -2,5 +2,8 @@ pub mod CheckLemmas
 pub mod FrontItems
 pub mod Parts
 pub mod Rows
+pub mod ScriptBodies
+pub mod ScriptWords
+pub mod Scripts
 pub mod Shows
 pub mod Texts

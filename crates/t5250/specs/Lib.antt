@@ -3,6 +3,9 @@ pub mod CheckLine
 pub mod Checking
 pub mod HexText
 pub mod ItemLines
+pub mod KeyNames
 pub mod RunFaults
 pub mod ScreenLines
+pub mod Script
+pub mod ScriptFaults
 pub mod StreamText

@@ -16,8 +16,13 @@ mod fault;
 mod hex_text;
 mod input;
 mod item_text;
+mod key_name;
 mod program;
 mod screen_text;
+mod script;
+mod script_body;
+mod script_line;
+mod script_move;
 mod show;
 #[cfg(test)]
 mod show_rows;
