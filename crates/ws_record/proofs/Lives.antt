@@ -1,4 +1,4 @@
-use Rattle.std.proofs.Common.{false, ◌≡◌, ℕ, ◌+◌, List, [], ◌∷◌, ◌++◌, Option, length, sym, ap, ◌∙◌, subst, arith, length-append}
+use Rattle.std.proofs.Common.{false, ◌≡◌, ◌≢◌, ◌<◌, ne_eqb, refl, ℕ, ◌+◌, List, [], ◌∷◌, ◌++◌, Option, length, sym, ap, ◌∙◌, subst, arith, length-append}
 use Rattle.ws_code.specs.Code.{Rules, IsUnfinished, IsSpelled, IsPrefix}
 use Rattle.ws_code.proofs.CodeLaws.{CanEnd}
 use Rattle.ws_code.specs.declared.reason.Reason.{Reason}
@@ -16,12 +16,16 @@ use Rattle.ws_record.specs.DataStep.{record_of, IsWholeRecord}
 use Rattle.ws_record.specs.Live.{Watching, Leads}
 use Rattle.ws_record.specs.TokenStep.{Completes}
 use Rattle.ws_record.specs.ReadyTokens.{AreReady}
-use Rattle.ws_telnet.specs.TokenLaws.{token_begins}
+use Rattle.ws_telnet.specs.TokenLaws.{token_begins, doubled_plain}
 use Rattle.ws_record.proofs.Steps.{holds_nothing, holds_more, holds_data, holds_command, holds_record}
 use Rattle.ws_record.proofs.Refusals.{SpellsBytes, all_open, refuse_token, refuse_data, refuse_end, truncated}
 
 one_more : (bytes : List ℕ) (b n : ℕ) → n ≡ length bytes + 1 → n ≡ length (bytes ++ b ∷ [])
 one_more bytes b n e = omega (arith, length-append bytes (b ∷ []))
+
+-- between tokens a byte other than FF is a token
+pub plain_byte : (begun : List ℕ) (b : ℕ) → b < 256 → b ≢ 0xff → begun ≡ [] → IsSpelled token_rules tt (begun ++ b ∷ []) (Data b)
+plain_byte begun b fits ne e = rw e (record { stands = record { is_unit = fits; may_stand = refl }; spelled = doubled_plain b (ne_eqb b 0xff ne) })
 
 module _ {Place U : Type 0} (rules : Rules Place U) (can : CanEnd rules) (law : SpellsBytes rules) where
   leads : (live : Watching Place) (bytes : List ℕ) (items : List (Item U)) (so_far : RecordSoFar U) → live.taken ≡ length bytes → Holds rules bytes items so_far.bytes live.begun → Reads rules live.reader so_far → live.failed ≡ false → Leads rules live bytes items so_far
