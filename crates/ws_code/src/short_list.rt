@@ -60,6 +60,13 @@ impl<T, const N: usize> ShortList<T, N> {
         usize::from(self.count)
     }
 
+    /// Whether it has no item.
+    pub fn is_empty(&self) -> bool
+        ensures { result ≡ (length self.now == 0) }
+    {
+        self.len() == 0
+    }
+
     /// Whether no item more has room.
     pub fn is_full(&self) -> bool
         ensures value { result ≡ (length self.now == N) }
