@@ -60,6 +60,10 @@ module _ {Place U : Type 0} where
   abbrev pub HasItem : Rules Place U → List ℕ → Type 0
   HasItem rules bytes = (front : List ℕ) × (rest : List ℕ) × (bytes ≡ front ++ rest) × (items : List (Item U)) × (item : Item U) × (so_far : List ℕ) × (begun : List ℕ) × Holds rules front (items ++ item ∷ []) so_far begun
 
+  -- a unit or an item is complete in the bytes, so that a list grows for it
+  abbrev pub MayGrow : Rules Place U → List ℕ → Type 0
+  MayGrow rules bytes = HasUnit rules [] bytes ⊎ HasItem rules bytes
+
   -- a byte behind these is refused, or the growth for a unit that is complete with it was
   abbrev pub IsTakeFault : Rules Place U → List ℕ → ℕ → Fault → Type 0
   IsTakeFault rules bytes byte (Refused place reason) = (place ≡ length bytes) × IsRefused rules (bytes ++ byte ∷ []) place reason
@@ -85,5 +89,5 @@ module _ {Place U : Type 0} where
   abbrev pub IsDecodeFault : Rules Place U → List ℕ → Fault → Type 0
   IsDecodeFault rules bytes (Refused place reason) = IsRefused rules bytes place reason
   IsDecodeFault rules bytes (Truncated n) = (n ≡ length bytes) × IsTruncated rules bytes
-  IsDecodeFault rules bytes Memory = HasUnit rules [] bytes ⊎ HasItem rules bytes
+  IsDecodeFault rules bytes Memory = MayGrow rules bytes
   IsDecodeFault rules bytes fault = ⊥
