@@ -40,7 +40,7 @@ module _ {Place U : Type 0} where
   IsStep rules new bytes items so_far byte More = LeadsWith rules new (bytes ++ byte ∷ []) items so_far.head so_far.units
   IsStep rules new bytes items so_far byte (Open head) = (so_far.head ≡ None) × LeadsWith rules new (bytes ++ byte ∷ []) items (Some head) so_far.units
   IsStep rules new bytes items so_far byte (Whole unit) = LeadsWith rules new (bytes ++ byte ∷ []) items so_far.head (so_far.units ++ unit ∷ [])
-  IsStep rules new bytes items so_far byte Close = (head : Head) × IsClosed rules new bytes items so_far byte head
+  IsStep rules new bytes items so_far byte Close = (head : Head) × (so_far.head ≡ Some head) × Leads rules new (bytes ++ byte ∷ []) (items ++ RecordItem (record_of head so_far.units) ∷ []) no_record
   IsStep rules new bytes items so_far byte (Command telnet) = Leads rules new (bytes ++ byte ∷ []) (items ++ TelnetItem telnet ∷ []) so_far
   IsStep rules new bytes items so_far byte (Refused place reason) = (place ≡ length bytes) × IsRefused rules (bytes ++ byte ∷ []) place reason
   IsStep rules new bytes items so_far byte Failed = ⊥

@@ -18,7 +18,9 @@ returns-in-Unit-Telnet-clause-step g c = λ bytes items so_far l at.
     command_step g.B.Code.rules g.met.B.Body.can_end g.met.B.Code.bytes _ _ bytes items so_far c.args.self.now.begun c.args.byte c.in-Unit-Telnet.telnet (subst (λ (x : Token). Completes g.B.Code.rules c.read_token.new.self bytes items so_far c.args.self.now.begun c.args.byte x) c.in-Unit-Telnet.field-0-is (c.in-Unit-Telnet.ensures.token bytes items so_far l)) refl refl refl refl
 
 pub returns-in-Ok-clause-step : goal.returns-in-Ok-clause-step
-returns-in-Ok-clause-step g c = λ bytes items so_far l at. (c.in-Ok._head, c.in-Ok.ensures.closed bytes items so_far c.args.self.now.begun c.args.byte (subst (λ (x : Token). Completes g.B.Code.rules c.read_token.new.self bytes items so_far c.args.self.now.begun c.args.byte x) c.in-Unit-Eor.field-0-is (c.in-Unit-Eor.ensures.token bytes items so_far l)))
+returns-in-Ok-clause-step g c = λ bytes items so_far l at.
+    let closed = c.in-Ok.ensures.closed bytes items so_far c.args.self.now.begun c.args.byte (subst (λ (x : Token). Completes g.B.Code.rules c.read_token.new.self bytes items so_far c.args.self.now.begun c.args.byte x) c.in-Unit-Eor.field-0-is (c.in-Unit-Eor.ensures.token bytes items so_far l)) in
+    (c.in-Ok._head, closed.0, closed.1)
 
 pub returns-in-Err-clause-step : goal.returns-in-Err-clause-step
 returns-in-Err-clause-step g c = λ bytes items so_far l at.
