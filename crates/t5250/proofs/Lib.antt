@@ -1,6 +1,8 @@
 pub mod CheckLemmas
 pub mod FrontItems
 pub mod Parts
+pub mod Plays
+pub mod Prints
 pub mod Rows
 pub mod ScriptBodies
 pub mod ScriptWords

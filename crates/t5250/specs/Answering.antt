@@ -1,7 +1,7 @@
 use Rattle.std.specs.Prelude.{◌≡◌, ◌≢◌, ℕ, List, Bool, true, false, Result, Ok, Err, IsErr, ◌⊎◌, length}
 use Rattle.hex.specs.Hex.{decode_of}
 use Rattle.ws_code.specs.Code.{Rules}
-use Rattle.ws_code.specs.Device.{MayTake, WentOut}
+use Rattle.ws_code.specs.Device.{MayTake, WentOut, FailedWithin}
 use Rattle.ws_code.specs.declared.fault.Fault.{Fault}
 use Rattle.ws_code.specs.declared.fault.Fault.TheVariants as device
 use Rattle.ws_stream.specs.Elements.{element_rules}
@@ -11,10 +11,16 @@ use Rattle.t5250.specs.CheckLine.{IsVerdict, is_accepted, line_of}
 use Rattle.t5250.specs.Checking.{IsCheckFault}
 use Rattle.t5250.specs.StreamText.{IsShown, IsShowFault}
 use Rattle.t5250.specs.declared.command_line.Asked.{Asked}
-use Rattle.t5250.specs.declared.command_line.Asked.TheVariants.{Check, Show}
+use Rattle.t5250.specs.declared.command_line.Asked.TheVariants.{Check, Show, Play}
 use Rattle.t5250.specs.declared.fault.RunFault.{RunFault}
-use Rattle.t5250.specs.declared.fault.RunFault.TheVariants.{Read, NotHex, Memory, Write, Refused, Truncated, Failed}
+use Rattle.t5250.specs.declared.fault.RunFault.TheVariants.{Read, NotHex, Line, Memory, Write, Refused, Truncated, Failed}
 use Rattle.t5250.specs.declared.verdict.Verdict.{Verdict}
+use Rattle.ws_nego.specs.declared.terminal.TerminalType.TheVariants.{Ibm3179Model2}
+use Rattle.ws_session.specs.declared.world.Move.{Move}
+use Rattle.ws_session.specs.World.{World, new_world, after_moves}
+use Rattle.ws_session.specs.StationSide.{screen_at}
+use Rattle.t5250.specs.Script.{IsScript, IsFirstBad}
+use Rattle.t5250.specs.PlayLines.{IsPlayText, no_end_refuses}
 
 -- What the program makes of an input: what it writes, and what it answers where that isn't all.
 
@@ -22,6 +28,10 @@ use Rattle.t5250.specs.declared.verdict.Verdict.{Verdict}
 abbrev pub HasPieces : Asked → Type 0
 HasPieces (Check file cut answers) = cut ≢ 0
 HasPieces asked = Unit {0}
+
+-- what is told of a session
+abbrev pub IsSessionText : World → Bool → List ℕ → Type 0
+IsSessionText w screen text = IsPlayText w.events (screen_at w.station) screen text
 
 -- the bytes of a hex text
 abbrev pub IsHexOf : List ℕ → List ℕ → Type 0
@@ -36,12 +46,17 @@ module _ {S : Type 0} (takes : MayTake S) (failures : S → ℕ) (from to : S) w
   abbrev pub HasShown : List ℕ → Bool → Type 0
   HasShown bytes accepted = (text : List ℕ) × IsShown bytes accepted text × WentOut takes failures from to text
 
+  -- what a session tells after a script's moves went out; its terminal is the default one
+  abbrev pub HasPlayed : Bool → List ℕ → Bool → Type 0
+  HasPlayed screen script all_well = (moves : List Move) × IsScript script moves × (text : List ℕ) × IsSessionText (after_moves (new_world Ibm3179Model2) moves) screen text × WentOut takes failures from to text × (all_well ≡ no_end_refuses (after_moves (new_world Ibm3179Model2) moves).events)
+
   -- the program did what it was asked for with its input: with the commands of a host, or the answers of a
-  -- station, that a hex text tells
+  -- station, that a hex text tells, or with a script
   abbrev pub HasAnswered : Asked → List ℕ → Bool → Type 0
   HasAnswered (Check file cut false) input accepted = (bytes : List ℕ) × IsHexOf bytes input × HasChecked element_rules bytes accepted
   HasAnswered (Check file cut true) input accepted = (bytes : List ℕ) × IsHexOf bytes input × HasChecked answer_rules bytes accepted
   HasAnswered (Show file) input accepted = (bytes : List ℕ) × IsHexOf bytes input × HasShown bytes accepted
+  HasAnswered (Play file screen) input accepted = HasPlayed screen input accepted
 
   -- what is answered of a hex text where a command answers such faults of its bytes
   abbrev pub IsHexFault : (List ℕ → Fault → Type 0) → List ℕ → RunFault → Type 0
@@ -52,12 +67,25 @@ module _ {S : Type 0} (takes : MayTake S) (failures : S → ℕ) (from to : S) w
   IsHexFault IsFault input (Refused place reason) = ⊥
   IsHexFault IsFault input (Truncated at) = ⊥
   IsHexFault IsFault input Failed = ⊥
+  IsHexFault IsFault input (Line number) = ⊥
+
+  -- what is answered of a script that isn't played, or whose lines don't go out
+  abbrev pub IsPlayFault : Bool → List ℕ → RunFault → Type 0
+  IsPlayFault screen script (Line number) = (to ≡ from) × IsFirstBad script number
+  IsPlayFault screen script Memory = to ≡ from
+  IsPlayFault screen script Write = (moves : List Move) × IsScript script moves × (text : List ℕ) × IsSessionText (after_moves (new_world Ibm3179Model2) moves) screen text × FailedWithin takes failures from to text
+  IsPlayFault screen script NotHex = ⊥
+  IsPlayFault screen script Read = ⊥
+  IsPlayFault screen script (Refused place reason) = ⊥
+  IsPlayFault screen script (Truncated at) = ⊥
+  IsPlayFault screen script Failed = ⊥
 
   -- what the program answers where it didn't do all that it was asked for
   abbrev pub IsAnswerFault : Asked → List ℕ → RunFault → Type 0
   IsAnswerFault (Check file cut false) input fault = IsHexFault (IsCheckFault element_rules takes failures from to) input fault
   IsAnswerFault (Check file cut true) input fault = IsHexFault (IsCheckFault answer_rules takes failures from to) input fault
   IsAnswerFault (Show file) input fault = IsHexFault (IsShowFault takes failures from to) input fault
+  IsAnswerFault (Play file screen) input fault = IsPlayFault screen input fault
 
 -- the exit status: 0 where all was accepted, 1 where it wasn't, 2 on a fault
 abbrev pub status_of : {E : Type 0} → Result Bool E → ℕ

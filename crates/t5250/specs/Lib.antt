@@ -4,6 +4,8 @@ pub mod Checking
 pub mod HexText
 pub mod ItemLines
 pub mod KeyNames
+pub mod PlayLines
+pub mod Printing
 pub mod RunFaults
 pub mod ScreenLines
 pub mod Script

@@ -1,9 +1,11 @@
 use Rattle.ws_code.specs.declared.fault.Fault.{Fault}
 use Rattle.ws_code.specs.declared.fault.Fault.TheVariants as device
 use Rattle.t5250.specs.declared.fault.RunFault.{RunFault}
-use Rattle.t5250.specs.declared.fault.RunFault.TheVariants.{Read, NotHex, Memory, Write, Refused, Truncated, Failed}
+use Rattle.t5250.specs.declared.fault.RunFault.TheVariants.{Read, NotHex, Line, Memory, Write, Refused, Truncated, Failed}
 use Rattle.t5250.specs.declared.hex_text.TextFault.{TextFault}
 use Rattle.t5250.specs.declared.hex_text.TextFault.TheVariants as texts
+use Rattle.t5250.specs.declared.script.ScriptFault.{ScriptFault}
+use Rattle.t5250.specs.declared.script.ScriptFault.TheVariants as scripts
 
 -- a fault of a command, and of hex text, as the program's own
 abbrev pub run_fault : Fault → RunFault
@@ -17,3 +19,7 @@ run_fault device.Failed = Failed
 abbrev pub text_run_fault : TextFault → RunFault
 text_run_fault texts.NotHex = NotHex
 text_run_fault texts.Memory = Memory
+
+abbrev pub script_run_fault : ScriptFault → RunFault
+script_run_fault (scripts.Line number) = Line number
+script_run_fault scripts.Memory = Memory

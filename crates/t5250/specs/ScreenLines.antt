@@ -13,22 +13,29 @@ use Rattle.t5250.specs.ItemLines.{cell_text}
 abbrev pub IsWithoutLastBlanks : List ℕ → List ℕ → Type 0
 IsWithoutLastBlanks text shown = IsTrimEndMatches (FindsCharSuffix 32) text shown
 
+-- what stands before a row's number
+abbrev pub indent : ℕ → List ℕ
+indent row = if nat_lt row 10 then codes " " else []
+
 -- a row's line: its number right in two places, a blank, and what it shows; a row that is all blank has none
 abbrev pub row_line : ℕ → List ℕ → List ℕ
 row_line row [] = []
-row_line row (b ∷ shown) = (if nat_lt row 10 then codes " " else []) ++ decimal row ++ codes " " ++ b ∷ shown ++ 10 ∷ []
+row_line row (b ∷ shown) = indent row ++ decimal row ++ codes " " ++ b ∷ shown ++ 10 ∷ []
 
 -- the lines of rows one after another
 unfoldable pub AreRows : List ℕ → List ℕ → List ℕ → Type 0
 AreRows cells [] text = text ≡ []
 AreRows cells (row ∷ rows) text = (shown : List ℕ) × (rest : List ℕ) × IsWithoutLastBlanks (encode_utf8_all (row_chars cells row)) shown × (text ≡ row_line row shown ++ rest) × AreRows cells rows rest
 
+abbrev pub lock_name : Bool → List ℕ
+lock_name locked = if locked then codes "locked" else codes "unlocked"
+
 abbrev pub on_or_off : Bool → List ℕ
 on_or_off on = if on then codes "on" else codes "off"
 
 -- the cursor, the keyboard's lock, the message light, the blinking cursor, the number of fields
 abbrev pub state_line : Shown → List ℕ
-state_line s = codes "cursor " ++ cell_text s.cursor ++ codes ", " ++ (if s.locked then codes "locked" else codes "unlocked") ++ codes ", message " ++ on_or_off s.message ++ codes ", blink " ++ on_or_off s.blink ++ codes ", fields " ++ decimal (length s.fields) ++ 10 ∷ []
+state_line s = codes "cursor " ++ cell_text s.cursor ++ codes ", " ++ lock_name s.locked ++ codes ", message " ++ on_or_off s.message ++ codes ", blink " ++ on_or_off s.blink ++ codes ", fields " ++ decimal (length s.fields) ++ 10 ∷ []
 
 -- the lines of a whole screen, whose rows count from 1
 abbrev pub IsScreenText : Shown → List ℕ → Type 0

@@ -23,13 +23,18 @@ pub enum Asked<'a> {
     Show {
         file: Option<&'a str>,
     },
+    /// To play a script with both ends, and to tell what happens; with `screen` also the station's screen at the end.
+    Play {
+        file: Option<&'a str>,
+        screen: bool,
+    },
 }
 
 impl<'a> Asked<'a> {
     /// The file that is to be read; without it, standard input is.
     pub fn file(self) -> Option<&'a str> {
         match self {
-            Asked::Check { file, .. } | Asked::Show { file } => file,
+            Asked::Check { file, .. } | Asked::Show { file } | Asked::Play { file, .. } => file,
         }
     }
 }
@@ -40,10 +45,10 @@ A stream is read as hex text: two hex digits for each byte, in either case.
 Blanks, tabs and line ends don't count.
 
 Exit status:
-  0  the whole stream is accepted
+  0  the whole stream is accepted, and in play no end refuses a byte
   1  it is refused at a byte, or ends too early
   2  a fault, told in one line on standard error: cannot read, not hex,
-     memory, cannot write; or a wrong command line";
+     script line N, memory, cannot write; or a wrong command line";
 
 const CHECK_EXAMPLES: &str = "\
 It prints one line, as one of:
@@ -62,6 +67,20 @@ Where the stream isn't accepted, the line of `check` is the last.
 Examples:
   t5250 show capture.hex
   echo 000A12A0000004000001FFEF | t5250 show";
+
+const PLAY_EXAMPLES: &str = "\
+A script has a line for each move, and is read before anything is run:
+  send K HEX   the host end sends a record of opcode K; HEX may be absent
+  cancel       the host end cancels its read
+  down N       N bytes arrive at the station; all is all of them
+  up N         N bytes arrive at the host end
+  settle       four times down all and up all
+  type TEXT    keys for the characters; insert TEXT inserts them
+  key NAME     a key, such as Enter, F3, FieldExit or Tab
+
+Examples:
+  t5250 play --screen sign-on.script
+  echo settle | t5250 play";
 
 // The commands that the program knows.
 fn program<'a>(alloc: Global) -> Result<Command<'a>, clap::Error> {
@@ -85,13 +104,26 @@ fn program<'a>(alloc: Global) -> Result<Command<'a>, clap::Error> {
         .about("Prints a stream's records and Telnet commands, and the screen that they make")
         .after_help(SHOW_EXAMPLES)
         .arg(hex_file(alloc))?;
+    let screen = Arg::new(alloc, "screen")
+        .long("screen")
+        .help("Prints the station's screen at the end")
+        .action(ArgAction::SetTrue);
+    let script = Arg::new(alloc, "SCRIPT")
+        .help("A script; without it, standard input is read")
+        .action(ArgAction::Set);
+    let play = Command::new(alloc, "play")
+        .about("Plays a script of sends, keys and deliveries with both ends")
+        .after_help(PLAY_EXAMPLES)
+        .arg(screen)?
+        .arg(script)?;
     let program = Command::new(alloc, "t5250")
         .version("0.1.0")
         .about("Reads recorded IBM 5250 streams over Telnet (RFC 1205)")
         .after_help(HEX_AND_STATUS)
         .subcommand_required(true)
         .subcommand(check)?
-        .subcommand(show)?;
+        .subcommand(show)?
+        .subcommand(play)?;
     Ok(program)
 }
 
@@ -138,6 +170,10 @@ pub fn read_words<'a, S: AsStr>(alloc: Global, words: &'a [S]) -> Result<Asked<'
         }),
         Some(("show", show)) => Ok(Asked::Show {
             file: show.get_str("FILE"),
+        }),
+        Some(("play", play)) => Ok(Asked::Play {
+            file: play.get_str("SCRIPT"),
+            screen: play.get_flag("screen"),
         }),
         _ => Err(program.error(ErrorKind::MissingSubcommand, "no subcommand")?),
     }

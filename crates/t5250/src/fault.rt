@@ -1,7 +1,8 @@
 ghost use Rattle.std.specs.Prelude.{◌≡◌};
-ghost use Rattle.t5250.specs.RunFaults.{run_fault, text_run_fault};
+ghost use Rattle.t5250.specs.RunFaults.{run_fault, text_run_fault, script_run_fault};
 
 use crate::hex_text::TextFault;
+use crate::script::ScriptFault;
 use std::io;
 use thiserror::Error;
 use ws_code::{Fault, Reason};
@@ -13,6 +14,9 @@ pub enum RunFault {
     Read,
     #[error("not hex")]
     NotHex,
+    /// The first bad line of a script, counted from 1.
+    #[error("script line {0}")]
+    Line(u64),
     #[error("memory")]
     Memory,
     #[error("cannot write")]
@@ -75,6 +79,17 @@ impl From<TextFault> for RunFault {
         match fault {
             TextFault::NotHex => RunFault::NotHex,
             TextFault::Memory => RunFault::Memory,
+        }
+    }
+}
+
+impl From<ScriptFault> for RunFault {
+    ghost from_gives = { λ fault told. told ≡ script_run_fault fault };
+
+    fn from(fault: ScriptFault) -> Self {
+        match fault {
+            ScriptFault::Line(number) => RunFault::Line(number),
+            ScriptFault::Memory => RunFault::Memory,
         }
     }
 }

@@ -1,4 +1,4 @@
-//! The program `t5250`, which checks and shows recorded 5250 streams (RFC 1205).
+//! The program `t5250`, which checks and shows recorded 5250 streams (RFC 1205), and plays scripts with both ends.
 //!
 //! Its status is 0 where a stream is accepted, 1 where it is refused or truncated, and 2 on a fault. A fault
 //! is one line on standard error, or the text of `clap` for a wrong command line. Faults are looked for in this
@@ -17,12 +17,18 @@ mod hex_text;
 mod input;
 mod item_text;
 mod key_name;
+mod output;
+mod play;
+#[cfg(test)]
+mod play_rows;
 mod program;
-mod screen_text;
+mod screen_lines;
 mod script;
 mod script_body;
 mod script_line;
 mod script_move;
+#[cfg(test)]
+mod script_rows;
 mod show;
 #[cfg(test)]
 mod show_rows;

@@ -1,6 +1,6 @@
 ghost use Rattle.std.specs.Prelude.{◌≡◌, ◌≢◌, IfOk, IfErr};
 ghost use Rattle.ws_stream.specs.Elements.{element_rules};
-ghost use Rattle.t5250.specs.Answering.{HasPieces, HasAnswered, HasChecked, HasShown, IsAnswerFault, IsHexFault, IsHexOf, status_of};
+ghost use Rattle.t5250.specs.Answering.{HasPieces, HasAnswered, HasChecked, HasShown, HasPlayed, IsAnswerFault, IsHexFault, IsHexOf, IsPlayFault, status_of};
 ghost use Rattle.t5250.specs.Checking.{IsCheckFault};
 ghost use Rattle.t5250.specs.StreamText.{IsShowFault};
 ghost use Rattle.std.specs.Prelude.{List as Seq, ℕ};
@@ -9,15 +9,20 @@ use crate::check::check_to;
 use crate::command_line::Asked;
 use crate::fault::RunFault;
 use crate::hex_text::hex_bytes;
+use crate::play::play_to;
+use crate::script::read_script;
 use crate::show::show_to;
 use std::alloc::Global;
 use ws_code::{Body, Sink};
+use ws_nego::TerminalType;
+use ws_session::World;
 use ws_stream::{Answers, Commands};
 
 /// Does what the program was asked for with the whole of its input: true where all was accepted.
 ///
 /// What is asked for by `asked` is written to the sink; a file that it names was read before. `NotHex` comes
-/// where the input had to be hex text and isn't, and then nothing was written; `Memory` where a growth was
+/// where the input had to be hex text and isn't, `Line` where a line of a script is bad, and then nothing was
+/// written; `Memory` where a growth was
 /// refused, and `Write` where the sink failed, and then the first part of the text may have gone out.
 pub fn answer<S: Sink>(
     alloc: Global,
@@ -40,6 +45,7 @@ pub fn answer<S: Sink>(
             }
         }
         Asked::Show { .. } => show_text(alloc, text, sink),
+        Asked::Play { screen, .. } => play_script(alloc, text, screen, sink),
     }
 }
 
@@ -69,6 +75,23 @@ fn show_text<S: Sink>(alloc: Global, text: &[u8], sink: &mut S) -> Result<bool, 
 {
     let bytes = hex_bytes(alloc, text)?;
     Ok(show_to(alloc, bytes.as_slice(), sink)?)
+}
+
+// Plays a script, and writes what its session tells.
+fn play_script<S: Sink>(
+    alloc: Global,
+    script: &[u8],
+    screen: bool,
+    sink: &mut S,
+) -> Result<bool, RunFault>
+    ensures done { IfOk result
+        (HasPlayed S.takes S.failures sink.old sink.new screen script.now) }
+    ensures fault { IfErr result
+        (IsPlayFault S.takes S.failures sink.old sink.new screen script.now) }
+{
+    let moves = read_script(alloc, script)?;
+    let report = World::run(alloc, TerminalType::Ibm3179Model2, moves.as_slice())?;
+    Ok(play_to(&report, screen, sink)?)
 }
 
 /// The exit status of an outcome: 0 where all was accepted, 1 where it wasn't, 2 on a fault.

@@ -9,7 +9,8 @@ ghost use Rattle.t5250.specs.ScreenLines.{IsScreenText};
 ghost use Rattle.t5250.specs.StreamText.{IsShown, IsPart, IsTextFault, IsShowFault, IsWholeItem, GoesOn, lines_of, placed_by, item_fault, fault_of, after_item, after_items};
 
 use crate::item_text::item_text;
-use crate::screen_text::screen_text;
+use crate::output::Output;
+use crate::screen_lines::put_screen;
 use crate::verdict::{Verdict, verdict_by_fault};
 use std::alloc::Global;
 use ws_code::{Fault, Reason, Sink, write_whole};
@@ -34,7 +35,7 @@ pub fn show_to<S: Sink>(alloc: Global, bytes: &[u8], sink: &mut S) -> Result<boo
 {
     let mut screen = Screen::new();
     match show_items(alloc, bytes, &mut screen, sink)? {
-        None => write_screen(alloc, &screen, sink),
+        None => write_screen(&screen, sink),
         Some(verdict) => write_verdict(alloc, verdict, bytes.len(), sink),
     }
 }
@@ -154,16 +155,15 @@ fn write_verdict<S: Sink>(
 }
 
 // Writes a screen's lines.
-fn write_screen<S: Sink>(alloc: Global, screen: &Screen, sink: &mut S) -> Result<bool, Fault>
+fn write_screen<S: Sink>(screen: &Screen, sink: &mut S) -> Result<bool, Fault>
     ensures ok { IfOk result (λ accepted. (accepted ≡ true) × ((text : List ℕ)
         × IsScreenText screen.now text
         × WentOut S.takes S.failures sink.old sink.new text)) }
     ensures err { IfErr result
         (IsTextFault S.takes S.failures sink.old sink.new (IsScreenText screen.now)) }
 {
-    let Ok(text) = screen_text(alloc, screen) else {
-        return Err(Fault::Memory);
-    };
-    write_whole(sink, text.as_str().as_bytes())?;
-    Ok(true)
+    match put_screen(sink, Output::Open, screen) {
+        Output::Open => Ok(true),
+        Output::Failed => Err(Fault::Write),
+    }
 }

@@ -33,7 +33,7 @@ fn check<'a>() -> Asked<'a> {
 fn command_lines(rt: HostRuntime) -> Result<(), Fail> {
     let cut = u16::MAX;
     let file = Some("a.hex");
-    let rows: [(&[&str], Asked<'_>); 10] = [
+    let rows: [(&[&str], Asked<'_>); 13] = [
         (&["t5250", "check"], check()),
         (
             &["t5250", "check", "a.hex"],
@@ -93,6 +93,24 @@ fn command_lines(rt: HostRuntime) -> Result<(), Fail> {
         ),
         (&["t5250", "show"], Asked::Show { file: None }),
         (&["t5250", "show", "a.hex"], Asked::Show { file }),
+        (
+            &["t5250", "play"],
+            Asked::Play {
+                file: None,
+                screen: false,
+            },
+        ),
+        (
+            &["t5250", "play", "a.hex"],
+            Asked::Play {
+                file,
+                screen: false,
+            },
+        ),
+        (
+            &["t5250", "play", "--screen", "a.hex"],
+            Asked::Play { file, screen: true },
+        ),
     ];
     for (words, asked) in rows {
         assert_eq!(rt; read_words(rt.alloc(), words)?, asked);
@@ -119,6 +137,9 @@ fn wrong_command_lines(rt: HostRuntime) -> Result<(), Fail> {
         ["t5250", "show", "--cut", "1"].as_slice(),
         ["t5250", "show", "--answers"].as_slice(),
         ["t5250", "show", "a.hex", "b.hex"].as_slice(),
+        ["t5250", "play", "a.hex", "b.hex"].as_slice(),
+        ["t5250", "play", "--screen", "--screen"].as_slice(),
+        ["t5250", "play", "--tcp"].as_slice(),
     ];
     for words in wrong {
         match read_words(rt.alloc(), words) {

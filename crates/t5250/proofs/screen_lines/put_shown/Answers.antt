@@ -1,0 +1,11 @@
+use Rattle.std.proofs.Common.{sym, ◌∙◌}
+use Rattle.t5250.proofs.Prints.{prints_both, prints_same, row_of_none, row_of_some}
+use Rattle.t5250.proofs.screen_lines.put_shown.Goals as goal
+
+pub returns-then-is_empty : goal.returns-then-is_empty
+returns-then-is_empty g c = prints_same (row_of_none c.args.row c.args.shown.now (sym c.is_empty.ensures ∙ c.if-is_empty.true)) c.put_text.ensures
+
+pub returns : goal.returns
+returns g c =
+    let number = prints_both (prints_same c.indent.ensures c.put_text-output.ensures) c.put_number-output.ensures in
+    prints_same (row_of_some c.args.row c.args.shown.now (sym c.is_empty.ensures ∙ c.if-is_empty.false)) (prints_both (prints_both (prints_both number c.put_text-output-2.ensures) c.put_text-output-3.ensures) c.put_text-2.ensures)

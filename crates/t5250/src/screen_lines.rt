@@ -1,0 +1,120 @@
+ghost use Rattle.std.specs.Prelude.{◌≡◌, ◌≤◌, List, ℕ, length};
+ghost use Rattle.std.specs.List.{range_with_len};
+ghost use Rattle.std.specs.Str.{encode_utf8_all};
+ghost use Rattle.ws_screen.specs.Lines.{row_chars};
+ghost use Rattle.t5250.specs.Printing.{Prints};
+ghost use Rattle.t5250.specs.ScreenLines as Spec;
+ghost use Rattle.t5250.specs.PlayLines.{AreScreenLines};
+
+use crate::output::{Output, put_cell, put_number, put_text};
+use ws_code::Sink;
+use ws_screen::Screen;
+
+/// Writes the lines of a screen, where they are asked for.
+pub fn put_screen_if<S: Sink>(
+    sink: &mut S,
+    output: Output,
+    is_asked: bool,
+    screen: &Screen,
+) -> Output
+    ensures { (lines : List ℕ) × AreScreenLines is_asked screen.now lines
+        × Prints S.takes S.failures sink.old sink.new output result lines }
+{
+    if is_asked {
+        put_screen(sink, output, screen)
+    } else {
+        put_text(sink, output, "")
+    }
+}
+
+/// Writes the lines of a screen: each row that isn't all blank, and what there is beside the rows.
+pub fn put_screen<S: Sink>(sink: &mut S, output: Output, screen: &Screen) -> Output
+    ensures { (lines : List ℕ) × Spec.IsScreenText screen.now lines
+        × Prints S.takes S.failures sink.old sink.new output result lines }
+{
+    let output = put_text(sink, output, "screen\n");
+    let output = put_rows(sink, output, screen);
+    put_state(sink, output, screen)
+}
+
+// Writes the lines of all rows.
+fn put_rows<S: Sink>(sink: &mut S, output: Output, screen: &Screen) -> Output
+    ensures { (rows : List ℕ) × Spec.AreRows screen.now.cells (range_with_len 1 24) rows
+        × Prints S.takes S.failures sink.old sink.new output result rows }
+{
+    let mut output = output;
+    for row in 1..25u8 {
+        output = put_row(sink, output, screen, row);
+    }
+    output
+}
+
+// Writes a row's line, if it isn't all blank.
+fn put_row<S: Sink>(sink: &mut S, output: Output, screen: &Screen, row: u8) -> Output
+    requires low { 1 ≤ row }
+    requires high { row ≤ 24 }
+    ensures { (shown : List ℕ)
+        × Spec.IsWithoutLastBlanks (encode_utf8_all (row_chars screen.now.cells row)) shown
+        × Prints S.takes S.failures sink.old sink.new output result (Spec.row_line row shown) }
+{
+    let line = screen.line(row);
+    put_shown(sink, output, row, line.as_str().trim_end_matches(' '))
+}
+
+// Writes the line of a row that shows this, if it shows anything.
+fn put_shown<S: Sink>(sink: &mut S, output: Output, row: u8, shown: &str) -> Output
+    ensures { Prints S.takes S.failures sink.old sink.new output result
+        (Spec.row_line row shown.now) }
+{
+    if shown.is_empty() {
+        return put_text(sink, output, "");
+    }
+    let output = put_text(sink, output, indent(row));
+    let output = put_number(sink, output, row as u64);
+    let output = put_text(sink, output, " ");
+    let output = put_text(sink, output, shown);
+    put_text(sink, output, "\n")
+}
+
+// What stands before a row's number.
+fn indent(row: u8) -> &'static str
+    ensures { result.now ≡ Spec.indent row }
+{
+    if row < 10 { " " } else { "" }
+}
+
+// Writes the cursor, the keyboard's lock, message light and blinking cursor, and the number of fields.
+fn put_state<S: Sink>(sink: &mut S, output: Output, screen: &Screen) -> Output
+    ensures { Prints S.takes S.failures sink.old sink.new output result
+        (Spec.state_line screen.now) }
+{
+    let output = put_text(sink, output, "cursor ");
+    let output = put_cell(sink, output, screen.cursor());
+    let output = put_text(sink, output, ", ");
+    let output = put_text(sink, output, lock_name(screen.locked()));
+    let output = put_text(sink, output, ", message ");
+    let output = put_text(sink, output, on_or_off(screen.message()));
+    let output = put_text(sink, output, ", blink ");
+    let output = put_text(sink, output, on_or_off(screen.blink()));
+    let output = put_text(sink, output, ", fields ");
+    let output = put_number(sink, output, field_count(screen));
+    put_text(sink, output, "\n")
+}
+
+fn field_count(screen: &Screen) -> u64
+    ensures { result ≡ length screen.now.fields }
+{
+    screen.fields().len() as u64
+}
+
+fn lock_name(is_locked: bool) -> &'static str
+    ensures { result.now ≡ Spec.lock_name is_locked }
+{
+    if is_locked { "locked" } else { "unlocked" }
+}
+
+fn on_or_off(is_on: bool) -> &'static str
+    ensures { result.now ≡ Spec.on_or_off is_on }
+{
+    if is_on { "on" } else { "off" }
+}
