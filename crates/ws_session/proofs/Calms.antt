@@ -1,7 +1,5 @@
-use Rattle.std.specs.Prelude.{if◌then◌else◌, nat_lt, filter, not}
-use Rattle.std.proofs.Common.{◌≡◌, ℕ, zero, suc, ◌+◌, List, [], ◌∷◌, ◌++◌, Bool, true, false, Option, Some, None, length, refl, ap, ◌∙◌}
-use Rattle.std.proofs.lemmas.List.{append-nil}
-use Rattle.ws_code.specs.declared.reason.Reason.{Reason}
+use Rattle.std.specs.Prelude.{if◌then◌else◌, nat_lt}
+use Rattle.std.proofs.Common.{◌≡◌, ℕ, zero, suc, ◌+◌, List, [], ◌∷◌, ◌++◌, Bool, true, false, Option, Some, None, length, refl, ap}
 use Rattle.ws_nego.specs.declared.terminal.TerminalType.{TerminalType}
 use Rattle.ws_record.specs.Arrived.{ending_at}
 use Rattle.ws_record.specs.declared.record.Item.{Item}
@@ -20,7 +18,7 @@ use Rattle.ws_session.specs.HostSide.{HostSide, Told, host_takes, SendReaction, 
 use Rattle.ws_session.specs.Reaction.{Reaction, Refuses, GoesOn}
 use Rattle.ws_session.specs.Refusals.{is_refusal, refusals_in}
 use Rattle.ws_session.specs.StationSide.{StationSide, station_takes, KeyReaction, RefusesKey, Silent, Answers, Signals, station_key}
-use Rattle.ws_session.specs.World.{World, new_world, down_bytes, up_bytes, station_did, station_gets, events_with, host_did, host_gets, byte_to_station, byte_to_host, bytes_to_station, bytes_to_host, station_pressed, host_sent, host_sends, after_send, after_move, after_moves}
+use Rattle.ws_session.specs.World.{World, new_world, down_bytes, up_bytes, station_did, station_gets, events_with, host_did, host_gets, byte_to_station, byte_to_host, bytes_to_station, bytes_to_host, station_pressed, host_sent, host_sends, after_move, after_moves}
 use Rattle.ws_session.proofs.Worlds.{sound}
 
 -- While no end has refused, no refusal has been told.

@@ -1,9 +1,8 @@
 use Rattle.std.specs.Prelude.{IfOk, IfErr}
-use Rattle.std.proofs.Common.{◌≡◌, ◌≢◌, ℕ, ◌+◌, ◌*◌, ◌<◌, ◌≤◌, ◌^◌, min, inl, inr, List, [], ◌∷◌, ◌++◌, Some, None, Result, Ok, Err, length, drop, refl, ap, ◌∙◌, sym, subst, arith, length-append}
-use Rattle.std.proofs.lemmas.List.{append-nil}
+use Rattle.std.proofs.Common.{◌≡◌, ◌≢◌, ℕ, ◌+◌, ◌*◌, ◌<◌, ◌≤◌, ◌^◌, inl, inr, List, [], ◌++◌, Some, None, Result, Ok, Err, length, drop, refl, ap, ◌∙◌, sym, subst, arith, length-append}
 use Rattle.ws_code.specs.declared.fault.Fault.{Fault}
 use Rattle.ws_code.specs.declared.fault.Fault.TheVariants.{Refused, Truncated, Memory, Read, Write, Failed}
-use Rattle.ws_code.specs.Device.{MayTake, MayGive, Gave, GaveAll, ReadFault, FailedWithin, one_more, most_reads}
+use Rattle.ws_code.specs.Device.{MayTake, MayGive, Gave, FailedWithin, one_more, most_reads}
 use Rattle.ws_code.proofs.DeviceLaws.{gave_more, gave_all}
 use Rattle.ws_nego.specs.declared.terminal.TerminalType.{TerminalType}
 use Rattle.ws_record.specs.declared.record.Item.{Item}

@@ -9,18 +9,17 @@ use Rattle.ws_code.proofs.DeviceLaws.{went_out_none, went_out_both, failed_withi
 use Rattle.ws_nego.specs.declared.terminal.TerminalType.{TerminalType}
 use Rattle.ws_record.specs.declared.record.Item.{Item}
 use Rattle.ws_record.specs.declared.record.Item.TheVariants.{Record as RecordItem, Telnet as TelnetItem}
-use Rattle.ws_stream.specs.declared.answer_part.AnswerPart.{AnswerPart}
 use Rattle.ws_stream.specs.declared.element.Element.{Element}
 use Rattle.ws_keys.specs.declared.key.Key.{Key}
 use Rattle.ws_session.specs.declared.player.Player.{Player}
 use Rattle.ws_session.specs.declared.refusal.Refusal.TheVariants.{At}
 use Rattle.ws_session.specs.declared.station.StationStep.{StationStep}
-use Rattle.ws_session.specs.Moments.{Moment, Arrives, Presses, Outcome, unmoved, followed_by, at_item, at_moment, outcome, goes_on, is_taken, AreTaken, due, later, one_record, moments_from, moments}
+use Rattle.ws_session.specs.Moments.{Moment, Arrives, Presses, Outcome, unmoved, followed_by, at_item, at_moment, outcome, goes_on, AreTaken, due, later, one_record, moments_from, moments}
 use Rattle.ws_session.specs.Playing.{HasDone, HasCome, records_from, left_from}
 use Rattle.ws_session.specs.StationLeads.{Holding, StationLeads, IsInside, IsTaken, IsStepped, is_record}
 use Rattle.ws_session.specs.StationRun.{counted, behind, run_text, RunRefuses, RunUnwritten, IsRunFault}
 use Rattle.ws_session.specs.StationSide.{StationSide, new_station_side}
-use Rattle.ws_session.proofs.Plays.{text_of, text_append, unmoved_last, outcome_append, none_due, later_by}
+use Rattle.ws_session.proofs.Plays.{text_of, text_append, outcome_append, none_due, later_by}
 
 -- What a byte makes of a run's player.
 

@@ -1,11 +1,11 @@
 use Rattle.std.specs.Prelude.{nat_lt, if◌then◌else◌}
-use Rattle.std.proofs.Common.{◌≡◌, ℕ, suc, ◌+◌, ◌-◌, ◌<◌, ◌≤◌, ◌^◌, min, Bool, true, false, List, [], ◌∷◌, ◌++◌, Option, Some, None, Result, Ok, Err, length, drop, get_or, refl, ap, ◌∙◌, sym, subst, arith, append_assoc, drop-cons, add-one}
+use Rattle.std.proofs.Common.{◌≡◌, ℕ, suc, ◌+◌, ◌-◌, ◌<◌, ◌≤◌, ◌^◌, min, Bool, true, false, List, [], ◌∷◌, ◌++◌, Some, None, Ok, Err, length, drop, get_or, refl, ap, ◌∙◌, sym, subst, arith, append_assoc, drop-cons, add-one}
 use Rattle.std.proofs.lemmas.List.{append-nil, drop_all}
 use Rattle.std.proofs.lemmas.Bool.Decides.{nat_tests}
 use Rattle.std.proofs.lemmas.Grind.{flat_map-append}
 use Rattle.ws_code.specs.Device.{MayTake, WentOut, FailedWithin}
 use Rattle.ws_code.proofs.DeviceLaws.{went_out_none, went_out_both, failed_within_both}
-use Rattle.ws_record.specs.declared.opcode.Opcode.TheVariants.{NoOperation, PutGet}
+use Rattle.ws_record.specs.declared.opcode.Opcode.TheVariants.{PutGet}
 use Rattle.ws_record.specs.declared.record.Item.{Item}
 use Rattle.ws_record.specs.Encode.{item_spelling, plain_spelling, record_spelling}
 use Rattle.ws_record.specs.Grammar.{header}
@@ -22,7 +22,7 @@ use Rattle.ws_session.specs.Moments.{Moment, Presses, Outcome, unmoved, followed
 use Rattle.ws_session.specs.Playing.{HasDone}
 use Rattle.ws_session.specs.StationLeads.{Holding, StationLeads, IsKeyed}
 use Rattle.ws_session.specs.StationRun.{counted}
-use Rattle.ws_session.specs.StationSide.{StationSide, KeyReaction, RefusesKey, Silent, Answers, Signals, station_key}
+use Rattle.ws_session.specs.StationSide.{StationSide, KeyReaction}
 
 -- What the keys of a run make of its player.
 

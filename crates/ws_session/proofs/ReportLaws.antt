@@ -1,7 +1,7 @@
-use Rattle.std.proofs.Common.{◌≡◌, ℕ, ◌+◌, ◌-◌, ◌<◌, ◌≤◌, ◌^◌, List, [], ◌∷◌, ◌++◌, true, length, drop, refl, ap, ◌∙◌, sym, subst, arith, length-drop}
+use Rattle.std.proofs.Common.{◌≡◌, ℕ, ◌+◌, ◌<◌, ◌≤◌, ◌^◌, List, [], ◌∷◌, ◌++◌, length, drop, refl, ap, ◌∙◌, sym, subst, arith, length-drop}
 use Rattle.ws_nego.specs.declared.terminal.TerminalType.{TerminalType}
 use Rattle.ws_nego.specs.Exchange.{TablesAgree}
-use Rattle.ws_nego.specs.Host.{HostState, host_allows_records}
+use Rattle.ws_nego.specs.Host.{host_allows_records}
 use Rattle.ws_nego.specs.Station.{StationState, station_allows_records}
 use Rattle.ws_keys.specs.declared.host_answer.HostAnswer.{HostAnswer}
 use Rattle.ws_stream.specs.AnswerParts.{answer_rules}

@@ -1,4 +1,4 @@
-use Rattle.std.proofs.Common.{◌≡◌, ◌≤◌, ℕ, ◌+◌, [], List, Ok, Err, Some, length, take, arith, sym, ap, subst, length-take}
+use Rattle.std.proofs.Common.{◌≡◌, ◌≤◌, ℕ, [], Err, Some, length, take, arith, sym, subst}
 use Rattle.std.proofs.lemmas.List.{length-take-le}
 use Rattle.std.proofs.lemmas.Result.{err_from_is_err_and}
 use Rattle.ws_code.specs.declared.fault.Fault.{Fault}

@@ -1,4 +1,4 @@
-use Rattle.std.proofs.Common.{[], ℕ, List}
+use Rattle.std.proofs.Common.{[]}
 use Rattle.ws_nego.specs.declared.terminal.TerminalType.{TerminalType}
 use Rattle.ws_session.specs.StationLeads.{StationLeads}
 use Rattle.ws_session.specs.StationSide.{new_station_side}

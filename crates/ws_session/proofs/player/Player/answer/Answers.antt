@@ -1,4 +1,4 @@
-use Rattle.std.proofs.Common.{◌≡◌, ◌∙◌, ap, sym, subst, ℕ, List}
+use Rattle.std.proofs.Common.{subst, ℕ, List}
 use Rattle.std.proofs.lemmas.Result.{err_from_is_err_and}
 use Rattle.ws_code.specs.Device.{WentOut, FailedWithin}
 use Rattle.ws_session.proofs.PlaySteps.{reply_fails, no_record, record_comes, keys_fail}

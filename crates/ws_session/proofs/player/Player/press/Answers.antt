@@ -1,5 +1,3 @@
-use Rattle.std.specs.Prelude.{OnOk, IfErr}
-use Rattle.std.proofs.Common.{◌≡◌, ℕ, List}
 use Rattle.std.proofs.lemmas.Result.{on_ok_weaker, IfErr-weaker}
 use Rattle.ws_session.proofs.Plays.{silent_done, sent_done, sent_failed, refused_done}
 use Rattle.ws_session.proofs.player.Player.press.Goals as goal

@@ -1,7 +1,5 @@
-use Rattle.std.proofs.Common.{◌≡◌, ◌+◌, ◌<◌, ◌^◌, ◌++◌, ◌∷◌, [], ℕ, List, length, sym, subst}
-use Rattle.std.specs.Prelude.{IfErr, OnOk}
+use Rattle.std.proofs.Common.{◌++◌, ◌∷◌, [], length, sym, subst}
 use Rattle.std.proofs.lemmas.Result.{on_ok_weaker, IfErr-weaker}
-use Rattle.ws_code.specs.declared.fault.Fault.{Fault}
 use Rattle.ws_session.specs.StationRun.{IsRunFault, behind}
 use Rattle.ws_session.proofs.PlaySteps.{byte_refused}
 use Rattle.ws_session.proofs.player.Player.take.Goals as goal

@@ -1,8 +1,6 @@
-use Rattle.std.proofs.Common.{◌≡◌, ◌++◌, ◌∷◌, [], ℕ, ◌+◌, ◌<◌, List, length, take, drop, get_or, sym, ap, ◌∙◌, subst, arith, length-take, length-append}
+use Rattle.std.proofs.Common.{◌++◌, ◌∷◌, [], ℕ, ◌+◌, List, length, take, drop, get_or, sym, subst, arith, length-take, length-append}
 use Rattle.std.proofs.lemmas.Result.{err_from_is_err_and}
 use Rattle.std.proofs.lemmas.List.{take_all, append-nil}
-use Rattle.ws_record.specs.declared.record.Item.{Item}
-use Rattle.ws_stream.specs.declared.element.Element.{Element}
 use Rattle.ws_session.specs.Playing.{HasCome}
 use Rattle.ws_session.specs.StationRun.{IsRunFault}
 use Rattle.ws_session.proofs.PlaySteps.{fault_within, next_byte, rest_of}
