@@ -1,4 +1,4 @@
-use Rattle.std.proofs.Common.{◌≡◌, ℕ, ◌+◌, ◌-◌, ◌<◌, ◌≤◌, ◌^◌, List, [], ◌∷◌, ◌++◌, Option, Some, None, length, take, drop, refl, sym, ap, ◌∙◌, subst, arith, append_assoc, length-append, length-take, length-drop}
+use Rattle.std.proofs.Common.{inl, ◌≡◌, ℕ, ◌+◌, ◌-◌, ◌<◌, ◌≤◌, ◌^◌, List, [], ◌∷◌, ◌++◌, Option, Some, None, length, take, drop, refl, sym, ap, ◌∙◌, subst, arith, append_assoc, length-append, length-take, length-drop}
 use Rattle.std.specs.Prelude.{IfSome, IfOk, IfErr, Result, ◌==◌}
 use Rattle.std.proofs.Math.Seq.{take-add}
 use Rattle.std.proofs.Common.{eqb-true, true}
@@ -9,7 +9,7 @@ use Rattle.ws_code.specs.declared.fault.Fault.TheVariants.{Refused, Truncated, M
 use Rattle.ws_record.specs.declared.record.Item.{Item}
 use Rattle.ws_record.specs.declared.record.Item.TheVariants.{Record, Telnet}
 use Rattle.ws_record.specs.Refusal.{IsRefused}
-use Rattle.ws_record.specs.Receiver.{Receiving, Taken, given, IsFeedFault, IsDecodeFault}
+use Rattle.ws_record.specs.Receiver.{Receiving, Taken, CompletesUnit, given, IsFeedFault, IsDecodeFault}
 use Rattle.ws_record.proofs.Receivers.{refused_append}
 use Rattle.t5250.specs.declared.verdict.Verdict.{Verdict}
 use Rattle.t5250.specs.declared.check.Tally.{Tally}
@@ -78,7 +78,13 @@ module _ {Place U : Type 0} (rules : Rules Place U) where
   fault_on bytes before rest piece (Refused place reason) e f =
       (omega (arith, f.0, length-append bytes before), subst (λ (x : List ℕ). IsRefused rules x place reason) (append_assoc bytes before rest ∙ ap (λ x. bytes ++ x) e) f.1)
   fault_on bytes before rest piece (Truncated n) e f = absurd f
-  fault_on bytes before rest piece Memory e f = tt
+  fault_on bytes before rest piece Memory e f = (
+    before ++ f.0,
+    f.1,
+    f.2,
+    sym e ∙ ap (λ (x : List ℕ). before ++ x) f.3 ∙ sym (append_assoc before f.0 (f.1 ∷ f.2)),
+    subst (λ (x : List ℕ). CompletesUnit rules x f.1) (append_assoc bytes before f.0) f.4,
+  )
   fault_on bytes before rest piece Read e f = absurd f
   fault_on bytes before rest piece Write e f = absurd f
   fault_on bytes before rest piece Failed e f = absurd f
@@ -96,7 +102,15 @@ module _ {Place U : Type 0} (rules : Rules Place U) where
       subst (λ (x : List ℕ). IsRefused rules x place reason) (take-append-drop end bytes)
       (refused_append rules (take end bytes) (drop end bytes) place reason (subst (λ (x : List ℕ). IsRefused rules x place reason) (piece_on bytes at end le) f.1))
   piece_decodes bytes at end (Truncated n) le f = absurd f
-  piece_decodes bytes at end Memory le f = tt
+  piece_decodes bytes at end Memory le f = inl (
+    take at bytes ++ f.0,
+    f.1,
+    f.2 ++ drop end bytes,
+    sym (take-append-drop end bytes)
+        ∙ ap (λ (x : List ℕ). x ++ drop end bytes) (sym (piece_on bytes at end le) ∙ ap (λ (x : List ℕ). take at bytes ++ x) f.3 ∙ sym (append_assoc (take at bytes) f.0 (f.1 ∷ f.2)))
+        ∙ append_assoc (take at bytes ++ f.0) (f.1 ∷ f.2) (drop end bytes),
+    f.4,
+  )
   piece_decodes bytes at end Read le f = absurd f
   piece_decodes bytes at end Write le f = absurd f
   piece_decodes bytes at end Failed le f = absurd f

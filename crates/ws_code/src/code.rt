@@ -1,4 +1,4 @@
-ghost use Rattle.std.specs.Prelude.{◌≡◌, ◌≢◌, ◌++◌, ◌∷◌, ◌<◌, [], List, ℕ};
+ghost use Rattle.std.specs.Prelude.{◌≡◌, ◌≢◌, ◌++◌, ◌∷◌, ◌<◌, [], List, ℕ, IfSome};
 ghost use Rattle.ws_code.specs.Code.{Rules, Stands, IsSpelled, IsPrefix, IsUnfinished, IsPrefixFree, AreBytes};
 ghost use Rattle.ws_code.specs.Push.{MatchPush};
 
@@ -43,7 +43,24 @@ pub trait Code: Drop {
         ensures place { place result ≡ at }
         ensures fresh { unfinished result ≡ [] };
 
-    /// Takes a byte. After `Unit` or `Bad` a new machine is started.
+    /// Begins anew at the place, as a new machine does. A machine that is costly to make does better in place.
+    fn restart(&mut self, at: Self::Place)
+        ensures place { place self.new ≡ at }
+        ensures fresh { unfinished self.new ≡ [] }
+    {
+        *self = Self::start(at);
+    }
+
+    /// The unit that this byte alone spells at the place, where the list goes on at the same place behind it.
+    /// `None` says nothing: then `push` decides.
+    fn single(_at: Self::Place, _byte: u8) -> Option<Self::Unit>
+        ensures { IfSome result (λ unit. IsSpelled rules _at (_byte ∷ []) unit
+            × (rules.after unit ≡ _at)) }
+    {
+        None
+    }
+
+    /// Takes a byte. After `Unit` or `Bad` a new machine is started, or this one is started anew.
     fn push(&mut self, byte: u8) -> Push<Self::Unit>
         requires { IsUnfinished rules (place self.old) (unfinished self.old) }
         ensures more { MatchPush result

@@ -8,9 +8,9 @@ use Rattle.ws_code.proofs.DeviceLaws.{list_gave, list_gave_all, list_no_fault}
 use Rattle.ws_record.specs.declared.record.Item.{Item}
 use Rattle.ws_record.specs.Grammar.{Accepts}
 use Rattle.ws_record.specs.Refusal.{IsRefused, IsTruncated}
-use Rattle.ws_record.specs.Receiver.{IsDecodeFault}
+use Rattle.ws_record.specs.Receiver.{MayGrow, IsDecodeFault}
 use Rattle.ws_record.specs.DecodeFrom.{IsSourceFault}
-use Rattle.ws_record.proofs.Decodes.{only_memory, one_accepted}
+use Rattle.ws_record.proofs.Decodes.{only_memory, one_accepted, grows_more}
 use Rattle.ws_record.proofs.Faults.{one_fault}
 use Rattle.ws_record.proofs.Receivers.{refused_append}
 
@@ -25,7 +25,9 @@ module _ {Place U : Type 0} (rules : Rules Place U) (failures : List ℕ → ℕ
   source_fault bytes to few (Truncated n) f =
       let whole : f.0 ≡ bytes = (list_gave_all failures bytes to f.0 f.1).0 in
       (f.2 ∙ ap length whole, subst (λ (x : List ℕ). IsTruncated rules x) whole f.3)
-  source_fault bytes to few Memory f = tt
+  source_fault bytes to few Memory f =
+      let whole : bytes ≡ f.0 ++ to = (list_gave failures bytes to f.1 f.0 f.2).0 in
+      subst (λ (x : List ℕ). MayGrow rules x) (sym whole) (grows_more rules f.0 to f.3)
   source_fault bytes to few Read f = absurd (list_no_fault failures bytes to f.0 few f.1)
   source_fault bytes to few Write f = absurd f
   source_fault bytes to few Failed f = absurd f

@@ -11,7 +11,7 @@ use Rattle.ws_record.specs.declared.record.Item.{Item}
 use Rattle.ws_record.specs.Grammar.{Holds, Accepts, IsStream}
 use Rattle.ws_record.specs.Refusal.{Layer, IsRight, IsOpen, IsFirstClosed, IsRefused, IsTruncated}
 use Rattle.ws_record.specs.Refusal.Layer.{Tokens, Header, Body}
-use Rattle.ws_record.specs.Receiver.{Receiving, Taken, IsTakeFault, IsFeedFault, NoneBefore, IsDecodeFault}
+use Rattle.ws_record.specs.Receiver.{Receiving, Taken, HasItem, MayGrow, IsTakeFault, IsFeedFault, IsListFault, NoneBefore, IsDecodeFault}
 use Rattle.ws_code.specs.Device.{MayGive, Gave, GaveAll}
 use Rattle.ws_record.specs.DecodeFrom.{IsSourceFault}
 use Rattle.ws_record.proofs.Reading.{parts_no_eor, one_spelling}
@@ -73,7 +73,7 @@ module _ {Place U : Type 0} (rules : Rules Place U) where
         (refused_append rules ((bytes ++ take i piece) ++ get_or piece i 0 ∷ []) (drop (i + 1) piece) place reason f.1),
   )
   take_feeds bytes piece i (Truncated n) lt f = absurd f
-  take_feeds bytes piece i Memory lt f = tt
+  take_feeds bytes piece i Memory lt f = (take i piece, get_or piece i 0, drop (i + 1) piece, sym (at_index piece i lt), f)
   take_feeds bytes piece i Read lt f = absurd f
   take_feeds bytes piece i Write lt f = absurd f
   take_feeds bytes piece i Failed lt f = absurd f
@@ -113,13 +113,28 @@ module _ {Place U : Type 0} (rules : Rules Place U) where
       subst (λ (x : List ℕ). Taken rules new x items) (append_assoc bytes (take i piece) (get_or piece i 0 ∷ []) ∙ ap (λ x. bytes ++ x) (sym (take_more piece i 0 lt))) t
 
   -- a fault of the first piece
-  pub feed_decodes : (bytes : List ℕ) (fault : Fault) → IsFeedFault rules [] bytes fault → IsDecodeFault rules bytes fault
-  feed_decodes bytes (Refused place reason) f = f.1
-  feed_decodes bytes (Truncated n) f = absurd f
-  feed_decodes bytes Memory f = tt
-  feed_decodes bytes Read f = absurd f
-  feed_decodes bytes Write f = absurd f
-  feed_decodes bytes Failed f = absurd f
+  pub feed_decodes : (bytes : List ℕ) (fault : Fault) → IsListFault rules [] bytes fault → IsDecodeFault rules bytes fault
+  feed_decodes bytes (Refused place reason) (inl f) = f.1
+  feed_decodes bytes (Truncated n) (inl f) = absurd f
+  feed_decodes bytes Memory (inl f) = inl f
+  feed_decodes bytes Read (inl f) = absurd f
+  feed_decodes bytes Write (inl f) = absurd f
+  feed_decodes bytes Failed (inl f) = absurd f
+  feed_decodes bytes fault (inr f) = subst (λ (x : Fault). IsDecodeFault rules bytes x) (sym f.0) (inr f.1)
+
+  -- what may grow does whatever follows
+  pub grows_more : (bytes more : List ℕ) → MayGrow rules bytes → MayGrow rules (bytes ++ more)
+  grows_more bytes more (inl u) = inl (u.0, u.1, u.2 ++ more, ap (λ x. x ++ more) u.3 ∙ append_assoc u.0 (u.1 ∷ u.2) more, u.4)
+  grows_more bytes more (inr i) = inr (i.0, i.1 ++ more, ap (λ x. x ++ more) i.2 ∙ append_assoc i.0 i.1 more, i.3, i.4, i.5, i.6, i.7)
+
+  -- a growth that was refused for an item of a piece
+  pub item_completed : (bytes piece : List ℕ) (items : List (Item U)) (item : Item U) (i : ℕ) (new : Receiving Place U) → i < length piece → Taken rules new ((bytes ++ take i piece) ++ get_or piece i 0 ∷ []) (items ++ item ∷ []) → HasItem rules (bytes ++ piece)
+  item_completed bytes piece items item i new lt t = (
+    (bytes ++ take i piece) ++ get_or piece i 0 ∷ [],
+    drop (i + 1) piece,
+    sym (append_assoc (bytes ++ take i piece) (get_or piece i 0 ∷ []) (drop (i + 1) piece) ∙ append_assoc bytes (take i piece) (get_or piece i 0 ∷ drop (i + 1) piece) ∙ ap (λ x. bytes ++ x) (at_index piece i lt)),
+    items, item, t.leads.0, new.live.begun, t.leads.1.holds,
+  )
 
 -- What the loop over a source keeps: the bytes that it gave lead to the receiver, and are at most 4,096 a read.
 pub record Reading {Place U S : Type 0} (rules : Rules Place U) (gives : MayGive S) (failures : S → ℕ) (from to : S) (reads : ℕ) (receiver : Receiving Place U) (items : List (Item U)) : Type 0 where
@@ -129,13 +144,14 @@ pub record Reading {Place U S : Type 0} (rules : Rules Place U) (gives : MayGive
   pub few : length bytes ≤ 4096 * reads
 
 -- a fault of a piece that a source gave
-pub feed_source : {Place U S : Type 0} (rules : Rules Place U) (gives : MayGive S) (failures : S → ℕ) (from to : S) (reads : ℕ) (bytes piece : List ℕ) (fault : Fault) → Gave gives failures from to reads (bytes ++ piece) → IsFeedFault rules bytes piece fault → IsSourceFault rules gives failures from to fault
-feed_source rules gives failures from to reads bytes piece (Refused place reason) gave f = (bytes ++ piece, reads, gave, f.1)
-feed_source rules gives failures from to reads bytes piece (Truncated n) gave f = absurd f
-feed_source rules gives failures from to reads bytes piece Memory gave f = (bytes ++ piece, reads, gave)
-feed_source rules gives failures from to reads bytes piece Read gave f = absurd f
-feed_source rules gives failures from to reads bytes piece Write gave f = absurd f
-feed_source rules gives failures from to reads bytes piece Failed gave f = absurd f
+pub feed_source : {Place U S : Type 0} (rules : Rules Place U) (gives : MayGive S) (failures : S → ℕ) (from to : S) (reads : ℕ) (bytes piece : List ℕ) (fault : Fault) → Gave gives failures from to reads (bytes ++ piece) → IsListFault rules bytes piece fault → IsSourceFault rules gives failures from to fault
+feed_source rules gives failures from to reads bytes piece (Refused place reason) gave (inl f) = (bytes ++ piece, reads, gave, f.1)
+feed_source rules gives failures from to reads bytes piece (Truncated n) gave (inl f) = absurd f
+feed_source rules gives failures from to reads bytes piece Memory gave (inl f) = (bytes ++ piece, reads, gave, inl (bytes ++ f.0, f.1, f.2, ap (λ x. bytes ++ x) f.3 ∙ sym (append_assoc bytes f.0 (f.1 ∷ f.2)), f.4))
+feed_source rules gives failures from to reads bytes piece Read gave (inl f) = absurd f
+feed_source rules gives failures from to reads bytes piece Write gave (inl f) = absurd f
+feed_source rules gives failures from to reads bytes piece Failed gave (inl f) = absurd f
+feed_source rules gives failures from to reads bytes piece fault gave (inr f) = subst (λ (x : Fault). IsSourceFault rules gives failures from to x) (sym f.0) (bytes ++ piece, reads, gave, inr f.1)
 
 -- a source that ends too early
 pub end_source : {Place U S : Type 0} (rules : Rules Place U) (gives : MayGive S) (failures : S → ℕ) (from to : S) (bytes : List ℕ) (fault : Fault) → GaveAll gives failures from to bytes → (fault ≡ Truncated (length bytes)) × IsTruncated rules bytes → IsSourceFault rules gives failures from to fault

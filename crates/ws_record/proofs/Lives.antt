@@ -1,4 +1,4 @@
-use Rattle.std.proofs.Common.{false, ◌≡◌, ℕ, ◌+◌, List, [], ◌∷◌, ◌++◌, Option, length, sym, ap, ◌∙◌, subst, arith, length-append}
+use Rattle.std.proofs.Common.{false, ◌≡◌, ◌≢◌, ◌<◌, ne_eqb, refl, ℕ, ◌+◌, List, [], ◌∷◌, ◌++◌, Option, length, sym, ap, ◌∙◌, subst, arith, length-append}
 use Rattle.ws_code.specs.Code.{Rules, IsUnfinished, IsSpelled, IsPrefix}
 use Rattle.ws_code.proofs.CodeLaws.{CanEnd}
 use Rattle.ws_code.specs.declared.reason.Reason.{Reason}
@@ -14,14 +14,17 @@ use Rattle.ws_record.specs.Refusal.{IsRefused, IsTruncated}
 use Rattle.ws_record.specs.OpenRecord.{RecordSoFar, no_record, Keeping, Reads, IsDataRefused, IsEndRefused}
 use Rattle.ws_record.specs.DataStep.{record_of, IsWholeRecord}
 use Rattle.ws_record.specs.Live.{Watching, Leads}
-use Rattle.ws_record.specs.TokenStep.{Completes}
-use Rattle.ws_record.specs.ReadyTokens.{AreReady}
-use Rattle.ws_telnet.specs.TokenLaws.{token_begins}
+use Rattle.ws_record.specs.TokenStep.{Counts, Completes}
+use Rattle.ws_telnet.specs.TokenLaws.{token_begins, doubled_plain}
 use Rattle.ws_record.proofs.Steps.{holds_nothing, holds_more, holds_data, holds_command, holds_record}
 use Rattle.ws_record.proofs.Refusals.{SpellsBytes, all_open, refuse_token, refuse_data, refuse_end, truncated}
 
 one_more : (bytes : List ℕ) (b n : ℕ) → n ≡ length bytes + 1 → n ≡ length (bytes ++ b ∷ [])
 one_more bytes b n e = omega (arith, length-append bytes (b ∷ []))
+
+-- between tokens a byte other than FF is a token
+pub plain_byte : (begun : List ℕ) (b : ℕ) → b < 256 → b ≢ 0xff → begun ≡ [] → IsSpelled token_rules tt (begun ++ b ∷ []) (Data b)
+plain_byte begun b fits ne e = rw e (record { stands = record { is_unit = fits; may_stand = refl }; spelled = doubled_plain b (ne_eqb b 0xff ne) })
 
 module _ {Place U : Type 0} (rules : Rules Place U) (can : CanEnd rules) (law : SpellsBytes rules) where
   leads : (live : Watching Place) (bytes : List ℕ) (items : List (Item U)) (so_far : RecordSoFar U) → live.taken ≡ length bytes → Holds rules bytes items so_far.bytes live.begun → Reads rules live.reader so_far → live.failed ≡ false → Leads rules live bytes items so_far
@@ -36,30 +39,28 @@ module _ {Place U : Type 0} (rules : Rules Place U) (can : CanEnd rules) (law : 
   pub leads_nothing : (live : Watching Place) → live.taken ≡ 0 → live.begun ≡ [] → Reads rules live.reader no_record → live.failed ≡ false → Leads rules live [] [] no_record
   leads_nothing live count fresh reads works = leads live [] [] no_record count (subst (λ (x : List ℕ). Holds rules [] [] [] x) (sym fresh) (holds_nothing rules)) reads works
 
-  -- a token goes on
-  pub token_more : (live new : Watching Place) (bytes : List ℕ) (items : List (Item U)) (so_far : RecordSoFar U) (b : ℕ) → Leads rules live bytes items so_far → IsUnfinished token_rules tt (live.begun ++ b ∷ [])
-      → new.taken ≡ live.taken + 1 → new.begun ≡ live.begun ++ b ∷ [] → new.reader ≡ live.reader → new.failed ≡ false → Leads rules new (bytes ++ b ∷ []) items so_far
+  -- a byte that is counted: a token goes on
+  pub token_more : (live new : Watching Place) (bytes : List ℕ) (items : List (Item U)) (so_far : RecordSoFar U) (b : ℕ) → Counts rules live bytes items so_far → IsUnfinished token_rules tt (live.begun ++ b ∷ [])
+      → new.taken ≡ live.taken → new.begun ≡ live.begun ++ b ∷ [] → new.reader ≡ live.reader → new.failed ≡ live.failed → Leads rules new (bytes ++ b ∷ []) items so_far
   token_more live new bytes items so_far b l more count begun reader works =
-      leads new (bytes ++ b ∷ []) items so_far (one_more bytes b new.taken (omega (arith, count, l.count)))
+      leads new (bytes ++ b ∷ []) items so_far (one_more bytes b new.taken (count ∙ l.count))
       (subst (λ (x : List ℕ). Holds rules (bytes ++ b ∷ []) items so_far.bytes x) (sym begun) (holds_more rules bytes items so_far.bytes live.begun b l.holds more))
-      (subst (λ (k : Keeping Place). Reads rules k so_far) (sym reader) l.reads) works
+      (subst (λ (k : Keeping Place). Reads rules k so_far) (sym reader) l.reads) (works ∙ l.works)
 
-  pub token_refused : (live : Watching Place) (bytes : List ℕ) (items : List (Item U)) (so_far : RecordSoFar U) (b place : ℕ) (reason : Reason) → Leads rules live bytes items so_far
-      → (IsPrefix token_rules tt (live.begun ++ b ∷ []) → ⊥) → reason ≡ token_rules.reason tt live.begun b → place ≡ live.taken → (place ≡ length bytes) × IsRefused rules (bytes ++ b ∷ []) place reason
-  token_refused live bytes items so_far b place reason l bad why e =
-      let at : place ≡ length bytes = e ∙ l.count in
-      (at, subst (λ (p : ℕ). IsRefused rules (bytes ++ b ∷ []) p reason) (sym at) (refuse_token rules bytes items so_far.bytes live.begun b [] reason l.holds l.opened bad why))
+  pub token_refused : (live : Watching Place) (bytes : List ℕ) (items : List (Item U)) (so_far : RecordSoFar U) (b : ℕ) (reason : Reason) → Counts rules live bytes items so_far
+      → (IsPrefix token_rules tt (live.begun ++ b ∷ []) → ⊥) → reason ≡ token_rules.reason tt live.begun b → IsRefused rules (bytes ++ b ∷ []) (length bytes) reason
+  token_refused live bytes items so_far b reason l bad why = refuse_token rules bytes items so_far.bytes live.begun b [] reason l.holds l.opened bad why
 
   -- a token is complete
-  pub completes : (live new : Watching Place) (bytes : List ℕ) (items : List (Item U)) (so_far : RecordSoFar U) (b : ℕ) (token : Token) → Leads rules live bytes items so_far → IsSpelled token_rules tt (live.begun ++ b ∷ []) token
-      → new.taken ≡ live.taken + 1 → new.begun ≡ [] → new.reader ≡ live.reader → new.failed ≡ false → Completes rules new bytes items so_far live.begun b token
+  pub completes : (live new : Watching Place) (bytes : List ℕ) (items : List (Item U)) (so_far : RecordSoFar U) (b : ℕ) (token : Token) → Counts rules live bytes items so_far → IsSpelled token_rules tt (live.begun ++ b ∷ []) token
+      → new.taken ≡ live.taken → new.begun ≡ [] → new.reader ≡ live.reader → new.failed ≡ live.failed → Completes rules new bytes items so_far live.begun b token
   completes live new bytes items so_far b token l spelled count fresh reader works = record {
-    count = omega (arith, count, l.count);
+    count = count ∙ l.count;
     holds = l.holds;
     spelled = spelled;
     opened = l.opened;
     fresh = fresh;
-    works = works;
+    works = works ∙ l.works;
     reads = subst (λ (k : Keeping Place). Reads rules k so_far) (sym reader) l.reads;
   }
 
@@ -80,21 +81,24 @@ module _ {Place U : Type 0} (rules : Rules Place U) (can : CanEnd rules) (law : 
         reads (works ∙ c.works)
 
     pub end_step : Completes rules old bytes items so_far begun b Eor → new.taken ≡ old.taken → new.begun ≡ old.begun → Reads rules new.reader no_record → new.failed ≡ old.failed
-        → (w : IsWholeRecord rules so_far) → Leads rules new (bytes ++ b ∷ []) (items ++ RecordItem (record_of w.head so_far.units) ∷ []) no_record
-    end_step c count fresh reads works w =
-        leads new (bytes ++ b ∷ []) (items ++ RecordItem (record_of w.head so_far.units) ∷ []) no_record (one_more bytes b new.taken (count ∙ c.count))
-        (subst (λ (x : List ℕ). Holds rules (bytes ++ b ∷ []) (items ++ RecordItem (record_of w.head so_far.units) ∷ []) [] x) (sym (fresh ∙ c.fresh))
-        (holds_record rules bytes items so_far.bytes begun b (record_of w.head so_far.units) c.holds c.spelled w.is_record w.carries))
+        → (head : Head) → IsWholeRecord rules so_far head → Leads rules new (bytes ++ b ∷ []) (items ++ RecordItem (record_of head so_far.units) ∷ []) no_record
+    end_step c count fresh reads works head w =
+        leads new (bytes ++ b ∷ []) (items ++ RecordItem (record_of head so_far.units) ∷ []) no_record (one_more bytes b new.taken (count ∙ c.count))
+        (subst (λ (x : List ℕ). Holds rules (bytes ++ b ∷ []) (items ++ RecordItem (record_of head so_far.units) ∷ []) [] x) (sym (fresh ∙ c.fresh))
+        (holds_record rules bytes items so_far.bytes begun b (record_of head so_far.units) c.holds c.spelled w.is_record w.carries))
         reads (works ∙ c.works)
 
-    refused_there : (place : ℕ) (reason : Reason) → place ≡ length bytes → IsRefused rules (bytes ++ b ∷ []) (length bytes) reason → IsRefused rules (bytes ++ b ∷ []) place reason
-    refused_there place reason at r = subst (λ (p : ℕ). IsRefused rules (bytes ++ b ∷ []) p reason) (sym at) r
+    pub data_refused : (v : ℕ) (reason : Reason) → Completes rules old bytes items so_far begun b (Data v) → IsDataRefused rules so_far.bytes v reason → IsRefused rules (bytes ++ b ∷ []) (length bytes) reason
+    data_refused v reason c r = refuse_data rules bytes items so_far.bytes begun b v [] reason c.holds c.opened c.spelled r
 
-    pub data_refused : (v place : ℕ) (reason : Reason) → Completes rules old bytes items so_far begun b (Data v) → place ≡ length bytes → IsDataRefused rules so_far.bytes v reason → IsRefused rules (bytes ++ b ∷ []) place reason
-    data_refused v place reason c at r = refused_there place reason at (refuse_data rules bytes items so_far.bytes begun b v [] reason c.holds c.opened c.spelled r)
+    pub end_refused : (reason : Reason) → Completes rules old bytes items so_far begun b Eor → IsEndRefused rules so_far.bytes reason → IsRefused rules (bytes ++ b ∷ []) (length bytes) reason
+    end_refused reason c r = refuse_end rules bytes items so_far.bytes begun b [] reason c.holds c.opened c.spelled r
 
-    pub end_refused : (place : ℕ) (reason : Reason) → Completes rules old bytes items so_far begun b Eor → place ≡ length bytes → IsEndRefused rules so_far.bytes reason → IsRefused rules (bytes ++ b ∷ []) place reason
-    end_refused place reason c at r = refused_there place reason at (refuse_end rules bytes items so_far.bytes begun b [] reason c.holds c.opened c.spelled r)
+-- a place that is the number of bytes before it
+pub refused_there : {Place U : Type 0} (rules : Rules Place U) (bytes : List ℕ) (b place : ℕ) (reason : Reason) → place ≡ length bytes → IsRefused rules (bytes ++ b ∷ []) (length bytes) reason → IsRefused rules (bytes ++ b ∷ []) place reason
+refused_there rules bytes b place reason at r = subst (λ (p : ℕ). IsRefused rules (bytes ++ b ∷ []) p reason) (sym at) r
+
+module _ {Place U : Type 0} (rules : Rules Place U) (can : CanEnd rules) (law : SpellsBytes rules) where
 
   -- the end of the stream
   pub accepted : (live : Watching Place) (bytes : List ℕ) (items : List (Item U)) (so_far : RecordSoFar U) → Leads rules live bytes items so_far → live.begun ≡ [] → so_far ≡ no_record → Accepts rules bytes items
@@ -103,7 +107,3 @@ module _ {Place U : Type 0} (rules : Rules Place U) (can : CanEnd rules) (law : 
 
   pub cut_short : (live : Watching Place) (bytes : List ℕ) (items : List (Item U)) (so_far : RecordSoFar U) → Leads rules live bytes items so_far → (so_far.bytes ≡ [] → live.begun ≡ [] → ⊥) → IsTruncated rules bytes
   cut_short live bytes items so_far l inside = truncated rules bytes items so_far.bytes live.begun l.holds l.opened inside
-
--- between two tokens
-pub ready_between : (begun : List ℕ) → begun ≡ [] → AreReady begun false
-ready_between begun e = record { more = subst (λ (x : List ℕ). IsUnfinished token_rules tt x) (sym e) (token_begins tt); inside = λ k. cc; between = λ _. e }

@@ -2,9 +2,9 @@ use Rattle.std.proofs.Common.{◌≡◌, ◌≢◌, ℕ, ◌+◌, ◌-◌, ◌*�
 use Rattle.std.proofs.Math.ListN.{get_or-append, drop_of_length-le}
 use Rattle.std.proofs.Math.Seq.{get_or-append_seam}
 use Rattle.std.proofs.lemmas.Bool.{le-ltb}
-use Rattle.std.specs.Prelude.{IfSome, nat_lt}
-use Rattle.std.proofs.lemmas.List.{get_or-take, take-append-le, drop-append-le, take_all, append-nil}
-use Rattle.ws_code.specs.Code.{Rules, IsPrefixFree, IsUnfinished, IsSpelled, IsPrefix, IsCut, AreBytes, place_after}
+use Rattle.std.specs.Prelude.{IfSome, nat_lt, slice_index}
+use Rattle.std.proofs.lemmas.List.{get_or-take, take-append-le, take-append-drop, drop-append-le, take_all, append-nil}
+use Rattle.ws_code.specs.Code.{Rules, IsPrefixFree, IsUnfinished, IsSpelled, IsPrefix, IsCut, AreBytes, place_after, spelling_of}
 use Rattle.ws_code.proofs.CodeLaws.{AreBytes-append, Begins, one_cut, cut_more, cut_unit, cut_bad, place_after_more}
 use Rattle.ws_code.specs.declared.reason.Reason.{Reason}
 use Rattle.ws_code.specs.declared.reason.Reason.TheVariants.{TooLong, EndedInside, UnknownOpcode}
@@ -13,8 +13,11 @@ use Rattle.ws_record.specs.declared.opcode.Opcode.{Opcode}
 use Rattle.ws_record.specs.declared.record.Head.{Head}
 use Rattle.ws_record.specs.Grammar.{IsFramed, header, opcode_byte}
 use Rattle.ws_record.specs.Refusal.{header_reason}
-use Rattle.ws_record.specs.HeaderSoFar.{HeaderSoFar, declared}
+use Rattle.ws_record.specs.HeaderSoFar.{HeaderSoFar, declared, head_in}
 use Rattle.ws_record.specs.OpenRecord.{RecordSoFar, no_record, CanBeFramed, IsHead, Keeping, Reads, IsDataRefused, IsEndRefused}
+use Rattle.ws_record.specs.declared.open_record.DataStep.{DataStep}
+use Rattle.ws_record.specs.DataStep.{IsDataStep, IsWholeRecord}
+use Rattle.ws_record.proofs.Reading.{opcode_same}
 use Rattle.ws_record.proofs.Headers.{can_be_framed, can_means, framed_from, header_length, header_append, byte_at, no_opcode, no_room, ten_cells}
 
 -- bytes that are fewer than ten are all of their first ten
@@ -291,3 +294,48 @@ module _ {Place U : Type 0} (rules : Rules Place U) where
             inside same.1 (ap rules.may_end (r.at_place ∙ ap (place_after rules rules.first) same.0) ∙ body.whole.ends))),
         refl,
       )
+
+  -- ten bytes of a header are all of it
+  pub ten_there : (reader : Keeping Place) (so_far : RecordSoFar U) → Reads rules reader so_far → 10 ≤ length reader.header → length reader.header ≡ 10
+  ten_there reader so_far r long = omega (arith, long, ap length r.header, length-take 10 so_far.bytes)
+
+  -- a head is what the header says
+  head_is : (reader : Keeping Place) (bytes : List ℕ) (h head : Head) (opcode : Opcode) → reader.header ≡ take 10 bytes → IsHead (Some h) bytes → opcode_byte opcode ≡ slice_index reader.header 9 → head ≡ head_in reader.header opcode → h ≡ head
+  head_is reader bytes h head opcode same is op e =
+      let cells : reader.header ≡ header h.length h.flags h.opcode = same ∙ is.2 in
+      let cell : (i : ℕ) → slice_index reader.header i ≡ slice_index (header h.length h.flags h.opcode) i = λ i. ap (λ (l : List ℕ). slice_index l i) cells in
+      let named : h.opcode ≡ opcode = opcode_same h.opcode opcode (sym (op ∙ cell 9)) in
+      let flags : h.flags ≡ slice_index reader.header 7 * 256 + slice_index reader.header 8 = omega (arith, cell 7, cell 8) in
+      let long : h.length ≡ declared reader.header = omega (arith, cell 0, cell 1) in
+      ap (λ (n : ℕ). let k : Head = record { flags = n; opcode = h.opcode; length = h.length } in k) flags
+      ∙ ap (λ (o : Opcode). let k : Head = record { flags = slice_index reader.header 7 * 256 + slice_index reader.header 8; opcode = o; length = h.length } in k) named
+      ∙ ap (λ (n : ℕ). let k : Head = record { flags = slice_index reader.header 7 * 256 + slice_index reader.header 8; opcode = opcode; length = n } in k) long
+      ∙ sym e
+
+  whole_with : (reader : Keeping Place) (so_far : RecordSoFar U) (h : Head) → Reads rules reader so_far → so_far.head ≡ Some h → IsHead (Some h) so_far.bytes → length so_far.bytes ≡ h.length → reader.begun ≡ [] → rules.may_end reader.place ≡ true → IsWholeRecord rules so_far h
+  whole_with reader so_far h r is head long none ends =
+      let body : drop 10 so_far.bytes ≡ spelling_of rules so_far.units = sym (subst (λ (x : List ℕ). spelling_of rules so_far.units ++ x ≡ drop 10 so_far.bytes) none r.cut.spelled) ∙ append-nil _ in
+      let parts : so_far.bytes ≡ header h.length h.flags h.opcode ++ spelling_of rules so_far.units = sym (take-append-drop 10 so_far.bytes) ∙ ap (λ (x : List ℕ). x ++ drop 10 so_far.bytes) head.2 ∙ ap (λ (x : List ℕ). header h.length h.flags h.opcode ++ x) body in
+      let count : h.length ≡ 10 + length (spelling_of rules so_far.units) = sym long ∙ ap length parts ∙ header_length h.length h.flags h.opcode (spelling_of rules so_far.units) in
+      let carries : so_far.bytes ≡ header (10 + length (spelling_of rules so_far.units)) h.flags h.opcode ++ spelling_of rules so_far.units = parts ∙ ap (λ (n : ℕ). header n h.flags h.opcode ++ spelling_of rules so_far.units) count in
+      record {
+        is_head = is;
+        is_record = record {
+          body = record { chain = r.cut.chain; ends = ap rules.may_end (sym r.at_place) ∙ ends };
+          flags_fit = head.0;
+          length_fits = omega (arith, ap length carries, long, head.1);
+        };
+        carries = carries;
+      }
+
+  pub end_whole : Begins rules → (reader new : Keeping Place) (so_far : RecordSoFar U) (head : Head) (opcode : Opcode) → Reads rules reader so_far → length reader.header ≡ 10 → reader.left ≡ 0 → reader.begun ≡ [] → rules.may_end reader.place ≡ true
+      → opcode_byte opcode ≡ slice_index reader.header 9 → head ≡ head_in reader.header opcode → new.header ≡ [] → new.place ≡ rules.first → new.begun ≡ [] → IsWholeRecord rules so_far head × Reads rules new no_record
+  end_whole begins reader new so_far head opcode r ten none inside ends op says e p f =
+      let i = in_body reader so_far.bytes so_far.head so_far.units r ten in
+      let is : IsHead (Some i.of) so_far.bytes = subst (λ (x : Option Head). IsHead x so_far.bytes) i.is r.head in
+      let same : i.of ≡ head = head_is reader so_far.bytes i.of head opcode r.header is op says in
+      let long : length so_far.bytes ≡ i.of.length = (let c : length so_far.bytes + reader.left ≡ declared so_far.bytes = i.counted in omega (arith, c, none, head_declares i.of so_far.bytes is)) in
+      (subst (λ (h : Head). IsWholeRecord rules so_far h) same (whole_with reader so_far i.of r i.is is long inside ends), reads_nothing begins new e p f)
+
+  pub data_step_is : (new : Keeping Place) (so_far : RecordSoFar U) (b : ℕ) (step given : DataStep U) → step ≡ given → IsDataStep rules new so_far b given → IsDataStep rules new so_far b step
+  data_step_is new so_far b step given e h = subst (λ (d : DataStep U). IsDataStep rules new so_far b d) (sym e) h

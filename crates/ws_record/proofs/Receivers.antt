@@ -1,17 +1,20 @@
-use Rattle.std.proofs.Common.{◌≡◌, ℕ, List, [], ◌∷◌, ◌++◌, Option, Some, None, sym, ap, ◌∙◌, subst, append_assoc}
-use Rattle.std.specs.Prelude.{IfSome}
+use Rattle.std.proofs.Common.{◌≡◌, ℕ, List, [], ◌∷◌, ◌++◌, Option, None, drop, sym, ap, ◌∙◌, subst, append_assoc}
 use Rattle.std.proofs.lemmas.List.{append-nil}
-use Rattle.ws_code.specs.Code.{Rules}
+use Rattle.ws_code.specs.Code.{Rules, IsCut}
+use Rattle.ws_code.specs.declared.fault.Fault.{Fault}
+use Rattle.ws_code.specs.declared.fault.Fault.TheVariants.{Memory}
 use Rattle.ws_code.specs.declared.reason.Reason.{Reason}
 use Rattle.ws_record.specs.declared.record.Head.{Head}
-use Rattle.ws_record.specs.declared.record.Record.{Record}
+use Rattle.ws_telnet.specs.declared.token.Token.TheVariants.{Data}
+use Rattle.ws_record.specs.declared.open_record.DataStep.TheVariants.{Unit as Whole}
 use Rattle.ws_record.specs.declared.record.Item.{Item}
 use Rattle.ws_record.specs.declared.record.Item.TheVariants.{Record as RecordItem}
 use Rattle.ws_record.specs.Refusal.{IsRefused}
-use Rattle.ws_record.specs.OpenRecord.{no_record}
+use Rattle.ws_record.specs.OpenRecord.{RecordSoFar, no_record}
 use Rattle.ws_record.specs.DataStep.{record_of}
-use Rattle.ws_record.specs.Live.{Leads, LeadsWith}
-use Rattle.ws_record.specs.Receiver.{Receiving, Taken}
+use Rattle.ws_record.specs.Live.{Watching, Leads, LeadsWith}
+use Rattle.ws_record.specs.TokenStep.{Completes, IsValueStep}
+use Rattle.ws_record.specs.Receiver.{Receiving, Taken, IsTakeFault}
 
 -- a refusal stands whatever follows
 pub refused_append : {Place U : Type 0} (rules : Rules Place U) (bytes more : List ℕ) (place : ℕ) (reason : Reason) → IsRefused rules bytes place reason → IsRefused rules (bytes ++ more) place reason
@@ -27,32 +30,32 @@ refused_append rules bytes more place reason r = record {
   why = r.why;
 }
 
-same_head : (head : Option Head) (kept h : Head) → IfSome head (λ x. kept ≡ x) → head ≡ Some h → kept ≡ h
-same_head None kept h is e = cc
-same_head (Some x) kept h is e = is ∙ (let f : x ≡ h = cc in f)
-
 module _ {Place U : Type 0} (rules : Rules Place U) where
   pub taken_none : (r : Receiving Place U) (bytes : List ℕ) (items : List (Item U)) → Taken rules r bytes items → Taken rules r bytes (items ++ [])
   taken_none r bytes items t = subst (λ (x : List (Item U)). Taken rules r bytes x) (sym (append-nil items)) t
 
-  -- nothing, a header and a unit that is complete
-  pub taken_more : (new : Receiving Place U) (bytes : List ℕ) (items : List (Item U)) (head : Option Head) → IfSome head (λ h. new.head ≡ h) → LeadsWith rules new.live bytes items head new.units → Taken rules new bytes (items ++ [])
-  taken_more new bytes items head is leads = taken_none new bytes items (record { head = head; is_head = is; leads = leads })
-
-  -- a command that is complete
-  pub taken_command : (new : Receiving Place U) (bytes : List ℕ) (items : List (Item U)) (head : Option Head) → IfSome head (λ h. new.head ≡ h) → LeadsWith rules new.live bytes items head new.units → Taken rules new bytes items
-  taken_command new bytes items head is leads = record { head = head; is_head = is; leads = leads }
+  -- a unit that is kept
+  pub taken_unit : (new kept : Receiving Place U) (bytes : List ℕ) (items : List (Item U)) (head : Option Head) → new ≡ kept → LeadsWith rules kept.live bytes items head kept.units → Taken rules new bytes items
+  taken_unit new kept bytes items head same leads = subst (λ (k : Receiving Place U). Taken rules k bytes items) (sym same) (record { head = head; leads = leads })
 
   -- a record that is complete
-  pub taken_record : (old new : Receiving Place U) (bytes : List ℕ) (b : ℕ) (items : List (Item U)) (t : Taken rules old bytes items) (r : Record U)
-      → (head : Head) × (t.head ≡ Some head) × Leads rules new.live (bytes ++ b ∷ []) (items ++ RecordItem (record_of head old.units) ∷ []) no_record
-      → r.flags ≡ old.head.flags → r.opcode ≡ old.head.opcode → r.body ≡ old.units → new.units ≡ [] → Taken rules new (bytes ++ b ∷ []) (items ++ RecordItem r ∷ [])
-  taken_record old new bytes b items t r step f o u e =
-      let kept : old.head ≡ step.0 = same_head t.head old.head step.0 t.is_head step.1 in
-      let same : record_of step.0 old.units ≡ r =
-      ap (λ (h : Head). record_of h old.units) (sym kept)
-      ∙ ap (λ (x : ℕ). let s : Record U = record { flags = x; opcode = old.head.opcode; body = old.units } in s) (sym f)
-      ∙ ap (λ (x : _). let s : Record U = record { flags = r.flags; opcode = x; body = old.units } in s) (sym o)
-      ∙ ap (λ (x : List U). let s : Record U = record { flags = r.flags; opcode = r.opcode; body = x } in s) (sym u) in
-      let leads = subst (λ (x : Record U). Leads rules new.live (bytes ++ b ∷ []) (items ++ RecordItem x ∷ []) no_record) same step.2 in
-      record { head = None; is_head = tt; leads = ([], subst (λ (x : List U). Leads rules new.live (bytes ++ b ∷ []) (items ++ RecordItem r ∷ []) (record { bytes = []; head = None; units = x })) (sym e) leads) }
+  pub taken_record : (old new : Receiving Place U) (bytes : List ℕ) (items : List (Item U)) (head : Head) (item : Item U) → Leads rules old.live bytes (items ++ RecordItem (record_of head old.units) ∷ []) no_record
+      → item ≡ RecordItem (record_of head old.units) → new ≡ record old { units = [] } → Taken rules new bytes (items ++ item ∷ [])
+  taken_record old new bytes items head item leads is empty =
+      subst (λ (k : Receiving Place U). Taken rules k bytes (items ++ item ∷ [])) (sym empty)
+      (subst (λ (x : Item U). Taken rules (record old { units = [] }) bytes (items ++ x ∷ [])) (sym is) (record { head = None; leads = ([], leads) }))
+
+  -- a growth that was refused for a unit that is complete
+  pub unit_completed : (old new : Watching Place) (bytes : List ℕ) (items : List (Item U)) (so_far : RecordSoFar U) (begun : List ℕ) (byte value : ℕ) (unit : U) (fault : Fault) → Completes rules old bytes items so_far begun byte (Data value)
+      → IsValueStep rules new bytes items so_far byte value (Whole unit) → fault ≡ Memory → IsTakeFault rules bytes byte fault
+  unit_completed old new bytes items so_far begun byte value unit fault done step is = subst (λ (x : Fault). IsTakeFault rules bytes byte x) (sym is) (record {
+    items = items;
+    so_far = so_far.bytes;
+    begun = begun;
+    value = value;
+    units = so_far.units;
+    unit = unit;
+    holds = done.holds;
+    spelled = done.spelled;
+    cut = subst (λ (x : List ℕ). IsCut rules (drop 10 (so_far.bytes ++ value ∷ [])) (so_far.units ++ unit ∷ []) x) step.1 step.0.reads.cut;
+  })

@@ -16,12 +16,11 @@ module _ {Place U : Type 0} where
   abbrev pub IsDataStep : Rules Place U → Keeping Place → RecordSoFar U → ℕ → DataStep U → Type 0
   IsDataStep rules new so_far byte More = Reads rules new (record so_far { bytes = so_far.bytes ++ byte ∷ [] })
   IsDataStep rules new so_far byte (Open head) = (so_far.head ≡ None) × Reads rules new (record so_far { bytes = so_far.bytes ++ byte ∷ []; head = Some head })
-  IsDataStep rules new so_far byte (Whole unit) = Reads rules new (record so_far { bytes = so_far.bytes ++ byte ∷ []; units = so_far.units ++ unit ∷ [] })
+  IsDataStep rules new so_far byte (Whole unit) = Reads rules new (record so_far { bytes = so_far.bytes ++ byte ∷ []; units = so_far.units ++ unit ∷ [] }) × (new.begun ≡ [])
   IsDataStep rules new so_far byte (Refused reason) = IsDataRefused rules so_far.bytes byte reason
 
   -- it is a record, as its header says
-  pub record IsWholeRecord (rules : Rules Place U) (so_far : RecordSoFar U) : Type 0 where
-    pub head : Head
+  pub record IsWholeRecord (rules : Rules Place U) (so_far : RecordSoFar U) (head : Head) : Type 0 where
     pub is_head : so_far.head ≡ Some head
     pub is_record : IsRecord rules (record_of head so_far.units)
     pub carries : so_far.bytes ≡ record_bytes rules (record_of head so_far.units)

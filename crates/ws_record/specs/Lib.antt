@@ -9,8 +9,8 @@ pub mod OpenPrefix
 pub mod OpenRecord
 pub mod RawBody
 pub mod ReadyRecord
-pub mod ReadyTokens
 pub mod Receiver
 pub mod Refusal
 pub mod Tests
 pub mod TokenStep
+pub mod UnitReading

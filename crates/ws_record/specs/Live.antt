@@ -31,6 +31,10 @@ module _ {Place U : Type 0} where
   abbrev pub LeadsWith : Rules Place U → Watching Place → List ℕ → List (Item U) → Option Head → List U → Type 0
   LeadsWith rules live bytes items head units = (so_far : List ℕ) × Leads rules live bytes items (record { bytes = so_far; head = head; units = units })
 
+  -- one byte more ends the open record, which has this head
+  abbrev pub IsClosed : Rules Place U → Watching Place → List ℕ → List (Item U) → RecordSoFar U → ℕ → Head → Type 0
+  IsClosed rules new bytes items so_far byte head = (so_far.head ≡ Some head) × Leads rules new (bytes ++ byte ∷ []) (items ++ RecordItem (record_of head so_far.units) ∷ []) no_record
+
   -- What one byte more gives: its step says what is complete with it.
   abbrev pub IsStep : Rules Place U → Watching Place → List ℕ → List (Item U) → RecordSoFar U → ℕ → Step U → Type 0
   IsStep rules new bytes items so_far byte More = LeadsWith rules new (bytes ++ byte ∷ []) items so_far.head so_far.units

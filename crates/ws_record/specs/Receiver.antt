@@ -1,5 +1,8 @@
-use Rattle.std.specs.Prelude.{◌≡◌, ℕ, ◌+◌, ◌≤◌, List, [], ◌∷◌, ◌++◌, Option, Some, None, IfSome, length, take}
-use Rattle.ws_code.specs.Code.{Rules}
+use Rattle.std.specs.Prelude.{◌≡◌, ℕ, ◌+◌, ◌<◌, ◌≤◌, List, [], ◌∷◌, ◌++◌, ◌⊎◌, Option, Some, None, length, take, drop}
+use Rattle.ws_code.specs.Code.{Rules, IsSpelled, IsCut}
+use Rattle.ws_telnet.specs.Token.{token_rules}
+use Rattle.ws_telnet.specs.declared.token.Token.{Token}
+use Rattle.ws_telnet.specs.declared.token.Token.TheVariants.{Data}
 use Rattle.ws_code.specs.declared.fault.Fault.{Fault}
 use Rattle.ws_code.specs.declared.fault.Fault.TheVariants.{Refused, Truncated, Memory}
 use Rattle.ws_record.specs.declared.record.Head.{Head}
@@ -7,11 +10,11 @@ use Rattle.ws_record.specs.declared.record.Item.{Item}
 use Rattle.ws_record.specs.Grammar.{Holds}
 use Rattle.ws_record.specs.Refusal.{IsRefused, IsTruncated}
 use Rattle.ws_record.specs.Live.{Watching, LeadsWith}
+use Rattle.ws_record.specs.TokenStep.{Counts, Completes}
 
--- What a receiver keeps: a live decoder, and of the open record its head, once that is whole, and its units.
+-- What a receiver keeps: a live decoder, and the units of the open record.
 pub record Receiving (Place U : Type 0) : Type 0 where
   pub live : Watching Place
-  pub head : Head
   pub units : List U
 
 -- an item, where there is one
@@ -23,20 +26,59 @@ module _ {Place U : Type 0} where
   -- the bytes lead to the receiver, which has given the items
   pub record Taken (rules : Rules Place U) (receiver : Receiving Place U) (bytes : List ℕ) (items : List (Item U)) : Type 0 where
     pub head : Option Head
-    pub is_head : IfSome head (λ h. receiver.head ≡ h)
     pub leads : LeadsWith rules receiver.live bytes items head receiver.units
 
-  -- a byte behind these is refused, or a growth was
+  -- they do, and one byte more is counted, but not yet read
+  pub record CountsTaken (rules : Rules Place U) (receiver : Receiving Place U) (bytes : List ℕ) (items : List (Item U)) : Type 0 where
+    pub so_far : List ℕ
+    pub head : Option Head
+    pub counts : Counts rules receiver.live bytes items (record { bytes = so_far; head = head; units = receiver.units })
+
+  -- they do, and one byte more completes a token, which isn't taken yet
+  pub record CompletesTaken (rules : Rules Place U) (receiver : Receiving Place U) (bytes : List ℕ) (items : List (Item U)) (begun : List ℕ) (byte : ℕ) (token : Token) : Type 0 where
+    pub so_far : List ℕ
+    pub head : Option Head
+    pub completes : Completes rules receiver.live bytes items (record { bytes = so_far; head = head; units = receiver.units }) begun byte token
+
+  -- behind these bytes the byte completes a unit of the open record's body
+  pub record CompletesUnit (rules : Rules Place U) (bytes : List ℕ) (byte : ℕ) : Type 0 where
+    pub items : List (Item U)
+    pub so_far : List ℕ
+    pub begun : List ℕ
+    pub value : ℕ
+    pub units : List U
+    pub unit : U
+    pub holds : Holds rules bytes items so_far begun
+    pub spelled : IsSpelled token_rules tt (begun ++ byte ∷ []) (Data value)
+    pub cut : IsCut rules (drop 10 (so_far ++ value ∷ [])) (units ++ unit ∷ []) []
+
+  -- a byte of the piece behind these does
+  abbrev pub HasUnit : Rules Place U → List ℕ → List ℕ → Type 0
+  HasUnit rules bytes piece = (front : List ℕ) × (byte : ℕ) × (rest : List ℕ) × (piece ≡ front ++ byte ∷ rest) × CompletesUnit rules (bytes ++ front) byte
+
+  -- an item is complete in the bytes
+  abbrev pub HasItem : Rules Place U → List ℕ → Type 0
+  HasItem rules bytes = (front : List ℕ) × (rest : List ℕ) × (bytes ≡ front ++ rest) × (items : List (Item U)) × (item : Item U) × (so_far : List ℕ) × (begun : List ℕ) × Holds rules front (items ++ item ∷ []) so_far begun
+
+  -- a unit or an item is complete in the bytes, so that a list grows for it
+  abbrev pub MayGrow : Rules Place U → List ℕ → Type 0
+  MayGrow rules bytes = HasUnit rules [] bytes ⊎ HasItem rules bytes
+
+  -- a byte behind these is refused, or the growth for a unit that is complete with it was
   abbrev pub IsTakeFault : Rules Place U → List ℕ → ℕ → Fault → Type 0
   IsTakeFault rules bytes byte (Refused place reason) = (place ≡ length bytes) × IsRefused rules (bytes ++ byte ∷ []) place reason
-  IsTakeFault rules bytes byte Memory = Unit {0}
+  IsTakeFault rules bytes byte Memory = CompletesUnit rules bytes byte
   IsTakeFault rules bytes byte fault = ⊥
 
-  -- a byte of the piece behind these is refused, or a growth was
+  -- a byte of the piece behind these is refused, or the growth for a unit of it was
   abbrev pub IsFeedFault : Rules Place U → List ℕ → List ℕ → Fault → Type 0
   IsFeedFault rules bytes piece (Refused place reason) = (length bytes ≤ place) × IsRefused rules (bytes ++ piece) place reason
-  IsFeedFault rules bytes piece Memory = Unit {0}
+  IsFeedFault rules bytes piece Memory = HasUnit rules bytes piece
   IsFeedFault rules bytes piece fault = ⊥
+
+  -- a fault of a piece, or the growth for an item of it was refused
+  abbrev pub IsListFault : Rules Place U → List ℕ → List ℕ → Fault → Type 0
+  IsListFault rules bytes piece fault = IsFeedFault rules bytes piece fault ⊎ ((fault ≡ Memory) × HasItem rules (bytes ++ piece))
 
   -- where a byte of the piece is refused, no further item is complete before it
   abbrev pub NoneBefore : Rules Place U → List ℕ → List ℕ → List (Item U) → Fault → Type 0
@@ -47,5 +89,5 @@ module _ {Place U : Type 0} where
   abbrev pub IsDecodeFault : Rules Place U → List ℕ → Fault → Type 0
   IsDecodeFault rules bytes (Refused place reason) = IsRefused rules bytes place reason
   IsDecodeFault rules bytes (Truncated n) = (n ≡ length bytes) × IsTruncated rules bytes
-  IsDecodeFault rules bytes Memory = Unit {0}
+  IsDecodeFault rules bytes Memory = MayGrow rules bytes
   IsDecodeFault rules bytes fault = ⊥

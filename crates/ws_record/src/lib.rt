@@ -12,6 +12,7 @@ mod raw;
 mod receiver;
 mod record;
 mod record_writer;
+mod unit_reader;
 
 pub use decode::{decode_all, decode_from};
 pub use encoder::{EncodeFault, encode, encode_to};

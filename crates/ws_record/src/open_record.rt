@@ -1,16 +1,16 @@
-ghost use Rattle.std.specs.Prelude.{◌≡◌, ◌≢◌, ◌++◌, ◌∷◌, ◌+◌, ◌*◌, ◌<◌, ◌≤◌, [], List, ℕ, Option, Some, None, true, false, length, IfSome, IfNone};
+ghost use Rattle.std.specs.Prelude.{◌≡◌, ◌≢◌, ◌++◌, ◌∷◌, ◌+◌, ◌*◌, ◌<◌, ◌≤◌, [], List, ℕ, Option, Some, None, true, false, length, IfSome, IfNone, IfOk, IfErr};
 ghost use Rattle.ws_telnet.specs.declared.token.Token.TheVariants.{Data};
 ghost use Rattle.ws_record.specs.declared.record.Record.{Record};
 ghost use Rattle.ws_record.specs.Grammar.{IsFramed, IsRecord, record_bytes};
 ghost use Rattle.ws_record.specs.Refusal.{header_reason};
-ghost use Rattle.ws_record.specs.HeaderSoFar.{HeaderSoFar};
+ghost use Rattle.ws_record.specs.HeaderSoFar.{HeaderSoFar, head_in};
 ghost use Rattle.ws_record.specs.OpenRecord.{RecordSoFar, no_record, Reads, IsEndRefused};
 ghost use Rattle.ws_record.specs.DataStep.{IsDataStep, IsWholeRecord};
 
+use crate::unit_reader::UnitReader;
 use crate::{Head, Opcode};
-use arrayvec::ArrayVec;
 use std::marker::Model;
-use ws_code::{Body, Push, Reason};
+use ws_code::{Body, Push, Reason, ShortList};
 
 /// What an open record makes of a byte.
 #[derive(Debug, Drop)]
@@ -30,49 +30,23 @@ fn header_refusal(header: &[u8], byte: u8) -> Option<Reason>
         ((m : List ℕ) → IsFramed (header.now ++ byte ∷ m) → ⊥)
         × (reason ≡ header_reason header.now (Data byte))) }
 {
-    let length = header.len();
-    if length == 1 {
-        return if header[0] == 0 && byte < 10 {
-            Some(Reason::LengthBelowHeader)
-        } else {
-            None
-        };
+    match header.len() {
+        1 if header[0] == 0 && byte < 10 => Some(Reason::LengthBelowHeader),
+        2 if byte != 0x12 => Some(Reason::BadType),
+        3 if byte != 0xa0 => Some(Reason::BadType),
+        4 if byte != 0 => Some(Reason::BadReserved),
+        5 if byte != 0 => Some(Reason::BadReserved),
+        6 if byte != 4 => Some(Reason::BadVariableLength),
+        _ => None,
     }
-    if length == 2 {
-        return if byte == 0x12 {
-            None
-        } else {
-            Some(Reason::BadType)
-        };
-    }
-    if length == 3 {
-        return if byte == 0xa0 {
-            None
-        } else {
-            Some(Reason::BadType)
-        };
-    }
-    if length == 4 || length == 5 {
-        return if byte == 0 {
-            None
-        } else {
-            Some(Reason::BadReserved)
-        };
-    }
-    if length == 6 && byte != 4 {
-        return Some(Reason::BadVariableLength);
-    }
-    None
 }
 
 /// The open record of a stream: its header, and of its body what the unit that is read needs.
 #[derive(Drop)]
 pub struct OpenRecord<B: Body> {
-    header: ArrayVec<u8, 10>,
+    header: ShortList<u8, 10>,
     left: u16,
-    place: B::Place,
-    machine: B,
-    is_inside: bool,
+    units: UnitReader<B>,
 }
 
 impl<B: Body> Model for OpenRecord<B> {
@@ -81,9 +55,9 @@ impl<B: Body> Model for OpenRecord<B> {
 
     ghost Value = { Keeping B.Place };
 
-    ghost view = { λ o. record { header = o.header.items; left = o.left; place = o.place; begun = B.unfinished o.machine } };
+    ghost view = { λ o. record { header = o.header; left = o.left; place = o.units.place; begun = o.units.begun } };
 
-    ghost invariant = { λ o. IsReady B.rules o.header.items o.place (B.place o.machine) (B.unfinished o.machine) o.is_inside };
+    ghost invariant = { λ o. IsReady o.header o.left };
 }
 
 impl<B: Body> OpenRecord<B> {
@@ -91,13 +65,10 @@ impl<B: Body> OpenRecord<B> {
     pub fn new() -> Self
         ensures { Reads B.rules result no_record }
     {
-        let place = B::first();
         OpenRecord {
-            header: ArrayVec::new(),
+            header: ShortList::new(),
             left: 0,
-            place,
-            machine: B::start(place),
-            is_inside: false,
+            units: UnitReader::new(B::first()),
         }
     }
 
@@ -109,17 +80,37 @@ impl<B: Body> OpenRecord<B> {
         self.header.is_empty()
     }
 
+    /// Takes a byte that is a unit of the body by itself, and gives the unit; `None` says nothing, and the byte isn't
+    /// taken.
+    #[inline(always)]
+    pub fn take_single(&mut self, byte: u8) -> Option<B::Unit>
+        ensures unit { IfSome result (λ unit. (so_far : RecordSoFar B.Unit)
+            → Reads B.rules self.old so_far
+            → IsDataStep B.rules self.new so_far byte (DataStep.Unit unit)) }
+        ensures none { IfNone result (self.new ≡ self.old) }
+    {
+        if self.left == 0 {
+            return None;
+        }
+        let unit = self.units.single(byte)?;
+        self.left -= 1;
+        Some(unit)
+    }
+
     /// Takes a byte of the record.
+    #[inline(always)]
     pub fn take(&mut self, byte: u8) -> DataStep<B::Unit>
         ensures { (so_far : RecordSoFar B.Unit) → Reads B.rules self.old so_far
             → IsDataStep B.rules self.new so_far byte result }
     {
-        if self.header.len() < 9 {
+        if self.left > 0 {
+            self.take_body(byte)
+        } else if self.header.len() < 9 {
             self.take_header(byte)
         } else if self.header.len() < 10 {
             self.take_opcode(byte)
         } else {
-            self.take_body(byte)
+            DataStep::Refused(Reason::TooLong)
         }
     }
 
@@ -143,67 +134,63 @@ impl<B: Body> OpenRecord<B> {
         match Opcode::from_byte(byte) {
             None => DataStep::Refused(Reason::UnknownOpcode),
             Some(opcode) => {
-                let header = self.header.as_slice();
-                let length = word(header[0], header[1]);
-                let flags = word(header[7], header[8]);
+                let head = head_of(self.header.as_slice(), opcode);
                 self.header.push(byte);
-                self.left = length - 10;
-                DataStep::Open(Head {
-                    flags,
-                    opcode,
-                    length,
-                })
+                self.left = head.length - 10;
+                DataStep::Open(head)
             }
         }
     }
 
+    #[inline(always)]
     fn take_body(&mut self, byte: u8) -> DataStep<B::Unit>
-        requires { length self.old.header ≡ 10 }
+        requires { 0 < self.old.left }
         ensures { (so_far : RecordSoFar B.Unit) → Reads B.rules self.old so_far
             → IsDataStep B.rules self.new so_far byte result }
     {
-        if self.left == 0 {
-            return DataStep::Refused(Reason::TooLong);
-        }
         self.left -= 1;
-        match self.machine.push(byte) {
-            Push::More => {
-                self.is_inside = true;
-                DataStep::More
-            }
-            Push::Unit(unit) => {
-                self.place = B::after(&unit);
-                self.machine = B::start(self.place);
-                self.is_inside = false;
-                DataStep::Unit(unit)
-            }
-            Push::Bad(reason) => {
-                self.machine = B::start(self.place);
-                self.is_inside = false;
-                DataStep::Refused(reason)
-            }
+        match self.units.push(byte) {
+            Push::More => DataStep::More,
+            Push::Unit(unit) => DataStep::Unit(unit),
+            Push::Bad(reason) => DataStep::Refused(reason),
         }
     }
 
-    /// Ends the record, where it is whole, and answers else why not. The next one begins.
-    pub fn end(&mut self) -> Option<Reason>
-        ensures whole { IfNone result ((so_far : RecordSoFar B.Unit)
+    /// Ends the record, where it is whole, and answers with its head, else why not. The next one begins.
+    pub fn end(&mut self) -> Result<Head, Reason>
+        ensures whole { IfOk result (λ head. (so_far : RecordSoFar B.Unit)
             → Reads B.rules self.old so_far
-            → IsWholeRecord B.rules so_far × Reads B.rules self.new no_record) }
-        ensures refused { IfSome result (λ reason. (so_far : RecordSoFar B.Unit)
+            → IsWholeRecord B.rules so_far head × Reads B.rules self.new no_record) }
+        ensures refused { IfErr result (λ reason. (so_far : RecordSoFar B.Unit)
             → Reads B.rules self.old so_far
             → IsEndRefused B.rules so_far.bytes reason) }
     {
-        if !self.header.is_full() || self.left > 0 {
-            return Some(Reason::TooShort);
+        if self.header.len() < 10 || self.left > 0 {
+            return Err(Reason::TooShort);
         }
-        if self.is_inside || !B::may_end(self.place) {
-            return Some(Reason::EndedInside);
+        if self.units.is_inside() || !B::may_end(self.units.place()) {
+            return Err(Reason::EndedInside);
         }
+        let header = self.header.as_slice();
+        let Some(opcode) = Opcode::from_byte(header[9]) else {
+            return Err(Reason::TooShort);
+        };
+        let head = head_of(header, opcode);
         self.header.clear();
-        self.place = B::first();
-        self.machine = B::start(self.place);
-        None
+        self.units.restart(B::first());
+        Ok(head)
+    }
+}
+
+// What nine bytes of a header, or more, and its opcode say.
+fn head_of(header: &[u8], opcode: Opcode) -> Head
+    requires { 9 ≤ length header.now }
+    ensures { result ≡ head_in header.now opcode }
+{
+    Head {
+        flags: word(header[7], header[8]),
+        opcode,
+        length: word(header[0], header[1]),
     }
 }
 
@@ -211,5 +198,5 @@ impl<B: Body> OpenRecord<B> {
 fn word(high: u8, low: u8) -> u16
     ensures { result ≡ high * 256 + low }
 {
-    high as u16 * 256 + low as u16
+    u16::from(high) * 256 + u16::from(low)
 }

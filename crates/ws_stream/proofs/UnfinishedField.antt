@@ -12,7 +12,6 @@ use Rattle.ws_stream.specs.ElementLaws.{first, no_code, format_front, controls_f
 use Rattle.ws_stream.specs.Machine.{front_bytes, is_front}
 use Rattle.ws_stream.specs.Reasons.{element_reason}
 use Rattle.ws_code.specs.declared.reason.Reason.TheVariants.{TooManyFcws, BadFormatByte}
-use Rattle.ws_stream.specs.declared.commands.phase.FieldWords.{FieldWords}
 use Rattle.ws_stream.specs.declared.place.Place.{Place}
 use Rattle.ws_stream.specs.declared.element.Element.{Element}
 use Rattle.ws_stream.specs.declared.element.Element.TheVariants.{Sf, Put}
@@ -199,16 +198,16 @@ control_whole place w controls items high b v format words low big small is all 
     let same : 0x1D ∷ (word w ++ flat_map word items) ≡ 0x1D ∷ (word w ++ flat_map word controls) ++ high ∷ [] ++ b ∷ [] = ap (λ (l : List ℕ). 0x1D ∷ (word w ++ l)) bytes in
     (same, subst (λ (l : List ℕ). IsUnfinished element_rules place l) same (words_go_on place (Some w) items (order_allowed place 0x1D _ (omega arith) u) known))
 
-front_known : (place : Place) (fr : Option FieldWords) (attribute : ℕ) → is_front fr ≡ true → IsUnfinished element_rules place (0x1D ∷ front_bytes fr ++ attribute ∷ []) → (format : Option ℕ) × (controls : List ℕ) × AreWordsSoFar format controls × (front format controls ≡ front_bytes fr)
-front_known place None attribute sound u = (None, [], record { formatted = refl; few = omega arith; words = refl }, refl)
-front_known place (Some ws) attribute sound u =
-    let parts = and_parts (nat_le 0x4000 ws.format) (list_all is_control ws.controls.items) sound in
-    (Some ws.format, ws.controls.items, words_known ws.format ws.controls.items _ parts.1 (follows_byte place ws.format ws.controls.items attribute [] (leb-true 0x4000 ws.format parts.0) parts.1 u), refl)
+front_known : (place : Place) (fr : Option ℕ) (kept : List ℕ) (attribute : ℕ) → is_front fr kept ≡ true → IsUnfinished element_rules place (0x1D ∷ front_bytes fr kept ++ attribute ∷ []) → (format : Option ℕ) × (controls : List ℕ) × AreWordsSoFar format controls × (front format controls ≡ front_bytes fr kept)
+front_known place None kept attribute sound u = (None, [], record { formatted = refl; few = omega arith; words = refl }, refl)
+front_known place (Some w) kept attribute sound u =
+    let parts = and_parts (nat_le 0x4000 w) (list_all is_control kept) sound in
+    (Some w, kept, words_known w kept _ parts.1 (follows_byte place w kept attribute [] (leb-true 0x4000 w parts.0) parts.1 u), refl)
 
-pub length_begins : (place : Place) (fr : Option FieldWords) (attribute b : ℕ) → is_front fr ≡ true → is_attribute attribute ≡ true → b < 256 → IsUnfinished element_rules place (0x1D ∷ front_bytes fr ++ attribute ∷ []) → (0x1D ∷ front_bytes fr ++ attribute ∷ b ∷ [] ≡ 0x1D ∷ front_bytes fr ++ attribute ∷ [] ++ b ∷ []) × IsUnfinished element_rules place (0x1D ∷ front_bytes fr ++ attribute ∷ [] ++ b ∷ [])
-length_begins place fr attribute b sound legal small u =
-    let found : (format : Option ℕ) × (controls : List ℕ) × AreWordsSoFar format controls × (front format controls ≡ front_bytes fr) = front_known place fr attribute sound u in
+pub length_begins : (place : Place) (fr : Option ℕ) (kept : List ℕ) (attribute b : ℕ) → is_front fr kept ≡ true → is_attribute attribute ≡ true → b < 256 → IsUnfinished element_rules place (0x1D ∷ front_bytes fr kept ++ attribute ∷ []) → (0x1D ∷ front_bytes fr kept ++ attribute ∷ b ∷ [] ≡ 0x1D ∷ front_bytes fr kept ++ attribute ∷ [] ++ b ∷ []) × IsUnfinished element_rules place (0x1D ∷ front_bytes fr kept ++ attribute ∷ [] ++ b ∷ [])
+length_begins place fr kept attribute b sound legal small u =
+    let found : (format : Option ℕ) × (controls : List ℕ) × AreWordsSoFar format controls × (front format controls ≡ front_bytes fr kept) = front_known place fr kept attribute sound u in
     let parts = and_parts (nat_le 0x20 attribute) (nat_lt attribute 0x40) legal in
     let goes_on = length_goes_on place found.0 found.1 attribute b (order_allowed place 0x1D _ (omega arith) u) found.2 (leb-true 0x20 attribute parts.0) (ltb-true attribute 0x40 parts.1) small in
-    let same : 0x1D ∷ front_bytes fr ++ attribute ∷ b ∷ [] ≡ 0x1D ∷ front_bytes fr ++ attribute ∷ [] ++ b ∷ [] = ap (λ (l : List ℕ). 0x1D ∷ l) (sym (append_assoc (front_bytes fr) (attribute ∷ []) (b ∷ []))) in
+    let same : 0x1D ∷ front_bytes fr kept ++ attribute ∷ b ∷ [] ≡ 0x1D ∷ front_bytes fr kept ++ attribute ∷ [] ++ b ∷ [] = ap (λ (l : List ℕ). 0x1D ∷ l) (sym (append_assoc (front_bytes fr kept) (attribute ∷ []) (b ∷ []))) in
     (same, subst (λ (l : List ℕ). IsUnfinished element_rules place l) same (subst (λ (l : List ℕ). IsUnfinished element_rules place (0x1D ∷ l ++ attribute ∷ b ∷ [])) found.3 goes_on))

@@ -196,6 +196,18 @@ impl Code for Tokens {
         }
     }
 
+    fn restart(&mut self, _at: ()) {
+        self.phase = Phase::Begin;
+    }
+
+    fn single(_at: (), byte: u8) -> Option<Token> {
+        if byte == 0xff {
+            None
+        } else {
+            Some(Token::Data(byte))
+        }
+    }
+
     fn push(&mut self, byte: u8) -> Push<Token> {
         match self.phase {
             Phase::Begin => {

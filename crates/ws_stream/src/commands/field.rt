@@ -1,19 +1,19 @@
-ghost use Rattle.std.specs.Prelude.{◌≡◌, ◌∷◌, ◌++◌, [], ℕ, true, nat_le, ◌&&◌};
+ghost use Rattle.std.specs.Prelude.{◌≡◌, ◌∷◌, ◌++◌, [], ℕ, true, nat_le};
 ghost use Rattle.ws_code.specs.Code.{IsUnfinished};
 ghost use Rattle.ws_stream.specs.Elements.{element_rules};
 ghost use Rattle.ws_stream.specs.FieldOrder.{is_attribute};
-ghost use Rattle.ws_stream.specs.Machine.{words_bytes, front_bytes, are_words, is_front, IsStep};
+ghost use Rattle.ws_stream.specs.Machine.{words_bytes, front_bytes, are_words, is_front, unfinished_in, IsStep};
 
 use super::Commands;
-use super::phase::{FieldWords, Phase};
+use super::phase::Phase;
 use crate::{Element, FieldStart};
-use arrayvec::ArrayVec;
-use ws_code::{Ffw, Push, Reason};
+use ws_code::{Ffw, Push, Reason, ShortList};
 
 impl Commands {
     pub(super) fn field_first(&mut self, byte: u8) -> Push<Element>
         requires { IsUnfinished element_rules self.old.place (0x1D ∷ []) }
-        ensures { IsStep self.old.place (0x1D ∷ []) byte self.new.place self.new.phase result }
+        ensures { IsStep self.old.place (0x1D ∷ []) byte
+            self.new.place (unfinished_in self.new.phase self.new.bytes self.new.kinds self.new.controls) result }
     {
         match byte {
             0x20..=0x3f => self.wait_for(Phase::LengthHigh(None, byte)),
@@ -31,83 +31,86 @@ impl Commands {
         requires format { nat_le 0x40 high ≡ true }
         requires begun { IsUnfinished element_rules self.old.place (0x1D ∷ high ∷ []) }
         ensures { IsStep self.old.place (0x1D ∷ high ∷ []) byte
-            self.new.place self.new.phase result }
+            self.new.place (unfinished_in self.new.phase self.new.bytes self.new.kinds self.new.controls) result }
     {
         let word = u16::from(high) * 256 + u16::from(byte);
         match Ffw::new(word) {
-            Some(format) => self.wait_for(Phase::FieldNext(FieldWords {
-                format,
-                controls: ArrayVec::new(),
-            })),
+            Some(format) => {
+                self.controls.clear();
+                self.wait_for(Phase::FieldNext(format))
+            }
             None => Push::Bad(Reason::LeftOutShift),
         }
     }
 
-    pub(super) fn field_next(&mut self, words: FieldWords, byte: u8) -> Push<Element>
-        requires words { are_words words ≡ true }
+    pub(super) fn field_next(&mut self, format: Ffw, byte: u8) -> Push<Element>
+        requires words { are_words format self.old.controls ≡ true }
         requires begun { IsUnfinished element_rules self.old.place
-            (0x1D ∷ words_bytes words) }
-        ensures { IsStep self.old.place (0x1D ∷ words_bytes words) byte
-            self.new.place self.new.phase result }
+            (0x1D ∷ words_bytes format self.old.controls) }
+        ensures { IsStep self.old.place (0x1D ∷ words_bytes format self.old.controls) byte
+            self.new.place (unfinished_in self.new.phase self.new.bytes self.new.kinds self.new.controls) result }
     {
         match byte {
-            0x20..=0x3f => self.wait_for(Phase::LengthHigh(Some(words), byte)),
+            0x20..=0x3f => self.wait_for(Phase::LengthHigh(Some(format), byte)),
             0x80..=0xff => {
-                if words.controls.is_full() {
+                if self.controls.is_full() {
                     return Push::Bad(Reason::TooManyFcws);
                 }
-                self.wait_for(Phase::ControlLow(words, byte))
+                self.wait_for(Phase::ControlLow(format, byte))
             }
             _ => Push::Bad(Reason::BadFormatByte),
         }
     }
 
-    pub(super) fn control_low(&mut self, mut words: FieldWords, high: u8, byte: u8) -> Push<Element>
-        requires words { are_words words ≡ true }
+    pub(super) fn control_low(&mut self, format: Ffw, high: u8, byte: u8) -> Push<Element>
+        requires phase { self.old.phase ≡ Phase.ControlLow format high }
+        requires words { are_words format self.old.controls ≡ true }
         requires control { nat_le 0x80 high ≡ true }
         requires begun { IsUnfinished element_rules self.old.place
-            (0x1D ∷ words_bytes words ++ high ∷ []) }
-        ensures { IsStep self.old.place (0x1D ∷ words_bytes words ++ high ∷ []) byte
-            self.new.place self.new.phase result }
+            (0x1D ∷ words_bytes format self.old.controls ++ high ∷ []) }
+        ensures { IsStep self.old.place
+            (0x1D ∷ words_bytes format self.old.controls ++ high ∷ []) byte
+            self.new.place (unfinished_in self.new.phase self.new.bytes self.new.kinds self.new.controls) result }
     {
-        words.controls.push(u16::from(high) * 256 + u16::from(byte));
-        self.wait_for(Phase::FieldNext(words))
+        self.controls.push(u16::from(high) * 256 + u16::from(byte));
+        self.wait_for(Phase::FieldNext(format))
     }
 
     pub(super) fn length_high(
         &mut self,
-        front: Option<FieldWords>,
+        format: Option<Ffw>,
         attribute: u8,
         byte: u8,
     ) -> Push<Element>
-        requires front { is_front front ≡ true }
+        requires front { is_front format self.old.controls ≡ true }
         requires attribute { is_attribute attribute ≡ true }
         requires begun { IsUnfinished element_rules self.old.place
-            (0x1D ∷ front_bytes front ++ attribute ∷ []) }
-        ensures { IsStep self.old.place (0x1D ∷ front_bytes front ++ attribute ∷ []) byte
-            self.new.place self.new.phase result }
+            (0x1D ∷ front_bytes format self.old.controls ++ attribute ∷ []) }
+        ensures { IsStep self.old.place
+            (0x1D ∷ front_bytes format self.old.controls ++ attribute ∷ []) byte
+            self.new.place (unfinished_in self.new.phase self.new.bytes self.new.kinds self.new.controls) result }
     {
-        self.wait_for(Phase::LengthLow(front, attribute, byte))
+        self.wait_for(Phase::LengthLow(format, attribute, byte))
     }
 
     pub(super) fn length_low(
         &mut self,
-        front: Option<FieldWords>,
+        format: Option<Ffw>,
         attribute: u8,
         high: u8,
         byte: u8,
     ) -> Push<Element>
-        requires front { is_front front ≡ true }
+        requires front { is_front format self.old.controls ≡ true }
         requires attribute { is_attribute attribute ≡ true }
         requires begun { IsUnfinished element_rules self.old.place
-            (0x1D ∷ front_bytes front ++ attribute ∷ high ∷ []) }
+            (0x1D ∷ front_bytes format self.old.controls ++ attribute ∷ high ∷ []) }
         ensures { IsStep self.old.place
-            (0x1D ∷ front_bytes front ++ attribute ∷ high ∷ []) byte
-            self.new.place self.new.phase result }
+            (0x1D ∷ front_bytes format self.old.controls ++ attribute ∷ high ∷ []) byte
+            self.new.place (unfinished_in self.new.phase self.new.bytes self.new.kinds self.new.controls) result }
     {
-        let (format, controls) = match front {
-            Some(words) => (Some(words.format), words.controls),
-            None => (None, ArrayVec::new()),
+        let controls = match format {
+            Some(_) => std::mem::replace(&mut self.controls, ShortList::new()),
+            None => ShortList::new(),
         };
         let length = u16::from(high) * 256 + u16::from(byte);
         Push::Unit(Element::Sf(FieldStart::of(format, controls, attribute, length)))

@@ -1,55 +1,51 @@
 ghost use Rattle.std.specs.Prelude.{◌≡◌, ◌∷◌, ◌++◌, ◌+◌, [], ℕ};
 ghost use Rattle.ws_code.specs.Code.{IsUnfinished};
 ghost use Rattle.ws_stream.specs.Elements.{element_rules, row_and_column};
-ghost use Rattle.ws_stream.specs.Machine.{order_byte, IsStep};
+ghost use Rattle.ws_stream.specs.Machine.{order_byte, unfinished_in, IsStep};
 
 use super::Commands;
 use super::phase::{Order, Phase};
 use crate::{Element, EraseList, SohBytes};
-use arrayvec::ArrayVec;
-use ws_code::{Address, DataByte, Push, Reason};
+use ws_code::{Address, DataByte, Push, Reason, ShortList};
 
 impl Commands {
     pub(super) fn soh_length(&mut self, byte: u8) -> Push<Element>
         requires { IsUnfinished element_rules self.old.place (0x01 ∷ []) }
-        ensures { IsStep self.old.place (0x01 ∷ []) byte self.new.place self.new.phase result }
+        ensures { IsStep self.old.place (0x01 ∷ []) byte
+            self.new.place (unfinished_in self.new.phase self.new.bytes self.new.kinds self.new.controls) result }
     {
         if byte > 7 {
             return Push::Bad(Reason::BadSohLength);
         }
         if byte == 0 {
-            return Push::Unit(Element::Soh(SohBytes::of(ArrayVec::new())));
+            return Push::Unit(Element::Soh(SohBytes::of(ShortList::new())));
         }
-        self.wait_for(Phase::SohByte {
-            count: byte,
-            bytes: ArrayVec::new(),
-        })
+        self.bytes.clear();
+        self.wait_for(Phase::SohByte(byte))
     }
 
-    pub(super) fn soh_byte(
-        &mut self,
-        count: u8,
-        mut bytes: ArrayVec<u8, 7>,
-        byte: u8,
-    ) -> Push<Element>
-        requires { IsUnfinished element_rules self.old.place (0x01 ∷ count ∷ bytes.items) }
-        ensures { IsStep self.old.place (0x01 ∷ count ∷ bytes.items) byte
-            self.new.place self.new.phase result }
+    pub(super) fn soh_byte(&mut self, count: u8, byte: u8) -> Push<Element>
+        requires phase { self.old.phase ≡ Phase.SohByte count }
+        requires begun { IsUnfinished element_rules self.old.place
+            (0x01 ∷ count ∷ self.old.bytes) }
+        ensures { IsStep self.old.place (0x01 ∷ count ∷ self.old.bytes) byte
+            self.new.place (unfinished_in self.new.phase self.new.bytes self.new.kinds self.new.controls) result }
     {
-        if bytes.len() == 2 && byte != 0 {
+        if self.bytes.len() == 2 && byte != 0 {
             return Push::Bad(Reason::Resequencing);
         }
-        bytes.push(byte);
-        if bytes.len() == count as usize {
+        self.bytes.push(byte);
+        if self.bytes.len() == count as usize {
+            let bytes = std::mem::replace(&mut self.bytes, ShortList::new());
             return Push::Unit(Element::Soh(SohBytes::of(bytes)));
         }
-        self.wait_for(Phase::SohByte { count, bytes })
+        Push::More
     }
 
     pub(super) fn row(&mut self, order: Order, byte: u8) -> Push<Element>
         requires { IsUnfinished element_rules self.old.place (order_byte order ∷ []) }
         ensures { IsStep self.old.place (order_byte order ∷ []) byte
-            self.new.place self.new.phase result }
+            self.new.place (unfinished_in self.new.phase self.new.bytes self.new.kinds self.new.controls) result }
     {
         if byte < 1 || byte > 24 {
             return Push::Bad(Reason::BadAddress);
@@ -60,7 +56,7 @@ impl Commands {
     pub(super) fn column(&mut self, order: Order, row: u8, byte: u8) -> Push<Element>
         requires { IsUnfinished element_rules self.old.place (order_byte order ∷ row ∷ []) }
         ensures { IsStep self.old.place (order_byte order ∷ row ∷ []) byte
-            self.new.place self.new.phase result }
+            self.new.place (unfinished_in self.new.phase self.new.bytes self.new.kinds self.new.controls) result }
     {
         let to = match Address::new(row, byte) {
             Some(to) => to,
@@ -78,7 +74,7 @@ impl Commands {
     pub(super) fn repeat_byte(&mut self, to: Address, byte: u8) -> Push<Element>
         requires { IsUnfinished element_rules self.old.place (0x02 ∷ row_and_column to) }
         ensures { IsStep self.old.place (0x02 ∷ row_and_column to) byte
-            self.new.place self.new.phase result }
+            self.new.place (unfinished_in self.new.phase self.new.bytes self.new.kinds self.new.controls) result }
     {
         match DataByte::new(byte) {
             Some(byte) => Push::Unit(Element::Ra { to, byte }),
@@ -89,41 +85,34 @@ impl Commands {
     pub(super) fn erase_length(&mut self, to: Address, byte: u8) -> Push<Element>
         requires { IsUnfinished element_rules self.old.place (0x03 ∷ row_and_column to) }
         ensures { IsStep self.old.place (0x03 ∷ row_and_column to) byte
-            self.new.place self.new.phase result }
+            self.new.place (unfinished_in self.new.phase self.new.bytes self.new.kinds self.new.controls) result }
     {
         if byte < 2 || byte > 5 {
             return Push::Bad(Reason::BadEraseList);
         }
-        self.wait_for(Phase::EraseKind {
-            to,
-            count: byte - 1,
-            kinds: ArrayVec::new(),
-        })
+        self.kinds.clear();
+        self.wait_for(Phase::EraseKind(to, byte - 1))
     }
 
-    pub(super) fn erase_kind(
-        &mut self,
-        to: Address,
-        count: u8,
-        mut kinds: ArrayVec<u8, 4>,
-        byte: u8,
-    ) -> Push<Element>
-        requires { IsUnfinished element_rules self.old.place
-            (0x03 ∷ row_and_column to ++ (count + 1) ∷ kinds.items) }
+    pub(super) fn erase_kind(&mut self, to: Address, count: u8, byte: u8) -> Push<Element>
+        requires phase { self.old.phase ≡ Phase.EraseKind to count }
+        requires begun { IsUnfinished element_rules self.old.place
+            (0x03 ∷ row_and_column to ++ (count + 1) ∷ self.old.kinds) }
         ensures { IsStep self.old.place
-            (0x03 ∷ row_and_column to ++ (count + 1) ∷ kinds.items) byte
-            self.new.place self.new.phase result }
+            (0x03 ∷ row_and_column to ++ (count + 1) ∷ self.old.kinds) byte
+            self.new.place (unfinished_in self.new.phase self.new.bytes self.new.kinds self.new.controls) result }
     {
         if byte != 0 && byte != 0xff {
             return Push::Bad(Reason::BadEraseList);
         }
-        kinds.push(byte);
-        if kinds.len() == count as usize {
+        self.kinds.push(byte);
+        if self.kinds.len() == count as usize {
+            let kinds = std::mem::replace(&mut self.kinds, ShortList::new());
             return Push::Unit(Element::Ea {
                 to,
                 kinds: EraseList::of(kinds),
             });
         }
-        self.wait_for(Phase::EraseKind { to, count, kinds })
+        Push::More
     }
 }

@@ -1,11 +1,10 @@
-use Rattle.std.proofs.Common.{◌≡◌, ◌++◌, [], ℕ, ◌-◌, List, length, take, refl, sym, ap, ◌∙◌, subst, arith, length-append}
+use Rattle.std.proofs.Common.{◌≡◌, ◌++◌, [], ℕ, ◌-◌, List, length, refl, sym, ap, ◌∙◌, subst, arith, length-append}
 use Rattle.std.proofs.lemmas.Result.{err_from_is_err_and}
 use Rattle.std.proofs.lemmas.List.{append-nil}
 use Rattle.ws_code.proofs.DeviceLaws.{went_out_none, went_out_both}
 use Rattle.ws_code.specs.declared.fault.Fault.TheVariants.{Truncated}
 use Rattle.ws_record.specs.Grammar.{Accepts}
 use Rattle.ws_record.specs.Refusal.{IsTruncated}
-use Rattle.ws_record.specs.Receiver.{given}
 use Rattle.ws_stream.specs.Elements.{element_rules}
 use Rattle.t5250.specs.StreamText.{items_of, lines_of, placed_by, after_items, HoldsItems}
 use Rattle.t5250.proofs.Shows.{part, part_more, refused_behind, truncated_behind, no_verdict, unapplied, item_fails, held_by, whole_given, next_complete, shows_next, accepted_behind, is_verdict}

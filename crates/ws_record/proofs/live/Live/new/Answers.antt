@@ -1,9 +1,7 @@
-use Rattle.std.proofs.Common.{refl}
-use Rattle.ws_record.proofs.Lives.{ready_between, leads_nothing}
+use Rattle.std.proofs.Common.{refl, ap}
+use Rattle.ws_record.specs.UnitReading.{UnitReading}
+use Rattle.ws_record.proofs.Lives.{leads_nothing}
 use Rattle.ws_record.proofs.live.Live.new.Goals as goal
 
-pub invariant_of-result : goal.invariant_of-result
-invariant_of-result g c = ready_between _ c.start.ensures.fresh
-
 pub returns : goal.returns
-returns g c = leads_nothing g.B.Code.rules g.met.B.Body.can_end g.met.B.Code.bytes _ refl c.start.ensures.fresh c.new.ensures refl
+returns g c = leads_nothing g.B.Code.rules g.met.B.Body.can_end g.met.B.Code.bytes _ refl (ap (λ (u : UnitReading (Unit {0})). u.begun) c.new.ensures) c.new-2.ensures refl

@@ -1,38 +1,29 @@
-use Rattle.std.proofs.Common.{◌≡◌, ◌∷◌, ◌++◌, [], length, refl, sym, ap, ◌∙◌, subst, arith}
+use Rattle.std.proofs.Common.{◌≡◌, ◌∷◌, ◌++◌, ◌<◌, [], length, refl, sym, ap, ◌∙◌, subst, arith}
+use Rattle.ws_record.specs.declared.open_record.DataStep.{DataStep}
+use Rattle.ws_record.specs.DataStep.{IsDataStep}
 use Rattle.ws_record.specs.OpenRecord.{Keeping, Reads}
-use Rattle.ws_record.proofs.OpenRecords.{body_refused, body_more, body_unit, body_bad}
-use Rattle.ws_code.specs.Code.{IsUnfinished, IsSpelled, IsPrefix}
+use Rattle.ws_record.specs.UnitReading.{UnitReading}
+use Rattle.ws_record.proofs.OpenRecords.{body_more, body_unit, body_bad, data_step_is}
+use Rattle.ws_record.proofs.open_record.OpenRecord.take_body.Goals.{in-More, in-Unit, in-Bad}
 use Rattle.ws_record.proofs.open_record.OpenRecord.take_body.Goals as goal
 
-pub returns-then-self-eq0 : goal.returns-then-self-eq0
-returns-then-self-eq0 g c = λ so_far r.
+pub returns : goal.returns
+returns g c = λ so_far r.
+    let rules = g.B.Code.rules in
+    let b = c.args.byte in
     let reads = subst (λ (k : Keeping g.row.B-Place.Denot). Reads g.B.Code.rules k so_far) (sym c.self.view_is) r in
-    let ten : length c.self.inside.header.items ≡ 10 = ap (λ (k : Keeping g.row.B-Place.Denot). length k.header) c.self.view_is ∙ c.requires in
-    body_refused g.B.Code.rules _ so_far c.args.byte reads ten c.if-self-eq0.true
-
-pub returns-in-More : goal.returns-in-More
-returns-in-More g c = λ so_far r.
-    let reads = subst (λ (k : Keeping g.row.B-Place.Denot). Reads g.B.Code.rules k so_far) (sym c.self.view_is) r in
-    let ten : length c.self.inside.header.items ≡ 10 = ap (λ (k : Keeping g.row.B-Place.Denot). length k.header) c.self.view_is ∙ c.requires in
-    let more = c.in-More.ensures.more in
-    let begun = g.B.Code.unfinished c.self.inside.machine in
-    body_more g.B.Code.rules _ _ so_far c.args.byte reads ten (omega arith) c.if-self-eq0.false
-    (subst (λ (p : g.row.B-Place.Denot). IsUnfinished g.B.Code.rules p (begun ++ c.args.byte ∷ [])) c.self.invariant.machine more.0) refl refl refl more.2
-
-pub returns-in-Unit : goal.returns-in-Unit
-returns-in-Unit g c = λ so_far r.
-    let reads = subst (λ (k : Keeping g.row.B-Place.Denot). Reads g.B.Code.rules k so_far) (sym c.self.view_is) r in
-    let ten : length c.self.inside.header.items ≡ 10 = ap (λ (k : Keeping g.row.B-Place.Denot). length k.header) c.self.view_is ∙ c.requires in
-    let begun = g.B.Code.unfinished c.self.inside.machine in
-    body_unit g.B.Code.rules g.met.B.Code.begins _ _ so_far c.args.byte c.in-Unit.unit reads ten (omega arith) c.if-self-eq0.false
-    (subst (λ (p : g.row.B-Place.Denot). IsSpelled g.B.Code.rules p (begun ++ c.args.byte ∷ []) c.in-Unit.unit) c.self.invariant.machine c.in-Unit.ensures.unit) refl refl c.after-self-inside.ensures c.start.ensures.fresh
-
-pub returns-in-Bad : goal.returns-in-Bad
-returns-in-Bad g c = λ so_far r.
-    let reads = subst (λ (k : Keeping g.row.B-Place.Denot). Reads g.B.Code.rules k so_far) (sym c.self.view_is) r in
-    let ten : length c.self.inside.header.items ≡ 10 = ap (λ (k : Keeping g.row.B-Place.Denot). length k.header) c.self.view_is ∙ c.requires in
-    let begun = g.B.Code.unfinished c.self.inside.machine in
-    let bad = c.in-Bad.ensures.bad in
-    body_bad g.B.Code.rules g.met.B.Code.prefix_free g.met.B.Code.begins _ so_far c.args.byte c.in-Bad.reason reads ten (omega arith) c.if-self-eq0.false
-    (subst (λ (p : g.row.B-Place.Denot). IsPrefix g.B.Code.rules p (begun ++ c.args.byte ∷ []) → ⊥) c.self.invariant.machine bad.0)
-    (bad.1 ∙ ap (λ (p : g.row.B-Place.Denot). g.B.Code.rules.reason p begun c.args.byte) c.self.invariant.machine)
+    let some : 0 < c.self.inside.left = omega (arith, ap (λ (k : Keeping g.row.B-Place.Denot). k.left) c.self.view_is, c.requires) in
+    let room : c.self.inside.left ≡ 0 → ⊥ = λ e. omega (arith, some) in
+    let ten : length c.self.inside.header ≡ 10 = c.self.invariant.behind some in
+    elim c.match-push.branch [
+      | in-More w ↦
+          (let m = w.in-More.ensures in
+          data_step_is rules _ so_far b _ _ w.result-is (body_more rules _ _ so_far b reads ten (omega arith) room m.0 refl refl (ap (λ (u : UnitReading g.row.B-Place.Denot). u.place) m.1) (ap (λ (u : UnitReading g.row.B-Place.Denot). u.begun) m.1)))
+      | in-Unit w ↦
+          (let m = w.in-Unit.ensures in
+          let fresh = ap (λ (u : UnitReading g.row.B-Place.Denot). u.begun) m.1 in
+          data_step_is rules _ so_far b _ _ w.result-is (body_unit rules g.met.B.Code.begins _ _ so_far b w.in-Unit.unit reads ten (omega arith) room m.0 refl refl (ap (λ (u : UnitReading g.row.B-Place.Denot). u.place) m.1) fresh, fresh))
+      | in-Bad w ↦
+          (let m = w.in-Bad.ensures in
+          data_step_is rules _ so_far b _ _ w.result-is (body_bad rules g.met.B.Code.prefix_free g.met.B.Code.begins _ so_far b w.in-Bad.reason reads ten (omega arith) room m.0 m.1))
+    ]

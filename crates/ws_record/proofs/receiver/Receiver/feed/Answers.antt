@@ -8,7 +8,7 @@ use Rattle.ws_record.proofs.receiver.Receiver.feed.Goals as goal
 pub returns-then-not-works-clause-fault : goal.returns-then-not-works-clause-fault
 returns-then-not-works-clause-fault g c = λ bytes items t fits.
     let old = subst (λ (k : Receiving g.row.B-Place.Denot g.row.B-Unit.Denot). Taken g.B.Code.rules k bytes items) (sym c.self.view_is) t in
-    let f : ◌≡◌ {A = Bool} false true = c.if-not-works.ensures.works.1 (old.leads.1.works, omega (arith, old.leads.1.count)) in cc
+    let f : ◌≡◌ {A = Bool} false true = c.if-not-works.ensures.1 (old.leads.1.works, omega (arith, old.leads.1.count)) in cc
 
 pub returns-in_err-item-clause-fault : goal.returns-in_err-item-clause-fault
 returns-in_err-item-clause-fault g c =

@@ -1,45 +1,31 @@
-use Rattle.std.proofs.Common.{◌≡◌, ◌∷◌, ◌++◌, [], List, Bool, refl, sym, ap, ◌∙◌, subst}
-use Rattle.std.specs.Prelude.{if◌then◌else◌, not}
-use Rattle.ws_record.specs.Live.{LeadsWith}
+use Rattle.std.proofs.Common.{◌++◌, ◌∷◌, [], sym, subst}
+use Rattle.std.proofs.lemmas.Result.{err_from_is_err_and, MatchResult-weaker}
 use Rattle.ws_record.specs.Receiver.{Receiving, Taken}
-use Rattle.ws_record.proofs.Receivers.{taken_more, taken_command, taken_record}
+use Rattle.ws_record.proofs.Receivers.{taken_none}
 use Rattle.ws_record.proofs.receiver.Receiver.take.Goals as goal
 
-pub returns-in-More-clause-taken : goal.returns-in-More-clause-taken
-returns-in-More-clause-taken g c = λ bytes items t fits.
-    let old = subst (λ (k : Receiving g.row.B-Place.Denot g.row.B-Unit.Denot). Taken g.B.Code.rules k bytes items) (sym c.self.view_is) t in
-    taken_more g.B.Code.rules _ (bytes ++ c.args.byte ∷ []) items old.head old.is_head (c.in-More.ensures.step bytes items _ old.leads.1 fits)
+pub returns-in_err-take_value-clause-fault : goal.returns-in_err-take_value-clause-fault
+returns-in_err-take_value-clause-fault g c =
+    let p = err_from_is_err_and c.from_residual.result c.from_residual.ensures.1 in
+    rw (p.1, p.2) (λ bytes items t fits.
+    (let t' = subst (λ (k : Receiving g.row.B-Place.Denot g.row.B-Unit.Denot). Taken g.B.Code.rules k bytes items) (sym c.self.view_is) t in
+    let n = c.in-Some.ensures.counts bytes items (record { bytes = t'.leads.0; head = t'.head; units = c.self.inside.units.items }) t'.leads.1 in
+    c.in_err-take_value.ensures.fault bytes items c.count.new.self.begun c.args.byte (record { so_far = t'.leads.0; head = t'.head; completes = c.is_plain.ensures c.if-is_plain.true bytes items (record { bytes = t'.leads.0; head = t'.head; units = c.self.inside.units.items }) n.1 }) n.0))
 
-pub returns-in-Open-clause-taken : goal.returns-in-Open-clause-taken
-returns-in-Open-clause-taken g c = λ bytes items t fits.
-    let old = subst (λ (k : Receiving g.row.B-Place.Denot g.row.B-Unit.Denot). Taken g.B.Code.rules k bytes items) (sym c.self.view_is) t in
-    taken_more g.B.Code.rules _ (bytes ++ c.args.byte ∷ []) items _ refl (c.in-Open.ensures.step bytes items _ old.leads.1 fits).1
+pub returns-then-is_plain-clause-taken : goal.returns-then-is_plain-clause-taken
+returns-then-is_plain-clause-taken g c = λ bytes items t fits.
+    let t' = subst (λ (k : Receiving g.row.B-Place.Denot g.row.B-Unit.Denot). Taken g.B.Code.rules k bytes items) (sym c.self.view_is) t in
+    let n = c.in-Some.ensures.counts bytes items (record { bytes = t'.leads.0; head = t'.head; units = c.self.inside.units.items }) t'.leads.1 in
+    taken_none g.B.Code.rules _ (bytes ++ c.args.byte ∷ []) items (c.in_ok-take_value.ensures.taken bytes items c.count.new.self.begun c.args.byte (record { so_far = t'.leads.0; head = t'.head; completes = c.is_plain.ensures c.if-is_plain.true bytes items (record { bytes = t'.leads.0; head = t'.head; units = c.self.inside.units.items }) n.1 }))
 
-pub returns-else-is_err-clause-taken : goal.returns-else-is_err-clause-taken
-returns-else-is_err-clause-taken g c = λ bytes items t fits.
-    let old = subst (λ (k : Receiving g.row.B-Place.Denot g.row.B-Unit.Denot). Taken g.B.Code.rules k bytes items) (sym c.self.view_is) t in
-    let units = c.self.inside.units.items in
-    let pushed : c.push-in-Unit.new.self.items ≡ units ++ c.in-Unit.unit ∷ [] =
-    c.push-in-Unit.ensures.items ∙ ap (λ (x : Bool). if x then units ++ c.in-Unit.unit ∷ [] else units) (c.is_err.ensures.negation ∙ ap not c.if-is_err.false) in
-    taken_more g.B.Code.rules _ (bytes ++ c.args.byte ∷ []) items old.head old.is_head
-    (subst (λ (x : List g.row.B-Unit.Denot). LeadsWith g.B.Code.rules c.push.new.self (bytes ++ c.args.byte ∷ []) items old.head x) (sym pushed) (c.in-Unit.ensures.step bytes items _ old.leads.1 fits))
+pub returns-clause-taken : goal.returns-clause-taken
+returns-clause-taken g c = MatchResult-weaker c.take_token.result c.take_token.ensures.taken (λ item h. λ bytes items t fits.
+    (let t' = subst (λ (k : Receiving g.row.B-Place.Denot g.row.B-Unit.Denot). Taken g.B.Code.rules k bytes items) (sym c.self.view_is) t in
+    let n = c.in-Some.ensures.counts bytes items (record { bytes = t'.leads.0; head = t'.head; units = c.self.inside.units.items }) t'.leads.1 in
+    h bytes items (record { so_far = t'.leads.0; head = t'.head; counts = n.1 }) n.0)) (λ _ h. h)
 
-pub returns-in-Close-clause-taken : goal.returns-in-Close-clause-taken
-returns-in-Close-clause-taken g c = λ bytes items t fits.
-    let old = subst (λ (k : Receiving g.row.B-Place.Denot g.row.B-Unit.Denot). Taken g.B.Code.rules k bytes items) (sym c.self.view_is) t in
-    taken_record g.B.Code.rules _ _ bytes c.args.byte items old _ (c.in-Close.ensures.step bytes items _ old.leads.1 fits) refl refl (cc) (cc)
-
-pub returns-in-Telnet-clause-taken : goal.returns-in-Telnet-clause-taken
-returns-in-Telnet-clause-taken g c = λ bytes items t fits.
-    let old = subst (λ (k : Receiving g.row.B-Place.Denot g.row.B-Unit.Denot). Taken g.B.Code.rules k bytes items) (sym c.self.view_is) t in
-    taken_command g.B.Code.rules _ (bytes ++ c.args.byte ∷ []) _ old.head old.is_head (old.leads.0, c.in-Telnet.ensures.step bytes items _ old.leads.1 fits)
-
-pub returns-in-Refused-clause-fault : goal.returns-in-Refused-clause-fault
-returns-in-Refused-clause-fault g c = λ bytes items t fits.
-    let old = subst (λ (k : Receiving g.row.B-Place.Denot g.row.B-Unit.Denot). Taken g.B.Code.rules k bytes items) (sym c.self.view_is) t in
-    c.in-Refused.ensures.step bytes items _ old.leads.1 fits
-
-pub returns-in-Failed-clause-fault : goal.returns-in-Failed-clause-fault
-returns-in-Failed-clause-fault g c = λ bytes items t fits.
-    let old = subst (λ (k : Receiving g.row.B-Place.Denot g.row.B-Unit.Denot). Taken g.B.Code.rules k bytes items) (sym c.self.view_is) t in
-    c.in-Failed.ensures.step bytes items _ old.leads.1 fits
+pub returns-clause-fault : goal.returns-clause-fault
+returns-clause-fault g c = MatchResult-weaker c.take_token.result c.take_token.ensures.fault (λ _ h. h) (λ fault h. λ bytes items t fits.
+    (let t' = subst (λ (k : Receiving g.row.B-Place.Denot g.row.B-Unit.Denot). Taken g.B.Code.rules k bytes items) (sym c.self.view_is) t in
+    let n = c.in-Some.ensures.counts bytes items (record { bytes = t'.leads.0; head = t'.head; units = c.self.inside.units.items }) t'.leads.1 in
+    h bytes items (record { so_far = t'.leads.0; head = t'.head; counts = n.1 }) n.0))

@@ -1,10 +1,11 @@
 use Rattle.std.proofs.Common.{◌≡◌, ◌++◌, ◌∷◌, [], ℕ, List, Bool, Option, take, get_or, ap, ◌∙◌, subst, arith, length-take, length-append}
+use Rattle.std.proofs.Common.{inl, inr, refl}
 use Rattle.std.specs.Prelude.{if◌then◌else◌, not}
 use Rattle.std.proofs.lemmas.Result.{err_from_is_err_and}
 use Rattle.std.proofs.lemmas.List.{take_all, append-nil}
 use Rattle.ws_record.specs.declared.record.Item.{Item}
 use Rattle.ws_record.specs.Receiver.{Taken, given}
-use Rattle.ws_record.proofs.Decodes.{take_feeds, taken_next}
+use Rattle.ws_record.proofs.Decodes.{take_feeds, taken_next, item_completed}
 use Rattle.ws_record.proofs.receiver.Receiver.take_all.Goals.{in-Some+else-is_err, in_default}
 use Rattle.ws_record.proofs.receiver.Receiver.take_all.Goals as goal
 
@@ -14,8 +15,8 @@ returns-in_err-item-clause-fault g c =
     let piece = c.args.piece.now in
     let i = c.loop-byte.byte-index in
     rw (p.1, p.2) (λ bytes t fits.
-    take_feeds g.B.Code.rules bytes piece i _ c.loop-byte-test.true
-    (c.in_err-item.ensures.fault (bytes ++ take i piece) c.loop-byte.items.items (c.loop-byte.invariant bytes t fits) (omega (arith, length-append bytes (take i piece), length-take i piece))))
+    inl (take_feeds g.B.Code.rules bytes piece i _ c.loop-byte-test.true
+    (c.in_err-item.ensures.fault (bytes ++ take i piece) c.loop-byte.items.items (c.loop-byte.invariant bytes t fits) (omega (arith, length-append bytes (take i piece), length-take i piece)))))
 
 pub loop-byte-preserved : goal.loop-byte-preserved
 loop-byte-preserved g c = λ bytes t fits.
@@ -38,3 +39,11 @@ pub returns-clause-taken : goal.returns-clause-taken
 returns-clause-taken g c = λ bytes t fits.
     let all : take c.loop-byte.byte-index c.args.piece.now ≡ c.args.piece.now = take_all c.loop-byte.byte-index c.args.piece.now c.loop-byte-test.false in
     subst (λ (x : List ℕ). Taken g.B.Code.rules c.loop-byte.self (bytes ++ x) c.loop-byte.items.items) all (c.loop-byte.invariant bytes t fits)
+
+pub returns-then-is_err-clause-fault : goal.returns-then-is_err-clause-fault
+returns-then-is_err-clause-fault g c = λ bytes t fits.
+    let piece = c.args.piece.now in
+    let i = c.loop-byte.byte-index in
+    let taken = c.in_ok-item.ensures.taken (bytes ++ take i piece) c.loop-byte.items.items (c.loop-byte.invariant bytes t fits) (omega (arith, length-append bytes (take i piece), length-take i piece)) in
+    let with_item = subst (λ (o : Option (Item g.row.B-Unit.Denot)). Taken g.B.Code.rules c.take.new.self ((bytes ++ take i piece) ++ get_or piece i 0 ∷ []) (c.loop-byte.items.items ++ given o)) c.in-Some.is taken in
+    inr (refl, item_completed g.B.Code.rules bytes piece c.loop-byte.items.items c.in-Some.item i c.take.new.self c.loop-byte-test.true with_item)

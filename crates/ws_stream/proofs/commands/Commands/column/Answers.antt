@@ -8,10 +8,10 @@ pub returns-in-Ra : goal.returns-in-Ra
 returns-in-Ra c =
     let o = c.args.order in
     let found = column_repeat c.args.self.now.place o c.args.row c.args.byte c.in-Some.to c.in-Ra.is c.in-Some.ensures.0 c.in-Some.ensures.1 c.requires in
-    step_more (order_byte o ∷ c.args.row ∷ []) c.args.byte _ _ _ _ _ c.wait_for.ensures.more c.wait_for.ensures.place c.wait_for.ensures.phase found.0 found.1
+    step_more (order_byte o ∷ c.args.row ∷ []) c.args.byte _ _ _ _ _ c.wait_for.ensures.more c.wait_for.ensures.place c.wait_for.ensures.begun found.0 found.1
 
 pub returns-in-Ea : goal.returns-in-Ea
 returns-in-Ea c =
     let o = c.args.order in
     let found = column_erase c.args.self.now.place o c.args.row c.args.byte c.in-Some.to c.in-Ea.is c.in-Some.ensures.0 c.in-Some.ensures.1 c.requires in
-    step_more (order_byte o ∷ c.args.row ∷ []) c.args.byte _ _ _ _ _ c.wait_for-in-Ea.ensures.more c.wait_for-in-Ea.ensures.place c.wait_for-in-Ea.ensures.phase found.0 found.1
+    step_more (order_byte o ∷ c.args.row ∷ []) c.args.byte _ _ _ _ _ c.wait_for-in-Ea.ensures.more c.wait_for-in-Ea.ensures.place c.wait_for-in-Ea.ensures.begun found.0 found.1

@@ -10,8 +10,8 @@ use Rattle.ws_stream.proofs.commands.Commands.control_low.Goals as goal
 
 pub push-requires : goal.push-requires
 push-requires c =
-    let w = c.args.words.format in
-    let controls = c.args.words.controls.items in
+    let w = c.args.format in
+    let controls = c.args.self.now.controls in
     let parts = and_parts (nat_le 0x4000 w) (list_all is_control controls) c.requires.words in
     let format = leb-true 0x4000 w parts.0 in
     let follows = follows_byte c.args.self.now.place w controls c.args.high [] format parts.1 c.requires.begun in
@@ -19,9 +19,9 @@ push-requires c =
 
 pub returns : goal.returns
 returns c =
-    let w = c.args.words.format in
-    let controls = c.args.words.controls.items in
+    let w = c.args.format in
+    let controls = c.args.self.now.controls in
     let parts = and_parts (nat_le 0x4000 w) (list_all is_control controls) c.requires.words in
     let format = leb-true 0x4000 w parts.0 in
-    let found = control_whole c.args.self.now.place w controls c.push.new.self.items c.args.high c.args.byte (c.from.result * 256 + c.from-2.result) format parts.1 (leb-true 0x80 c.args.high c.requires.control) (omega arith) (omega arith) (omega (arith, c.from.ensures, c.from-2.ensures)) c.push.ensures.items c.requires.begun in
-    step_more (0x1D ∷ words_bytes c.args.words ++ c.args.high ∷ []) c.args.byte _ _ _ _ _ c.wait_for.ensures.more c.wait_for.ensures.place c.wait_for.ensures.phase found.0 found.1
+    let found = control_whole c.args.self.now.place w controls c.push.new.self c.args.high c.args.byte (c.from.result * 256 + c.from-2.result) format parts.1 (leb-true 0x80 c.args.high c.requires.control) (omega arith) (omega arith) (omega (arith, c.from.ensures, c.from-2.ensures)) c.push.ensures c.requires.begun in
+    step_more (0x1D ∷ words_bytes c.args.format c.args.self.now.controls ++ c.args.high ∷ []) c.args.byte _ _ _ _ _ c.wait_for.ensures.more c.wait_for.ensures.place c.wait_for.ensures.begun found.0 found.1

@@ -6,5 +6,5 @@ use Rattle.ws_stream.proofs.commands.Commands.erase_length.Goals as goal
 
 pub returns : goal.returns
 returns c =
-    let found = erase_counted c.args.self.now.place c.args.to c.args.byte c.new.result.items c.requires (omega arith) (omega arith) c.new.ensures in
-    step_more (0x03 ∷ row_and_column c.args.to) c.args.byte _ _ _ _ _ c.wait_for.ensures.more c.wait_for.ensures.place c.wait_for.ensures.phase found.0 found.1
+    let found = erase_counted c.args.self.now.place c.args.to c.args.byte c.clear.new.self c.requires (omega arith) (omega arith) c.clear.ensures in
+    step_more (0x03 ∷ row_and_column c.args.to) c.args.byte _ _ _ _ _ c.wait_for.ensures.more c.wait_for.ensures.place c.wait_for.ensures.begun found.0 found.1

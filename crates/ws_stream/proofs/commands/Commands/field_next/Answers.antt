@@ -11,8 +11,8 @@ use Rattle.ws_stream.proofs.commands.Commands.field_next.Goals.{in_default-via-t
 
 pub returns-then-is_full : goal.returns-then-is_full
 returns-then-is_full c =
-    let w = c.args.words.format in
-    let controls = c.args.words.controls.items in
+    let w = c.args.format in
+    let controls = c.args.self.now.controls in
     let parts = and_parts (nat_le 0x4000 w) (list_all is_control controls) c.requires.words in
     let format = leb-true 0x4000 w parts.0 in
     let full : length controls ≡ 8 = eqb-true (length controls) 8 (sym c.is_full.ensures.value ∙ c.if-is_full.true) in
@@ -20,30 +20,30 @@ returns-then-is_full c =
 
 pub returns-in-32-to-63 : goal.returns-in-32-to-63
 returns-in-32-to-63 c =
-    let w = c.args.words.format in
-    let controls = c.args.words.controls.items in
+    let w = c.args.format in
+    let controls = c.args.self.now.controls in
     let parts = and_parts (nat_le 0x4000 w) (list_all is_control controls) c.requires.words in
     let format = leb-true 0x4000 w parts.0 in
     let place = c.args.self.now.place in
     let known = words_known w controls _ parts.1 (follows_here place w controls format parts.1 c.requires.begun) in
-    step_more (0x1D ∷ words_bytes c.args.words) c.args.byte _ _ _ _ _ c.wait_for.ensures.more c.wait_for.ensures.place c.wait_for.ensures.phase refl (attribute_goes_on place (Some w) controls c.args.byte (order_allowed place 0x1D _ (omega arith) c.requires.begun) known (omega arith) (omega arith))
+    step_more (0x1D ∷ words_bytes c.args.format c.args.self.now.controls) c.args.byte _ _ _ _ _ c.wait_for.ensures.more c.wait_for.ensures.place c.wait_for.ensures.begun refl (attribute_goes_on place (Some w) controls c.args.byte (order_allowed place 0x1D _ (omega arith) c.requires.begun) known (omega arith) (omega arith))
 
 pub returns-else-is_full : goal.returns-else-is_full
 returns-else-is_full c =
-    let w = c.args.words.format in
-    let controls = c.args.words.controls.items in
+    let w = c.args.format in
+    let controls = c.args.self.now.controls in
     let parts = and_parts (nat_le 0x4000 w) (list_all is_control controls) c.requires.words in
     let format = leb-true 0x4000 w parts.0 in
     let place = c.args.self.now.place in
     let known = words_known w controls _ parts.1 (follows_here place w controls format parts.1 c.requires.begun) in
     let room = eqb-false (length controls) 8 (sym c.is_full.ensures.value ∙ c.if-is_full.false) in
     let few : length controls < 8 = omega (arith, known.few, room) in
-    step_more (0x1D ∷ words_bytes c.args.words) c.args.byte _ _ _ _ _ c.wait_for-in-128-to-255.ensures.more c.wait_for-in-128-to-255.ensures.place c.wait_for-in-128-to-255.ensures.phase refl (control_goes_on_word place w controls c.args.byte (order_allowed place 0x1D _ (omega arith) c.requires.begun) known few (omega arith) (omega arith))
+    step_more (0x1D ∷ words_bytes c.args.format c.args.self.now.controls) c.args.byte _ _ _ _ _ c.wait_for-in-128-to-255.ensures.more c.wait_for-in-128-to-255.ensures.place c.wait_for-in-128-to-255.ensures.begun refl (control_goes_on_word place w controls c.args.byte (order_allowed place 0x1D _ (omega arith) c.requires.begun) known few (omega arith) (omega arith))
 
 pub returns-in_default : goal.returns-in_default
 returns-in_default c =
-    let w = c.args.words.format in
-    let controls = c.args.words.controls.items in
+    let w = c.args.format in
+    let controls = c.args.self.now.controls in
     let parts = and_parts (nat_le 0x4000 w) (list_all is_control controls) c.requires.words in
     let format = leb-true 0x4000 w parts.0 in
     let no_attribute : (0x20 ≤ c.args.byte) × (c.args.byte < 0x40) → ⊥ = λ h. elim c.in_default.branch [

@@ -6,5 +6,5 @@ use Rattle.ws_stream.proofs.commands.Commands.length_high.Goals as goal
 
 pub returns : goal.returns
 returns c =
-    let found = length_begins c.args.self.now.place c.args.front c.args.attribute c.args.byte c.requires.front c.requires.attribute (omega arith) c.requires.begun in
-    step_more (0x1D ∷ front_bytes c.args.front ++ c.args.attribute ∷ []) c.args.byte _ _ _ _ _ c.wait_for.ensures.more c.wait_for.ensures.place c.wait_for.ensures.phase found.0 found.1
+    let found = length_begins c.args.self.now.place c.args.format c.args.self.now.controls c.args.attribute c.args.byte c.requires.front c.requires.attribute (omega arith) c.requires.begun in
+    step_more (0x1D ∷ front_bytes c.args.format c.args.self.now.controls ++ c.args.attribute ∷ []) c.args.byte _ _ _ _ _ c.wait_for.ensures.more c.wait_for.ensures.place c.wait_for.ensures.begun found.0 found.1

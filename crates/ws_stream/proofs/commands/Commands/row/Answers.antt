@@ -8,4 +8,4 @@ pub returns : goal.returns
 returns c =
     let o = c.args.order in
     let allowed = order_allowed c.args.self.now.place (order_byte o) [] (address_code o).no_command c.requires in
-    step_more (order_byte o ∷ []) c.args.byte _ _ _ _ _ c.wait_for.ensures.more c.wait_for.ensures.place c.wait_for.ensures.phase refl (row_goes_on _ o c.args.byte allowed (omega arith) (omega arith))
+    step_more (order_byte o ∷ []) c.args.byte _ _ _ _ _ c.wait_for.ensures.more c.wait_for.ensures.place c.wait_for.ensures.begun refl (row_goes_on _ o c.args.byte allowed (omega arith) (omega arith))

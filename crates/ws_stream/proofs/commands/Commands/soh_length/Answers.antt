@@ -5,5 +5,5 @@ use Rattle.ws_stream.proofs.commands.Commands.soh_length.Goals as goal
 
 pub returns : goal.returns
 returns c =
-    let found = soh_counted c.args.self.now.place c.args.byte c.new-2.result.items c.requires (omega arith) c.if-byte-eq0.false c.new-2.ensures in
-    step_more (0x01 ∷ []) c.args.byte _ _ _ _ _ c.wait_for.ensures.more c.wait_for.ensures.place c.wait_for.ensures.phase found.0 found.1
+    let found = soh_counted c.args.self.now.place c.args.byte c.clear.new.self c.requires (omega arith) c.if-byte-eq0.false c.clear.ensures in
+    step_more (0x01 ∷ []) c.args.byte _ _ _ _ _ c.wait_for.ensures.more c.wait_for.ensures.place c.wait_for.ensures.begun found.0 found.1
