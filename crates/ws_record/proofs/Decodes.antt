@@ -133,7 +133,11 @@ module _ {Place U : Type 0} (rules : Rules Place U) where
     (bytes ++ take i piece) ++ get_or piece i 0 ∷ [],
     drop (i + 1) piece,
     sym (append_assoc (bytes ++ take i piece) (get_or piece i 0 ∷ []) (drop (i + 1) piece) ∙ append_assoc bytes (take i piece) (get_or piece i 0 ∷ drop (i + 1) piece) ∙ ap (λ x. bytes ++ x) (at_index piece i lt)),
-    items, item, t.leads.0, new.live.begun, t.leads.1.holds,
+    items,
+    item,
+    t.leads.0,
+    new.live.begun,
+    t.leads.1.holds,
   )
 
 -- What the loop over a source keeps: the bytes that it gave lead to the receiver, and are at most 4,096 a read.

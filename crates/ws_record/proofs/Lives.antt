@@ -99,7 +99,6 @@ pub refused_there : {Place U : Type 0} (rules : Rules Place U) (bytes : List ℕ
 refused_there rules bytes b place reason at r = subst (λ (p : ℕ). IsRefused rules (bytes ++ b ∷ []) p reason) (sym at) r
 
 module _ {Place U : Type 0} (rules : Rules Place U) (can : CanEnd rules) (law : SpellsBytes rules) where
-
   -- the end of the stream
   pub accepted : (live : Watching Place) (bytes : List ℕ) (items : List (Item U)) (so_far : RecordSoFar U) → Leads rules live bytes items so_far → live.begun ≡ [] → so_far ≡ no_record → Accepts rules bytes items
   accepted live bytes items so_far l e f =

@@ -10,6 +10,6 @@ returns-clause-unit g c = λ so_far r.
     let some : 0 < c.self.inside.left = omega (arith, c.if-self-eq0.false) in
     let found = c.in_ok-unit.ensures in (
       body_unit g.B.Code.rules g.met.B.Code.begins _ _ so_far c.args.byte c.in_ok-unit.unit reads (c.self.invariant.behind some) (omega arith) c.if-self-eq0.false
-      (subst (λ (x : List ℕ). IsSpelled g.B.Code.rules c.self.inside.units.place (x ++ c.args.byte ∷ []) c.in_ok-unit.unit) (sym found.0) found.1) refl refl (sym found.2) found.0,
+          (subst (λ (x : List ℕ). IsSpelled g.B.Code.rules c.self.inside.units.place (x ++ c.args.byte ∷ []) c.in_ok-unit.unit) (sym found.0) found.1) refl refl (sym found.2) found.0,
       found.0,
     )
