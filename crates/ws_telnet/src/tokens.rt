@@ -68,6 +68,7 @@ fn verb_of(byte: u8) -> Option<Verb>
 
 impl Tokens {
     // What follows an FF outside a subnegotiation.
+    #[inline(always)]
     fn after_iac(&mut self, byte: u8) -> Push<Token>
         ensures more { MatchPush result (IsUnfinished token_rules tt (0xff ∷ byte ∷ [])
             × (unfinished_of self.new ≡ 0xff ∷ byte ∷ [])) (λ _. Unit {0}) (λ _. Unit {0}) }
@@ -102,6 +103,7 @@ impl Tokens {
     }
 
     // What follows the option or the data of a subnegotiation.
+    #[inline(always)]
     fn after_content(&mut self, byte: u8) -> Push<Token>
         requires phase { self.old.phase ≡ Phase.Content }
         requires begun { IsUnfinished token_rules tt (unfinished_of self.old) }
@@ -128,6 +130,7 @@ impl Tokens {
     }
 
     // What follows an FF in a subnegotiation.
+    #[inline(always)]
     fn after_content_iac(&mut self, byte: u8) -> Push<Token>
         requires phase { self.old.phase ≡ Phase.ContentIac }
         requires begun { IsUnfinished token_rules tt (unfinished_of self.old) }
@@ -196,10 +199,12 @@ impl Code for Tokens {
         }
     }
 
+    #[inline(always)]
     fn restart(&mut self, _at: ()) {
         self.phase = Phase::Begin;
     }
 
+    #[inline(always)]
     fn single(_at: (), byte: u8) -> Option<Token> {
         if byte == 0xff {
             None
@@ -208,6 +213,7 @@ impl Code for Tokens {
         }
     }
 
+    #[inline(always)]
     fn push(&mut self, byte: u8) -> Push<Token> {
         match self.phase {
             Phase::Begin => {

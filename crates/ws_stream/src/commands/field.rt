@@ -10,6 +10,7 @@ use crate::{Element, FieldStart};
 use ws_code::{Ffw, Push, Reason, ShortList};
 
 impl Commands {
+    #[inline(always)]
     pub(super) fn field_first(&mut self, byte: u8) -> Push<Element>
         requires { IsUnfinished element_rules self.old.place (0x1D ∷ []) }
         ensures { IsStep self.old.place (0x1D ∷ []) byte
@@ -27,6 +28,7 @@ impl Commands {
         }
     }
 
+    #[inline(always)]
     pub(super) fn format_low(&mut self, high: u8, byte: u8) -> Push<Element>
         requires format { nat_le 0x40 high ≡ true }
         requires begun { IsUnfinished element_rules self.old.place (0x1D ∷ high ∷ []) }
@@ -43,6 +45,7 @@ impl Commands {
         }
     }
 
+    #[inline(always)]
     pub(super) fn field_next(&mut self, format: Ffw, byte: u8) -> Push<Element>
         requires words { are_words format self.old.controls ≡ true }
         requires begun { IsUnfinished element_rules self.old.place
@@ -62,6 +65,7 @@ impl Commands {
         }
     }
 
+    #[inline(always)]
     pub(super) fn control_low(&mut self, format: Ffw, high: u8, byte: u8) -> Push<Element>
         requires phase { self.old.phase ≡ Phase.ControlLow format high }
         requires words { are_words format self.old.controls ≡ true }
@@ -76,6 +80,7 @@ impl Commands {
         self.wait_for(Phase::FieldNext(format))
     }
 
+    #[inline(always)]
     pub(super) fn length_high(
         &mut self,
         format: Option<Ffw>,
@@ -93,6 +98,7 @@ impl Commands {
         self.wait_for(Phase::LengthLow(format, attribute, byte))
     }
 
+    #[inline(always)]
     pub(super) fn length_low(
         &mut self,
         format: Option<Ffw>,

@@ -9,6 +9,7 @@ use crate::{Element, EraseList, SohBytes};
 use ws_code::{Address, DataByte, Push, Reason, ShortList};
 
 impl Commands {
+    #[inline(always)]
     pub(super) fn soh_length(&mut self, byte: u8) -> Push<Element>
         requires { IsUnfinished element_rules self.old.place (0x01 ∷ []) }
         ensures { IsStep self.old.place (0x01 ∷ []) byte
@@ -24,6 +25,7 @@ impl Commands {
         self.wait_for(Phase::SohByte(byte))
     }
 
+    #[inline(always)]
     pub(super) fn soh_byte(&mut self, count: u8, byte: u8) -> Push<Element>
         requires phase { self.old.phase ≡ Phase.SohByte count }
         requires begun { IsUnfinished element_rules self.old.place
@@ -42,6 +44,7 @@ impl Commands {
         Push::More
     }
 
+    #[inline(always)]
     pub(super) fn row(&mut self, order: Order, byte: u8) -> Push<Element>
         requires { IsUnfinished element_rules self.old.place (order_byte order ∷ []) }
         ensures { IsStep self.old.place (order_byte order ∷ []) byte
@@ -53,6 +56,7 @@ impl Commands {
         self.wait_for(Phase::Column(order, byte))
     }
 
+    #[inline(always)]
     pub(super) fn column(&mut self, order: Order, row: u8, byte: u8) -> Push<Element>
         requires { IsUnfinished element_rules self.old.place (order_byte order ∷ row ∷ []) }
         ensures { IsStep self.old.place (order_byte order ∷ row ∷ []) byte
@@ -71,6 +75,7 @@ impl Commands {
         }
     }
 
+    #[inline(always)]
     pub(super) fn repeat_byte(&mut self, to: Address, byte: u8) -> Push<Element>
         requires { IsUnfinished element_rules self.old.place (0x02 ∷ row_and_column to) }
         ensures { IsStep self.old.place (0x02 ∷ row_and_column to) byte
@@ -82,6 +87,7 @@ impl Commands {
         }
     }
 
+    #[inline(always)]
     pub(super) fn erase_length(&mut self, to: Address, byte: u8) -> Push<Element>
         requires { IsUnfinished element_rules self.old.place (0x03 ∷ row_and_column to) }
         ensures { IsStep self.old.place (0x03 ∷ row_and_column to) byte
@@ -94,6 +100,7 @@ impl Commands {
         self.wait_for(Phase::EraseKind(to, byte - 1))
     }
 
+    #[inline(always)]
     pub(super) fn erase_kind(&mut self, to: Address, count: u8, byte: u8) -> Push<Element>
         requires phase { self.old.phase ≡ Phase.EraseKind to count }
         requires begun { IsUnfinished element_rules self.old.place
