@@ -92,15 +92,16 @@ const PLAYED: [Row; 13] = [
     ),
 ];
 
-fn play<'a>(screen: bool) -> Asked<'a> {
-    Asked::Play { file: None, screen }
-}
-
 #[test]
 fn played(rt: HostRuntime) -> Result<(), Fail> {
     for (name, script, screen, wanted) in PLAYED {
         let mut sink = VecSink::new(rt.alloc());
-        let outcome = answer(rt.alloc(), play(screen), script.as_bytes(), &mut sink);
+        let outcome = answer(
+            rt.alloc(),
+            Asked::Play { file: None, screen },
+            script.as_bytes(),
+            &mut sink,
+        );
         assert_eq!(rt; status(&outcome), 0, "{name}");
         assert_eq!(rt; sink.as_slice(), wanted.as_bytes(), "{name}");
     }
@@ -122,7 +123,15 @@ fn byte_by_byte(rt: HostRuntime) -> Result<(), Fail> {
         }
     }
     let mut sink = VecSink::new(rt.alloc());
-    let outcome = answer(rt.alloc(), play(false), script.as_bytes(), &mut sink);
+    let outcome = answer(
+        rt.alloc(),
+        Asked::Play {
+            file: None,
+            screen: false,
+        },
+        script.as_bytes(),
+        &mut sink,
+    );
     assert_eq!(rt; outcome, Ok(true));
     assert_eq!(rt; sink.as_slice(), PLAYED[0].3.as_bytes());
     Ok(())
@@ -132,14 +141,30 @@ fn byte_by_byte(rt: HostRuntime) -> Result<(), Fail> {
 #[test]
 fn unplayed(rt: HostRuntime) -> Result<(), Fail> {
     let mut sink = VecSink::new(rt.alloc());
-    let outcome = answer(rt.alloc(), play(true), b"settle\nhello\n", &mut sink);
+    let outcome = answer(
+        rt.alloc(),
+        Asked::Play {
+            file: None,
+            screen: true,
+        },
+        b"settle\nhello\n",
+        &mut sink,
+    );
     assert_eq!(rt; outcome, Err(RunFault::Line(2)));
     assert_eq!(rt; status(&outcome), 2);
     assert!(rt; sink.as_slice().is_empty());
     let line = format!(in rt.alloc(); "{fault}", fault = RunFault::Line(2))?;
     assert_eq!(rt; line.as_str(), "script line 2");
     let mut sink = FailingSink::new(rt.alloc(), 30);
-    let outcome = answer(rt.alloc(), play(true), PLAYED[0].1.as_bytes(), &mut sink);
+    let outcome = answer(
+        rt.alloc(),
+        Asked::Play {
+            file: None,
+            screen: true,
+        },
+        PLAYED[0].1.as_bytes(),
+        &mut sink,
+    );
     assert_eq!(rt; outcome, Err(RunFault::Write));
     Ok(())
 }
