@@ -1,0 +1,48 @@
+use Rattle.std.specs.Prelude.{◌≡◌, ℕ, ◌<◌, ◌≤◌, List, length, take}
+use Rattle.ws_code.specs.declared.fault.Fault.{Fault}
+use Rattle.ws_code.specs.declared.fault.Fault.TheVariants.{Truncated, Read, Write}
+use Rattle.ws_code.specs.Device.{MayTake, MayGive, WentOut, FailedWithin, Gave, GaveAll, ReadFailed}
+
+-- A piece of a stream over a connection: its bytes go into the connection's one end, and as many are read from the
+-- other. A read gives some byte, or else it is the last; so there are no more reads than the piece has bytes.
+
+module _ {S R : Type 0} (takes : MayTake S) (failures : S → ℕ) (sink sink' : S) (gives : MayGive R) (misses : R → ℕ) (source source' : R) where
+  -- all the bytes went out, and these are what the source gave next
+  pub record IsCarried (bytes given : List ℕ) : Type 0 where
+    pub wrote : WentOut takes failures sink sink' bytes
+    pub reads : ℕ
+    pub gave : Gave gives misses source source' reads given
+    pub few : reads ≤ length given
+
+  -- a write failed, and nothing was read
+  pub record IsUnwritten (bytes : List ℕ) : Type 0 where
+    pub failed : FailedWithin takes failures sink sink' bytes
+    pub unread : source' ≡ source
+
+  -- all the bytes went out, and the source gave its end behind so many bytes, which are too few and stand at the slice's front
+  pub record IsCutShort (bytes slice : List ℕ) (at : ℕ) : Type 0 where
+    pub wrote : WentOut takes failures sink sink' bytes
+    pub given : List ℕ
+    pub counted : at ≡ length given
+    pub fewer : at < length bytes
+    pub at_front : take at slice ≡ given
+    pub gave : GaveAll gives misses source source' given
+    pub few : gave.count ≤ at
+
+  -- all the bytes went out, and a read failed behind too few bytes, which stand at the slice's front
+  pub record IsUnread (bytes slice : List ℕ) : Type 0 where
+    pub wrote : WentOut takes failures sink sink' bytes
+    pub given : List ℕ
+    pub at : ℕ
+    pub counted : at ≡ length given
+    pub fewer : at < length bytes
+    pub at_front : take at slice ≡ given
+    pub failed : ReadFailed gives misses source source' given
+    pub few : failed.count ≤ at
+
+  -- why a piece isn't carried; the slice is what was read into
+  abbrev pub IsCarryFault : List ℕ → List ℕ → Fault → Type 0
+  IsCarryFault bytes slice Write = IsUnwritten bytes
+  IsCarryFault bytes slice Read = IsUnread bytes slice
+  IsCarryFault bytes slice (Truncated at) = IsCutShort bytes slice at
+  IsCarryFault bytes slice fault = ⊥
