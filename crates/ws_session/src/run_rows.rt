@@ -1,9 +1,12 @@
 // Runs of a station over devices.
 use crate::end_rows::{BOB, BOB_ANSWER, OPENED, OPENING, key, record};
 use crate::{Station, run_station};
+use arrayvec::ArrayVec;
 use std::test::Fail;
-use ws_code::{FailingSink, FailingSource, Fault, Reason, SliceSource, StuckSink, VecSink};
-use ws_keys::Key;
+use ws_code::{
+    FailingSink, FailingSource, Fault, Reason, SliceSource, StuckSink, VecSink, WriteSink,
+};
+use ws_keys::{Answer, Key};
 use ws_nego::TerminalType;
 
 // The opening and a record, with B, O, B, Enter behind it.
@@ -86,4 +89,43 @@ fn a_run_tells_where_it_stops(rt: HostRuntime) -> Result<(), Fail> {
         assert_eq!(rt; stopped, Some(fault));
     }
     Ok(())
+}
+
+// Nothing here takes memory, so that all is the same where every growth is refused.
+#[test]
+fn bob_without_memory(rt: HostRuntime) {
+    let mut stream: ArrayVec<u8, 52> = ArrayVec::new();
+    let head = b"\x00\x1d\x12\xa0\x00\x00\x04\x00\x00\x03".as_slice();
+    for part in [OPENING, head, BOB, b"\xff\xef"] {
+        assert!(rt; stream.try_extend_from_slice(part).is_ok());
+    }
+    let keys = [b'B', b'O', b'B', b'e'].map(|letter| (1u32, key(&rt, letter)));
+    let mut source = SliceSource::new(stream.as_slice());
+    let mut sink = WriteSink::new(ArrayVec::<u8, 52>::new());
+    let station = Station::new(TerminalType::Ibm3179Model2);
+    match run_station(station, &mut source, &mut sink, &keys) {
+        Ok(played) => assert_eq!(rt; played.keys_refused, 0),
+        Err(_) => panic!(rt; "played"),
+    }
+    let written = sink.into_inner();
+    assert_eq!(rt; written.as_slice().get(..31), Some(OPENED));
+    assert_eq!(rt; written.as_slice().get(31..), Some(BOB_ANSWER));
+    // The same by bytes and keys.
+    let mut station = Station::new(TerminalType::Ibm3179Model2);
+    let mut replies: ArrayVec<u8, 31> = ArrayVec::new();
+    for byte in stream.as_slice() {
+        let reply = station.push(*byte).expect(&rt, "a byte");
+        assert!(rt; replies.try_extend_from_slice(reply.as_slice()).is_ok());
+    }
+    assert_eq!(rt; replies.as_slice(), OPENED);
+    for letter in [b'B', b'O', b'B'] {
+        assert!(rt; matches!(station.key(key(&rt, letter)), Ok(None)));
+    }
+    match station.key(key(&rt, b'e')) {
+        Ok(Some(Answer::Read(body))) => assert_eq!(rt;
+            Some(body.as_slice()),
+            BOB_ANSWER.get(10..19)
+        ),
+        _ => panic!(rt; "an answer"),
+    }
 }

@@ -65,6 +65,35 @@ fn station_opening(rt: HostRuntime) -> Result<(), Fail> {
     Ok(())
 }
 
+// Option commands over and over: what is refused is refused each time, what is in effect isn't acknowledged again, and
+// what changes each time is answered each time (RFC 854, "GENERAL CONSIDERATIONS").
+#[test]
+fn floods_are_answered(rt: HostRuntime) -> Result<(), Fail> {
+    let alloc = rt.alloc();
+    for (taken, first, later) in [
+        (
+            b"\xff\xfd\x27".as_slice(),
+            b"\xff\xfc\x27".as_slice(),
+            b"\xff\xfc\x27".as_slice(),
+        ),
+        (b"\xff\xfd\x00", b"\xff\xfb\x00", b""),
+        (
+            b"\xff\xfd\x00\xff\xfe\x00",
+            b"\xff\xfb\x00\xff\xfc\x00",
+            b"\xff\xfb\x00\xff\xfc\x00",
+        ),
+    ] {
+        let mut station = Station::new(TerminalType::Ibm3179Model2);
+        let reply = push_all(&rt, alloc, &mut station, taken)?;
+        assert_eq!(rt; reply.as_slice(), first);
+        for _ in 1..10_000u16 {
+            let reply = push_all(&rt, alloc, &mut station, taken)?;
+            assert_eq!(rt; reply.as_slice(), later);
+        }
+    }
+    Ok(())
+}
+
 #[test]
 fn stations_refuse_records(rt: HostRuntime) -> Result<(), Fail> {
     let alloc = rt.alloc();
