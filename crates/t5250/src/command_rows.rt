@@ -1,115 +1,13 @@
 use crate::item_text::item_text;
+use crate::vectors::{INVITE, PUT_FF, REFUSED_BODIES, Side, VECTORS};
 use std::alloc::{AllocError, Global};
 use std::test::Fail;
 use ws_code::{Fault, SliceSource};
 use ws_record::{Fed, Item, Live, Receiver, Step, decode_all, decode_from};
 use ws_stream::{Commands, Element};
 
-type Row<'a> = (&'a str, &'a [u8], &'a str);
-
-const REFUSED: [Row; 23] = [
-    (
-        "query",
-        b"\x00\x11\x12\xa0\x00\x00\x04\x00\x00\x03\x04\xf3\x00\x05\xd9\x70\x00\xff\xef",
-        "refused at 11: 30",
-    ),
-    ("header-too-early, length", b"\x00\x09", "refused at 1: 10"),
-    ("header-too-early, end", b"\xff\xef", "refused at 1: 16"),
-    (
-        "one-byte-short",
-        b"\x00\x0b\x12\xa0\x00\x00\x04\x00\x00\x03\xff\xef",
-        "refused at 11: 16",
-    ),
-    (
-        "one-byte-long",
-        b"\x00\x0a\x12\xa0\x00\x00\x04\x00\x00\x00\xff\xff",
-        "refused at 11: 15",
-    ),
-    ("bad-tokens, command", b"\xff\x00", "refused at 1: 1"),
-    ("bad-tokens, stray end", b"\xff\xf0", "refused at 1: 2"),
-    (
-        "bad-tokens, subnegotiation",
-        b"\xff\xfa\x18\xff\x01",
-        "refused at 4: 3",
-    ),
-    (
-        "bad-address, column 81",
-        b"\x00\x11\x12\xa0\x00\x00\x04\x00\x00\x03\x04\x11\x00\x00\x11\x18\x51\xff\xef",
-        "refused at 16: 24",
-    ),
-    (
-        "bad-address, row 0",
-        b"\x00\x11\x12\xa0\x00\x00\x04\x00\x00\x03\x04\x11\x00\x00\x11\x00",
-        "refused at 15: 24",
-    ),
-    (
-        "field-cut-short, end",
-        b"\x00\x16\x12\xa0\x00\x00\x04\x00\x00\x03\x04\x11\x00\x00\x1d\x40\x00\x80\x01\x80\x02\xff\xef",
-        "refused at 22: 16",
-    ),
-    (
-        "field-cut-short, length",
-        b"\x00\x15\x12\xa0\x00\x00\x04\x00\x00\x03\x04\x11\x00\x00\x1d\x40\x00\x80\x01\x80\x02\xff\xef",
-        "refused at 22: 44",
-    ),
-    (
-        "field-cut-short, control word",
-        b"\x00\x30\x12\xa0\x00\x00\x04\x00\x00\x03\x04\x11\x00\x00\x1d\x40\x00\x80\x01\x80\x02\x80\x03\x80\x04\x80\x05\x80\x06\x80\x07\x80\x08\x80",
-        "refused at 33: 41",
-    ),
-    (
-        "immediate-still-refused",
-        b"\x00\x0e\x12\xa0\x00\x00\x04\x00\x00\x03\x04\x72\x00\x00\xff\xef",
-        "refused at 11: 36",
-    ),
-    (
-        "resequencing",
-        b"\x00\x20\x12\xa0\x00\x00\x04\x00\x00\x03\x04\x11\x00\x00\x01\x03\x00\x00\x01",
-        "refused at 18: 26",
-    ),
-    (
-        "erase-list",
-        b"\x00\x20\x12\xa0\x00\x00\x04\x00\x00\x03\x04\x11\x00\x00\x03\x01\x01\x01",
-        "refused at 17: 27",
-    ),
-    (
-        "left-out-shift, 7",
-        b"\x00\x20\x12\xa0\x00\x00\x04\x00\x00\x03\x04\x11\x00\x00\x1d\x47",
-        "truncated at 16",
-    ),
-    (
-        "left-out-shift, 4",
-        b"\x00\x20\x12\xa0\x00\x00\x04\x00\x00\x03\x04\x11\x00\x00\x1d\x44",
-        "refused at 15: 42",
-    ),
-    (
-        "left-out-shift, 6",
-        b"\x00\x20\x12\xa0\x00\x00\x04\x00\x00\x03\x04\x11\x00\x00\x1d\x46",
-        "refused at 15: 42",
-    ),
-    (
-        "repeat-of-an-order",
-        b"\x00\x20\x12\xa0\x00\x00\x04\x00\x00\x03\x04\x11\x00\x00\x02\x01\x05\x11",
-        "refused at 17: 28",
-    ),
-    (
-        "no-escape",
-        b"\x00\x0b\x12\xa0\x00\x00\x04\x00\x00\x03\x40\xff\xef",
-        "refused at 10: 20",
-    ),
-    (
-        "header-too-early, three bytes",
-        b"\x00\x0a\x12",
-        "truncated at 3",
-    ),
-    ("header-too-early, half a pair", b"\xff", "truncated at 1"),
-];
-
 // A row, its bytes, the places of its items' last bytes, and the items as they are shown.
 type Accepted<'a> = (&'a str, &'a [u8], &'a [u64], &'a str);
-
-pub const PUT_FF: &[u8] =
-    b"\x00\x0f\x12\xa0\x00\x00\x04\x00\x00\x03\x04\x11\x00\x08\xff\xff\xff\xef";
 
 pub const PUT_FF_SHOWN: &str = "at 17 record flags 0000 opcode 3\n  WRITE 00 08\n  PUT FF\n";
 
@@ -123,7 +21,7 @@ const ACCEPTED: [Accepted; 9] = [
     ),
     (
         "invite",
-        b"\x00\x0a\x12\xa0\x00\x00\x04\x00\x00\x01\xff\xef",
+        INVITE,
         &[11],
         "at 11 record flags 0000 opcode 1\n",
     ),
@@ -237,35 +135,31 @@ fn commands_decode(rt: HostRuntime) -> Result<(), Fail> {
         hear(alloc, &mut receiver, 0, bytes, &mut text)?;
         assert_eq!(rt; text.as_str(), *wanted, "{row} by a receiver");
     }
-    for (row, bytes, wanted) in &REFUSED {
-        let found = told(alloc, decode_all::<Commands>(alloc, bytes), &[])?;
-        assert_eq!(rt; found.as_str(), *wanted, "{row}");
-    }
     Ok(())
 }
 
-// The first refusal of the bytes one by one, which comes at the place that it names.
-fn first_refusal(alloc: Global, bytes: &[u8]) -> Result<String, AllocError> {
+// The fault of a stream that is pushed byte by byte. A refusal comes with the byte that it names, and is the last
+// step that says anything.
+fn live_fault(bytes: &[u8]) -> Option<Fault> {
     let mut live = Live::<Commands>::new();
     for (at, byte) in bytes.iter().enumerate() {
         if let Step::Refused { place, reason } = live.push(*byte) {
             if place != at as u64 || !matches!(live.push(0), Step::Failed) {
-                return format!(in alloc; "late");
+                return Some(Fault::Failed);
             }
-            return fault_told(alloc, Fault::Refused { place, reason });
+            return Some(Fault::Refused { place, reason });
         }
     }
-    match live.finish() {
-        Ok(()) => format!(in alloc; "accepted"),
-        Err(fault) => fault_told(alloc, fault),
-    }
+    live.finish().err()
 }
 
 #[test]
 fn live_refusals(rt: HostRuntime) -> Result<(), Fail> {
-    for (row, bytes, wanted) in &REFUSED {
-        let found = first_refusal(rt.alloc(), bytes)?;
-        assert_eq!(rt; found.as_str(), *wanted, "{row}");
+    for vector in VECTORS.iter().chain(REFUSED_BODIES.iter()) {
+        if vector.side == Side::FromHost {
+            let name = vector.name;
+            assert_eq!(rt; live_fault(vector.bytes), vector.outcome.err(), "{name}");
+        }
     }
     let mut receiver = Receiver::<Commands>::new(rt.alloc());
     let query = b"\x00\x11\x12\xa0\x00\x00\x04\x00\x00\x03\x04\xf3";
@@ -273,34 +167,6 @@ fn live_refusals(rt: HostRuntime) -> Result<(), Fail> {
         matches!(receiver.feed(query), Err(Fault::Refused { place: 11, .. })),
         "feed-query"
     );
-    Ok(())
-}
-
-// `bad-tokens`: a subnegotiation with as many bytes as there may be, and with one too many.
-#[test]
-fn longest_subnegotiation(rt: HostRuntime) -> Result<(), Fail> {
-    let alloc = rt.alloc();
-    for (tail, wanted) in [
-        (b"\x41".as_slice(), "refused at 67: 4"),
-        (b"\xff\xff", "refused at 68: 4"),
-        (b"\xff\xf0", "accepted"),
-    ] {
-        let mut bytes = vec![in alloc; 0x41; 67]?;
-        bytes[0] = 0xff;
-        bytes[1] = 0xfa;
-        bytes[2] = 0x18;
-        bytes.extend_from_slice(tail)?;
-        let found = first_refusal(alloc, bytes.as_slice())?;
-        assert_eq!(rt; found.as_str(), wanted);
-        match decode_all::<Commands>(alloc, bytes.as_slice()) {
-            Ok(items) => {
-                let text = told(alloc, Ok(items), &[68])?;
-                assert!(rt; text.as_str().starts_with("at 68 telnet SB 24 4141"));
-                assert_eq!(rt; text.len(), 148);
-            }
-            Err(fault) => assert_eq!(rt; fault_told(alloc, fault)?.as_str(), wanted),
-        }
-    }
     Ok(())
 }
 

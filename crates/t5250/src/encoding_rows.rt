@@ -1,4 +1,5 @@
-use crate::command_rows::{PUT_FF, PUT_FF_SHOWN, told};
+use crate::command_rows::{PUT_FF_SHOWN, told};
+use crate::vectors::{LENGTH_255, PUT_FF};
 use std::alloc::{AllocError, Global};
 use std::test::Fail;
 use ws_code::{DataByte, List, VecSink};
@@ -78,18 +79,7 @@ fn encoded_and_read_back(rt: HostRuntime) -> Result<(), Fail> {
 #[test]
 fn length_255(rt: HostRuntime) -> Result<(), Fail> {
     let alloc = rt.alloc();
-    let mut bytes = Vec::new(alloc);
-    bytes.extend_from_slice(b"\x00\xff\xff\x12\xa0\x00\x00\x04\x00\x00\x03\x04\x11\x00\x00")?;
-    for _ in 0..241 {
-        bytes.push(0x40)?;
-    }
-    bytes.extend_from_slice(b"\xff\xef")?;
-    assert_eq!(rt; bytes.len(), 258);
-    let found = told(
-        alloc,
-        decode_all::<Commands>(alloc, bytes.as_slice()),
-        &[257],
-    )?;
+    let found = told(alloc, decode_all::<Commands>(alloc, LENGTH_255), &[257])?;
     let items = puts(alloc, 0, DataByte::new(0x40).ok_or("40")?, 241)?;
     let wanted = told(alloc, Ok(items), &[257])?;
     assert_eq!(rt; found.as_str(), wanted.as_str());

@@ -14,9 +14,13 @@ mod element_text;
 mod encoding_rows;
 mod fault;
 mod hex_text;
+#[cfg(test)]
+mod hostile_rows;
 mod input;
 mod item_text;
 mod key_name;
+#[cfg(test)]
+mod memory_rows;
 mod output;
 mod play;
 #[cfg(test)]
@@ -37,6 +41,8 @@ mod size_rows;
 #[cfg(test)]
 mod tests;
 mod text;
+#[cfg(test)]
+mod vectors;
 mod verdict;
 
 use crate::command_line::{given_words, read_words};
