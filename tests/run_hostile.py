@@ -18,6 +18,9 @@ CRATE = os.path.join(os.path.dirname(os.path.abspath(__file__)), "..", "crates",
 PROGRAM = os.path.abspath(os.path.join(CRATE, "out", "t5250"))
 VECTORS = os.path.join(CRATE, "src", "vectors.rt")
 
+# What a host sends, and what a station does.
+SIDES = [[], ["--answers"]]
+
 ACCEPTED = re.compile(r"accepted: \d+ records, \d+ commands, (\d+) bytes\n")
 REFUSED = re.compile(r"refused at (\d+): reason (\d+) [A-Za-z]+\n")
 TRUNCATED = re.compile(r"truncated at (\d+)\n")
@@ -48,19 +51,23 @@ def changed(chance, stream):
             return stream[:at]
 
 
-def streams(seed, count):
-    chance = random.Random(seed)
-    whole = [vector for vector in vectors() if vector]
-    for _ in range(count):
-        stream = b"".join(chance.choice(whole) for _ in range(chance.randrange(1, 4)))
-        for _ in range(chance.randrange(4)):
-            stream = changed(chance, stream)
-        yield stream
-
-
 def run(words, stream):
     done = subprocess.run([PROGRAM, *words], input=stream.hex(), capture_output=True, text=True, timeout=60)
     return done.returncode, done.stdout, done.stderr
+
+
+# Mostly streams that one side may send, one behind another, with few changes.
+def streams(seed, count):
+    chance = random.Random(seed)
+    known = [vector for vector in vectors() if vector]
+    sides = [[vector for vector in known if run(["check", *side], vector)[0] == 0] for side in SIDES]
+    for _ in range(count):
+        whole = chance.choice(sides)
+        parts = (chance.choice(whole if chance.randrange(8) else known) for _ in range(chance.randrange(1, 4)))
+        stream = b"".join(parts)
+        for _ in range(chance.randrange(3)):
+            stream = changed(chance, stream)
+        yield stream
 
 
 # Whether it is a verdict on so many bytes, with its status.
@@ -90,7 +97,7 @@ def is_shown(verdict, shown):
 
 # What doesn't hold of a stream.
 def faults(stream):
-    for side in [], ["--answers"]:
+    for side in SIDES:
         verdict = run(["check", *side], stream)
         if verdict[2] != "" or not is_verdict(*verdict[:2], len(stream)):
             yield f"check {side} gave {verdict}"

@@ -3,7 +3,7 @@
 use crate::vectors::{INVITE, LENGTH_255, REFUSED_BODIES, Side, VECTORS, Vector};
 use std::alloc::{AllocError, Global};
 use std::test::Fail;
-use ws_code::{Body, Fault, List, Reason};
+use ws_code::{Body, Code, Fault, List, Reason};
 use ws_record::{Item, Live, Receiver, Record, Step, decode_all, encode};
 use ws_stream::{Answers, Commands};
 use ws_telnet::{CommandCode, Telnet};
@@ -51,14 +51,15 @@ fn watched<B: Body>(alloc: Global, bytes: &[u8]) -> Result<Vec<Item<B::Unit>>, F
     Ok(items)
 }
 
-// Whether these items are so many, and are spelled by these bytes, which spell no others.
-fn are_spelled<B: Body>(
-    alloc: Global,
-    items: &[Item<B::Unit>],
-    count: usize,
-    bytes: &[u8],
-) -> bool {
-    match encode::<B>(alloc, items) {
+// What a decoder has found: the items of a stream, or its fault.
+type Found<B> = Result<Vec<Item<<B as Code>::Unit>>, Fault>;
+
+// Whether so many items were found, and are spelled by these bytes, which spell no others.
+fn are_spelled<B: Body>(alloc: Global, found: &Found<B>, count: usize, bytes: &[u8]) -> bool {
+    let Ok(items) = found else {
+        return false;
+    };
+    match encode::<B>(alloc, items.as_slice()) {
         Ok(spelling) => items.len() == count && spelling.as_slice() == bytes,
         Err(_) => false,
     }
@@ -67,24 +68,23 @@ fn are_spelled<B: Body>(
 // What all decoders say of the bytes: how many items they are, or the fault. None where two differ, or where the
 // items don't come back from their encoding.
 fn answer<B: Body>(alloc: Global, bytes: &[u8]) -> Option<Result<usize, Fault>> {
-    let whole = decode_all::<B>(alloc, bytes);
     let in_bytes = fed::<B>(alloc, bytes);
     let in_steps = watched::<B>(alloc, bytes);
-    match (whole, in_bytes, in_steps) {
-        (Ok(items), Ok(second), Ok(third)) => {
+    match decode_all::<B>(alloc, bytes) {
+        Ok(items) => {
             let count = items.len();
             let spelling = encode::<B>(alloc, items.as_slice()).ok()?;
-            let back = decode_all::<B>(alloc, spelling.as_slice()).ok()?;
             let spelled = spelling.as_slice();
-            let same = are_spelled::<B>(alloc, second.as_slice(), count, spelled)
-                && are_spelled::<B>(alloc, third.as_slice(), count, spelled)
-                && are_spelled::<B>(alloc, back.as_slice(), count, spelled);
+            let back = decode_all::<B>(alloc, spelled);
+            let same = are_spelled::<B>(alloc, &in_bytes, count, spelled)
+                && are_spelled::<B>(alloc, &in_steps, count, spelled)
+                && are_spelled::<B>(alloc, &back, count, spelled);
             same.then_some(Ok(count))
         }
-        (Err(fault), Err(second), Err(third)) if fault == second && fault == third => Some(Err(
-            fault,
-        )),
-        _ => None,
+        Err(fault) => {
+            let same = in_bytes.err() == Some(fault) && in_steps.err() == Some(fault);
+            same.then_some(Err(fault))
+        }
     }
 }
 

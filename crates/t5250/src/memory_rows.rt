@@ -7,7 +7,7 @@ use crate::script::{ScriptFault, read_script};
 use crate::show::show_to;
 use crate::vectors::{BOB, BOB_ANSWER, INVITE};
 use arrayvec::ArrayVec;
-use std::alloc::Global;
+use std::alloc::{AllocError, Global};
 use std::process::Abort;
 use ws_code::{Address, Aid, DataByte, Fault, Ffw, List, SliceSource, VecSink, WriteSink};
 use ws_keys::{HostAnswer, HostFault, Key};
@@ -190,38 +190,44 @@ fn host_end_within_memory(rt: HostRuntime) {
     push_within(&rt, &mut host);
 }
 
-// An opening, a form and a key; a list of moves is none of the calls under test.
+// An opening, `bob`'s form and Enter.
+fn moves(rt: &impl Abort, alloc: Global) -> Result<Vec<Move>, AllocError> {
+    let mut moves = Vec::new(alloc);
+    for _delivery in 0..3u8 {
+        moves.push(Move::ToStation(usize::MAX))?;
+        moves.push(Move::ToHost(usize::MAX))?;
+    }
+    let mut body = Vec::new(alloc);
+    for element in form(rt) {
+        body.push(element)?;
+    }
+    moves.push(Move::Send(Opcode::PutGet, List::of(body)))?;
+    moves.push(Move::ToStation(usize::MAX))?;
+    let enter = Aid::from_byte(0xf1).expect(rt, "a key");
+    moves.push(Move::Key(Key::Aid(enter)))?;
+    moves.push(Move::ToHost(usize::MAX))?;
+    Ok(moves)
+}
+
+// The host end was ready, and was then answered without any field.
+fn are_answered(events: &[Event]) -> bool {
+    match events {
+        [
+            Event::Host(HostEvent::Ready(_)),
+            Event::Host(HostEvent::Answer(answer)),
+        ] => { answer.fields.as_slice().is_empty() }
+        _ => false,
+    }
+}
+
+// To make the list of moves is none of the calls under test.
 #[test]
 fn world_within_memory(rt: HostRuntime) {
-    let alloc = rt.alloc();
-    let mut body = Vec::new(alloc);
-    for element in form(&rt) {
-        if body.push(element).is_err() {
-            return;
-        }
-    }
-    let moves = [
-        Move::ToStation(usize::MAX),
-        Move::ToHost(usize::MAX),
-        Move::ToStation(usize::MAX),
-        Move::ToHost(usize::MAX),
-        Move::ToStation(usize::MAX),
-        Move::ToHost(usize::MAX),
-        Move::Send(Opcode::PutGet, List::of(body)),
-        Move::ToStation(usize::MAX),
-        Move::Key(Key::Aid(Aid::from_byte(0xf1).expect(&rt, "a key"))),
-        Move::ToHost(usize::MAX),
-    ];
-    match World::run(alloc, TerminalType::default(), &moves) {
-        Ok(report) => match report.events.as_slice() {
-            [
-                Event::Host(HostEvent::Ready(_)),
-                Event::Host(HostEvent::Answer(answer)),
-            ] => {
-                assert!(rt; answer.fields.as_slice().is_empty());
-            }
-            _ => panic!(rt; "an answer"),
-        },
+    let Ok(moves) = moves(&rt, rt.alloc()) else {
+        return;
+    };
+    match World::run(rt.alloc(), TerminalType::default(), moves.as_slice()) {
+        Ok(report) => assert!(rt; are_answered(report.events.as_slice())),
         Err(fault) => assert_eq!(rt; fault, Fault::Memory),
     }
 }
