@@ -95,12 +95,11 @@ fn answer_from(side: Side, alloc: Global, bytes: &[u8]) -> Option<Result<usize, 
     }
 }
 
-// What the first so many bytes of a stream come to, which is refused no later than it is whole.
+// What the first so many bytes of a stream come to, where they aren't the whole of it.
 fn outcome_of_front(vector: &Vector, count: usize) -> Result<usize, Fault> {
     let at = count as u64;
     match vector.outcome {
         _ if count == 0 => Ok(0),
-        outcome if count == vector.bytes.len() => outcome,
         Err(Fault::Refused { place, reason }) if place < at => Err(Fault::Refused {
             place,
             reason,
@@ -109,21 +108,19 @@ fn outcome_of_front(vector: &Vector, count: usize) -> Result<usize, Fault> {
     }
 }
 
-// Each front of each stream: cut inside a token or a record it is truncated where it ends, unless a byte of it is
-// refused.
+// Each stream, and each front of it: cut inside a token or a record it is truncated where it ends, unless a byte of it
+// is refused.
 #[test]
 fn truncation(rt: HostRuntime) {
     for vector in VECTORS.iter().chain(REFUSED_BODIES.iter()) {
-        for count in 0..=vector.bytes.len() {
+        let name = vector.name;
+        for count in 0..vector.bytes.len() {
             let found = answer_from(vector.side, rt.alloc(), &vector.bytes[..count]);
             let wanted = Some(outcome_of_front(vector, count));
-            assert_eq!(rt;
-                found,
-                wanted,
-                "{count} bytes of {name}",
-                name = vector.name
-            );
+            assert_eq!(rt; found, wanted, "{count} bytes of {name}");
         }
+        let found = answer_from(vector.side, rt.alloc(), vector.bytes);
+        assert_eq!(rt; found, Some(vector.outcome), "{name}");
     }
 }
 
@@ -155,7 +152,8 @@ fn difference(alloc: Global, vector: &Vector) -> Result<Option<(usize, u8)>, All
     Ok(None)
 }
 
-// Each byte of each stream with each value. `length-255` has a test of its own, since it takes longest.
+// Each byte of each stream with each value. `length-255` has a test of its own, since it takes longest: with `rt try`
+// minutes, for which `--seconds` has to be raised.
 #[test]
 fn change(rt: HostRuntime) -> Result<(), Fail> {
     for vector in &VECTORS {
