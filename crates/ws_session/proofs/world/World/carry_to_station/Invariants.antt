@@ -1,0 +1,19 @@
+use Rattle.std.proofs.Common.{◌≡◌, ◌+◌, ℕ, List}
+use Rattle.ws_nego.specs.declared.terminal.TerminalType.{TerminalType}
+use Rattle.ws_session.specs.Crossings.{Crossing, AreFaithful, Crossed}
+use Rattle.ws_session.specs.Runs.{Runs}
+use Rattle.ws_session.specs.World.{World, bytes_to_station}
+use Rattle.ws_session.proofs.world.World.carry_to_station.Given as goal
+
+abbrev pub decreases-loop-left : goal.decreases-loop-left
+decreases-loop-left g l = l.left
+
+-- some pieces have crossed, which hold as many bytes as aren't left
+abbrev pub invariant-loop-left : goal.invariant-loop-left
+invariant-loop-left g l = record {
+  gone : ℕ;
+  all : gone + l.left ≡ l.fn.count;
+  crossings : List Crossing;
+  crossed : Crossed g.S.Sink.takes g.S.Sink.failures g.R.Source.gives g.R.Source.failures l.fn.line crossings l.line;
+  runs : AreFaithful crossings → (t : TerminalType) (w : World) → Runs t l.fn.self w → Runs t l.self (bytes_to_station gone w);
+}

@@ -1,0 +1,60 @@
+use Rattle.std.proofs.Common.{List, [], ◌++◌, take, inl, refl, sym, subst}
+use Rattle.std.proofs.lemmas.List.{take_all}
+use Rattle.std.proofs.lemmas.Result.{err_from_is_err_and, IfErr-weaker}
+use Rattle.ws_session.specs.declared.world.Move.{Move}
+use Rattle.ws_session.specs.Runs.{Runs}
+use Rattle.ws_session.specs.World.{new_world, after_moves}
+use Rattle.ws_screen.proofs.Applies.{longer_by}
+use Rattle.ws_session.proofs.Lines.{crossed_on, either_behind, faithful_front, faithful_back}
+use Rattle.ws_session.proofs.WorldSteps.{more_moves, weaker_ok}
+use Rattle.ws_session.proofs.world.World.run_carried.Goals as goal
+
+pub loop-step-init : goal.loop-step-init
+loop-step-init g c = record {
+  downs = [];
+  ups = [];
+  went_down = refl;
+  went_up = refl;
+  runs = λ f h. c.in_ok-world.ensures.new;
+}
+
+pub loop-step-preserved : goal.loop-step-preserved
+loop-step-preserved g c =
+    let t = c.args.terminal in
+    let moves = c.args.moves.now in
+    let n = c.loop-step.step-index in
+    let i = c.loop-step.invariant in
+    let q = c.in_ok-take_carried.ensures.taken in
+    let longer = longer_by moves n c.step-item.result c.loop-step-test.true c.step-item.is in
+    record {
+      downs = i.downs ++ q.0;
+      ups = i.ups ++ q.1;
+      went_down = crossed_on g.S.Sink.takes g.S.Sink.failures g.R.Source.gives g.R.Source.failures c.args.down.now c.loop-step.down c.take_carried.new.down i.downs q.0 i.went_down q.2;
+      went_up = crossed_on g.T.Sink.takes g.T.Sink.failures g.Q.Source.gives g.Q.Source.failures c.args.up.now c.loop-step.up c.take_carried.new.up i.ups q.1 i.went_up q.3;
+      runs = λ f h.
+          subst (λ (z : List Move). Runs t c.take_carried.new.self (after_moves (new_world t) z)) (sym longer)
+          (subst (Runs t c.take_carried.new.self) (sym (more_moves (take n moves) c.step-item.result (new_world t)))
+          (q.4 (faithful_back i.downs q.0 f) (faithful_back i.ups q.1 h) t (after_moves (new_world t) (take n moves)) (i.runs (faithful_front i.downs q.0 f) (faithful_front i.ups q.1 h))));
+    }
+
+pub returns-in_err-take_carried-clause-fault : goal.returns-in_err-take_carried-clause-fault
+returns-in_err-take_carried-clause-fault g c =
+    let i = c.loop-step.invariant in
+    let p = err_from_is_err_and c.from_residual-in_err-take_carried.result c.from_residual-in_err-take_carried.ensures.1 in
+    rw (p.1, p.2) (either_behind g.S.Sink.takes g.S.Sink.failures g.R.Source.gives g.R.Source.failures g.T.Sink.takes g.T.Sink.failures g.Q.Source.gives g.Q.Source.failures c.args.down.now c.loop-step.down c.take_carried.new.down i.downs c.args.up.now c.loop-step.up c.take_carried.new.up i.ups _ i.went_down i.went_up c.in_err-take_carried.ensures.fault)
+
+pub returns-clause-done : goal.returns-clause-done
+returns-clause-done g c =
+    let t = c.args.terminal in
+    let moves = c.args.moves.now in
+    let i = c.loop-step.invariant in
+    weaker_ok c.report.result _ _ (λ r q. (
+      i.downs,
+      i.ups,
+      i.went_down,
+      i.went_up,
+      (λ f h. q t (after_moves (new_world t) moves) (subst (λ (z : List Move). Runs t c.loop-step.world (after_moves (new_world t) z)) (take_all c.loop-step.step-index moves c.loop-step-test.false) (i.runs f h))),
+    )) c.report.ensures.reported
+
+pub returns-clause-fault : goal.returns-clause-fault
+returns-clause-fault g c = IfErr-weaker c.report.result _ _ (λ fault m. inl m) c.report.ensures.fault

@@ -1,0 +1,175 @@
+//! A session whose bytes go over a connection.
+ghost use Rattle.std.specs.Prelude.{◌≡◌, ◌≤◌, ◌+◌, ◌⊎◌, ◌∷◌, [], List as Seq, length, vec_len, IfOk, IfErr, OnOk};
+ghost use Rattle.ws_nego.specs.declared.terminal.TerminalType.{TerminalType as ATerminal};
+ghost use Rattle.ws_session.specs.Crossings.{Crossing, AreFaithful, Crossed, IsStopped, written_over};
+ghost use Rattle.ws_session.specs.Reports.{IsReport};
+ghost use Rattle.ws_session.specs.Runs.{Runs};
+ghost use Rattle.ws_session.specs.World as spec;
+ghost use Rattle.ws_session.specs.World.{World as AWorld, new_world, after_move, after_moves};
+
+use super::{Move, Report, World};
+use crate::{Line, carry};
+use std::alloc::Global;
+use ws_code::{Fault, Sink, Source};
+use ws_nego::TerminalType;
+
+// The most bytes that are written before they are read.
+const PIECE: usize = 4096;
+
+impl World {
+    /// Runs a session as `run` does, but what arrives goes over two lines: in pieces of at most 4,096 bytes, each of
+    /// which is written and read before the next. Bytes in flight wait in memory until a move delivers them. An end
+    /// takes what was read, whatever was written, and may refuse it.
+    ///
+    /// # Errors
+    ///
+    /// `Write`, `Read` or `Truncated` as `carry` answers them, of the first piece that doesn't cross. `Memory` where a
+    /// growth was refused.
+    pub fn run_carried<S: Sink, R: Source, T: Sink, Q: Source>(
+        alloc: Global,
+        terminal: TerminalType,
+        moves: &[Move],
+        down: &mut Line<S, R>,
+        up: &mut Line<T, Q>,
+    ) -> Result<Report, Fault>
+        // Pieces crossed the lines. Where what was read is what was written, the session is that of `run`.
+        ensures done { IfOk result (λ r. (downs ups : Seq Crossing)
+            × Crossed S.takes S.failures R.gives R.failures down.old downs down.new
+            × Crossed T.takes T.failures Q.gives Q.failures up.old ups up.new
+            × (AreFaithful downs → AreFaithful ups → IsReport r.events r.station r.host
+            r.to_station r.to_host (after_moves (new_world terminal) moves.now))) }
+        ensures fault { IfErr result (λ fault. (fault ≡ Fault.Memory)
+            ⊎ (IsStopped S.takes S.failures R.gives R.failures down.old down.new fault
+            ⊎ IsStopped T.takes T.failures Q.gives Q.failures up.old up.new fault)) }
+    {
+        let mut world = World::new(alloc, terminal)?;
+        for step in moves {
+            world.take_carried(step, down, up)?;
+        }
+        world.report()
+    }
+
+    fn take_carried<S: Sink, R: Source, T: Sink, Q: Source>(
+        &mut self,
+        step: &Move,
+        down: &mut Line<S, R>,
+        up: &mut Line<T, Q>,
+    ) -> Result<(), Fault>
+        ensures taken { OnOk result ((downs ups : Seq Crossing)
+            × Crossed S.takes S.failures R.gives R.failures down.old downs down.new
+            × Crossed T.takes T.failures Q.gives Q.failures up.old ups up.new
+            × (AreFaithful downs → AreFaithful ups → (t : ATerminal) (w : AWorld)
+            → Runs t self.old w → Runs t self.new (after_move w step.now))) }
+        ensures fault { IfErr result (λ fault. (fault ≡ Fault.Memory)
+            ⊎ (IsStopped S.takes S.failures R.gives R.failures down.old down.new fault
+            ⊎ IsStopped T.takes T.failures Q.gives Q.failures up.old up.new fault)) }
+    {
+        match step {
+            Move::ToStation(count) => self.carry_to_station(down, *count),
+            Move::ToHost(count) => self.carry_to_host(up, *count),
+            _ => self.take(step),
+        }
+    }
+
+    fn carry_to_station<S: Sink, R: Source>(
+        &mut self,
+        line: &mut Line<S, R>,
+        count: usize,
+    ) -> Result<(), Fault>
+        ensures came { OnOk result ((crossings : Seq Crossing)
+            × Crossed S.takes S.failures R.gives R.failures line.old crossings line.new
+            × (AreFaithful crossings → (t : ATerminal) (w : AWorld)
+            → Runs t self.old w → Runs t self.new (spec.bytes_to_station count w))) }
+        ensures fault { IfErr result (λ fault. (fault ≡ Fault.Memory)
+            ⊎ IsStopped S.takes S.failures R.gives R.failures line.old line.new fault) }
+    {
+        let mut left = count;
+        while left > 0 {
+            let piece = left.min(PIECE).min(self.down.len() - self.at_station);
+            if piece == 0 {
+                return Ok(());
+            }
+            self.piece_to_station(line, piece)?;
+            left -= piece;
+        }
+        Ok(())
+    }
+
+    // So many of the bytes in flight go over the line. What is read takes their place, and arrives.
+    fn piece_to_station<S: Sink, R: Source>(
+        &mut self,
+        line: &mut Line<S, R>,
+        piece: usize,
+    ) -> Result<(), Fault>
+        requires some { self.old.at_station + piece ≤ length self.old.down }
+        requires small { piece ≤ 4096 }
+        ensures came { OnOk result ((crossing : Crossing)
+            × Crossed S.takes S.failures R.gives R.failures line.old (crossing ∷ []) line.new
+            × (crossing.read ≡ crossing.sent → (t : ATerminal) (w : AWorld)
+            → Runs t self.old w → Runs t self.new (spec.bytes_to_station piece w))) }
+        ensures fault { IfErr result (λ fault. (fault ≡ Fault.Memory)
+            ⊎ IsStopped S.takes S.failures R.gives R.failures line.old line.new fault) }
+    {
+        let mut taken = [0u8; PIECE];
+        let read = &mut taken[..piece];
+        let waiting = &self.down[self.at_station..self.at_station + piece];
+        carry(waiting, &mut line.sink, &mut line.source, read)?;
+        write_over(&mut self.down, self.at_station, read);
+        self.bytes_to_station(piece)
+    }
+
+    fn carry_to_host<S: Sink, R: Source>(
+        &mut self,
+        line: &mut Line<S, R>,
+        count: usize,
+    ) -> Result<(), Fault>
+        ensures came { OnOk result ((crossings : Seq Crossing)
+            × Crossed S.takes S.failures R.gives R.failures line.old crossings line.new
+            × (AreFaithful crossings → (t : ATerminal) (w : AWorld)
+            → Runs t self.old w → Runs t self.new (spec.bytes_to_host count w))) }
+        ensures fault { IfErr result (λ fault. (fault ≡ Fault.Memory)
+            ⊎ IsStopped S.takes S.failures R.gives R.failures line.old line.new fault) }
+    {
+        let mut left = count;
+        while left > 0 {
+            let piece = left.min(PIECE).min(self.up.len() - self.at_host);
+            if piece == 0 {
+                return Ok(());
+            }
+            self.piece_to_host(line, piece)?;
+            left -= piece;
+        }
+        Ok(())
+    }
+
+    // The same at the host end.
+    fn piece_to_host<S: Sink, R: Source>(
+        &mut self,
+        line: &mut Line<S, R>,
+        piece: usize,
+    ) -> Result<(), Fault>
+        requires some { self.old.at_host + piece ≤ length self.old.up }
+        requires small { piece ≤ 4096 }
+        ensures came { OnOk result ((crossing : Crossing)
+            × Crossed S.takes S.failures R.gives R.failures line.old (crossing ∷ []) line.new
+            × (crossing.read ≡ crossing.sent → (t : ATerminal) (w : AWorld)
+            → Runs t self.old w → Runs t self.new (spec.bytes_to_host piece w))) }
+        ensures fault { IfErr result (λ fault. (fault ≡ Fault.Memory)
+            ⊎ IsStopped S.takes S.failures R.gives R.failures line.old line.new fault) }
+    {
+        let mut taken = [0u8; PIECE];
+        let read = &mut taken[..piece];
+        let waiting = &self.up[self.at_host..self.at_host + piece];
+        carry(waiting, &mut line.sink, &mut line.source, read)?;
+        write_over(&mut self.up, self.at_host, read);
+        self.bytes_to_host(piece)
+    }
+}
+
+// Puts a piece in the place of as many bytes.
+fn write_over(bytes: &mut Vec<u8>, at: usize, piece: &[u8])
+    requires { at + length piece.now ≤ vec_len bytes.old }
+    ensures { bytes.new.items ≡ written_over bytes.old.items at piece.now }
+{
+    bytes[at..at + piece.len()].copy_from_slice(piece);
+}
