@@ -1,4 +1,4 @@
-ghost use Rattle.std.specs.Prelude.{◌≡◌, ◌≢◌, ◌++◌, ◌∷◌, ◌<◌, [], List, ℕ, IfSome};
+ghost use Rattle.std.specs.Prelude.{◌≡◌, ◌≢◌, ◌++◌, ◌∷◌, ◌<◌, [], List, ℕ, true, false, IfSome};
 ghost use Rattle.ws_code.specs.Code.{Rules, Stands, IsSpelled, IsPrefix, IsUnfinished, IsPrefixFree, AreBytes};
 ghost use Rattle.ws_code.specs.Push.{MatchPush};
 
@@ -58,6 +58,19 @@ pub trait Code: Drop {
             × (rules.after unit ≡ _at)) }
     {
         None
+    }
+
+    /// Takes a byte with which the bytes so far are still an unfinished spelling. `false` says nothing, and the byte
+    /// isn't taken: then `push` decides.
+    fn goes_on(&mut self, _byte: u8) -> bool
+        requires { IsUnfinished rules (place self.old) (unfinished self.old) }
+        ensures place { place self.new ≡ place self.old }
+        ensures taken { result ≡ true
+            → IsUnfinished rules (place self.old) (unfinished self.old ++ _byte ∷ [])
+            × (unfinished self.new ≡ unfinished self.old ++ _byte ∷ []) }
+        ensures left { result ≡ false → unfinished self.new ≡ unfinished self.old }
+    {
+        false
     }
 
     /// Takes a byte. After `Unit` or `Bad` a new machine is started, or this one is started anew.

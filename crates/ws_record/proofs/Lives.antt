@@ -26,6 +26,10 @@ one_more bytes b n e = omega (arith, length-append bytes (b ∷ []))
 pub plain_byte : (begun : List ℕ) (b : ℕ) → b < 256 → b ≢ 0xff → begun ≡ [] → IsSpelled token_rules tt (begun ++ b ∷ []) (Data b)
 plain_byte begun b fits ne e = rw e (record { stands = record { is_unit = fits; may_stand = refl }; spelled = doubled_plain b (ne_eqb b 0xff ne) })
 
+-- a second FF makes the data byte FF
+pub iac_pair : (begun : List ℕ) (b : ℕ) → b ≡ 0xff → begun ≡ 0xff ∷ [] → IsSpelled token_rules tt (begun ++ b ∷ []) (Data b)
+iac_pair begun b h e = rw (e, h) (record { stands = record { is_unit = omega arith; may_stand = refl }; spelled = refl })
+
 module _ {Place U : Type 0} (rules : Rules Place U) (can : CanEnd rules) (law : SpellsBytes rules) where
   leads : (live : Watching Place) (bytes : List ℕ) (items : List (Item U)) (so_far : RecordSoFar U) → live.taken ≡ length bytes → Holds rules bytes items so_far.bytes live.begun → Reads rules live.reader so_far → live.failed ≡ false → Leads rules live bytes items so_far
   leads live bytes items so_far count holds reads works = record {

@@ -1,10 +1,14 @@
-use Rattle.std.specs.Prelude.{◌≡◌, ℕ, ◌+◌, ◌<◌, ◌≤◌, List, [], ◌∷◌, ◌++◌, ◌⊎◌, Option, Some, None, length, take, drop}
+use Rattle.std.specs.Prelude.{◌≡◌, ℕ, ◌+◌, ◌<◌, ◌≤◌, List, [], ◌∷◌, ◌++◌, ◌⊎◌, true, Option, Some, None, Result, Ok, Err, length, take, drop}
 use Rattle.ws_code.specs.Code.{Rules, IsSpelled, IsCut}
 use Rattle.ws_telnet.specs.Token.{token_rules}
 use Rattle.ws_telnet.specs.declared.token.Token.{Token}
 use Rattle.ws_telnet.specs.declared.token.Token.TheVariants.{Data}
 use Rattle.ws_code.specs.declared.fault.Fault.{Fault}
 use Rattle.ws_code.specs.declared.fault.Fault.TheVariants.{Refused, Truncated, Memory}
+use Rattle.ws_code.specs.declared.fault.Fault.TheVariants as fault
+use Rattle.ws_record.specs.declared.receiver.Passing.{Passing}
+use Rattle.ws_record.specs.declared.receiver.Passing.TheVariants.{On, Failed}
+use Rattle.ws_record.specs.declared.receiver.Passing.TheVariants as passing
 use Rattle.ws_record.specs.declared.record.Head.{Head}
 use Rattle.ws_record.specs.declared.record.Item.{Item}
 use Rattle.ws_record.specs.Grammar.{Holds}
@@ -16,6 +20,22 @@ use Rattle.ws_record.specs.TokenStep.{Counts, Completes}
 pub record Receiving (Place U : Type 0) : Type 0 where
   pub live : Watching Place
   pub units : List U
+
+-- a fact where a receiver has failed at a byte
+abbrev pub OnStop : Passing → Type 0 → Type 0
+OnStop On P = Unit {0}
+OnStop passing.Token P = Unit {0}
+OnStop passing.Memory P = P
+OnStop (passing.Refused reason) P = P
+OnStop Failed P = P
+
+-- the answer to a byte with which no item is complete
+abbrev pub outcome_of : {U : Type 0} → ℕ → Passing → Result (Option (Item U)) Fault
+outcome_of place On = Ok None
+outcome_of place passing.Token = Ok None
+outcome_of place passing.Memory = Err Memory
+outcome_of place (passing.Refused reason) = Err (Refused place reason)
+outcome_of place Failed = Err fault.Failed
 
 -- an item, where there is one
 abbrev pub given : {U : Type 0} → Option (Item U) → List (Item U)
@@ -69,6 +89,25 @@ module _ {Place U : Type 0} where
   IsTakeFault rules bytes byte (Refused place reason) = (place ≡ length bytes) × IsRefused rules (bytes ++ byte ∷ []) place reason
   IsTakeFault rules bytes byte Memory = CompletesUnit rules bytes byte
   IsTakeFault rules bytes byte fault = ⊥
+
+  -- what a data byte, with which a token behind these bytes is complete, makes of the receiver
+  abbrev pub IsValuePass : Rules Place U → Receiving Place U → List ℕ → List (Item U) → ℕ → Passing → Type 0
+  IsValuePass rules new bytes items byte On = Taken rules new (bytes ++ byte ∷ []) items
+  IsValuePass rules new bytes items byte passing.Token = ⊥
+  IsValuePass rules new bytes items byte passing.Memory = CompletesUnit rules bytes byte
+  IsValuePass rules new bytes items byte (passing.Refused reason) = IsRefused rules (bytes ++ byte ∷ []) (length bytes) reason
+  IsValuePass rules new bytes items byte Failed = ⊥
+
+  -- what any byte behind these makes of it, where no item is complete with it; else the byte is counted, but not yet read
+  abbrev pub IsPass : Rules Place U → Receiving Place U → List ℕ → List (Item U) → ℕ → Passing → Type 0
+  IsPass rules new bytes items byte passing.Token = CountsTaken rules new bytes items
+  IsPass rules new bytes items byte passed = IsValuePass rules new bytes items byte passed
+
+  -- what a unit that is kept makes of it
+  abbrev pub IsKept : Receiving Place U → Receiving Place U → U → Passing → Type 0
+  IsKept old new unit On = new ≡ record old { units = old.units ++ unit ∷ [] }
+  IsKept old new unit passing.Memory = new.live.failed ≡ true
+  IsKept old new unit passed = ⊥
 
   -- a byte of the piece behind these is refused, or the growth for a unit of it was
   abbrev pub IsFeedFault : Rules Place U → List ℕ → List ℕ → Fault → Type 0

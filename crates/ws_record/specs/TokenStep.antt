@@ -4,8 +4,11 @@ use Rattle.ws_code.specs.declared.code.Push.{Push}
 use Rattle.ws_code.specs.declared.code.Push.TheVariants as push
 use Rattle.ws_telnet.specs.Token.{token_rules}
 use Rattle.ws_telnet.specs.declared.token.Token.{Token}
+use Rattle.ws_telnet.specs.declared.token.Token.TheVariants.{Data}
 use Rattle.ws_record.specs.declared.open_record.DataStep.{DataStep}
 use Rattle.ws_record.specs.declared.open_record.DataStep.TheVariants.{More, Open, Unit as Whole, Refused}
+use Rattle.ws_record.specs.declared.live.Reading.{Reading}
+use Rattle.ws_record.specs.declared.live.Reading.TheVariants as reading
 use Rattle.ws_record.specs.declared.record.Item.{Item}
 use Rattle.ws_record.specs.Grammar.{Holds}
 use Rattle.ws_record.specs.Refusal.{Layer, IsOpen, IsRefused}
@@ -33,6 +36,12 @@ pub record Completes {Place U : Type 0} (rules : Rules Place U) (live : Watching
   pub works : live.failed ≡ false
 
 module _ {Place U : Type 0} where
+  -- what the byte is to the tokens: a data byte of its own value, one that ends no token, or one that isn't read yet
+  abbrev pub IsReading : Rules Place U → Watching Place → Watching Place → List ℕ → List (Item U) → RecordSoFar U → ℕ → Reading → Type 0
+  IsReading rules old new bytes items so_far byte reading.Data = Completes rules new bytes items so_far old.begun byte (Data byte)
+  IsReading rules old new bytes items so_far byte reading.More = Leads rules new (bytes ++ byte ∷ []) items so_far
+  IsReading rules old new bytes items so_far byte reading.Other = new ≡ old
+
   -- what the byte makes of the unfinished token
   abbrev pub IsTokenStep : Rules Place U → Watching Place → Watching Place → List ℕ → List (Item U) → RecordSoFar U → ℕ → Push Token → Type 0
   IsTokenStep rules old new bytes items so_far byte push.More = Leads rules new (bytes ++ byte ∷ []) items so_far

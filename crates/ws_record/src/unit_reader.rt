@@ -75,6 +75,29 @@ impl<C: Code> UnitReader<C> {
         }
     }
 
+    /// The machine, which has the bytes of the unfinished unit.
+    #[inline(always)]
+    pub fn machine(&self) -> &C
+        ensures { C.unfinished result.now ≡ self.now.begun }
+    {
+        &self.machine
+    }
+
+    /// Takes a byte with which the unit is still unfinished; `false` says nothing, and the byte isn't taken.
+    #[inline(always)]
+    pub fn goes_on(&mut self, byte: u8) -> bool
+        ensures taken { result ≡ true
+            → IsUnfinished C.rules self.old.place (self.old.begun ++ byte ∷ [])
+            × (self.new ≡ record self.old { begun = self.old.begun ++ byte ∷ [] }) }
+        ensures left { result ≡ false → self.new ≡ self.old }
+    {
+        if self.machine.goes_on(byte) {
+            self.is_inside = true;
+            return true;
+        }
+        false
+    }
+
     /// Takes a byte. Behind `Bad` it stands where the refused unit began.
     #[inline(always)]
     pub fn push(&mut self, byte: u8) -> Push<C::Unit>

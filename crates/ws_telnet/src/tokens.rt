@@ -1,4 +1,4 @@
-ghost use Rattle.std.specs.Prelude.{◌≡◌, ◌≢◌, ◌++◌, ◌∷◌, ◌<◌, ◌≤◌, [], List, ℕ, ◌⊎◌, IfSome, IfNone};
+ghost use Rattle.std.specs.Prelude.{◌≡◌, ◌≢◌, ◌++◌, ◌∷◌, ◌<◌, ◌≤◌, [], List, ℕ, true, false, length, ◌⊎◌, IfSome, IfNone};
 ghost use Rattle.ws_telnet.specs.Token.{token_rules, token_reason, IsToken, command_byte, verb_byte};
 ghost use Rattle.ws_code.specs.Code.{IsSpelled, IsPrefix, IsUnfinished};
 ghost use Rattle.ws_code.specs.Push.{MatchPush};
@@ -67,6 +67,92 @@ fn verb_of(byte: u8) -> Option<Verb>
 }
 
 impl Tokens {
+    /// Whether the bytes so far are one FF, so that a second one makes the data byte FF (RFC 854).
+    #[inline(always)]
+    pub fn has_iac(&self) -> bool
+        ensures yes { result ≡ true → unfinished_of self.now ≡ 0xff ∷ [] }
+        ensures no { result ≡ false → unfinished_of self.now ≢ 0xff ∷ [] }
+    {
+        matches!(self.phase, Phase::Iac)
+    }
+
+    // An FF, an SB or a verb with more of its token behind it.
+    #[inline(always)]
+    fn command_goes_on(&mut self, byte: u8) -> bool
+        ensures taken { result ≡ true → IsUnfinished token_rules tt (0xff ∷ byte ∷ [])
+            × (unfinished_of self.new ≡ 0xff ∷ byte ∷ []) }
+        ensures left { result ≡ false → self.new ≡ self.old }
+        ensures no_sub { result ≡ false → byte ≢ 0xfa }
+        ensures no_verb { result ≡ false → (byte < 0xfb) ⊎ (0xfe < byte) }
+    {
+        if byte == SB {
+            self.phase = Phase::SubOption;
+            return true;
+        }
+        match verb_of(byte) {
+            Some(verb) => {
+                self.phase = Phase::Negotiation(verb);
+                true
+            }
+            None => false,
+        }
+    }
+
+    // The option of a subnegotiation, whose data follow.
+    #[inline(always)]
+    fn take_option(&mut self, option: u8)
+        ensures { unfinished_of self.new ≡ 0xff ∷ 0xfa ∷ option ∷ [] }
+    {
+        self.option = option;
+        self.content.clear();
+        self.phase = Phase::Content;
+    }
+
+    // A byte of a subnegotiation's data, or the first FF behind them. False where there is no room for it.
+    #[inline(always)]
+    fn content_goes_on(&mut self, byte: u8) -> bool
+        requires phase { self.old.phase ≡ Phase.Content }
+        requires begun { IsUnfinished token_rules tt (unfinished_of self.old) }
+        ensures taken { result ≡ true
+            → IsUnfinished token_rules tt (unfinished_of self.old ++ byte ∷ [])
+            × (unfinished_of self.new ≡ unfinished_of self.old ++ byte ∷ []) }
+        ensures left { result ≡ false → self.new ≡ self.old }
+        ensures no_iac { result ≡ false → byte ≢ 0xff }
+        ensures full { result ≡ false → length self.old.content.items ≡ 64 }
+    {
+        if byte == IAC {
+            self.phase = Phase::ContentIac;
+            return true;
+        }
+        if self.content.is_full() {
+            return false;
+        }
+        self.content.push(byte);
+        true
+    }
+
+    // The second FF of a pair in a subnegotiation's data. False at another byte, and where there is no room for it.
+    #[inline(always)]
+    fn pair_goes_on(&mut self, byte: u8) -> bool
+        requires phase { self.old.phase ≡ Phase.ContentIac }
+        requires begun { IsUnfinished token_rules tt (unfinished_of self.old) }
+        ensures taken { result ≡ true
+            → IsUnfinished token_rules tt (unfinished_of self.old ++ byte ∷ [])
+            × (unfinished_of self.new ≡ unfinished_of self.old ++ byte ∷ []) }
+        ensures left { result ≡ false → self.new ≡ self.old }
+        ensures full { result ≡ false → byte ≡ 0xff → length self.old.content.items ≡ 64 }
+    {
+        if byte != IAC {
+            return false;
+        }
+        if self.content.is_full() {
+            return false;
+        }
+        self.content.push(byte);
+        self.phase = Phase::Content;
+        true
+    }
+
     // What follows an FF outside a subnegotiation.
     #[inline(always)]
     fn after_iac(&mut self, byte: u8) -> Push<Token>
@@ -84,15 +170,10 @@ impl Tokens {
         if byte == EOR {
             return Push::Unit(Token::Eor);
         }
-        if byte == SB {
-            self.phase = Phase::SubOption;
-            return Push::More;
-        }
         if let Some(code) = command_of(byte) {
             return Push::Unit(Token::Telnet(Telnet::Command(code)));
         }
-        if let Some(verb) = verb_of(byte) {
-            self.phase = Phase::Negotiation(verb);
+        if self.command_goes_on(byte) {
             return Push::More;
         }
         if byte == SE {
@@ -118,14 +199,10 @@ impl Tokens {
             (λ reason. ¬ IsPrefix token_rules tt (unfinished_of self.old ++ byte ∷ [])
             × (reason ≡ token_reason (unfinished_of self.old) byte)) }
     {
-        if byte == IAC {
-            self.phase = Phase::ContentIac;
+        if self.content_goes_on(byte) {
             Push::More
-        } else if self.content.is_full() {
-            Push::Bad(Reason::SubTooLong)
         } else {
-            self.content.push(byte);
-            Push::More
+            Push::Bad(Reason::SubTooLong)
         }
     }
 
@@ -145,6 +222,9 @@ impl Tokens {
             (λ reason. ¬ IsPrefix token_rules tt (unfinished_of self.old ++ byte ∷ [])
             × (reason ≡ token_reason (unfinished_of self.old) byte)) }
     {
+        if self.pair_goes_on(byte) {
+            return Push::More;
+        }
         if byte == SE {
             let content = std::mem::replace(&mut self.content, ArrayVec::new());
             return Push::Unit(Token::Telnet(Telnet::Sub(Sub {
@@ -155,12 +235,7 @@ impl Tokens {
         if byte != IAC {
             return Push::Bad(Reason::BadSub);
         }
-        if self.content.is_full() {
-            return Push::Bad(Reason::SubTooLong);
-        }
-        self.content.push(byte);
-        self.phase = Phase::Content;
-        Push::More
+        Push::Bad(Reason::SubTooLong)
     }
 }
 
@@ -214,6 +289,27 @@ impl Code for Tokens {
     }
 
     #[inline(always)]
+    fn goes_on(&mut self, byte: u8) -> bool {
+        match self.phase {
+            Phase::Begin => {
+                if byte != IAC {
+                    return false;
+                }
+                self.phase = Phase::Iac;
+                true
+            }
+            Phase::Iac => self.command_goes_on(byte),
+            Phase::Negotiation(_verb) => false,
+            Phase::SubOption => {
+                self.take_option(byte);
+                true
+            }
+            Phase::Content => self.content_goes_on(byte),
+            Phase::ContentIac => self.pair_goes_on(byte),
+        }
+    }
+
+    #[inline(always)]
     fn push(&mut self, byte: u8) -> Push<Token> {
         match self.phase {
             Phase::Begin => {
@@ -227,9 +323,7 @@ impl Code for Tokens {
             Phase::Iac => self.after_iac(byte),
             Phase::Negotiation(verb) => Push::Unit(Token::Telnet(Telnet::Option(verb, byte))),
             Phase::SubOption => {
-                self.option = byte;
-                self.content.clear();
-                self.phase = Phase::Content;
+                self.take_option(byte);
                 Push::More
             }
             Phase::Content => self.after_content(byte),

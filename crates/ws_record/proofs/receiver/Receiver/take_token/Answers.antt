@@ -1,10 +1,10 @@
-use Rattle.std.proofs.Common.{◌++◌, ◌∷◌, [], refl, sym, subst}
-use Rattle.std.proofs.lemmas.Result.{err_from_is_err_and}
+use Rattle.std.proofs.Common.{List, ℕ, ◌++◌, ◌∷◌, [], refl, sym, subst}
 use Rattle.ws_telnet.specs.declared.token.Token.{Token}
+use Rattle.ws_record.specs.declared.record.Item.{Item}
 use Rattle.ws_record.specs.TokenStep.{Completes}
 use Rattle.ws_record.specs.Receiver.{Receiving, CountsTaken}
 use Rattle.ws_record.proofs.Lives.{command_step, refused_there}
-use Rattle.ws_record.proofs.Receivers.{taken_none, taken_record}
+use Rattle.ws_record.proofs.Receivers.{taken_none, taken_record, outcome_taken, outcome_fault, outcome_stops}
 use Rattle.ws_record.proofs.receiver.Receiver.take_token.Goals as goal
 
 pub returns-in-More-clause-taken : goal.returns-in-More-clause-taken
@@ -17,17 +17,18 @@ returns-in-Bad-clause-fault g c = λ bytes items t at.
     let t' = subst (λ (k : Receiving g.row.B-Place.Denot g.row.B-Unit.Denot). CountsTaken g.B.Code.rules k bytes items) (sym c.self.view_is) t in
     (at, refused_there g.B.Code.rules bytes c.args.byte c.args.place c.in-Bad.reason at (c.in-Bad.ensures.token bytes items (record { bytes = t'.so_far; head = t'.head; units = c.self.inside.units.items }) t'.counts))
 
-pub returns-in_err-take_value-in-Unit-Data-clause-fault : goal.returns-in_err-take_value-in-Unit-Data-clause-fault
-returns-in_err-take_value-in-Unit-Data-clause-fault g c =
-    let p = err_from_is_err_and c.from_residual.result c.from_residual.ensures.1 in
-    rw (p.1, p.2) (λ bytes items t at.
+pub returns-in-Unit-Data-clause-taken : goal.returns-in-Unit-Data-clause-taken
+returns-in-Unit-Data-clause-taken g c = rw c.outcome.ensures (outcome_taken g.B.Code.rules _ c.args.byte c.args.place c.take_value-passing.result (λ (bytes : List ℕ) (items : List (Item g.row.B-Unit.Denot)). CountsTaken g.B.Code.rules c.args.self.now bytes items) (λ bytes items t.
     (let t' = subst (λ (k : Receiving g.row.B-Place.Denot g.row.B-Unit.Denot). CountsTaken g.B.Code.rules k bytes items) (sym c.self.view_is) t in
-    c.in_err-take_value-in-Unit-Data.ensures.fault bytes items c.self.inside.live.begun c.args.byte (record { so_far = t'.so_far; head = t'.head; completes = subst (λ (x : Token). Completes g.B.Code.rules c.read_token.new.self bytes items (record { bytes = t'.so_far; head = t'.head; units = c.self.inside.units.items }) c.self.inside.live.begun c.args.byte x) c.in-Unit-Data.field-0-is (c.in-Unit-Data.ensures.token bytes items (record { bytes = t'.so_far; head = t'.head; units = c.self.inside.units.items }) t'.counts) }) at))
+    c.take_value-passing.ensures.pass bytes items c.self.inside.live.begun c.args.byte (record { so_far = t'.so_far; head = t'.head; completes = subst (λ (x : Token). Completes g.B.Code.rules c.read_token.new.self bytes items (record { bytes = t'.so_far; head = t'.head; units = c.self.inside.units.items }) c.self.inside.live.begun c.args.byte x) c.in-Unit-Data.field-0-is (c.in-Unit-Data.ensures.token bytes items (record { bytes = t'.so_far; head = t'.head; units = c.self.inside.units.items }) t'.counts) }))))
 
-pub returns-in_ok-take_value-in-Unit-Data-clause-taken : goal.returns-in_ok-take_value-in-Unit-Data-clause-taken
-returns-in_ok-take_value-in-Unit-Data-clause-taken g c = λ bytes items t at.
-    let t' = subst (λ (k : Receiving g.row.B-Place.Denot g.row.B-Unit.Denot). CountsTaken g.B.Code.rules k bytes items) (sym c.self.view_is) t in
-    taken_none g.B.Code.rules _ (bytes ++ c.args.byte ∷ []) items (c.in_ok-take_value-in-Unit-Data.ensures.taken bytes items c.self.inside.live.begun c.args.byte (record { so_far = t'.so_far; head = t'.head; completes = subst (λ (x : Token). Completes g.B.Code.rules c.read_token.new.self bytes items (record { bytes = t'.so_far; head = t'.head; units = c.self.inside.units.items }) c.self.inside.live.begun c.args.byte x) c.in-Unit-Data.field-0-is (c.in-Unit-Data.ensures.token bytes items (record { bytes = t'.so_far; head = t'.head; units = c.self.inside.units.items }) t'.counts) }))
+pub returns-in-Unit-Data-clause-fault : goal.returns-in-Unit-Data-clause-fault
+returns-in-Unit-Data-clause-fault g c = rw c.outcome.ensures (outcome_fault g.B.Code.rules _ c.args.byte c.args.place c.take_value-passing.result (λ (bytes : List ℕ) (items : List (Item g.row.B-Unit.Denot)). CountsTaken g.B.Code.rules c.args.self.now bytes items) (λ bytes items t.
+    (let t' = subst (λ (k : Receiving g.row.B-Place.Denot g.row.B-Unit.Denot). CountsTaken g.B.Code.rules k bytes items) (sym c.self.view_is) t in
+    c.take_value-passing.ensures.pass bytes items c.self.inside.live.begun c.args.byte (record { so_far = t'.so_far; head = t'.head; completes = subst (λ (x : Token). Completes g.B.Code.rules c.read_token.new.self bytes items (record { bytes = t'.so_far; head = t'.head; units = c.self.inside.units.items }) c.self.inside.live.begun c.args.byte x) c.in-Unit-Data.field-0-is (c.in-Unit-Data.ensures.token bytes items (record { bytes = t'.so_far; head = t'.head; units = c.self.inside.units.items }) t'.counts) }))))
+
+pub returns-in-Unit-Data-clause-after : goal.returns-in-Unit-Data-clause-after
+returns-in-Unit-Data-clause-after g c = rw c.outcome.ensures (outcome_stops _ c.args.place c.take_value-passing.result _ c.take_value-passing.ensures.after)
 
 pub returns-in-Unit-Telnet-clause-taken : goal.returns-in-Unit-Telnet-clause-taken
 returns-in-Unit-Telnet-clause-taken g c = λ bytes items t at.

@@ -6,4 +6,4 @@ pub returns-then-byte-eq-IAC-clause-more : goal.returns-then-byte-eq-IAC-clause-
 returns-then-byte-eq-IAC-clause-more c = rw (c.in-Begin.is, c.if-byte-eq-IAC.true) (iac_goes_on, refl, refl)
 
 pub returns-in-SubOption-clause-more : goal.returns-in-SubOption-clause-more
-returns-in-SubOption-clause-more c = rw (c.in-SubOption.is, c.clear.ensures) (sub_option c.args.byte (omega arith), refl, refl)
+returns-in-SubOption-clause-more c = rw (c.in-SubOption.is, c.take_option.ensures) (sub_option c.args.byte (omega arith), refl, refl)
