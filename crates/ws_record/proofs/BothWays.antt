@@ -1,4 +1,4 @@
-use Rattle.std.proofs.Common.{◌≡◌, ◌<◌, ◌⊎◌, ℕ, List, ◌++◌, Result, Ok, Err, IfOk, IfErr, MatchResult, inl, inr, length, refl, sym, ap, ◌∙◌, subst}
+use Rattle.std.proofs.Common.{◌≡◌, ◌<◌, ◌⊎◌, ℕ, List, ◌++◌, Result, Ok, Err, IfOk, IfErr, MatchResult, length, sym, ap, ◌∙◌, subst}
 use Rattle.ws_code.specs.Code.{Rules, IsPrefixFree}
 use Rattle.ws_code.specs.Device.{most_reads, list_gives, GaveAll}
 use Rattle.ws_code.specs.declared.fault.Fault.{Fault}

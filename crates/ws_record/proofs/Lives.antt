@@ -15,7 +15,7 @@ use Rattle.ws_record.specs.OpenRecord.{RecordSoFar, no_record, Keeping, Reads, I
 use Rattle.ws_record.specs.DataStep.{record_of, IsWholeRecord}
 use Rattle.ws_record.specs.Live.{Watching, Leads}
 use Rattle.ws_record.specs.TokenStep.{Counts, Completes}
-use Rattle.ws_telnet.specs.TokenLaws.{token_begins, doubled_plain}
+use Rattle.ws_telnet.specs.TokenLaws.{doubled_plain}
 use Rattle.ws_record.proofs.Steps.{holds_nothing, holds_more, holds_data, holds_command, holds_record}
 use Rattle.ws_record.proofs.Refusals.{SpellsBytes, all_open, refuse_token, refuse_data, refuse_end, truncated}
 

@@ -1,4 +1,4 @@
-use Rattle.std.proofs.Common.{◌≡◌, ℕ, List, ◌∷◌, [], refl, sym, ap, ◌∙◌, subst}
+use Rattle.std.proofs.Common.{◌≡◌, ◌∷◌, [], refl, sym, ap, ◌∙◌, subst}
 use Rattle.ws_telnet.specs.declared.token.Token.TheVariants.{Data}
 use Rattle.ws_record.specs.Live.{Watching}
 use Rattle.ws_record.specs.TokenStep.{Counts}

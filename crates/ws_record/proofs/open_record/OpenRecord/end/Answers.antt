@@ -1,5 +1,5 @@
-use Rattle.std.proofs.Common.{Bool, ◌≡◌, ℕ, List, length, true, false, refl, sym, ap, ◌∙◌, subst, arith}
-use Rattle.std.specs.Prelude.{slice_index, not}
+use Rattle.std.proofs.Common.{Bool, ◌≡◌, ℕ, List, true, false, sym, ap, ◌∙◌, subst, arith}
+use Rattle.std.specs.Prelude.{slice_index}
 use Rattle.ws_record.specs.HeaderSoFar.{head_in}
 use Rattle.ws_record.specs.OpenRecord.{Keeping, Reads}
 use Rattle.ws_record.specs.UnitReading.{UnitReading}

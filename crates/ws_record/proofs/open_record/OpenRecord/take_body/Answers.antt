@@ -1,6 +1,4 @@
-use Rattle.std.proofs.Common.{◌≡◌, ◌∷◌, ◌++◌, ◌<◌, [], length, refl, sym, ap, ◌∙◌, subst, arith}
-use Rattle.ws_record.specs.declared.open_record.DataStep.{DataStep}
-use Rattle.ws_record.specs.DataStep.{IsDataStep}
+use Rattle.std.proofs.Common.{◌≡◌, ◌<◌, length, refl, sym, ap, subst, arith}
 use Rattle.ws_record.specs.OpenRecord.{Keeping, Reads}
 use Rattle.ws_record.specs.UnitReading.{UnitReading}
 use Rattle.ws_record.proofs.OpenRecords.{body_more, body_unit, body_bad, data_step_is}

@@ -1,4 +1,4 @@
-use Rattle.std.proofs.Common.{◌++◌, ◌∷◌, [], sym, subst}
+use Rattle.std.proofs.Common.{sym, subst}
 use Rattle.ws_record.specs.Live.{Watching}
 use Rattle.ws_record.specs.TokenStep.{Counts}
 use Rattle.ws_record.specs.Receiver.{Receiving, Taken}

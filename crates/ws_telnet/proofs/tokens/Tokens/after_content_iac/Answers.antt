@@ -1,4 +1,4 @@
-use Rattle.std.proofs.Common.{◌≡◌, ◌∷◌, [], length, refl, arith, ne_eqb}
+use Rattle.std.proofs.Common.{◌≡◌, ◌∷◌, [], length, refl, ne_eqb}
 use Rattle.ws_telnet.proofs.Unfinished.{sub_so_far, IsSubSoFar, sub_full_pair, sub_bad, content_odd, sub_whole}
 use Rattle.ws_telnet.proofs.tokens.Tokens.after_content_iac.Goals as goal
 

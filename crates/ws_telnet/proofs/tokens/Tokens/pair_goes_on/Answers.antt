@@ -1,4 +1,4 @@
-use Rattle.std.proofs.Common.{◌≡◌, ◌≢◌, ◌++◌, ◌∷◌, [], ℕ, List, ◌≤◌, length, refl, sym, ap, subst, ◌∙◌, arith, eqb-true, length-append}
+use Rattle.std.proofs.Common.{◌≢◌, ◌++◌, ◌∷◌, [], ℕ, List, ◌≤◌, length, sym, ap, subst, ◌∙◌, arith, eqb-true, length-append}
 use Rattle.std.proofs.lemmas.Bool.{eqb-false}
 use Rattle.ws_code.specs.Code.{IsUnfinished, AreBytes}
 use Rattle.ws_telnet.specs.Token.{token_rules}
