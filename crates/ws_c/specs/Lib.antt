@@ -1,0 +1,4 @@
+pub mod Owned
+pub mod Calls
+pub mod Decoding
+pub mod Keys

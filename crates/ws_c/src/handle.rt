@@ -1,0 +1,58 @@
+//! What C holds of a machine.
+ghost use Rattle.std.specs.Prelude.{◌≡◌, Some, None, is_some, IfSome, IfNone};
+
+use crate::Machine;
+use crate::loose::Loose;
+use crate::owned::Owned;
+use std::alloc::Global;
+use std::mem::replace;
+
+/// A handle: C makes it of zero bytes, and gives it to calls alone.
+#[repr(C)]
+#[derive(Drop)]
+pub struct Handle {
+    /// What it holds.
+    pub owned: Owned,
+    /// Whether it holds something.
+    pub is_open: bool,
+    pub ghost agrees: { is_some owned.value ≡ is_open },
+}
+
+impl Handle {
+    /// A handle that holds nothing.
+    pub fn empty(alloc: Global) -> Self
+        ensures { result.owned.value ≡ None }
+    {
+        let owned = Owned::empty(alloc);
+        Handle {
+            owned,
+            is_open: false,
+        }
+    }
+
+    /// Takes out what it holds.
+    pub fn take(&mut self, alloc: Global) -> Option<Box<Machine, Global>>
+        ensures some { IfSome result (λ held. self.old.owned.value ≡ Some held.value) }
+        ensures none { IfNone result (self.old.owned.value ≡ None) }
+        ensures after { self.new.owned.value ≡ None }
+    {
+        let old = replace(self, Handle::empty(alloc));
+        let Handle { owned, is_open } = old;
+        if is_open {
+            Some(owned.into_loose().into_box())
+        } else {
+            None
+        }
+    }
+
+    /// Holds this from now on. What it held before is forgotten, so it is to hold nothing.
+    pub fn put(&mut self, held: Box<Machine, Global>)
+        ensures { self.new.owned.value ≡ Some held.value }
+    {
+        let owned = Owned::of(Loose::of(held));
+        *self = Handle {
+            owned,
+            is_open: true,
+        };
+    }
+}

@@ -1,0 +1,153 @@
+//! Keys of a station.
+ghost use Rattle.std.specs.Prelude.{◌≡◌, ◌≤◌, ◌<◌, Option, Result, length};
+ghost use Rattle.ws_keys.specs.declared.answer.Answer.{Answer as AnAnswer};
+ghost use Rattle.ws_keys.specs.declared.key.Key.{Key as AKey};
+ghost use Rattle.ws_session.specs.declared.key_fault.KeyFault.{KeyFault as AFault};
+ghost use Rattle.ws_c.specs.declared.status.Status.{Status as AStatus};
+ghost use Rattle.ws_c.specs.Calls.{OnHeld, IsPress, IsPressFrom, IsKeyFaultTold, IsKeyTold, StationKeyed, number_of};
+ghost use Rattle.ws_c.specs.Keys.{IsKeyFrom, IsKeyOfKind};
+
+use crate::key_kind::{KeyKind, refusal_number};
+use crate::station::put_front;
+use crate::wire::answer_bytes;
+use crate::{Handle, Machine, Status, Told};
+use std::alloc::Global;
+use ws_keys::{Answer, Key};
+use ws_session::{KeyFault, Station};
+
+// The status of a key's fault, and what is told of it.
+fn tell_fault(fault: KeyFault, told: &mut Told) -> Status
+    ensures { IsKeyFaultTold fault result told.new }
+{
+    *told = Told::length(0);
+    match fault {
+        KeyFault::Failed => Status::Failed,
+        KeyFault::NotReady => Status::NotReady,
+        KeyFault::Key(refusal) => {
+            told.reason = refusal_number(refusal);
+            Status::KeyRefused
+        }
+    }
+}
+
+// What a key crosses as.
+fn tell_key(keyed: Result<Option<Answer>, KeyFault>, buffer: &mut [u8], told: &mut Told) -> Status
+    requires { 5404 ≤ length buffer.old }
+    ensures { IsKeyTold keyed result told.new buffer.old buffer.new }
+{
+    match keyed {
+        Ok(None) => {
+            *told = Told::length(0);
+            Status::Done
+        }
+        Ok(Some(answer)) => {
+            let bytes = answer_bytes(&answer);
+            *told = Told::length(put_front(buffer, bytes.as_slice()));
+            Status::Done
+        }
+        Err(fault) => tell_fault(fault, told),
+    }
+}
+
+// Presses a key of a station.
+fn press_station(station: &mut Station, key: Key, buffer: &mut [u8], told: &mut Told) -> Status
+    requires { 5404 ≤ length buffer.old }
+    ensures { (keyed : Result (Option AnAnswer) AFault) × StationKeyed station.old station.new key keyed
+        × IsKeyTold keyed result told.new buffer.old buffer.new }
+{
+    let keyed = station.key(key);
+    tell_key(keyed, buffer, told)
+}
+
+// Presses a key of what a handle holds.
+fn press_held(held: &mut Machine, key: Key, buffer: &mut [u8], told: &mut Told) -> Status
+    requires { 5404 ≤ length buffer.old }
+    ensures { IsPress key buffer.old buffer.new result told.new held.old held.new }
+{
+    match held {
+        Machine::Station(station) => press_station(station, key, buffer, told),
+        Machine::Decoder(_) => Status::NothingHeld,
+    }
+}
+
+// The key of a kind, where there is one, and a value.
+fn key_of(named: Option<KeyKind>, value: u32) -> Option<Key>
+    ensures { IsKeyOfKind named value result }
+{
+    match named {
+        Some(named) => named.key(value),
+        None => None,
+    }
+}
+
+// The key of a kind's number and a value.
+fn key_from(kind: u32, value: u32) -> Option<Key>
+    ensures { IsKeyFrom kind value result }
+{
+    let named = KeyKind::from_number(kind);
+    key_of(named, value)
+}
+
+// Presses a key of the station that a handle holds.
+fn press(alloc: Global, handle: &mut Handle, key: Key, buffer: &mut [u8], told: &mut Told) -> Status
+    requires { 5404 ≤ length buffer.old }
+    ensures { OnHeld handle.old.owned.value handle.new.owned.value result
+        (IsPress key buffer.old buffer.new result told.new) }
+{
+    match handle.take(alloc) {
+        Some(mut held) => {
+            let status = press_held(&mut *held, key, buffer, told);
+            handle.put(held);
+            status
+        }
+        None => Status::NothingHeld,
+    }
+}
+
+// Presses the key of a kind's number and a value, where there is one.
+fn press_from(
+    alloc: Global,
+    handle: &mut Handle,
+    key: Option<Key>,
+    buffer: &mut [u8],
+    told: &mut Told,
+) -> Status
+    requires { 5404 ≤ length buffer.old }
+    ensures { IsPressFrom key handle.old.owned.value handle.new.owned.value buffer.old buffer.new
+        told.new result }
+{
+    match key {
+        Some(key) => press(alloc, handle, key, buffer, told),
+        None => Status::BadArgument,
+    }
+}
+
+/// Presses a key of a station: `buffer` gets the record that it sends, and `told` how many bytes that is, or the number
+/// of the refusal.
+///
+/// `KeyRefused` where the keyboard or the field refuses the key, `NotReady` at a key that sends while records aren't
+/// allowed, `Failed` after a refused byte; the station is then unchanged. `NothingHeld` where the handle holds no
+/// station. `NoRoom` where the buffer has fewer than 5,404 bytes, and `BadArgument` where no key has the kind and the
+/// value: then nothing is changed.
+#[unsafe(no_mangle)]
+pub extern "C" fn ws_c_station_key(
+    alloc: Global,
+    handle: &mut Handle,
+    kind: u32,
+    value: u32,
+    buffer: &mut [u8],
+    told: &mut Told,
+) -> u32
+    ensures room { length buffer.old < 5404 → (result ≡ number_of Status.NoRoom)
+        × (handle.new ≡ handle.old) × (buffer.new ≡ buffer.old) × (told.new ≡ told.old) }
+    ensures pressed { 5404 ≤ length buffer.old → (key : Option AKey) × IsKeyFrom kind value key
+        × (status : AStatus) × (result ≡ number_of status)
+        × IsPressFrom key handle.old.owned.value handle.new.owned.value buffer.old buffer.new
+        told.new status }
+{
+    if buffer.len() < 5404 {
+        return Status::NoRoom.number();
+    }
+    let key = key_from(kind, value);
+    press_from(alloc, handle, key, buffer, told).number()
+}

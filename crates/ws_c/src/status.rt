@@ -1,0 +1,50 @@
+ghost use Rattle.std.specs.Prelude.{◌≡◌};
+ghost use Rattle.ws_c.specs.Calls.{number_of};
+
+/// What a call comes to.
+#[derive(Clone, Copy, Debug, PartialEq, Eq)]
+pub enum Status {
+    /// The call did what it says.
+    Done,
+    /// The byte is refused, or the item that it ends.
+    Refused,
+    /// An earlier byte was refused.
+    Failed,
+    /// Memory is wanting.
+    NoMemory,
+    /// The handle holds nothing, or another thing than the call works on.
+    NothingHeld,
+    /// The handle holds something already.
+    InUse,
+    /// A buffer is shorter than the call asks for.
+    NoRoom,
+    /// An argument is out of its range.
+    BadArgument,
+    /// Records aren't allowed yet, and the key sends one.
+    NotReady,
+    /// The keyboard or the field refuses the key.
+    KeyRefused,
+    /// The stream ends inside a token or a record.
+    Truncated,
+}
+
+impl Status {
+    /// Its number in C.
+    pub fn number(self) -> u32
+        ensures { result ≡ number_of self }
+    {
+        match self {
+            Status::Done => 0,
+            Status::Refused => 1,
+            Status::Failed => 2,
+            Status::NoMemory => 3,
+            Status::NothingHeld => 4,
+            Status::InUse => 5,
+            Status::NoRoom => 6,
+            Status::BadArgument => 7,
+            Status::NotReady => 8,
+            Status::KeyRefused => 9,
+            Status::Truncated => 10,
+        }
+    }
+}

@@ -1,0 +1,81 @@
+//! The bytes of an answer.
+ghost use Rattle.std.specs.Prelude.{◌≡◌, ◌≤◌, ◌+◌, ◌*◌, ◌++◌, length};
+ghost use Rattle.std.specs.List.{flat_map};
+ghost use Rattle.ws_telnet.specs.Token.{doubled};
+ghost use Rattle.ws_record.specs.Grammar.{header};
+ghost use Rattle.ws_record.specs.Encode.{record_spelling};
+ghost use Rattle.ws_session.specs.AnswerSpelling.{answer_spelling};
+
+use arrayvec::ArrayVec;
+use ws_keys::Answer;
+use ws_record::Opcode;
+
+// A byte, doubled if it is FF (RFC 854).
+fn push_doubled(into: &mut ArrayVec<u8, 5404>, byte: u8)
+    requires { length into.old.items + 2 ≤ 5404 }
+    ensures items { into.new.items ≡ into.old.items ++ doubled byte }
+    ensures size { length into.new.items ≤ length into.old.items + 2 }
+{
+    into.push(byte);
+    if byte == 0xff {
+        into.push(0xff);
+    }
+}
+
+// Bytes, each FF doubled.
+fn push_all_doubled(into: &mut ArrayVec<u8, 5404>, bytes: &[u8])
+    requires { length into.old.items + 2 * length bytes.now ≤ 5404 }
+    ensures items { into.new.items ≡ into.old.items ++ flat_map doubled bytes.now }
+    ensures size { length into.new.items ≤ length into.old.items + 2 * length bytes.now }
+{
+    for byte in bytes {
+        push_doubled(into, *byte);
+    }
+}
+
+// The ten bytes that a record of this length begins with (RFC 1205, section 3).
+fn header_bytes(length: u16, flags: u16, opcode: Opcode) -> [u8; 10]
+    ensures { result ≡ header length flags opcode }
+{
+    let [length_high, length_low] = length.to_be_bytes();
+    let [flags_high, flags_low] = flags.to_be_bytes();
+    [
+        length_high,
+        length_low,
+        0x12,
+        0xa0,
+        0,
+        0,
+        4,
+        flags_high,
+        flags_low,
+        opcode.byte(),
+    ]
+}
+
+// A record with its IAC EOR.
+fn record_bytes(flags: u16, opcode: Opcode, body: &[u8]) -> ArrayVec<u8, 5404>
+    requires { length body.now ≤ 2691 }
+    ensures { result.items ≡ record_spelling (header (10 + length body.now) flags opcode ++ body.now) }
+{
+    let mut bytes = ArrayVec::new();
+    push_all_doubled(
+        &mut bytes,
+        &header_bytes(10 + body.len() as u16, flags, opcode),
+    );
+    push_all_doubled(&mut bytes, body);
+    bytes.push(0xff);
+    bytes.push(0xef);
+    bytes
+}
+
+/// The record that a key sends, with its IAC EOR (RFC 1205, section 3).
+pub fn answer_bytes(answer: &Answer) -> ArrayVec<u8, 5404>
+    ensures { result.items ≡ answer_spelling answer.now }
+{
+    match answer {
+        Answer::Read(body) => record_bytes(0, Opcode::PutGet, body.as_slice()),
+        Answer::Attention => record_bytes(0x4000, Opcode::NoOperation, &[]),
+        Answer::SystemRequest => record_bytes(0x0400, Opcode::NoOperation, &[]),
+    }
+}
