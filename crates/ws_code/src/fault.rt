@@ -1,4 +1,6 @@
 use crate::Reason;
+use std::error::Error;
+use std::fmt;
 
 /// What ends a reading or a writing.
 #[derive(Clone, Copy, Debug, PartialEq, Eq)]
@@ -16,3 +18,18 @@ pub enum Fault {
     /// An earlier call has failed, or 18,446,744,073,709,551,615 bytes were taken.
     Failed,
 }
+
+impl fmt::Display for Fault {
+    fn fmt<W: fmt::Write>(&self, f: &mut fmt::Formatter<W>) -> fmt::Result {
+        match self {
+            Fault::Refused { place, reason } => write!(f, "refused at {place}: {reason}"),
+            Fault::Truncated { at } => write!(f, "truncated at {at}"),
+            Fault::Memory => write!(f, "memory"),
+            Fault::Read => write!(f, "cannot read"),
+            Fault::Write => write!(f, "cannot write"),
+            Fault::Failed => write!(f, "failed"),
+        }
+    }
+}
+
+impl Error for Fault {}

@@ -1,4 +1,6 @@
-ghost use Rattle.std.specs.Prelude.{◌≡◌, ◌≤◌, length, List as Seq, ℕ};
+ghost use Rattle.std.specs.Prelude.{◌≡◌, ◌≤◌, length, List as Seq, ℕ, nat_eq};
+ghost use Rattle.std.specs.Cmp.{partial_equiv_from_equiv};
+ghost use Rattle.std.specs.Cmp.Lexicographic.{pointwise, lists_per, lists_equiv, nat_list_eq_equiv};
 ghost use Rattle.ws_code.specs.Code.{AreBytes};
 
 use arrayvec::ArrayVec;
@@ -37,6 +39,20 @@ impl<T> List<T> {
     {
         self.items
     }
+}
+
+impl<T: PartialEq> PartialEq for List<T> {
+    ghost eq = { pointwise T.eq };
+
+    ghost laws = { lists_per T.laws };
+
+    fn eq(&self, other: &Self) -> bool {
+        self.as_slice() == other.as_slice()
+    }
+}
+
+impl<T: Eq> Eq for List<T> {
+    ghost laws = { lists_equiv T.Eq.laws };
 }
 
 // The numbers in a slice of bytes are bytes: known of a parameter, and not of a call's result.
@@ -83,4 +99,18 @@ impl<const N: usize> ByteList<N> {
     {
         self.bytes
     }
+}
+
+impl<const N: usize> PartialEq for ByteList<N> {
+    ghost eq = { pointwise nat_eq };
+
+    ghost laws = { partial_equiv_from_equiv nat_list_eq_equiv };
+
+    fn eq(&self, other: &Self) -> bool {
+        self.as_slice() == other.as_slice()
+    }
+}
+
+impl<const N: usize> Eq for ByteList<N> {
+    ghost laws = { nat_list_eq_equiv };
 }

@@ -1,4 +1,5 @@
 ghost use Rattle.std.specs.Prelude.{◌≡◌, ◌≤◌, ◌<◌, ◌++◌, ◌∷◌, ◌==◌, [], length};
+ghost use Rattle.std.specs.Cmp.Lexicographic.{pointwise, lists_per, lists_equiv};
 
 use std::marker::Model;
 
@@ -82,4 +83,18 @@ impl<T, const N: usize> ShortList<T, N> {
     {
         &self.items[..self.len()]
     }
+}
+
+impl<T: PartialEq, const N: usize> PartialEq for ShortList<T, N> {
+    ghost eq = { pointwise T.eq };
+
+    ghost laws = { lists_per T.laws };
+
+    fn eq(&self, other: &Self) -> bool {
+        self.as_slice() == other.as_slice()
+    }
+}
+
+impl<T: Eq, const N: usize> Eq for ShortList<T, N> {
+    ghost laws = { lists_equiv T.Eq.laws };
 }

@@ -7,7 +7,8 @@ use Rattle.std.proofs.lemmas.Grind.{flat_map-append}
 use Rattle.ws_code.specs.Code.{Stands, IsPrefix, IsUnfinished}
 use Rattle.ws_code.specs.FormatWord.{IsFfw}
 use Rattle.ws_stream.specs.FieldOrder.{FieldOrder, IsFieldOrder, HasFormat, is_control, is_attribute}
-use Rattle.ws_stream.specs.Elements.{element_rules, spelling, IsElement, allows_orders, word, format_bytes}
+use Rattle.ws_code.specs.TwoBytes.{two_bytes}
+use Rattle.ws_stream.specs.Elements.{element_rules, spelling, IsElement, allows_orders, format_bytes}
 use Rattle.ws_stream.specs.ElementLaws.{first, no_code, format_front, controls_front, control_low}
 use Rattle.ws_stream.specs.Machine.{front_bytes, is_front}
 use Rattle.ws_stream.specs.Reasons.{element_reason}
@@ -20,7 +21,7 @@ use Rattle.ws_stream.proofs.Unfinished.{order_allowed}
 -- What a machine within a Start of Field needs.
 
 -- SF
-in_field : (u : Element) (rest : List ℕ) → IsElement u → spelling u ≡ 0x1D ∷ rest → (f : FieldOrder) × IsFieldOrder f × (format_bytes f.format ++ flat_map word f.controls ++ f.attribute ∷ word f.length ≡ rest)
+in_field : (u : Element) (rest : List ℕ) → IsElement u → spelling u ≡ 0x1D ∷ rest → (f : FieldOrder) × IsFieldOrder f × (format_bytes f.format ++ flat_map two_bytes f.controls ++ f.attribute ∷ two_bytes f.length ≡ rest)
 in_field (Sf f) rest h e = (f, h, cc)
 in_field (Put b) rest h e = no_code b 0x1D h (ap first e) refl
 in_field u rest h e = absurd (omega (arith, ap first e))
@@ -34,7 +35,7 @@ field_begins place allowed = record {
   spelled = refl;
 }
 
-field_goes_on : (place : Place) (f : FieldOrder) (begun : List ℕ) (next : ℕ) (rest : List ℕ) → allows_orders place ≡ true → IsFieldOrder f → format_bytes f.format ++ flat_map word f.controls ++ f.attribute ∷ word f.length ≡ begun ++ next ∷ rest → IsUnfinished element_rules place (0x1D ∷ begun)
+field_goes_on : (place : Place) (f : FieldOrder) (begun : List ℕ) (next : ℕ) (rest : List ℕ) → allows_orders place ≡ true → IsFieldOrder f → format_bytes f.format ++ flat_map two_bytes f.controls ++ f.attribute ∷ two_bytes f.length ≡ begun ++ next ∷ rest → IsUnfinished element_rules place (0x1D ∷ begun)
 field_goes_on place f begun next rest allowed h e = record {
   unit = Sf f;
   next = next;
@@ -43,13 +44,13 @@ field_goes_on place f begun next rest allowed h e = record {
   spelled = ap (λ (l : List ℕ). 0x1D ∷ l) e;
 }
 
-word_high : (h : ℕ) → word (h * 256) ≡ h ∷ 0 ∷ []
+word_high : (h : ℕ) → two_bytes (h * 256) ≡ h ∷ 0 ∷ []
 word_high h =
     let a : h * 256 / 256 ≡ h = omega arith in
     let b : h * 256 % 256 ≡ 0 = omega arith in
     ap (λ (n : ℕ). n ∷ h * 256 % 256 ∷ []) a ∙ ap (λ (n : ℕ). let l : List ℕ = h ∷ n ∷ [] in l) b
 
-pub word_of : (h b : ℕ) → b < 256 → word (h * 256 + b) ≡ h ∷ b ∷ []
+pub word_of : (h b : ℕ) → b < 256 → two_bytes (h * 256 + b) ≡ h ∷ b ∷ []
 word_of h b k =
     let x : (h * 256 + b) / 256 ≡ h = omega (arith, k) in
     let y : (h * 256 + b) % 256 ≡ b = omega (arith, k) in
@@ -57,7 +58,7 @@ word_of h b k =
 
 -- the words in front of an attribute
 abbrev pub front : Option ℕ → List ℕ → List ℕ
-front format controls = format_bytes format ++ flat_map word controls
+front format controls = format_bytes format ++ flat_map two_bytes controls
 
 -- what is known of a field's words so far
 pub record AreWordsSoFar (format : Option ℕ) (controls : List ℕ) : Type 0 where
@@ -84,10 +85,10 @@ control_goes_on_word place w controls high allowed known few low big =
     let more : List ℕ = controls ++ (high * 256) ∷ [] in
     let control : is_control (high * 256) ≡ true = and_from _ _ (le-leb 0x8000 (high * 256) (omega (arith, low))) (lt-ltb (high * 256) 0x10000 (omega (arith, big))) in
     let words : list_all is_control more ≡ true = list_all-append is_control controls ((high * 256) ∷ []) ∙ and_from (list_all is_control controls) (list_all is_control ((high * 256) ∷ [])) known.words (and_from (is_control (high * 256)) true control refl) in
-    let bytes : flat_map word more ≡ flat_map word controls ++ high ∷ 0 ∷ [] = flat_map-append word controls ((high * 256) ∷ []) ∙ ap (λ (l : List ℕ). flat_map word controls ++ (l ++ [])) (word_high high) in
+    let bytes : flat_map two_bytes more ≡ flat_map two_bytes controls ++ high ∷ 0 ∷ [] = flat_map-append two_bytes controls ((high * 256) ∷ []) ∙ ap (λ (l : List ℕ). flat_map two_bytes controls ++ (l ++ [])) (word_high high) in
     field_goes_on place (record { format = Some w; controls = more; attribute = 0x20; length = 0 }) (front (Some w) controls ++ high ∷ []) 0 (0x20 ∷ 0 ∷ 0 ∷ []) allowed
     (is_field (Some w) more 0x20 0 (record { formatted = known.formatted; few = omega (arith, few, length-append controls ((high * 256) ∷ [])); words = words }) (omega arith) (omega arith) (omega arith))
-    (ap (λ (l : List ℕ). word w ++ l ++ 0x20 ∷ 0 ∷ 0 ∷ []) bytes ∙ simp append_assoc)
+    (ap (λ (l : List ℕ). two_bytes w ++ l ++ 0x20 ∷ 0 ∷ 0 ∷ []) bytes ∙ simp append_assoc)
 
 pub attribute_goes_on : (place : Place) (format : Option ℕ) (controls : List ℕ) (attribute : ℕ) → allows_orders place ≡ true → AreWordsSoFar format controls → 0x20 ≤ attribute → attribute < 0x40 → IsUnfinished element_rules place (0x1D ∷ front format controls ++ attribute ∷ [])
 attribute_goes_on place format controls attribute allowed known low high =
@@ -111,12 +112,12 @@ pub record FollowsWords (w : ℕ) (controls rest : List ℕ) : Type 0 where
   pub words : list_all is_control more ≡ true
   pub low : 0x20 ≤ attribute
   pub high : attribute < 0x40
-  pub bytes : flat_map word more ++ attribute ∷ word length ≡ rest
+  pub bytes : flat_map two_bytes more ++ attribute ∷ two_bytes length ≡ rest
 
-words_front : (f : FieldOrder) (w : ℕ) (controls rest : List ℕ) → IsFieldOrder f → 0x4000 ≤ w → list_all is_control controls ≡ true → format_bytes f.format ++ flat_map word f.controls ++ f.attribute ∷ word f.length ≡ (word w ++ flat_map word controls) ++ rest → FollowsWords w controls rest
+words_front : (f : FieldOrder) (w : ℕ) (controls rest : List ℕ) → IsFieldOrder f → 0x4000 ≤ w → list_all is_control controls ≡ true → format_bytes f.format ++ flat_map two_bytes f.controls ++ f.attribute ∷ two_bytes f.length ≡ (two_bytes w ++ flat_map two_bytes controls) ++ rest → FollowsWords w controls rest
 words_front f w controls rest h format words e =
-    let begins : (f.format ≡ Some w) × IsFfw w × (flat_map word f.controls ++ f.attribute ∷ word f.length ≡ flat_map word controls ++ rest) = format_front f.format f.controls f.attribute (word f.length) w (flat_map word controls ++ rest) h.formatted h.high format e in
-    let found : (zs : List ℕ) × (f.controls ≡ controls ++ zs) × (flat_map word zs ++ f.attribute ∷ word f.length ≡ rest) = controls_front f.controls controls f.attribute (word f.length) rest words (omega (arith, h.high)) begins.2 in
+    let begins : (f.format ≡ Some w) × IsFfw w × (flat_map two_bytes f.controls ++ f.attribute ∷ two_bytes f.length ≡ flat_map two_bytes controls ++ rest) = format_front f.format f.controls f.attribute (two_bytes f.length) w (flat_map two_bytes controls ++ rest) h.formatted h.high format e in
+    let found : (zs : List ℕ) × (f.controls ≡ controls ++ zs) × (flat_map two_bytes zs ++ f.attribute ∷ two_bytes f.length ≡ rest) = controls_front f.controls controls f.attribute (two_bytes f.length) rest words (omega (arith, h.high)) begins.2 in
     record {
       legal = begins.1;
       more = found.0;
@@ -129,12 +130,12 @@ words_front f w controls rest h format words e =
       bytes = found.2;
     }
 
-pub words_so_far : (place : Place) (u : Element) (w : ℕ) (controls rest : List ℕ) → Stands element_rules place u → 0x4000 ≤ w → list_all is_control controls ≡ true → spelling u ≡ 0x1D ∷ (word w ++ flat_map word controls) ++ rest → FollowsWords w controls rest
+pub words_so_far : (place : Place) (u : Element) (w : ℕ) (controls rest : List ℕ) → Stands element_rules place u → 0x4000 ≤ w → list_all is_control controls ≡ true → spelling u ≡ 0x1D ∷ (two_bytes w ++ flat_map two_bytes controls) ++ rest → FollowsWords w controls rest
 words_so_far place u w controls rest stands format words e =
-    let found : (f : FieldOrder) × IsFieldOrder f × (format_bytes f.format ++ flat_map word f.controls ++ f.attribute ∷ word f.length ≡ (word w ++ flat_map word controls) ++ rest) = in_field u _ stands.is_unit e in
+    let found : (f : FieldOrder) × IsFieldOrder f × (format_bytes f.format ++ flat_map two_bytes f.controls ++ f.attribute ∷ two_bytes f.length ≡ (two_bytes w ++ flat_map two_bytes controls) ++ rest) = in_field u _ stands.is_unit e in
     words_front found.0 w controls rest found.1 format words found.2
 
-next_part_in : (w : ℕ) (controls : List ℕ) (b : ℕ) (rest zs : List ℕ) (a n : ℕ) → length controls + length zs ≤ 8 → list_all is_control zs ≡ true → 0x20 ≤ a → a < 0x40 → flat_map word zs ++ a ∷ word n ≡ b ∷ rest → ((0x20 ≤ b) × (b < 0x40)) ⊎ ((0x80 ≤ b) × (length controls < 8))
+next_part_in : (w : ℕ) (controls : List ℕ) (b : ℕ) (rest zs : List ℕ) (a n : ℕ) → length controls + length zs ≤ 8 → list_all is_control zs ≡ true → 0x20 ≤ a → a < 0x40 → flat_map two_bytes zs ++ a ∷ two_bytes n ≡ b ∷ rest → ((0x20 ≤ b) × (b < 0x40)) ⊎ ((0x80 ≤ b) × (length controls < 8))
 next_part_in w controls b rest [] a n few words low high e = let f : a ≡ b = ap first e in inl (omega (arith, f, low), omega (arith, f, high))
 next_part_in w controls b rest (z ∷ zs) a n few words low high e =
     let f : z / 256 ≡ b = ap first e in
@@ -150,11 +151,11 @@ pub some_passed : (o : Option ℕ) (P : Type 0) (v : ℕ) → is_some o ≡ true
 some_passed None P v e h = absurd (both_ways false refl e)
 some_passed (Some x) P v e h = h.0
 
-pub format_whole : (place : Place) (high b format : ℕ) (items : List ℕ) → IsUnfinished element_rules place (0x1D ∷ high ∷ []) → IsFfw format → format ≡ high * 256 + b → b < 256 → items ≡ [] → (0x1D ∷ (word format ++ flat_map word items) ≡ 0x1D ∷ high ∷ b ∷ []) × IsUnfinished element_rules place (0x1D ∷ high ∷ b ∷ [])
+pub format_whole : (place : Place) (high b format : ℕ) (items : List ℕ) → IsUnfinished element_rules place (0x1D ∷ high ∷ []) → IsFfw format → format ≡ high * 256 + b → b < 256 → items ≡ [] → (0x1D ∷ (two_bytes format ++ flat_map two_bytes items) ≡ 0x1D ∷ high ∷ b ∷ []) × IsUnfinished element_rules place (0x1D ∷ high ∷ b ∷ [])
 format_whole place high b format items u h e small empty =
-    let bytes : word format ≡ high ∷ b ∷ [] = ap word e ∙ word_of high b small in
+    let bytes : two_bytes format ≡ high ∷ b ∷ [] = ap two_bytes e ∙ word_of high b small in
     let goes_on = words_go_on place (Some format) [] (order_allowed place 0x1D (high ∷ []) (omega arith) u) (record { formatted = h; few = omega arith; words = refl }) in (
-      ap (λ (l : List ℕ). 0x1D ∷ (word format ++ flat_map word l)) empty ∙ ap (λ (l : List ℕ). 0x1D ∷ (l ++ [])) bytes,
+      ap (λ (l : List ℕ). 0x1D ∷ (two_bytes format ++ flat_map two_bytes l)) empty ∙ ap (λ (l : List ℕ). 0x1D ∷ (l ++ [])) bytes,
       subst (λ (l : List ℕ). IsUnfinished element_rules place (0x1D ∷ l)) bytes goes_on,
     )
 
@@ -162,40 +163,40 @@ pub words_known : (w : ℕ) (controls rest : List ℕ) → list_all is_control c
 words_known w controls rest words f = record { formatted = f.legal; few = omega (arith, f.few); words = words }
 
 -- no byte is there but an attribute, or a control word while there are less than eight
-pub bad_part : (place : Place) (w : ℕ) (controls : List ℕ) (b : ℕ) → 0x4000 ≤ w → list_all is_control controls ≡ true → ((0x20 ≤ b) × (b < 0x40) → ⊥) → ((0x80 ≤ b) × (length controls < 8) → ⊥) → IsPrefix element_rules place (0x1D ∷ (word w ++ flat_map word controls) ++ b ∷ []) → ⊥
+pub bad_part : (place : Place) (w : ℕ) (controls : List ℕ) (b : ℕ) → 0x4000 ≤ w → list_all is_control controls ≡ true → ((0x20 ≤ b) × (b < 0x40) → ⊥) → ((0x80 ≤ b) × (length controls < 8) → ⊥) → IsPrefix element_rules place (0x1D ∷ (two_bytes w ++ flat_map two_bytes controls) ++ b ∷ []) → ⊥
 bad_part place w controls b format words no_attribute no_control p =
-    let follows = words_so_far place p.unit w controls (b ∷ p.rest) p.stands format words (p.spelled ∙ ap (λ (l : List ℕ). 0x1D ∷ l) (append_assoc (word w ++ flat_map word controls) (b ∷ []) p.rest)) in
+    let follows = words_so_far place p.unit w controls (b ∷ p.rest) p.stands format words (p.spelled ∙ ap (λ (l : List ℕ). 0x1D ∷ l) (append_assoc (two_bytes w ++ flat_map two_bytes controls) (b ∷ []) p.rest)) in
     elim (next_part w controls b p.rest follows) [ inl h ↦ no_attribute h | inr h ↦ no_control h ]
 
-pub many_reason : (place : Place) (w : ℕ) (controls : List ℕ) (b : ℕ) → 0x80 ≤ b → TooManyFcws ≡ element_reason place (0x1D ∷ (word w ++ flat_map word controls)) b
+pub many_reason : (place : Place) (w : ℕ) (controls : List ℕ) (b : ℕ) → 0x80 ≤ b → TooManyFcws ≡ element_reason place (0x1D ∷ (two_bytes w ++ flat_map two_bytes controls)) b
 many_reason place w controls b h = rw (le-leb 0x80 b h) refl
 
-pub byte_reason : (place : Place) (w : ℕ) (controls : List ℕ) (b : ℕ) → b < 0x80 → BadFormatByte ≡ element_reason place (0x1D ∷ (word w ++ flat_map word controls)) b
+pub byte_reason : (place : Place) (w : ℕ) (controls : List ℕ) (b : ℕ) → b < 0x80 → BadFormatByte ≡ element_reason place (0x1D ∷ (two_bytes w ++ flat_map two_bytes controls)) b
 byte_reason place w controls b h = rw (lt-leb 0x80 b h) refl
 
-pub follows_here : (place : Place) (w : ℕ) (controls : List ℕ) → 0x4000 ≤ w → list_all is_control controls ≡ true → (u : IsUnfinished element_rules place (0x1D ∷ (word w ++ flat_map word controls))) → FollowsWords w controls (u.next ∷ u.rest)
+pub follows_here : (place : Place) (w : ℕ) (controls : List ℕ) → 0x4000 ≤ w → list_all is_control controls ≡ true → (u : IsUnfinished element_rules place (0x1D ∷ (two_bytes w ++ flat_map two_bytes controls))) → FollowsWords w controls (u.next ∷ u.rest)
 follows_here place w controls format words u = words_so_far place u.unit w controls (u.next ∷ u.rest) u.stands format words u.spelled
 
-pub follows_byte : (place : Place) (w : ℕ) (controls : List ℕ) (b : ℕ) (tail : List ℕ) → 0x4000 ≤ w → list_all is_control controls ≡ true → (u : IsUnfinished element_rules place (0x1D ∷ (word w ++ flat_map word controls) ++ b ∷ tail)) → FollowsWords w controls (b ∷ tail ++ u.next ∷ u.rest)
+pub follows_byte : (place : Place) (w : ℕ) (controls : List ℕ) (b : ℕ) (tail : List ℕ) → 0x4000 ≤ w → list_all is_control controls ≡ true → (u : IsUnfinished element_rules place (0x1D ∷ (two_bytes w ++ flat_map two_bytes controls) ++ b ∷ tail)) → FollowsWords w controls (b ∷ tail ++ u.next ∷ u.rest)
 follows_byte place w controls b tail format words u =
-    words_so_far place u.unit w controls (b ∷ tail ++ u.next ∷ u.rest) u.stands format words (u.spelled ∙ ap (λ (l : List ℕ). 0x1D ∷ l) (append_assoc (word w ++ flat_map word controls) (b ∷ tail) (u.next ∷ u.rest)))
+    words_so_far place u.unit w controls (b ∷ tail ++ u.next ∷ u.rest) u.stands format words (u.spelled ∙ ap (λ (l : List ℕ). 0x1D ∷ l) (append_assoc (two_bytes w ++ flat_map two_bytes controls) (b ∷ tail) (u.next ∷ u.rest)))
 
 pub control_fits : (w : ℕ) (controls : List ℕ) (b : ℕ) (rest : List ℕ) → 0x80 ≤ b → FollowsWords w controls (b ∷ rest) → length controls < 8
 control_fits w controls b rest high f = elim (next_part w controls b rest f) [ inl h ↦ absurd (omega (arith, high, h.1)) | inr h ↦ h.1 ]
 
-pub control_whole : (place : Place) (w : ℕ) (controls items : List ℕ) (high b v : ℕ) → 0x4000 ≤ w → list_all is_control controls ≡ true → 0x80 ≤ high → high < 256 → b < 256 → v ≡ high * 256 + b → items ≡ controls ++ v ∷ [] → IsUnfinished element_rules place (0x1D ∷ (word w ++ flat_map word controls) ++ high ∷ []) → (0x1D ∷ (word w ++ flat_map word items) ≡ 0x1D ∷ (word w ++ flat_map word controls) ++ high ∷ [] ++ b ∷ []) × IsUnfinished element_rules place (0x1D ∷ (word w ++ flat_map word controls) ++ high ∷ [] ++ b ∷ [])
+pub control_whole : (place : Place) (w : ℕ) (controls items : List ℕ) (high b v : ℕ) → 0x4000 ≤ w → list_all is_control controls ≡ true → 0x80 ≤ high → high < 256 → b < 256 → v ≡ high * 256 + b → items ≡ controls ++ v ∷ [] → IsUnfinished element_rules place (0x1D ∷ (two_bytes w ++ flat_map two_bytes controls) ++ high ∷ []) → (0x1D ∷ (two_bytes w ++ flat_map two_bytes items) ≡ 0x1D ∷ (two_bytes w ++ flat_map two_bytes controls) ++ high ∷ [] ++ b ∷ []) × IsUnfinished element_rules place (0x1D ∷ (two_bytes w ++ flat_map two_bytes controls) ++ high ∷ [] ++ b ∷ [])
 control_whole place w controls items high b v format words low big small is all u =
     let follows = follows_byte place w controls high [] format words u in
     let fits = control_fits w controls high (u.next ∷ u.rest) low follows in
     let control : is_control v ≡ true = and_from _ _ (le-leb 0x8000 v (omega (arith, is, low))) (lt-ltb v 0x10000 (omega (arith, is, big, small))) in
     let are : list_all is_control (controls ++ v ∷ []) ≡ true = list_all-append is_control controls (v ∷ []) ∙ and_from (list_all is_control controls) (list_all is_control (v ∷ [])) words (and_from (is_control v) true control refl) in
-    let bytes : flat_map word items ≡ flat_map word controls ++ high ∷ [] ++ b ∷ [] = ap (λ (l : List ℕ). flat_map word l) all ∙ flat_map-append word controls (v ∷ []) ∙ ap (λ (l : List ℕ). flat_map word controls ++ (l ++ [])) (ap word is ∙ word_of high b small) ∙ sym (append_assoc (flat_map word controls) (high ∷ []) (b ∷ [])) in
+    let bytes : flat_map two_bytes items ≡ flat_map two_bytes controls ++ high ∷ [] ++ b ∷ [] = ap (λ (l : List ℕ). flat_map two_bytes l) all ∙ flat_map-append two_bytes controls (v ∷ []) ∙ ap (λ (l : List ℕ). flat_map two_bytes controls ++ (l ++ [])) (ap two_bytes is ∙ word_of high b small) ∙ sym (append_assoc (flat_map two_bytes controls) (high ∷ []) (b ∷ [])) in
     let known : AreWordsSoFar (Some w) items = record {
       formatted = follows.legal;
       few = omega (arith, fits, ap length all, length-append controls (v ∷ []));
       words = ap (λ (l : List ℕ). list_all is_control l) all ∙ are;
     } in
-    let same : 0x1D ∷ (word w ++ flat_map word items) ≡ 0x1D ∷ (word w ++ flat_map word controls) ++ high ∷ [] ++ b ∷ [] = ap (λ (l : List ℕ). 0x1D ∷ (word w ++ l)) bytes in
+    let same : 0x1D ∷ (two_bytes w ++ flat_map two_bytes items) ≡ 0x1D ∷ (two_bytes w ++ flat_map two_bytes controls) ++ high ∷ [] ++ b ∷ [] = ap (λ (l : List ℕ). 0x1D ∷ (two_bytes w ++ l)) bytes in
     (same, subst (λ (l : List ℕ). IsUnfinished element_rules place l) same (words_go_on place (Some w) items (order_allowed place 0x1D _ (omega arith) u) known))
 
 front_known : (place : Place) (fr : Option ℕ) (kept : List ℕ) (attribute : ℕ) → is_front fr kept ≡ true → IsUnfinished element_rules place (0x1D ∷ front_bytes fr kept ++ attribute ∷ []) → (format : Option ℕ) × (controls : List ℕ) × AreWordsSoFar format controls × (front format controls ≡ front_bytes fr kept)

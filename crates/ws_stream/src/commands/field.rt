@@ -1,19 +1,21 @@
 ghost use Rattle.std.specs.Prelude.{◌≡◌, ◌∷◌, ◌++◌, [], ℕ, true, nat_le};
 ghost use Rattle.ws_code.specs.Code.{IsUnfinished};
+ghost use Rattle.ws_code.specs.Step.{IsStep};
 ghost use Rattle.ws_stream.specs.Elements.{element_rules};
 ghost use Rattle.ws_stream.specs.FieldOrder.{is_attribute};
-ghost use Rattle.ws_stream.specs.Machine.{words_bytes, front_bytes, are_words, is_front, unfinished_in, IsStep};
+ghost use Rattle.ws_stream.specs.Machine.{words_bytes, front_bytes, are_words, is_front, unfinished_in};
 
 use super::Commands;
 use super::phase::Phase;
+use crate::order_code::START_OF_FIELD;
 use crate::{Element, FieldStart};
 use ws_code::{Ffw, Push, Reason, ShortList};
 
 impl Commands {
     #[inline(always)]
     pub(super) fn field_first(&mut self, byte: u8) -> Push<Element>
-        requires { IsUnfinished element_rules self.old.place (0x1D ∷ []) }
-        ensures { IsStep self.old.place (0x1D ∷ []) byte
+        requires { IsUnfinished element_rules self.old.place (START_OF_FIELD ∷ []) }
+        ensures { IsStep element_rules self.old.place (START_OF_FIELD ∷ []) byte
             self.new.place (unfinished_in self.new.phase self.new.bytes self.new.kinds self.new.controls) result }
     {
         match byte {
@@ -31,8 +33,8 @@ impl Commands {
     #[inline(always)]
     pub(super) fn format_low(&mut self, high: u8, byte: u8) -> Push<Element>
         requires format { nat_le 0x40 high ≡ true }
-        requires begun { IsUnfinished element_rules self.old.place (0x1D ∷ high ∷ []) }
-        ensures { IsStep self.old.place (0x1D ∷ high ∷ []) byte
+        requires begun { IsUnfinished element_rules self.old.place (START_OF_FIELD ∷ high ∷ []) }
+        ensures { IsStep element_rules self.old.place (START_OF_FIELD ∷ high ∷ []) byte
             self.new.place (unfinished_in self.new.phase self.new.bytes self.new.kinds self.new.controls) result }
     {
         let word = u16::from(high) * 256 + u16::from(byte);
@@ -49,8 +51,8 @@ impl Commands {
     pub(super) fn field_next(&mut self, format: Ffw, byte: u8) -> Push<Element>
         requires words { are_words format self.old.controls ≡ true }
         requires begun { IsUnfinished element_rules self.old.place
-            (0x1D ∷ words_bytes format self.old.controls) }
-        ensures { IsStep self.old.place (0x1D ∷ words_bytes format self.old.controls) byte
+            (START_OF_FIELD ∷ words_bytes format self.old.controls) }
+        ensures { IsStep element_rules self.old.place (START_OF_FIELD ∷ words_bytes format self.old.controls) byte
             self.new.place (unfinished_in self.new.phase self.new.bytes self.new.kinds self.new.controls) result }
     {
         match byte {
@@ -71,9 +73,9 @@ impl Commands {
         requires words { are_words format self.old.controls ≡ true }
         requires control { nat_le 0x80 high ≡ true }
         requires begun { IsUnfinished element_rules self.old.place
-            (0x1D ∷ words_bytes format self.old.controls ++ high ∷ []) }
-        ensures { IsStep self.old.place
-            (0x1D ∷ words_bytes format self.old.controls ++ high ∷ []) byte
+            (START_OF_FIELD ∷ words_bytes format self.old.controls ++ high ∷ []) }
+        ensures { IsStep element_rules self.old.place
+            (START_OF_FIELD ∷ words_bytes format self.old.controls ++ high ∷ []) byte
             self.new.place (unfinished_in self.new.phase self.new.bytes self.new.kinds self.new.controls) result }
     {
         self.controls.push(u16::from(high) * 256 + u16::from(byte));
@@ -90,9 +92,9 @@ impl Commands {
         requires front { is_front format self.old.controls ≡ true }
         requires attribute { is_attribute attribute ≡ true }
         requires begun { IsUnfinished element_rules self.old.place
-            (0x1D ∷ front_bytes format self.old.controls ++ attribute ∷ []) }
-        ensures { IsStep self.old.place
-            (0x1D ∷ front_bytes format self.old.controls ++ attribute ∷ []) byte
+            (START_OF_FIELD ∷ front_bytes format self.old.controls ++ attribute ∷ []) }
+        ensures { IsStep element_rules self.old.place
+            (START_OF_FIELD ∷ front_bytes format self.old.controls ++ attribute ∷ []) byte
             self.new.place (unfinished_in self.new.phase self.new.bytes self.new.kinds self.new.controls) result }
     {
         self.wait_for(Phase::LengthLow(format, attribute, byte))
@@ -109,9 +111,9 @@ impl Commands {
         requires front { is_front format self.old.controls ≡ true }
         requires attribute { is_attribute attribute ≡ true }
         requires begun { IsUnfinished element_rules self.old.place
-            (0x1D ∷ front_bytes format self.old.controls ++ attribute ∷ high ∷ []) }
-        ensures { IsStep self.old.place
-            (0x1D ∷ front_bytes format self.old.controls ++ attribute ∷ high ∷ []) byte
+            (START_OF_FIELD ∷ front_bytes format self.old.controls ++ attribute ∷ high ∷ []) }
+        ensures { IsStep element_rules self.old.place
+            (START_OF_FIELD ∷ front_bytes format self.old.controls ++ attribute ∷ high ∷ []) byte
             self.new.place (unfinished_in self.new.phase self.new.bytes self.new.kinds self.new.controls) result }
     {
         let controls = match format {

@@ -1,18 +1,20 @@
 ghost use Rattle.std.specs.Prelude.{◌≡◌, ◌∷◌, ◌++◌, ◌+◌, [], ℕ};
 ghost use Rattle.ws_code.specs.Code.{IsUnfinished};
+ghost use Rattle.ws_code.specs.Step.{IsStep};
 ghost use Rattle.ws_stream.specs.Elements.{element_rules, row_and_column};
-ghost use Rattle.ws_stream.specs.Machine.{order_byte, unfinished_in, IsStep};
+ghost use Rattle.ws_stream.specs.Machine.{order_byte, unfinished_in};
 
 use super::Commands;
 use super::phase::{Order, Phase};
+use crate::order_code::{ERASE_TO_ADDRESS, REPEAT_TO_ADDRESS, START_OF_HEADER};
 use crate::{Element, EraseList, SohBytes};
-use ws_code::{Address, DataByte, Push, Reason, ShortList};
+use ws_code::{Address, DataByte, Push, ROWS, Reason, ShortList};
 
 impl Commands {
     #[inline(always)]
     pub(super) fn soh_length(&mut self, byte: u8) -> Push<Element>
-        requires { IsUnfinished element_rules self.old.place (0x01 ∷ []) }
-        ensures { IsStep self.old.place (0x01 ∷ []) byte
+        requires { IsUnfinished element_rules self.old.place (START_OF_HEADER ∷ []) }
+        ensures { IsStep element_rules self.old.place (START_OF_HEADER ∷ []) byte
             self.new.place (unfinished_in self.new.phase self.new.bytes self.new.kinds self.new.controls) result }
     {
         if byte > 7 {
@@ -29,8 +31,8 @@ impl Commands {
     pub(super) fn soh_byte(&mut self, count: u8, byte: u8) -> Push<Element>
         requires phase { self.old.phase ≡ Phase.SohByte count }
         requires begun { IsUnfinished element_rules self.old.place
-            (0x01 ∷ count ∷ self.old.bytes) }
-        ensures { IsStep self.old.place (0x01 ∷ count ∷ self.old.bytes) byte
+            (START_OF_HEADER ∷ count ∷ self.old.bytes) }
+        ensures { IsStep element_rules self.old.place (START_OF_HEADER ∷ count ∷ self.old.bytes) byte
             self.new.place (unfinished_in self.new.phase self.new.bytes self.new.kinds self.new.controls) result }
     {
         if self.bytes.len() == 2 && byte != 0 {
@@ -47,10 +49,10 @@ impl Commands {
     #[inline(always)]
     pub(super) fn row(&mut self, order: Order, byte: u8) -> Push<Element>
         requires { IsUnfinished element_rules self.old.place (order_byte order ∷ []) }
-        ensures { IsStep self.old.place (order_byte order ∷ []) byte
+        ensures { IsStep element_rules self.old.place (order_byte order ∷ []) byte
             self.new.place (unfinished_in self.new.phase self.new.bytes self.new.kinds self.new.controls) result }
     {
-        if byte < 1 || byte > 24 {
+        if byte < 1 || byte > ROWS {
             return Push::Bad(Reason::BadAddress);
         }
         self.wait_for(Phase::Column(order, byte))
@@ -59,7 +61,7 @@ impl Commands {
     #[inline(always)]
     pub(super) fn column(&mut self, order: Order, row: u8, byte: u8) -> Push<Element>
         requires { IsUnfinished element_rules self.old.place (order_byte order ∷ row ∷ []) }
-        ensures { IsStep self.old.place (order_byte order ∷ row ∷ []) byte
+        ensures { IsStep element_rules self.old.place (order_byte order ∷ row ∷ []) byte
             self.new.place (unfinished_in self.new.phase self.new.bytes self.new.kinds self.new.controls) result }
     {
         let to = match Address::new(row, byte) {
@@ -77,8 +79,8 @@ impl Commands {
 
     #[inline(always)]
     pub(super) fn repeat_byte(&mut self, to: Address, byte: u8) -> Push<Element>
-        requires { IsUnfinished element_rules self.old.place (0x02 ∷ row_and_column to) }
-        ensures { IsStep self.old.place (0x02 ∷ row_and_column to) byte
+        requires { IsUnfinished element_rules self.old.place (REPEAT_TO_ADDRESS ∷ row_and_column to) }
+        ensures { IsStep element_rules self.old.place (REPEAT_TO_ADDRESS ∷ row_and_column to) byte
             self.new.place (unfinished_in self.new.phase self.new.bytes self.new.kinds self.new.controls) result }
     {
         match DataByte::new(byte) {
@@ -89,8 +91,8 @@ impl Commands {
 
     #[inline(always)]
     pub(super) fn erase_length(&mut self, to: Address, byte: u8) -> Push<Element>
-        requires { IsUnfinished element_rules self.old.place (0x03 ∷ row_and_column to) }
-        ensures { IsStep self.old.place (0x03 ∷ row_and_column to) byte
+        requires { IsUnfinished element_rules self.old.place (ERASE_TO_ADDRESS ∷ row_and_column to) }
+        ensures { IsStep element_rules self.old.place (ERASE_TO_ADDRESS ∷ row_and_column to) byte
             self.new.place (unfinished_in self.new.phase self.new.bytes self.new.kinds self.new.controls) result }
     {
         if byte < 2 || byte > 5 {
@@ -104,9 +106,9 @@ impl Commands {
     pub(super) fn erase_kind(&mut self, to: Address, count: u8, byte: u8) -> Push<Element>
         requires phase { self.old.phase ≡ Phase.EraseKind to count }
         requires begun { IsUnfinished element_rules self.old.place
-            (0x03 ∷ row_and_column to ++ (count + 1) ∷ self.old.kinds) }
-        ensures { IsStep self.old.place
-            (0x03 ∷ row_and_column to ++ (count + 1) ∷ self.old.kinds) byte
+            (ERASE_TO_ADDRESS ∷ row_and_column to ++ (count + 1) ∷ self.old.kinds) }
+        ensures { IsStep element_rules self.old.place
+            (ERASE_TO_ADDRESS ∷ row_and_column to ++ (count + 1) ∷ self.old.kinds) byte
             self.new.place (unfinished_in self.new.phase self.new.bytes self.new.kinds self.new.controls) result }
     {
         if byte != 0 && byte != 0xff {
