@@ -104,7 +104,7 @@ fn put_state<S: Sink>(sink: &mut S, output: Output, screen: &Screen) -> Output
 fn field_count(screen: &Screen) -> u64
     ensures { result ≡ length screen.now.fields }
 {
-    screen.fields().len() as u64
+    screen.field_count() as u64
 }
 
 fn lock_name(is_locked: bool) -> &'static str

@@ -1,5 +1,5 @@
--- What a byte may make of a machine: the bytes of an unfinished unit grow by it, or it ends the unit, or no unit goes on
--- with it.
+-- What a byte may make of a machine: the bytes of an unfinished unit grow by it, or it ends the unit, or no unit goes
+-- on with it.
 use Rattle.std.specs.Prelude.{ℕ, ◌≡◌, List, [], ◌∷◌, ◌++◌}
 use Rattle.ws_code.specs.Code.{Rules, IsSpelled, IsPrefix, IsUnfinished}
 use Rattle.ws_code.specs.declared.code.Push.{Push}
@@ -7,6 +7,8 @@ use Rattle.ws_code.specs.declared.code.Push.TheVariants.{More, Unit as Whole, Ba
 
 -- the answer to the byte, by the place and the bytes before it, and by those that the machine then holds
 abbrev pub IsStep : {Place U : Type 0} → Rules Place U → Place → List ℕ → ℕ → Place → List ℕ → Push U → Type 0
-IsStep rules place begun b place' begun' More = (place' ≡ place) × (begun' ≡ begun ++ b ∷ []) × IsUnfinished rules place (begun ++ b ∷ [])
+IsStep rules place begun b place' begun' More =
+    (place' ≡ place) × (begun' ≡ begun ++ b ∷ []) × IsUnfinished rules place (begun ++ b ∷ [])
 IsStep rules place begun b place' begun' (Whole unit) = IsSpelled rules place (begun ++ b ∷ []) unit
-IsStep rules place begun b place' begun' (Bad reason) = (IsPrefix rules place (begun ++ b ∷ []) → ⊥) × (reason ≡ rules.reason place begun b)
+IsStep rules place begun b place' begun' (Bad reason) =
+    (IsPrefix rules place (begun ++ b ∷ []) → ⊥) × (reason ≡ rules.reason place begun b)

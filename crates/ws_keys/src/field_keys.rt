@@ -9,14 +9,14 @@ use crate::answer::Answer;
 use crate::edit::{Change, FieldEdit, is_signed};
 use crate::key::KeyRefusal;
 use crate::movement::next_field;
-use ws_code::Address;
+use ws_code::{Address, CELLS};
 use ws_screen::{Field, Screen};
 
 // The open field, at an unlocked keyboard.
-pub fn entered(screen: &Screen) -> Result<Field, KeyRefusal>
+pub fn entered_field(screen: &Screen) -> Result<Field, KeyRefusal>
     ensures { MatchResult result
         (λ field. (screen.now.locked ≡ false) × (open_field screen.now ≡ Some field)
-        × (1 ≤ field.length) × (field.start + field.length ≤ 1920))
+        × (1 ≤ field.length) × (field.start + field.length ≤ CELLS))
         (λ why. Spec.first_of (Spec.locked screen.now ∷ Spec.protected screen.now ∷ []) ≡ Some why) }
 {
     if screen.locked() {
@@ -47,7 +47,7 @@ pub fn change_field(screen: &mut Screen, field: &Field, change: Change, to: Addr
 pub fn delete(screen: &mut Screen) -> Result<Option<Answer>, KeyRefusal>
     ensures { Spec.Pressed Pressing.Delete screen.old screen.new result }
 {
-    let field = entered(screen)?;
+    let field = entered_field(screen)?;
     let to = screen.cursor();
     change_field(screen, &field, Change::Delete, to);
     Ok(None)
@@ -56,7 +56,7 @@ pub fn delete(screen: &mut Screen) -> Result<Option<Answer>, KeyRefusal>
 pub fn exit_field(screen: &mut Screen) -> Result<Option<Answer>, KeyRefusal>
     ensures { Spec.Pressed Pressing.FieldExit screen.old screen.new result }
 {
-    let field = entered(screen)?;
+    let field = entered_field(screen)?;
     let to = next_field(screen);
     change_field(screen, &field, Change::Exit, to);
     Ok(None)
@@ -65,7 +65,7 @@ pub fn exit_field(screen: &mut Screen) -> Result<Option<Answer>, KeyRefusal>
 pub fn exit_with_minus(screen: &mut Screen) -> Result<Option<Answer>, KeyRefusal>
     ensures { Spec.Pressed Pressing.FieldMinus screen.old screen.new result }
 {
-    let field = entered(screen)?;
+    let field = entered_field(screen)?;
     if !is_signed(field.format) {
         return Err(KeyRefusal::WrongCharacter);
     }
@@ -77,7 +77,7 @@ pub fn exit_with_minus(screen: &mut Screen) -> Result<Option<Answer>, KeyRefusal
 pub fn dup(screen: &mut Screen) -> Result<Option<Answer>, KeyRefusal>
     ensures { Spec.Pressed Pressing.Dup screen.old screen.new result }
 {
-    let field = entered(screen)?;
+    let field = entered_field(screen)?;
     if !field.format.dup() {
         return Err(KeyRefusal::DupNotAllowed);
     }

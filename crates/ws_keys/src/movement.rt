@@ -2,20 +2,20 @@
 ghost use Rattle.std.specs.Prelude.{◌≡◌, ◌<◌, ◌+◌, ◌%◌, ◌∷◌, ◌&&◌, [], Some, None, find, nat_lt, if◌then◌else◌};
 ghost use Rattle.ws_screen.specs.Formats.{find_last};
 ghost use Rattle.ws_screen.specs.Keyed.{cursor_edit};
-ghost use Rattle.ws_screen.specs.Shown.{is_open};
+ghost use Rattle.ws_screen.specs.Shown.{is_non_bypass};
 ghost use Rattle.ws_keys.specs.Keys as Spec;
 
 use crate::answer::Answer;
 use crate::key::KeyRefusal;
-use ws_code::Address;
+use ws_code::{Address, CELLS};
 use ws_screen::{Field, Screen};
 
 // The place some cells on, from the last to the first.
 pub fn moved(from: Address, cells: u16) -> Address
-    requires { cells < 1920 }
-    ensures { result ≡ (from + cells) % 1920 }
+    requires { cells < CELLS }
+    ensures { result ≡ (from + cells) % CELLS }
 {
-    match Address::at((from.place() + cells) % 1920) {
+    match Address::at((from.place() + cells) % CELLS) {
         Some(to) => to,
         None => from,
     }
@@ -39,7 +39,7 @@ pub fn next_field(screen: &Screen) -> Address
 {
     let fields = screen.fields();
     let cursor = screen.cursor();
-    match first_behind(fields.as_slice(), cursor).or(first_open(fields.as_slice())) {
+    match first_behind(fields.as_slice(), cursor).or(first_non_bypass(fields.as_slice())) {
         Some(field) => field.start,
         None => cursor,
     }
@@ -47,21 +47,21 @@ pub fn next_field(screen: &Screen) -> Address
 
 // Whether keys enter a field that starts behind a place.
 fn opens_behind(field: &Field, at: Address) -> bool
-    ensures { result ≡ (is_open field.now && nat_lt at field.now.start) }
+    ensures { result ≡ (is_non_bypass field.now && nat_lt at field.now.start) }
 {
     !field.format.bypass() && at.place() < field.start.place()
 }
 
 // Whether keys enter a field that starts before a place.
 fn opens_before(field: &Field, at: Address) -> bool
-    ensures { result ≡ (is_open field.now && nat_lt field.now.start at) }
+    ensures { result ≡ (is_non_bypass field.now && nat_lt field.now.start at) }
 {
     !field.format.bypass() && field.start.place() < at.place()
 }
 
 // The first field behind a place, of those that keys enter.
 fn first_behind(fields: &[Field], at: Address) -> Option<Field>
-    ensures { result ≡ find (λ f. is_open f && nat_lt at f.start) fields.now }
+    ensures { result ≡ find (λ f. is_non_bypass f && nat_lt at f.start) fields.now }
 {
     for field in fields {
         if opens_behind(field, at) {
@@ -72,8 +72,8 @@ fn first_behind(fields: &[Field], at: Address) -> Option<Field>
 }
 
 // The first field that keys enter.
-fn first_open(fields: &[Field]) -> Option<Field>
-    ensures { result ≡ find is_open fields.now }
+fn first_non_bypass(fields: &[Field]) -> Option<Field>
+    ensures { result ≡ find is_non_bypass fields.now }
 {
     for field in fields {
         if !field.format.bypass() {
@@ -89,7 +89,7 @@ pub fn field_before(screen: &Screen) -> Address
 {
     let fields = screen.fields();
     let cursor = screen.cursor();
-    match last_before(fields.as_slice(), cursor).or(last_open(fields.as_slice())) {
+    match last_before(fields.as_slice(), cursor).or(last_non_bypass(fields.as_slice())) {
         Some(field) => field.start,
         None => cursor,
     }
@@ -104,7 +104,7 @@ fn last_of(last: Option<Field>, passes: bool, field: Field) -> Option<Field>
 
 // The last field that starts before a place, of those that keys enter.
 fn last_before(fields: &[Field], at: Address) -> Option<Field>
-    ensures { result ≡ find_last (λ f. is_open f && nat_lt f.start at) fields.now }
+    ensures { result ≡ find_last (λ f. is_non_bypass f && nat_lt f.start at) fields.now }
 {
     let mut last = None;
     for field in fields {
@@ -114,8 +114,8 @@ fn last_before(fields: &[Field], at: Address) -> Option<Field>
 }
 
 // The last field that keys enter.
-fn last_open(fields: &[Field]) -> Option<Field>
-    ensures { result ≡ find_last is_open fields.now }
+fn last_non_bypass(fields: &[Field]) -> Option<Field>
+    ensures { result ≡ find_last is_non_bypass fields.now }
 {
     let mut last = None;
     for field in fields {

@@ -9,10 +9,10 @@ ghost use Rattle.ws_keys.specs.declared.key.KeyRefusal.TheVariants as Why;
 
 use crate::answer::Answer;
 use crate::edit::{Change, is_signed};
-use crate::field_keys::{change_field, entered};
+use crate::field_keys::{change_field, entered_field};
 use crate::key::KeyRefusal;
 use crate::movement::{moved, next_field};
-use ws_code::{Address, Shift, ebcdic};
+use ws_code::{Address, CELLS, Shift, ebcdic};
 use ws_screen::{Field, Screen};
 
 // Whether a shift lets a character in.
@@ -43,7 +43,7 @@ fn as_entered(field: &Field, character: char) -> char
 // A field's last cell.
 fn last_cell(field: &Field) -> u16
     requires some { 1 ≤ field.now.length }
-    requires within { field.now.start + field.now.length ≤ 1920 }
+    requires within { field.now.start + field.now.length ≤ CELLS }
     ensures { result ≡ Spec.last_cell field.now }
 {
     field.start.place() + field.length - 1
@@ -52,7 +52,7 @@ fn last_cell(field: &Field) -> u16
 // Whether the cursor stands in the sign cell of a signed numeric field.
 fn at_sign(screen: &Screen, field: &Field) -> bool
     requires some { 1 ≤ field.now.length }
-    requires within { field.now.start + field.now.length ≤ 1920 }
+    requires within { field.now.start + field.now.length ≤ CELLS }
     ensures { result ≡ (Contents.is_signed field.now && (screen.now.cursor == Spec.last_cell field.now)) }
 {
     is_signed(field.format) && screen.cursor().place() == last_cell(field)
@@ -61,7 +61,7 @@ fn at_sign(screen: &Screen, field: &Field) -> bool
 // The byte of a character that the open field takes at the cursor.
 fn byte_for(screen: &Screen, field: &Field, character: char) -> Result<u8, KeyRefusal>
     requires some { 1 ≤ field.now.length }
-    requires within { field.now.start + field.now.length ≤ 1920 }
+    requires within { field.now.start + field.now.length ≤ CELLS }
     ensures { MatchResult result
         (λ byte. (Spec.forbids screen.now character field.now ≡ false)
         × (byte ≡ Spec.byte_entered field.now character) × (is_order byte ≡ false))
@@ -83,7 +83,7 @@ fn byte_for(screen: &Screen, field: &Field, character: char) -> Result<u8, KeyRe
 fn after_character(screen: &Screen, field: &Field) -> Address
     requires open_ { open_field screen.now ≡ Some field.now }
     requires some { 1 ≤ field.now.length }
-    requires within { field.now.start + field.now.length ≤ 1920 }
+    requires within { field.now.start + field.now.length ≤ CELLS }
     ensures { result ≡ Spec.after_character screen.now field.now }
 {
     if screen.cursor().place() == last_cell(field) {
@@ -96,7 +96,7 @@ fn after_character(screen: &Screen, field: &Field) -> Address
 pub fn type_character(screen: &mut Screen, character: char) -> Result<Option<Answer>, KeyRefusal>
     ensures { Spec.Pressed (Pressing.Char character) screen.old screen.new result }
 {
-    let field = entered(screen)?;
+    let field = entered_field(screen)?;
     let byte = byte_for(screen, &field, character)?;
     let to = after_character(screen, &field);
     change_field(screen, &field, Change::Put(byte), to);
@@ -105,9 +105,9 @@ pub fn type_character(screen: &mut Screen, character: char) -> Result<Option<Ans
 
 // The last cell that characters are entered in.
 fn last_entered(field: &Field) -> u16
-    requires { field.now.start + field.now.length ≤ 1920 }
+    requires { field.now.start + field.now.length ≤ CELLS }
     ensures value { result ≡ Spec.last_entered field.now }
-    ensures within { 1 ≤ field.now.start + field.now.length → result < 1920 }
+    ensures within { 1 ≤ field.now.start + field.now.length → result < CELLS }
 {
     let end = field.start.place() + field.length;
     if is_signed(field.format) {
@@ -120,7 +120,7 @@ fn last_entered(field: &Field) -> u16
 // Whether a byte can be inserted: the last cell that characters are entered in is empty.
 fn has_room(screen: &Screen, field: &Field) -> bool
     requires some { 1 ≤ field.now.length }
-    requires within { field.now.start + field.now.length ≤ 1920 }
+    requires within { field.now.start + field.now.length ≤ CELLS }
     ensures { result ≡ (slice_index screen.now.cells (Spec.last_entered field.now) == 0) }
 {
     let Some(at) = Address::at(last_entered(field)) else {
@@ -132,7 +132,7 @@ fn has_room(screen: &Screen, field: &Field) -> bool
 pub fn insert_character(screen: &mut Screen, character: char) -> Result<Option<Answer>, KeyRefusal>
     ensures { Spec.Pressed (Pressing.Insert character) screen.old screen.new result }
 {
-    let field = entered(screen)?;
+    let field = entered_field(screen)?;
     let byte = byte_for(screen, &field, character)?;
     if !has_room(screen, &field) {
         return Err(KeyRefusal::NoRoom);

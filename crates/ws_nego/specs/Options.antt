@@ -1,10 +1,12 @@
 use Rattle.std.specs.Prelude.{◌≡◌, ℕ, List, [], ◌∷◌, ◌==◌, if◌then◌else◌, Option, Some, None}
 use Rattle.std.specs.List.{flat_map}
 use Rattle.ws_telnet.specs.Token.{telnet_spelling}
+use Rattle.ws_telnet.specs.declared.codes.TheConstants.{BINARY, TERMINAL_TYPE, END_OF_RECORD}
 use Rattle.ws_telnet.specs.declared.token.Verb.{Verb}
 use Rattle.ws_telnet.specs.declared.token.Verb.TheVariants.{Will, Wont, Do, Dont}
 use Rattle.ws_telnet.specs.declared.token.Telnet.{Telnet}
 use Rattle.ws_telnet.specs.declared.token.Telnet.TheVariants.{Option as Negotiate, Sub as Subnegotiate}
+use Rattle.ws_nego.specs.declared.options.TheConstants.{IS, SEND}
 use Rattle.ws_nego.specs.declared.options.Direction.{Direction}
 use Rattle.ws_nego.specs.declared.options.Direction.TheVariants.{StationBinary, StationTerminalType, StationEndOfRecord, HostBinary, HostEndOfRecord}
 use Rattle.ws_nego.specs.declared.options.OptionTable.{OptionTable}
@@ -13,13 +15,13 @@ use Rattle.ws_nego.specs.declared.options.OptionTable.{OptionTable}
 
 -- the option codes of BINARY (RFC 856), TERMINAL-TYPE (RFC 1091) and END-OF-RECORD (RFC 885)
 abbrev pub binary : ℕ
-binary = 0
+binary = BINARY
 
 abbrev pub terminal_type : ℕ
-terminal_type = 0x18
+terminal_type = TERMINAL_TYPE
 
 abbrev pub end_of_record : ℕ
-end_of_record = 0x19
+end_of_record = END_OF_RECORD
 
 -- the entry of a direction
 abbrev pub entry : {T : Type 0} → OptionTable T → Direction → T
@@ -89,10 +91,10 @@ option_tokens (Some verb) option = Negotiate verb option ∷ []
 
 -- the subnegotiation of TERMINAL-TYPE that begins with IS or SEND (RFC 1091, section 2)
 abbrev pub byte_of_is : ℕ
-byte_of_is = 0
+byte_of_is = IS
 
 abbrev pub byte_of_send : ℕ
-byte_of_send = 1
+byte_of_send = SEND
 
 abbrev pub terminal_type_token : ℕ → List ℕ → Telnet
 terminal_type_token code name = Subnegotiate (record { option = terminal_type; data_ = code ∷ name })

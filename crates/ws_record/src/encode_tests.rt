@@ -210,3 +210,23 @@ fn flags_and_an_empty_body(rt: HostRuntime) {
         Err(Fault::Write)
     );
 }
+
+#[test]
+fn faults_have_their_texts(rt: HostRuntime) -> Result<(), Fail> {
+    let texts = [
+        (
+            EncodeFault::TooBig { index: 2 },
+            "item 2 is a record of more than 65,535 bytes",
+        ),
+        (
+            EncodeFault::BadSequence { index: 0 },
+            "item 0 is a record whose units are no body",
+        ),
+        (EncodeFault::Memory, "memory"),
+        (EncodeFault::Write, "cannot write"),
+    ];
+    for (fault, text) in texts {
+        assert_eq!(rt; format!(in rt.alloc(); "{fault}")?.as_str(), text);
+    }
+    Ok(())
+}

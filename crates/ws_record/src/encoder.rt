@@ -10,6 +10,8 @@ ghost use Rattle.ws_record.specs.Encode.{IsListFault, IsEncodeFault, IsWriteFaul
 use crate::Item;
 use crate::item_writer::{body_length, write_items};
 use std::alloc::Global;
+use std::error::Error;
+use std::fmt;
 use ws_code::{Body, Sink, VecSink};
 use ws_telnet::Telnet;
 
@@ -25,6 +27,25 @@ pub enum EncodeFault {
     /// The sink failed.
     Write,
 }
+
+impl fmt::Display for EncodeFault {
+    fn fmt<W: fmt::Write>(&self, f: &mut fmt::Formatter<W>) -> fmt::Result {
+        match self {
+            EncodeFault::TooBig { index } => write!(
+                f,
+                "item {index} is a record of more than 65,535 bytes"
+            ),
+            EncodeFault::BadSequence { index } => write!(
+                f,
+                "item {index} is a record whose units are no body"
+            ),
+            EncodeFault::Memory => write!(f, "memory"),
+            EncodeFault::Write => write!(f, "cannot write"),
+        }
+    }
+}
+
+impl Error for EncodeFault {}
 
 /// The plain spelling of the items: each record with its IAC EOR, no command inside it, and each
 /// command (RFC 1205, section 3; RFC 854; RFC 885).

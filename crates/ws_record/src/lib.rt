@@ -27,8 +27,10 @@ pub use receiver::{Fed, Receiver};
 pub use record::{Head, Item, Record};
 pub use record_writer::write_record;
 pub use ws_code::{
-    DeviceFailed, Fault, ReadSource, Sink, SliceSource, Source, VecSink, WriteSink, write_whole,
+    Body, Code, DeviceFailed, Fault, List, Push, ReadSource, Reason, Sink, SliceSource, Source,
+    VecSink, WriteSink, write_whole,
 };
+pub use ws_telnet::{CommandCode, Sub, Telnet, Verb};
 
 #[cfg(test)]
 mod encode_tests;

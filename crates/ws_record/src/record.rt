@@ -13,7 +13,7 @@ pub struct Head {
 }
 
 /// A record: what its header says but for the length, and the units of its body.
-#[derive(Debug, Drop)]
+#[derive(Debug, Drop, PartialEq, Eq)]
 pub struct Record<U> {
     pub flags: u16,
     pub opcode: Opcode,
@@ -21,7 +21,7 @@ pub struct Record<U> {
 }
 
 /// What a stream is made of: records, and Telnet commands between and inside them.
-#[derive(Debug, Drop)]
+#[derive(Debug, Drop, PartialEq, Eq)]
 pub enum Item<U> {
     Record(Record<U>),
     Telnet(Telnet),

@@ -9,7 +9,7 @@ use Rattle.ws_screen.specs.Controls.{clears_mdt}
 use Rattle.ws_screen.specs.Faults.{first_of, sf_faults, shares}
 use Rattle.ws_screen.specs.Formats.{starts_at}
 use Rattle.ws_screen.specs.Shown.{AreApart, IsClean, IsLegal, Shown}
-use Rattle.ws_screen.specs.Steps.{Ends, after_cc1, entered, insert_field, reformatted}
+use Rattle.ws_screen.specs.Steps.{Ends, after_cc1, after_input_field, insert_field, with_format_at}
 use Rattle.std.specs.List.{list_any, slice_index}
 use borrow.Author.Tests.{ltb-true, ltb-false, eqb-true, eqb-false}
 use Rattle.ws_screen.specs.declared.field.Field.{Field}
@@ -44,8 +44,8 @@ apart-cc1 cc1 fs h = apart-map (after_cc1 cc1) (λ f. start_kept (clears_mdt cc1
     length_kept true f = refl
     length_kept false f = refl
 
-pub apart-reformatted : (start format : ℕ) (fs : List Field) → AreApart 0 fs → AreApart 0 (map (reformatted start format) fs)
-apart-reformatted start format fs h = apart-map (reformatted start format) (λ f. start_kept (f.start == start) f) (λ f. length_kept (f.start == start) f) 0 fs h
+pub apart-with_format_at : (start format : ℕ) (fs : List Field) → AreApart 0 fs → AreApart 0 (map (with_format_at start format) fs)
+apart-with_format_at start format fs h = apart-map (with_format_at start format) (λ f. start_kept (f.start == start) f) (λ f. length_kept (f.start == start) f) 0 fs h
   where
     start_kept : (t : Bool) (f : Field) → (if t then record f { format = format } else f).start ≡ f.start
     start_kept true f = refl
@@ -164,15 +164,15 @@ attribute-data a h = rw (lt-leb a 4 (omega arith), lt-leb a 21 (omega arith), ne
     go false false = refl
 
 -- legal fields stay legal
-pub apart-entered : (a : ℕ) (fs : List Field) (f : FieldOrder) → AreApart 0 fs → first_of (sf_faults a fs f) ≡ None → AreApart 0 (option_map_or (λ w. entered (a + 1) f.length w fs) f.format fs)
-apart-entered a fs f apart ok = go f.format refl
+pub apart-after_input_field : (a : ℕ) (fs : List Field) (f : FieldOrder) → AreApart 0 fs → first_of (sf_faults a fs f) ≡ None → AreApart 0 (option_map_or (λ w. after_input_field (a + 1) f.length w fs) f.format fs)
+apart-after_input_field a fs f apart ok = go f.format refl
   where
-    held : (w : ℕ) → f.format ≡ Some w → (t : Bool) → list_any (starts_at (a + 1)) fs ≡ t → AreApart 0 (if t then map (reformatted (a + 1) w) fs else insert_field (record { start = a + 1; length = f.length; format = w }) fs)
-    held w e true p = apart-reformatted (a + 1) w fs apart
+    held : (w : ℕ) → f.format ≡ Some w → (t : Bool) → list_any (starts_at (a + 1)) fs ≡ t → AreApart 0 (if t then map (with_format_at (a + 1) w) fs else insert_field (record { start = a + 1; length = f.length; format = w }) fs)
+    held w e true p = apart-with_format_at (a + 1) w fs apart
     held w e false p = let fit : IsNewOk a f.length fs = new_ok a fs f (ap is_some e) p ok in
         apart-insert (record { start = a + 1; length = f.length; format = w }) fit.some fit.ends 0 fs apart (omega arith) fit.apart
 
-    go : (o : Option ℕ) → f.format ≡ o → AreApart 0 (option_map_or (λ w. entered (a + 1) f.length w fs) o fs)
+    go : (o : Option ℕ) → f.format ≡ o → AreApart 0 (option_map_or (λ w. after_input_field (a + 1) f.length w fs) o fs)
     go None e = apart
     go (Some w) e = held w e (list_any (starts_at (a + 1)) fs) refl
 
@@ -195,15 +195,15 @@ pub few-map : (k : Field → Field) (fs : List Field) → length fs ≤ 256 → 
 few-map k fs h = omega (arith, length-map fs k)
 
 -- a field enters only where there is room
-pub few-entered : (a : ℕ) (fs : List Field) (f : FieldOrder) → length fs ≤ 256 → first_of (sf_faults a fs f) ≡ None → length (option_map_or (λ w. entered (a + 1) f.length w fs) f.format fs) ≤ 256
-few-entered a fs f few ok = go f.format refl
+pub few-after_input_field : (a : ℕ) (fs : List Field) (f : FieldOrder) → length fs ≤ 256 → first_of (sf_faults a fs f) ≡ None → length (option_map_or (λ w. after_input_field (a + 1) f.length w fs) f.format fs) ≤ 256
+few-after_input_field a fs f few ok = go f.format refl
   where
-    held : (w : ℕ) → f.format ≡ Some w → (t : Bool) → list_any (starts_at (a + 1)) fs ≡ t → length (if t then map (reformatted (a + 1) w) fs else insert_field (record { start = a + 1; length = f.length; format = w }) fs) ≤ 256
-    held w e true p = few-map (reformatted (a + 1) w) fs few
+    held : (w : ℕ) → f.format ≡ Some w → (t : Bool) → list_any (starts_at (a + 1)) fs ≡ t → length (if t then map (with_format_at (a + 1) w) fs else insert_field (record { start = a + 1; length = f.length; format = w }) fs) ≤ 256
+    held w e true p = few-map (with_format_at (a + 1) w) fs few
     held w e false p = let room : length fs ≢ 256 = (new_ok a fs f (ap is_some e) p ok).room in
         omega (arith, length-insert_field (record { start = a + 1; length = f.length; format = w }) fs)
 
-    go : (o : Option ℕ) → f.format ≡ o → length (option_map_or (λ w. entered (a + 1) f.length w fs) o fs) ≤ 256
+    go : (o : Option ℕ) → f.format ≡ o → length (option_map_or (λ w. after_input_field (a + 1) f.length w fs) o fs) ≤ 256
     go None e = few
     go (Some w) e = held w e (list_any (starts_at (a + 1)) fs) refl
 

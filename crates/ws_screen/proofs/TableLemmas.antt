@@ -9,7 +9,7 @@ use Rattle.ws_screen.specs.declared.field.Field.{Field}
 use Rattle.ws_screen.specs.Faults.{shares}
 use Rattle.ws_screen.specs.Formats.{starts_at}
 use Rattle.ws_screen.specs.Shown.{AreApart, holds}
-use Rattle.ws_screen.specs.Steps.{count_before, first_from, last_before, insert_field, reformatted}
+use Rattle.ws_screen.specs.Steps.{count_before, first_from, last_before, insert_field, with_format_at}
 
 -- THE FIELDS RISE
 
@@ -122,7 +122,7 @@ held_below s low fs apart held = go (nat_lt (count_before s fs) (length fs)) ref
     go true q = ltb-true _ _ q
     go false q = absurd (false≢true (sym (held_at s low fs apart ∙ ap (λ o. option_map_or (starts_at s) o false) (first_from-none s fs (ltb-false _ _ q))) ∙ held))
 
-kept : (s w low : ℕ) (fs : List Field) → AreApart low fs → s < low → map (reformatted s w) fs ≡ fs
+kept : (s w low : ℕ) (fs : List Field) → AreApart low fs → s < low → map (with_format_at s w) fs ≡ fs
 kept s w low [] apart small = refl
 kept s w low (f ∷ fs) apart small =
     let other : (f.start == s) ≡ false = ne_eqb f.start s (λ e. absurd (omega (arith, e, apart.0))) in
@@ -130,14 +130,14 @@ kept s w low (f ∷ fs) apart small =
 
 -- one field is reformatted
 pub reformatted_at : (s w low : ℕ) (fs : List Field) (d : Field) → AreApart low fs → list_any (starts_at s) fs ≡ true
-    → slice_set fs (count_before s fs) (record (get_or fs (count_before s fs) d) { format = w }) ≡ map (reformatted s w) fs
+    → slice_set fs (count_before s fs) (record (get_or fs (count_before s fs) d) { format = w }) ≡ map (with_format_at s w) fs
 reformatted_at s w low [] d apart held = absurd (false≢true held)
 reformatted_at s w low (f ∷ fs) d apart held = go (nat_lt f.start s) refl held (reformatted_at s w (f.start + f.length) fs d apart.2)
   where
     go : (t : Bool) → nat_lt f.start s ≡ t → ((f.start == s) || list_any (starts_at s) fs) ≡ true
-        → (list_any (starts_at s) fs ≡ true → slice_set fs (count_before s fs) (record (get_or fs (count_before s fs) d) { format = w }) ≡ map (reformatted s w) fs)
+        → (list_any (starts_at s) fs ≡ true → slice_set fs (count_before s fs) (record (get_or fs (count_before s fs) d) { format = w }) ≡ map (with_format_at s w) fs)
         → slice_set (f ∷ fs) (if t then suc (count_before s fs) else 0) (record (get_or (f ∷ fs) (if t then suc (count_before s fs) else 0) d) { format = w })
-        ≡ (if f.start == s then record f { format = w } else f) ∷ map (reformatted s w) fs
+        ≡ (if f.start == s then record f { format = w } else f) ∷ map (with_format_at s w) fs
     go true q held ih = let before : f.start < s = ltb-true f.start s q in
         let other : (f.start == s) ≡ false = ne_eqb f.start s (λ e. absurd (omega (arith, e))) in
         rw other (ap (λ l. f ∷ l) (ih (rw other at held)))
@@ -146,7 +146,7 @@ reformatted_at s w low (f ∷ fs) d apart held = go (nat_lt f.start s) refl held
         behind : s ≤ f.start
         behind = ltb-false f.start s q
 
-        which : (u : Bool) → (f.start == s) ≡ u → (u || list_any (starts_at s) fs) ≡ true → record f { format = w } ∷ fs ≡ (if u then record f { format = w } else f) ∷ map (reformatted s w) fs
+        which : (u : Bool) → (f.start == s) ≡ u → (u || list_any (starts_at s) fs) ≡ true → record f { format = w } ∷ fs ≡ (if u then record f { format = w } else f) ∷ map (with_format_at s w) fs
         which true r held = ap (λ l. record f { format = w } ∷ l) (sym (kept s w (f.start + f.length) fs apart.2 (omega (arith, apart.1, behind))))
         which false r held = absurd (false≢true (sym (none_at s (f.start + f.length) fs apart.2 (omega (arith, apart.1, behind))) ∙ held))
 

@@ -2,6 +2,8 @@
 -- orders Start of Field, Repeat to Address, Erase to Address).
 use Rattle.std.specs.Prelude.{ℕ, ◌+◌, List, [], ◌∷◌, Bool, Option, Some, None, length, ◌==◌, ◌&&◌, not, nat_lt, is_some, if◌then◌else◌, Result, Ok, Err}
 use Rattle.std.specs.List.{list_any}
+use Rattle.ws_code.specs.declared.address.TheConstants.{CELLS}
+use Rattle.ws_screen.specs.declared.format_table.TheConstants.{MAX_FIELDS}
 use Rattle.ws_code.specs.declared.reason.Reason.{Reason}
 use Rattle.ws_code.specs.declared.reason.Reason.TheVariants.{BackwardAddress, PastEnd, ZeroLength, FieldPastEnd, FieldOverlap, TableFull}
 use Rattle.ws_stream.specs.FieldOrder.{FieldOrder}
@@ -25,14 +27,14 @@ shares s n f = nat_lt s (f.start + f.length) && nat_lt f.start (s + n)
 abbrev pub sf_faults : ℕ → List Field → FieldOrder → List (Bool × Reason)
 sf_faults a fields f = let input = is_some f.format in
     let fresh = not (input && list_any (starts_at (a + 1)) fields) in
-    (a == 1920, PastEnd)
+    (a == CELLS, PastEnd)
     ∷ (fresh && input && (f.length == 0), ZeroLength)
-    ∷ (fresh && nat_lt 1920 (a + 1 + f.length), FieldPastEnd)
+    ∷ (fresh && nat_lt CELLS (a + 1 + f.length), FieldPastEnd)
     ∷ (fresh && input && list_any (shares (a + 1) f.length) fields, FieldOverlap)
-    ∷ (fresh && input && (length fields == 256), TableFull) ∷ []
+    ∷ (fresh && input && (length fields == MAX_FIELDS), TableFull) ∷ []
 
 abbrev pub faults : ℕ → List Field → Element → List (Bool × Reason)
-faults a fields (Put byte) = (a == 1920, PastEnd) ∷ []
+faults a fields (Put byte) = (a == CELLS, PastEnd) ∷ []
 faults a fields (Ra place byte) = (nat_lt place a, BackwardAddress) ∷ []
 faults a fields (Ea place kinds) = (nat_lt place a, BackwardAddress) ∷ []
 faults a fields (Sf f) = sf_faults a fields f

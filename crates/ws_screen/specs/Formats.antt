@@ -2,6 +2,7 @@
 use Rattle.std.specs.Prelude.{ℕ, ◌+◌, List, [], ◌∷◌, Bool, true, false, Option, Some, None, ◌==◌, find, if◌then◌else◌}
 use Rattle.std.specs.Option.{option_map_or, option_or}
 use Rattle.std.specs.List.{list_any, filter_map, range_with_len}
+use Rattle.ws_code.specs.declared.address.TheConstants.{CELLS}
 use Rattle.ws_code.specs.FormatWord.{is_bypass, is_modified, with_mdt}
 use Rattle.ws_stream.specs.declared.element.Element.TheVariants.{ClearUnit, ClearFormat, Soh, Sf}
 use Rattle.ws_screen.specs.declared.field.Field.{Field}
@@ -67,7 +68,7 @@ field_from h a = option_map_or (λ newest. option_map_or
 
 -- all fields, by start
 unfoldable pub fields : History → List Field
-fields h = filter_map (field_from h) (range_with_len 0 1920)
+fields h = filter_map (field_from h) (range_with_len 0 CELLS)
 
 -- a field starts there
 abbrev pub is_held : ℕ → History → Bool

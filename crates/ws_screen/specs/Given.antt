@@ -1,5 +1,6 @@
 -- The events give this screen: one fact for each part.
 use Rattle.std.specs.Prelude.{ℕ, ◌≡◌, ◌<◌, List, [], ◌∷◌, ◌++◌, Option, slice_index, false, ◌&&◌, is_some, if◌then◌else◌}
+use Rattle.ws_code.specs.declared.address.TheConstants.{CELLS}
 use Rattle.ws_stream.specs.Elements.{is_command}
 use Rattle.ws_stream.specs.declared.element.Element.{Element}
 use Rattle.ws_screen.specs.declared.open_write.OpenWrite.{OpenWrite}
@@ -11,7 +12,7 @@ use Rattle.ws_screen.specs.States.{switches, home_set, cursor, locked, message, 
 use Rattle.ws_screen.specs.Writes.{open_write}
 
 pub record Gives (h : History) (s : Shown) : Type 0 where
-  pub cells : (c : ℕ) → c < 1920 → slice_index s.cells c ≡ cell c h
+  pub cells : (c : ℕ) → c < CELLS → slice_index s.cells c ≡ cell c h
   pub fields_are : s.fields ≡ fields h
   pub switches_are : s.switches ≡ switches h
   pub home_is : s.home_set ≡ home_set h

@@ -2,6 +2,7 @@
 use Rattle.std.specs.Prelude.{ℕ, ◌-◌, ◌*◌, ◌%◌, List, Bool, false, ◌==◌, ◌||◌, if◌then◌else◌, map, find, reverse, take, slice_index, unwrap_or}
 use Rattle.std.specs.Option.{option_map_or}
 use Rattle.std.specs.List.{range_with_len}
+use Rattle.ws_code.specs.declared.address.TheConstants.{COLUMNS}
 use Rattle.ws_code.specs.Ebcdic.{char_of}
 use Rattle.ws_stream.specs.FieldOrder.{is_attribute}
 
@@ -26,4 +27,4 @@ shown_at cells c = if is_hidden cells c then 0x20 else shown_char (slice_index c
 
 -- the 80 characters of a row, counted from 1
 unfoldable pub row_chars : List ℕ → ℕ → List ℕ
-row_chars cells row = map (shown_at cells) (range_with_len ((row - 1) * 80) 80)
+row_chars cells row = map (shown_at cells) (range_with_len ((row - 1) * COLUMNS) COLUMNS)

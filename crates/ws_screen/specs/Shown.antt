@@ -2,6 +2,8 @@
 -- display's state.
 use Rattle.std.specs.Prelude.{ℕ, ◌≡◌, ◌≤◌, ◌+◌, List, [], ◌∷◌, Bool, false, Option, Some, None, length, not, find, nat_le, nat_lt, ◌&&◌, slice_index}
 use Rattle.std.specs.Option.{option_map_or}
+use Rattle.ws_code.specs.declared.address.TheConstants.{CELLS}
+use Rattle.ws_screen.specs.declared.format_table.TheConstants.{MAX_FIELDS}
 use Rattle.ws_code.specs.DataByte.{is_order}
 use Rattle.ws_code.specs.FormatWord.{is_bypass}
 use Rattle.ws_screen.specs.declared.field.Field.{Field}
@@ -32,14 +34,14 @@ abbrev pub holds : Field → ℕ → Bool
 holds f c = spans f.start (f.start + f.length) c
 
 -- keys enter the field
-abbrev pub is_open : Field → Bool
-is_open f = not (is_bypass f.format)
+abbrev pub is_non_bypass : Field → Bool
+is_non_bypass f = not (is_bypass f.format)
 
 -- the cursor's home: where an Insert Cursor set it, else the first cell of the first field that
 -- keys enter, else the first cell of all
 abbrev pub home_of : Option ℕ → List Field → ℕ
 home_of (Some place) fields = place
-home_of None fields = option_map_or (λ f. f.start) (find is_open fields) 0
+home_of None fields = option_map_or (λ f. f.start) (find is_non_bypass fields) 0
 
 -- the address of the open write
 abbrev pub address_of : Option OpenWrite → ℕ
@@ -48,7 +50,7 @@ address_of o = option_map_or (λ w. w.address) o 0
 -- fields from a place on, one after another on the screen, none of them empty: so no two share a
 -- cell
 abbrev pub AreApart : ℕ → List Field → Type 0
-AreApart low [] = low ≤ 1920
+AreApart low [] = low ≤ CELLS
 AreApart low (f ∷ fs) = (low ≤ f.start) × (1 ≤ f.length) × AreApart (f.start + f.length) fs
 
 -- no cell holds an order code
@@ -58,8 +60,8 @@ IsClean cells = (c : ℕ) → is_order (slice_index cells c) ≡ false
 -- what is true of every screen: its size, clean cells, legal fields, and an address on the screen
 -- or just past it
 pub record IsLegal (s : Shown) : Type 0 where
-  pub size : length s.cells ≡ 1920
+  pub size : length s.cells ≡ CELLS
   pub clean : IsClean s.cells
   pub apart : AreApart 0 s.fields
-  pub few : length s.fields ≤ 256
-  pub within : address_of s.writing ≤ 1920
+  pub few : length s.fields ≤ MAX_FIELDS
+  pub within : address_of s.writing ≤ CELLS

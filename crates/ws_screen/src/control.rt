@@ -1,32 +1,71 @@
 //! What the control characters of a command do.
-ghost use Rattle.std.specs.Prelude.{◌≡◌, ◌<◌, ◌==◌, if◌then◌else◌, true, false, Some, unwrap_or};
-ghost use Rattle.ws_screen.specs.Controls.{cc1_code, clears_mdt, is_nulled, has_bit, goes_home, light};
+ghost use Rattle.std.specs.Prelude.{◌≡◌, ◌<◌, if◌then◌else◌, true, false, Some, unwrap_or};
+ghost use Rattle.ws_screen.specs.Controls.{cc1_code, effect_of, clears_mdt, is_nulled, locks_keyboard, has_bit, goes_home, light};
 
 use crate::Field;
+use crate::control_effect::{Cleared, ControlEffect, Nulled};
 use ws_code::Address;
+
+/// What a code of a CC1 does.
+fn effect(code: u8) -> ControlEffect
+    requires { code < 8 }
+    ensures { result ≡ effect_of code }
+{
+    let (locks, clears, nulls) = match code {
+        0 => (false, Cleared::NoField, Nulled::NoField),
+        1 => (true, Cleared::NoField, Nulled::NoField),
+        2 => (true, Cleared::NonBypass, Nulled::NoField),
+        3 => (true, Cleared::EveryField, Nulled::NoField),
+        4 => (true, Cleared::NoField, Nulled::ModifiedNonBypass),
+        5 => (true, Cleared::NonBypass, Nulled::NonBypass),
+        6 => (true, Cleared::NonBypass, Nulled::ModifiedNonBypass),
+        _ => (true, Cleared::EveryField, Nulled::NonBypass),
+    };
+    ControlEffect {
+        locks,
+        clears,
+        nulls,
+    }
+}
+
+/// What a CC1 does: its high three bits are the code.
+pub fn effect_of_cc1(cc1: u8) -> ControlEffect
+    ensures { result ≡ effect_of (cc1_code cc1) }
+{
+    effect(cc1 / 32 % 8)
+}
 
 /// Whether a CC1 nulls a field.
 pub fn nulls(cc1: u8, field: Field) -> bool
     ensures { result ≡ is_nulled cc1 field }
 {
-    let code = cc1 / 32;
-    !field.format.bypass()
-        && (code == 5 || code == 7 || (field.format.modified() && (code == 4 || code == 6)))
+    match effect_of_cc1(cc1).nulls {
+        Nulled::NoField => false,
+        Nulled::ModifiedNonBypass => !field.format.bypass() && field.format.modified(),
+        Nulled::NonBypass => !field.format.bypass(),
+    }
 }
 
 /// Whether a CC1 turns the MDT of a field off.
 pub fn clears(cc1: u8, bypass: bool) -> bool
     ensures { result ≡ clears_mdt cc1 bypass }
 {
-    let code = cc1 / 32;
-    code == 3 || code == 7 || (!bypass && (code == 2 || code == 5 || code == 6))
+    match effect_of_cc1(cc1).clears {
+        Cleared::NoField => false,
+        Cleared::NonBypass => !bypass,
+        Cleared::EveryField => true,
+    }
 }
 
 /// Whether the keyboard is locked after a CC1.
 pub fn locked_after(cc1: u8, locked: bool) -> bool
-    ensures { result ≡ (if cc1_code cc1 == 0 then locked else true) }
+    ensures { result ≡ (if locks_keyboard cc1 then true else locked) }
 {
-    if cc1 / 32 == 0 { locked } else { true }
+    if effect_of_cc1(cc1).locks {
+        true
+    } else {
+        locked
+    }
 }
 
 /// Whether a bit of a byte is on.

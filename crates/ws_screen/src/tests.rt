@@ -22,11 +22,11 @@ fn put(rt: &impl Abort, byte: u8) -> Element {
 
 fn input(rt: &impl Abort, format: u16, attribute: u8, length: u16) -> Element {
     let format = Ffw::new(format).expect(rt, "a format word");
-    Element::Sf(FieldStart::new(Some(format), &[], attribute, length).expect(rt, "a field"))
+    Element::Sf(FieldStart::input(format, &[], attribute, length).expect(rt, "a field"))
 }
 
 fn output(rt: &impl Abort, attribute: u8, length: u16) -> Element {
-    Element::Sf(FieldStart::new(None, &[], attribute, length).expect(rt, "a field"))
+    Element::Sf(FieldStart::output(attribute, length).expect(rt, "a field"))
 }
 
 // Applies elements in turn, up to the first that is refused.
@@ -89,7 +89,7 @@ fn field_limits(rt: HostRuntime) {
     let again = [sba(&rt, 24, 79), input(&rt, 0x4800, 0x20, 0)];
     assert_eq!(rt; apply_all(&rt, &mut screen, &again), None);
     assert_eq!(rt; field_at(&rt, &screen, 1919), Some((1, 0x4800)));
-    assert_eq!(rt; screen.fields().len(), 1);
+    assert_eq!(rt; screen.field_count(), 1);
 
     let too_long = [begin(), sba(&rt, 24, 79), input(&rt, 0x4000, 0x20, 2)];
     assert_eq!(rt; refusal(&rt, &too_long), Some(Reason::FieldPastEnd));
@@ -112,7 +112,7 @@ fn field_limits(rt: HostRuntime) {
     );
     let held = [Element::Sba(place(&rt, 300)), input(&rt, 0x4800, 0x20, 1)];
     assert_eq!(rt; apply_all(&rt, &mut full, &held), None);
-    assert_eq!(rt; full.fields().len(), 256);
+    assert_eq!(rt; full.field_count(), 256);
 }
 
 #[test]
@@ -292,7 +292,7 @@ fn states(rt: HostRuntime) {
     assert!(rt; screen.locked() && !screen.message());
     assert_eq!(rt; apply_all(&rt, &mut screen, &[Element::ClearFormat]), None);
     assert_eq!(rt; screen.pending(), None);
-    assert_eq!(rt; screen.fields().len(), 0);
+    assert_eq!(rt; screen.field_count(), 0);
     assert_eq!(rt; screen.cursor().place(), 7);
     assert_eq!(rt; apply_all(&rt, &mut screen, &[Element::ClearUnit]), None);
     assert_eq!(rt; screen.cursor().place(), 0);

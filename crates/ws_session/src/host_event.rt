@@ -2,7 +2,7 @@ use ws_keys::HostAnswer;
 use ws_nego::{Reply, TerminalType};
 
 /// What a host end tells its caller.
-#[derive(Debug, Drop)]
+#[derive(Debug, Drop, PartialEq, Eq)]
 pub enum HostEvent {
     /// Records are allowed, and this is the terminal.
     Ready(TerminalType),
@@ -17,7 +17,7 @@ pub enum HostEvent {
 }
 
 /// What a byte gives a host end.
-#[derive(Debug, Drop)]
+#[derive(Debug, Drop, PartialEq, Eq)]
 pub struct HostStep {
     /// What it writes.
     pub reply: Reply,

@@ -1,3 +1,5 @@
+use std::error::Error;
+use std::fmt;
 use ws_keys::KeyRefusal;
 
 /// Why a key has no effect: the first that applies. The station is unchanged.
@@ -10,3 +12,15 @@ pub enum KeyFault {
     /// The keyboard or the field refuses it.
     Key(KeyRefusal),
 }
+
+impl fmt::Display for KeyFault {
+    fn fmt<W: fmt::Write>(&self, f: &mut fmt::Formatter<W>) -> fmt::Result {
+        match self {
+            KeyFault::Failed => write!(f, "failed"),
+            KeyFault::NotReady => write!(f, "records aren't allowed yet"),
+            KeyFault::Key(refusal) => write!(f, "{refusal}"),
+        }
+    }
+}
+
+impl Error for KeyFault {}

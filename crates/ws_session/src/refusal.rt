@@ -1,3 +1,5 @@
+use std::error::Error;
+use std::fmt;
 use ws_code::Reason;
 
 /// Why an end takes no more bytes. Every later call but a look at its screen answers `Failed`.
@@ -10,3 +12,15 @@ pub enum Refusal {
     /// A growth was refused. A station takes no memory and never answers so.
     Memory,
 }
+
+impl fmt::Display for Refusal {
+    fn fmt<W: fmt::Write>(&self, f: &mut fmt::Formatter<W>) -> fmt::Result {
+        match self {
+            Refusal::At { place, reason } => write!(f, "refused at {place}: {reason}"),
+            Refusal::Failed => write!(f, "failed"),
+            Refusal::Memory => write!(f, "memory"),
+        }
+    }
+}
+
+impl Error for Refusal {}

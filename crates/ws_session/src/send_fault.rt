@@ -1,3 +1,5 @@
+use std::error::Error;
+use std::fmt;
 use ws_code::Reason;
 
 /// Why a host end doesn't send or cancel: the first that applies. Nothing is changed by one.
@@ -20,3 +22,20 @@ pub enum SendFault {
     /// A growth was refused.
     Memory,
 }
+
+impl fmt::Display for SendFault {
+    fn fmt<W: fmt::Write>(&self, f: &mut fmt::Formatter<W>) -> fmt::Result {
+        match self {
+            SendFault::Failed => write!(f, "failed"),
+            SendFault::NotAllowed => write!(f, "records aren't allowed yet"),
+            SendFault::ReadOutstanding => write!(f, "a read or a cancel is unanswered"),
+            SendFault::NoReadToCancel => write!(f, "no read can be cancelled"),
+            SendFault::BadSequence => write!(f, "the elements are no body"),
+            SendFault::Screen(reason) => write!(f, "the screen refuses an element: {reason}"),
+            SendFault::TooBig => write!(f, "the record is of more than 65,535 bytes"),
+            SendFault::Memory => write!(f, "memory"),
+        }
+    }
+}
+
+impl Error for SendFault {}

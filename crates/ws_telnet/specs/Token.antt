@@ -3,6 +3,7 @@ use Rattle.std.specs.List.{flat_map}
 use Rattle.ws_code.specs.Code.{Rules, AreBytes}
 use Rattle.ws_code.specs.declared.reason.Reason.{Reason}
 use Rattle.ws_code.specs.declared.reason.Reason.TheVariants.{BadCommand, StraySe, BadSub, SubTooLong}
+use Rattle.ws_telnet.specs.declared.codes.TheConstants.{IAC, SB, SE, EOR}
 use Rattle.ws_telnet.specs.declared.token.CommandCode.{CommandCode}
 use Rattle.ws_telnet.specs.declared.token.CommandCode.TheVariants.{Nop, DataMark, Break, InterruptProcess, AbortOutput, AreYouThere, EraseCharacter, EraseLine, GoAhead}
 use Rattle.ws_telnet.specs.declared.token.Verb.{Verb}
@@ -33,16 +34,16 @@ verb_byte Dont = 0xfe
 
 -- a data byte, with FF doubled
 abbrev pub doubled : ℕ → List ℕ
-doubled b = if b == 0xff then 0xff ∷ 0xff ∷ [] else b ∷ []
+doubled b = if b == IAC then IAC ∷ IAC ∷ [] else b ∷ []
 
 abbrev pub telnet_spelling : Telnet → List ℕ
-telnet_spelling (Command code) = 0xff ∷ command_byte code ∷ []
-telnet_spelling (Negotiate verb option) = 0xff ∷ verb_byte verb ∷ option ∷ []
-telnet_spelling (Subnegotiate sub) = 0xff ∷ 0xfa ∷ sub.option ∷ flat_map doubled sub.data_ ++ 0xff ∷ 0xf0 ∷ []
+telnet_spelling (Command code) = IAC ∷ command_byte code ∷ []
+telnet_spelling (Negotiate verb option) = IAC ∷ verb_byte verb ∷ option ∷ []
+telnet_spelling (Subnegotiate sub) = IAC ∷ SB ∷ sub.option ∷ flat_map doubled sub.data_ ++ IAC ∷ SE ∷ []
 
 abbrev pub token_spelling : Token → List ℕ
 token_spelling (Data b) = doubled b
-token_spelling Eor = 0xff ∷ 0xef ∷ []
+token_spelling Eor = IAC ∷ EOR ∷ []
 token_spelling (TelnetToken t) = telnet_spelling t
 
 -- what a token's bytes and lists may be
@@ -59,13 +60,13 @@ IsToken (TelnetToken t) = IsTelnet t
 -- the content of a subnegotiation ends with the first FF of a pair
 abbrev pub ends_in_iac : List ℕ → Bool
 ends_in_iac [] = false
-ends_in_iac (b ∷ []) = b == 0xff
-ends_in_iac (b ∷ c ∷ content) = if b == 0xff then ends_in_iac content else ends_in_iac (c ∷ content)
+ends_in_iac (b ∷ []) = b == IAC
+ends_in_iac (b ∷ c ∷ content) = if b == IAC then ends_in_iac content else ends_in_iac (c ∷ content)
 
 -- the reason of a byte that can't follow
 abbrev pub token_reason : List ℕ → ℕ → Reason
-token_reason (iac ∷ sb ∷ option ∷ content) b = if ends_in_iac content && not (b == 0xff) then BadSub else SubTooLong
-token_reason begun b = if b == 0xf0 then StraySe else BadCommand
+token_reason (iac ∷ sb ∷ option ∷ content) b = if ends_in_iac content && not (b == IAC) then BadSub else SubTooLong
+token_reason begun b = if b == SE then StraySe else BadCommand
 
 abbrev pub token_rules : Rules (Unit {0}) Token
 token_rules = record {

@@ -74,7 +74,7 @@ impl Verb {
 }
 
 /// A subnegotiation (RFC 855): its option, and at most 64 bytes.
-#[derive(Debug, Drop)]
+#[derive(Debug, Drop, PartialEq, Eq)]
 pub struct Sub {
     /// The option's byte, which is any.
     pub option: u8,
@@ -97,7 +97,7 @@ impl Sub {
 }
 
 /// A Telnet command, of any kind (RFC 854, "TELNET COMMAND STRUCTURE").
-#[derive(Debug, Drop)]
+#[derive(Debug, Drop, PartialEq, Eq)]
 pub enum Telnet {
     /// FF and the code's byte.
     Command(CommandCode),
@@ -108,7 +108,7 @@ pub enum Telnet {
 }
 
 /// What a stream of bytes is made of (RFC 854; EOR: RFC 885).
-#[derive(Debug, Drop)]
+#[derive(Debug, Drop, PartialEq, Eq)]
 pub enum Token {
     /// A byte of a record. FF is spelled FF FF.
     Data(u8),

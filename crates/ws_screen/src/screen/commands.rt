@@ -6,14 +6,14 @@ ghost use Rattle.ws_screen.specs.Events.{did};
 ghost use Rattle.ws_screen.specs.Given.{Follows, FollowsAll, ends_of, events_of};
 ghost use Rattle.ws_screen.specs.Shown.{IsLegal};
 ghost use Rattle.ws_screen.specs.Reads.{read_in};
-ghost use Rattle.ws_screen.specs.Steps.{IsCarried, after_cc2, unformatted};
+ghost use Rattle.ws_screen.specs.Steps.{IsCarried, after_cc2, without_format};
 
 use crate::cells::fill;
 use crate::control::{cursor_after, light_after, locked_after, still_locked};
 use crate::format_table::{clear_table_mdts, null_fields};
 use crate::open_write::OpenWrite;
 use crate::{ReadKind, Screen};
-use ws_code::Address;
+use ws_code::{Address, CELLS};
 
 impl Screen {
     /// Begins a Write to Display (SC30-3533, Write to Display command): carries out its CC1, sets
@@ -76,7 +76,7 @@ impl Screen {
     // Drops the format table, the key switches, the home, the pending read and the open write, and
     // locks the keyboard.
     fn unformat(&mut self)
-        ensures exact { self.new ≡ unformatted self.old }
+        ensures exact { self.new ≡ without_format self.old }
         ensures legal { IsLegal self.new }
     {
         self.table.clear();
@@ -101,7 +101,7 @@ impl Screen {
         ensures legal { IsLegal self.new }
     {
         self.unformat();
-        fill(&mut self.cells, 0, 1920, 0);
+        fill(&mut self.cells, 0, CELLS as usize, 0);
         self.cursor = Address::default();
     }
 

@@ -11,9 +11,10 @@ ghost use Rattle.ws_screen.specs.Steps.{IsFilled};
 
 use crate::Screen;
 use crate::cells::{byte_at, fill, write_attributes};
-use crate::format_table::enter_any;
+use crate::format_table::{MAX_FIELDS, enter_any};
+use crate::open_write::open_write_in;
 use crate::searches::{holds_start, overlaps};
-use ws_code::{Address, DataByte, Reason};
+use ws_code::{Address, CELLS, DataByte, Reason};
 use ws_stream::{EraseList, FieldStart, SohBytes};
 
 impl Screen {
@@ -26,10 +27,8 @@ impl Screen {
         ensures open_ { OnOk result (IsSome self.new.writing) }
         ensures legal { IsLegal self.new }
     {
-        let Some(mut open) = self.writing else {
-            unreachable!()
-        };
-        if open.address == 1920 {
+        let mut open = open_write_in(self.writing);
+        if open.address == CELLS {
             return Err(Reason::PastEnd);
         }
         self.cells[open.address as usize] = byte.value();
@@ -45,9 +44,7 @@ impl Screen {
         ensures open_ { IsSome self.new.writing }
         ensures legal { IsLegal self.new }
     {
-        let Some(mut open) = self.writing else {
-            unreachable!()
-        };
+        let mut open = open_write_in(self.writing);
         open.address = place.place();
         self.writing = Some(open);
     }
@@ -68,9 +65,7 @@ impl Screen {
         ensures open_ { IsSome self.new.writing }
         ensures legal { IsLegal self.new }
     {
-        let Some(mut open) = self.writing else {
-            unreachable!()
-        };
+        let mut open = open_write_in(self.writing);
         open.mc = Some(place);
         self.writing = Some(open);
     }
@@ -86,9 +81,7 @@ impl Screen {
         ensures unchanged { OnErr result (self.new ≡ self.old) }
         ensures legal { IsLegal self.new }
     {
-        let Some(mut open) = self.writing else {
-            unreachable!()
-        };
+        let mut open = open_write_in(self.writing);
         if to.place() < open.address {
             return Err(Reason::BackwardAddress);
         }
@@ -142,10 +135,8 @@ impl Screen {
         requires { IsSome self.now.writing }
         ensures { result ≡ fault self.now (Sf start.now) }
     {
-        let Some(open) = self.writing else {
-            unreachable!()
-        };
-        if open.address == 1920 {
+        let open = open_write_in(self.writing);
+        if open.address == CELLS {
             return Some(Reason::PastEnd);
         }
         let first = open.address + 1;
@@ -156,13 +147,13 @@ impl Screen {
         if input && start.length() == 0 {
             return Some(Reason::ZeroLength);
         }
-        if start.length() > 1920 - first {
+        if start.length() > CELLS - first {
             return Some(Reason::FieldPastEnd);
         }
         if input && overlaps(self.table.as_slice(), first, start.length()) {
             return Some(Reason::FieldOverlap);
         }
-        if input && self.table.len() == 256 {
+        if input && self.table.len() == MAX_FIELDS {
             return Some(Reason::TableFull);
         }
         None
@@ -180,9 +171,7 @@ impl Screen {
         if let Some(reason) = self.field_fault(start) {
             return Err(reason);
         }
-        let Some(mut open) = self.writing else {
-            unreachable!()
-        };
+        let mut open = open_write_in(self.writing);
         let at = open.address;
         let ends = enter_any(&mut self.table, at + 1, start.length(), start.format());
         write_attributes(

@@ -1,9 +1,9 @@
 //! What a screen tells of its parts.
-ghost use Rattle.std.specs.Prelude.{◌≡◌, false, slice_index, find, is_some};
+ghost use Rattle.std.specs.Prelude.{◌≡◌, ◌≤◌, false, length, slice_index, find, is_some};
 ghost use Rattle.ws_code.specs.DataByte.{is_order};
 ghost use Rattle.ws_screen.specs.Shown.{AreApart, IsLegal, holds, home_of};
 
-use crate::format_table::{copy_of, first_open};
+use crate::format_table::{MAX_FIELDS, copy_of, first_non_bypass};
 use crate::{Field, ReadKind, Screen, searches};
 use arrayvec::ArrayVec;
 use ws_code::Address;
@@ -25,12 +25,20 @@ impl Screen {
     }
 
     /// The input fields by start. No two share a cell, and all end on the screen.
-    pub fn fields(&self) -> ArrayVec<Field, 256>
+    pub fn fields(&self) -> ArrayVec<Field, MAX_FIELDS>
         ensures fields { result.items ≡ self.now.fields }
         ensures apart { AreApart 0 result.items }
         ensures legal { IsLegal self.now }
     {
         copy_of(self.table.as_slice())
+    }
+
+    /// The number of the input fields, at most 256.
+    pub fn field_count(&self) -> usize
+        ensures value { result ≡ length self.now.fields }
+        ensures few { result ≤ MAX_FIELDS }
+    {
+        self.table.len()
     }
 
     /// The input field that holds a cell.
@@ -54,7 +62,7 @@ impl Screen {
     {
         match self.home_set {
             Some(place) => place,
-            None => first_open(self.table.as_slice()),
+            None => first_non_bypass(self.table.as_slice()),
         }
     }
 

@@ -1,7 +1,7 @@
 use Rattle.std.proofs.Common.{◌≡◌, take, None}
 use Rattle.std.specs.Prelude.{find}
-use Rattle.ws_screen.specs.Shown.{is_open}
-use Rattle.ws_keys.proofs.movement.first_open.Given as goal
+use Rattle.ws_screen.specs.Shown.{is_non_bypass}
+use Rattle.ws_keys.proofs.movement.first_non_bypass.Given as goal
 
 abbrev pub invariant-loop-field : goal.invariant-loop-field
-invariant-loop-field l = find is_open (take l.field-index l.fields) ≡ None
+invariant-loop-field l = find is_non_bypass (take l.field-index l.fields) ≡ None

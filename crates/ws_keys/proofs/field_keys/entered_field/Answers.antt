@@ -1,6 +1,6 @@
 use Rattle.std.proofs.Common.{sym, ◌∙◌}
 use Rattle.ws_screen.proofs.EditLemmas.{open_within}
-use Rattle.ws_keys.proofs.field_keys.entered.Goals as goal
+use Rattle.ws_keys.proofs.field_keys.entered_field.Goals as goal
 
 pub returns-in-Some : goal.returns-in-Some
 returns-in-Some c =

@@ -1,0 +1,20 @@
+-- What a contract sees of the fields of a screen.
+use Rattle.ws_screen.specs.Shown.{Shown, IsLegal}
+use Rattle.ws_screen.specs.declared.screen.Screen.TheInside.{Inside}
+
+abbrev pub shown_of : Inside → Shown
+shown_of s = record {
+  cells = s.cells;
+  fields = s.table.items;
+  switches = s.switches;
+  home_set = s.home_set;
+  cursor = s.cursor;
+  locked = s.locked;
+  message = s.message;
+  blink = s.blink;
+  pending = s.pending;
+  writing = s.writing;
+}
+
+abbrev pub IsLegalInside : Inside → Type 0
+IsLegalInside s = IsLegal (shown_of s)
