@@ -11,7 +11,8 @@ use Rattle.ws_session.specs.World.{World, new_world, after_moves, IsQuiet}
 use Rattle.ws_session.proofs.Orders.{x_few}
 use Rattle.ws_session.proofs.Flights.{InFlight, quiet}
 use Rattle.ws_session.proofs.Betweens.{posted, sents, tokens}
-use Rattle.ws_session.proofs.Worlds.{Sound, sound}
+use Rattle.ws_session.proofs.Sounds.{Sound}
+use Rattle.ws_session.proofs.Worlds.{sound}
 
 -- With nothing in flight both option tables agree, and few tokens are ever written.
 

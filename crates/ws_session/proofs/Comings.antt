@@ -14,7 +14,7 @@ use Rattle.ws_session.specs.Answered.{coming, is_answer, answers_coming}
 use Rattle.ws_session.specs.World.{World}
 use Rattle.ws_session.proofs.Betweens.{Sent, Replies, Ends, Signal, sents, tokens, Waits}
 use Rattle.ws_session.proofs.Flights.{size, total, total_cons, IsInside, InFlight}
-use Rattle.ws_session.proofs.Worlds.{Sound}
+use Rattle.ws_session.proofs.Sounds.{Sound}
 
 -- The answers that the host end hasn't told are on their way.
 

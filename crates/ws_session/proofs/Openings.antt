@@ -23,7 +23,9 @@ use Rattle.ws_session.specs.World.{World, down_bytes, up_bytes, station_did, sta
 use Rattle.ws_session.proofs.Agreements.{front_empty, no_tokens}
 use Rattle.ws_session.proofs.Betweens.{Posted, posted, sents, tokens}
 use Rattle.ws_session.proofs.Flights.{InFlight, quiet, not_more, all_arrived, total_append}
-use Rattle.ws_session.proofs.Worlds.{Sound, next_down, next_up}
+use Rattle.ws_session.proofs.Sounds.{Sound}
+use Rattle.ws_session.proofs.BytesDown.{next_down}
+use Rattle.ws_session.proofs.BytesUp.{next_up}
 
 -- Three full deliveries each way open a session.
 
