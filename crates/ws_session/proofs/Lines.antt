@@ -1,4 +1,4 @@
-use Rattle.std.proofs.Common.{◌≡◌, ℕ, zero, suc, ◌+◌, List, [], ◌∷◌, ◌++◌, ◌-◌, ◌≤◌, ◌⊎◌, inl, inr, length, take, drop, refl, sym, ap, ◌∙◌, subst, arith, add-suc, add-zero, length-drop}
+use Rattle.std.proofs.Common.{◌≡◌, ℕ, zero, suc, ◌+◌, List, [], ◌∷◌, ◌++◌, ◌-◌, ◌≤◌, ◌⊎◌, inl, inr, length, take, drop, sym, ap, ◌∙◌, subst, arith, add-suc, add-zero, length-drop}
 use Rattle.std.proofs.lemmas.List.{length-take-le, take-append-drop}
 use Rattle.std.proofs.Math.Seq.{take-add}
 use Rattle.ws_code.specs.declared.fault.Fault.{Fault}
@@ -7,7 +7,8 @@ use Rattle.ws_code.specs.Device.{MayTake, MayGive}
 use Rattle.ws_session.specs.declared.line.Line.{Line}
 use Rattle.ws_session.specs.Crossings.{Crossing, AreFaithful, Crossed, IsStopped, written_over}
 use Rattle.ws_session.specs.World.{World, bytes_to_station, bytes_to_host, byte_to_station, byte_to_host}
-use Rattle.ws_session.proofs.WorldSteps.{bytes_more, host_bytes_more}
+use Rattle.ws_session.proofs.DownSteps.{bytes_more}
+use Rattle.ws_session.proofs.UpSteps.{host_bytes_more}
 
 -- What has crossed a line
 

@@ -1,5 +1,5 @@
 use Rattle.std.specs.Prelude.{◌&&◌, not}
-use Rattle.std.proofs.Common.{if◌then◌else◌, ◌≡◌, ℕ, ◌+◌, List, [], ◌∷◌, ◌++◌, Bool, true, false, Option, Some, None, refl, ap, ◌∙◌, sym, subst, arith, append_assoc}
+use Rattle.std.proofs.Common.{if◌then◌else◌, ◌≡◌, ℕ, List, [], ◌∷◌, ◌++◌, Bool, true, false, Option, Some, None, refl, ap, ◌∙◌, sym, subst, arith, append_assoc}
 use Rattle.std.specs.Option.{is_some}
 use Rattle.ws_code.specs.declared.reason.Reason.{Reason}
 use Rattle.ws_nego.specs.declared.terminal.TerminalType.{TerminalType}

@@ -1,9 +1,9 @@
-use Rattle.std.proofs.Common.{◌≡◌, ◌≤◌, ◌+◌, ℕ, List, [], ◌∷◌, ◌++◌, length, refl, sym, subst, arith}
+use Rattle.std.proofs.Common.{◌≡◌, ◌≤◌, ◌+◌, [], ◌∷◌, ◌++◌, length, refl, sym, subst, arith}
 use Rattle.std.proofs.lemmas.Result.{err_from_is_err_and}
 use Rattle.ws_session.specs.Runs.{Running, Runs}
 use Rattle.ws_session.specs.World.{bytes_to_host}
 use Rattle.ws_session.proofs.Lines.{crossed_on, stopped_behind, faithful_front, faithful_back, host_bytes_on}
-use Rattle.ws_session.proofs.WorldSteps.{host_stops, none_comes_up}
+use Rattle.ws_session.proofs.UpSteps.{host_stops, none_comes_up}
 use Rattle.ws_session.proofs.world.World.carry_to_host.Goals as goal
 
 pub loop-left-init : goal.loop-left-init

@@ -6,7 +6,8 @@ use Rattle.ws_session.specs.Runs.{Runs}
 use Rattle.ws_session.specs.World.{new_world, after_moves}
 use Rattle.ws_screen.proofs.Applies.{longer_by}
 use Rattle.ws_session.proofs.Lines.{crossed_on, either_behind, faithful_front, faithful_back}
-use Rattle.ws_session.proofs.WorldSteps.{more_moves, weaker_ok}
+use Rattle.ws_session.proofs.Reached.{more_moves}
+use Rattle.ws_session.proofs.WorldSteps.{weaker_ok}
 use Rattle.ws_session.proofs.world.World.run_carried.Goals as goal
 
 pub loop-step-init : goal.loop-step-init
