@@ -190,7 +190,8 @@ fn fault_lines(rt: HostRuntime) -> Result<(), Fail> {
     Ok(())
 }
 
-// From the words and a hex text to what is written, and the status. The first text is `bob`'s answer.
+// From the words and a hex text to what is written, and the status. The first text is `bob`'s answer, the
+// second `invite`.
 #[test]
 fn answered(rt: HostRuntime) -> Result<(), Fail> {
     let bob = "00 13 12 A0 00 00 04 00 00 03 06 38 F1 11 06 35 C2 D6 C2 FF EF";
@@ -203,6 +204,12 @@ fn answered(rt: HostRuntime) -> Result<(), Fail> {
             answers,
             bob,
             "accepted: 1 records, 0 commands, 21 bytes\n",
+            0,
+        ),
+        (
+            check,
+            "00 0A 12 A0 00 00 04 00 00 01 FF EF",
+            "accepted: 1 records, 0 commands, 12 bytes\n",
             0,
         ),
         (check, bob, refused, 1),
