@@ -7,48 +7,14 @@
  * records, and a capture may begin later than that: so the station first takes the tokens by which a host opens a
  * session. They touch no screen. Where the station refuses a byte, the last line tells which byte of the capture, and
  * why; the status is then 1. */
+#include "hex.h"
 #include "ribbonscarp.h"
 
 #include <stdio.h>
-#include <stdlib.h>
 
 /* DO TERMINAL-TYPE, its SEND, and DO and WILL of END-OF-RECORD and TRANSMIT-BINARY (RFC 1205, section 2). */
 static const uint8_t opening[] = {0xff, 0xfd, 0x18, 0xff, 0xfa, 0x18, 0x01, 0xff, 0xf0, 0xff, 0xfd,
                                   0x19, 0xff, 0xfb, 0x19, 0xff, 0xfd, 0x00, 0xff, 0xfb, 0x00};
-
-static int digit(int text)
-{
-    if (text >= '0' && text <= '9')
-        return text - '0';
-    if (text >= 'a' && text <= 'f')
-        return text - 'a' + 10;
-    if (text >= 'A' && text <= 'F')
-        return text - 'A' + 10;
-    return -1;
-}
-
-static int is_blank(int text)
-{
-    return text == ' ' || text == '\t' || text == '\r' || text == '\n';
-}
-
-/* The next byte of a hex text: EOF at its end, and -2 where it is no hex text. */
-static int next_byte(FILE *file)
-{
-    int value = 0;
-    for (int digits = 0; digits < 2;) {
-        int text = fgetc(file);
-        if (text == EOF)
-            return digits == 0 ? EOF : -2;
-        if (is_blank(text))
-            continue;
-        if (digit(text) < 0)
-            return -2;
-        value = value * 16 + digit(text);
-        digits += 1;
-    }
-    return value;
-}
 
 /* Gives the station a byte; what it writes in answer is for the host, and there is none here. */
 static rs_status push(rs_station *station, uint8_t byte, rs_pushed *pushed)
@@ -91,7 +57,7 @@ static int run(rs_station *station, FILE *file)
     for (size_t at = 0; at < sizeof opening; at++)
         if (push(station, opening[at], &pushed) != RS_DONE)
             return 2;
-    for (int byte = next_byte(file); byte != EOF; byte = next_byte(file)) {
+    for (int byte = hex_byte(file); byte != EOF; byte = hex_byte(file)) {
         if (byte < 0) {
             fputs("not hex\n", stderr);
             return 2;

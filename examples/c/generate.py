@@ -77,6 +77,8 @@ def stream(rng):
     data = [byte for _ in range(rng.randint(1, 6)) for byte in item(rng)]
     if rng.randrange(8) == 0:
         data[rng.randrange(len(data))] = rng.randrange(256)
+    if rng.randrange(20) == 0:
+        del data[rng.randrange(len(data)) :]
     return data
 
 

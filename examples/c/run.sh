@@ -1,7 +1,7 @@
 #!/usr/bin/env bash
-# Builds the C programs here with all warnings as errors. Runs the sign-on, and the emulator on every capture of examples/
-# and on 500 generated streams, and compares what they print with signon.out and `t5250 show`; under valgrind where it is
-# there.
+# Builds the C programs here with all warnings as errors. Runs the sign-on, and the emulator and the checker on every
+# capture of examples/ and on 500 generated streams, and compares what they print with signon.out, `t5250 show` and
+# `t5250 check`; under valgrind where it is there.
 #
 #     run.sh LIBRARY PROGRAM [C FILES OR LIBRARIES]
 #
@@ -14,7 +14,7 @@ shift $(($# < 2 ? $# : 2))
 folder=$(mktemp -d) || exit 2
 trap 'rm -rf "$folder"' EXIT
 
-for name in emulator signon; do
+for name in emulator checker signon; do
     ${CC:-cc} -std=c11 -O1 -Wall -Wextra -Werror -I "$here/../../crates/ws_c" -o "$folder/$name" "$here/$name.c" \
         "$library" "$@" || exit 2
 done
@@ -45,7 +45,14 @@ for capture in "${captures[@]}"; do
         failed=$((failed + 1))
     fi
 done
-echo "$compared screens and $refused refusals compared, $failed differ"
+"$folder/checker" "${captures[@]}" >"$folder/printed" || true
+for capture in "${captures[@]}"; do
+    "$program" check "$capture" | sed 's/\(reason [0-9]*\).*/\1/'
+done >"$folder/wanted"
+if ! cmp "$folder/wanted" "$folder/printed"; then
+    failed=$((failed + 1))
+fi
+echo "$(wc -l <"$folder/printed") checks, $compared screens and $refused refusals compared, $failed differ"
 
 if ! "$folder/signon" | cmp - "$here/signon.out"; then
     failed=$((failed + 1))
@@ -55,6 +62,8 @@ fi
 if command -v valgrind >/dev/null; then
     careful=(valgrind -q --error-exitcode=9 --leak-check=full --show-leak-kinds=all)
     "${careful[@]}" "$folder/emulator" "${captures[@]}" >/dev/null
+    [ $? -le 1 ] || failed=$((failed + 1))
+    "${careful[@]}" "$folder/checker" "${captures[@]}" >/dev/null
     [ $? -le 1 ] || failed=$((failed + 1))
     "${careful[@]}" "$folder/signon" >/dev/null || failed=$((failed + 1))
     echo "valgrind: done"
