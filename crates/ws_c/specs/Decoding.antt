@@ -1,4 +1,4 @@
-use Rattle.std.specs.Prelude.{◌≡◌, ℕ, ◌+◌, ◌^◌, ◌<◌, true, false, List, [], ◌∷◌, length, Option, Some, None, Result, Ok, Err, OnErr, IfErr, OnOk}
+use Rattle.std.specs.Prelude.{◌≡◌, ℕ, ◌+◌, ◌^◌, ◌<◌, true, List, [], length, Option, Some, None, Result, Ok, Err, OnErr, IfErr, OnOk}
 use Rattle.ws_code.specs.Reason.{number_of as reason_number}
 use Rattle.ws_code.specs.declared.fault.Fault.{Fault}
 use Rattle.ws_code.specs.declared.fault.Fault.TheVariants.{Truncated as IsTruncatedAt, Failed as FaultFailed}

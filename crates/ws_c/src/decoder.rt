@@ -19,7 +19,7 @@ use ws_telnet::{Telnet, Token, spell};
 
 /// What a byte completes.
 #[repr(C)]
-#[derive(Clone, Copy, Debug, PartialEq, Eq)]
+#[derive(Clone, Copy)]
 pub struct StepTold {
     /// How many bytes of the buffer were set: the spelling of an element or of a Telnet command.
     pub length: usize,

@@ -7,7 +7,7 @@ use ws_code::Aid;
 use ws_keys::{Key, KeyRefusal};
 
 /// A key without its character or its attention identification.
-#[derive(Clone, Copy, Debug, PartialEq, Eq)]
+#[derive(Clone, Copy)]
 pub enum KeyKind {
     Char,
     Insert,

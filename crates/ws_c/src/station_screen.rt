@@ -13,7 +13,7 @@ use ws_screen::{Field, ReadKind, Screen};
 
 /// What of a screen is no cell and no field.
 #[repr(C)]
-#[derive(Clone, Copy, Debug, PartialEq, Eq)]
+#[derive(Clone, Copy)]
 pub struct ScreenState {
     /// 1 to 24.
     pub cursor_row: u8,
@@ -30,7 +30,7 @@ pub struct ScreenState {
 
 /// A field of a screen.
 #[repr(C)]
-#[derive(Clone, Copy, Debug, PartialEq, Eq)]
+#[derive(Clone, Copy)]
 pub struct FieldState {
     /// Of its first cell, 1 to 24.
     pub row: u8,

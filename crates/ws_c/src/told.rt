@@ -3,7 +3,7 @@ ghost use Rattle.ws_c.specs.Calls.{told_length};
 
 /// What a call tells beside its status.
 #[repr(C)]
-#[derive(Clone, Copy, Debug, PartialEq, Eq)]
+#[derive(Clone, Copy)]
 pub struct Told {
     /// How many bytes of the buffer were set.
     pub length: usize,

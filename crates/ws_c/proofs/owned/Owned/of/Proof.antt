@@ -7,28 +7,21 @@ use base.Fml.{ftrue}
 use prog.Wp.{Env, WpFn}
 use contract.Monad.{fact, fact_i}
 use contract.Running.{tables}
-use types.Kit.{‵, raw, ◌⊛◌, prop, ◌$◌, ◌∵◌, !, qed, by, move, drop, use0, split, regoal, rewrite, fsplit, fjoin}
+use types.Kit.{‵, raw, ◌⊛◌, prop, ◌$◌, ◌∵◌, !, qed, by, move, drop, use0, split, regoal, fsplit, fjoin}
 use types.Part.{whole, sub, agg}
-use types.Run.{stop, fld, of_opd, lit, no_more, and_then, returns, enter}
+use types.Run.{stop, fld, of_opd, no_more, and_then, returns, enter}
 use types.ByLocal.{alloc_all, pass_all, free_all, look_at, get, get_in, sets, env}
 use denote.RattleType.{owns}
-use denote.RawPtr.{null_ptr, block_ptr}
 use denote.Signature.{types_at}
-use denote.Steps.{nothing, heard}
+use denote.Steps.{nothing}
 use denote.Triple.Entry.{alive}
 use denote.Triple.Walked.{Stays, stay_dropped, walk_of}
 use Rattle.std.proofs.alloc.Calls.{Goes-blank}
 use Rattle.std.proofs.ResultValues.{and_tt}
 use Rattle.std.proofs.raw_atomic.Walks.{proved_at, leaves}
-use Rattle.std.specs.Prelude.{Option, Some, None, IsSome}
-use Rattle.ws_c.proofs.Values.{slot_at, ptr_typed, held_val, heap_val, held_own, held_told, held_made, heap_told}
-use Rattle.ws_c.specs.Owned.{owned}
-use Rattle.std.specs.contracts.alloc.Global as Heap
-use Rattle.std.specs.contracts.impls.GlobalAllocator.TheImpl.{ghosts}
-use Rattle.ws_c.specs.declared.machine.Machine.{Machine}
-use Rattle.ws_c.specs.contracts.machine.Machine as machine
+use Rattle.std.specs.Prelude.{Some}
+use Rattle.ws_c.proofs.Values.{slot_at, ptr_typed, held_val, held_own, held_told, held_made}
 use Rattle.ws_c.specs.contracts.owned.Owned as owned_type
-use Rattle.ws_c.specs.contracts.loose.Loose as loose
 use Rattle.ws_c.specs.contracts.owned.Owned.of.{ended, clauses}
 use Rattle.ws_c.specs.contracts.owned.Owned.of.Key.{name as #self}
 use Rattle.ws_c.proofs.owned.Owned.of.Statement.{statement}
