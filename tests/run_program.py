@@ -33,6 +33,21 @@ ANSWER_LINE = "accepted: 1 records, 0 commands, 21 bytes\n"
 # A text of more than 65,536 bytes, and a stream of more.
 MANY = INVITE * 6000
 MANY_LINE = "accepted: 6000 records, 0 commands, 72000 bytes\n"
+BOB = """settle
+send 3 0440041100081106341D400020000A04520000
+settle
+type BOB
+key Enter
+settle
+"""
+BOB_LINES = """host ready IBM-3179-2
+answer 6 56 F1
+  field 6 53 C2D6C2
+"""
+BOB_SCREEN = """screen
+ 6                                                     BOB
+cursor 6 56, locked, message off, blink off, fields 1
+"""
 EMPTY_SCREEN = "screen\ncursor 1 1, locked, message off, blink off, fields 0\n"
 
 # The words, the standard input, and what is wanted: the exit status, standard output, and a line on standard
@@ -50,6 +65,9 @@ RUNS = [
     (["show"], SHORT, 1, SHORT_LINE, ""),
     (["show"], "", 0, EMPTY_SCREEN, ""),
     (["show"], "0g", 2, "", "not hex\n"),
+    (["play"], BOB, 0, BOB_LINES, ""),
+    (["play"], "", 0, "", ""),
+    (["play"], "settle\nsettl\n", 2, "", "script line 2\n"),
     # a named file, and all of standard input
     (["check", "@" + INVITE], QUERY, 0, INVITE_LINE, ""),
     (["show", "@" + HELLO], QUERY, 0, HELLO_LINES, ""),
@@ -58,6 +76,8 @@ RUNS = [
     (["check", "no such file"], INVITE, 2, "", "cannot read\n"),
     (["check", "."], INVITE, 2, "", "cannot read\n"),
     (["show", "no such file"], INVITE, 2, "", "cannot read\n"),
+    (["play", "@" + BOB], "settl\n", 0, BOB_LINES, ""),
+    (["play", "no such file"], BOB, 2, "", "cannot read\n"),
     # each word of the command line
     (["check", "--cut", "1"], INVITE, 0, INVITE_LINE, ""),
     (["check", "--cut=65535", "@" + MANY], "", 0, MANY_LINE, ""),
@@ -66,9 +86,15 @@ RUNS = [
     (["check", "--answers", "--cut", "1", "@" + ANSWER], "", 0, ANSWER_LINE, ""),
     (["check"], ANSWER, 1, "refused at 10: reason 20 NoEscape\n", ""),
     (["check", "--answers"], HELLO, 1, "refused at 12: reason 43 BadAid\n", ""),
+    (["play", "--screen"], BOB, 0, BOB_LINES + BOB_SCREEN, ""),
+    (["play", "--screen"], "", 0, EMPTY_SCREEN, ""),
+    (["play", "--tcp"], BOB, 0, BOB_LINES, ""),
+    (["play", "--tcp", "--screen", "@" + BOB], "", 0, BOB_LINES + BOB_SCREEN, ""),
+    (["play", "--tcp"], "settl\n", 2, "", "script line 1\n"),
     (["--help"], "", 0, None, ""),
     (["check", "--help"], "", 0, None, ""),
     (["show", "--help"], "", 0, None, ""),
+    (["play", "--help"], "", 0, None, ""),
     (["help"], "", 0, None, ""),
     (["--version"], "", 0, "t5250 0.1.0\n", ""),
     # wrong command lines
@@ -80,7 +106,11 @@ RUNS = [
     (["check", "--other"], INVITE, 2, "", None),
     (["check", "a", "b"], INVITE, 2, "", None),
     (["show", "--answers"], INVITE, 2, "", None),
+    (["play", "--cut", "1"], BOB, 2, "", None),
+    (["play", "a", "b"], BOB, 2, "", None),
 ]
+
+EXAMPLES = os.path.abspath(os.path.join(os.path.dirname(__file__), "..", "examples"))
 
 
 def as_wanted(found, wanted):
@@ -111,21 +141,32 @@ def plain_runs(folder):
 
 # Standard output takes nothing.
 def full_runs():
-    for words in ["check"], ["show"], ["--help"]:
+    for words in ["check"], ["show"], ["play"], ["play", "--tcp"], ["--help"]:
         with open("/dev/full", "w") as full:
-            done = run(words, INVITE, stdout=full)
+            done = run(words, BOB if words[0] == "play" else INVITE, stdout=full)
         if done.returncode != 2 or done.stderr != "cannot write\n":
             yield f"{words} into a full device gave {done.returncode}, {done.stderr!r}"
 
 
 # Standard input can't be read: it is a folder.
 def closed_runs(folder):
-    for words in ["check"], ["show"]:
+    for words in ["check"], ["show"], ["play"]:
         descriptor = os.open(folder, os.O_RDONLY)
         done = subprocess.run([PROGRAM, *words], stdin=descriptor, capture_output=True, text=True, timeout=60)
         os.close(descriptor)
         if done.returncode != 2 or done.stdout != "" or done.stderr != "cannot read\n":
             yield f"{words} from a folder gave {done.returncode}, {done.stdout!r}, {done.stderr!r}"
+
+
+# Over a connection each example prints what it prints without.
+def example_runs():
+    for name in sorted(os.listdir(EXAMPLES)):
+        if name.endswith(".script"):
+            path = os.path.join(EXAMPLES, name)
+            plain = run(["play", "--screen", path], "", stdout=subprocess.PIPE)
+            carried = run(["play", "--tcp", "--screen", path], "", stdout=subprocess.PIPE)
+            if carried.returncode != 0 or carried.stdout != plain.stdout or carried.stderr != "":
+                yield f"{name} over a connection gave {carried.returncode}, {carried.stdout!r:.200}, {carried.stderr!r}"
 
 
 # There is too little memory for the input.
@@ -147,10 +188,16 @@ def main():
     if not os.path.exists(PROGRAM):
         sys.exit(f"there is no {PROGRAM}: build it first")
     with tempfile.TemporaryDirectory() as folder:
-        wrong = [*plain_runs(folder), *full_runs(), *closed_runs(folder), *small_runs(folder)]
+        wrong = [
+            *plain_runs(folder),
+            *full_runs(),
+            *closed_runs(folder),
+            *example_runs(),
+            *small_runs(folder),
+        ]
     for line in wrong:
         print(line)
-    print(f"{len(RUNS) + 7 - len(wrong)} runs as wanted, {len(wrong)} not")
+    print(f"{len(RUNS) + 14 - len(wrong)} runs as wanted, {len(wrong)} not")
     sys.exit(1 if wrong else 0)
 
 

@@ -1,4 +1,5 @@
-use Rattle.std.proofs.Common.{◌≡◌, ℕ, List, Bool, sym, ap, ◌∙◌, subst}
+use Rattle.std.proofs.Common.{◌≡◌, ℕ, List, Bool, inl, refl, sym, ap, ◌∙◌, subst}
+use Rattle.ws_code.specs.Device.{MayTake}
 use Rattle.ws_nego.specs.declared.terminal.TerminalType.TheVariants.{Ibm3179Model2}
 use Rattle.ws_screen.specs.Shown.{Shown}
 use Rattle.ws_session.specs.declared.world.Event.{Event}
@@ -8,8 +9,12 @@ use Rattle.ws_session.specs.StationLeads.{Holding}
 use Rattle.ws_session.specs.StationSide.{screen_at}
 use Rattle.ws_session.specs.World.{World, new_world, after_moves}
 use Rattle.ws_session.specs.Reports.{IsReport}
-use Rattle.t5250.specs.Answering.{IsSessionText}
+use Rattle.t5250.specs.Answering.{IsSessionText, IsTcpPlayFault}
+use Rattle.t5250.specs.declared.tcp.TcpFault.{TcpFault}
+use Rattle.t5250.specs.declared.tcp.TcpFault.TheVariants.{NoConnection, Write, Read, Memory}
 use Rattle.t5250.specs.PlayLines.{IsPlayText, no_end_refuses}
+use Rattle.t5250.specs.RunFaults.{tcp_run_fault}
+use Rattle.t5250.specs.Script.{IsScript}
 
 -- What is told of a session is its report's.
 
@@ -23,3 +28,10 @@ session_text moves given events station host down up screen text same r t =
 pub session_well : (moves given : List Move) (events : List Event) (station : Holding) (host : HostHolding) (down up : List ℕ) → given ≡ moves
     → IsReport events station host down up (after_moves (new_world Ibm3179Model2) given) → no_end_refuses events ≡ no_end_refuses (after_moves (new_world Ibm3179Model2) moves).events
 session_well moves given events station host down up same r = ap no_end_refuses r.events ∙ ap (λ (ms : List Move). no_end_refuses (after_moves (new_world Ibm3179Model2) ms).events) same
+
+-- where a connection fails, nothing was written
+pub unconnected : {S : Type 0} (takes : MayTake S) (failures : S → ℕ) (sink : S) (screen : Bool) (script : List ℕ) (moves : List Move) → IsScript script moves → (fault : TcpFault) → IsTcpPlayFault takes failures sink sink screen script (tcp_run_fault fault)
+unconnected takes failures sink screen script moves is NoConnection = (refl, (moves, is))
+unconnected takes failures sink screen script moves is Write = ((moves, is), inl refl)
+unconnected takes failures sink screen script moves is Read = (refl, (moves, is))
+unconnected takes failures sink screen script moves is Memory = refl

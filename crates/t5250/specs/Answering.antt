@@ -13,9 +13,11 @@ use Rattle.t5250.specs.StreamText.{IsShown, IsShowFault}
 use Rattle.t5250.specs.declared.command_line.Asked.{Asked}
 use Rattle.t5250.specs.declared.command_line.Asked.TheVariants.{Check, Show, Play}
 use Rattle.t5250.specs.declared.fault.RunFault.{RunFault}
-use Rattle.t5250.specs.declared.fault.RunFault.TheVariants.{Read, NotHex, Line, Memory, Write, Refused, Truncated, Failed}
+use Rattle.t5250.specs.declared.fault.RunFault.TheVariants.{Read, NotHex, Line, Memory, Write, NoConnection, Refused, Truncated, Failed}
 use Rattle.t5250.specs.declared.verdict.Verdict.{Verdict}
 use Rattle.ws_nego.specs.declared.terminal.TerminalType.TheVariants.{Ibm3179Model2}
+use Rattle.ws_screen.specs.Shown.{Shown}
+use Rattle.ws_session.specs.declared.world.Event.{Event}
 use Rattle.ws_session.specs.declared.world.Move.{Move}
 use Rattle.ws_session.specs.World.{World, new_world, after_moves}
 use Rattle.ws_session.specs.StationSide.{screen_at}
@@ -32,6 +34,13 @@ HasPieces asked = Unit {0}
 -- what is told of a session
 abbrev pub IsSessionText : World → Bool → List ℕ → Type 0
 IsSessionText w screen text = IsPlayText w.events (screen_at w.station) screen text
+
+-- what is told of some session, and whether no end refuses in it: what a connection does isn't known
+pub record IsToldText (screen all_well : Bool) (text : List ℕ) : Type 0 where
+  pub events : List Event
+  pub station : Shown
+  pub told : IsPlayText events station screen text
+  pub well : all_well ≡ no_end_refuses events
 
 -- the bytes of a hex text
 abbrev pub IsHexOf : List ℕ → List ℕ → Type 0
@@ -50,13 +59,18 @@ module _ {S : Type 0} (takes : MayTake S) (failures : S → ℕ) (from to : S) w
   abbrev pub HasPlayed : Bool → List ℕ → Bool → Type 0
   HasPlayed screen script all_well = (moves : List Move) × IsScript script moves × (text : List ℕ) × IsSessionText (after_moves (new_world Ibm3179Model2) moves) screen text × WentOut takes failures from to text × (all_well ≡ no_end_refuses (after_moves (new_world Ibm3179Model2) moves).events)
 
+  -- a script was played, and what is told of some session went out
+  abbrev pub HasPlayedByTcp : Bool → List ℕ → Bool → Type 0
+  HasPlayedByTcp screen script all_well = ((moves : List Move) × IsScript script moves) × ((text : List ℕ) × IsToldText screen all_well text × WentOut takes failures from to text)
+
   -- the program did what it was asked for with its input: with the commands of a host, or the answers of a
   -- station, that a hex text tells, or with a script
   abbrev pub HasAnswered : Asked → List ℕ → Bool → Type 0
   HasAnswered (Check file cut false) input accepted = (bytes : List ℕ) × IsHexOf bytes input × HasChecked element_rules bytes accepted
   HasAnswered (Check file cut true) input accepted = (bytes : List ℕ) × IsHexOf bytes input × HasChecked answer_rules bytes accepted
   HasAnswered (Show file) input accepted = (bytes : List ℕ) × IsHexOf bytes input × HasShown bytes accepted
-  HasAnswered (Play file screen) input accepted = HasPlayed screen input accepted
+  HasAnswered (Play file screen false) input accepted = HasPlayed screen input accepted
+  HasAnswered (Play file screen true) input accepted = HasPlayedByTcp screen input accepted
 
   -- what is answered of a hex text where a command answers such faults of its bytes
   abbrev pub IsHexFault : (List ℕ → Fault → Type 0) → List ℕ → RunFault → Type 0
@@ -66,6 +80,7 @@ module _ {S : Type 0} (takes : MayTake S) (failures : S → ℕ) (from to : S) w
   IsHexFault IsFault input Read = ⊥
   IsHexFault IsFault input (Refused place reason) = ⊥
   IsHexFault IsFault input (Truncated at) = ⊥
+  IsHexFault IsFault input NoConnection = ⊥
   IsHexFault IsFault input Failed = ⊥
   IsHexFault IsFault input (Line number) = ⊥
 
@@ -78,14 +93,28 @@ module _ {S : Type 0} (takes : MayTake S) (failures : S → ℕ) (from to : S) w
   IsPlayFault screen script Read = ⊥
   IsPlayFault screen script (Refused place reason) = ⊥
   IsPlayFault screen script (Truncated at) = ⊥
+  IsPlayFault screen script NoConnection = ⊥
   IsPlayFault screen script Failed = ⊥
+
+  -- the same over a connection: it may fail where the script is good, and then nothing was written
+  abbrev pub IsTcpPlayFault : Bool → List ℕ → RunFault → Type 0
+  IsTcpPlayFault screen script (Line number) = (to ≡ from) × IsFirstBad script number
+  IsTcpPlayFault screen script Memory = to ≡ from
+  IsTcpPlayFault screen script NoConnection = (to ≡ from) × ((moves : List Move) × IsScript script moves)
+  IsTcpPlayFault screen script Read = (to ≡ from) × ((moves : List Move) × IsScript script moves)
+  IsTcpPlayFault screen script Write = ((moves : List Move) × IsScript script moves) × ((to ≡ from) ⊎ ((all_well : Bool) × (text : List ℕ) × IsToldText screen all_well text × FailedWithin takes failures from to text))
+  IsTcpPlayFault screen script NotHex = ⊥
+  IsTcpPlayFault screen script (Refused place reason) = ⊥
+  IsTcpPlayFault screen script (Truncated at) = ⊥
+  IsTcpPlayFault screen script Failed = ⊥
 
   -- what the program answers where it didn't do all that it was asked for
   abbrev pub IsAnswerFault : Asked → List ℕ → RunFault → Type 0
   IsAnswerFault (Check file cut false) input fault = IsHexFault (IsCheckFault element_rules takes failures from to) input fault
   IsAnswerFault (Check file cut true) input fault = IsHexFault (IsCheckFault answer_rules takes failures from to) input fault
   IsAnswerFault (Show file) input fault = IsHexFault (IsShowFault takes failures from to) input fault
-  IsAnswerFault (Play file screen) input fault = IsPlayFault screen input fault
+  IsAnswerFault (Play file screen false) input fault = IsPlayFault screen input fault
+  IsAnswerFault (Play file screen true) input fault = IsTcpPlayFault screen input fault
 
 -- the exit status: 0 where all was accepted, 1 where it wasn't, 2 on a fault
 abbrev pub status_of : {E : Type 0} → Result Bool E → ℕ

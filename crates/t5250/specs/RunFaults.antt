@@ -1,11 +1,13 @@
 use Rattle.ws_code.specs.declared.fault.Fault.{Fault}
 use Rattle.ws_code.specs.declared.fault.Fault.TheVariants as device
 use Rattle.t5250.specs.declared.fault.RunFault.{RunFault}
-use Rattle.t5250.specs.declared.fault.RunFault.TheVariants.{Read, NotHex, Line, Memory, Write, Refused, Truncated, Failed}
+use Rattle.t5250.specs.declared.fault.RunFault.TheVariants.{Read, NotHex, Line, Memory, Write, NoConnection, Refused, Truncated, Failed}
 use Rattle.t5250.specs.declared.hex_text.TextFault.{TextFault}
 use Rattle.t5250.specs.declared.hex_text.TextFault.TheVariants as texts
 use Rattle.t5250.specs.declared.script.ScriptFault.{ScriptFault}
 use Rattle.t5250.specs.declared.script.ScriptFault.TheVariants as scripts
+use Rattle.t5250.specs.declared.tcp.TcpFault.{TcpFault}
+use Rattle.t5250.specs.declared.tcp.TcpFault.TheVariants as tcp
 
 -- a fault of a command, and of hex text, as the program's own
 abbrev pub run_fault : Fault → RunFault
@@ -23,3 +25,18 @@ text_run_fault texts.Memory = Memory
 abbrev pub script_run_fault : ScriptFault → RunFault
 script_run_fault (scripts.Line number) = Line number
 script_run_fault scripts.Memory = Memory
+
+-- a fault of a session over a connection, and as the program's own
+abbrev pub tcp_fault : Fault → TcpFault
+tcp_fault device.Memory = tcp.Memory
+tcp_fault device.Write = tcp.Write
+tcp_fault device.Read = tcp.Read
+tcp_fault (device.Truncated at) = tcp.Read
+tcp_fault (device.Refused place reason) = tcp.Read
+tcp_fault device.Failed = tcp.Read
+
+abbrev pub tcp_run_fault : TcpFault → RunFault
+tcp_run_fault tcp.NoConnection = NoConnection
+tcp_run_fault tcp.Write = Write
+tcp_run_fault tcp.Read = Read
+tcp_run_fault tcp.Memory = Memory

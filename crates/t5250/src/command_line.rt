@@ -24,9 +24,11 @@ pub enum Asked<'a> {
         file: Option<&'a str>,
     },
     /// To play a script with both ends, and to tell what happens; with `screen` also the station's screen at the end.
+    /// With `tcp` their bytes go over a connection.
     Play {
         file: Option<&'a str>,
         screen: bool,
+        tcp: bool,
     },
 }
 
@@ -48,7 +50,8 @@ Exit status:
   0  the whole stream is accepted, and in play no end refuses a byte
   1  it is refused at a byte, or ends too early
   2  a fault, told in one line on standard error: cannot read, not hex,
-     script line N, memory, cannot write; or a wrong command line";
+     script line N, memory, cannot write, no connection; or a wrong
+     command line";
 
 const CHECK_EXAMPLES: &str = "\
 It prints one line, as one of:
@@ -80,6 +83,7 @@ A script has a line for each move, and is read before anything is run:
 
 Examples:
   t5250 play --screen sign-on.script
+  t5250 play --tcp sign-on.script
   echo settle | t5250 play";
 
 // The commands that the program knows.
@@ -108,6 +112,12 @@ fn program<'a>(alloc: Global) -> Result<Command<'a>, clap::Error> {
         .long("screen")
         .help("Prints the station's screen at the end")
         .action(ArgAction::SetTrue);
+    let tcp = Arg::new(alloc, "tcp")
+        .long("tcp")
+        .help(
+            "Carries the bytes over a TCP connection on 127.0.0.1; what is printed stays the same",
+        )
+        .action(ArgAction::SetTrue);
     let script = Arg::new(alloc, "SCRIPT")
         .help("A script; without it, standard input is read")
         .action(ArgAction::Set);
@@ -115,6 +125,7 @@ fn program<'a>(alloc: Global) -> Result<Command<'a>, clap::Error> {
         .about("Plays a script of sends, keys and deliveries with both ends")
         .after_help(PLAY_EXAMPLES)
         .arg(screen)?
+        .arg(tcp)?
         .arg(script)?;
     let program = Command::new(alloc, "t5250")
         .version("0.1.0")
@@ -174,6 +185,7 @@ pub fn read_words<'a, S: AsStr>(alloc: Global, words: &'a [S]) -> Result<Asked<'
         Some(("play", play)) => Ok(Asked::Play {
             file: play.get_str("SCRIPT"),
             screen: play.get_flag("screen"),
+            tcp: play.get_flag("tcp"),
         }),
         _ => Err(program.error(ErrorKind::MissingSubcommand, "no subcommand")?),
     }

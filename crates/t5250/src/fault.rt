@@ -1,8 +1,9 @@
 ghost use Rattle.std.specs.Prelude.{◌≡◌};
-ghost use Rattle.t5250.specs.RunFaults.{run_fault, text_run_fault, script_run_fault};
+ghost use Rattle.t5250.specs.RunFaults.{run_fault, text_run_fault, script_run_fault, tcp_run_fault};
 
 use crate::hex_text::TextFault;
 use crate::script::ScriptFault;
+use crate::tcp::TcpFault;
 use std::io;
 use thiserror::Error;
 use ws_code::{Fault, Reason};
@@ -21,6 +22,8 @@ pub enum RunFault {
     Memory,
     #[error("cannot write")]
     Write,
+    #[error("no connection")]
+    NoConnection,
     /// What a command tells of its stream in a line, and never ends with.
     #[error("refused at {place}: reason {number} {name}", number = .reason.number(), name = .reason.name())]
     Refused { place: u64, reason: Reason },
@@ -90,6 +93,19 @@ impl From<ScriptFault> for RunFault {
         match fault {
             ScriptFault::Line(number) => RunFault::Line(number),
             ScriptFault::Memory => RunFault::Memory,
+        }
+    }
+}
+
+impl From<TcpFault> for RunFault {
+    ghost from_gives = { λ fault told. told ≡ tcp_run_fault fault };
+
+    fn from(fault: TcpFault) -> Self {
+        match fault {
+            TcpFault::NoConnection => RunFault::NoConnection,
+            TcpFault::Write => RunFault::Write,
+            TcpFault::Read => RunFault::Read,
+            TcpFault::Memory => RunFault::Memory,
         }
     }
 }

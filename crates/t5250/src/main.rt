@@ -2,7 +2,7 @@
 //!
 //! Its status is 0 where a stream is accepted, 1 where it is refused or truncated, and 2 on a fault. A fault
 //! is one line on standard error, or the text of `clap` for a wrong command line. Faults are looked for in this
-//! order: the command line, reading, hex text, and then those met in running.
+//! order: the command line, reading, hex text or script, the connection, and then those met in running.
 #![tactic(auto)]
 
 mod check;
@@ -12,6 +12,8 @@ mod command_rows;
 mod element_text;
 #[cfg(test)]
 mod encoding_rows;
+#[cfg(test)]
+mod example_rows;
 mod fault;
 mod hex_text;
 #[cfg(test)]
@@ -38,6 +40,9 @@ mod show;
 mod show_rows;
 #[cfg(test)]
 mod size_rows;
+mod tcp;
+#[cfg(test)]
+mod tcp_rows;
 #[cfg(test)]
 mod tests;
 mod text;
@@ -50,17 +55,20 @@ use crate::fault::{CommandFault, RunFault};
 use crate::input::read_input;
 use crate::program::{answer, status};
 use std::io;
+use std::net::{Net, TcpListener, TcpStream};
 use std::process::ExitCode;
 use std::rt::Runtime;
 use ws_code::WriteSink;
 
 // Reads the command line and the input, and writes what is asked for: true where all was accepted.
-fn run<R: Runtime + AllocGlobal>(rt: &R) -> Result<bool, CommandFault> {
+fn run<R: Runtime + AllocGlobal + Net<Listener = TcpListener, Stream = TcpStream>>(
+    rt: &R,
+) -> Result<bool, CommandFault> {
     let words = given_words(rt)?;
     let asked = read_words(rt.alloc(), words.as_slice())?;
     let text = read_input(rt, asked.file())?;
     let mut sink = WriteSink::new(io::writer(rt));
-    Ok(answer(rt.alloc(), asked, text.as_slice(), &mut sink)?)
+    Ok(answer(rt, rt.alloc(), asked, text.as_slice(), &mut sink)?)
 }
 
 // Tells of a fault in its line, of a wrong command line in the text of `clap`, both on standard error. Help

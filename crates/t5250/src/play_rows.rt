@@ -9,9 +9,9 @@ use ws_nego::TerminalType;
 use ws_session::{Event, HostEnd, KeyFault, Report, SendFault, Station};
 
 // A script, whether the screen is asked for, and what is written.
-type Row<'a> = (&'a str, &'a str, bool, &'a str);
+pub type Row<'a> = (&'a str, &'a str, bool, &'a str);
 
-const PLAYED: [Row; 13] = [
+pub const PLAYED: [Row; 13] = [
     (
         "play-bob",
         "settle\nsend 3 0440041100081106341D400020000A04520000\nsettle\ntype BOB\nkey Enter\nsettle\n",
@@ -95,15 +95,17 @@ const PLAYED: [Row; 13] = [
 #[test]
 fn played(rt: HostRuntime) -> Result<(), Fail> {
     for (name, script, screen, wanted) in PLAYED {
-        let mut sink = VecSink::new(rt.alloc());
-        let outcome = answer(
-            rt.alloc(),
-            Asked::Play { file: None, screen },
-            script.as_bytes(),
-            &mut sink,
-        );
-        assert_eq!(rt; status(&outcome), 0, "{name}");
-        assert_eq!(rt; sink.as_slice(), wanted.as_bytes(), "{name}");
+        for tcp in [false, true] {
+            let mut sink = VecSink::new(rt.alloc());
+            let asked = Asked::Play {
+                file: None,
+                screen,
+                tcp,
+            };
+            let outcome = answer(&rt, rt.alloc(), asked, script.as_bytes(), &mut sink);
+            assert_eq!(rt; status(&outcome), 0, "{name}");
+            assert_eq!(rt; sink.as_slice(), wanted.as_bytes(), "{name}");
+        }
     }
     Ok(())
 }
@@ -124,10 +126,12 @@ fn byte_by_byte(rt: HostRuntime) -> Result<(), Fail> {
     }
     let mut sink = VecSink::new(rt.alloc());
     let outcome = answer(
+        &rt,
         rt.alloc(),
         Asked::Play {
             file: None,
             screen: false,
+            tcp: false,
         },
         script.as_bytes(),
         &mut sink,
@@ -142,10 +146,12 @@ fn byte_by_byte(rt: HostRuntime) -> Result<(), Fail> {
 fn unplayed(rt: HostRuntime) -> Result<(), Fail> {
     let mut sink = VecSink::new(rt.alloc());
     let outcome = answer(
+        &rt,
         rt.alloc(),
         Asked::Play {
             file: None,
             screen: true,
+            tcp: false,
         },
         b"settle\nhello\n",
         &mut sink,
@@ -157,10 +163,12 @@ fn unplayed(rt: HostRuntime) -> Result<(), Fail> {
     assert_eq!(rt; line.as_str(), "script line 2");
     let mut sink = FailingSink::new(rt.alloc(), 30);
     let outcome = answer(
+        &rt,
         rt.alloc(),
         Asked::Play {
             file: None,
             screen: true,
+            tcp: false,
         },
         PLAYED[0].1.as_bytes(),
         &mut sink,

@@ -1,6 +1,6 @@
 ghost use Rattle.std.specs.Prelude.{◌≡◌, ◌≢◌, IfOk, IfErr};
 ghost use Rattle.ws_stream.specs.Elements.{element_rules};
-ghost use Rattle.t5250.specs.Answering.{HasPieces, HasAnswered, HasChecked, HasShown, HasPlayed, IsAnswerFault, IsHexFault, IsHexOf, IsPlayFault, status_of};
+ghost use Rattle.t5250.specs.Answering.{HasPieces, HasAnswered, HasChecked, HasShown, HasPlayed, HasPlayedByTcp, IsAnswerFault, IsHexFault, IsHexOf, IsPlayFault, IsTcpPlayFault, status_of};
 ghost use Rattle.t5250.specs.Checking.{IsCheckFault};
 ghost use Rattle.t5250.specs.StreamText.{IsShowFault};
 ghost use Rattle.std.specs.Prelude.{List as Seq, ℕ};
@@ -12,7 +12,9 @@ use crate::hex_text::hex_bytes;
 use crate::play::play_to;
 use crate::script::read_script;
 use crate::show::show_to;
+use crate::tcp::play_tcp;
 use std::alloc::Global;
+use std::net::{Net, TcpListener, TcpStream};
 use ws_code::{Body, Sink};
 use ws_nego::TerminalType;
 use ws_session::World;
@@ -21,10 +23,12 @@ use ws_stream::{Answers, Commands};
 /// Does what the program was asked for with the whole of its input: true where all was accepted.
 ///
 /// What is asked for by `asked` is written to the sink; a file that it names was read before. `NotHex` comes
-/// where the input had to be hex text and isn't, `Line` where a line of a script is bad, and then nothing was
-/// written; `Memory` where a growth was
-/// refused, and `Write` where the sink failed, and then the first part of the text may have gone out.
-pub fn answer<S: Sink>(
+/// where the input had to be hex text and isn't, `Line` where a line of a script is bad, `NoConnection` or `Read`
+/// where a script was to be played over a connection and can't, and then nothing was written; `Memory` where a growth
+/// was refused, and `Write` where the sink failed, or the connection, and then the first part of the text may have
+/// gone out.
+pub fn answer<R: Net<Listener = TcpListener, Stream = TcpStream>, S: Sink>(
+    rt: &R,
     alloc: Global,
     asked: Asked<'_>,
     text: &[u8],
@@ -45,7 +49,13 @@ pub fn answer<S: Sink>(
             }
         }
         Asked::Show { .. } => show_text(alloc, text, sink),
-        Asked::Play { screen, .. } => play_script(alloc, text, screen, sink),
+        Asked::Play { screen, tcp, .. } => {
+            if tcp {
+                play_script_by_tcp(rt, alloc, text, screen, sink)
+            } else {
+                play_script(alloc, text, screen, sink)
+            }
+        }
     }
 }
 
@@ -91,6 +101,24 @@ fn play_script<S: Sink>(
 {
     let moves = read_script(alloc, script)?;
     let report = World::run(alloc, TerminalType::Ibm3179Model2, moves.as_slice())?;
+    Ok(play_to(&report, screen, sink)?)
+}
+
+// The same over a connection.
+fn play_script_by_tcp<R: Net<Listener = TcpListener, Stream = TcpStream>, S: Sink>(
+    rt: &R,
+    alloc: Global,
+    script: &[u8],
+    screen: bool,
+    sink: &mut S,
+) -> Result<bool, RunFault>
+    ensures done { IfOk result
+        (HasPlayedByTcp S.takes S.failures sink.old sink.new screen script.now) }
+    ensures fault { IfErr result
+        (IsTcpPlayFault S.takes S.failures sink.old sink.new screen script.now) }
+{
+    let moves = read_script(alloc, script)?;
+    let report = play_tcp(rt, alloc, TerminalType::Ibm3179Model2, moves.as_slice())?;
     Ok(play_to(&report, screen, sink)?)
 }
 

@@ -33,7 +33,7 @@ fn check<'a>() -> Asked<'a> {
 fn command_lines(rt: HostRuntime) -> Result<(), Fail> {
     let cut = u16::MAX;
     let file = Some("a.hex");
-    let rows: [(&[&str], Asked<'_>); 13] = [
+    let rows: [(&[&str], Asked<'_>); 14] = [
         (&["t5250", "check"], check()),
         (
             &["t5250", "check", "a.hex"],
@@ -98,6 +98,7 @@ fn command_lines(rt: HostRuntime) -> Result<(), Fail> {
             Asked::Play {
                 file: None,
                 screen: false,
+                tcp: false,
             },
         ),
         (
@@ -105,11 +106,24 @@ fn command_lines(rt: HostRuntime) -> Result<(), Fail> {
             Asked::Play {
                 file,
                 screen: false,
+                tcp: false,
             },
         ),
         (
             &["t5250", "play", "--screen", "a.hex"],
-            Asked::Play { file, screen: true },
+            Asked::Play {
+                file,
+                screen: true,
+                tcp: false,
+            },
+        ),
+        (
+            &["t5250", "play", "a.hex", "--tcp"],
+            Asked::Play {
+                file,
+                screen: false,
+                tcp: true,
+            },
         ),
     ];
     for (words, asked) in rows {
@@ -139,7 +153,7 @@ fn wrong_command_lines(rt: HostRuntime) -> Result<(), Fail> {
         ["t5250", "show", "a.hex", "b.hex"].as_slice(),
         ["t5250", "play", "a.hex", "b.hex"].as_slice(),
         ["t5250", "play", "--screen", "--screen"].as_slice(),
-        ["t5250", "play", "--tcp"].as_slice(),
+        ["t5250", "play", "--tcp=1"].as_slice(),
     ];
     for words in wrong {
         match read_words(rt.alloc(), words) {
@@ -226,7 +240,7 @@ fn answered(rt: HostRuntime) -> Result<(), Fail> {
     for (words, text, wanted, exit) in rows {
         let asked = read_words(rt.alloc(), words)?;
         let mut sink = VecSink::new(rt.alloc());
-        let outcome = answer(rt.alloc(), asked, text.as_bytes(), &mut sink);
+        let outcome = answer(&rt, rt.alloc(), asked, text.as_bytes(), &mut sink);
         assert_eq!(rt; status(&outcome), exit, "{text}");
         assert_eq!(rt; sink.as_slice(), wanted.as_bytes(), "{text}");
         if exit == 2 {
@@ -235,7 +249,7 @@ fn answered(rt: HostRuntime) -> Result<(), Fail> {
     }
     let asked = read_words(rt.alloc(), answers)?;
     let mut sink = FailingSink::new(rt.alloc(), 40);
-    let outcome = answer(rt.alloc(), asked, bob.as_bytes(), &mut sink);
+    let outcome = answer(&rt, rt.alloc(), asked, bob.as_bytes(), &mut sink);
     assert_eq!(rt; outcome, Err(RunFault::Write));
     Ok(())
 }
