@@ -24,6 +24,7 @@ WITHIN_MEMORY = [
     "memory_rows::host_end_within_memory",
     "memory_rows::world_within_memory",
     "memory_rows::program_within_memory",
+    "tcp_rows::tcp_without_memory",
 ]
 # Tests of calls that take none: each holds with every allocation refused from any one on.
 WITHOUT_MEMORY = [
@@ -47,6 +48,7 @@ RUNS = [
     (["show"], QUERY),
     (["play"], PLAY),
     (["play", "--screen"], PLAY),
+    (["play", "--tcp"], PLAY),
 ]
 
 MOST = 20_000
