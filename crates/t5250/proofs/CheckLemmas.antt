@@ -9,7 +9,7 @@ use Rattle.ws_code.specs.declared.fault.Fault.TheVariants.{Refused, Truncated, M
 use Rattle.ws_record.specs.declared.record.Item.{Item}
 use Rattle.ws_record.specs.declared.record.Item.TheVariants.{Record, Telnet}
 use Rattle.ws_record.specs.Refusal.{IsRefused}
-use Rattle.ws_record.specs.Receiver.{Receiving, Taken, CompletesUnit, given, IsFeedFault, IsDecodeFault}
+use Rattle.ws_record.specs.Receiver.{Receiving, HasReceived, CompletesUnit, given, IsFeedFault, IsDecodeFault}
 use Rattle.ws_record.proofs.Receivers.{refused_append}
 use Rattle.t5250.specs.declared.verdict.Verdict.{Verdict}
 use Rattle.t5250.specs.declared.check.Tally.{Tally}
@@ -33,11 +33,11 @@ none_left (x ∷ xs) e = (let n : length (x ∷ xs) ≡ 0 = eqb-true (length (x 
 
 module _ {Place U : Type 0} (rules : Rules Place U) where
   -- the tally after a call that fed bytes
-  pub counts_more : (old new : Receiving Place U) (tally : Tally) (bytes rest : List ℕ) (item : Option (Item U)) (used : ℕ) → (k : Counts rules old tally bytes) → Taken rules new (bytes ++ take used rest) (k.items ++ given item)
+  pub counts_more : (old new : Receiving Place U) (tally : Tally) (bytes rest : List ℕ) (item : Option (Item U)) (used : ℕ) → (k : Counts rules old tally bytes) → HasReceived rules new (bytes ++ take used rest) (k.items ++ given item)
       → used ≤ length rest → IfSome item (λ _. 0 < used) → length bytes + length rest + 1 < 2 ^ 64 → Counts rules new (tally_after tally item) (bytes ++ take used rest)
   counts_more old new tally bytes rest None used k t le some fits = record {
     items = k.items;
-    taken = subst (λ (x : List (Item U)). Taken rules new (bytes ++ take used rest) x) (append-nil k.items) t;
+    taken = subst (λ (x : List (Item U)). HasReceived rules new (bytes ++ take used rest) x) (append-nil k.items) t;
     records = k.records;
     commands = k.commands;
     few = omega (arith, k.few, length-append bytes (take used rest));
@@ -59,7 +59,7 @@ module _ {Place U : Type 0} (rules : Rules Place U) where
 
   -- the same behind a part of the piece
   pub counts_on : (old new : Receiving Place U) (tally : Tally) (piece rest bytes : List ℕ) (item : Option (Item U)) (used : ℕ)
-      → (found : (before : List ℕ) × (before ++ rest ≡ piece) × Counts rules old tally (bytes ++ before)) → ((bs : List ℕ) (items : List (Item U)) → Taken rules old bs items → length bs + length rest + 1 < 2 ^ 64 → Taken rules new (bs ++ take used rest) (items ++ given item))
+      → (found : (before : List ℕ) × (before ++ rest ≡ piece) × Counts rules old tally (bytes ++ before)) → ((bs : List ℕ) (items : List (Item U)) → HasReceived rules old bs items → length bs + length rest + 1 < 2 ^ 64 → HasReceived rules new (bs ++ take used rest) (items ++ given item))
       → used ≤ length rest → IfSome item (λ _. 0 < used) → length bytes + length piece + 1 < 2 ^ 64
       → (before : List ℕ) × (before ++ take (length rest - used) (drop used rest) ≡ piece) × Counts rules new (tally_after tally item) (bytes ++ before)
   counts_on old new tally piece rest bytes item used found step le some fits =

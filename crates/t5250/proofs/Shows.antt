@@ -11,9 +11,9 @@ use Rattle.ws_code.specs.declared.fault.Fault.TheVariants as faults
 use Rattle.ws_code.specs.declared.reason.Reason.{Reason}
 use Rattle.ws_telnet.specs.declared.token.Token.{Token}
 use Rattle.ws_telnet.specs.declared.token.Telnet.{Telnet}
-use Rattle.ws_record.specs.Grammar.{Accepts, IsStretch, commands, command_of}
+use Rattle.ws_record.specs.Grammar.{IsInGrammar, IsStretch, commands, command_of}
 use Rattle.ws_record.specs.Refusal.{Layer, IsOpen, IsRefused, IsTruncated}
-use Rattle.ws_record.specs.Receiver.{Receiving, Taken, given, IsFeedFault, NoneBefore}
+use Rattle.ws_record.specs.Receiver.{Receiving, HasReceived, given, IsFeedFault, NoneBefore}
 use Rattle.ws_record.specs.declared.record.Record.{Record}
 use Rattle.ws_record.specs.declared.record.Item.{Item}
 use Rattle.ws_record.specs.declared.record.Item.TheVariants.{Record as RecordItem, Telnet as TelnetItem}
@@ -87,7 +87,7 @@ last_whole bytes items item h =
     (AllByRecursion-append IsWholeItem _ (commands h.2.rest) (stretches_whole h.2.stretches h.2.each) (telnets_whole (flat_map command_of h.2.rest))))
 
 -- what a receiver has taken holds what it gave
-pub held_by : (receiver : Receiving Place Element) (bytes : List ℕ) (items : List (Item Element)) → Taken element_rules receiver bytes items → HoldsItems bytes items
+pub held_by : (receiver : Receiving Place Element) (bytes : List ℕ) (items : List (Item Element)) → HasReceived element_rules receiver bytes items → HoldsItems bytes items
 held_by receiver bytes items t = (t.leads.0, receiver.live.begun, t.leads.1.holds)
 
 pub whole_given : (bytes : List ℕ) (items : List (Item Element)) (item : Option (Item Element)) → HoldsItems bytes (items ++ given item) → IfSome item IsWholeItem
@@ -96,7 +96,7 @@ whole_given bytes items (Some i) h = last_whole bytes items i h
 
 -- the item that a piece's front completes
 pub next_complete : (bytes before rest after : List ℕ) → before ++ rest ≡ bytes → (items : List (Item Element)) (item : Option (Item Element)) (used place : ℕ) → IfSome item (λ _. 0 < used) → used ≤ length rest → after ≡ drop used rest → place ≡ length bytes - length after - 1
-    → ((n : ℕ) → n < used → HoldsItems (before ++ take n rest) items) → (receiver : Receiving Place Element) → Taken element_rules receiver (before ++ take used rest) (items ++ given item) → (i : Item Element) → item ≡ Some i → IsComplete bytes items (place, i)
+    → ((n : ℕ) → n < used → HoldsItems (before ++ take n rest) items) → (receiver : Receiving Place Element) → HasReceived element_rules receiver (before ++ take used rest) (items ++ given item) → (i : Item Element) → item ≡ Some i → IsComplete bytes items (place, i)
 next_complete bytes before rest after e items None used place some within is at first receiver taken i same = cc
 next_complete bytes before rest after e items (Some j) used place some within is at first receiver taken i same =
     let equal : j ≡ i = cc in
@@ -118,20 +118,20 @@ module _ {S : Type 0} (takes : MayTake S) (failures : S → ℕ) where
     pub on : before ++ rest ≡ bytes
     pub placed : List Placed
     pub shown : AreShown bytes [] [] placed
-    pub taken : Taken element_rules receiver before (items_of placed)
+    pub taken : HasReceived element_rules receiver before (items_of placed)
     pub given : Gives (after_items [] placed) screen
     pub closed : screen.writing ≡ None
     pub went : WentOut takes failures from to (lines_of placed)
 
   -- and those of an item more
   pub shows_next : (bytes rest after : List ℕ) (old new : Receiving Place Element) (screen next : Shown) (from mid to : S) (w : Shows bytes rest old screen from mid) (used place : ℕ) (item : Option (Item Element)) → after ≡ drop used rest → ((i : Item Element) → item ≡ Some i → IsComplete bytes (items_of w.placed) (place, i))
-      → Taken element_rules new (w.before ++ take used rest) (items_of w.placed ++ given item) → None ≡ fault_of (after_items [] w.placed) (placed_by place item) → Gives (after_items (after_items [] w.placed) (placed_by place item)) next → next.writing ≡ None → WentOut takes failures mid to (lines_of (placed_by place item)) → Shows bytes after new next from to
+      → HasReceived element_rules new (w.before ++ take used rest) (items_of w.placed ++ given item) → None ≡ fault_of (after_items [] w.placed) (placed_by place item) → Gives (after_items (after_items [] w.placed) (placed_by place item)) next → next.writing ≡ None → WentOut takes failures mid to (lines_of (placed_by place item)) → Shows bytes after new next from to
   shows_next bytes rest after old new screen next from mid to w used place item is complete taken none gives closed went = record {
     before = w.before ++ take used rest;
     on = append_assoc w.before (take used rest) after ∙ ap (λ z. w.before ++ (take used rest ++ z)) is ∙ ap (λ z. w.before ++ z) (take-append-drop used rest) ∙ w.on;
     placed = w.placed ++ placed_by place item;
     shown = shown_by bytes w.placed place item w.shown complete none;
-    taken = subst (λ (z : List (Item Element)). Taken element_rules new (w.before ++ take used rest) z) (ap (λ z. items_of w.placed ++ z) (sym (same_given place item)) ∙ sym (items_more w.placed (placed_by place item))) taken;
+    taken = subst (λ (z : List (Item Element)). HasReceived element_rules new (w.before ++ take used rest) z) (ap (λ z. items_of w.placed ++ z) (sym (same_given place item)) ∙ sym (items_more w.placed (placed_by place item))) taken;
     given = subst (λ (h : History). Gives h next) (sym (after_items_more [] w.placed (placed_by place item))) gives;
     closed = closed;
     went = subst (WentOut takes failures from to) (sym (lines_more w.placed (placed_by place item))) (went_out_both takes failures from mid to (lines_of w.placed) (lines_of (placed_by place item)) w.went went);
@@ -204,7 +204,7 @@ module _ {S : Type 0} (takes : MayTake S) (failures : S → ℕ) where
   item_fails bytes placed more from mid to s p w faults.Failed f = absurd f
 
   -- they are accepted
-  pub accepted_behind : (bytes : List ℕ) (placed : List Placed) (screen : Shown) → AreShown bytes [] [] placed → Accepts element_rules bytes (items_of placed) → Gives (after_items [] placed) screen → GoesOn bytes screen (lines_of placed) None
+  pub accepted_behind : (bytes : List ℕ) (placed : List Placed) (screen : Shown) → AreShown bytes [] [] placed → IsInGrammar element_rules bytes (items_of placed) → Gives (after_items [] placed) screen → GoesOn bytes screen (lines_of placed) None
   accepted_behind bytes placed screen s a g = λ text is. record { placed = placed; shown = s; end = text; ends = (a, (screen, g, is)); lines = refl }
 
   -- an end that comes too early is a verdict

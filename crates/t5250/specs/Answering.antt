@@ -1,3 +1,5 @@
+-- What the program makes of an input: what it writes, and what it answers where that isn't all.
+
 use Rattle.std.specs.Prelude.{◌≡◌, ◌≢◌, ℕ, List, Bool, true, false, Result, Ok, Err, IsErr, ◌⊎◌, length}
 use Rattle.hex.specs.Hex.{decode_of}
 use Rattle.ws_code.specs.Code.{Rules}
@@ -13,7 +15,8 @@ use Rattle.t5250.specs.StreamText.{IsShown, IsShowFault}
 use Rattle.t5250.specs.declared.command_line.Asked.{Asked}
 use Rattle.t5250.specs.declared.command_line.Asked.TheVariants.{Check, Show, Play}
 use Rattle.t5250.specs.declared.fault.RunFault.{RunFault}
-use Rattle.t5250.specs.declared.fault.RunFault.TheVariants.{Read, NotHex, Line, Memory, Write, NoConnection, Refused, Truncated, Failed}
+use Rattle.t5250.specs.declared.fault.RunFault.TheVariants.{Read, NotHex, Line, Memory, Write, NoConnection, Refused}
+use Rattle.t5250.specs.declared.fault.RunFault.TheVariants.{Truncated, Failed}
 use Rattle.t5250.specs.declared.verdict.Verdict.{Verdict}
 use Rattle.ws_nego.specs.declared.terminal.TerminalType.TheVariants.{Ibm3179Model2}
 use Rattle.ws_screen.specs.Shown.{Shown}
@@ -23,8 +26,6 @@ use Rattle.ws_session.specs.World.{World, new_world, after_moves}
 use Rattle.ws_session.specs.StationSide.{screen_at}
 use Rattle.t5250.specs.Script.{IsScript, IsFirstBad}
 use Rattle.t5250.specs.PlayLines.{IsPlayText, no_end_refuses}
-
--- What the program makes of an input: what it writes, and what it answers where that isn't all.
 
 -- bytes are read in pieces, which aren't empty
 abbrev pub HasPieces : Asked → Type 0
@@ -49,7 +50,8 @@ IsHexOf bytes text = decode_of (without_blanks text) ≡ Ok bytes
 module _ {S : Type 0} (takes : MayTake S) (failures : S → ℕ) (from to : S) where
   -- the line of a check went out
   abbrev pub HasChecked : {Place U : Type 0} → Rules Place U → List ℕ → Bool → Type 0
-  HasChecked rules bytes accepted = (verdict : Verdict) × IsVerdict rules bytes verdict × (accepted ≡ is_accepted verdict) × WentOut takes failures from to (line_of verdict (length bytes))
+  HasChecked rules bytes accepted = (verdict : Verdict) × IsVerdict rules bytes verdict
+      × (accepted ≡ is_accepted verdict) × WentOut takes failures from to (line_of verdict (length bytes))
 
   -- what is shown of a stream went out
   abbrev pub HasShown : List ℕ → Bool → Type 0
@@ -57,17 +59,22 @@ module _ {S : Type 0} (takes : MayTake S) (failures : S → ℕ) (from to : S) w
 
   -- what a session tells after a script's moves went out; its terminal is the default one
   abbrev pub HasPlayed : Bool → List ℕ → Bool → Type 0
-  HasPlayed screen script all_well = (moves : List Move) × IsScript script moves × (text : List ℕ) × IsSessionText (after_moves (new_world Ibm3179Model2) moves) screen text × WentOut takes failures from to text × (all_well ≡ no_end_refuses (after_moves (new_world Ibm3179Model2) moves).events)
+  HasPlayed screen script all_well = (moves : List Move) × IsScript script moves × (text : List ℕ)
+      × IsSessionText (after_moves (new_world Ibm3179Model2) moves) screen text × WentOut takes failures from to text
+      × (all_well ≡ no_end_refuses (after_moves (new_world Ibm3179Model2) moves).events)
 
   -- a script was played, and what is told of some session went out
   abbrev pub HasPlayedByTcp : Bool → List ℕ → Bool → Type 0
-  HasPlayedByTcp screen script all_well = ((moves : List Move) × IsScript script moves) × ((text : List ℕ) × IsToldText screen all_well text × WentOut takes failures from to text)
+  HasPlayedByTcp screen script all_well = ((moves : List Move) × IsScript script moves)
+      × ((text : List ℕ) × IsToldText screen all_well text × WentOut takes failures from to text)
 
   -- the program did what it was asked for with its input: with the commands of a host, or the answers of a
   -- station, that a hex text tells, or with a script
   abbrev pub HasAnswered : Asked → List ℕ → Bool → Type 0
-  HasAnswered (Check file cut false) input accepted = (bytes : List ℕ) × IsHexOf bytes input × HasChecked element_rules bytes accepted
-  HasAnswered (Check file cut true) input accepted = (bytes : List ℕ) × IsHexOf bytes input × HasChecked answer_rules bytes accepted
+  HasAnswered (Check file cut false) input accepted = (bytes : List ℕ) × IsHexOf bytes input
+      × HasChecked element_rules bytes accepted
+  HasAnswered (Check file cut true) input accepted = (bytes : List ℕ) × IsHexOf bytes input
+      × HasChecked answer_rules bytes accepted
   HasAnswered (Show file) input accepted = (bytes : List ℕ) × IsHexOf bytes input × HasShown bytes accepted
   HasAnswered (Play file screen false) input accepted = HasPlayed screen input accepted
   HasAnswered (Play file screen true) input accepted = HasPlayedByTcp screen input accepted
@@ -88,7 +95,9 @@ module _ {S : Type 0} (takes : MayTake S) (failures : S → ℕ) (from to : S) w
   abbrev pub IsPlayFault : Bool → List ℕ → RunFault → Type 0
   IsPlayFault screen script (Line number) = (to ≡ from) × IsFirstBad script number
   IsPlayFault screen script Memory = to ≡ from
-  IsPlayFault screen script Write = (moves : List Move) × IsScript script moves × (text : List ℕ) × IsSessionText (after_moves (new_world Ibm3179Model2) moves) screen text × FailedWithin takes failures from to text
+  IsPlayFault screen script Write = (moves : List Move) × IsScript script moves × (text : List ℕ)
+      × IsSessionText (after_moves (new_world Ibm3179Model2) moves) screen text
+      × FailedWithin takes failures from to text
   IsPlayFault screen script NotHex = ⊥
   IsPlayFault screen script Read = ⊥
   IsPlayFault screen script (Refused place reason) = ⊥
@@ -102,7 +111,10 @@ module _ {S : Type 0} (takes : MayTake S) (failures : S → ℕ) (from to : S) w
   IsTcpPlayFault screen script Memory = to ≡ from
   IsTcpPlayFault screen script NoConnection = (to ≡ from) × ((moves : List Move) × IsScript script moves)
   IsTcpPlayFault screen script Read = (to ≡ from) × ((moves : List Move) × IsScript script moves)
-  IsTcpPlayFault screen script Write = ((moves : List Move) × IsScript script moves) × ((to ≡ from) ⊎ ((all_well : Bool) × (text : List ℕ) × IsToldText screen all_well text × FailedWithin takes failures from to text))
+  IsTcpPlayFault screen script Write = ((moves : List Move) × IsScript script moves)
+      × ((to ≡ from)
+      ⊎ ((all_well : Bool) × (text : List ℕ) × IsToldText screen all_well text
+      × FailedWithin takes failures from to text))
   IsTcpPlayFault screen script NotHex = ⊥
   IsTcpPlayFault screen script (Refused place reason) = ⊥
   IsTcpPlayFault screen script (Truncated at) = ⊥
@@ -110,8 +122,10 @@ module _ {S : Type 0} (takes : MayTake S) (failures : S → ℕ) (from to : S) w
 
   -- what the program answers where it didn't do all that it was asked for
   abbrev pub IsAnswerFault : Asked → List ℕ → RunFault → Type 0
-  IsAnswerFault (Check file cut false) input fault = IsHexFault (IsCheckFault element_rules takes failures from to) input fault
-  IsAnswerFault (Check file cut true) input fault = IsHexFault (IsCheckFault answer_rules takes failures from to) input fault
+  IsAnswerFault (Check file cut false) input fault = IsHexFault
+      (IsCheckFault element_rules takes failures from to) input fault
+  IsAnswerFault (Check file cut true) input fault = IsHexFault
+      (IsCheckFault answer_rules takes failures from to) input fault
   IsAnswerFault (Show file) input fault = IsHexFault (IsShowFault takes failures from to) input fault
   IsAnswerFault (Play file screen false) input fault = IsPlayFault screen input fault
   IsAnswerFault (Play file screen true) input fault = IsTcpPlayFault screen input fault

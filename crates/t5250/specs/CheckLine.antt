@@ -1,3 +1,5 @@
+-- What `check` prints: the line of what holds of a stream.
+
 use Rattle.std.specs.Prelude.{◌≡◌, ℕ, ◌+◌, List, [], ◌∷◌, ◌++◌, Bool, true, false, length, codes, Result, Ok, Err}
 use Rattle.std.specs.Fmt.{decimal}
 use Rattle.ws_code.specs.Code.{Rules}
@@ -6,7 +8,7 @@ use Rattle.ws_code.specs.declared.fault.Fault.TheVariants as faults
 use Rattle.ws_code.specs.Reason.{number_of, name_of}
 use Rattle.ws_record.specs.declared.record.Item.{Item}
 use Rattle.ws_record.specs.declared.record.Item.TheVariants.{Record, Telnet}
-use Rattle.ws_record.specs.Grammar.{Accepts}
+use Rattle.ws_record.specs.Grammar.{IsInGrammar}
 use Rattle.ws_record.specs.Refusal.{IsRefused, IsTruncated}
 use Rattle.t5250.specs.declared.verdict.Verdict.{Verdict}
 use Rattle.t5250.specs.declared.verdict.Verdict.TheVariants.{Accepted, Refused, Truncated}
@@ -24,7 +26,8 @@ command_count (Telnet t ∷ items) = command_count items + 1
 
 -- what holds of the bytes
 abbrev pub IsVerdict : {Place U : Type 0} → Rules Place U → List ℕ → Verdict → Type 0
-IsVerdict {Place} {U} rules bytes (Accepted records commands) = (items : List (Item U)) × Accepts rules bytes items × (records ≡ record_count items) × (commands ≡ command_count items)
+IsVerdict {Place} {U} rules bytes (Accepted records commands) = (items : List (Item U)) × IsInGrammar rules bytes items
+    × (records ≡ record_count items) × (commands ≡ command_count items)
 IsVerdict rules bytes (Refused place reason) = IsRefused rules bytes place reason
 IsVerdict rules bytes (Truncated n) = (n ≡ length bytes) × IsTruncated rules bytes
 
@@ -35,8 +38,10 @@ is_accepted (Truncated n) = false
 
 -- the line that says it, of so many bytes
 abbrev pub line_of : Verdict → ℕ → List ℕ
-line_of (Accepted records commands) size = codes "accepted: " ++ decimal records ++ codes " records, " ++ decimal commands ++ codes " commands, " ++ decimal size ++ (codes " bytes" ++ 10 ∷ [])
-line_of (Refused place reason) size = codes "refused at " ++ decimal place ++ codes ": reason " ++ decimal (number_of reason) ++ codes " " ++ name_of reason ++ 10 ∷ []
+line_of (Accepted records commands) size = codes "accepted: " ++ decimal records ++ codes " records, "
+    ++ decimal commands ++ codes " commands, " ++ decimal size ++ (codes " bytes" ++ 10 ∷ [])
+line_of (Refused place reason) size = codes "refused at " ++ decimal place ++ codes ": reason "
+    ++ decimal (number_of reason) ++ codes " " ++ name_of reason ++ 10 ∷ []
 line_of (Truncated n) size = codes "truncated at " ++ decimal n ++ 10 ∷ []
 
 -- the verdict that a receiver's fault is, where it is one

@@ -1,3 +1,5 @@
+-- Hex text: two digits a byte, with blanks and line ends that don't count.
+
 use Rattle.std.specs.Prelude.{ℕ, List, Bool, ◌==◌, ◌||◌, not, filter}
 
 -- a blank, a tab, CR or LF

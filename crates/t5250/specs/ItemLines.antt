@@ -1,9 +1,12 @@
+-- The lines of items, as texts in bytes. Numbers are in decimal, hex is in upper case.
+
 use Rattle.std.specs.Prelude.{ℕ, ◌+◌, ◌/◌, ◌%◌, List, [], ◌∷◌, ◌++◌, Bool, true, false, Option, Some, None, codes}
 use Rattle.std.specs.List.{flat_map}
 use Rattle.std.specs.Fmt.{decimal}
 use Rattle.hex.specs.Hex.{encode_upper}
 use Rattle.ws_telnet.specs.declared.token.CommandCode.{CommandCode}
-use Rattle.ws_telnet.specs.declared.token.CommandCode.TheVariants.{Nop, DataMark, Break, InterruptProcess, AbortOutput, AreYouThere, EraseCharacter, EraseLine, GoAhead}
+use Rattle.ws_telnet.specs.declared.token.CommandCode.TheVariants.{Nop, DataMark, Break, InterruptProcess, AbortOutput}
+use Rattle.ws_telnet.specs.declared.token.CommandCode.TheVariants.{AreYouThere, EraseCharacter, EraseLine, GoAhead}
 use Rattle.ws_telnet.specs.declared.token.Verb.{Verb}
 use Rattle.ws_telnet.specs.declared.token.Verb.TheVariants.{Will, Wont, Do, Dont}
 use Rattle.ws_telnet.specs.declared.token.Telnet.{Telnet}
@@ -14,9 +17,8 @@ use Rattle.ws_record.specs.declared.record.Item.{Item}
 use Rattle.ws_record.specs.declared.record.Item.TheVariants.{Record as RecordItem, Telnet as TelnetItem}
 use Rattle.ws_stream.specs.FieldOrder.{FieldOrder}
 use Rattle.ws_stream.specs.declared.element.Element.{Element}
-use Rattle.ws_stream.specs.declared.element.Element.TheVariants.{ClearUnit, ClearFormat, Write, ReadInput, ReadMdt, ReadMdtAlternate, Soh, Ra, Ea, Sba, Ic, Mc, Sf, Put}
-
--- The lines of items, as texts in bytes. Numbers are in decimal, hex is in upper case.
+use Rattle.ws_stream.specs.declared.element.Element.TheVariants.{ClearUnit, ClearFormat, Write, ReadInput, ReadMdt}
+use Rattle.ws_stream.specs.declared.element.Element.TheVariants.{ReadMdtAlternate, Soh, Ra, Ea, Sba, Ic, Mc, Sf, Put}
 
 -- hex behind a blank, and nothing for no bytes
 abbrev pub hex_behind_blank : List ℕ → List ℕ
@@ -45,7 +47,8 @@ format_text None = []
 format_text (Some w) = words_text (w ∷ [])
 
 abbrev pub field_text : FieldOrder → List ℕ
-field_text f = format_text f.format ++ words_text f.controls ++ encode_upper (f.attribute ∷ []) ++ codes " " ++ decimal f.length
+field_text f = format_text f.format ++ words_text f.controls ++ encode_upper (f.attribute ∷ []) ++ codes " "
+    ++ decimal f.length
 
 -- an element
 abbrev pub element_text : Element → List ℕ
@@ -80,7 +83,8 @@ element_lines is_behind_put (e ∷ es) = element_line is_behind_put e ++ element
 
 -- a record whose last byte is at the place: a line for its header, and those of its elements
 abbrev pub record_text : ℕ → Record Element → List ℕ
-record_text place r = codes "at " ++ decimal place ++ codes " record flags " ++ encode_upper (two_bytes r.flags) ++ codes " opcode " ++ decimal (opcode_byte r.opcode) ++ element_lines false r.body ++ 10 ∷ []
+record_text place r = codes "at " ++ decimal place ++ codes " record flags " ++ encode_upper (two_bytes r.flags)
+    ++ codes " opcode " ++ decimal (opcode_byte r.opcode) ++ element_lines false r.body ++ 10 ∷ []
 
 -- the name of a command (RFC 854)
 abbrev pub command_name : CommandCode → List ℕ

@@ -1,3 +1,5 @@
+-- The lines of a session's report, as texts in bytes. Numbers are in decimal, hex is in upper case.
+
 use Rattle.std.specs.Prelude.{◌≡◌, ℕ, List, [], ◌∷◌, ◌++◌, Bool, true, false, not, codes}
 use Rattle.std.specs.List.{flat_map, list_all}
 use Rattle.std.specs.Fmt.{decimal}
@@ -7,20 +9,23 @@ use Rattle.ws_code.specs.Reason.{number_of, name_of as reason_name}
 use Rattle.ws_nego.specs.Terminal.{name_of as terminal_name}
 use Rattle.ws_screen.specs.Shown.{Shown}
 use Rattle.ws_keys.specs.declared.key.KeyRefusal.{KeyRefusal}
-use Rattle.ws_keys.specs.declared.key.KeyRefusal.TheVariants.{Locked, Protected, WrongCharacter, DupNotAllowed, NoRoom, NoReadPending, MandatoryEnter}
+use Rattle.ws_keys.specs.declared.key.KeyRefusal.TheVariants.{Locked, Protected, WrongCharacter, DupNotAllowed, NoRoom}
+use Rattle.ws_keys.specs.declared.key.KeyRefusal.TheVariants.{NoReadPending, MandatoryEnter}
 use Rattle.ws_keys.specs.declared.host_answer.ReadField.{ReadField}
 use Rattle.ws_session.specs.declared.key_fault.KeyFault.{KeyFault}
 use Rattle.ws_session.specs.declared.key_fault.KeyFault.TheVariants.{Failed as KeyFailed, NotReady, Key}
 use Rattle.ws_session.specs.declared.host_event.HostEvent.{HostEvent}
-use Rattle.ws_session.specs.declared.host_event.HostEvent.TheVariants.{Ready, Answer, Attention, SystemRequest, Cancelled}
+use Rattle.ws_session.specs.declared.host_event.HostEvent.TheVariants.{Ready, Answer, Attention, SystemRequest}
+use Rattle.ws_session.specs.declared.host_event.HostEvent.TheVariants.{Cancelled}
 use Rattle.ws_session.specs.declared.send_fault.SendFault.{SendFault}
-use Rattle.ws_session.specs.declared.send_fault.SendFault.TheVariants.{Failed, NotAllowed, ReadOutstanding, NoReadToCancel, BadSequence, Screen, TooBig, Memory}
+use Rattle.ws_session.specs.declared.send_fault.SendFault.TheVariants.{Failed, NotAllowed, ReadOutstanding}
+use Rattle.ws_session.specs.declared.send_fault.SendFault.TheVariants.{NoReadToCancel, BadSequence, Screen, TooBig}
+use Rattle.ws_session.specs.declared.send_fault.SendFault.TheVariants.{Memory}
 use Rattle.ws_session.specs.declared.world.Event.{Event}
-use Rattle.ws_session.specs.declared.world.Event.TheVariants.{Host, KeyRefused, SendRefused, StationRefused, HostRefused}
+use Rattle.ws_session.specs.declared.world.Event.TheVariants.{Host, KeyRefused, SendRefused, StationRefused}
+use Rattle.ws_session.specs.declared.world.Event.TheVariants.{HostRefused}
 use Rattle.t5250.specs.ItemLines.{cell_text, hex_behind_blank}
 use Rattle.t5250.specs.ScreenLines.{IsScreenText}
-
--- The lines of a session's report, as texts in bytes. Numbers are in decimal, hex is in upper case.
 
 -- a field of an answer: its first cell, and its content where there is any
 abbrev pub read_field_text : ReadField → List ℕ
@@ -29,7 +34,8 @@ read_field_text field = codes "  field " ++ cell_text field.address ++ hex_behin
 -- what a host end tells; an answer has its cursor and AID, and a line for each field
 abbrev pub host_event_text : HostEvent → List ℕ
 host_event_text (Ready terminal) = codes "host ready " ++ terminal_name terminal ++ codes "\n"
-host_event_text (Answer answer) = codes "answer " ++ cell_text answer.cursor ++ codes " " ++ encode_upper (answer.aid ∷ []) ++ codes "\n" ++ flat_map read_field_text answer.fields
+host_event_text (Answer answer) = codes "answer " ++ cell_text answer.cursor ++ codes " "
+    ++ encode_upper (answer.aid ∷ []) ++ codes "\n" ++ flat_map read_field_text answer.fields
 host_event_text Attention = codes "attention\n"
 host_event_text SystemRequest = codes "system request\n"
 host_event_text Cancelled = codes "cancelled\n"
@@ -61,7 +67,8 @@ send_fault_name Memory = codes "Memory"
 
 -- an end refuses a byte
 abbrev pub refused_text : ℕ → Reason → List ℕ
-refused_text place reason = codes " refused at " ++ decimal place ++ codes ": reason " ++ decimal (number_of reason) ++ codes " " ++ reason_name reason ++ codes "\n"
+refused_text place reason = codes " refused at " ++ decimal place ++ codes ": reason " ++ decimal (number_of reason)
+    ++ codes " " ++ reason_name reason ++ codes "\n"
 
 -- an event
 abbrev pub event_text : Event → List ℕ

@@ -1,9 +1,9 @@
+-- A text that goes out in parts, up to the first failure.
+
 use Rattle.std.specs.Prelude.{ℕ, List, ◌++◌}
 use Rattle.ws_code.specs.Device.{MayTake, WentOut, FailedWithin}
 use Rattle.t5250.specs.declared.output.Output.{Output}
 use Rattle.t5250.specs.declared.output.Output.TheVariants.{Open, Failed}
-
--- A text that goes out in parts, up to the first failure.
 
 -- what went out of a text so far: all of it, or before a failure a proper prefix of it
 abbrev pub IsOut : {S : Type 0} → MayTake S → (S → ℕ) → S → S → Output → List ℕ → Type 0
@@ -11,5 +11,7 @@ IsOut takes failures from to Open text = WentOut takes failures from to text
 IsOut takes failures from to Failed text = FailedWithin takes failures from to text
 
 -- a text that was out so far goes on by this part
-pub record Prints {S : Type 0} (takes : MayTake S) (failures : S → ℕ) (old new : S) (before after : Output) (part : List ℕ) : Type 0 where
-  pub on : (from : S) (text : List ℕ) → IsOut takes failures from old before text → IsOut takes failures from new after (text ++ part)
+pub record Prints {S : Type 0} (takes : MayTake S) (failures : S
+    → ℕ) (old new : S) (before after : Output) (part : List ℕ) : Type 0 where
+  pub on : (from : S) (text : List ℕ) → IsOut takes failures from old before text
+      → IsOut takes failures from new after (text ++ part)

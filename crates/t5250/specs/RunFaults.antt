@@ -1,7 +1,10 @@
+-- The faults of a command as those of the program.
+
 use Rattle.ws_code.specs.declared.fault.Fault.{Fault}
 use Rattle.ws_code.specs.declared.fault.Fault.TheVariants as device
 use Rattle.t5250.specs.declared.fault.RunFault.{RunFault}
-use Rattle.t5250.specs.declared.fault.RunFault.TheVariants.{Read, NotHex, Line, Memory, Write, NoConnection, Refused, Truncated, Failed}
+use Rattle.t5250.specs.declared.fault.RunFault.TheVariants.{Read, NotHex, Line, Memory, Write, NoConnection, Refused}
+use Rattle.t5250.specs.declared.fault.RunFault.TheVariants.{Truncated, Failed}
 use Rattle.t5250.specs.declared.hex_text.TextFault.{TextFault}
 use Rattle.t5250.specs.declared.hex_text.TextFault.TheVariants as texts
 use Rattle.t5250.specs.declared.script.ScriptFault.{ScriptFault}

@@ -1,3 +1,5 @@
+-- The lines of a screen, as a text in bytes.
+
 use Rattle.std.specs.Prelude.{◌≡◌, ℕ, List, [], ◌∷◌, ◌++◌, Bool, codes, if◌then◌else◌, nat_lt, length}
 use Rattle.std.specs.Str.{encode_utf8_all}
 use Rattle.std.specs.Str.Pattern.{IsTrimEndMatches, FindsCharSuffix}
@@ -6,8 +8,6 @@ use Rattle.std.specs.Fmt.{decimal}
 use Rattle.ws_screen.specs.Lines.{row_chars}
 use Rattle.ws_screen.specs.Shown.{Shown}
 use Rattle.t5250.specs.ItemLines.{cell_text}
-
--- The lines of a screen, as a text in bytes.
 
 -- a text without the blanks at its end, as `trim_end_matches` cuts them
 abbrev pub IsWithoutLastBlanks : List ℕ → List ℕ → Type 0
@@ -25,7 +25,9 @@ row_line row (b ∷ shown) = indent row ++ decimal row ++ codes " " ++ b ∷ sho
 -- the lines of rows one after another
 unfoldable pub AreRows : List ℕ → List ℕ → List ℕ → Type 0
 AreRows cells [] text = text ≡ []
-AreRows cells (row ∷ rows) text = (shown : List ℕ) × (rest : List ℕ) × IsWithoutLastBlanks (encode_utf8_all (row_chars cells row)) shown × (text ≡ row_line row shown ++ rest) × AreRows cells rows rest
+AreRows cells (row ∷ rows) text = (shown : List ℕ) × (rest : List ℕ)
+    × IsWithoutLastBlanks (encode_utf8_all (row_chars cells row)) shown × (text ≡ row_line row shown ++ rest)
+    × AreRows cells rows rest
 
 abbrev pub lock_name : Bool → List ℕ
 lock_name locked = if locked then codes "locked" else codes "unlocked"
@@ -35,8 +37,11 @@ on_or_off on = if on then codes "on" else codes "off"
 
 -- the cursor, the keyboard's lock, the message light, the blinking cursor, the number of fields
 abbrev pub state_line : Shown → List ℕ
-state_line s = codes "cursor " ++ cell_text s.cursor ++ codes ", " ++ lock_name s.locked ++ codes ", message " ++ on_or_off s.message ++ codes ", blink " ++ on_or_off s.blink ++ codes ", fields " ++ decimal (length s.fields) ++ 10 ∷ []
+state_line s = codes "cursor " ++ cell_text s.cursor ++ codes ", " ++ lock_name s.locked ++ codes ", message "
+    ++ on_or_off s.message ++ codes ", blink " ++ on_or_off s.blink ++ codes ", fields " ++ decimal (length s.fields)
+    ++ 10 ∷ []
 
 -- the lines of a whole screen, whose rows count from 1
 abbrev pub IsScreenText : Shown → List ℕ → Type 0
-IsScreenText s text = (rows : List ℕ) × AreRows s.cells (range_with_len 1 24) rows × (text ≡ codes "screen\n" ++ rows ++ state_line s)
+IsScreenText s text = (rows : List ℕ) × AreRows s.cells (range_with_len 1 24) rows
+    × (text ≡ codes "screen\n" ++ rows ++ state_line s)

@@ -1,4 +1,7 @@
-use Rattle.std.specs.Prelude.{◌≡◌, ◌≢◌, ℕ, ◌+◌, ◌-◌, ◌^◌, ◌≤◌, ◌⊎◌, List, [], ◌∷◌, ◌++◌, map, length, codes, Bool, true, false, if◌then◌else◌, Some, Ok}
+-- Scripts: which moves each line gives, and a whole text.
+
+use Rattle.std.specs.Prelude.{◌≡◌, ◌≢◌, ℕ, ◌+◌, ◌-◌, ◌^◌, ◌≤◌, ◌⊎◌, List, [], ◌∷◌, ◌++◌, map, length, codes, Bool, true}
+use Rattle.std.specs.Prelude.{false, if◌then◌else◌, Some, Ok}
 use Rattle.std.specs.Str.{IsUtf8, all_scalars, encode_utf8_all}
 use Rattle.std.specs.Str.Lines.{lines}
 use Rattle.std.specs.Str.Parse.{IsNumeral, digits_value}
@@ -14,8 +17,6 @@ use Rattle.ws_keys.specs.declared.key.Key.TheVariants.{Char, Insert}
 use Rattle.ws_session.specs.declared.world.Move.{Move}
 use Rattle.ws_session.specs.declared.world.Move.TheVariants.{Send, Cancel, ToStation, ToHost, Key as Press}
 use Rattle.t5250.specs.KeyNames.{key_named}
-
--- Scripts: which moves each line gives, and a whole text.
 
 -- a number: 1 to 9 decimal digits
 abbrev pub IsNumber : List ℕ → ℕ → Type 0
@@ -46,7 +47,8 @@ IsOpcodeText number opcode = IsNumber number (opcode_byte opcode) × (opcode ≢
 pub record IsRecordText (words : List ℕ) (opcode : Opcode) (body : List Element) : Type 0 where
   pub number : List ℕ
   pub sent : IsOpcodeText number opcode
-  pub rest : ((words ≡ number) × (body ≡ [])) ⊎ ((hex : List ℕ) × (words ≡ number ++ codes " " ++ hex) × (hex ≢ []) × IsBodyText hex body)
+  pub rest : ((words ≡ number) × (body ≡ []))
+      ⊎ ((hex : List ℕ) × (words ≡ number ++ codes " " ++ hex) × (hex ≢ []) × IsBodyText hex body)
 
 -- a line that is one move
 abbrev pub IsMove : List ℕ → Move → Type 0
@@ -94,7 +96,8 @@ IsBad line = (moves : List Move) → IsLine line moves → ⊥
 -- lines and their moves, in order
 abbrev pub AreLines : List (List ℕ) → List Move → Type 0
 AreLines [] moves = moves ≡ []
-AreLines (line ∷ more) moves = (first : List Move) × (rest : List Move) × IsLine line first × AreLines more rest × (moves ≡ first ++ rest)
+AreLines (line ∷ more) moves = (first : List Move) × (rest : List Move) × IsLine line first × AreLines more rest
+    × (moves ≡ first ++ rest)
 
 -- a script and its moves; its lines are those of a text, each ended by LF, of which the last may lack it, without a CR
 -- before the LF

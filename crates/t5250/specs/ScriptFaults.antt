@@ -1,3 +1,5 @@
+-- What a script that gives no moves is refused for.
+
 use Rattle.std.specs.Prelude.{◌≡◌, ℕ, List, ◌++◌, Bool, ◌==◌, not, true, codes}
 use Rattle.std.specs.List.{list_all}
 use Rattle.t5250.specs.declared.script.ScriptFault.{ScriptFault}
@@ -5,8 +7,6 @@ use Rattle.t5250.specs.declared.script.ScriptFault.TheVariants.{Line, Memory}
 use Rattle.t5250.specs.declared.script_line.LineFault.{LineFault}
 use Rattle.t5250.specs.declared.script_line.LineFault.TheVariants.{Bad, Memory as LineMemory}
 use Rattle.t5250.specs.Script.{IsFirstBad}
-
--- What a script that gives no moves is refused for.
 
 abbrev pub IsScriptFault : List ℕ → ScriptFault → Type 0
 IsScriptFault text (Line number) = IsFirstBad text number

@@ -1,11 +1,14 @@
-use Rattle.std.specs.Prelude.{◌≡◌, ℕ, ◌+◌, ◌<◌, List, [], ◌∷◌, ◌++◌, ◌⊎◌, Bool, true, false, Option, None, Some, IfSome, length, take, map}
+-- What is shown of a stream: the lines of its items, and those of the screen or of a refusal.
+
+use Rattle.std.specs.Prelude.{◌≡◌, ℕ, ◌+◌, ◌<◌, List, [], ◌∷◌, ◌++◌, ◌⊎◌, Bool, true, false, Option, None, Some, IfSome}
+use Rattle.std.specs.Prelude.{length, take, map}
 use Rattle.std.specs.List.{flat_map}
 use Rattle.ws_code.specs.Code.{IsChain}
 use Rattle.ws_code.specs.Device.{MayTake, WentOut, FailedWithin}
 use Rattle.ws_code.specs.declared.fault.Fault.{Fault}
 use Rattle.ws_code.specs.declared.fault.Fault.TheVariants.{Memory, Write}
 use Rattle.ws_code.specs.declared.reason.Reason.{Reason}
-use Rattle.ws_record.specs.Grammar.{Holds, Accepts}
+use Rattle.ws_record.specs.Grammar.{Holds, IsInGrammar}
 use Rattle.ws_record.specs.Refusal.{Layer, IsOpen, IsRefused, IsTruncated}
 use Rattle.ws_record.specs.declared.record.Item.{Item}
 use Rattle.ws_record.specs.declared.record.Item.TheVariants.{Record as RecordItem, Telnet as TelnetItem}
@@ -21,8 +24,6 @@ use Rattle.t5250.specs.ItemLines.{item_text}
 use Rattle.t5250.specs.ScreenLines.{IsScreenText}
 use Rattle.t5250.specs.declared.verdict.Verdict.{Verdict}
 use Rattle.t5250.specs.declared.verdict.Verdict.TheVariants.{Refused, Truncated}
-
--- What is shown of a stream: the lines of its items, and those of the screen or of a refusal.
 
 -- an item with the place of its last byte
 abbrev pub Placed : Type 0
@@ -64,27 +65,34 @@ pub record IsComplete (bytes : List ℕ) (before : List (Item Element)) (x : Pla
 -- each of the items is, one after another, and the screen refuses none
 abbrev pub AreShown : List ℕ → List (Item Element) → History → List Placed → Type 0
 AreShown bytes before h [] = Unit {0}
-AreShown bytes before h (x ∷ xs) = IsComplete bytes before x × (item_fault h x.1 ≡ None) × AreShown bytes (before ++ x.1 ∷ []) (after_item h x.1) xs
+AreShown bytes before h (x ∷ xs) = IsComplete bytes before x × (item_fault h x.1 ≡ None)
+    × AreShown bytes (before ++ x.1 ∷ []) (after_item h x.1) xs
 
 -- The ends. The bytes are accepted, and what the items make of a screen is shown.
 abbrev pub IsScreenEnd : List ℕ → List Placed → List ℕ → Type 0
-IsScreenEnd bytes placed text = Accepts element_rules bytes (items_of placed) × ((s : Shown) × Gives (after_items [] placed) s × IsScreenText s text)
+IsScreenEnd bytes placed text = IsInGrammar element_rules bytes (items_of placed)
+    × ((s : Shown) × Gives (after_items [] placed) s × IsScreenText s text)
 
 -- A byte is refused behind the items.
 abbrev pub IsRefusedEnd : List ℕ → List Placed → List ℕ → Type 0
-IsRefusedEnd bytes placed text = (place : ℕ) × (reason : Reason) × IsRefused element_rules bytes place reason × HoldsItems (take place bytes) (items_of placed) × (text ≡ line_of (Refused place reason) (length bytes))
+IsRefusedEnd bytes placed text = (place : ℕ) × (reason : Reason) × IsRefused element_rules bytes place reason
+    × HoldsItems (take place bytes) (items_of placed) × (text ≡ line_of (Refused place reason) (length bytes))
 
 -- The bytes end too early behind them.
 abbrev pub IsTruncatedEnd : List ℕ → List Placed → List ℕ → Type 0
-IsTruncatedEnd bytes placed text = IsTruncated element_rules bytes × HoldsItems bytes (items_of placed) × (text ≡ line_of (Truncated (length bytes)) (length bytes))
+IsTruncatedEnd bytes placed text = IsTruncated element_rules bytes × HoldsItems bytes (items_of placed)
+    × (text ≡ line_of (Truncated (length bytes)) (length bytes))
 
 -- The screen refuses the next item, which is shown too.
 abbrev pub IsUnappliedEnd : List ℕ → List Placed → List ℕ → Type 0
-IsUnappliedEnd bytes placed text = (x : Placed) × (reason : Reason) × IsComplete bytes (items_of placed) x × (item_fault (after_items [] placed) x.1 ≡ Some reason) × (text ≡ item_text x.0 x.1 ++ line_of (Refused x.0 reason) (length bytes))
+IsUnappliedEnd bytes placed text = (x : Placed) × (reason : Reason) × IsComplete bytes (items_of placed) x
+    × (item_fault (after_items [] placed) x.1 ≡ Some reason)
+    × (text ≡ item_text x.0 x.1 ++ line_of (Refused x.0 reason) (length bytes))
 
 abbrev pub IsEnd : List ℕ → List Placed → Bool → List ℕ → Type 0
 IsEnd bytes placed true text = IsScreenEnd bytes placed text
-IsEnd bytes placed false text = IsRefusedEnd bytes placed text ⊎ (IsTruncatedEnd bytes placed text ⊎ IsUnappliedEnd bytes placed text)
+IsEnd bytes placed false text = IsRefusedEnd bytes placed text
+    ⊎ (IsTruncatedEnd bytes placed text ⊎ IsUnappliedEnd bytes placed text)
 
 -- the whole text
 pub record IsShown (bytes : List ℕ) (accepted : Bool) (text : List ℕ) : Type 0 where
@@ -121,7 +129,8 @@ module _ {S : Type 0} (takes : MayTake S) (failures : S → ℕ) (from to : S) w
   -- what is answered where not all is shown: the first lines went out, or a part of them
   abbrev pub IsShowFault : List ℕ → Fault → Type 0
   IsShowFault bytes Memory = (text : List ℕ) × IsPart bytes text × WentOut takes failures from to text
-  IsShowFault bytes Write = (text : List ℕ) × (IsPart bytes text ⊎ ((accepted : Bool) × IsShown bytes accepted text)) × FailedWithin takes failures from to text
+  IsShowFault bytes Write = (text : List ℕ) × (IsPart bytes text ⊎ ((accepted : Bool) × IsShown bytes accepted text))
+      × FailedWithin takes failures from to text
   IsShowFault bytes fault = ⊥
 
 -- Items one by one: none, or one with its place.
@@ -136,4 +145,5 @@ fault_of h (x ∷ xs) = item_fault h x.1
 -- how the lines go on behind those of the items: with the line of a verdict, or with the screen's
 abbrev pub GoesOn : List ℕ → Shown → List ℕ → Option Verdict → Type 0
 GoesOn bytes screen lines None = (text : List ℕ) → IsScreenText screen text → IsShown bytes true (lines ++ text)
-GoesOn bytes screen lines (Some verdict) = (is_accepted verdict ≡ false) × IsShown bytes false (lines ++ line_of verdict (length bytes))
+GoesOn bytes screen lines (Some verdict) = (is_accepted verdict ≡ false)
+    × IsShown bytes false (lines ++ line_of verdict (length bytes))

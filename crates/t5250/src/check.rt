@@ -10,7 +10,7 @@ use std::alloc::Global;
 use ws_code::{Body, Fault, Sink, write_whole};
 use ws_record::{Fed, Item, Receiver};
 
-/// How many items a receiver has given.
+// How many items a receiver has given.
 #[derive(Debug, Drop)]
 struct Tally {
     records: u64,

@@ -1,4 +1,7 @@
-use Rattle.std.specs.Prelude.{◌≡◌, ℕ, ◌+◌, ◌^◌, ◌<◌, ◌≤◌, ◌/◌, ◌%◌, true, List, [], ◌++◌, length, drop, Option, Some, None, Result, Ok, Err, OnErr}
+-- What calls come to, as C sees it
+
+use Rattle.std.specs.Prelude.{◌≡◌, ℕ, ◌+◌, ◌^◌, ◌<◌, ◌≤◌, ◌/◌, ◌%◌, true, List, [], ◌++◌, length, drop, Option, Some}
+use Rattle.std.specs.Prelude.{None, Result, Ok, Err, OnErr}
 use Rattle.ws_code.specs.Reason.{number_of as reason_number}
 use Rattle.ws_nego.specs.Terminal.{terminal_named}
 use Rattle.ws_nego.specs.declared.terminal.TerminalType.{TerminalType}
@@ -15,7 +18,8 @@ use Rattle.ws_session.specs.declared.refusal.Refusal.TheVariants.{At, Failed as 
 use Rattle.ws_session.specs.AnswerSpelling.{answer_spelling}
 use Rattle.ws_session.specs.StationLeads.{IsKeyed}
 use Rattle.ws_session.specs.declared.key_fault.KeyFault.{KeyFault}
-use Rattle.ws_session.specs.declared.key_fault.KeyFault.TheVariants.{Failed as KeyFailed, NotReady as KeyNotReady, Key as Refuses}
+use Rattle.ws_session.specs.declared.key_fault.KeyFault.TheVariants.{Failed as KeyFailed, NotReady as KeyNotReady}
+use Rattle.ws_session.specs.declared.key_fault.KeyFault.TheVariants.{Key as Refuses}
 use Rattle.ws_keys.specs.declared.answer.Answer.{Answer}
 use Rattle.ws_keys.specs.declared.key.Key.{Key}
 use Rattle.ws_c.specs.Keys.{refusal_number}
@@ -24,10 +28,9 @@ use Rattle.ws_c.specs.declared.station_screen.FieldState.{FieldState}
 use Rattle.ws_c.specs.declared.machine.Machine.{Machine}
 use Rattle.ws_c.specs.declared.machine.Machine.TheVariants.{Station}
 use Rattle.ws_c.specs.declared.status.Status.{Status}
-use Rattle.ws_c.specs.declared.status.Status.TheVariants.{Done, Refused, Failed, NoMemory, NothingHeld, InUse, NoRoom, BadArgument, NotReady, KeyRefused, Truncated}
+use Rattle.ws_c.specs.declared.status.Status.TheVariants.{Done, Refused, Failed, NoMemory, NothingHeld, InUse, NoRoom}
+use Rattle.ws_c.specs.declared.status.Status.TheVariants.{BadArgument, NotReady, KeyRefused, Truncated}
 use Rattle.ws_c.specs.declared.told.Told.{Told}
-
--- What calls come to, as C sees it
 
 -- the number of a status
 abbrev pub number_of : Status → ℕ
@@ -58,54 +61,64 @@ told_length n = record { length = n; place = 0; reason = 0 }
 
 -- what a refusal crosses as
 abbrev pub IsRefusalTold : Refusal → Status → Told → Type 0
-IsRefusalTold (At place reason) status told = (status ≡ Refused) × (told ≡ record { length = 0; place = place; reason = reason_number reason })
+IsRefusalTold (At place reason) status told = (status ≡ Refused)
+    × (told ≡ record { length = 0; place = place; reason = reason_number reason })
 IsRefusalTold HasFailed status told = (status ≡ Failed) × (told ≡ told_length 0)
 IsRefusalTold Memory status told = (status ≡ NoMemory) × (told ≡ told_length 0)
 
 -- what a push of a byte crosses as
 abbrev pub IsPushTold : Result (List ℕ) Refusal → Status → Told → List ℕ → List ℕ → Type 0
-IsPushTold (Ok reply) status told old new = (status ≡ Done) × (told ≡ told_length (length reply)) × (new ≡ holds_front reply old)
+IsPushTold (Ok reply) status told old new = (status ≡ Done) × (told ≡ told_length (length reply))
+    × (new ≡ holds_front reply old)
 IsPushTold (Err refusal) status told old new = IsRefusalTold refusal status told × (new ≡ old)
 
 -- a station is made for the terminal of the name, or the handle stays as it is
 abbrev pub IsStationNew : List ℕ → Option Machine → Option Machine → Status → Type 0
 IsStationNew name (Some held) now status = (status ≡ InUse) × (now ≡ Some held)
-IsStationNew name None now Done = (terminal : TerminalType) × (station : Holding) × (terminal_named name ≡ Some terminal) × (now ≡ Some (Station station)) × StationLeads station [] [] (new_station_side terminal)
+IsStationNew name None now Done = (terminal : TerminalType) × (station : Holding)
+    × (terminal_named name ≡ Some terminal) × (now ≡ Some (Station station))
+    × StationLeads station [] [] (new_station_side terminal)
 IsStationNew name None now BadArgument = (terminal_named name ≡ None) × (now ≡ None)
 IsStationNew name None now NoMemory = (terminal : TerminalType) × (terminal_named name ≡ Some terminal) × (now ≡ None)
 IsStationNew name None now status = ⊥
 
 -- a station at a byte
 pub record StationPushed (old new : Holding) (byte : ℕ) (result : Result (List ℕ) Refusal) : Type 0 where
-  pub pushed : (bytes : List ℕ) (items : List (Item Element)) (side : StationSide) → StationLeads old bytes items side → length bytes + 1 < 2 ^ 64 → IsPushed old new bytes items side byte result
+  pub pushed : (bytes : List ℕ) (items : List (Item Element)) (side : StationSide) → StationLeads old bytes items side
+      → length bytes + 1 < 2 ^ 64 → IsPushed old new bytes items side byte result
   pub failed : old.failed ≡ true → result ≡ Err HasFailed
   pub after : OnErr result (new.failed ≡ true)
 
 -- a push of a byte into what the handle holds
 abbrev pub IsPush : ℕ → List ℕ → List ℕ → Status → Told → Machine → Machine → Type 0
-IsPush byte buffer after status told (Station old) now = (new : Holding) × (result : Result (List ℕ) Refusal) × (now ≡ Station new) × StationPushed old new byte result × IsPushTold result status told buffer after
+IsPush byte buffer after status told (Station old) now = (new : Holding) × (result : Result (List ℕ) Refusal)
+    × (now ≡ Station new) × StationPushed old new byte result × IsPushTold result status told buffer after
 IsPush byte buffer after status told old now = (status ≡ NothingHeld) × (now ≡ old) × (after ≡ buffer)
 
 -- a station at a key
 pub record StationKeyed (old new : Holding) (key : Key) (result : Result (Option Answer) KeyFault) : Type 0 where
-  pub keyed : (bytes : List ℕ) (items : List (Item Element)) (side : StationSide) → StationLeads old bytes items side → IsKeyed old new bytes items side key result
+  pub keyed : (bytes : List ℕ) (items : List (Item Element)) (side : StationSide) → StationLeads old bytes items side
+      → IsKeyed old new bytes items side key result
   pub failed : old.failed ≡ true → result ≡ Err KeyFailed
 
 -- what a key's fault crosses as
 abbrev pub IsKeyFaultTold : KeyFault → Status → Told → Type 0
 IsKeyFaultTold KeyFailed status told = (status ≡ Failed) × (told ≡ told_length 0)
 IsKeyFaultTold KeyNotReady status told = (status ≡ NotReady) × (told ≡ told_length 0)
-IsKeyFaultTold (Refuses refusal) status told = (status ≡ KeyRefused) × (told ≡ record { length = 0; place = 0; reason = refusal_number refusal })
+IsKeyFaultTold (Refuses refusal) status told = (status ≡ KeyRefused)
+    × (told ≡ record { length = 0; place = 0; reason = refusal_number refusal })
 
 -- what a key crosses as
 abbrev pub IsKeyTold : Result (Option Answer) KeyFault → Status → Told → List ℕ → List ℕ → Type 0
 IsKeyTold (Ok None) status told old new = (status ≡ Done) × (told ≡ told_length 0) × (new ≡ old)
-IsKeyTold (Ok (Some answer)) status told old new = (status ≡ Done) × (told ≡ told_length (length (answer_spelling answer))) × (new ≡ holds_front (answer_spelling answer) old)
+IsKeyTold (Ok (Some answer)) status told old new = (status ≡ Done)
+    × (told ≡ told_length (length (answer_spelling answer))) × (new ≡ holds_front (answer_spelling answer) old)
 IsKeyTold (Err fault) status told old new = IsKeyFaultTold fault status told × (new ≡ old)
 
 -- a key at what the handle holds
 abbrev pub IsPress : Key → List ℕ → List ℕ → Status → Told → Machine → Machine → Type 0
-IsPress key buffer after status told (Station old) now = (new : Holding) × (result : Result (Option Answer) KeyFault) × (now ≡ Station new) × StationKeyed old new key result × IsKeyTold result status told buffer after
+IsPress key buffer after status told (Station old) now = (new : Holding) × (result : Result (Option Answer) KeyFault)
+    × (now ≡ Station new) × StationKeyed old new key result × IsKeyTold result status told buffer after
 IsPress key buffer after status told old now = (status ≡ NothingHeld) × (now ≡ old) × (after ≡ buffer)
 
 -- a key, where there is one, at what the handle holds
@@ -133,7 +146,15 @@ OnScreen (Some screen) status seen = (status ≡ number_of Done) × seen screen
 
 -- what of a screen is no cell and no field
 abbrev pub state_of : Shown → ScreenState
-state_of s = record { cursor_row = s.cursor / 80 + 1; cursor_column = s.cursor % 80 + 1; is_locked = s.locked; is_message_lit = s.message; is_blinking = s.blink; pending_read = read_number s.pending; field_count = length s.fields }
+state_of s = record {
+  cursor_row = s.cursor / 80 + 1;
+  cursor_column = s.cursor % 80 + 1;
+  is_locked = s.locked;
+  is_message_lit = s.message;
+  is_blinking = s.blink;
+  pending_read = read_number s.pending;
+  field_count = length s.fields;
+}
 
 -- a field
 abbrev pub field_state : Field → FieldState

@@ -1,37 +1,43 @@
-use Rattle.std.specs.Prelude.{◌≡◌, ℕ, ◌+◌, ◌^◌, ◌<◌, true, List, [], length, Option, Some, None, Result, Ok, Err, OnErr, IfErr, OnOk}
+-- The decoder of a host's stream, as C sees it
+
+use Rattle.std.specs.Prelude.{◌≡◌, ℕ, ◌+◌, ◌^◌, ◌<◌, true, List, [], length, Option, Some, None, Result, Ok, Err, OnErr}
+use Rattle.std.specs.Prelude.{IfErr, OnOk}
 use Rattle.ws_code.specs.Reason.{number_of as reason_number}
 use Rattle.ws_code.specs.declared.fault.Fault.{Fault}
 use Rattle.ws_code.specs.declared.fault.Fault.TheVariants.{Truncated as IsTruncatedAt, Failed as FaultFailed}
 use Rattle.ws_telnet.specs.Token.{telnet_spelling}
-use Rattle.ws_record.specs.Grammar.{opcode_byte, Accepts}
-use Rattle.ws_record.specs.Live.{Watching, Leads, IsStep, OnEnd}
+use Rattle.ws_record.specs.Grammar.{opcode_byte, IsInGrammar}
+use Rattle.ws_record.specs.Live.{Watching, Leads, IsLiveStep, OnEnd}
 use Rattle.ws_record.specs.OpenRecord.{RecordSoFar, no_record}
 use Rattle.ws_record.specs.Refusal.{IsTruncated}
 use Rattle.ws_record.specs.declared.record.Item.{Item}
 use Rattle.ws_record.specs.declared.live.Step.{Step}
-use Rattle.ws_record.specs.declared.live.Step.TheVariants.{More, Open, Unit as Whole, Close, Telnet as Command, Refused as StepRefused, Failed as StepFailed}
+use Rattle.ws_record.specs.declared.live.Step.TheVariants.{More, Open, Unit as Whole, Close, Telnet as Command}
+use Rattle.ws_record.specs.declared.live.Step.TheVariants.{Refused as StepRefused, Failed as StepFailed}
 use Rattle.ws_stream.specs.declared.element.Element.{Element}
 use Rattle.ws_stream.specs.declared.place.Place.{Place}
 use Rattle.ws_stream.specs.Elements.{element_rules}
 use Rattle.ws_c.specs.declared.machine.Machine.{Machine}
 use Rattle.ws_c.specs.declared.machine.Machine.TheVariants.{Decoder}
 use Rattle.ws_c.specs.declared.status.Status.{Status}
-use Rattle.ws_c.specs.declared.status.Status.TheVariants.{Done, Refused, Failed, NoMemory, NothingHeld, InUse, Truncated}
+use Rattle.ws_c.specs.declared.status.Status.TheVariants.{Done, Refused, Failed, NoMemory, NothingHeld, InUse}
+use Rattle.ws_c.specs.declared.status.Status.TheVariants.{Truncated}
 use Rattle.ws_c.specs.declared.decoder.StepTold.{StepTold}
 use Rattle.ws_c.specs.Calls.{holds_front}
-
--- The decoder of a host's stream, as C sees it
 
 -- a decoder is made, or the handle stays as it is
 abbrev pub IsDecoderNew : Option Machine → Option Machine → Status → Type 0
 IsDecoderNew (Some held) now status = (status ≡ InUse) × (now ≡ Some held)
-IsDecoderNew None now Done = (decoder : Watching Place) × (now ≡ Some (Decoder decoder)) × Leads element_rules decoder [] [] no_record
+IsDecoderNew None now Done = (decoder : Watching Place) × (now ≡ Some (Decoder decoder))
+    × Leads element_rules decoder [] [] no_record
 IsDecoderNew None now NoMemory = now ≡ None
 IsDecoderNew None now status = ⊥
 
 -- a decoder at a byte
 pub record DecoderPushed (old new : Watching Place) (byte : ℕ) (step : Step Element) : Type 0 where
-  pub pushed : (bytes : List ℕ) (items : List (Item Element)) (so_far : RecordSoFar Element) → Leads element_rules old bytes items so_far → length bytes + 1 < 2 ^ 64 → IsStep element_rules new bytes items so_far byte step
+  pub pushed : (bytes : List ℕ) (items : List (Item Element)) (so_far : RecordSoFar Element)
+      → Leads element_rules old bytes items so_far → length bytes + 1 < 2 ^ 64
+      → IsLiveStep element_rules new bytes items so_far byte step
   pub full : old.taken + 1 ≡ 2 ^ 64 → step ≡ StepFailed
   pub failed : old.failed ≡ true → step ≡ StepFailed
   pub after : OnEnd step (new.failed ≡ true)
@@ -44,7 +50,15 @@ plain_step kind = record { length = 0; place = 0; kind = kind; flags = 0; record
 abbrev pub IsStepTold : Step Element → Status → StepTold → List ℕ → List ℕ → Type 0
 IsStepTold More status told old new = (status ≡ Done) × (told ≡ plain_step 0) × (new ≡ old)
 IsStepTold (Open head) status told old new = (status ≡ Done)
-    × (told ≡ record { length = 0; place = 0; kind = 1; flags = head.flags; record_length = head.length; opcode = opcode_byte head.opcode; reason = 0 }) × (new ≡ old)
+    × (told ≡ record {
+      length = 0;
+      place = 0;
+      kind = 1;
+      flags = head.flags;
+      record_length = head.length;
+      opcode = opcode_byte head.opcode;
+      reason = 0;
+    }) × (new ≡ old)
 IsStepTold (Whole unit) status told old new = let spelling = element_rules.spelling unit in
     (status ≡ Done) × (told ≡ record (plain_step 2) { length = length spelling }) × (new ≡ holds_front spelling old)
 IsStepTold Close status told old new = (status ≡ Done) × (told ≡ plain_step 3) × (new ≡ old)
@@ -56,13 +70,18 @@ IsStepTold StepFailed status told old new = (status ≡ Failed) × (told ≡ pla
 
 -- a push of a byte into what the handle holds
 abbrev pub IsDecode : ℕ → List ℕ → List ℕ → Status → StepTold → Machine → Machine → Type 0
-IsDecode byte buffer after status told (Decoder old) now = (new : Watching Place) × (step : Step Element) × (now ≡ Decoder new) × DecoderPushed old new byte step × IsStepTold step status told buffer after
+IsDecode byte buffer after status told (Decoder old) now = (new : Watching Place) × (step : Step Element)
+    × (now ≡ Decoder new) × DecoderPushed old new byte step × IsStepTold step status told buffer after
 IsDecode byte buffer after status told old now = (status ≡ NothingHeld) × (now ≡ old) × (after ≡ buffer)
 
 -- whether a decoder's stream may end
 pub record DecoderFinished (old new : Watching Place) (result : Result (Unit {0}) Fault) : Type 0 where
-  pub ok : OnOk result ((new ≡ old) × ((bytes : List ℕ) (items : List (Item Element)) (so_far : RecordSoFar Element) → Leads element_rules old bytes items so_far → Accepts element_rules bytes items))
-  pub truncated : IfErr result (λ fault. (bytes : List ℕ) (items : List (Item Element)) (so_far : RecordSoFar Element) → Leads element_rules old bytes items so_far → length bytes + 1 < 2 ^ 64 → (fault ≡ IsTruncatedAt (length bytes)) × IsTruncated element_rules bytes)
+  pub ok : OnOk result ((new ≡ old)
+      × ((bytes : List ℕ) (items : List (Item Element)) (so_far : RecordSoFar Element)
+      → Leads element_rules old bytes items so_far → IsInGrammar element_rules bytes items))
+  pub truncated : IfErr result (λ fault. (bytes : List ℕ) (items : List (Item Element)) (so_far : RecordSoFar Element)
+      → Leads element_rules old bytes items so_far → length bytes + 1 < 2 ^ 64
+      → (fault ≡ IsTruncatedAt (length bytes)) × IsTruncated element_rules bytes)
   pub failed : old.failed ≡ true → result ≡ Err FaultFailed
   pub after : OnErr result (new.failed ≡ true)
 
@@ -74,5 +93,6 @@ IsEndTold (Err fault) status place = (status ≡ Failed) × (place ≡ 0)
 
 -- the end of what the handle holds
 abbrev pub IsEnd : Status → ℕ → Machine → Machine → Type 0
-IsEnd status place (Decoder old) now = (new : Watching Place) × (result : Result (Unit {0}) Fault) × (now ≡ Decoder new) × DecoderFinished old new result × IsEndTold result status place
+IsEnd status place (Decoder old) now = (new : Watching Place) × (result : Result (Unit {0}) Fault) × (now ≡ Decoder new)
+    × DecoderFinished old new result × IsEndTold result status place
 IsEnd status place old now = (status ≡ NothingHeld) × (now ≡ old)

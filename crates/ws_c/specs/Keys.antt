@@ -1,14 +1,24 @@
+-- Keys as C gives them: the number of a kind, and a value that says which character or attention key
+
 use Rattle.std.specs.Prelude.{◌≡◌, ℕ, Option, Some, None, IfSome, IfNone, SomeIff}
 use Rattle.std.specs.Char.{IsScalar}
 use Rattle.ws_code.specs.Aid.{IsAid}
 use Rattle.ws_keys.specs.declared.key.Key.{Key}
-use Rattle.ws_keys.specs.declared.key.Key.TheVariants.{Char, Insert, Left, Right, Up, Down, Home, Tab, BackTab, FieldExit, FieldMinus, Dup, Delete, EraseInput, Aid, Attention, SystemRequest}
+use Rattle.ws_keys.specs.declared.key.Key.TheVariants.{Char, Insert, Left, Right, Up, Down, Home, Tab, BackTab}
+use Rattle.ws_keys.specs.declared.key.Key.TheVariants.{FieldExit, FieldMinus, Dup, Delete, EraseInput, Aid, Attention}
+use Rattle.ws_keys.specs.declared.key.Key.TheVariants.{SystemRequest}
 use Rattle.ws_keys.specs.declared.key.KeyRefusal.{KeyRefusal}
-use Rattle.ws_keys.specs.declared.key.KeyRefusal.TheVariants.{Locked, Protected, WrongCharacter, DupNotAllowed, NoRoom, NoReadPending, MandatoryEnter}
+use Rattle.ws_keys.specs.declared.key.KeyRefusal.TheVariants.{Locked, Protected, WrongCharacter, DupNotAllowed, NoRoom}
+use Rattle.ws_keys.specs.declared.key.KeyRefusal.TheVariants.{NoReadPending, MandatoryEnter}
 use Rattle.ws_c.specs.declared.key_kind.KeyKind.{KeyKind}
-use Rattle.ws_c.specs.declared.key_kind.KeyKind.TheVariants.{Char as CharKind, Insert as InsertKind, Left as LeftKind, Right as RightKind, Up as UpKind, Down as DownKind, Home as HomeKind, Tab as TabKind, BackTab as BackTabKind, FieldExit as FieldExitKind, FieldMinus as FieldMinusKind, Dup as DupKind, Delete as DeleteKind, EraseInput as EraseInputKind, Aid as AidKind, Attention as AttentionKind, SystemRequest as SystemRequestKind}
-
--- Keys as C gives them: the number of a kind, and a value that says which character or attention key
+use Rattle.ws_c.specs.declared.key_kind.KeyKind.TheVariants.{Char as CharKind, Insert as InsertKind, Left as LeftKind}
+use Rattle.ws_c.specs.declared.key_kind.KeyKind.TheVariants.{Right as RightKind, Up as UpKind, Down as DownKind}
+use Rattle.ws_c.specs.declared.key_kind.KeyKind.TheVariants.{Home as HomeKind, Tab as TabKind, BackTab as BackTabKind}
+use Rattle.ws_c.specs.declared.key_kind.KeyKind.TheVariants.{FieldExit as FieldExitKind, FieldMinus as FieldMinusKind}
+use Rattle.ws_c.specs.declared.key_kind.KeyKind.TheVariants.{Dup as DupKind, Delete as DeleteKind}
+use Rattle.ws_c.specs.declared.key_kind.KeyKind.TheVariants.{EraseInput as EraseInputKind, Aid as AidKind}
+use Rattle.ws_c.specs.declared.key_kind.KeyKind.TheVariants.{Attention as AttentionKind}
+use Rattle.ws_c.specs.declared.key_kind.KeyKind.TheVariants.{SystemRequest as SystemRequestKind}
 
 -- the number of a kind
 abbrev pub kind_number : KeyKind → ℕ

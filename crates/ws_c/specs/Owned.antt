@@ -1,3 +1,5 @@
+-- Handles: what C holds of ours, and may give back.
+
 use Rattle.std.specs.Prelude.{Option, Some, None}
 use base.Fml.{Fml, ftrue}
 use denote.RattleType.{RattleType}

@@ -52,7 +52,7 @@ pub extern "C" fn ws_c_free(alloc: Global, handle: &mut Handle)
     let _held = handle.take(alloc);
 }
 
-/// Puts bytes at a buffer's front, and gives how many.
+// Puts bytes at a buffer's front, and gives how many.
 pub(crate) fn put_front(buffer: &mut [u8], bytes: &[u8]) -> usize
     requires { length bytes.now ≤ length buffer.old }
     ensures value { result ≡ length bytes.now }

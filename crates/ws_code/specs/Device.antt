@@ -1,15 +1,17 @@
-use Rattle.std.specs.Prelude.{◌≡◌, ◌≢◌, ℕ, ◌+◌, ◌-◌, ◌^◌, ◌<◌, ◌≤◌, min, List, [], ◌∷◌, ◌++◌, length, take, drop, Option, None, Some, ◌⊎◌}
-use Rattle.std.specs.List.{flat_map}
-use Rattle.std.specs.Io.KnownBytes.{Keeps, Appends, Consumes, IsAtEnd}
-
 -- Devices. A source gives bytes and a sink takes them, some at each call. A device counts its failures in 64 bits.
 --
 -- What a device may do at one call is a relation between its states before and after:
--- `gives s room (Some bytes) t` a read into a slice of that length gave these bytes, and `gives s room None t` it failed;
+-- `gives s room (Some bytes) t` a read into a slice of that length gave these bytes, and `gives s room None t` it
+-- failed;
 -- `takes s bytes (Some n) t` a write took the first n of the bytes, and `takes s bytes None t` it failed.
 -- A device that knows its bytes says by it which they are. Of one that doesn't, the relation still says which calls
 -- were made, but only in code that is generic over the device: to such code nothing but a call of the device leads
 -- from one state to another. Code for one device can come from state to state in other ways.
+
+use Rattle.std.specs.Prelude.{◌≡◌, ◌≢◌, ℕ, ◌+◌, ◌-◌, ◌^◌, ◌<◌, ◌≤◌, min, List, [], ◌∷◌, ◌++◌, length, take, drop}
+use Rattle.std.specs.Prelude.{Option, None, Some, ◌⊎◌}
+use Rattle.std.specs.List.{flat_map}
+use Rattle.std.specs.Io.KnownBytes.{Keeps, Appends, Consumes, IsAtEnd}
 
 -- what a write may do to a sink: it takes so many of the bytes, or fails
 abbrev pub MayTake : Type 0 → Type 1
@@ -54,7 +56,8 @@ module _ {S : Type 0} where
   -- the writes, each of which took some byte, lead one after another from one state of the sink to the other
   abbrev pub Writes : MayTake S → S → List Taken → S → Type 0
   Writes takes from [] to = from ≡ to
-  Writes takes from (w ∷ writes) to = (next : S) × takes from w.offered (Some w.count) next × (w.count ≢ 0) × Writes takes next writes to
+  Writes takes from (w ∷ writes) to = (next : S) × takes from w.offered (Some w.count) next × (w.count ≢ 0)
+      × Writes takes next writes to
 
   -- between the two states these bytes went out, in order and once, and no write failed
   pub record WentOut (takes : MayTake S) (failures : S → ℕ) (from to : S) (bytes : List ℕ) : Type 0 where
@@ -81,9 +84,11 @@ module _ {S : Type 0} where
   -- the reads, each of which gave some byte, lead one after another from one state of the source to the other
   abbrev pub Reads : MayGive S → S → List Given → S → Type 0
   Reads gives from [] to = from ≡ to
-  Reads gives from (r ∷ reads) to = (next : S) × gives from r.room (Some r.given) next × (r.given ≢ []) × Reads gives next reads to
+  Reads gives from (r ∷ reads) to = (next : S) × gives from r.room (Some r.given) next × (r.given ≢ [])
+      × Reads gives next reads to
 
-  -- between the two states so many reads, no more than one call may make, gave these bytes, and none gave the end or failed
+  -- between the two states so many reads, no more than one call may make, gave these bytes, and none gave the end or
+  -- failed
   pub record Gave (gives : MayGive S) (failures : S → ℕ) (from to : S) (count : ℕ) (bytes : List ℕ) : Type 0 where
     pub reads : List Given
     pub made : Reads gives from reads to
@@ -113,9 +118,11 @@ module _ {S : Type 0} where
     pub last : gives before room None to
     pub counted : failures to ≡ one_more (failures from)
 
-  -- what a reader may call a fault of its source, after these bytes: a read failed, or the most reads didn't reach the end
+  -- what a reader may call a fault of its source, after these bytes: a read failed, or the most reads didn't reach the
+  -- end
   abbrev pub ReadFault : MayGive S → (S → ℕ) → S → S → List ℕ → Type 0
-  ReadFault gives failures from to bytes = ReadFailed gives failures from to bytes ⊎ Gave gives failures from to most_reads bytes
+  ReadFault gives failures from to bytes = ReadFailed gives failures from to bytes
+      ⊎ Gave gives failures from to most_reads bytes
 
 -- The devices of this crate.
 
@@ -142,7 +149,8 @@ pub record Counted (D : Type 0) : Type 0 where
 -- a source over a reader gives what the reader had left, where that is known
 abbrev pub reader_gives : {D : Type 0} → (D → Option (List ℕ)) → Counted D → ℕ → Option (List ℕ) → Counted D → Type 0
 reader_gives remaining s room None t = Keeps (remaining s.device) (remaining t.device)
-reader_gives remaining s room (Some bytes) t = Consumes (remaining s.device) (remaining t.device) bytes × (bytes ≡ [] → 0 < room → IsAtEnd (remaining t.device))
+reader_gives remaining s room (Some bytes) t = Consumes (remaining s.device) (remaining t.device) bytes
+    × (bytes ≡ [] → 0 < room → IsAtEnd (remaining t.device))
 
 -- a sink over a writer adds to what the writer holds, where that is known
 abbrev pub writer_takes : {D : Type 0} → (D → Option (List ℕ)) → Counted D → List ℕ → Option ℕ → Counted D → Type 0
@@ -158,9 +166,11 @@ pub record Limited : Type 0 where
 -- a source that gives at most one byte a read, from the front of its bytes
 abbrev pub limited_gives : Limited → ℕ → Option (List ℕ) → Limited → Type 0
 limited_gives s room None t = (s.calls ≡ 0) × (t.calls ≡ 0) × (t.bytes ≡ s.bytes)
-limited_gives s room (Some given) t = (s.calls ≡ t.calls + 1) × (given ≡ take (min room 1) s.bytes) × (t.bytes ≡ drop (min room 1) s.bytes)
+limited_gives s room (Some given) t = (s.calls ≡ t.calls + 1) × (given ≡ take (min room 1) s.bytes)
+    × (t.bytes ≡ drop (min room 1) s.bytes)
 
 -- a sink that takes at most one byte a write, and adds it to its bytes
 abbrev pub limited_takes : Limited → List ℕ → Option ℕ → Limited → Type 0
 limited_takes s bytes None t = (t.calls ≡ s.calls) × (t.bytes ≡ s.bytes)
-limited_takes s bytes (Some count) t = (s.calls ≡ t.calls + 1) × (count ≡ min (length bytes) 1) × (t.bytes ≡ s.bytes ++ take 1 bytes)
+limited_takes s bytes (Some count) t = (s.calls ≡ t.calls + 1) × (count ≡ min (length bytes) 1)
+    × (t.bytes ≡ s.bytes ++ take 1 bytes)

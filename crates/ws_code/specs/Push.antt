@@ -1,3 +1,5 @@
+-- What a machine answers to a byte.
+
 use Rattle.ws_code.specs.declared.reason.Reason.{Reason}
 use Rattle.ws_code.specs.declared.code.Push.{Push}
 use Rattle.ws_code.specs.declared.code.Push.TheVariants.{More, Unit as Whole, Bad}

@@ -86,7 +86,7 @@ impl Address {
 }
 
 impl Default for Address {
-    /// The first cell.
+    // The first cell.
     fn default() -> Self
         ensures { result ≡ 0 }
     {

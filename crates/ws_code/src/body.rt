@@ -8,7 +8,7 @@ use arrayvec::ArrayVec;
 pub trait Body: Code {
     /// Whether the unit may stand at the place.
     fn may_follow(place: Self::Place, unit: &Self::Unit) -> bool
-        ensures { result ≡ Self.rules.may_stand place unit.now };
+        ensures { result ≡ Self.rules.may_follow place unit.now };
 
     /// Whether a list of units may end where the next would stand at the place.
     fn may_end(place: Self::Place) -> bool

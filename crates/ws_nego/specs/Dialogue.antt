@@ -1,3 +1,5 @@
+-- A dialogue: both ends, all tokens that were ever written, and how many of them have arrived
+
 use Rattle.std.specs.Prelude.{◌≡◌, ℕ, ◌+◌, List, [], ◌∷◌, ◌++◌, Bool, true, false, Option, Some, None, length, drop}
 use Rattle.ws_telnet.specs.declared.token.Telnet.{Telnet}
 use Rattle.ws_nego.specs.declared.terminal.TerminalType.{TerminalType}
@@ -5,8 +7,6 @@ use Rattle.ws_nego.specs.Options.{Answer}
 use Rattle.ws_nego.specs.Station.{StationState, new_station, station_answer}
 use Rattle.ws_nego.specs.Host.{HostState, new_host, after_open, opening, host_answer}
 use Rattle.ws_nego.specs.Exchange.{Move, ToStation, ToHost}
-
--- A dialogue: both ends, all tokens that were ever written, and how many of them have arrived
 
 pub record Dialogue : Type 0 where
   pub station : StationState

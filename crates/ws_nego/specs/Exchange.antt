@@ -1,4 +1,7 @@
-use Rattle.std.specs.Prelude.{◌≡◌, ℕ, ◌+◌, List, [], ◌∷◌, ◌++◌, Bool, true, false, Option, Some, None, length, replicate}
+-- An exchange: both ends, and the tokens in flight between them
+
+use Rattle.std.specs.Prelude.{◌≡◌, ℕ, ◌+◌, List, [], ◌∷◌, ◌++◌, Bool, true, false, Option, Some, None, length}
+use Rattle.std.specs.Prelude.{replicate}
 use Rattle.ws_telnet.specs.declared.token.Telnet.{Telnet}
 use Rattle.ws_nego.specs.declared.terminal.TerminalType.{TerminalType}
 use Rattle.ws_nego.specs.declared.options.Direction.{Direction}
@@ -7,8 +10,6 @@ use Rattle.ws_nego.specs.declared.host.Mode.TheVariants.{Off, On}
 use Rattle.ws_nego.specs.Options.{entry, Answer}
 use Rattle.ws_nego.specs.Station.{StationState, new_station, station_answer}
 use Rattle.ws_nego.specs.Host.{HostState, new_host, after_open, opening, host_answer}
-
--- An exchange: both ends, and the tokens in flight between them
 
 pub record Exchange : Type 0 where
   pub station : StationState

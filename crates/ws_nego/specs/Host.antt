@@ -1,4 +1,7 @@
-use Rattle.std.specs.Prelude.{ℕ, List, [], ◌∷◌, ◌++◌, Bool, true, false, ◌==◌, ◌&&◌, if◌then◌else◌, Option, Some, None, is_none, is_some}
+-- The host end's options (RFC 854, 856, 885, 1091; RFC 4777, section 2)
+
+use Rattle.std.specs.Prelude.{ℕ, List, [], ◌∷◌, ◌++◌, Bool, true, false, ◌==◌, ◌&&◌, if◌then◌else◌, Option, Some, None}
+use Rattle.std.specs.Prelude.{is_none, is_some}
 use Rattle.ws_telnet.specs.declared.token.Verb.{Verb}
 use Rattle.ws_telnet.specs.declared.token.Verb.TheVariants.{Will, Wont, Do, Dont}
 use Rattle.ws_telnet.specs.declared.token.Sub.{Sub}
@@ -13,10 +16,9 @@ use Rattle.ws_nego.specs.declared.host.Mode.TheVariants.{Off, Asked, On}
 use Rattle.ws_nego.specs.declared.host.TerminalName.{TerminalName}
 use Rattle.ws_nego.specs.declared.host.TerminalName.TheVariants.{Unknown, Requested, Accepted}
 use Rattle.ws_nego.specs.Terminal.{terminal_named}
-use Rattle.ws_nego.specs.Options.{binary, terminal_type, end_of_record, byte_of_is, entry, with_entry, filled, direction_at_host, refusal_of, option_tokens, Answer, no_effect}
+use Rattle.ws_nego.specs.Options.{binary, terminal_type, end_of_record, byte_of_is, entry, with_entry, filled}
+use Rattle.ws_nego.specs.Options.{direction_at_host, refusal_of, option_tokens, Answer, no_effect}
 use Rattle.ws_nego.specs.Station.{name_request}
-
--- The host end's options (RFC 854, 856, 885, 1091; RFC 4777, section 2)
 
 -- each direction's mode, and what is known of the terminal's name
 pub record HostState : Type 0 where

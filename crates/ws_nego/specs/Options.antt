@@ -1,3 +1,5 @@
+-- What the option tables of both ends share
+
 use Rattle.std.specs.Prelude.{◌≡◌, ℕ, List, [], ◌∷◌, ◌==◌, if◌then◌else◌, Option, Some, None}
 use Rattle.std.specs.List.{flat_map}
 use Rattle.ws_telnet.specs.Token.{telnet_spelling}
@@ -8,10 +10,9 @@ use Rattle.ws_telnet.specs.declared.token.Telnet.{Telnet}
 use Rattle.ws_telnet.specs.declared.token.Telnet.TheVariants.{Option as Negotiate, Sub as Subnegotiate}
 use Rattle.ws_nego.specs.declared.options.TheConstants.{IS, SEND}
 use Rattle.ws_nego.specs.declared.options.Direction.{Direction}
-use Rattle.ws_nego.specs.declared.options.Direction.TheVariants.{StationBinary, StationTerminalType, StationEndOfRecord, HostBinary, HostEndOfRecord}
+use Rattle.ws_nego.specs.declared.options.Direction.TheVariants.{StationBinary, StationTerminalType, StationEndOfRecord}
+use Rattle.ws_nego.specs.declared.options.Direction.TheVariants.{HostBinary, HostEndOfRecord}
 use Rattle.ws_nego.specs.declared.options.OptionTable.{OptionTable}
-
--- What the option tables of both ends share
 
 -- the option codes of BINARY (RFC 856), TERMINAL-TYPE (RFC 1091) and END-OF-RECORD (RFC 885)
 abbrev pub binary : ℕ

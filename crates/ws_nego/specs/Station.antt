@@ -1,3 +1,5 @@
+-- The station's options (RFC 854, 856, 885, 1091; RFC 4777, section 2)
+
 use Rattle.std.specs.Prelude.{ℕ, [], ◌∷◌, Bool, true, false, ◌==◌, ◌&&◌, if◌then◌else◌, Option, Some, None}
 use Rattle.std.specs.Str.{bytes_eq}
 use Rattle.ws_telnet.specs.declared.token.Verb.{Verb}
@@ -9,9 +11,8 @@ use Rattle.ws_nego.specs.declared.terminal.TerminalType.{TerminalType}
 use Rattle.ws_nego.specs.declared.options.Direction.{Direction}
 use Rattle.ws_nego.specs.declared.options.OptionTable.{OptionTable}
 use Rattle.ws_nego.specs.Terminal.{name_of}
-use Rattle.ws_nego.specs.Options.{terminal_type, entry, with_entry, filled, direction_at_station, refusal_of, option_tokens, terminal_type_token, byte_of_is, byte_of_send, Answer, no_effect}
-
--- The station's options (RFC 854, 856, 885, 1091; RFC 4777, section 2)
+use Rattle.ws_nego.specs.Options.{terminal_type, entry, with_entry, filled, direction_at_station, refusal_of}
+use Rattle.ws_nego.specs.Options.{option_tokens, terminal_type_token, byte_of_is, byte_of_send, Answer, no_effect}
 
 -- its terminal, and which directions are on
 pub record StationState : Type 0 where

@@ -1,9 +1,10 @@
+-- The terminal types of 24 rows and 80 columns, and their names (RFC 1205)
+
 use Rattle.std.specs.Prelude.{ℕ, List, [], ◌∷◌, Bool, Option, codes, find}
 use Rattle.std.specs.Str.{str_eq_ignore_ascii_case}
 use Rattle.ws_nego.specs.declared.terminal.TerminalType.{TerminalType}
-use Rattle.ws_nego.specs.declared.terminal.TerminalType.TheVariants.{Ibm5251Model11, Ibm5291Model1, Ibm5292Model2, Ibm3196ModelA1, Ibm3179Model2}
-
--- The terminal types of 24 rows and 80 columns, and their names (RFC 1205)
+use Rattle.ws_nego.specs.declared.terminal.TerminalType.TheVariants.{Ibm5251Model11, Ibm5291Model1, Ibm5292Model2}
+use Rattle.ws_nego.specs.declared.terminal.TerminalType.TheVariants.{Ibm3196ModelA1, Ibm3179Model2}
 
 abbrev pub terminal_types : List TerminalType
 terminal_types = Ibm5251Model11 ∷ Ibm5291Model1 ∷ Ibm5292Model2 ∷ Ibm3196ModelA1 ∷ Ibm3179Model2 ∷ []

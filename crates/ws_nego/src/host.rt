@@ -57,7 +57,7 @@ impl Mode {
         }
     }
 
-    /// What a direction is once it was asked for.
+    // What a direction is once it was asked for.
     fn requested(self) -> Mode
         ensures { result ≡ spec.mode_once_requested self }
     {
@@ -68,7 +68,7 @@ impl Mode {
     }
 }
 
-/// What a direction is after the verb, and the verb of the answer.
+// What a direction is after the verb, and the verb of the answer.
 fn host_row(verb: Verb, mode: Mode) -> (Mode, Option<Verb>)
     ensures { result ≡ spec.host_row verb mode }
 {
@@ -84,7 +84,7 @@ fn host_row(verb: Verb, mode: Mode) -> (Mode, Option<Verb>)
     }
 }
 
-/// Asks for a direction that isn't on.
+// Asks for a direction that isn't on.
 fn push_request(bytes: &mut ArrayVec<u8, 17>, mode: Mode, verb: Verb, option: u8)
     requires { length bytes.old.items + 3 ≤ 17 }
     ensures items { bytes.new.items ≡ bytes.old.items ++ bytes_of (request mode verb option) }
@@ -96,7 +96,7 @@ fn push_request(bytes: &mut ArrayVec<u8, 17>, mode: Mode, verb: Verb, option: u8
     }
 }
 
-/// Asks for END-OF-RECORD and BINARY, in the directions that aren't on.
+// Asks for END-OF-RECORD and BINARY, in the directions that aren't on.
 fn request_reply(modes: &OptionTable<Mode>) -> Reply
     ensures { result ≡ bytes_of (requests modes.now) }
 {
@@ -118,7 +118,7 @@ fn request_reply(modes: &OptionTable<Mode>) -> Reply
     ByteList::of(bytes)
 }
 
-/// SEND (RFC 1091, section 2).
+// SEND (RFC 1091, section 2).
 fn send_reply() -> Reply
     ensures { result ≡ bytes_of (name_request ∷ []) }
 {
@@ -191,7 +191,7 @@ impl HostOptions {
         Ok(option_reply(answer, option))
     }
 
-    /// WONT TERMINAL-TYPE before a name was accepted.
+    // WONT TERMINAL-TYPE before a name was accepted.
     fn is_name_withheld(&self, verb: Verb, direction: Direction) -> bool
         ensures { result ≡ spec.is_name_withheld self.now verb direction }
     {
@@ -201,7 +201,7 @@ impl HostOptions {
         }
     }
 
-    /// WILL TERMINAL-TYPE that answers `open`, before SEND was written.
+    // WILL TERMINAL-TYPE that answers `open`, before SEND was written.
     fn is_name_offered(&self, verb: Verb, direction: Direction) -> bool
         ensures { result ≡ spec.is_name_offered self.now verb direction }
     {
@@ -263,7 +263,7 @@ impl HostOptions {
     }
 }
 
-/// The name that a subnegotiation brings, where it is IS (RFC 1091, section 2).
+// The name that a subnegotiation brings, where it is IS (RFC 1091, section 2).
 fn name_in(sub: &Sub) -> Option<&[u8]>
     ensures { spec.name_in sub.now ≡ option_map (λ name. name.now) result }
 {

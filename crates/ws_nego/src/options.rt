@@ -78,7 +78,7 @@ impl<T: Copy> OptionTable<T> {
     }
 }
 
-/// The direction in which the station performs the option.
+// The direction in which the station performs the option.
 fn station_direction(option: u8) -> Option<Direction>
     ensures { result ≡ spec.station_direction option }
 {
@@ -90,7 +90,7 @@ fn station_direction(option: u8) -> Option<Direction>
     }
 }
 
-/// The direction in which the host end performs the option.
+// The direction in which the host end performs the option.
 fn host_direction(option: u8) -> Option<Direction>
     ensures { result ≡ spec.host_direction option }
 {
@@ -132,7 +132,7 @@ pub fn refusal(verb: Verb) -> Option<Verb>
     }
 }
 
-/// Appends a token's spelling.
+// Appends a token's spelling.
 fn push_token(bytes: &mut ArrayVec<u8, 17>, token: Telnet)
     requires { length bytes.old.items + length (telnet_spelling token) ≤ 17 }
     ensures { bytes.new.items ≡ bytes.old.items ++ telnet_spelling token }

@@ -26,7 +26,7 @@ impl Model for StationOptions {
     ghost view = { λ options. record { terminal = options.terminal; on = options.on } };
 }
 
-/// What a direction is after the verb, and the verb of the answer.
+// What a direction is after the verb, and the verb of the answer.
 fn station_row(verb: Verb, on: bool) -> (bool, Option<Verb>)
     ensures { result ≡ spec.station_row verb on }
 {
@@ -42,7 +42,7 @@ fn station_row(verb: Verb, on: bool) -> (bool, Option<Verb>)
     }
 }
 
-/// IS, and the terminal's name (RFC 1091, section 2).
+// IS, and the terminal's name (RFC 1091, section 2).
 fn name_reply(terminal: TerminalType) -> Reply
     ensures { result ≡ bytes_of (name_answer terminal ∷ []) }
 {
@@ -108,7 +108,7 @@ impl StationOptions {
     }
 }
 
-/// Whether this is SEND (RFC 1091, section 2).
+// Whether this is SEND (RFC 1091, section 2).
 fn is_name_request(sub: &Sub) -> bool
     ensures { result ≡ spec.is_name_request sub.now }
 {

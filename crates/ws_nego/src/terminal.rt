@@ -29,7 +29,7 @@ impl Default for TerminalType {
 }
 
 impl TerminalType {
-    /// Every terminal type.
+    // Every terminal type.
     const ALL: [TerminalType; 5] = [
         TerminalType::Ibm5251Model11,
         TerminalType::Ibm5291Model1,

@@ -6,7 +6,7 @@ use Rattle.ws_code.specs.declared.fault.Fault.TheVariants.{Refused, Truncated, M
 use Rattle.ws_code.proofs.CodeLaws.{Begins}
 use Rattle.ws_code.proofs.DeviceLaws.{list_gave, list_gave_all, list_no_fault}
 use Rattle.ws_record.specs.declared.record.Item.{Item}
-use Rattle.ws_record.specs.Grammar.{Accepts}
+use Rattle.ws_record.specs.Grammar.{IsInGrammar}
 use Rattle.ws_record.specs.Refusal.{IsRefused, IsTruncated}
 use Rattle.ws_record.specs.Receiver.{MayGrow, IsDecodeFault}
 use Rattle.ws_record.specs.DecodeFrom.{IsSourceFault}
@@ -38,8 +38,8 @@ module _ {Place U : Type 0} (rules : Rules Place U) (failures : List ℕ → ℕ
 
   -- the answer of a source over bytes is one to these bytes
   pub source_accepts : {A : Type 0} (from_source : Result A Fault) (items : A → List (Item U)) (bytes from to : List ℕ) → from ≡ bytes
-      → IfOk from_source (λ a. (given : List ℕ) × GaveAll list_gives failures from to given × Accepts rules given (items a)) → IfOk from_source (λ a. Accepts rules bytes (items a))
-  source_accepts (Ok a) items bytes from to same q = subst (λ (x : List ℕ). Accepts rules x (items a)) ((list_gave_all failures from to q.0 q.1).0 ∙ same) q.2
+      → IfOk from_source (λ a. (given : List ℕ) × GaveAll list_gives failures from to given × IsInGrammar rules given (items a)) → IfOk from_source (λ a. IsInGrammar rules bytes (items a))
+  source_accepts (Ok a) items bytes from to same q = subst (λ (x : List ℕ). IsInGrammar rules x (items a)) ((list_gave_all failures from to q.0 q.1).0 ∙ same) q.2
   source_accepts (Err f) items bytes from to same q = tt
 
   pub source_faults : {A : Type 0} (from_source : Result A Fault) (bytes from to : List ℕ) → from ≡ bytes → length bytes < most_reads
@@ -49,14 +49,14 @@ module _ {Place U : Type 0} (rules : Rules Place U) (failures : List ℕ → ℕ
 
   -- both answers
   pub both_ways : {A : Type 0} → IsPrefixFree rules → Begins rules → (at_once from_source : Result A Fault) (items : A → List (Item U)) (bytes from to : List ℕ) → from ≡ bytes → length bytes < most_reads
-      → IfOk at_once (λ a. Accepts rules bytes (items a)) → IfErr at_once (λ f. IsDecodeFault rules bytes f)
-      → IfOk from_source (λ a. (given : List ℕ) × GaveAll list_gives failures from to given × Accepts rules given (items a)) → IfErr from_source (λ f. IsSourceFault rules list_gives failures from to f)
+      → IfOk at_once (λ a. IsInGrammar rules bytes (items a)) → IfErr at_once (λ f. IsDecodeFault rules bytes f)
+      → IfOk from_source (λ a. (given : List ℕ) × GaveAll list_gives failures from to given × IsInGrammar rules given (items a)) → IfErr from_source (λ f. IsSourceFault rules list_gives failures from to f)
       → MatchResult at_once
       (λ a. MatchResult from_source (λ b. items a ≡ items b) (λ f. f ≡ Memory))
       (λ f. MatchResult from_source (λ b. f ≡ Memory) (λ e. (f ≡ Memory) ⊎ (e ≡ Memory) ⊎ (f ≡ e)))
   both_ways free begins (Ok a) (Ok b) items bytes from to same few p fp q fq =
-      one_accepted rules free begins bytes (items a) (items b) p (subst (λ (x : List ℕ). Accepts rules x (items b)) ((list_gave_all failures from to q.0 q.1).0 ∙ same) q.2)
+      one_accepted rules free begins bytes (items a) (items b) p (subst (λ (x : List ℕ). IsInGrammar rules x (items b)) ((list_gave_all failures from to q.0 q.1).0 ∙ same) q.2)
   both_ways free begins (Ok a) (Err f) items bytes from to same few p fp q fq = only_memory rules bytes (items a) f p (fault_at bytes from to same few f fq)
   both_ways free begins (Err f) (Ok b) items bytes from to same few p fp q fq =
-      only_memory rules bytes (items b) f (subst (λ (x : List ℕ). Accepts rules x (items b)) ((list_gave_all failures from to q.0 q.1).0 ∙ same) q.2) fp
+      only_memory rules bytes (items b) f (subst (λ (x : List ℕ). IsInGrammar rules x (items b)) ((list_gave_all failures from to q.0 q.1).0 ∙ same) q.2) fp
   both_ways free begins (Err f) (Err e) items bytes from to same few p fp q fq = one_fault rules free bytes f e fp (fault_at bytes from to same few e fq)

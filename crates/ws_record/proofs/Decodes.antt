@@ -8,10 +8,10 @@ use Rattle.ws_code.specs.declared.reason.Reason.{Reason}
 use Rattle.ws_code.specs.declared.fault.Fault.{Fault}
 use Rattle.ws_code.specs.declared.fault.Fault.TheVariants.{Refused, Truncated, Memory, Read, Write, Failed}
 use Rattle.ws_record.specs.declared.record.Item.{Item}
-use Rattle.ws_record.specs.Grammar.{Holds, Accepts, IsStream}
+use Rattle.ws_record.specs.Grammar.{Holds, IsInGrammar, IsStream}
 use Rattle.ws_record.specs.Refusal.{Layer, IsRight, IsOpen, IsFirstClosed, IsRefused, IsTruncated}
 use Rattle.ws_record.specs.Refusal.Layer.{Tokens, Header, Body}
-use Rattle.ws_record.specs.Receiver.{Receiving, Taken, HasItem, MayGrow, IsTakeFault, IsFeedFault, IsListFault, NoneBefore, IsDecodeFault}
+use Rattle.ws_record.specs.Receiver.{Receiving, HasReceived, HasItem, MayGrow, IsTakeFault, IsFeedFault, IsListFault, NoneBefore, IsDecodeFault}
 use Rattle.ws_code.specs.Device.{MayGive, Gave, GaveAll}
 use Rattle.ws_record.specs.DecodeFrom.{IsSourceFault}
 use Rattle.ws_record.proofs.Reading.{parts_no_eor, one_spelling}
@@ -25,7 +25,7 @@ at_index bytes i h = ap (λ x. take i bytes ++ x) (sym (drop-cons bytes i 0 h �
 
 module _ {Place U : Type 0} (rules : Rules Place U) where
   -- what is accepted is a stream that is right to each layer
-  accepted_stream : (bytes : List ℕ) (items : List (Item U)) → Accepts rules bytes items → (l : Layer) → IsStream (IsRight rules l) bytes
+  accepted_stream : (bytes : List ℕ) (items : List (Item U)) → IsInGrammar rules bytes items → (l : Layer) → IsStream (IsRight rules l) bytes
   accepted_stream bytes items h l = record {
     parts = parts_of rules h.stretches;
     rest = h.rest;
@@ -37,7 +37,7 @@ module _ {Place U : Type 0} (rules : Rules Place U) where
   }
 
   -- and so none of its bytes is refused
-  pub accepted_open : (before : List ℕ) (byte : ℕ) (after : List ℕ) (items : List (Item U)) → Accepts rules (before ++ byte ∷ after) items → (l : Layer) → IsOpen rules l (before ++ byte ∷ [])
+  pub accepted_open : (before : List ℕ) (byte : ℕ) (after : List ℕ) (items : List (Item U)) → IsInGrammar rules (before ++ byte ∷ after) items → (l : Layer) → IsOpen rules l (before ++ byte ∷ [])
   accepted_open before byte after items a l = record {
     more = after;
     stream = subst (IsStream (IsRight rules l)) (sym (append_assoc before (byte ∷ []) after)) (accepted_stream (before ++ byte ∷ after) items a l);
@@ -48,12 +48,12 @@ module _ {Place U : Type 0} (rules : Rules Place U) where
   closed_is_not Header bytes c o = c.1 o
   closed_is_not Body bytes c o = c.1 o
 
-  pub not_refused : (bytes : List ℕ) (items : List (Item U)) (place : ℕ) (reason : Reason) → Accepts rules bytes items → IsRefused rules bytes place reason → ⊥
+  pub not_refused : (bytes : List ℕ) (items : List (Item U)) (place : ℕ) (reason : Reason) → IsInGrammar rules bytes items → IsRefused rules bytes place reason → ⊥
   not_refused bytes items place reason a r =
-      closed_is_not r.layer (r.before ++ r.byte ∷ []) r.closed (accepted_open r.before r.byte r.after items (subst (λ (x : List ℕ). Accepts rules x items) r.split a) r.layer)
+      closed_is_not r.layer (r.before ++ r.byte ∷ []) r.closed (accepted_open r.before r.byte r.after items (subst (λ (x : List ℕ). IsInGrammar rules x items) r.split a) r.layer)
 
   -- a list in the grammar meets no fault but that of memory
-  pub only_memory : (bytes : List ℕ) (items : List (Item U)) (fault : Fault) → Accepts rules bytes items → IsDecodeFault rules bytes fault → fault ≡ Memory
+  pub only_memory : (bytes : List ℕ) (items : List (Item U)) (fault : Fault) → IsInGrammar rules bytes items → IsDecodeFault rules bytes fault → fault ≡ Memory
   only_memory bytes items (Refused place reason) a f = absurd (not_refused bytes items place reason a f)
   only_memory bytes items (Truncated n) a f = absurd (f.1.unfinished items a)
   only_memory bytes items Memory a f = refl
@@ -61,7 +61,7 @@ module _ {Place U : Type 0} (rules : Rules Place U) where
   only_memory bytes items Write a f = absurd f
   only_memory bytes items Failed a f = absurd f
 
-  pub one_accepted : IsPrefixFree rules → Begins rules → (bytes : List ℕ) (items others : List (Item U)) → Accepts rules bytes items → Accepts rules bytes others → items ≡ others
+  pub one_accepted : IsPrefixFree rules → Begins rules → (bytes : List ℕ) (items others : List (Item U)) → IsInGrammar rules bytes items → IsInGrammar rules bytes others → items ≡ others
   one_accepted free begins bytes items others a b = one_spelling rules free begins bytes items others ([], a) ([], b)
 
   -- a fault at a byte of a piece
@@ -100,17 +100,17 @@ module _ {Place U : Type 0} (rules : Rules Place U) where
   -- a byte of a piece with which nothing is complete
   pub taken_so_far : (new : Receiving Place U) (bytes piece : List ℕ) (items : List (Item U)) (i : ℕ) → i < length piece
       → ((n : ℕ) → n ≤ i → (so_far begun : List ℕ) × Holds rules (bytes ++ take n piece) items so_far begun)
-      → Taken rules new ((bytes ++ take i piece) ++ get_or piece i 0 ∷ []) (items ++ [])
-      → Taken rules new (bytes ++ take (i + 1) piece) items × ((n : ℕ) → n ≤ i + 1 → (so_far begun : List ℕ) × Holds rules (bytes ++ take n piece) items so_far begun)
+      → HasReceived rules new ((bytes ++ take i piece) ++ get_or piece i 0 ∷ []) (items ++ [])
+      → HasReceived rules new (bytes ++ take (i + 1) piece) items × ((n : ℕ) → n ≤ i + 1 → (so_far begun : List ℕ) × Holds rules (bytes ++ take n piece) items so_far begun)
   taken_so_far new bytes piece items i lt before t =
       let longer : (bytes ++ take i piece) ++ get_or piece i 0 ∷ [] ≡ bytes ++ take (i + 1) piece = append_assoc bytes (take i piece) (get_or piece i 0 ∷ []) ∙ ap (λ x. bytes ++ x) (sym (take_more piece i 0 lt)) in
-      let now : Taken rules new (bytes ++ take (i + 1) piece) items = subst (λ (x : List ℕ). Taken rules new x items) longer (subst (λ (x : List (Item U)). Taken rules new ((bytes ++ take i piece) ++ get_or piece i 0 ∷ []) x) (append-nil items) t) in
+      let now : HasReceived rules new (bytes ++ take (i + 1) piece) items = subst (λ (x : List ℕ). HasReceived rules new x items) longer (subst (λ (x : List (Item U)). HasReceived rules new ((bytes ++ take i piece) ++ get_or piece i 0 ∷ []) x) (append-nil items) t) in
       (now, upto_more (λ n. (so_far begun : List ℕ) × Holds rules (bytes ++ take n piece) items so_far begun) i before (now.leads.0, new.live.begun, now.leads.1.holds))
 
   -- a byte of a piece
-  pub taken_next : (new : Receiving Place U) (bytes piece : List ℕ) (items : List (Item U)) (i : ℕ) → i < length piece → Taken rules new ((bytes ++ take i piece) ++ get_or piece i 0 ∷ []) items → Taken rules new (bytes ++ take (i + 1) piece) items
+  pub taken_next : (new : Receiving Place U) (bytes piece : List ℕ) (items : List (Item U)) (i : ℕ) → i < length piece → HasReceived rules new ((bytes ++ take i piece) ++ get_or piece i 0 ∷ []) items → HasReceived rules new (bytes ++ take (i + 1) piece) items
   taken_next new bytes piece items i lt t =
-      subst (λ (x : List ℕ). Taken rules new x items) (append_assoc bytes (take i piece) (get_or piece i 0 ∷ []) ∙ ap (λ x. bytes ++ x) (sym (take_more piece i 0 lt))) t
+      subst (λ (x : List ℕ). HasReceived rules new x items) (append_assoc bytes (take i piece) (get_or piece i 0 ∷ []) ∙ ap (λ x. bytes ++ x) (sym (take_more piece i 0 lt))) t
 
   -- a fault of the first piece
   pub feed_decodes : (bytes : List ℕ) (fault : Fault) → IsListFault rules [] bytes fault → IsDecodeFault rules bytes fault
@@ -128,7 +128,7 @@ module _ {Place U : Type 0} (rules : Rules Place U) where
   grows_more bytes more (inr i) = inr (i.0, i.1 ++ more, ap (λ x. x ++ more) i.2 ∙ append_assoc i.0 i.1 more, i.3, i.4, i.5, i.6, i.7)
 
   -- a growth that was refused for an item of a piece
-  pub item_completed : (bytes piece : List ℕ) (items : List (Item U)) (item : Item U) (i : ℕ) (new : Receiving Place U) → i < length piece → Taken rules new ((bytes ++ take i piece) ++ get_or piece i 0 ∷ []) (items ++ item ∷ []) → HasItem rules (bytes ++ piece)
+  pub item_completed : (bytes piece : List ℕ) (items : List (Item U)) (item : Item U) (i : ℕ) (new : Receiving Place U) → i < length piece → HasReceived rules new ((bytes ++ take i piece) ++ get_or piece i 0 ∷ []) (items ++ item ∷ []) → HasItem rules (bytes ++ piece)
   item_completed bytes piece items item i new lt t = (
     (bytes ++ take i piece) ++ get_or piece i 0 ∷ [],
     drop (i + 1) piece,
@@ -144,7 +144,7 @@ module _ {Place U : Type 0} (rules : Rules Place U) where
 pub record Reading {Place U S : Type 0} (rules : Rules Place U) (gives : MayGive S) (failures : S → ℕ) (from to : S) (reads : ℕ) (receiver : Receiving Place U) (items : List (Item U)) : Type 0 where
   pub bytes : List ℕ
   pub gave : Gave gives failures from to reads bytes
-  pub taken : Taken rules receiver bytes items
+  pub taken : HasReceived rules receiver bytes items
   pub few : length bytes ≤ 4096 * reads
 
 -- a fault of a piece that a source gave

@@ -9,9 +9,9 @@ use Rattle.ws_telnet.specs.declared.token.Token.TheVariants.{Data, Eor, Telnet a
 use Rattle.ws_record.specs.declared.record.Head.{Head}
 use Rattle.ws_record.specs.declared.record.Item.{Item}
 use Rattle.ws_record.specs.declared.record.Item.TheVariants.{Record as RecordItem, Telnet as TelnetItem}
-use Rattle.ws_record.specs.Grammar.{Holds, Accepts}
+use Rattle.ws_record.specs.Grammar.{Holds, IsInGrammar}
 use Rattle.ws_record.specs.Refusal.{IsRefused, IsTruncated}
-use Rattle.ws_record.specs.OpenRecord.{RecordSoFar, no_record, Keeping, Reads, IsDataRefused, IsEndRefused}
+use Rattle.ws_record.specs.OpenRecord.{RecordSoFar, no_record, Keeping, HasRead, IsDataRefused, IsEndRefused}
 use Rattle.ws_record.specs.DataStep.{record_of, IsWholeRecord}
 use Rattle.ws_record.specs.Live.{Watching, Leads}
 use Rattle.ws_record.specs.TokenStep.{Counts, Completes}
@@ -24,14 +24,14 @@ one_more bytes b n e = omega (arith, length-append bytes (b ∷ []))
 
 -- between tokens a byte other than FF is a token
 pub plain_byte : (begun : List ℕ) (b : ℕ) → b < 256 → b ≢ 0xff → begun ≡ [] → IsSpelled token_rules tt (begun ++ b ∷ []) (Data b)
-plain_byte begun b fits ne e = rw e (record { stands = record { is_unit = fits; may_stand = refl }; spelled = doubled_plain b (ne_eqb b 0xff ne) })
+plain_byte begun b fits ne e = rw e (record { stands = record { is_unit = fits; may_follow = refl }; spelled = doubled_plain b (ne_eqb b 0xff ne) })
 
 -- a second FF makes the data byte FF
 pub iac_pair : (begun : List ℕ) (b : ℕ) → b ≡ 0xff → begun ≡ 0xff ∷ [] → IsSpelled token_rules tt (begun ++ b ∷ []) (Data b)
-iac_pair begun b h e = rw (e, h) (record { stands = record { is_unit = omega arith; may_stand = refl }; spelled = refl })
+iac_pair begun b h e = rw (e, h) (record { stands = record { is_unit = omega arith; may_follow = refl }; spelled = refl })
 
 module _ {Place U : Type 0} (rules : Rules Place U) (can : CanEnd rules) (law : SpellsBytes rules) where
-  leads : (live : Watching Place) (bytes : List ℕ) (items : List (Item U)) (so_far : RecordSoFar U) → live.taken ≡ length bytes → Holds rules bytes items so_far.bytes live.begun → Reads rules live.reader so_far → live.failed ≡ false → Leads rules live bytes items so_far
+  leads : (live : Watching Place) (bytes : List ℕ) (items : List (Item U)) (so_far : RecordSoFar U) → live.taken ≡ length bytes → Holds rules bytes items so_far.bytes live.begun → HasRead rules live.reader so_far → live.failed ≡ false → Leads rules live bytes items so_far
   leads live bytes items so_far count holds reads works = record {
     count = count;
     holds = holds;
@@ -40,7 +40,7 @@ module _ {Place U : Type 0} (rules : Rules Place U) (can : CanEnd rules) (law : 
     opened = all_open rules can law bytes items so_far.bytes live.begun so_far.units live.reader.begun holds reads.framed reads.cut;
   }
 
-  pub leads_nothing : (live : Watching Place) → live.taken ≡ 0 → live.begun ≡ [] → Reads rules live.reader no_record → live.failed ≡ false → Leads rules live [] [] no_record
+  pub leads_nothing : (live : Watching Place) → live.taken ≡ 0 → live.begun ≡ [] → HasRead rules live.reader no_record → live.failed ≡ false → Leads rules live [] [] no_record
   leads_nothing live count fresh reads works = leads live [] [] no_record count (subst (λ (x : List ℕ). Holds rules [] [] [] x) (sym fresh) (holds_nothing rules)) reads works
 
   -- a byte that is counted: a token goes on
@@ -49,7 +49,7 @@ module _ {Place U : Type 0} (rules : Rules Place U) (can : CanEnd rules) (law : 
   token_more live new bytes items so_far b l more count begun reader works =
       leads new (bytes ++ b ∷ []) items so_far (one_more bytes b new.taken (count ∙ l.count))
       (subst (λ (x : List ℕ). Holds rules (bytes ++ b ∷ []) items so_far.bytes x) (sym begun) (holds_more rules bytes items so_far.bytes live.begun b l.holds more))
-      (subst (λ (k : Keeping Place). Reads rules k so_far) (sym reader) l.reads) (works ∙ l.works)
+      (subst (λ (k : Keeping Place). HasRead rules k so_far) (sym reader) l.reads) (works ∙ l.works)
 
   pub token_refused : (live : Watching Place) (bytes : List ℕ) (items : List (Item U)) (so_far : RecordSoFar U) (b : ℕ) (reason : Reason) → Counts rules live bytes items so_far
       → (IsPrefix token_rules tt (live.begun ++ b ∷ []) → ⊥) → reason ≡ token_rules.reason tt live.begun b → IsRefused rules (bytes ++ b ∷ []) (length bytes) reason
@@ -65,7 +65,7 @@ module _ {Place U : Type 0} (rules : Rules Place U) (can : CanEnd rules) (law : 
     opened = l.opened;
     fresh = fresh;
     works = works ∙ l.works;
-    reads = subst (λ (k : Keeping Place). Reads rules k so_far) (sym reader) l.reads;
+    reads = subst (λ (k : Keeping Place). HasRead rules k so_far) (sym reader) l.reads;
   }
 
   module _ (old new : Watching Place) (bytes : List ℕ) (items : List (Item U)) (so_far : RecordSoFar U) (begun : List ℕ) (b : ℕ) where
@@ -74,17 +74,17 @@ module _ {Place U : Type 0} (rules : Rules Place U) (can : CanEnd rules) (law : 
     command_step t c count fresh reader works =
         leads new (bytes ++ b ∷ []) (items ++ TelnetItem t ∷ []) so_far (one_more bytes b new.taken (count ∙ c.count))
         (subst (λ (x : List ℕ). Holds rules (bytes ++ b ∷ []) (items ++ TelnetItem t ∷ []) so_far.bytes x) (sym (fresh ∙ c.fresh)) (holds_command rules bytes items so_far.bytes begun b t c.holds c.spelled))
-        (subst (λ (k : Keeping Place). Reads rules k so_far) (sym reader) c.reads) (works ∙ c.works)
+        (subst (λ (k : Keeping Place). HasRead rules k so_far) (sym reader) c.reads) (works ∙ c.works)
 
     pub data_step : (v : ℕ) (head : Option Head) (units : List U) → Completes rules old bytes items so_far begun b (Data v) → new.taken ≡ old.taken → new.begun ≡ old.begun
-        → Reads rules new.reader (record { bytes = so_far.bytes ++ v ∷ []; head = head; units = units }) → new.failed ≡ old.failed
+        → HasRead rules new.reader (record { bytes = so_far.bytes ++ v ∷ []; head = head; units = units }) → new.failed ≡ old.failed
         → Leads rules new (bytes ++ b ∷ []) items (record { bytes = so_far.bytes ++ v ∷ []; head = head; units = units })
     data_step v head units c count fresh reads works =
         leads new (bytes ++ b ∷ []) items _ (one_more bytes b new.taken (count ∙ c.count))
         (subst (λ (x : List ℕ). Holds rules (bytes ++ b ∷ []) items (so_far.bytes ++ v ∷ []) x) (sym (fresh ∙ c.fresh)) (holds_data rules bytes items so_far.bytes begun b v c.holds c.spelled))
         reads (works ∙ c.works)
 
-    pub end_step : Completes rules old bytes items so_far begun b Eor → new.taken ≡ old.taken → new.begun ≡ old.begun → Reads rules new.reader no_record → new.failed ≡ old.failed
+    pub end_step : Completes rules old bytes items so_far begun b Eor → new.taken ≡ old.taken → new.begun ≡ old.begun → HasRead rules new.reader no_record → new.failed ≡ old.failed
         → (head : Head) → IsWholeRecord rules so_far head → Leads rules new (bytes ++ b ∷ []) (items ++ RecordItem (record_of head so_far.units) ∷ []) no_record
     end_step c count fresh reads works head w =
         leads new (bytes ++ b ∷ []) (items ++ RecordItem (record_of head so_far.units) ∷ []) no_record (one_more bytes b new.taken (count ∙ c.count))
@@ -104,7 +104,7 @@ refused_there rules bytes b place reason at r = subst (λ (p : ℕ). IsRefused r
 
 module _ {Place U : Type 0} (rules : Rules Place U) (can : CanEnd rules) (law : SpellsBytes rules) where
   -- the end of the stream
-  pub accepted : (live : Watching Place) (bytes : List ℕ) (items : List (Item U)) (so_far : RecordSoFar U) → Leads rules live bytes items so_far → live.begun ≡ [] → so_far ≡ no_record → Accepts rules bytes items
+  pub accepted : (live : Watching Place) (bytes : List ℕ) (items : List (Item U)) (so_far : RecordSoFar U) → Leads rules live bytes items so_far → live.begun ≡ [] → so_far ≡ no_record → IsInGrammar rules bytes items
   accepted live bytes items so_far l e f =
       subst (λ (x : List ℕ). Holds rules bytes items x []) (ap (λ (r : RecordSoFar U). r.bytes) f) (subst (λ (x : List ℕ). Holds rules bytes items so_far.bytes x) e l.holds)
 

@@ -57,7 +57,7 @@ module _ {Place U : Type 0} (rules : Rules Place U) (begins : Begins rules) (can
           no_eor = (AllByRecursion-append HasNoEor q.parts (q.rest ∷ []) q.no_eor.0 (q.no_eor.1, tt), tt);
           each = anything (q.parts ++ q.rest ∷ []);
           closed = refl;
-          tokens = record { chain = subst (λ (x : List Token). IsChain token_rules tt x) tokens (chain_append token_rules tt b.units (Eor ∷ []) b.whole.chain (record { is_unit = tt; may_stand = refl }, tt)); ends = refl };
+          tokens = record { chain = subst (λ (x : List Token). IsChain token_rules tt x) tokens (chain_append token_rules tt b.units (Eor ∷ []) b.whole.chain (record { is_unit = tt; may_follow = refl }, tt)); ends = refl };
           spelled = sym (append_assoc bytes b.more (0xff ∷ 0xef ∷ [])) ∙ ap (λ x. x ++ 0xff ∷ 0xef ∷ []) (sym b.spelled) ∙ sym (flat_map-append token_rules.spelling b.units (Eor ∷ [])) ∙ ap (spelling_of token_rules) tokens;
         };
       }

@@ -14,7 +14,7 @@ use Rattle.ws_record.specs.declared.record.Head.{Head}
 use Rattle.ws_record.specs.Grammar.{IsFramed, header, opcode_byte}
 use Rattle.ws_record.specs.Refusal.{header_reason}
 use Rattle.ws_record.specs.HeaderSoFar.{HeaderSoFar, declared, head_in}
-use Rattle.ws_record.specs.OpenRecord.{RecordSoFar, no_record, CanBeFramed, IsHead, Keeping, Reads, IsDataRefused, IsEndRefused}
+use Rattle.ws_record.specs.OpenRecord.{RecordSoFar, no_record, CanBeFramed, IsHead, Keeping, HasRead, IsDataRefused, IsEndRefused}
 use Rattle.ws_record.specs.declared.open_record.DataStep.{DataStep}
 use Rattle.ws_record.specs.DataStep.{IsDataStep, IsWholeRecord}
 use Rattle.ws_record.proofs.Reading.{opcode_same}
@@ -90,7 +90,7 @@ too_long xs b long =
 
 module _ {Place U : Type 0} (rules : Rules Place U) where
   -- nothing was read
-  pub reads_nothing : Begins rules → (reader : Keeping Place) → reader.header ≡ [] → reader.place ≡ rules.first → reader.begun ≡ [] → Reads rules reader no_record
+  pub reads_nothing : Begins rules → (reader : Keeping Place) → reader.header ≡ [] → reader.place ≡ rules.first → reader.begun ≡ [] → HasRead rules reader no_record
   reads_nothing begins reader h p b = record {
     bytes = tt;
     framed = nothing_framed;
@@ -105,7 +105,7 @@ module _ {Place U : Type 0} (rules : Rules Place U) where
   short_units free begins bytes units begun short cut =
       one_cut rules free rules.first units [] begun [] cut.chain tt cut.more (begins rules.first) (cut.spelled ∙ drop_of_length-le bytes {i = 10} short)
 
-  pub reads_empty : IsPrefixFree rules → Begins rules → (reader : Keeping Place) (so_far : RecordSoFar U) → Reads rules reader so_far → reader.header ≡ [] → so_far ≡ no_record
+  pub reads_empty : IsPrefixFree rules → Begins rules → (reader : Keeping Place) (so_far : RecordSoFar U) → HasRead rules reader so_far → reader.header ≡ [] → so_far ≡ no_record
   reads_empty free begins reader so_far r e =
       let b : so_far.bytes ≡ [] = empty_take so_far.bytes (sym r.header ∙ e) in
       let short : length so_far.bytes ≤ 10 = omega (arith, ap length b) in
@@ -115,13 +115,13 @@ module _ {Place U : Type 0} (rules : Rules Place U) where
       ∙ ap (λ (x : Option Head). let s : RecordSoFar U = record { bytes = []; head = x; units = so_far.units } in s) h
       ∙ ap (λ (x : List U). let s : RecordSoFar U = record { bytes = []; head = None; units = x } in s) u
 
-  pub reads_filled : (reader : Keeping Place) (so_far : RecordSoFar U) → Reads rules reader so_far → (reader.header ≡ [] → ⊥) → so_far.bytes ≡ [] → ⊥
+  pub reads_filled : (reader : Keeping Place) (so_far : RecordSoFar U) → HasRead rules reader so_far → (reader.header ≡ [] → ⊥) → so_far.bytes ≡ [] → ⊥
   reads_filled reader so_far r ne e = ne (r.header ∙ ap (take 10) e)
 
   -- a byte of the header
-  pub header_byte : (reader new : Keeping Place) (bytes : List ℕ) (head : Option Head) (units : List U) (b : ℕ) → Reads rules reader (record { bytes = bytes; head = head; units = units }) → length reader.header < 9 → b < 256
+  pub header_byte : (reader new : Keeping Place) (bytes : List ℕ) (head : Option Head) (units : List U) (b : ℕ) → HasRead rules reader (record { bytes = bytes; head = head; units = units }) → length reader.header < 9 → b < 256
       → (HeaderSoFar reader.header → HeaderSoFar (reader.header ++ b ∷ [])) → new.header ≡ reader.header ++ b ∷ [] → new.place ≡ reader.place → new.begun ≡ reader.begun
-      → Reads rules new (record { bytes = bytes ++ b ∷ []; head = head; units = units })
+      → HasRead rules new (record { bytes = bytes ++ b ∷ []; head = head; units = units })
   header_byte reader new bytes (Some h) units b r short fits right e p f = absurd (omega (arith, ap length r.header, length-take 10 bytes, head_long h bytes r.head))
   header_byte reader new bytes None units b r short fits right e p f =
       let same : reader.header ≡ bytes = r.header ∙ take_short bytes (omega (arith, ap length r.header)) in
@@ -142,22 +142,22 @@ module _ {Place U : Type 0} (rules : Rules Place U) where
         at_place = p ∙ r.at_place;
       }
 
-  pub header_refused : (reader : Keeping Place) (so_far : RecordSoFar U) (b : ℕ) (reason : Reason) → Reads rules reader so_far → length reader.header < 10
+  pub header_refused : (reader : Keeping Place) (so_far : RecordSoFar U) (b : ℕ) (reason : Reason) → HasRead rules reader so_far → length reader.header < 10
       → ((m : List ℕ) → IsFramed (reader.header ++ b ∷ m) → ⊥) → reason ≡ header_reason reader.header (Data b) → IsDataRefused rules so_far.bytes b reason
   header_refused reader so_far b reason r short bad why =
       let same : reader.header ≡ so_far.bytes = r.header ∙ take_short so_far.bytes (omega (arith, ap length r.header)) in
       subst (λ (x : List ℕ). IsDataRefused rules x b reason) same (inl (bad, why))
 
   -- the tenth byte
-  pub opcode_refused : (reader : Keeping Place) (so_far : RecordSoFar U) (b : ℕ) → Reads rules reader so_far → length reader.header ≡ 9
+  pub opcode_refused : (reader : Keeping Place) (so_far : RecordSoFar U) (b : ℕ) → HasRead rules reader so_far → length reader.header ≡ 9
       → ((opcode : Opcode) → opcode_byte opcode ≡ b → ⊥) → IsDataRefused rules so_far.bytes b UnknownOpcode
   opcode_refused reader so_far b r nine none =
       header_refused reader so_far b UnknownOpcode r (omega arith) (λ m f. no_opcode reader.header b m f nine none) (rw nine refl)
 
-  pub opcode_byte_read : IsPrefixFree rules → Begins rules → (reader new : Keeping Place) (bytes : List ℕ) (head : Option Head) (units : List U) (b flags n : ℕ) (opcode : Opcode) → Reads rules reader (record { bytes = bytes; head = head; units = units }) → length reader.header ≡ 9 → b < 256
+  pub opcode_byte_read : IsPrefixFree rules → Begins rules → (reader new : Keeping Place) (bytes : List ℕ) (head : Option Head) (units : List U) (b flags n : ℕ) (opcode : Opcode) → HasRead rules reader (record { bytes = bytes; head = head; units = units }) → length reader.header ≡ 9 → b < 256
       → HeaderSoFar (reader.header ++ b ∷ []) → n ≡ get_or reader.header 0 0 * 256 + get_or reader.header 1 0 → flags ≡ get_or reader.header 7 0 * 256 + get_or reader.header 8 0 → opcode_byte opcode ≡ b
       → new.header ≡ reader.header ++ b ∷ [] → new.left ≡ n - 10 → new.place ≡ reader.place → new.begun ≡ reader.begun
-      → (head ≡ None) × Reads rules new (record { bytes = bytes ++ b ∷ []; head = Some (record { flags = flags; opcode = opcode; length = n }); units = units })
+      → (head ≡ None) × HasRead rules new (record { bytes = bytes ++ b ∷ []; head = Some (record { flags = flags; opcode = opcode; length = n }); units = units })
   opcode_byte_read free begins reader new bytes head units b flags n opcode r nine fits right says flag_bytes op e l p f =
       let same : reader.header ≡ bytes = r.header ∙ take_short bytes (omega (arith, ap length r.header)) in
       let total : length (bytes ++ b ∷ []) ≡ length bytes + 1 = length-append bytes (b ∷ []) in
@@ -194,7 +194,7 @@ module _ {Place U : Type 0} (rules : Rules Place U) where
     right : HeaderSoFar bytes
     counted : length bytes + reader.left ≡ declared bytes
 
-  in_body : (reader : Keeping Place) (bytes : List ℕ) (head : Option Head) (units : List U) → Reads rules reader (record { bytes = bytes; head = head; units = units }) → length reader.header ≡ 10 → InBody reader bytes head
+  in_body : (reader : Keeping Place) (bytes : List ℕ) (head : Option Head) (units : List U) → HasRead rules reader (record { bytes = bytes; head = head; units = units }) → length reader.header ≡ 10 → InBody reader bytes head
   in_body reader bytes None units r ten = absurd (omega (arith, ap length r.header, length-take 10 bytes, r.head))
   in_body reader bytes (Some h) units r ten = record {
     of = h;
@@ -204,7 +204,7 @@ module _ {Place U : Type 0} (rules : Rules Place U) where
     counted = r.left ∙ sym (head_declares h bytes r.head);
   }
 
-  more_framed : (reader : Keeping Place) (bytes : List ℕ) (head : Option Head) (units : List U) (b : ℕ) → (r : Reads rules reader (record { bytes = bytes; head = head; units = units })) → InBody reader bytes head → b < 256 → (reader.left ≡ 0 → ⊥) → CanBeFramed (bytes ++ b ∷ [])
+  more_framed : (reader : Keeping Place) (bytes : List ℕ) (head : Option Head) (units : List U) (b : ℕ) → (r : HasRead rules reader (record { bytes = bytes; head = head; units = units })) → InBody reader bytes head → b < 256 → (reader.left ≡ 0 → ⊥) → CanBeFramed (bytes ++ b ∷ [])
   more_framed reader bytes head units b r i fits room =
       let total : length (bytes ++ b ∷ []) ≡ length bytes + 1 = length-append bytes (b ∷ []) in
       let same : declared (bytes ++ b ∷ []) ≡ declared bytes = (let long : 10 ≤ length bytes = i.long in omega (arith, get_or-append bytes (b ∷ []) 0 0 (omega arith), get_or-append bytes (b ∷ []) 0 1 (omega arith))) in
@@ -222,15 +222,15 @@ module _ {Place U : Type 0} (rules : Rules Place U) where
   body_left reader new None bytes b room l h = tt
   body_left reader new (Some k) bytes b room l h = (let ne : reader.left ≢ 0 = room in omega (arith, h, length-append bytes (b ∷ [])))
 
-  pub body_refused : (reader : Keeping Place) (so_far : RecordSoFar U) (b : ℕ) → Reads rules reader so_far → length reader.header ≡ 10 → reader.left ≡ 0 → IsDataRefused rules so_far.bytes b TooLong
+  pub body_refused : (reader : Keeping Place) (so_far : RecordSoFar U) (b : ℕ) → HasRead rules reader so_far → length reader.header ≡ 10 → reader.left ≡ 0 → IsDataRefused rules so_far.bytes b TooLong
   body_refused reader so_far b r ten none =
       let i = in_body reader so_far.bytes so_far.head so_far.units r ten in
       let long : 10 ≤ length so_far.bytes = i.long in
       inl ((λ m f. no_room so_far.bytes b m f (omega arith) (omega (arith, i.counted))), too_long so_far.bytes b long)
 
-  pub body_more : (reader new : Keeping Place) (so_far : RecordSoFar U) (b : ℕ) → Reads rules reader so_far → length reader.header ≡ 10 → b < 256 → (reader.left ≡ 0 → ⊥)
+  pub body_more : (reader new : Keeping Place) (so_far : RecordSoFar U) (b : ℕ) → HasRead rules reader so_far → length reader.header ≡ 10 → b < 256 → (reader.left ≡ 0 → ⊥)
       → IsUnfinished rules reader.place (reader.begun ++ b ∷ []) → new.header ≡ reader.header → new.left ≡ reader.left - 1 → new.place ≡ reader.place → new.begun ≡ reader.begun ++ b ∷ []
-      → Reads rules new (record so_far { bytes = so_far.bytes ++ b ∷ [] })
+      → HasRead rules new (record so_far { bytes = so_far.bytes ++ b ∷ [] })
   body_more reader new so_far b r ten fits room more e l p f =
       let i = in_body reader so_far.bytes so_far.head so_far.units r ten in
       let cut = cut_more rules (drop 10 so_far.bytes) so_far.units reader.begun b r.cut (subst (λ (x : Place). IsUnfinished rules x (reader.begun ++ b ∷ [])) r.at_place more) in
@@ -244,9 +244,9 @@ module _ {Place U : Type 0} (rules : Rules Place U) where
         at_place = p ∙ r.at_place;
       }
 
-  pub body_unit : Begins rules → (reader new : Keeping Place) (so_far : RecordSoFar U) (b : ℕ) (unit : U) → Reads rules reader so_far → length reader.header ≡ 10 → b < 256 → (reader.left ≡ 0 → ⊥)
+  pub body_unit : Begins rules → (reader new : Keeping Place) (so_far : RecordSoFar U) (b : ℕ) (unit : U) → HasRead rules reader so_far → length reader.header ≡ 10 → b < 256 → (reader.left ≡ 0 → ⊥)
       → IsSpelled rules reader.place (reader.begun ++ b ∷ []) unit → new.header ≡ reader.header → new.left ≡ reader.left - 1 → new.place ≡ rules.after unit → new.begun ≡ []
-      → Reads rules new (record so_far { bytes = so_far.bytes ++ b ∷ []; units = so_far.units ++ unit ∷ [] })
+      → HasRead rules new (record so_far { bytes = so_far.bytes ++ b ∷ []; units = so_far.units ++ unit ∷ [] })
   body_unit begins reader new so_far b unit r ten fits room whole e l p f =
       let i = in_body reader so_far.bytes so_far.head so_far.units r ten in
       let cut = cut_unit rules begins (drop 10 so_far.bytes) so_far.units reader.begun b unit r.cut (subst (λ (x : Place). IsSpelled rules x (reader.begun ++ b ∷ []) unit) r.at_place whole) in
@@ -260,7 +260,7 @@ module _ {Place U : Type 0} (rules : Rules Place U) where
         at_place = p ∙ sym (place_after_more rules rules.first so_far.units unit);
       }
 
-  pub body_bad : IsPrefixFree rules → Begins rules → (reader : Keeping Place) (so_far : RecordSoFar U) (b : ℕ) (reason : Reason) → Reads rules reader so_far → length reader.header ≡ 10 → b < 256 → (reader.left ≡ 0 → ⊥)
+  pub body_bad : IsPrefixFree rules → Begins rules → (reader : Keeping Place) (so_far : RecordSoFar U) (b : ℕ) (reason : Reason) → HasRead rules reader so_far → length reader.header ≡ 10 → b < 256 → (reader.left ≡ 0 → ⊥)
       → (IsPrefix rules reader.place (reader.begun ++ b ∷ []) → ⊥) → reason ≡ rules.reason reader.place reader.begun b → IsDataRefused rules so_far.bytes b reason
   body_bad free begins reader so_far b reason r ten fits room bad why =
       let i = in_body reader so_far.bytes so_far.head so_far.units r ten in
@@ -274,7 +274,7 @@ module _ {Place U : Type 0} (rules : Rules Place U) where
 
   -- the end
 
-  framed_whole : (reader : Keeping Place) (so_far : RecordSoFar U) → Reads rules reader so_far → length reader.header ≡ 10 → reader.left ≡ 0 → IsFramed so_far.bytes
+  framed_whole : (reader : Keeping Place) (so_far : RecordSoFar U) → HasRead rules reader so_far → length reader.header ≡ 10 → reader.left ≡ 0 → IsFramed so_far.bytes
   framed_whole reader so_far r ten none =
       let i = in_body reader so_far.bytes so_far.head so_far.units r ten in
       framed_from so_far.bytes r.bytes (record {
@@ -284,7 +284,7 @@ module _ {Place U : Type 0} (rules : Rules Place U) where
         so_far = i.right;
       })
 
-  pub end_inside : IsPrefixFree rules → Begins rules → (reader : Keeping Place) (so_far : RecordSoFar U) → Reads rules reader so_far → length reader.header ≡ 10 → reader.left ≡ 0
+  pub end_inside : IsPrefixFree rules → Begins rules → (reader : Keeping Place) (so_far : RecordSoFar U) → HasRead rules reader so_far → length reader.header ≡ 10 → reader.left ≡ 0
       → (reader.begun ≡ [] → rules.may_end reader.place ≡ true → ⊥) → IsEndRefused rules so_far.bytes EndedInside
   end_inside free begins reader so_far r ten none inside =
       inr (
@@ -296,7 +296,7 @@ module _ {Place U : Type 0} (rules : Rules Place U) where
       )
 
   -- ten bytes of a header are all of it
-  pub ten_there : (reader : Keeping Place) (so_far : RecordSoFar U) → Reads rules reader so_far → 10 ≤ length reader.header → length reader.header ≡ 10
+  pub ten_there : (reader : Keeping Place) (so_far : RecordSoFar U) → HasRead rules reader so_far → 10 ≤ length reader.header → length reader.header ≡ 10
   ten_there reader so_far r long = omega (arith, long, ap length r.header, length-take 10 so_far.bytes)
 
   -- a head is what the header says
@@ -312,7 +312,7 @@ module _ {Place U : Type 0} (rules : Rules Place U) where
       ∙ ap (λ (n : ℕ). let k : Head = record { flags = slice_index reader.header 7 * 256 + slice_index reader.header 8; opcode = opcode; length = n } in k) long
       ∙ sym e
 
-  whole_with : (reader : Keeping Place) (so_far : RecordSoFar U) (h : Head) → Reads rules reader so_far → so_far.head ≡ Some h → IsHead (Some h) so_far.bytes → length so_far.bytes ≡ h.length → reader.begun ≡ [] → rules.may_end reader.place ≡ true → IsWholeRecord rules so_far h
+  whole_with : (reader : Keeping Place) (so_far : RecordSoFar U) (h : Head) → HasRead rules reader so_far → so_far.head ≡ Some h → IsHead (Some h) so_far.bytes → length so_far.bytes ≡ h.length → reader.begun ≡ [] → rules.may_end reader.place ≡ true → IsWholeRecord rules so_far h
   whole_with reader so_far h r is head long none ends =
       let body : drop 10 so_far.bytes ≡ spelling_of rules so_far.units = sym (subst (λ (x : List ℕ). spelling_of rules so_far.units ++ x ≡ drop 10 so_far.bytes) none r.cut.spelled) ∙ append-nil _ in
       let parts : so_far.bytes ≡ header h.length h.flags h.opcode ++ spelling_of rules so_far.units = sym (take-append-drop 10 so_far.bytes) ∙ ap (λ (x : List ℕ). x ++ drop 10 so_far.bytes) head.2 ∙ ap (λ (x : List ℕ). header h.length h.flags h.opcode ++ x) body in
@@ -328,8 +328,8 @@ module _ {Place U : Type 0} (rules : Rules Place U) where
         carries = carries;
       }
 
-  pub end_whole : Begins rules → (reader new : Keeping Place) (so_far : RecordSoFar U) (head : Head) (opcode : Opcode) → Reads rules reader so_far → length reader.header ≡ 10 → reader.left ≡ 0 → reader.begun ≡ [] → rules.may_end reader.place ≡ true
-      → opcode_byte opcode ≡ slice_index reader.header 9 → head ≡ head_in reader.header opcode → new.header ≡ [] → new.place ≡ rules.first → new.begun ≡ [] → IsWholeRecord rules so_far head × Reads rules new no_record
+  pub end_whole : Begins rules → (reader new : Keeping Place) (so_far : RecordSoFar U) (head : Head) (opcode : Opcode) → HasRead rules reader so_far → length reader.header ≡ 10 → reader.left ≡ 0 → reader.begun ≡ [] → rules.may_end reader.place ≡ true
+      → opcode_byte opcode ≡ slice_index reader.header 9 → head ≡ head_in reader.header opcode → new.header ≡ [] → new.place ≡ rules.first → new.begun ≡ [] → IsWholeRecord rules so_far head × HasRead rules new no_record
   end_whole begins reader new so_far head opcode r ten none inside ends op says e p f =
       let i = in_body reader so_far.bytes so_far.head so_far.units r ten in
       let is : IsHead (Some i.of) so_far.bytes = subst (λ (x : Option Head). IsHead x so_far.bytes) i.is r.head in

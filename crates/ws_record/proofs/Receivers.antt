@@ -16,7 +16,7 @@ use Rattle.ws_record.specs.TokenStep.{Completes, IsValueStep}
 use Rattle.ws_record.specs.declared.receiver.Passing.{Passing}
 use Rattle.ws_record.specs.declared.receiver.Passing.TheVariants.{On, Failed}
 use Rattle.ws_record.specs.declared.receiver.Passing.TheVariants as passing
-use Rattle.ws_record.specs.Receiver.{Receiving, Taken, CompletesUnit, IsValuePass, IsPass, IsKept, OnStop, outcome_of, given, IsTakeFault}
+use Rattle.ws_record.specs.Receiver.{Receiving, HasReceived, CompletesUnit, IsValuePass, IsPass, IsKept, OnStop, outcome_of, given, IsTakeFault}
 use Rattle.ws_record.proofs.Lives.{refused_there}
 
 -- a refusal stands whatever follows
@@ -34,19 +34,19 @@ refused_append rules bytes more place reason r = record {
 }
 
 module _ {Place U : Type 0} (rules : Rules Place U) where
-  pub taken_none : (r : Receiving Place U) (bytes : List ℕ) (items : List (Item U)) → Taken rules r bytes items → Taken rules r bytes (items ++ [])
-  taken_none r bytes items t = subst (λ (x : List (Item U)). Taken rules r bytes x) (sym (append-nil items)) t
+  pub taken_none : (r : Receiving Place U) (bytes : List ℕ) (items : List (Item U)) → HasReceived rules r bytes items → HasReceived rules r bytes (items ++ [])
+  taken_none r bytes items t = subst (λ (x : List (Item U)). HasReceived rules r bytes x) (sym (append-nil items)) t
 
   -- a unit that is kept
-  pub taken_unit : (new kept : Receiving Place U) (bytes : List ℕ) (items : List (Item U)) (head : Option Head) → new ≡ kept → LeadsWith rules kept.live bytes items head kept.units → Taken rules new bytes items
-  taken_unit new kept bytes items head same leads = subst (λ (k : Receiving Place U). Taken rules k bytes items) (sym same) (record { head = head; leads = leads })
+  pub taken_unit : (new kept : Receiving Place U) (bytes : List ℕ) (items : List (Item U)) (head : Option Head) → new ≡ kept → LeadsWith rules kept.live bytes items head kept.units → HasReceived rules new bytes items
+  taken_unit new kept bytes items head same leads = subst (λ (k : Receiving Place U). HasReceived rules k bytes items) (sym same) (record { head = head; leads = leads })
 
   -- a record that is complete
   pub taken_record : (old new : Receiving Place U) (bytes : List ℕ) (items : List (Item U)) (head : Head) (item : Item U) → Leads rules old.live bytes (items ++ RecordItem (record_of head old.units) ∷ []) no_record
-      → item ≡ RecordItem (record_of head old.units) → new ≡ record old { units = [] } → Taken rules new bytes (items ++ item ∷ [])
+      → item ≡ RecordItem (record_of head old.units) → new ≡ record old { units = [] } → HasReceived rules new bytes (items ++ item ∷ [])
   taken_record old new bytes items head item leads is empty =
-      subst (λ (k : Receiving Place U). Taken rules k bytes (items ++ item ∷ [])) (sym empty)
-      (subst (λ (x : Item U). Taken rules (record old { units = [] }) bytes (items ++ x ∷ [])) (sym is) (record { head = None; leads = ([], leads) }))
+      subst (λ (k : Receiving Place U). HasReceived rules k bytes (items ++ item ∷ [])) (sym empty)
+      (subst (λ (x : Item U). HasReceived rules (record old { units = [] }) bytes (items ++ x ∷ [])) (sym is) (record { head = None; leads = ([], leads) }))
 
   -- a unit that is complete
   pub unit_completed : (old new : Watching Place) (bytes : List ℕ) (items : List (Item U)) (so_far : RecordSoFar U) (begun : List ℕ) (byte value : ℕ) (unit : U) → Completes rules old bytes items so_far begun byte (Data value)
@@ -96,7 +96,7 @@ module _ {Place U : Type 0} (rules : Rules Place U) where
 
   -- the answer to a byte with which no item is complete
   pub outcome_taken : (new : Receiving Place U) (byte place : ℕ) (p : Passing) (Known : List ℕ → List (Item U) → Type 0) → ((bytes : List ℕ) (items : List (Item U)) → Known bytes items → IsValuePass rules new bytes items byte p)
-      → IfOk (outcome_of {U = U} place p) (λ item. (bytes : List ℕ) (items : List (Item U)) → Known bytes items → place ≡ length bytes → Taken rules new (bytes ++ byte ∷ []) (items ++ given item))
+      → IfOk (outcome_of {U = U} place p) (λ item. (bytes : List ℕ) (items : List (Item U)) → Known bytes items → place ≡ length bytes → HasReceived rules new (bytes ++ byte ∷ []) (items ++ given item))
   outcome_taken new byte place On Known h = λ bytes items k at. taken_none new (bytes ++ byte ∷ []) items (h bytes items k)
   outcome_taken new byte place passing.Token Known h = λ bytes items k at. absurd (h bytes items k)
   outcome_taken new byte place passing.Memory Known h = tt

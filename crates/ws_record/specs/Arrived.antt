@@ -1,9 +1,10 @@
+-- Items that are on their way by their plain spelling: an item is there with the last byte of its spelling (RFC 854,
+-- RFC 885)
+
 use Rattle.std.specs.Prelude.{ℕ, ◌-◌, ◌==◌, List, [], ◌∷◌, if◌then◌else◌, nat_lt, Option, Some, None, length}
 use Rattle.ws_code.specs.Code.{Rules}
 use Rattle.ws_record.specs.declared.record.Item.{Item}
 use Rattle.ws_record.specs.Encode.{item_spelling}
-
--- Items that are on their way by their plain spelling: an item is there with the last byte of its spelling (RFC 854, RFC 885)
 
 module _ {Place U : Type 0} (rules : Rules Place U) where
   -- the item whose spelling ends after so many bytes

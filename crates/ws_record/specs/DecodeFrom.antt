@@ -1,3 +1,5 @@
+-- Decoding all that a source gives.
+
 use Rattle.std.specs.Prelude.{◌≡◌, ℕ, List, length}
 use Rattle.ws_code.specs.Code.{Rules}
 use Rattle.ws_code.specs.Device.{MayGive, Gave, GaveAll, ReadFault}
@@ -7,11 +9,15 @@ use Rattle.ws_record.specs.Receiver.{MayGrow}
 use Rattle.ws_record.specs.Refusal.{IsRefused, IsTruncated}
 
 -- What a decoder of a source answers where it gives no items: the bytes that the source gave are refused, or
--- end too early, or the growth for a unit or an item of them was refused, or a read failed, or the most reads didn't reach the end.
+-- end too early, or the growth for a unit or an item of them was refused, or a read failed, or the most reads didn't
+-- reach the end.
 -- Each of these words counts the reads: no more are made than one call may make.
 abbrev pub IsSourceFault : {Place U S : Type 0} → Rules Place U → MayGive S → (S → ℕ) → S → S → Fault → Type 0
-IsSourceFault rules gives failures from to (Refused place reason) = (bytes : List ℕ) × (reads : ℕ) × Gave gives failures from to reads bytes × IsRefused rules bytes place reason
-IsSourceFault rules gives failures from to (Truncated n) = (bytes : List ℕ) × GaveAll gives failures from to bytes × (n ≡ length bytes) × IsTruncated rules bytes
-IsSourceFault rules gives failures from to Memory = (bytes : List ℕ) × (reads : ℕ) × Gave gives failures from to reads bytes × MayGrow rules bytes
+IsSourceFault rules gives failures from to (Refused place reason) = (bytes : List ℕ) × (reads : ℕ)
+    × Gave gives failures from to reads bytes × IsRefused rules bytes place reason
+IsSourceFault rules gives failures from to (Truncated n) = (bytes : List ℕ) × GaveAll gives failures from to bytes
+    × (n ≡ length bytes) × IsTruncated rules bytes
+IsSourceFault rules gives failures from to Memory = (bytes : List ℕ) × (reads : ℕ)
+    × Gave gives failures from to reads bytes × MayGrow rules bytes
 IsSourceFault rules gives failures from to Read = (bytes : List ℕ) × ReadFault gives failures from to bytes
 IsSourceFault rules gives failures from to fault = ⊥

@@ -1,3 +1,5 @@
+-- Encoding: the plain spelling of items, and which lists have one that is read back
+
 use Rattle.std.specs.Prelude.{◌≡◌, ℕ, ◌^◌, ◌<◌, ◌≤◌, List, [], ◌∷◌, ◌++◌, length}
 use Rattle.std.specs.List.{flat_map, AllByRecursion}
 use Rattle.ws_code.specs.Code.{Rules, IsWhole}
@@ -8,8 +10,6 @@ use Rattle.ws_record.specs.declared.record.Item.TheVariants.{Record as RecordIte
 use Rattle.ws_record.specs.declared.encoder.EncodeFault.{EncodeFault}
 use Rattle.ws_record.specs.declared.encoder.EncodeFault.TheVariants.{TooBig, BadSequence, Memory, Write}
 use Rattle.ws_record.specs.Grammar.{record_bytes}
-
--- Encoding: the plain spelling of items, and which lists have one that is read back
 
 -- a record's bytes with each FF doubled, and IAC EOR behind them (RFC 854; RFC 885)
 abbrev pub record_spelling : List ℕ → List ℕ
@@ -24,13 +24,14 @@ module _ {Place U : Type 0} where
   abbrev pub plain_spelling : Rules Place U → List (Item U) → List ℕ
   plain_spelling rules items = flat_map (item_spelling rules) items
 
-  -- the item can be encoded: a record's list is a body, and its bytes fit the length in the header (RFC 1205, section 3)
-  abbrev pub IsEncoded : Rules Place U → Item U → Type 0
-  IsEncoded rules (RecordItem r) = IsWhole rules r.body × (length (record_bytes rules r) < 2 ^ 16)
-  IsEncoded rules (TelnetItem t) = Unit {0}
+  -- the item can be encoded: a record's list is a body, and its bytes fit the length in the header (RFC 1205,
+  -- section 3)
+  abbrev pub CanBeEncoded : Rules Place U → Item U → Type 0
+  CanBeEncoded rules (RecordItem r) = IsWhole rules r.body × (length (record_bytes rules r) < 2 ^ 16)
+  CanBeEncoded rules (TelnetItem t) = Unit {0}
 
-  abbrev pub AreEncoded : Rules Place U → List (Item U) → Type 0
-  AreEncoded rules items = AllByRecursion (IsEncoded rules) items
+  abbrev pub CanAllBeEncoded : Rules Place U → List (Item U) → Type 0
+  CanAllBeEncoded rules items = AllByRecursion (CanBeEncoded rules) items
 
   -- a record's list is no body
   abbrev pub IsBadSequence : Rules Place U → Item U → Type 0
@@ -49,7 +50,7 @@ module _ {Place U : Type 0} where
     pub after : List (Item U)
     pub split : items ≡ before ++ item ∷ after
     pub at_index : index ≡ length before
-    pub each : AreEncoded rules before
+    pub each : CanAllBeEncoded rules before
     pub is : Q item
 
   -- the list's own fault: its first item that can't be encoded, and why
@@ -60,14 +61,16 @@ module _ {Place U : Type 0} where
 
   -- An encoder into memory has the list's own fault, or, where the list has none, a growth was refused.
   abbrev pub IsEncodeFault : Rules Place U → List (Item U) → EncodeFault → Type 0
-  IsEncodeFault rules items Memory = AreEncoded rules items
+  IsEncodeFault rules items Memory = CanAllBeEncoded rules items
   IsEncodeFault rules items Write = ⊥
   IsEncodeFault rules items fault = IsListFault rules items fault
 
   -- An encoder into a sink has the list's own fault, and the sink was left alone;
   -- or, where the list has none, a write failed after a front of the spelling.
-  abbrev pub IsWriteFault : {S : Type 0} → Rules Place U → List (Item U) → MayTake S → (S → ℕ) → S → S → EncodeFault → Type 0
-  IsWriteFault rules items takes failures from to Write = AreEncoded rules items × FailedWithin takes failures from to (plain_spelling rules items)
+  abbrev pub IsWriteFault : {S : Type 0} → Rules Place U → List (Item U) → MayTake S → (S → ℕ) → S → S → EncodeFault
+      → Type 0
+  IsWriteFault rules items takes failures from to Write = CanAllBeEncoded rules items
+      × FailedWithin takes failures from to (plain_spelling rules items)
   IsWriteFault rules items takes failures from to Memory = ⊥
   IsWriteFault rules items takes failures from to fault = IsListFault rules items fault × (to ≡ from)
 

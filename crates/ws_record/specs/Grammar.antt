@@ -1,3 +1,5 @@
+-- Records (RFC 1205, section 3)
+
 use Rattle.std.specs.Prelude.{◌≡◌, ◌≢◌, ℕ, ◌+◌, ◌/◌, ◌%◌, ◌^◌, ◌<◌, List, [], ◌∷◌, ◌++◌, map, length}
 use Rattle.std.specs.List.{flat_map, AllByRecursion}
 use Rattle.ws_code.specs.Code.{Rules, IsWhole, IsCut, spelling_of}
@@ -6,12 +8,12 @@ use Rattle.ws_telnet.specs.declared.token.Telnet.{Telnet}
 use Rattle.ws_telnet.specs.declared.token.Token.{Token}
 use Rattle.ws_telnet.specs.declared.token.Token.TheVariants.{Data, Eor, Telnet as TelnetToken}
 use Rattle.ws_record.specs.declared.opcode.Opcode.{Opcode}
-use Rattle.ws_record.specs.declared.opcode.Opcode.TheVariants.{NoOperation, Invite, OutputOnly, PutGet, SaveScreen, RestoreScreen, ReadImmediate, ReadScreen, CancelInvite, MessageLightOn, MessageLightOff}
+use Rattle.ws_record.specs.declared.opcode.Opcode.TheVariants.{NoOperation, Invite, OutputOnly, PutGet, SaveScreen}
+use Rattle.ws_record.specs.declared.opcode.Opcode.TheVariants.{RestoreScreen, ReadImmediate, ReadScreen, CancelInvite}
+use Rattle.ws_record.specs.declared.opcode.Opcode.TheVariants.{MessageLightOn, MessageLightOff}
 use Rattle.ws_record.specs.declared.record.Record.{Record}
 use Rattle.ws_record.specs.declared.record.Item.{Item}
 use Rattle.ws_record.specs.declared.record.Item.TheVariants.{Record as RecordItem, Telnet as TelnetItem}
-
--- Records (RFC 1205, section 3)
 
 -- two bytes, the high one first
 abbrev pub two_bytes : ℕ → List ℕ
@@ -104,7 +106,8 @@ module _ {Place U : Type 0} where
 
   -- The bytes hold the items, then an open record of these bytes, then an unfinished token.
   -- A command inside a record comes before it.
-  pub record Holds (rules : Rules Place U) (bytes : List ℕ) (items : List (Item U)) (record_so_far begun : List ℕ) : Type 0 where
+  pub record Holds (rules : Rules Place U) (bytes : List ℕ) (items : List (Item U))
+      (record_so_far begun : List ℕ) : Type 0 where
     pub stretches : List (List Token × Record U)
     pub rest : List Token
     pub each : AllByRecursion (IsStretch rules) stretches
@@ -118,5 +121,5 @@ module _ {Place U : Type 0} where
   Spells rules bytes items = (record_so_far : List ℕ) × Holds rules bytes items record_so_far []
 
   -- they are in the grammar, and spell them
-  abbrev pub Accepts : Rules Place U → List ℕ → List (Item U) → Type 0
-  Accepts rules bytes items = Holds rules bytes items [] []
+  abbrev pub IsInGrammar : Rules Place U → List ℕ → List (Item U) → Type 0
+  IsInGrammar rules bytes items = Holds rules bytes items [] []

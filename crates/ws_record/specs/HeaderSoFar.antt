@@ -1,3 +1,5 @@
+-- The bytes of a header that has come in part (RFC 1205, section 3).
+
 use Rattle.std.specs.Prelude.{◌≡◌, ℕ, ◌+◌, ◌*◌, ◌<◌, ◌≤◌, List, length, slice_index}
 use Rattle.ws_record.specs.declared.opcode.Opcode.{Opcode}
 use Rattle.ws_record.specs.declared.record.Head.{Head}
@@ -9,7 +11,11 @@ declared bytes = slice_index bytes 0 * 256 + slice_index bytes 1
 
 -- what ten bytes of a header say, or nine and the opcode of the tenth
 abbrev pub head_in : List ℕ → Opcode → Head
-head_in bytes opcode = record { flags = slice_index bytes 7 * 256 + slice_index bytes 8; opcode = opcode; length = declared bytes }
+head_in bytes opcode = record {
+  flags = slice_index bytes 7 * 256 + slice_index bytes 8;
+  opcode = opcode;
+  length = declared bytes;
+}
 
 -- the bytes of a record, as far as they are there, are those of a right header
 pub record HeaderSoFar (bytes : List ℕ) : Type 0 where

@@ -1,13 +1,16 @@
+-- A live decoder: what it keeps, which bytes lead to it, and what it answers to one byte more (RFC 854, 885, 1205).
+
 use Rattle.std.specs.Prelude.{◌≡◌, ℕ, Bool, false, List, [], ◌∷◌, ◌++◌, Option, Some, None, length}
 use Rattle.ws_code.specs.Code.{Rules}
 use Rattle.ws_record.specs.declared.record.Head.{Head}
 use Rattle.ws_record.specs.declared.record.Item.{Item}
 use Rattle.ws_record.specs.declared.record.Item.TheVariants.{Record as RecordItem, Telnet as TelnetItem}
 use Rattle.ws_record.specs.declared.live.Step.{Step}
-use Rattle.ws_record.specs.declared.live.Step.TheVariants.{More, Open, Unit as Whole, Close, Telnet as Command, Refused, Failed}
+use Rattle.ws_record.specs.declared.live.Step.TheVariants.{More, Open, Unit as Whole, Close, Telnet as Command, Refused}
+use Rattle.ws_record.specs.declared.live.Step.TheVariants.{Failed}
 use Rattle.ws_record.specs.Grammar.{Holds}
 use Rattle.ws_record.specs.Refusal.{Layer, IsOpen, IsRefused}
-use Rattle.ws_record.specs.OpenRecord.{RecordSoFar, no_record, Keeping, Reads}
+use Rattle.ws_record.specs.OpenRecord.{RecordSoFar, no_record, Keeping, HasRead}
 use Rattle.ws_record.specs.DataStep.{record_of}
 
 -- What a live decoder keeps: how many bytes it took, the token that they end inside of, the open record,
@@ -20,30 +23,39 @@ pub record Watching (Place : Type 0) : Type 0 where
 
 module _ {Place U : Type 0} where
   -- The bytes lead to the decoder: they hold these items and this open record, and none of them is refused.
-  pub record Leads (rules : Rules Place U) (live : Watching Place) (bytes : List ℕ) (items : List (Item U)) (so_far : RecordSoFar U) : Type 0 where
+  pub record Leads (rules : Rules Place U) (live : Watching Place) (bytes : List ℕ) (items : List (Item U))
+      (so_far : RecordSoFar U) : Type 0 where
     pub count : live.taken ≡ length bytes
     pub holds : Holds rules bytes items so_far.bytes live.begun
-    pub reads : Reads rules live.reader so_far
+    pub reads : HasRead rules live.reader so_far
     pub opened : (layer : Layer) → IsOpen rules layer bytes
     pub works : live.failed ≡ false
 
   -- The bytes lead to the decoder with these items, and an open record with this head and these units.
   abbrev pub LeadsWith : Rules Place U → Watching Place → List ℕ → List (Item U) → Option Head → List U → Type 0
-  LeadsWith rules live bytes items head units = (so_far : List ℕ) × Leads rules live bytes items (record { bytes = so_far; head = head; units = units })
+  LeadsWith rules live bytes items head units = (so_far : List ℕ)
+      × Leads rules live bytes items (record { bytes = so_far; head = head; units = units })
 
   -- one byte more ends the open record, which has this head
   abbrev pub IsClosed : Rules Place U → Watching Place → List ℕ → List (Item U) → RecordSoFar U → ℕ → Head → Type 0
-  IsClosed rules new bytes items so_far byte head = (so_far.head ≡ Some head) × Leads rules new (bytes ++ byte ∷ []) (items ++ RecordItem (record_of head so_far.units) ∷ []) no_record
+  IsClosed rules new bytes items so_far byte head = (so_far.head ≡ Some head)
+      × Leads rules new (bytes ++ byte ∷ []) (items ++ RecordItem (record_of head so_far.units) ∷ []) no_record
 
   -- What one byte more gives: its step says what is complete with it.
-  abbrev pub IsStep : Rules Place U → Watching Place → List ℕ → List (Item U) → RecordSoFar U → ℕ → Step U → Type 0
-  IsStep rules new bytes items so_far byte More = LeadsWith rules new (bytes ++ byte ∷ []) items so_far.head so_far.units
-  IsStep rules new bytes items so_far byte (Open head) = (so_far.head ≡ None) × LeadsWith rules new (bytes ++ byte ∷ []) items (Some head) so_far.units
-  IsStep rules new bytes items so_far byte (Whole unit) = LeadsWith rules new (bytes ++ byte ∷ []) items so_far.head (so_far.units ++ unit ∷ [])
-  IsStep rules new bytes items so_far byte Close = (head : Head) × (so_far.head ≡ Some head) × Leads rules new (bytes ++ byte ∷ []) (items ++ RecordItem (record_of head so_far.units) ∷ []) no_record
-  IsStep rules new bytes items so_far byte (Command telnet) = Leads rules new (bytes ++ byte ∷ []) (items ++ TelnetItem telnet ∷ []) so_far
-  IsStep rules new bytes items so_far byte (Refused place reason) = (place ≡ length bytes) × IsRefused rules (bytes ++ byte ∷ []) place reason
-  IsStep rules new bytes items so_far byte Failed = ⊥
+  abbrev pub IsLiveStep : Rules Place U → Watching Place → List ℕ → List (Item U) → RecordSoFar U → ℕ → Step U → Type 0
+  IsLiveStep rules new bytes items so_far byte More = LeadsWith rules new (bytes
+      ++ byte ∷ []) items so_far.head so_far.units
+  IsLiveStep rules new bytes items so_far byte (Open head) = (so_far.head ≡ None)
+      × LeadsWith rules new (bytes ++ byte ∷ []) items (Some head) so_far.units
+  IsLiveStep rules new bytes items so_far byte (Whole unit) = LeadsWith rules new (bytes
+      ++ byte ∷ []) items so_far.head (so_far.units ++ unit ∷ [])
+  IsLiveStep rules new bytes items so_far byte Close = (head : Head) × (so_far.head ≡ Some head)
+      × Leads rules new (bytes ++ byte ∷ []) (items ++ RecordItem (record_of head so_far.units) ∷ []) no_record
+  IsLiveStep rules new bytes items so_far byte (Command telnet) = Leads rules new (bytes ++ byte ∷ []) (items
+      ++ TelnetItem telnet ∷ []) so_far
+  IsLiveStep rules new bytes items so_far byte (Refused place reason) = (place ≡ length bytes)
+      × IsRefused rules (bytes ++ byte ∷ []) place reason
+  IsLiveStep rules new bytes items so_far byte Failed = ⊥
 
 -- a fact where the step says that nothing follows
 abbrev pub OnEnd : {U : Type 0} → Step U → Type 0 → Type 0

@@ -1,4 +1,7 @@
-use Rattle.std.specs.Prelude.{◌≡◌, ℕ, ◌+◌, ◌<◌, ◌^◌, List, [], ◌∷◌, ◌++◌, ◌⊎◌, Option, Some, None, IfSome, length, drop, take}
+-- The open record of a stream, and what its reader keeps (RFC 1205, section 3).
+
+use Rattle.std.specs.Prelude.{◌≡◌, ℕ, ◌+◌, ◌<◌, ◌^◌, List, [], ◌∷◌, ◌++◌, ◌⊎◌, Option, Some, None, IfSome, length, drop}
+use Rattle.std.specs.Prelude.{take}
 use Rattle.ws_code.specs.Code.{Rules, IsCut, AreBytes, place_after}
 use Rattle.ws_code.specs.declared.reason.Reason.{Reason}
 use Rattle.ws_code.specs.declared.reason.Reason.TheVariants.{EndedInside, TooShort}
@@ -25,7 +28,8 @@ pub record CanBeFramed (so_far : List ℕ) : Type 0 where
 -- the ten header bytes are there, and say this; or they aren't there yet
 abbrev pub IsHead : Option Head → List ℕ → Type 0
 IsHead None bytes = length bytes < 10
-IsHead (Some head) bytes = (head.flags < 2 ^ 16) × (head.length < 2 ^ 16) × (take 10 bytes ≡ header head.length head.flags head.opcode)
+IsHead (Some head) bytes = (head.flags < 2 ^ 16) × (head.length < 2 ^ 16)
+    × (take 10 bytes ≡ header head.length head.flags head.opcode)
 
 -- What a reader of a record keeps of it: its header bytes, how many bytes its header declares beyond
 -- those read, where its next unit stands, and the bytes of that unit.
@@ -37,7 +41,7 @@ pub record Keeping (Place : Type 0) : Type 0 where
 
 module _ {Place U : Type 0} where
   -- the record so far leads to the reader
-  pub record Reads (rules : Rules Place U) (reader : Keeping Place) (so_far : RecordSoFar U) : Type 0 where
+  pub record HasRead (rules : Rules Place U) (reader : Keeping Place) (so_far : RecordSoFar U) : Type 0 where
     pub bytes : AreBytes so_far.bytes
     pub framed : CanBeFramed so_far.bytes
     pub head : IsHead so_far.head so_far.bytes
@@ -50,7 +54,8 @@ module _ {Place U : Type 0} where
   abbrev pub IsDataRefused : Rules Place U → List ℕ → ℕ → Reason → Type 0
   IsDataRefused rules so_far b reason =
       (((m : List ℕ) → IsFramed (so_far ++ b ∷ m) → ⊥) × (reason ≡ header_reason so_far (Data b)))
-      ⊎ (CanBeFramed (so_far ++ b ∷ []) × ((m : List ℕ) → IsBodyBytes rules (drop 10 (so_far ++ b ∷ m)) → ⊥) × IsBodyReason rules (drop 10 so_far) (Data b) reason)
+      ⊎ (CanBeFramed (so_far ++ b ∷ []) × ((m : List ℕ) → IsBodyBytes rules (drop 10 (so_far ++ b ∷ m)) → ⊥)
+      × IsBodyReason rules (drop 10 so_far) (Data b) reason)
 
   -- no record ends here
   abbrev pub IsEndRefused : Rules Place U → List ℕ → Reason → Type 0

@@ -1,3 +1,5 @@
+-- Readers of records.
+
 use Rattle.std.specs.Prelude.{◌≡◌, ℕ, ◌<◌, List, length}
 use Rattle.ws_record.specs.HeaderSoFar.{HeaderSoFar}
 

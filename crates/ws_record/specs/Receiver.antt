@@ -1,4 +1,7 @@
-use Rattle.std.specs.Prelude.{◌≡◌, ℕ, ◌+◌, ◌≤◌, List, [], ◌∷◌, ◌++◌, ◌⊎◌, true, Option, Some, None, Result, Ok, Err, length, take, drop}
+-- A receiver: what it keeps, which bytes and items lead to it, and which faults may come (RFC 885, 1205).
+
+use Rattle.std.specs.Prelude.{◌≡◌, ℕ, ◌+◌, ◌≤◌, List, [], ◌∷◌, ◌++◌, ◌⊎◌, true, Option, Some, None, Result, Ok, Err}
+use Rattle.std.specs.Prelude.{length, take, drop}
 use Rattle.ws_code.specs.Code.{Rules, IsSpelled, IsCut}
 use Rattle.ws_telnet.specs.Token.{token_rules}
 use Rattle.ws_telnet.specs.declared.token.Token.{Token}
@@ -44,21 +47,28 @@ given (Some item) = item ∷ []
 
 module _ {Place U : Type 0} where
   -- the bytes lead to the receiver, which has given the items
-  pub record Taken (rules : Rules Place U) (receiver : Receiving Place U) (bytes : List ℕ) (items : List (Item U)) : Type 0 where
+  pub record HasReceived (rules : Rules Place U) (receiver : Receiving Place U) (bytes : List ℕ)
+      (items : List (Item U)) : Type 0 where
     pub head : Option Head
     pub leads : LeadsWith rules receiver.live bytes items head receiver.units
 
   -- they do, and one byte more is counted, but not yet read
-  pub record CountsTaken (rules : Rules Place U) (receiver : Receiving Place U) (bytes : List ℕ) (items : List (Item U)) : Type 0 where
+  pub record CountsReceived (rules : Rules Place U) (receiver : Receiving Place U) (bytes : List ℕ)
+      (items : List (Item U)) : Type 0 where
     pub so_far : List ℕ
     pub head : Option Head
     pub counts : Counts rules receiver.live bytes items (record { bytes = so_far; head = head; units = receiver.units })
 
   -- they do, and one byte more completes a token, which isn't taken yet
-  pub record CompletesTaken (rules : Rules Place U) (receiver : Receiving Place U) (bytes : List ℕ) (items : List (Item U)) (begun : List ℕ) (byte : ℕ) (token : Token) : Type 0 where
+  pub record CompletesReceived (rules : Rules Place U) (receiver : Receiving Place U) (bytes : List ℕ)
+      (items : List (Item U)) (begun : List ℕ) (byte : ℕ) (token : Token) : Type 0 where
     pub so_far : List ℕ
     pub head : Option Head
-    pub completes : Completes rules receiver.live bytes items (record { bytes = so_far; head = head; units = receiver.units }) begun byte token
+    pub completes : Completes rules receiver.live bytes items (record {
+      bytes = so_far;
+      head = head;
+      units = receiver.units;
+    }) begun byte token
 
   -- behind these bytes the byte completes a unit of the open record's body
   pub record CompletesUnit (rules : Rules Place U) (bytes : List ℕ) (byte : ℕ) : Type 0 where
@@ -74,11 +84,13 @@ module _ {Place U : Type 0} where
 
   -- a byte of the piece behind these does
   abbrev pub HasUnit : Rules Place U → List ℕ → List ℕ → Type 0
-  HasUnit rules bytes piece = (front : List ℕ) × (byte : ℕ) × (rest : List ℕ) × (piece ≡ front ++ byte ∷ rest) × CompletesUnit rules (bytes ++ front) byte
+  HasUnit rules bytes piece = (front : List ℕ) × (byte : ℕ) × (rest : List ℕ) × (piece ≡ front ++ byte ∷ rest)
+      × CompletesUnit rules (bytes ++ front) byte
 
   -- an item is complete in the bytes
   abbrev pub HasItem : Rules Place U → List ℕ → Type 0
-  HasItem rules bytes = (front : List ℕ) × (rest : List ℕ) × (bytes ≡ front ++ rest) × (items : List (Item U)) × (item : Item U) × (so_far : List ℕ) × (begun : List ℕ) × Holds rules front (items ++ item ∷ []) so_far begun
+  HasItem rules bytes = (front : List ℕ) × (rest : List ℕ) × (bytes ≡ front ++ rest) × (items : List (Item U))
+      × (item : Item U) × (so_far : List ℕ) × (begun : List ℕ) × Holds rules front (items ++ item ∷ []) so_far begun
 
   -- a unit or an item is complete in the bytes, so that a list grows for it
   abbrev pub MayGrow : Rules Place U → List ℕ → Type 0
@@ -86,21 +98,24 @@ module _ {Place U : Type 0} where
 
   -- a byte behind these is refused, or the growth for a unit that is complete with it was
   abbrev pub IsTakeFault : Rules Place U → List ℕ → ℕ → Fault → Type 0
-  IsTakeFault rules bytes byte (Refused place reason) = (place ≡ length bytes) × IsRefused rules (bytes ++ byte ∷ []) place reason
+  IsTakeFault rules bytes byte (Refused place reason) = (place ≡ length bytes)
+      × IsRefused rules (bytes ++ byte ∷ []) place reason
   IsTakeFault rules bytes byte Memory = CompletesUnit rules bytes byte
   IsTakeFault rules bytes byte fault = ⊥
 
   -- what a data byte, with which a token behind these bytes is complete, makes of the receiver
   abbrev pub IsValuePass : Rules Place U → Receiving Place U → List ℕ → List (Item U) → ℕ → Passing → Type 0
-  IsValuePass rules new bytes items byte On = Taken rules new (bytes ++ byte ∷ []) items
+  IsValuePass rules new bytes items byte On = HasReceived rules new (bytes ++ byte ∷ []) items
   IsValuePass rules new bytes items byte passing.Token = ⊥
   IsValuePass rules new bytes items byte passing.Memory = CompletesUnit rules bytes byte
-  IsValuePass rules new bytes items byte (passing.Refused reason) = IsRefused rules (bytes ++ byte ∷ []) (length bytes) reason
+  IsValuePass rules new bytes items byte (passing.Refused reason) = IsRefused rules (bytes
+      ++ byte ∷ []) (length bytes) reason
   IsValuePass rules new bytes items byte Failed = ⊥
 
-  -- what any byte behind these makes of it, where no item is complete with it; else the byte is counted, but not yet read
+  -- what any byte behind these makes of it, where no item is complete with it; else the byte is counted, but not yet
+  -- read
   abbrev pub IsPass : Rules Place U → Receiving Place U → List ℕ → List (Item U) → ℕ → Passing → Type 0
-  IsPass rules new bytes items byte passing.Token = CountsTaken rules new bytes items
+  IsPass rules new bytes items byte passing.Token = CountsReceived rules new bytes items
   IsPass rules new bytes items byte passed = IsValuePass rules new bytes items byte passed
 
   -- what a unit that is kept makes of it
@@ -111,17 +126,20 @@ module _ {Place U : Type 0} where
 
   -- a byte of the piece behind these is refused, or the growth for a unit of it was
   abbrev pub IsFeedFault : Rules Place U → List ℕ → List ℕ → Fault → Type 0
-  IsFeedFault rules bytes piece (Refused place reason) = (length bytes ≤ place) × IsRefused rules (bytes ++ piece) place reason
+  IsFeedFault rules bytes piece (Refused place reason) = (length bytes ≤ place)
+      × IsRefused rules (bytes ++ piece) place reason
   IsFeedFault rules bytes piece Memory = HasUnit rules bytes piece
   IsFeedFault rules bytes piece fault = ⊥
 
   -- a fault of a piece, or the growth for an item of it was refused
   abbrev pub IsListFault : Rules Place U → List ℕ → List ℕ → Fault → Type 0
-  IsListFault rules bytes piece fault = IsFeedFault rules bytes piece fault ⊎ ((fault ≡ Memory) × HasItem rules (bytes ++ piece))
+  IsListFault rules bytes piece fault = IsFeedFault rules bytes piece fault
+      ⊎ ((fault ≡ Memory) × HasItem rules (bytes ++ piece))
 
   -- where a byte of the piece is refused, no further item is complete before it
   abbrev pub NoneBefore : Rules Place U → List ℕ → List ℕ → List (Item U) → Fault → Type 0
-  NoneBefore rules bytes piece items (Refused place reason) = (n : ℕ) → length bytes + n ≤ place → (so_far begun : List ℕ) × Holds rules (bytes ++ take n piece) items so_far begun
+  NoneBefore rules bytes piece items (Refused place reason) = (n : ℕ) → length bytes + n ≤ place
+      → (so_far begun : List ℕ) × Holds rules (bytes ++ take n piece) items so_far begun
   NoneBefore rules bytes piece items fault = Unit {0}
 
   -- what a decoder of all the bytes answers where it gives no items

@@ -1,15 +1,16 @@
+-- Refusals: the first byte at which bytes can't be continued, in some layer
+
 use Rattle.std.specs.Prelude.{◌≡◌, ℕ, List, [], ◌∷◌, ◌++◌, length, drop, nat_lt, if◌then◌else◌}
 use Rattle.std.specs.List.{AllByRecursion}
 use Rattle.ws_code.specs.Code.{Rules, IsWhole, IsCut, spelling_of, place_after}
 use Rattle.ws_code.specs.declared.reason.Reason.{Reason}
-use Rattle.ws_code.specs.declared.reason.Reason.TheVariants.{LengthBelowHeader, BadType, BadReserved, BadVariableLength, UnknownOpcode, TooLong, TooShort, EndedInside}
+use Rattle.ws_code.specs.declared.reason.Reason.TheVariants.{LengthBelowHeader, BadType, BadReserved, BadVariableLength}
+use Rattle.ws_code.specs.declared.reason.Reason.TheVariants.{UnknownOpcode, TooLong, TooShort, EndedInside}
 use Rattle.ws_telnet.specs.Token.{token_rules}
 use Rattle.ws_telnet.specs.declared.token.Token.{Token}
 use Rattle.ws_telnet.specs.declared.token.Token.TheVariants.{Data}
 use Rattle.ws_record.specs.declared.record.Item.{Item}
-use Rattle.ws_record.specs.Grammar.{IsFramed, IsBodyBytes, IsStream, Accepts, HasNoEor, joined, carried}
-
--- Refusals: the first byte at which bytes can't be continued, in some layer
+use Rattle.ws_record.specs.Grammar.{IsFramed, IsBodyBytes, IsStream, IsInGrammar, HasNoEor, joined, carried}
 
 -- the bytes are whole tokens, the last of them after the record bytes so far
 pub record EndsWith (bytes record_so_far : List ℕ) (last : Token) : Type 0 where
@@ -57,13 +58,17 @@ module _ {Place U : Type 0} where
 
   -- the reason of a byte after these, by the table of unfinished units
   abbrev pub IsBodyReason : Rules Place U → List ℕ → Token → Reason → Type 0
-  IsBodyReason rules bytes (Data b) reason = (units : List U) × (begun : List ℕ) × IsCut rules bytes units begun × (reason ≡ rules.reason (place_after rules rules.first units) begun b)
+  IsBodyReason rules bytes (Data b) reason = (units : List U) × (begun : List ℕ) × IsCut rules bytes units begun
+      × (reason ≡ rules.reason (place_after rules rules.first units) begun b)
   IsBodyReason rules bytes end reason = reason ≡ EndedInside
 
   abbrev pub IsReason : Rules Place U → Layer → List ℕ → ℕ → Reason → Type 0
-  IsReason rules Tokens before b reason = (tokens : List Token) × (begun : List ℕ) × IsCut token_rules before tokens begun × (reason ≡ token_rules.reason tt begun b)
-  IsReason rules Header before b reason = (record_so_far : List ℕ) × (last : Token) × EndsWith (before ++ b ∷ []) record_so_far last × (reason ≡ header_reason record_so_far last)
-  IsReason rules Body before b reason = (record_so_far : List ℕ) × (last : Token) × EndsWith (before ++ b ∷ []) record_so_far last × IsBodyReason rules (drop 10 record_so_far) last reason
+  IsReason rules Tokens before b reason = (tokens : List Token) × (begun : List ℕ)
+      × IsCut token_rules before tokens begun × (reason ≡ token_rules.reason tt begun b)
+  IsReason rules Header before b reason = (record_so_far : List ℕ) × (last : Token)
+      × EndsWith (before ++ b ∷ []) record_so_far last × (reason ≡ header_reason record_so_far last)
+  IsReason rules Body before b reason = (record_so_far : List ℕ) × (last : Token)
+      × EndsWith (before ++ b ∷ []) record_so_far last × IsBodyReason rules (drop 10 record_so_far) last reason
 
   -- The bytes are refused at the place: those before it are open to each layer, and those through it aren't.
   pub record IsRefused (rules : Rules Place U) (bytes : List ℕ) (place : ℕ) (reason : Reason) : Type 0 where
@@ -80,4 +85,4 @@ module _ {Place U : Type 0} where
   -- no place is refused, and yet the bytes aren't in the grammar
   pub record IsTruncated (rules : Rules Place U) (bytes : List ℕ) : Type 0 where
     pub opened : (l : Layer) → IsOpen rules l bytes
-    pub unfinished : (items : List (Item U)) → Accepts rules bytes items → ⊥
+    pub unfinished : (items : List (Item U)) → IsInGrammar rules bytes items → ⊥

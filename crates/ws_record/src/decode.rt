@@ -1,7 +1,7 @@
 ghost use Rattle.std.specs.Prelude.{◌≡◌, List, ℕ, IfOk, IfErr, MatchResult};
 ghost use Rattle.ws_code.specs.Device.{GaveAll};
 ghost use Rattle.ws_record.specs.declared.record.Item.{Item};
-ghost use Rattle.ws_record.specs.Grammar.{Accepts};
+ghost use Rattle.ws_record.specs.Grammar.{IsInGrammar};
 ghost use Rattle.ws_record.specs.Receiver.{IsDecodeFault};
 ghost use Rattle.ws_record.specs.DecodeFrom.{IsSourceFault};
 
@@ -15,10 +15,10 @@ use ws_code::{Body, DeviceFailed, Fault, Source};
 /// `Truncated` the bytes' number, where they end inside a token or a record; `Memory` comes only where a
 /// growth was refused.
 pub fn decode_all<B: Body>(alloc: Global, bytes: &[u8]) -> Result<Vec<Item<B::Unit>>, Fault>
-    ensures accepted { IfOk result (λ items. Accepts B.rules bytes.now items.items) }
+    ensures accepted { IfOk result (λ items. IsInGrammar B.rules bytes.now items.items) }
     ensures fault { IfErr result (λ fault. IsDecodeFault B.rules bytes.now fault) }
     // What is in the grammar is accepted, unless memory runs out.
-    ensures only { (items : List (Item B.Unit)) → Accepts B.rules bytes.now items
+    ensures only { (items : List (Item B.Unit)) → IsInGrammar B.rules bytes.now items
         → MatchResult result (λ found. found.items ≡ items) (λ fault. fault ≡ Fault.Memory) }
 {
     let mut receiver = Receiver::<B>::new(alloc);
@@ -38,7 +38,7 @@ pub fn decode_from<B: Body, S: Source>(
 ) -> Result<Vec<Item<B::Unit>>, Fault>
     ensures accepted { IfOk result (λ items. (bytes : List ℕ)
         × GaveAll S.gives S.failures source.old source.new bytes
-        × Accepts B.rules bytes items.items) }
+        × IsInGrammar B.rules bytes items.items) }
     ensures fault { IfErr result
         (λ fault. IsSourceFault B.rules S.gives S.failures source.old source.new fault) }
 {

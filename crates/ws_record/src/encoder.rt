@@ -3,8 +3,8 @@ ghost use Rattle.std.specs.List.{AllByRecursion};
 ghost use Rattle.ws_code.specs.Code.{IsWhole};
 ghost use Rattle.ws_code.specs.Device.{WentOut};
 ghost use Rattle.ws_telnet.specs.Token.{IsTelnet};
-ghost use Rattle.ws_record.specs.Grammar.{Accepts};
-ghost use Rattle.ws_record.specs.Encode.{AreEncoded, IsInRange, plain_spelling};
+ghost use Rattle.ws_record.specs.Grammar.{IsInGrammar};
+ghost use Rattle.ws_record.specs.Encode.{CanAllBeEncoded, IsInRange, plain_spelling};
 ghost use Rattle.ws_record.specs.Encode.{IsListFault, IsEncodeFault, IsWriteFault};
 
 use crate::Item;
@@ -53,9 +53,9 @@ impl Error for EncodeFault {}
 /// `BadSequence` and `TooBig` name the first item that can't be encoded, before any memory is asked
 /// for; `Memory` comes only where a growth was refused.
 pub fn encode<B: Body>(alloc: Global, items: &[Item<B::Unit>]) -> Result<Vec<u8>, EncodeFault>
-    ensures encoded { OnOk result (AreEncoded B.rules items.now) }
+    ensures encoded { OnOk result (CanAllBeEncoded B.rules items.now) }
     ensures spelled { IfOk result (λ bytes. bytes.items ≡ plain_spelling B.rules items.now) }
-    ensures accepted { IfOk result (λ bytes. Accepts B.rules bytes.items items.now) }
+    ensures accepted { IfOk result (λ bytes. IsInGrammar B.rules bytes.items items.now) }
     ensures fault { IfErr result (IsEncodeFault B.rules items.now) }
 {
     check_items::<B>(items)?;
@@ -72,7 +72,7 @@ pub fn encode<B: Body>(alloc: Global, items: &[Item<B::Unit>]) -> Result<Vec<u8>
 /// With `Write` a write failed, or took no byte, and only bytes before it went out. `Memory` never
 /// comes.
 pub fn encode_to<B: Body, S: Sink>(items: &[Item<B::Unit>], sink: &mut S) -> Result<(), EncodeFault>
-    ensures encoded { OnOk result (AreEncoded B.rules items.now) }
+    ensures encoded { OnOk result (CanAllBeEncoded B.rules items.now) }
     ensures written { OnOk result (WentOut S.takes S.failures sink.old sink.new
         (plain_spelling B.rules items.now)) }
     ensures fault { IfErr result
@@ -87,7 +87,7 @@ pub fn encode_to<B: Body, S: Sink>(items: &[Item<B::Unit>], sink: &mut S) -> Res
 
 // The list's own fault, if it has one.
 fn check_items<B: Body>(items: &[Item<B::Unit>]) -> Result<(), EncodeFault>
-    ensures encoded { OnOk result (AreEncoded B.rules items.now) }
+    ensures encoded { OnOk result (CanAllBeEncoded B.rules items.now) }
     ensures known { OnOk result (AllByRecursion IsInRange items.now) }
     ensures fault { IfErr result (IsListFault B.rules items.now) }
 {

@@ -4,7 +4,7 @@ ghost use Rattle.ws_code.specs.Code.{spelling_of};
 ghost use Rattle.ws_code.specs.Device.{WentOut, FailedWithin};
 ghost use Rattle.ws_telnet.specs.Token.{doubled};
 ghost use Rattle.ws_record.specs.Grammar.{record_bytes};
-ghost use Rattle.ws_record.specs.Encode.{AreEncoded, record_spelling, plain_spelling};
+ghost use Rattle.ws_record.specs.Encode.{CanAllBeEncoded, record_spelling, plain_spelling};
 
 use crate::record_writer::{EOR, IAC, header_bytes, write_doubled};
 use crate::{Item, Record};
@@ -14,7 +14,7 @@ use ws_telnet::write_telnet;
 
 /// Writes the plain spelling of items that can be encoded. `Write` is the only fault.
 pub fn write_items<B: Body, S: Sink>(sink: &mut S, items: &[Item<B::Unit>]) -> Result<(), Fault>
-    requires { AreEncoded B.rules items.now }
+    requires { CanAllBeEncoded B.rules items.now }
     ensures ok { OnOk result (WentOut S.takes S.failures sink.old sink.new
         (plain_spelling B.rules items.now)) }
     ensures err { IfErr result (λ fault. (fault ≡ Fault.Write)

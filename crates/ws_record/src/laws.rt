@@ -4,8 +4,8 @@ ghost use Rattle.std.specs.List.{AllByRecursion};
 ghost use Rattle.ws_code.specs.declared.reason.Reason.{Reason};
 ghost use Rattle.ws_record.specs.declared.record.Item.{Item};
 ghost use Rattle.ws_record.specs.Arrived.{arrived};
-ghost use Rattle.ws_record.specs.Grammar.{Holds, Spells, Accepts};
-ghost use Rattle.ws_record.specs.Encode.{AreEncoded, IsInRange, IsEncodeFault, plain_spelling};
+ghost use Rattle.ws_record.specs.Grammar.{Holds, Spells, IsInGrammar};
+ghost use Rattle.ws_record.specs.Encode.{CanAllBeEncoded, IsInRange, IsEncodeFault, plain_spelling};
 ghost use Rattle.ws_record.specs.OpenPrefix.{IsRefusedByPrefix, IsTruncatedByPrefix};
 ghost use Rattle.ws_record.specs.Receiver.{IsDecodeFault};
 ghost use Rattle.ws_record.specs.Refusal.{IsRefused, IsTruncated};
@@ -50,9 +50,9 @@ pub fn one_fault<B: Body>()
 /// The plain spelling of items that can be encoded is in the grammar, and spells these items and no
 /// others.
 pub fn encoding_spells_its_items<B: Body>()
-    ensures accepted { (items : List (Item B.Unit)) → AreEncoded B.rules items
-        → AllByRecursion IsInRange items → Accepts B.rules (plain_spelling B.rules items) items }
-    ensures only { (items others : List (Item B.Unit)) → AreEncoded B.rules items
+    ensures accepted { (items : List (Item B.Unit)) → CanAllBeEncoded B.rules items
+        → AllByRecursion IsInRange items → IsInGrammar B.rules (plain_spelling B.rules items) items }
+    ensures only { (items others : List (Item B.Unit)) → CanAllBeEncoded B.rules items
         → AllByRecursion IsInRange items → Spells B.rules (plain_spelling B.rules items) others
         → others ≡ items }
 {}
@@ -60,11 +60,11 @@ pub fn encoding_spells_its_items<B: Body>()
 /// Of items that can be encoded, those whose spelling ends in a front of their plain spelling are complete in it,
 /// and nothing in it is refused.
 pub fn fronts_hold_items<B: Body>()
-    ensures held { (items : List (Item B.Unit)) → AreEncoded B.rules items
+    ensures held { (items : List (Item B.Unit)) → CanAllBeEncoded B.rules items
         → AllByRecursion IsInRange items → (front rest : List ℕ)
         → plain_spelling B.rules items ≡ front ++ rest
         → (so_far begun : List ℕ) × Holds B.rules front (arrived B.rules items (length front)) so_far begun }
-    ensures unrefused { (items : List (Item B.Unit)) → AreEncoded B.rules items
+    ensures unrefused { (items : List (Item B.Unit)) → CanAllBeEncoded B.rules items
         → AllByRecursion IsInRange items → (front rest : List ℕ)
         → plain_spelling B.rules items ≡ front ++ rest
         → (place : ℕ) (reason : Reason) → IsRefused B.rules front place reason → ⊥ }
@@ -101,9 +101,9 @@ pub fn decode_both_ways<B: Body>(
     Result<Vec<Item<B::Unit>>, Fault>,
 )
     requires { length bytes.now < most_reads }
-    ensures accepted { IfOk result.0 (λ items. Accepts B.rules bytes.now items.items) }
+    ensures accepted { IfOk result.0 (λ items. IsInGrammar B.rules bytes.now items.items) }
     ensures fault { IfErr result.0 (λ fault. IsDecodeFault B.rules bytes.now fault) }
-    ensures source_accepted { IfOk result.1 (λ items. Accepts B.rules bytes.now items.items) }
+    ensures source_accepted { IfOk result.1 (λ items. IsInGrammar B.rules bytes.now items.items) }
     ensures source_fault { IfErr result.1 (λ fault. IsDecodeFault B.rules bytes.now fault) }
     ensures alike { MatchResult result.0
         (λ found. MatchResult result.1

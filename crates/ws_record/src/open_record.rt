@@ -4,7 +4,7 @@ ghost use Rattle.ws_record.specs.declared.record.Record.{Record};
 ghost use Rattle.ws_record.specs.Grammar.{IsFramed, IsRecord, record_bytes};
 ghost use Rattle.ws_record.specs.Refusal.{header_reason};
 ghost use Rattle.ws_record.specs.HeaderSoFar.{HeaderSoFar, head_in};
-ghost use Rattle.ws_record.specs.OpenRecord.{RecordSoFar, no_record, Reads, IsEndRefused};
+ghost use Rattle.ws_record.specs.OpenRecord.{RecordSoFar, no_record, HasRead, IsEndRefused};
 ghost use Rattle.ws_record.specs.DataStep.{IsDataStep, IsWholeRecord};
 
 use crate::unit_reader::UnitReader;
@@ -63,7 +63,7 @@ impl<B: Body> Model for OpenRecord<B> {
 impl<B: Body> OpenRecord<B> {
     /// No record is open.
     pub fn new() -> Self
-        ensures { Reads B.rules result no_record }
+        ensures { HasRead B.rules result no_record }
     {
         OpenRecord {
             header: ShortList::new(),
@@ -74,7 +74,7 @@ impl<B: Body> OpenRecord<B> {
 
     /// Whether no byte of a record was taken.
     pub fn is_empty(&self) -> bool
-        ensures { (so_far : RecordSoFar B.Unit) → Reads B.rules self.now so_far
+        ensures { (so_far : RecordSoFar B.Unit) → HasRead B.rules self.now so_far
             → (result ≡ true → so_far ≡ no_record) × (result ≡ false → so_far.bytes ≢ []) }
     {
         self.header.is_empty()
@@ -85,7 +85,7 @@ impl<B: Body> OpenRecord<B> {
     #[inline(always)]
     pub fn take_single(&mut self, byte: u8) -> Option<B::Unit>
         ensures unit { IfSome result (λ unit. (so_far : RecordSoFar B.Unit)
-            → Reads B.rules self.old so_far
+            → HasRead B.rules self.old so_far
             → IsDataStep B.rules self.new so_far byte (DataStep.Unit unit)) }
         ensures none { IfNone result (self.new ≡ self.old) }
     {
@@ -100,7 +100,7 @@ impl<B: Body> OpenRecord<B> {
     /// Takes a byte of the record.
     #[inline(always)]
     pub fn take(&mut self, byte: u8) -> DataStep<B::Unit>
-        ensures { (so_far : RecordSoFar B.Unit) → Reads B.rules self.old so_far
+        ensures { (so_far : RecordSoFar B.Unit) → HasRead B.rules self.old so_far
             → IsDataStep B.rules self.new so_far byte result }
     {
         if self.left > 0 {
@@ -116,7 +116,7 @@ impl<B: Body> OpenRecord<B> {
 
     fn take_header(&mut self, byte: u8) -> DataStep<B::Unit>
         requires { length self.old.header < 9 }
-        ensures { (so_far : RecordSoFar B.Unit) → Reads B.rules self.old so_far
+        ensures { (so_far : RecordSoFar B.Unit) → HasRead B.rules self.old so_far
             → IsDataStep B.rules self.new so_far byte result }
     {
         if let Some(reason) = header_refusal(self.header.as_slice(), byte) {
@@ -128,7 +128,7 @@ impl<B: Body> OpenRecord<B> {
 
     fn take_opcode(&mut self, byte: u8) -> DataStep<B::Unit>
         requires { length self.old.header ≡ 9 }
-        ensures { (so_far : RecordSoFar B.Unit) → Reads B.rules self.old so_far
+        ensures { (so_far : RecordSoFar B.Unit) → HasRead B.rules self.old so_far
             → IsDataStep B.rules self.new so_far byte result }
     {
         match Opcode::from_byte(byte) {
@@ -145,7 +145,7 @@ impl<B: Body> OpenRecord<B> {
     #[inline(always)]
     fn take_body(&mut self, byte: u8) -> DataStep<B::Unit>
         requires { 0 < self.old.left }
-        ensures { (so_far : RecordSoFar B.Unit) → Reads B.rules self.old so_far
+        ensures { (so_far : RecordSoFar B.Unit) → HasRead B.rules self.old so_far
             → IsDataStep B.rules self.new so_far byte result }
     {
         self.left -= 1;
@@ -159,10 +159,10 @@ impl<B: Body> OpenRecord<B> {
     /// Ends the record, where it is whole, and answers with its head, else why not. The next one begins.
     pub fn end(&mut self) -> Result<Head, Reason>
         ensures whole { IfOk result (λ head. (so_far : RecordSoFar B.Unit)
-            → Reads B.rules self.old so_far
-            → IsWholeRecord B.rules so_far head × Reads B.rules self.new no_record) }
+            → HasRead B.rules self.old so_far
+            → IsWholeRecord B.rules so_far head × HasRead B.rules self.new no_record) }
         ensures refused { IfErr result (λ reason. (so_far : RecordSoFar B.Unit)
-            → Reads B.rules self.old so_far
+            → HasRead B.rules self.old so_far
             → IsEndRefused B.rules so_far.bytes reason) }
     {
         if self.header.len() < 10 || self.left > 0 {

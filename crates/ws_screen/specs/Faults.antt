@@ -1,11 +1,13 @@
 -- Why an element is refused, the reasons in the order in which they are tried (SC30-3533, the
 -- orders Start of Field, Repeat to Address, Erase to Address).
-use Rattle.std.specs.Prelude.{ℕ, ◌+◌, List, [], ◌∷◌, Bool, Option, Some, None, length, ◌==◌, ◌&&◌, not, nat_lt, is_some, if◌then◌else◌, Result, Ok, Err}
+use Rattle.std.specs.Prelude.{ℕ, ◌+◌, List, [], ◌∷◌, Bool, Option, Some, None, length, ◌==◌, ◌&&◌, not, nat_lt, is_some}
+use Rattle.std.specs.Prelude.{if◌then◌else◌, Result, Ok, Err}
 use Rattle.std.specs.List.{list_any}
 use Rattle.ws_code.specs.declared.address.TheConstants.{CELLS}
 use Rattle.ws_screen.specs.declared.format_table.TheConstants.{MAX_FIELDS}
 use Rattle.ws_code.specs.declared.reason.Reason.{Reason}
-use Rattle.ws_code.specs.declared.reason.Reason.TheVariants.{BackwardAddress, PastEnd, ZeroLength, FieldPastEnd, FieldOverlap, TableFull}
+use Rattle.ws_code.specs.declared.reason.Reason.TheVariants.{BackwardAddress, PastEnd, ZeroLength, FieldPastEnd}
+use Rattle.ws_code.specs.declared.reason.Reason.TheVariants.{FieldOverlap, TableFull}
 use Rattle.ws_stream.specs.FieldOrder.{FieldOrder}
 use Rattle.ws_stream.specs.declared.element.Element.{Element}
 use Rattle.ws_stream.specs.declared.element.Element.TheVariants.{Ra, Ea, Sf, Put}

@@ -1,5 +1,6 @@
 -- The events give this screen: one fact for each part.
-use Rattle.std.specs.Prelude.{ℕ, ◌≡◌, ◌<◌, List, [], ◌∷◌, ◌++◌, Option, slice_index, false, ◌&&◌, is_some, if◌then◌else◌}
+use Rattle.std.specs.Prelude.{ℕ, ◌≡◌, ◌<◌, List, [], ◌∷◌, ◌++◌, Option, slice_index, false, ◌&&◌, is_some}
+use Rattle.std.specs.Prelude.{if◌then◌else◌}
 use Rattle.ws_code.specs.declared.address.TheConstants.{CELLS}
 use Rattle.ws_stream.specs.Elements.{is_command}
 use Rattle.ws_stream.specs.declared.element.Element.{Element}

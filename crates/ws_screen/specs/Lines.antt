@@ -1,5 +1,6 @@
 -- What a row of a display shows (SC30-3533, display attributes).
-use Rattle.std.specs.Prelude.{ℕ, ◌-◌, ◌*◌, ◌%◌, List, Bool, false, ◌==◌, ◌||◌, if◌then◌else◌, map, find, reverse, take, slice_index, unwrap_or}
+use Rattle.std.specs.Prelude.{ℕ, ◌-◌, ◌*◌, ◌%◌, List, Bool, false, ◌==◌, ◌||◌, if◌then◌else◌, map, find, reverse, take}
+use Rattle.std.specs.Prelude.{slice_index, unwrap_or}
 use Rattle.std.specs.Option.{option_map_or}
 use Rattle.std.specs.List.{range_with_len}
 use Rattle.ws_code.specs.declared.address.TheConstants.{COLUMNS}

@@ -2,7 +2,8 @@
 -- Read MDT Fields Alternate commands).
 use Rattle.std.specs.Prelude.{ℕ, Option, Some, None}
 use Rattle.ws_stream.specs.declared.element.Element.{Element}
-use Rattle.ws_stream.specs.declared.element.Element.TheVariants.{ClearUnit, ClearFormat, Write, ReadInput, ReadMdt, ReadMdtAlternate, Soh, Ra, Ea, Sba, Ic, Mc, Sf, Put}
+use Rattle.ws_stream.specs.declared.element.Element.TheVariants.{ClearUnit, ClearFormat, Write, ReadInput, ReadMdt}
+use Rattle.ws_stream.specs.declared.element.Element.TheVariants.{ReadMdtAlternate, Soh, Ra, Ea, Sba, Ic, Mc, Sf, Put}
 use Rattle.ws_screen.specs.declared.read_kind.ReadKind.{ReadKind}
 use Rattle.ws_screen.specs.declared.read_kind.ReadKind.TheVariants.{Input, Mdt, MdtAlternate}
 

@@ -1,6 +1,7 @@
 -- What contracts see of a `Screen`: 24 rows of 80 cells, the format table and the rest of a
 -- display's state.
-use Rattle.std.specs.Prelude.{ℕ, ◌≡◌, ◌≤◌, ◌+◌, List, [], ◌∷◌, Bool, false, Option, Some, None, length, not, find, nat_le, nat_lt, ◌&&◌, slice_index}
+use Rattle.std.specs.Prelude.{ℕ, ◌≡◌, ◌≤◌, ◌+◌, List, [], ◌∷◌, Bool, false, Option, Some, None, length, not, find}
+use Rattle.std.specs.Prelude.{nat_le, nat_lt, ◌&&◌, slice_index}
 use Rattle.std.specs.Option.{option_map_or}
 use Rattle.ws_code.specs.declared.address.TheConstants.{CELLS}
 use Rattle.ws_screen.specs.declared.format_table.TheConstants.{MAX_FIELDS}

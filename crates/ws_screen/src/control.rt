@@ -6,7 +6,7 @@ use crate::Field;
 use crate::control_effect::{Cleared, ControlEffect, Nulled};
 use ws_code::Address;
 
-/// What a code of a CC1 does.
+// What a code of a CC1 does.
 fn effect(code: u8) -> ControlEffect
     requires { code < 8 }
     ensures { result ≡ effect_of code }

@@ -14,14 +14,14 @@ fn is_attribute(byte: u8) -> bool
     byte >= 0x20 && byte < 0x40
 }
 
-/// Whether what stands behind an attribute isn't displayed.
+// Whether what stands behind an attribute isn't displayed.
 fn hides(attribute: u8) -> bool
     ensures { result ≡ Spec.hides attribute }
 {
     attribute % 8 == 7
 }
 
-/// Whether the cells behind a byte are hidden, if the byte itself is or isn't.
+// Whether the cells behind a byte are hidden, if the byte itself is or isn't.
 fn hides_after(byte: u8, hidden: bool) -> bool
     ensures { result ≡ (if Attribute.is_attribute byte then Spec.hides byte else hidden) }
 {
@@ -32,14 +32,14 @@ fn hides_after(byte: u8, hidden: bool) -> bool
     }
 }
 
-/// The last attribute of a list.
+// The last attribute of a list.
 fn last_attribute(cells: &[u8]) -> Option<u8>
     ensures { result ≡ find Attribute.is_attribute (reverse cells.now) }
 {
     cells.iter().rev().copied().find(|byte| is_attribute(*byte))
 }
 
-/// Whether a cell is hidden: by the attribute nearest before it.
+// Whether a cell is hidden: by the attribute nearest before it.
 fn is_hidden(cells: &[u8], at: usize) -> bool
     requires { at ≤ length cells.now }
     ensures { result ≡ Spec.is_hidden cells.now at }
@@ -50,7 +50,7 @@ fn is_hidden(cells: &[u8], at: usize) -> bool
     }
 }
 
-/// The character that a byte shows.
+// The character that a byte shows.
 fn shown_char(byte: u8) -> char
     ensures value { result ≡ Spec.shown_char byte }
     ensures latin { result < 256 }

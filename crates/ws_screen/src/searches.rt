@@ -23,7 +23,7 @@ pub fn count_before(fields: &[Field], place: u16) -> usize
     )
 }
 
-/// The first field that doesn't start before a place.
+// The first field that doesn't start before a place.
 fn first_from(fields: &[Field], place: u16) -> Option<Field>
     requires { AreApart 0 fields.now }
     ensures { result ≡ Spec.first_from place fields.now }
@@ -36,7 +36,7 @@ fn first_from(fields: &[Field], place: u16) -> Option<Field>
     }
 }
 
-/// The last field that starts before a place.
+// The last field that starts before a place.
 fn last_before(fields: &[Field], place: u16) -> Option<Field>
     requires { AreApart 0 fields.now }
     ensures { result ≡ Spec.last_before place fields.now }

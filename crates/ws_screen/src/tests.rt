@@ -32,8 +32,8 @@ fn output(rt: &impl Abort, attribute: u8, length: u16) -> Element {
 // Applies elements in turn, up to the first that is refused.
 fn apply_all(rt: &impl Abort, screen: &mut Screen, elements: &[Element]) -> Option<Reason> {
     for element in elements {
-        let may_stand = Commands::may_follow(Commands::first(), element) || screen.writing();
-        assert!(rt; may_stand);
+        let may_follow = Commands::may_follow(Commands::first(), element) || screen.writing();
+        assert!(rt; may_follow);
         if let Err(reason) = screen.apply(element) {
             return Some(reason);
         }

@@ -6,7 +6,7 @@ use Rattle.ws_code.specs.Device.{MayTake, MayGive, Gave, FailedWithin, one_more,
 use Rattle.ws_code.proofs.DeviceLaws.{gave_more, gave_all}
 use Rattle.ws_nego.specs.declared.terminal.TerminalType.{TerminalType}
 use Rattle.ws_record.specs.declared.record.Item.{Item}
-use Rattle.ws_record.specs.Grammar.{Accepts}
+use Rattle.ws_record.specs.Grammar.{IsInGrammar}
 use Rattle.ws_record.specs.Refusal.{IsTruncated}
 use Rattle.ws_stream.specs.Elements.{element_rules}
 use Rattle.ws_stream.specs.declared.element.Element.{Element}
@@ -78,7 +78,7 @@ module _ {R S : Type 0} (gives : MayGive R) (misses : R → ℕ) (takes : MayTak
   module _ (source now : R) (reads : ℕ) (sink here : S) (player : Player) (r : Reading gives misses source now reads takes failures t keys sink here player) (one_left : reads < most_reads) where
     -- the source's end
     pub run_ends : (now' : R) (room : ℕ) (result : Result Played Fault) → 0 < room → gives now room (Some []) now' → misses now' ≡ misses now
-        → IfOk result (λ played. (played.station ≡ player.station) × (played.keys_refused ≡ player.keys_refused) × ((bytes : List ℕ) (items : List (Item Element)) (side : StationSide) → StationLeads player.station bytes items side → Accepts element_rules bytes items))
+        → IfOk result (λ played. (played.station ≡ player.station) × (played.keys_refused ≡ player.keys_refused) × ((bytes : List ℕ) (items : List (Item Element)) (side : StationSide) → StationLeads player.station bytes items side → IsInGrammar element_rules bytes items))
         → IfErr result (λ fault. (bytes : List ℕ) (items : List (Item Element)) (side : StationSide) → StationLeads player.station bytes items side → length bytes + 1 < 2 ^ 64 → (fault ≡ Truncated (length bytes)) × IsTruncated {Place = Place} {U = Element} element_rules bytes)
         → IsRun t keys gives misses source now' takes failures sink here result
     run_ends now' room (Ok played) h made same ok err = record {

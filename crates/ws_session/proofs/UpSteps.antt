@@ -11,7 +11,7 @@ use Rattle.ws_session.specs.declared.world.Event.{Event}
 use Rattle.ws_session.specs.HostSide.{HostSide}
 use Rattle.ws_nego.specs.declared.terminal.TerminalType.{TerminalType}
 use Rattle.ws_record.specs.declared.record.Item.{Item}
-use Rattle.ws_record.specs.Encode.{item_spelling, plain_spelling, IsEncoded, IsInRange}
+use Rattle.ws_record.specs.Encode.{item_spelling, plain_spelling, CanBeEncoded, IsInRange}
 use Rattle.ws_record.specs.Receiver.{given}
 use Rattle.ws_record.specs.Refusal.{IsRefused}
 use Rattle.ws_stream.specs.AnswerParts.{answer_rules}
@@ -79,7 +79,7 @@ module _ (t : TerminalType) (w : World) (old : Running) (r : Runs t old w) where
           up = r.up;
           at_station = r.at_station;
           at_host = ap (λ n. n + 1) r.at_host;
-          writable_down = (all_append (IsEncoded element_rules) w.down items r.writable_down.0 fit.0, all_append IsInRange w.down items r.writable_down.1 fit.1);
+          writable_down = (all_append (CanBeEncoded element_rules) w.down items r.writable_down.0 fit.0, all_append IsInRange w.down items r.writable_down.1 fit.1);
           writable_up = r.writable_up;
           station = subst (λ (z : List ℕ). StationLeads old.station z (arrived element_rules (w.down ++ items) w.at_station) w.station) (sym front_down) (subst (λ z. StationLeads old.station (take w.at_station (down_bytes w)) z w.station) (sym (arrived_more element_rules w.down items w.at_station few)) r.station);
           host = subst (λ (z : List ℕ). HostLeads host z (arrived answer_rules w.up (w.at_host + 1)) side) (sym longer_off) (subst (λ z. HostLeads host front_up z side) (sym so_far) leads);

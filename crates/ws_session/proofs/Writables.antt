@@ -33,7 +33,7 @@ use Rattle.ws_record.specs.declared.record.Item.TheVariants.{Record as RecordIte
 use Rattle.ws_screen.specs.Bodies.{body_fault}
 use Rattle.ws_nego.specs.declared.terminal.TerminalType.{TerminalType}
 use Rattle.ws_record.specs.declared.record.Item.{Item}
-use Rattle.ws_record.specs.Encode.{IsEncoded, IsInRange}
+use Rattle.ws_record.specs.Encode.{CanBeEncoded, IsInRange}
 use Rattle.ws_stream.specs.AnswerParts.{answer_rules}
 use Rattle.ws_stream.specs.Elements.{element_rules}
 use Rattle.ws_stream.specs.declared.answer_part.AnswerPart.{AnswerPart}
@@ -50,7 +50,7 @@ written_of none (Refuses reason) = none
 written_of none (GoesOn end written) = written
 
 pub writable_append : (xs ys : List (Item AnswerPart)) → AreWritable answer_rules xs → AreWritable answer_rules ys → AreWritable answer_rules (xs ++ ys)
-writable_append xs ys a b = (all_append (IsEncoded answer_rules) xs ys a.0 b.0, all_append IsInRange xs ys a.1 b.1)
+writable_append xs ys a b = (all_append (CanBeEncoded answer_rules) xs ys a.0 b.0, all_append IsInRange xs ys a.1 b.1)
 
 tokens_writable : (ts : List Telnet) → AllByRecursion IsTelnet ts → AreWritable answer_rules (map TelnetItem ts)
 tokens_writable [] a = (tt, tt)

@@ -1,12 +1,13 @@
+-- A piece of a stream over a connection: its bytes go into the connection's one end, and as many are read from the
+-- other. A read gives some byte, or else it is the last; so there are no more reads than the piece has bytes.
+
 use Rattle.std.specs.Prelude.{◌≡◌, ℕ, ◌<◌, ◌≤◌, List, length, take}
 use Rattle.ws_code.specs.declared.fault.Fault.{Fault}
 use Rattle.ws_code.specs.declared.fault.Fault.TheVariants.{Truncated, Read, Write}
 use Rattle.ws_code.specs.Device.{MayTake, MayGive, WentOut, FailedWithin, Gave, GaveAll, ReadFailed}
 
--- A piece of a stream over a connection: its bytes go into the connection's one end, and as many are read from the
--- other. A read gives some byte, or else it is the last; so there are no more reads than the piece has bytes.
-
-module _ {S R : Type 0} (takes : MayTake S) (failures : S → ℕ) (sink sink' : S) (gives : MayGive R) (misses : R → ℕ) (source source' : R) where
+module _ {S R : Type 0} (takes : MayTake S) (failures : S → ℕ) (sink sink' : S) (gives : MayGive R) (misses : R
+    → ℕ) (source source' : R) where
   -- all the bytes went out, and these are what the source gave next
   pub record IsCarried (bytes given : List ℕ) : Type 0 where
     pub wrote : WentOut takes failures sink sink' bytes
@@ -19,7 +20,8 @@ module _ {S R : Type 0} (takes : MayTake S) (failures : S → ℕ) (sink sink' :
     pub failed : FailedWithin takes failures sink sink' bytes
     pub unread : source' ≡ source
 
-  -- all the bytes went out, and the source gave its end behind so many bytes, which are too few and stand at the slice's front
+  -- all the bytes went out, and the source gave its end behind so many bytes, which are too few and stand at the
+  -- slice's front
   pub record IsCutShort (bytes slice : List ℕ) (at : ℕ) : Type 0 where
     pub wrote : WentOut takes failures sink sink' bytes
     pub given : List ℕ

@@ -1,11 +1,11 @@
+-- What crosses a line: what its sink takes is to be read at its source.
+
 use Rattle.std.specs.Prelude.{◌≡◌, ℕ, ◌+◌, List, [], ◌∷◌, ◌++◌, length, take, drop}
 use Rattle.std.specs.List.{AllByRecursion}
 use Rattle.ws_code.specs.declared.fault.Fault.{Fault}
 use Rattle.ws_code.specs.Device.{MayTake, MayGive}
 use Rattle.ws_session.specs.declared.line.Line.{Line}
 use Rattle.ws_session.specs.Carrying.{IsCarried, IsCarryFault}
-
--- What crosses a line: what its sink takes is to be read at its source.
 
 -- a piece of a stream: the bytes that went into the sink, and as many that the source gave next
 pub record Crossing : Type 0 where
@@ -24,7 +24,9 @@ module _ {S R : Type 0} (takes : MayTake S) (failures : S → ℕ) (gives : MayG
   -- the pieces crossed the line, one after another
   abbrev pub Crossed : Line S R → List Crossing → Line S R → Type 0
   Crossed from [] to = from ≡ to
-  Crossed from (c ∷ crossings) to = (next : Line S R) × IsCarried takes failures from.sink next.sink gives misses from.source next.source c.sent c.read × Crossed next crossings to
+  Crossed from (c ∷ crossings) to = (next : Line S R)
+      × IsCarried takes failures from.sink next.sink gives misses from.source next.source c.sent c.read
+      × Crossed next crossings to
 
   -- some pieces crossed the line, and the next one did not, for this fault
   pub record IsStopped (from to : Line S R) (fault : Fault) : Type 0 where

@@ -1,3 +1,5 @@
+-- A station by itself: the items that it takes and the keys that are pressed, in the order of their moments
+
 use Rattle.std.specs.Prelude.{◌≡◌, ℕ, ◌+◌, List, [], ◌∷◌, ◌++◌, Bool, true, false, if◌then◌else◌, nat_lt}
 use Rattle.ws_record.specs.declared.record.Item.{Item}
 use Rattle.ws_record.specs.declared.record.Item.TheVariants.{Record as RecordItem, Telnet as TelnetItem}
@@ -5,9 +7,8 @@ use Rattle.ws_stream.specs.declared.answer_part.AnswerPart.{AnswerPart}
 use Rattle.ws_stream.specs.declared.element.Element.{Element}
 use Rattle.ws_keys.specs.declared.key.Key.{Key}
 use Rattle.ws_session.specs.Reaction.{Reaction, Refuses, GoesOn, empty_record}
-use Rattle.ws_session.specs.StationSide.{StationSide, screen_at, station_takes, KeyReaction, RefusesKey, Silent, Answers, Signals, station_key, answer_record}
-
--- A station by itself: the items that it takes and the keys that are pressed, in the order of their moments
+use Rattle.ws_session.specs.StationSide.{StationSide, screen_at, station_takes, KeyReaction, RefusesKey, Silent}
+use Rattle.ws_session.specs.StationSide.{Answers, Signals, station_key, answer_record}
 
 pub data Moment : Type 0 where
   Arrives : Item Element → Moment

@@ -1,3 +1,5 @@
+-- How far a run has come
+
 use Rattle.std.specs.Prelude.{◌≡◌, ℕ, ◌+◌, ◌≤◌, List, [], ◌∷◌, length, drop}
 use Rattle.ws_code.specs.Device.{MayTake, WentOut}
 use Rattle.ws_nego.specs.declared.terminal.TerminalType.{TerminalType}
@@ -11,8 +13,6 @@ use Rattle.ws_session.specs.Moments.{Outcome, later, one_record}
 use Rattle.ws_session.specs.StationLeads.{StationLeads}
 use Rattle.ws_session.specs.StationRun.{IsBehind, behind, run_text, counted}
 
--- How far a run has come
-
 -- how many records the items are, before which there were so many
 abbrev pub records_from : ℕ → List (Item Element) → ℕ
 records_from n [] = n
@@ -25,14 +25,16 @@ left_from n keys (item ∷ items) = left_from (n + one_record item) (later n key
 
 module _ {S : Type 0} (takes : MayTake S) (failures : S → ℕ) where
   -- the player has done this, and what it wrote went out
-  pub record HasDone (bytes : List ℕ) (items : List (Item Element)) (old new : Player) (from to : S) (did : Outcome) : Type 0 where
+  pub record HasDone (bytes : List ℕ) (items : List (Item Element)) (old new : Player) (from to : S)
+      (did : Outcome) : Type 0 where
     pub leads : StationLeads new.station bytes items did.side
     pub refused : (before : ℕ) → old.keys_refused ≡ counted before → new.keys_refused ≡ counted (before + did.refused)
     pub records : new.records ≡ old.records
     pub wrote : WentOut takes failures from to (plain_spelling answer_rules did.written)
 
   -- the bytes have brought it here
-  pub record HasCome (terminal : TerminalType) (keys : List (ℕ × Key)) (start : S) (player : Player) (now : S) (bytes : List ℕ) (items : List (Item Element)) : Type 0 where
+  pub record HasCome (terminal : TerminalType) (keys : List (ℕ
+      × Key)) (start : S) (player : Player) (now : S) (bytes : List ℕ) (items : List (Item Element)) : Type 0 where
     pub is_behind : IsBehind terminal keys bytes items player.station
     pub refused : player.keys_refused ≡ counted (behind terminal keys items).refused
     pub records : player.records ≡ records_from 0 items

@@ -1,3 +1,5 @@
+-- The refusals among a session's events.
+
 use Rattle.std.specs.Prelude.{List, Bool, true, false, filter}
 use Rattle.ws_session.specs.declared.world.Event.{Event}
 use Rattle.ws_session.specs.declared.world.Event.TheVariants.{StationRefused, HostRefused}

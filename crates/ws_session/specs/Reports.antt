@@ -1,3 +1,5 @@
+-- Reports of a session.
+
 use Rattle.std.specs.Prelude.{◌≡◌, ℕ, List, [], take, true}
 use Rattle.ws_nego.specs.Host.{host_allows_records}
 use Rattle.ws_nego.specs.Station.{station_allows_records}
@@ -14,7 +16,8 @@ use Rattle.ws_session.specs.World.{World, down_bytes, up_bytes, to_station, to_h
 
 -- What is reported of a session: its events, both ends, and the bytes in flight to the station and to the host end.
 -- It is that of this world of whole items.
-pub record IsReport (told : List Event) (station : Holding) (host : HostHolding) (down up : List ℕ) (w : World) : Type 0 where
+pub record IsReport (told : List Event) (station : Holding) (host : HostHolding) (down up : List ℕ)
+    (w : World) : Type 0 where
   pub events : told ≡ w.events
   pub screen : station.screen ≡ screen_at w.station
   pub station_options : station.options ≡ w.station.options
@@ -24,7 +27,8 @@ pub record IsReport (told : List Event) (station : Holding) (host : HostHolding)
   pub to_station : down ≡ to_station w
   pub to_host : up ≡ to_host w
   -- each end goes on from there: it has taken the bytes that have arrived, and their items left it on its side
-  pub station_leads : StationLeads station (take w.at_station (down_bytes w)) (arrived element_rules w.down w.at_station) w.station
+  pub station_leads : StationLeads station (take w.at_station (down_bytes w))
+      (arrived element_rules w.down w.at_station) w.station
   pub host_leads : HostLeads host (take w.at_host (up_bytes w)) (arrived answer_rules w.up w.at_host) w.host
 
 -- nothing is in flight, and records are allowed at both ends

@@ -1,3 +1,5 @@
+-- A station that reads a source to its end and answers into a sink
+
 use Rattle.std.specs.Prelude.{◌≡◌, ℕ, ◌-◌, ◌^◌, ◌≤◌, min, List, [], ◌∷◌, ◌++◌, ◌⊎◌, Some, Result, Ok, Err, length}
 use Rattle.ws_code.specs.declared.fault.Fault.{Fault}
 use Rattle.ws_code.specs.declared.fault.Fault.TheVariants.{Refused, Truncated, Read, Write}
@@ -6,7 +8,7 @@ use Rattle.ws_code.specs.Device.{MayTake, MayGive, WentOut, FailedWithin, Gave, 
 use Rattle.ws_nego.specs.declared.terminal.TerminalType.{TerminalType}
 use Rattle.ws_record.specs.declared.record.Item.{Item}
 use Rattle.ws_record.specs.Encode.{plain_spelling}
-use Rattle.ws_record.specs.Grammar.{Holds, Accepts}
+use Rattle.ws_record.specs.Grammar.{Holds, IsInGrammar}
 use Rattle.ws_record.specs.Refusal.{IsRefused, IsTruncated}
 use Rattle.ws_stream.specs.AnswerParts.{answer_rules}
 use Rattle.ws_stream.specs.Elements.{element_rules}
@@ -16,8 +18,6 @@ use Rattle.ws_session.specs.declared.run.Played.{Played}
 use Rattle.ws_session.specs.Moments.{Outcome, outcome, AreTaken, moments}
 use Rattle.ws_session.specs.StationLeads.{Holding, StationLeads, IsItemRefused}
 use Rattle.ws_session.specs.StationSide.{new_station_side}
-
--- A station that reads a source to its end and answers into a sink
 
 -- the count of refused keys stops at the greatest number of 32 bits
 abbrev pub counted : ℕ → ℕ
@@ -49,7 +49,8 @@ module _ (terminal : TerminalType) (keys : List (ℕ × Key)) where
       pub items : List (Item Element)
       pub station : Holding
       pub is_behind : IsBehind before items station
-      pub why : IsRefused element_rules (before ++ byte ∷ []) place reason ⊎ IsItemRefused before items (behind items).side byte reason
+      pub why : IsRefused element_rules (before ++ byte ∷ []) place reason
+          ⊎ IsItemRefused before items (behind items).side byte reason
       pub wrote : WentOut takes failures from to (run_text items)
 
     -- A write failed, in what was to be written behind items of these bytes.
@@ -70,13 +71,14 @@ module _ (terminal : TerminalType) (keys : List (ℕ × Key)) where
     IsRunFault first bytes Write = RunUnwritten bytes
     IsRunFault first bytes fault = ⊥
 
-  module _ {R S : Type 0} (gives : MayGive R) (misses : R → ℕ) (source source' : R) (takes : MayTake S) (failures : S → ℕ) (sink sink' : S) where
+  module _ {R S : Type 0} (gives : MayGive R) (misses : R → ℕ) (source source' : R) (takes : MayTake S) (failures : S
+      → ℕ) (sink sink' : S) where
     -- the source gave its end
     pub record IsPlayed (played : Played) : Type 0 where
       pub bytes : List ℕ
       pub items : List (Item Element)
       pub gave : GaveAll gives misses source source' bytes
-      pub accepted : Accepts element_rules bytes items
+      pub accepted : IsInGrammar element_rules bytes items
       pub is_behind : IsBehind bytes items played.station
       pub refused : played.keys_refused ≡ counted (behind items).refused
       pub wrote : WentOut takes failures sink sink' (run_text items)

@@ -3,7 +3,7 @@ ghost use Rattle.ws_code.specs.Device.{FailedWithin};
 ghost use Rattle.ws_nego.specs.declared.terminal.TerminalType.{TerminalType as ATerminal};
 ghost use Rattle.ws_record.specs.declared.record.Item.{Item};
 ghost use Rattle.ws_record.specs.Encode.{plain_spelling};
-ghost use Rattle.ws_record.specs.Grammar.{Accepts};
+ghost use Rattle.ws_record.specs.Grammar.{IsInGrammar};
 ghost use Rattle.ws_record.specs.Refusal.{IsTruncated};
 ghost use Rattle.ws_stream.specs.AnswerParts.{answer_rules};
 ghost use Rattle.ws_stream.specs.Elements.{element_rules};
@@ -19,7 +19,7 @@ use crate::{Played, Refusal, Station, write_answer};
 use ws_code::{Fault, Sink, write_whole};
 use ws_keys::Key;
 
-/// A station in a run, how many records it has applied, how many keys were pressed, and how many of these it refused.
+// A station in a run, how many records it has applied, how many keys were pressed, and how many of these it refused.
 #[derive(Drop)]
 pub(crate) struct Player {
     pub(crate) station: Station,
@@ -169,7 +169,7 @@ impl Player {
         ensures played { IfOk result (λ played. (played.station ≡ self.station)
             × (played.keys_refused ≡ self.keys_refused)
             × ((bytes : List ℕ) (items : List (Item Element)) (side : StationSide)
-            → StationLeads self.station bytes items side → Accepts element_rules bytes items)) }
+            → StationLeads self.station bytes items side → IsInGrammar element_rules bytes items)) }
         ensures truncated { IfErr result (λ fault.
             (bytes : List ℕ) (items : List (Item Element)) (side : StationSide)
             → StationLeads self.station bytes items side → length bytes + 1 < 2 ^ 64

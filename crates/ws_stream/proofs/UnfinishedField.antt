@@ -31,7 +31,7 @@ field_begins place allowed = record {
   unit = Sf (record { format = None; controls = []; attribute = 0x20; length = 0 });
   next = 0x20;
   rest = 0 ∷ 0 ∷ [];
-  stands = record { is_unit = record { formatted = refl; few = omega arith; words = refl; low = omega arith; high = omega arith; short = omega arith }; may_stand = allowed };
+  stands = record { is_unit = record { formatted = refl; few = omega arith; words = refl; low = omega arith; high = omega arith; short = omega arith }; may_follow = allowed };
   spelled = refl;
 }
 
@@ -40,7 +40,7 @@ field_goes_on place f begun next rest allowed h e = record {
   unit = Sf f;
   next = next;
   rest = rest;
-  stands = record { is_unit = h; may_stand = allowed };
+  stands = record { is_unit = h; may_follow = allowed };
   spelled = ap (λ (l : List ℕ). 0x1D ∷ l) e;
 }
 

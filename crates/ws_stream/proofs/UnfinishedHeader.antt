@@ -15,7 +15,7 @@ use Rattle.ws_stream.proofs.Unfinished.{order_allowed}
 
 -- SOH
 pub soh_begins : (place : Place) → allows_orders place ≡ true → IsUnfinished element_rules place (0x01 ∷ [])
-soh_begins place allowed = record { unit = Soh []; next = 0; rest = []; stands = record { is_unit = ((omega arith, refl), tt); may_stand = allowed }; spelled = refl }
+soh_begins place allowed = record { unit = Soh []; next = 0; rest = []; stands = record { is_unit = ((omega arith, refl), tt); may_follow = allowed }; spelled = refl }
 
 zeros : (n i : ℕ) → slice_index (replicate n 0) i ≡ 0
 zeros zero i = refl
@@ -79,7 +79,7 @@ soh_goes_on place count xs allowed known =
       rest = replicate k 0;
       stands = record {
         is_unit = ((omega (arith, all, known.few), third_filled xs (suc k) known.third), AreBytes-append xs (replicate (suc k) 0) known.bytes (zeros_bytes (suc k)));
-        may_stand = allowed;
+        may_follow = allowed;
       };
       spelled = ap (λ (n : ℕ). 0x01 ∷ n ∷ xs ++ replicate (suc k) 0) all;
     }
@@ -102,7 +102,7 @@ soh_whole place count xs ys zs b u third h items n same =
     let whole = third_known place count xs b u third h in
     let all : zs ≡ xs ++ b ∷ [] = same ∙ items in
     subst (λ (l : List ℕ). IsSpelled element_rules place (0x01 ∷ count ∷ xs ++ b ∷ []) (Soh l)) (sym all) (record {
-      stands = record { is_unit = (whole.0, whole.1); may_stand = order_allowed place 0x01 (count ∷ xs) (omega arith) u };
+      stands = record { is_unit = (whole.0, whole.1); may_follow = order_allowed place 0x01 (count ∷ xs) (omega arith) u };
       spelled = ap (λ (n : ℕ). 0x01 ∷ n ∷ xs ++ b ∷ []) (sym (ap length items) ∙ n);
     })
 

@@ -1,3 +1,5 @@
+-- The Start of Field order (SC30-3533, Start of Field).
+
 use Rattle.std.specs.Prelude.{ℕ, ◌≡◌, ◌≤◌, ◌<◌, List, [], nat_le, nat_lt, ◌&&◌, Bool, true, Option, Some, None}
 use Rattle.std.specs.List.{list_all}
 use Rattle.ws_code.specs.FormatWord.{IsFfw}

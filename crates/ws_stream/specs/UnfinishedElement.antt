@@ -1,3 +1,5 @@
+-- An element that has come in part.
+
 use Rattle.std.specs.Prelude.{ℕ, List}
 use Rattle.ws_stream.specs.Machine.{unfinished_in}
 use Rattle.ws_stream.specs.declared.commands.Commands.{Commands}

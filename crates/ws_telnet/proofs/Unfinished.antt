@@ -19,7 +19,7 @@ sub_goes_on option xs h k l = record {
   unit = TelnetToken (Subnegotiate (record { option = option; data_ = xs }));
   next = 0xff;
   rest = 0xf0 ∷ [];
-  stands = record { is_unit = (h, k, l); may_stand = refl };
+  stands = record { is_unit = (h, k, l); may_follow = refl };
   spelled = refl;
 }
 
@@ -28,7 +28,7 @@ sub_ends option xs h k l = record {
   unit = TelnetToken (Subnegotiate (record { option = option; data_ = xs }));
   next = 0xf0;
   rest = [];
-  stands = record { is_unit = (h, k, l); may_stand = refl };
+  stands = record { is_unit = (h, k, l); may_follow = refl };
   spelled = ap (λ x. 0xff ∷ 0xfa ∷ option ∷ x) (sym (append_assoc (flat_map doubled xs) (0xff ∷ []) (0xf0 ∷ [])));
 }
 
@@ -104,14 +104,14 @@ content_odd xs = ends_after xs (0xff ∷ [])
 
 -- what may follow FF
 pub iac_goes_on : IsUnfinished token_rules tt (0xff ∷ [])
-iac_goes_on = record { unit = Eor; next = 0xef; rest = []; stands = record { is_unit = tt; may_stand = refl }; spelled = refl }
+iac_goes_on = record { unit = Eor; next = 0xef; rest = []; stands = record { is_unit = tt; may_follow = refl }; spelled = refl }
 
 pub sub_begins : IsUnfinished token_rules tt (0xff ∷ 0xfa ∷ [])
 sub_begins = record {
   unit = TelnetToken (Subnegotiate (record { option = 0; data_ = [] }));
   next = 0;
   rest = 0xff ∷ 0xf0 ∷ [];
-  stands = record { is_unit = (omega arith, omega arith, tt); may_stand = refl };
+  stands = record { is_unit = (omega arith, omega arith, tt); may_follow = refl };
   spelled = refl;
 }
 
@@ -120,7 +120,7 @@ negotiation_begins verb b h = record {
   unit = TelnetToken (Negotiate verb 0);
   next = 0;
   rest = [];
-  stands = record { is_unit = omega arith; may_stand = refl };
+  stands = record { is_unit = omega arith; may_follow = refl };
   spelled = ap (λ n. 0xff ∷ n ∷ 0 ∷ []) h;
 }
 
@@ -132,6 +132,6 @@ sub_option option h = sub_goes_on option [] h (omega arith) tt
 
 pub sub_whole : (option : ℕ) (xs : List ℕ) → IsSubSoFar option xs → IsSpelled token_rules tt (0xff ∷ 0xfa ∷ option ∷ flat_map doubled xs ++ 0xff ∷ [] ++ 0xf0 ∷ []) (TelnetToken (Subnegotiate (record { option = option; data_ = xs })))
 sub_whole option xs known = record {
-  stands = record { is_unit = (known.option_fits, known.length_fits, known.bytes); may_stand = refl };
+  stands = record { is_unit = (known.option_fits, known.length_fits, known.bytes); may_follow = refl };
   spelled = ap (λ (l : List ℕ). let m : List ℕ = 0xff ∷ 0xfa ∷ option ∷ l in m) (sym (append_assoc (flat_map doubled xs) (0xff ∷ []) (0xf0 ∷ [])));
 }

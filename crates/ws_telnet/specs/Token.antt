@@ -1,19 +1,21 @@
-use Rattle.std.specs.Prelude.{ℕ, ◌<◌, ◌≤◌, ◌==◌, List, [], ◌∷◌, ◌++◌, if◌then◌else◌, length, Bool, true, false, not, ◌&&◌}
+-- Tokens and their spellings (RFC 854; EOR: RFC 885)
+
+use Rattle.std.specs.Prelude.{ℕ, ◌<◌, ◌≤◌, ◌==◌, List, [], ◌∷◌, ◌++◌, if◌then◌else◌, length, Bool, true, false, not}
+use Rattle.std.specs.Prelude.{◌&&◌}
 use Rattle.std.specs.List.{flat_map}
 use Rattle.ws_code.specs.Code.{Rules, AreBytes}
 use Rattle.ws_code.specs.declared.reason.Reason.{Reason}
 use Rattle.ws_code.specs.declared.reason.Reason.TheVariants.{BadCommand, StraySe, BadSub, SubTooLong}
 use Rattle.ws_telnet.specs.declared.codes.TheConstants.{IAC, SB, SE, EOR}
 use Rattle.ws_telnet.specs.declared.token.CommandCode.{CommandCode}
-use Rattle.ws_telnet.specs.declared.token.CommandCode.TheVariants.{Nop, DataMark, Break, InterruptProcess, AbortOutput, AreYouThere, EraseCharacter, EraseLine, GoAhead}
+use Rattle.ws_telnet.specs.declared.token.CommandCode.TheVariants.{Nop, DataMark, Break, InterruptProcess, AbortOutput}
+use Rattle.ws_telnet.specs.declared.token.CommandCode.TheVariants.{AreYouThere, EraseCharacter, EraseLine, GoAhead}
 use Rattle.ws_telnet.specs.declared.token.Verb.{Verb}
 use Rattle.ws_telnet.specs.declared.token.Verb.TheVariants.{Will, Wont, Do, Dont}
 use Rattle.ws_telnet.specs.declared.token.Telnet.{Telnet}
 use Rattle.ws_telnet.specs.declared.token.Telnet.TheVariants.{Command, Option as Negotiate, Sub as Subnegotiate}
 use Rattle.ws_telnet.specs.declared.token.Token.{Token}
 use Rattle.ws_telnet.specs.declared.token.Token.TheVariants.{Data, Eor, Telnet as TelnetToken}
-
--- Tokens and their spellings (RFC 854; EOR: RFC 885)
 
 abbrev pub command_byte : CommandCode → ℕ
 command_byte Nop = 0xf1
@@ -73,7 +75,7 @@ token_rules = record {
   first = tt;
   after = λ _. tt;
   is_unit = IsToken;
-  may_stand = λ _ _. true;
+  may_follow = λ _ _. true;
   may_end = λ _. true;
   spelling = token_spelling;
   reason = λ _ begun b. token_reason begun b;

@@ -9,7 +9,7 @@ use crate::{CommandCode, EOR, IAC, SB, SE, Sub, Telnet, Token, Verb};
 use arrayvec::ArrayVec;
 use ws_code::{ByteList, Code, Push, Reason};
 
-/// What a machine waits for.
+// What a machine waits for.
 #[derive(Clone, Copy, Debug, PartialEq, Eq)]
 enum Phase {
     Begin,

@@ -3,7 +3,7 @@ use Rattle.std.proofs.lemmas.Result.{err_from_is_err_and}
 use Rattle.std.proofs.lemmas.List.{append-nil}
 use Rattle.ws_code.proofs.DeviceLaws.{went_out_none, went_out_both}
 use Rattle.ws_code.specs.declared.fault.Fault.TheVariants.{Truncated}
-use Rattle.ws_record.specs.Grammar.{Accepts}
+use Rattle.ws_record.specs.Grammar.{IsInGrammar}
 use Rattle.ws_record.specs.Refusal.{IsTruncated}
 use Rattle.ws_stream.specs.Elements.{element_rules}
 use Rattle.t5250.specs.StreamText.{items_of, lines_of, placed_by, after_items, HoldsItems}
@@ -153,7 +153,7 @@ returns-in-Ok-finish-clause-ok g c =
     let w = c.loop-rest.invariant in
     let none : c.loop-rest.rest.now ≡ [] = none_left c.loop-rest.rest.now (sym c.loop-rest-test.ensures) in
     let whole : w.before ≡ bytes = sym (append-nil w.before) ∙ ap (λ (z : List ℕ). w.before ++ z) (sym none) ∙ w.on in
-    let accepts = subst (λ (z : List ℕ). Accepts element_rules z (items_of w.placed)) whole (c.in-Ok-finish.ensures.ok.1 w.before (items_of w.placed) w.taken) in
+    let accepts = subst (λ (z : List ℕ). IsInGrammar element_rules z (items_of w.placed)) whole (c.in-Ok-finish.ensures.ok.1 w.before (items_of w.placed) w.taken) in
     (lines_of w.placed, part g.S.Sink.takes g.S.Sink.failures bytes w.placed w.shown, w.went, accepted_behind g.S.Sink.takes g.S.Sink.failures bytes w.placed c.loop-rest.screen w.shown accepts w.given)
 
 pub returns-in_err-verdict_by_fault-in-Err-finish-clause-err : goal.returns-in_err-verdict_by_fault-in-Err-finish-clause-err

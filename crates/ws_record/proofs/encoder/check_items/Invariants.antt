@@ -1,11 +1,11 @@
 use Rattle.std.proofs.Common.{take}
 use Rattle.std.specs.List.{AllByRecursion}
-use Rattle.ws_record.specs.Encode.{AreEncoded, IsInRange}
+use Rattle.ws_record.specs.Encode.{CanAllBeEncoded, IsInRange}
 use Rattle.ws_record.proofs.encoder.check_items.Given as goal
 
 -- the items before can be encoded
 abbrev pub invariant-loop-index : goal.invariant-loop-index
 invariant-loop-index g l = record {
-  encoded : AreEncoded g.B.Code.rules (take l.index l.items);
+  encoded : CanAllBeEncoded g.B.Code.rules (take l.index l.items);
   known : AllByRecursion IsInRange (take l.index l.items);
 }

@@ -1,7 +1,7 @@
 use Rattle.std.proofs.Common.{◌++◌, ℕ, List, sym, ap, ◌∙◌, subst}
 use Rattle.ws_code.specs.Device.{Held}
 use Rattle.ws_code.proofs.DeviceLaws.{held_went_out}
-use Rattle.ws_record.specs.Grammar.{Accepts}
+use Rattle.ws_record.specs.Grammar.{IsInGrammar}
 use Rattle.ws_record.specs.Encode.{plain_spelling}
 use Rattle.ws_record.proofs.Encodings.{spelling_accepted}
 use Rattle.ws_record.proofs.encoder.encode.Goals as goal
@@ -15,5 +15,5 @@ pub returns-in-Ok-clause-accepted : goal.returns-in-Ok-clause-accepted
 returns-in-Ok-clause-accepted g c =
     let rules = g.B.Code.rules in
     let items = c.args.items.now in
-    subst (λ (z : List ℕ). Accepts rules z items) (sym (returns-in-Ok-clause-spelled g c))
+    subst (λ (z : List ℕ). IsInGrammar rules z items) (sym (returns-in-Ok-clause-spelled g c))
     (spelling_accepted rules g.met.B.Code.bytes items c.in_ok-check_items.ensures.encoded c.in_ok-check_items.ensures.known)

@@ -1,7 +1,7 @@
 use Rattle.std.proofs.Common.{Bool, ◌≡◌, ℕ, List, true, false, sym, ap, ◌∙◌, subst, arith}
 use Rattle.std.specs.Prelude.{slice_index}
 use Rattle.ws_record.specs.HeaderSoFar.{head_in}
-use Rattle.ws_record.specs.OpenRecord.{Keeping, Reads}
+use Rattle.ws_record.specs.OpenRecord.{Keeping, HasRead}
 use Rattle.ws_record.specs.UnitReading.{UnitReading}
 use Rattle.ws_record.proofs.OpenRecords.{ten_there, end_inside, end_whole}
 use Rattle.ws_record.proofs.open_record.OpenRecord.end.Goals.{then-is_inside-via-then-is_inside, then-is_inside-via-else-is_inside+then-not-may_end}
@@ -9,7 +9,7 @@ use Rattle.ws_record.proofs.open_record.OpenRecord.end.Goals as goal
 
 pub returns-then-is_inside-clause-refused : goal.returns-then-is_inside-clause-refused
 returns-then-is_inside-clause-refused g c = λ so_far r.
-    let reads = subst (λ (k : Keeping g.row.B-Place.Denot). Reads g.B.Code.rules k so_far) (sym c.self.view_is) r in
+    let reads = subst (λ (k : Keeping g.row.B-Place.Denot). HasRead g.B.Code.rules k so_far) (sym c.self.view_is) r in
     let ten = ten_there g.B.Code.rules _ so_far reads (omega (arith, c.len.ensures.value, c.if-len-lt10.false)) in
     end_inside g.B.Code.rules g.met.B.Code.prefix_free g.met.B.Code.begins _ so_far reads ten (omega (arith, c.if-self-gt0.false))
     (λ e m. elim c.then-is_inside.branch [
@@ -19,7 +19,7 @@ returns-then-is_inside-clause-refused g c = λ so_far r.
 
 pub returns-clause-whole : goal.returns-clause-whole
 returns-clause-whole g c = λ so_far r.
-    let reads = subst (λ (k : Keeping g.row.B-Place.Denot). Reads g.B.Code.rules k so_far) (sym c.self.view_is) r in
+    let reads = subst (λ (k : Keeping g.row.B-Place.Denot). HasRead g.B.Code.rules k so_far) (sym c.self.view_is) r in
     let ten = ten_there g.B.Code.rules _ so_far reads (omega (arith, c.len.ensures.value, c.if-len-lt10.false)) in
     let header = c.as_slice-header.ensures.value in
     let ends : g.B.Code.rules.may_end c.self.inside.units.place ≡ true = ap g.B.Code.rules.may_end (sym c.place.ensures) ∙ sym c.may_end.ensures ∙ c.if-not-may_end.false in

@@ -1,5 +1,5 @@
 use Rattle.std.proofs.Common.{◌≡◌, ◌<◌, length, refl, sym, ap, subst, arith}
-use Rattle.ws_record.specs.OpenRecord.{Keeping, Reads}
+use Rattle.ws_record.specs.OpenRecord.{Keeping, HasRead}
 use Rattle.ws_record.specs.UnitReading.{UnitReading}
 use Rattle.ws_record.proofs.OpenRecords.{body_more, body_unit, body_bad, data_step_is}
 use Rattle.ws_record.proofs.open_record.OpenRecord.take_body.Goals.{in-More, in-Unit, in-Bad}
@@ -9,7 +9,7 @@ pub returns : goal.returns
 returns g c = λ so_far r.
     let rules = g.B.Code.rules in
     let b = c.args.byte in
-    let reads = subst (λ (k : Keeping g.row.B-Place.Denot). Reads g.B.Code.rules k so_far) (sym c.self.view_is) r in
+    let reads = subst (λ (k : Keeping g.row.B-Place.Denot). HasRead g.B.Code.rules k so_far) (sym c.self.view_is) r in
     let some : 0 < c.self.inside.left = omega (arith, ap (λ (k : Keeping g.row.B-Place.Denot). k.left) c.self.view_is, c.requires) in
     let room : c.self.inside.left ≡ 0 → ⊥ = λ e. omega (arith, some) in
     let ten : length c.self.inside.header ≡ 10 = c.self.invariant.behind some in

@@ -2,7 +2,7 @@ use Rattle.std.proofs.Common.{◌≡◌, ℕ, List, length, refl, sym, ap, ◌�
 use Rattle.ws_record.specs.declared.record.Head.{Head}
 use Rattle.ws_record.specs.Grammar.{opcode_byte}
 use Rattle.ws_record.specs.HeaderSoFar.{head_in}
-use Rattle.ws_record.specs.OpenRecord.{Keeping, Reads}
+use Rattle.ws_record.specs.OpenRecord.{Keeping, HasRead}
 use Rattle.ws_record.proofs.OpenRecords.{opcode_refused, opcode_byte_read}
 use Rattle.ws_record.proofs.Headers.{header_more}
 use Rattle.ws_record.proofs.open_record.OpenRecord.take_opcode.Goals as goal
@@ -13,7 +13,7 @@ returns-in-None g c = λ so_far r.
 
 pub returns-in-Some : goal.returns-in-Some
 returns-in-Some g c = λ so_far r.
-    let reads = subst (λ (k : Keeping g.row.B-Place.Denot). Reads g.B.Code.rules k so_far) (sym c.self.view_is) r in
+    let reads = subst (λ (k : Keeping g.row.B-Place.Denot). HasRead g.B.Code.rules k so_far) (sym c.self.view_is) r in
     let nine : length c.self.inside.header ≡ 9 = ap (λ (k : Keeping g.row.B-Place.Denot). length k.header) c.self.view_is ∙ c.requires in
     let says : c.head_of-head.result ≡ head_in c.self.inside.header c.in-Some.opcode = c.head_of-head.ensures ∙ ap (λ (x : List ℕ). head_in x c.in-Some.opcode) c.as_slice.ensures.value in
     let opcode = c.head_of-head.result.opcode in

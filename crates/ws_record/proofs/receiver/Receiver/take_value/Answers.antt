@@ -3,13 +3,13 @@ use Rattle.std.specs.Prelude.{Some}
 use Rattle.ws_telnet.specs.declared.token.Token.TheVariants.{Data}
 use Rattle.ws_record.specs.Live.{Watching}
 use Rattle.ws_record.specs.TokenStep.{Completes}
-use Rattle.ws_record.specs.Receiver.{Receiving, CompletesTaken}
+use Rattle.ws_record.specs.Receiver.{Receiving, CompletesReceived}
 use Rattle.ws_record.proofs.Receivers.{unit_completed, kept_passes, kept_stops}
 use Rattle.ws_record.proofs.receiver.Receiver.take_value.Goals as goal
 
 pub returns-in-Some-clause-pass : goal.returns-in-Some-clause-pass
 returns-in-Some-clause-pass g c = λ bytes items begun byte t.
-    let t' = subst (λ (k : Receiving g.row.B-Place.Denot g.row.B-Unit.Denot). CompletesTaken g.B.Code.rules k bytes items begun byte (Data c.args.value)) (sym c.self.view_is) t in
+    let t' = subst (λ (k : Receiving g.row.B-Place.Denot g.row.B-Unit.Denot). CompletesReceived g.B.Code.rules k bytes items begun byte (Data c.args.value)) (sym c.self.view_is) t in
     let step = c.in-Some.ensures.unit bytes items (record { bytes = t'.so_far; head = t'.head; units = c.self.inside.units.items }) begun byte t'.completes in
     kept_passes g.B.Code.rules _ _ bytes items byte c.in-Some.unit t'.head c.keep.result c.keep.ensures (t'.so_far ++ c.args.value ∷ [], step.0) (unit_completed g.B.Code.rules _ _ bytes items (record { bytes = t'.so_far; head = t'.head; units = c.self.inside.units.items }) begun byte c.args.value c.in-Some.unit t'.completes step)
 
@@ -18,19 +18,19 @@ returns-in-Some-clause-after g c = kept_stops g.B.Code.rules _ _ c.in-Some.unit 
 
 pub returns-in-More-clause-pass : goal.returns-in-More-clause-pass
 returns-in-More-clause-pass g c = λ bytes items begun byte t.
-    let t' = subst (λ (k : Receiving g.row.B-Place.Denot g.row.B-Unit.Denot). CompletesTaken g.B.Code.rules k bytes items begun byte (Data c.args.value)) (sym c.self.view_is) t in
+    let t' = subst (λ (k : Receiving g.row.B-Place.Denot g.row.B-Unit.Denot). CompletesReceived g.B.Code.rules k bytes items begun byte (Data c.args.value)) (sym c.self.view_is) t in
     let done = subst (λ (k : Watching g.row.B-Place.Denot). Completes g.B.Code.rules k bytes items (record { bytes = t'.so_far; head = t'.head; units = c.self.inside.units.items }) begun byte (Data c.args.value)) (sym c.in_default.ensures.none) t'.completes in
     record { head = t'.head; leads = (t'.so_far ++ c.args.value ∷ [], c.in-More.ensures.step bytes items (record { bytes = t'.so_far; head = t'.head; units = c.self.inside.units.items }) begun byte done) }
 
 pub returns-in-Open-clause-pass : goal.returns-in-Open-clause-pass
 returns-in-Open-clause-pass g c = λ bytes items begun byte t.
-    let t' = subst (λ (k : Receiving g.row.B-Place.Denot g.row.B-Unit.Denot). CompletesTaken g.B.Code.rules k bytes items begun byte (Data c.args.value)) (sym c.self.view_is) t in
+    let t' = subst (λ (k : Receiving g.row.B-Place.Denot g.row.B-Unit.Denot). CompletesReceived g.B.Code.rules k bytes items begun byte (Data c.args.value)) (sym c.self.view_is) t in
     let done = subst (λ (k : Watching g.row.B-Place.Denot). Completes g.B.Code.rules k bytes items (record { bytes = t'.so_far; head = t'.head; units = c.self.inside.units.items }) begun byte (Data c.args.value)) (sym c.in_default.ensures.none) t'.completes in
     record { head = Some c.in-Open._head; leads = (t'.so_far ++ c.args.value ∷ [], (c.in-Open.ensures.step bytes items (record { bytes = t'.so_far; head = t'.head; units = c.self.inside.units.items }) begun byte done).1) }
 
 pub returns-in-Unit-clause-pass : goal.returns-in-Unit-clause-pass
 returns-in-Unit-clause-pass g c = λ bytes items begun byte t.
-    let t' = subst (λ (k : Receiving g.row.B-Place.Denot g.row.B-Unit.Denot). CompletesTaken g.B.Code.rules k bytes items begun byte (Data c.args.value)) (sym c.self.view_is) t in
+    let t' = subst (λ (k : Receiving g.row.B-Place.Denot g.row.B-Unit.Denot). CompletesReceived g.B.Code.rules k bytes items begun byte (Data c.args.value)) (sym c.self.view_is) t in
     let done = subst (λ (k : Watching g.row.B-Place.Denot). Completes g.B.Code.rules k bytes items (record { bytes = t'.so_far; head = t'.head; units = c.self.inside.units.items }) begun byte (Data c.args.value)) (sym c.in_default.ensures.none) t'.completes in
     let step = c.in-Unit.ensures.step bytes items (record { bytes = t'.so_far; head = t'.head; units = c.self.inside.units.items }) begun byte done in
     kept_passes g.B.Code.rules _ _ bytes items byte c.in-Unit.unit t'.head c.keep-in-Unit.result c.keep-in-Unit.ensures (t'.so_far ++ c.args.value ∷ [], step.0) (unit_completed g.B.Code.rules _ _ bytes items (record { bytes = t'.so_far; head = t'.head; units = c.self.inside.units.items }) begun byte c.args.value c.in-Unit.unit done step)
@@ -40,6 +40,6 @@ returns-in-Unit-clause-after g c = kept_stops g.B.Code.rules _ _ c.in-Unit.unit 
 
 pub returns-in-Refused-clause-pass : goal.returns-in-Refused-clause-pass
 returns-in-Refused-clause-pass g c = λ bytes items begun byte t.
-    let t' = subst (λ (k : Receiving g.row.B-Place.Denot g.row.B-Unit.Denot). CompletesTaken g.B.Code.rules k bytes items begun byte (Data c.args.value)) (sym c.self.view_is) t in
+    let t' = subst (λ (k : Receiving g.row.B-Place.Denot g.row.B-Unit.Denot). CompletesReceived g.B.Code.rules k bytes items begun byte (Data c.args.value)) (sym c.self.view_is) t in
     let done = subst (λ (k : Watching g.row.B-Place.Denot). Completes g.B.Code.rules k bytes items (record { bytes = t'.so_far; head = t'.head; units = c.self.inside.units.items }) begun byte (Data c.args.value)) (sym c.in_default.ensures.none) t'.completes in
     c.in-Refused.ensures.step bytes items (record { bytes = t'.so_far; head = t'.head; units = c.self.inside.units.items }) begun byte done

@@ -4,7 +4,7 @@ use Rattle.std.proofs.lemmas.Result.{on_ok_weaker, IfErr-weaker}
 use Rattle.ws_code.specs.declared.fault.Fault.{Fault}
 use Rattle.ws_code.specs.declared.fault.Fault.TheVariants.{Truncated}
 use Rattle.ws_record.specs.declared.record.Item.{Item}
-use Rattle.ws_record.specs.Grammar.{Accepts}
+use Rattle.ws_record.specs.Grammar.{IsInGrammar}
 use Rattle.ws_record.specs.Refusal.{IsTruncated}
 use Rattle.ws_record.specs.Live.{Watching}
 use Rattle.ws_stream.specs.Elements.{element_rules}
@@ -17,7 +17,7 @@ use Rattle.ws_session.proofs.station.Station.finish.Goals as goal
 
 -- what the clauses say of a station before
 abbrev Ends : Holding → Holding → Type 0
-Ends old new = (new ≡ old) × ((bytes : List ℕ) (items : List (Item Element)) (side : StationSide) → StationLeads old bytes items side → Accepts element_rules bytes items)
+Ends old new = (new ≡ old) × ((bytes : List ℕ) (items : List (Item Element)) (side : StationSide) → StationLeads old bytes items side → IsInGrammar element_rules bytes items)
 
 abbrev Breaks : Holding → Fault → Type 0
 Breaks old fault = (bytes : List ℕ) (items : List (Item Element)) (side : StationSide) → StationLeads old bytes items side → length bytes + 1 < 2 ^ 64
