@@ -38,20 +38,19 @@ fn a_run_stops_where_a_device_fails(rt: HostRuntime) -> Result<(), Fail> {
             text.as_slice().get(..usize::from(calls))
         );
     }
-    // How many bytes are written by so many that are read.
-    for (read, written) in [
-        (0u64, 0usize),
-        (2, 0),
-        (3, 3),
-        (8, 3),
-        (9, 19),
-        (12, 22),
-        (15, 25),
-        (18, 28),
-        (21, 31),
-        (51, 31),
-        (52, 52),
-    ] {
+    // What is written by so many bytes that are read: replies to the tokens that end there, and the answer.
+    let mut written = 0usize;
+    for read in 0..=52u64 {
+        written = match read {
+            3 => 3,
+            9 => 19,
+            12 => 22,
+            15 => 25,
+            18 => 28,
+            21 => 31,
+            52 => 52,
+            _ => written,
+        };
         let station = Station::new(TerminalType::Ibm3179Model2);
         let mut source = FailingSource::new(stream.as_slice(), read);
         let mut sink = VecSink::new(alloc);
