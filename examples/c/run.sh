@@ -1,7 +1,7 @@
 #!/usr/bin/env bash
-# Builds the C programs here with all warnings as errors. Runs the sign-on, and the emulator and the checker on every
-# capture of examples/ and on 500 generated streams, and compares what they print with signon.out, `t5250 show` and
-# `t5250 check`; under valgrind where it is there.
+# Builds the C programs here with all warnings as errors. Runs the sign-on, the session of both ends, and the emulator and
+# the checker on every capture of examples/ and on 500 generated streams, and compares what they print with signon.out,
+# session.out, `t5250 play`, `t5250 show` and `t5250 check`; under valgrind where it is there.
 #
 #     run.sh LIBRARY PROGRAM [C FILES OR LIBRARIES]
 #
@@ -14,7 +14,7 @@ shift $(($# < 2 ? $# : 2))
 folder=$(mktemp -d) || exit 2
 trap 'rm -rf "$folder"' EXIT
 
-for name in emulator checker signon; do
+for name in emulator checker signon session; do
     ${CC:-cc} -std=c11 -O1 -Wall -Wextra -Werror -I "$here/../../crates/ws_c" -o "$folder/$name" "$here/$name.c" \
         "$library" "$@" || exit 2
 done
@@ -57,6 +57,10 @@ echo "$(wc -l <"$folder/printed") checks, $compared screens and $refused refusal
 if ! "$folder/signon" | cmp - "$here/signon.out"; then
     failed=$((failed + 1))
 fi
+"$program" play "$here/session.script" >"$folder/wanted"
+if ! "$folder/session" | cmp - "$here/session.out" || ! cmp "$folder/wanted" "$here/session.out"; then
+    failed=$((failed + 1))
+fi
 
 # All of it again in one process, where each byte that is read and each block is watched.
 if command -v valgrind >/dev/null; then
@@ -66,6 +70,7 @@ if command -v valgrind >/dev/null; then
     "${careful[@]}" "$folder/checker" "${captures[@]}" >/dev/null
     [ $? -le 1 ] || failed=$((failed + 1))
     "${careful[@]}" "$folder/signon" >/dev/null || failed=$((failed + 1))
+    "${careful[@]}" "$folder/session" >/dev/null || failed=$((failed + 1))
     echo "valgrind: done"
 else
     echo "valgrind is not here: leaks and invalid reads are not looked for"

@@ -30,6 +30,7 @@ use Rattle.ws_c.specs.declared.machine.Machine.TheVariants.{Station}
 use Rattle.ws_c.specs.declared.status.Status.{Status}
 use Rattle.ws_c.specs.declared.status.Status.TheVariants.{Done, Refused, Failed, NoMemory, NothingHeld, InUse, NoRoom}
 use Rattle.ws_c.specs.declared.status.Status.TheVariants.{BadArgument, NotReady, KeyRefused, Truncated}
+use Rattle.ws_c.specs.declared.status.Status.TheVariants.{ReadOutstanding, NoReadToCancel, TooBig, NoAnswer}
 use Rattle.ws_c.specs.declared.told.Told.{Told}
 
 -- the number of a status
@@ -45,6 +46,10 @@ number_of BadArgument = 7
 number_of NotReady = 8
 number_of KeyRefused = 9
 number_of Truncated = 10
+number_of ReadOutstanding = 11
+number_of NoReadToCancel = 12
+number_of TooBig = 13
+number_of NoAnswer = 14
 
 -- a call does this with what the handle holds; with nothing, it answers so and has no effect
 abbrev pub OnHeld : Option Machine → Option Machine → Status → (Machine → Machine → Type 0) → Type 0

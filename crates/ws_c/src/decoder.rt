@@ -158,7 +158,7 @@ fn push_held(held: &mut Machine, byte: u8, buffer: &mut [u8], told: &mut StepTol
 {
     match held {
         Machine::Decoder(decoder) => push_decoder(decoder, byte, buffer, told),
-        Machine::Station(_) => Status::NothingHeld,
+        Machine::Station(_) | Machine::Host(_) => Status::NothingHeld,
     }
 }
 
@@ -254,7 +254,7 @@ fn finish_held(held: &mut Machine, place: &mut u64) -> Status
 {
     match held {
         Machine::Decoder(decoder) => finish_decoder(decoder, place),
-        Machine::Station(_) => Status::NothingHeld,
+        Machine::Station(_) | Machine::Host(_) => Status::NothingHeld,
     }
 }
 

@@ -1,8 +1,13 @@
-//! The C interface of a display station and of the decoder of a host's stream: a static library of thin exports.
+//! The C interface of a display station, of a host's end and of the decoder of a host's stream: a static library of thin
+//! exports.
 #![tactic(auto)]
 
 mod decoder;
 mod handle;
+mod host;
+mod host_answer;
+mod host_body;
+mod host_send;
 mod key_kind;
 mod loose;
 mod machine;
@@ -16,6 +21,9 @@ mod wire;
 
 pub use decoder::StepTold;
 pub use handle::Handle;
+pub use host::{EventTold, HeldHost};
+pub use host_answer::{AnswerTold, ReadFieldTold};
+pub use host_body::BodyFault;
 pub use machine::Machine;
 pub use station_screen::{FieldState, ScreenState};
 pub use status::Status;

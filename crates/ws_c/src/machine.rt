@@ -1,3 +1,4 @@
+use crate::HeldHost;
 use ws_record::Live;
 use ws_session::Station;
 use ws_stream::Commands;
@@ -9,4 +10,6 @@ pub enum Machine {
     Station(Station),
     /// A decoder of a host's stream.
     Decoder(Live<Commands>),
+    /// A host's end of a session.
+    Host(HeldHost),
 }

@@ -63,7 +63,7 @@ pub(crate) fn put_front(buffer: &mut [u8], bytes: &[u8]) -> usize
 }
 
 // The status of a refusal, and what is told of it.
-fn tell_refusal(refusal: Refusal, told: &mut Told) -> Status
+pub(crate) fn tell_refusal(refusal: Refusal, told: &mut Told) -> Status
     ensures { IsRefusalTold refusal result told.new }
 {
     match refusal {
@@ -117,7 +117,7 @@ fn push_held(held: &mut Machine, byte: u8, buffer: &mut [u8], told: &mut Told) -
 {
     match held {
         Machine::Station(station) => push_station(station, byte, buffer, told),
-        Machine::Decoder(_) => Status::NothingHeld,
+        Machine::Decoder(_) | Machine::Host(_) => Status::NothingHeld,
     }
 }
 

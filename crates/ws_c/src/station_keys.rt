@@ -66,7 +66,7 @@ fn press_held(held: &mut Machine, key: Key, buffer: &mut [u8], told: &mut Told) 
 {
     match held {
         Machine::Station(station) => press_station(station, key, buffer, told),
-        Machine::Decoder(_) => Status::NothingHeld,
+        Machine::Decoder(_) | Machine::Host(_) => Status::NothingHeld,
     }
 }
 

@@ -52,7 +52,7 @@ fn screen_in(held: &Machine) -> Option<Screen>
             copy.assign(station.screen());
             Some(copy)
         }
-        Machine::Decoder(_) => None,
+        Machine::Decoder(_) | Machine::Host(_) => None,
     }
 }
 

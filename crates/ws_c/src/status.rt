@@ -26,6 +26,14 @@ pub enum Status {
     KeyRefused,
     /// The stream ends inside a token or a record.
     Truncated,
+    /// A read is asked or a cancel is unanswered, and the body isn't empty.
+    ReadOutstanding,
+    /// No read is asked, or a cancel is unanswered.
+    NoReadToCancel,
+    /// The record would be of more than 65,535 bytes.
+    TooBig,
+    /// No answer has come yet.
+    NoAnswer,
 }
 
 impl Status {
@@ -45,6 +53,10 @@ impl Status {
             Status::NotReady => 8,
             Status::KeyRefused => 9,
             Status::Truncated => 10,
+            Status::ReadOutstanding => 11,
+            Status::NoReadToCancel => 12,
+            Status::TooBig => 13,
+            Status::NoAnswer => 14,
         }
     }
 }

@@ -1,0 +1,46 @@
+-- The answer that a host's end has taken, as C sees it (SC30-3533, responses to read commands)
+
+use Rattle.std.specs.Prelude.{◌≡◌, ℕ, ◌+◌, ◌/◌, ◌%◌, ◌<◌, ◌≤◌, List, length, slice_get, Option, Some, None}
+use Rattle.ws_keys.specs.declared.host_answer.HostAnswer.{HostAnswer}
+use Rattle.ws_keys.specs.declared.host_answer.ReadField.{ReadField}
+use Rattle.ws_c.specs.declared.host_answer.AnswerTold.{AnswerTold}
+use Rattle.ws_c.specs.declared.host_answer.ReadFieldTold.{ReadFieldTold}
+use Rattle.ws_c.specs.declared.status.Status.{Status}
+use Rattle.ws_c.specs.declared.status.Status.TheVariants.{Done, NoRoom, BadArgument, NoAnswer}
+use Rattle.ws_c.specs.Calls.{holds_front}
+
+-- what of an answer is no field
+abbrev pub answer_told : HostAnswer → AnswerTold
+answer_told a = record {
+  field_count = length a.fields;
+  cursor_row = a.cursor / 80 + 1;
+  cursor_column = a.cursor % 80 + 1;
+  aid = a.aid;
+}
+
+-- what is told of the last answer
+abbrev pub IsAnswerTold : Option HostAnswer → Status → AnswerTold → AnswerTold → Type 0
+IsAnswerTold None status old told = (status ≡ NoAnswer) × (told ≡ old)
+IsAnswerTold (Some answer) status old told = (status ≡ Done) × (told ≡ answer_told answer)
+
+-- a field without its content
+abbrev pub read_field_told : ReadField → ReadFieldTold
+read_field_told f = record { length = length f.content; row = f.address / 80 + 1; column = f.address % 80 + 1 }
+
+-- what is told of a field; a buffer with room for its content gets it
+pub record IsContentTold (field : ReadField) (status : Status) (told : ReadFieldTold)
+    (buffer after : List ℕ) : Type 0 where
+  pub state : told ≡ read_field_told field
+  pub room : length buffer < length field.content → (status ≡ NoRoom) × (after ≡ buffer)
+  pub put : length field.content ≤ length buffer → (status ≡ Done) × (after ≡ holds_front field.content buffer)
+
+-- what is told of a field, where there is one
+abbrev pub IsReadFieldTold : Option ReadField → Status → ReadFieldTold → ReadFieldTold → List ℕ → List ℕ → Type 0
+IsReadFieldTold None status old told buffer after = (status ≡ BadArgument) × (told ≡ old) × (after ≡ buffer)
+IsReadFieldTold (Some field) status old told buffer after = IsContentTold field status told buffer after
+
+-- what is told of a field of the last answer, by its index
+abbrev pub IsFieldRead : Option HostAnswer → ℕ → Status → ReadFieldTold → ReadFieldTold → List ℕ → List ℕ → Type 0
+IsFieldRead None index status old told buffer after = (status ≡ NoAnswer) × (told ≡ old) × (after ≡ buffer)
+IsFieldRead (Some answer) index status old told buffer after =
+    IsReadFieldTold (slice_get answer.fields index) status old told buffer after

@@ -1,0 +1,16 @@
+-- Bodies as C gives them: the bytes that spell their elements (SC30-3533, commands and orders)
+
+use Rattle.std.specs.Prelude.{◌≡◌, ℕ, List}
+use Rattle.ws_code.specs.Code.{Rules, IsWhole, spelling_of}
+use Rattle.ws_c.specs.declared.host_body.BodyFault.{BodyFault}
+use Rattle.ws_c.specs.declared.host_body.BodyFault.TheVariants.{Bad, Memory}
+
+-- a body of these bytes: they are its spelling
+pub record IsBody {Place U : Type 0} (rules : Rules Place U) (bytes : List ℕ) (body : List U) : Type 0 where
+  pub whole : IsWhole rules body
+  pub spelled : spelling_of rules body ≡ bytes
+
+-- nothing is what should be read, want of memory aside
+abbrev pub IsBodyFault : {X : Type 0} → (X → Type 0) → BodyFault → Type 0
+IsBodyFault {X} IsRead Bad = (x : X) → IsRead x → ⊥
+IsBodyFault IsRead Memory = Unit {0}

@@ -1,0 +1,133 @@
+-- What a host's end sends, as C sees it (RFC 1205, sections 3 and 4; SC30-3533, commands and orders)
+
+use Rattle.std.specs.Prelude.{◌≡◌, ◌≢◌, ℕ, ◌<◌, ◌≤◌, true, List, length, Option, Some, None, Result, Ok, Err, OnErr}
+use Rattle.std.specs.Prelude.{IfSome, IfNone, MatchResult}
+use Rattle.ws_code.specs.Code.{Rules}
+use Rattle.ws_code.specs.Reason.{number_of as reason_number}
+use Rattle.ws_record.specs.Grammar.{opcode_byte}
+use Rattle.ws_record.specs.declared.opcode.Opcode.{Opcode}
+use Rattle.ws_record.specs.declared.opcode.Opcode.TheVariants.{CancelInvite}
+use Rattle.ws_record.specs.declared.record.Item.{Item}
+use Rattle.ws_stream.specs.declared.answer_part.AnswerPart.{AnswerPart}
+use Rattle.ws_stream.specs.declared.element.Element.{Element}
+use Rattle.ws_session.specs.HostLeads.{HostHolding, HostLeads, IsSent, IsSendFault}
+use Rattle.ws_session.specs.HostSide.{HostSide, RefusesSend, host_send, host_cancel}
+use Rattle.ws_session.specs.declared.send_fault.SendFault.{SendFault}
+use Rattle.ws_session.specs.declared.send_fault.SendFault.TheVariants.{Failed as SendFailed, NotAllowed}
+use Rattle.ws_session.specs.declared.send_fault.SendFault.TheVariants.{ReadOutstanding as IsOutstanding, TooBig as IsTooBig}
+use Rattle.ws_session.specs.declared.send_fault.SendFault.TheVariants.{NoReadToCancel as NoneToCancel, BadSequence}
+use Rattle.ws_session.specs.declared.send_fault.SendFault.TheVariants.{Screen as RefusedByScreen, Memory as SendMemory}
+use Rattle.ws_c.specs.declared.host.HeldHost.{HeldHost}
+use Rattle.ws_c.specs.declared.host_body.BodyFault.{BodyFault}
+use Rattle.ws_c.specs.declared.host_body.BodyFault.TheVariants.{Bad, Memory as BodyMemory}
+use Rattle.ws_c.specs.declared.machine.Machine.{Machine}
+use Rattle.ws_c.specs.declared.machine.Machine.TheVariants.{Host}
+use Rattle.ws_c.specs.declared.status.Status.{Status}
+use Rattle.ws_c.specs.declared.status.Status.TheVariants.{Done, Refused, Failed, NoMemory, NothingHeld, NoRoom}
+use Rattle.ws_c.specs.declared.status.Status.TheVariants.{BadArgument, NotReady, ReadOutstanding, NoReadToCancel, TooBig}
+use Rattle.ws_c.specs.declared.told.Told.{Told}
+use Rattle.ws_c.specs.Bodies.{IsBody, IsBodyFault}
+use Rattle.ws_c.specs.Calls.{OnHeld, holds_front, told_length}
+
+-- the opcode of a byte, other than Cancel Invite, where there is one
+pub record IsOpcodeFrom (byte : ℕ) (opcode : Option Opcode) : Type 0 where
+  pub some : IfSome opcode (λ o. (opcode_byte o ≡ byte) × (o ≢ CancelInvite))
+  pub none : IfNone opcode ((o : Opcode) → opcode_byte o ≡ byte → o ≢ CancelInvite → ⊥)
+
+-- the body that bytes spell, or why none is read
+abbrev pub IsReadFrom : {Place U : Type 0} → Rules Place U → List ℕ → Result (List U) BodyFault → Type 0
+IsReadFrom rules bytes (Ok body) = IsBody rules bytes body
+IsReadFrom rules bytes (Err fault) = IsBodyFault (IsBody rules bytes) fault
+
+-- a host's end at a send
+pub record HostSent (old new : HostHolding) (opcode : Opcode) (body : List Element)
+    (result : Result (List ℕ) SendFault) : Type 0 where
+  pub sent : (bytes : List ℕ) (items : List (Item AnswerPart)) (side : HostSide) → HostLeads old bytes items side
+      → MatchResult result (λ spelled. IsSent new bytes items (host_send side opcode body) spelled)
+      (IsSendFault (host_send side opcode body))
+  pub same : OnErr result (new ≡ old)
+  pub failed : old.failed ≡ true → result ≡ Err SendFailed
+
+-- a host's end at a cancel
+pub record HostCancelled (old new : HostHolding) (result : Result (List ℕ) SendFault) : Type 0 where
+  pub sent : (bytes : List ℕ) (items : List (Item AnswerPart)) (side : HostSide) → HostLeads old bytes items side
+      → MatchResult result (λ spelled. IsSent new bytes items (host_cancel side) spelled)
+      (λ fault. host_cancel side ≡ RefusesSend fault)
+  pub same : OnErr result (new ≡ old)
+  pub failed : old.failed ≡ true → result ≡ Err SendFailed
+
+-- the status of a fault
+abbrev pub send_status : SendFault → Status
+send_status SendFailed = Failed
+send_status NotAllowed = NotReady
+send_status IsOutstanding = ReadOutstanding
+send_status NoneToCancel = NoReadToCancel
+send_status BadSequence = BadArgument
+send_status (RefusedByScreen reason) = Refused
+send_status IsTooBig = TooBig
+send_status SendMemory = NoMemory
+
+-- the number of the screen's reason, 0 where there is none
+abbrev pub send_reason : SendFault → ℕ
+send_reason (RefusedByScreen reason) = reason_number reason
+send_reason fault = 0
+
+-- what a fault crosses as
+abbrev pub IsSendFaultTold : SendFault → Status → Told → Type 0
+IsSendFaultTold fault status told = (status ≡ send_status fault)
+    × (told ≡ record { length = 0; place = 0; reason = send_reason fault })
+
+-- what a send crosses as, and the bytes that were sent last before and after it
+abbrev pub IsSentTold : Result (List ℕ) SendFault → Status → Told → List ℕ → List ℕ → Type 0
+IsSentTold (Ok spelled) status told last sent = (status ≡ Done) × (told ≡ told_length (length spelled))
+    × (sent ≡ spelled)
+IsSentTold (Err fault) status told last sent = IsSendFaultTold fault status told × (sent ≡ last)
+
+-- a send of what the handle holds
+abbrev pub IsSend : Opcode → List Element → Status → Told → Machine → Machine → Type 0
+IsSend opcode body status told (Host old) now = (new : HeldHost) × (result : Result (List ℕ) SendFault)
+    × (now ≡ Host new) × HostSent old.end new.end opcode body result
+    × IsSentTold result status told old.sent new.sent × (new.answer ≡ old.answer)
+IsSend opcode body status told old now = (status ≡ NothingHeld) × (now ≡ old)
+
+-- a send of the body that was read, where one was
+abbrev pub IsSendFrom : Opcode → Result (List Element) BodyFault → Option Machine → Option Machine → Told → Status → Type 0
+IsSendFrom opcode (Ok body) held now told status = OnHeld held now status (IsSend opcode body status told)
+IsSendFrom opcode (Err Bad) held now told status = (status ≡ BadArgument) × (now ≡ held)
+IsSendFrom opcode (Err BodyMemory) held now told status = (status ≡ NoMemory) × (now ≡ held)
+
+-- a send by an opcode, where there is one
+abbrev pub IsSendGiven : Option Opcode → Result (List Element) BodyFault → Option Machine → Option Machine → Told
+    → Status → Type 0
+IsSendGiven None body held now told status = (status ≡ BadArgument) × (now ≡ held)
+IsSendGiven (Some opcode) body held now told status = IsSendFrom opcode body held now told status
+
+-- what a cancel crosses as
+abbrev pub IsCancelTold : Result (List ℕ) SendFault → Status → Told → List ℕ → List ℕ → Type 0
+IsCancelTold (Ok spelled) status told buffer after = (status ≡ Done) × (told ≡ told_length (length spelled))
+    × (after ≡ holds_front spelled buffer)
+IsCancelTold (Err fault) status told buffer after = IsSendFaultTold fault status told × (after ≡ buffer)
+
+-- a cancel of what the handle holds
+abbrev pub IsCancel : List ℕ → List ℕ → Status → Told → Machine → Machine → Type 0
+IsCancel buffer after status told (Host old) now = (new : HeldHost) × (result : Result (List ℕ) SendFault)
+    × (now ≡ Host new) × HostCancelled old.end new.end result × IsCancelTold result status told buffer after
+    × (new.sent ≡ old.sent) × (new.answer ≡ old.answer)
+IsCancel buffer after status told old now = (status ≡ NothingHeld) × (now ≡ old) × (after ≡ buffer)
+
+-- the host's end that a handle holds
+abbrev pub host_held : Option Machine → Option HeldHost
+host_held None = None
+host_held (Some (Host host)) = Some host
+host_held (Some held) = None
+
+-- a look at a host's end, where there is one
+abbrev pub OnHost : Option HeldHost → Status → (HeldHost → Type 0) → Type 0
+OnHost None status seen = status ≡ NothingHeld
+OnHost (Some host) status seen = seen host
+
+-- bytes are put into a buffer that has room for them
+pub record IsFetched (bytes : List ℕ) (status : Status) (old told : Told) (buffer after : List ℕ) : Type 0 where
+  pub room : length buffer < length bytes → (status ≡ NoRoom) × (told ≡ old) × (after ≡ buffer)
+  pub fetched : length bytes ≤ length buffer → (status ≡ Done) × (told ≡ told_length (length bytes))
+      × (after ≡ holds_front bytes buffer)

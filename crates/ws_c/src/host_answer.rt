@@ -1,0 +1,187 @@
+//! The answer that a host's end has taken.
+ghost use Rattle.std.specs.Prelude.{◌≡◌, Some};
+ghost use Rattle.ws_c.specs.declared.status.Status.{Status as AStatus};
+ghost use Rattle.ws_c.specs.Calls.{number_of};
+ghost use Rattle.ws_c.specs.Sends.{OnHost, host_held};
+ghost use Rattle.ws_c.specs.Answers.{IsAnswerTold, IsContentTold, IsFieldRead};
+
+use crate::station::put_front;
+use crate::{Handle, HeldHost, Machine, Status};
+use std::alloc::Global;
+use ws_session::{HostAnswer, ReadField};
+
+/// What of an answer is no field.
+#[repr(C)]
+#[derive(Clone, Copy)]
+pub struct AnswerTold {
+    /// How many fields it has.
+    pub field_count: usize,
+    /// 1 to 24.
+    pub cursor_row: u8,
+    /// 1 to 80.
+    pub cursor_column: u8,
+    /// The key's attention identification.
+    pub aid: u8,
+}
+
+/// A field of an answer, without its content.
+#[repr(C)]
+#[derive(Clone, Copy)]
+pub struct ReadFieldTold {
+    /// How many bytes its content has.
+    pub length: usize,
+    /// Of its first cell, 1 to 24.
+    pub row: u8,
+    /// Of its first cell, 1 to 80.
+    pub column: u8,
+}
+
+// Tells an answer.
+fn tell_answer(answer: &Option<HostAnswer>, told: &mut AnswerTold) -> Status
+    ensures { IsAnswerTold answer.now result told.old told.new }
+{
+    match answer {
+        None => Status::NoAnswer,
+        Some(came) => {
+            *told = AnswerTold {
+                field_count: came.fields.as_slice().len(),
+                cursor_row: came.cursor.row(),
+                cursor_column: came.cursor.col(),
+                aid: came.aid.byte(),
+            };
+            Status::Done
+        }
+    }
+}
+
+// Tells the answer of what is held.
+fn answer_in(held: &Machine, told: &mut AnswerTold) -> Status
+    ensures { OnHost (host_held (Some held.now)) result
+        (λ host. IsAnswerTold host.answer result told.old told.new) }
+{
+    match held {
+        Machine::Host(host) => tell_answer(&host.answer, told),
+        Machine::Station(_) | Machine::Decoder(_) => Status::NothingHeld,
+    }
+}
+
+// Tells the answer of what a handle holds.
+fn answer_of(alloc: Global, handle: &mut Handle, told: &mut AnswerTold) -> Status
+    ensures told { OnHost (host_held handle.old.owned.value) result
+        (λ host. IsAnswerTold host.answer result told.old told.new) }
+    ensures same { handle.new.owned.value ≡ handle.old.owned.value }
+{
+    match handle.take(alloc) {
+        Some(held) => {
+            let status = answer_in(&*held, told);
+            handle.put(held);
+            status
+        }
+        None => Status::NothingHeld,
+    }
+}
+
+/// Tells the answer that came last: the cursor, the key and the number of fields (SC30-3533, responses to read
+/// commands).
+///
+/// `NoAnswer` where none has come yet, `NothingHeld` where the handle holds no host; `told` is then as it was.
+#[unsafe(no_mangle)]
+pub extern "C" fn ws_c_host_answer(alloc: Global, handle: &mut Handle, told: &mut AnswerTold) -> u32
+    ensures told { (status : AStatus) × (result ≡ number_of status)
+        × OnHost (host_held handle.old.owned.value) status
+        (λ host. IsAnswerTold host.answer status told.old told.new) }
+    ensures same { handle.new.owned.value ≡ handle.old.owned.value }
+{
+    answer_of(alloc, handle, told).number()
+}
+
+// Tells a field, and puts its content into a buffer that has room for it.
+fn tell_field(field: &ReadField, buffer: &mut [u8], told: &mut ReadFieldTold) -> Status
+    ensures { IsContentTold field.now result told.new buffer.old buffer.new }
+{
+    let content = field.content.as_slice();
+    *told = ReadFieldTold {
+        length: content.len(),
+        row: field.address.row(),
+        column: field.address.col(),
+    };
+    if buffer.len() < content.len() {
+        return Status::NoRoom;
+    }
+    put_front(buffer, content);
+    Status::Done
+}
+
+// Tells the field of an index.
+fn field_at(
+    answer: &Option<HostAnswer>,
+    index: usize,
+    buffer: &mut [u8],
+    told: &mut ReadFieldTold,
+) -> Status
+    ensures { IsFieldRead answer.now index result told.old told.new buffer.old buffer.new }
+{
+    let Some(came) = answer else {
+        return Status::NoAnswer;
+    };
+    let fields = came.fields.as_slice();
+    if index >= fields.len() {
+        return Status::BadArgument;
+    }
+    tell_field(&fields[index], buffer, told)
+}
+
+// Tells a field of the answer of what is held.
+fn field_in(held: &Machine, index: usize, buffer: &mut [u8], told: &mut ReadFieldTold) -> Status
+    ensures { OnHost (host_held (Some held.now)) result
+        (λ host. IsFieldRead host.answer index result told.old told.new buffer.old buffer.new) }
+{
+    match held {
+        Machine::Host(host) => field_at(&host.answer, index, buffer, told),
+        Machine::Station(_) | Machine::Decoder(_) => Status::NothingHeld,
+    }
+}
+
+// Tells a field of the answer of what a handle holds.
+fn field_of(
+    alloc: Global,
+    handle: &mut Handle,
+    index: usize,
+    buffer: &mut [u8],
+    told: &mut ReadFieldTold,
+) -> Status
+    ensures told { OnHost (host_held handle.old.owned.value) result
+        (λ host. IsFieldRead host.answer index result told.old told.new buffer.old buffer.new) }
+    ensures same { handle.new.owned.value ≡ handle.old.owned.value }
+{
+    match handle.take(alloc) {
+        Some(held) => {
+            let status = field_in(&*held, index, buffer, told);
+            handle.put(held);
+            status
+        }
+        None => Status::NothingHeld,
+    }
+}
+
+/// Tells a field of the answer that came last, by its index in the order of the fields' starts, from 0, and puts its
+/// content into `buffer`.
+///
+/// `NoRoom` where the buffer has fewer bytes than the content: `told` says how many it has. `BadArgument` where there is
+/// no such field, `NoAnswer` where no answer has come yet, `NothingHeld` where the handle holds no host; then `told` is
+/// as it was.
+#[unsafe(no_mangle)]
+pub extern "C" fn ws_c_host_answer_field(
+    alloc: Global,
+    handle: &mut Handle,
+    index: usize,
+    buffer: &mut [u8],
+    told: &mut ReadFieldTold,
+) -> u32
+    ensures told { (status : AStatus) × (result ≡ number_of status)
+        × OnHost (host_held handle.old.owned.value) status
+        (λ host. IsFieldRead host.answer index status told.old told.new buffer.old buffer.new) }
+    ensures same { handle.new.owned.value ≡ handle.old.owned.value }
+{
+    field_of(alloc, handle, index, buffer, told).number()
+}

@@ -1,0 +1,335 @@
+//! What a host's end sends.
+ghost use Rattle.std.specs.Prelude.{◌≡◌, ◌≢◌, ◌≤◌, ◌<◌, List as Seq, ℕ, Option, Result, length, IfSome, IfNone};
+ghost use Rattle.ws_record.specs.Grammar.{opcode_byte};
+ghost use Rattle.ws_record.specs.declared.opcode.Opcode.{Opcode as AnOpcode};
+ghost use Rattle.ws_stream.specs.Elements.{element_rules};
+ghost use Rattle.ws_stream.specs.declared.element.Element.{Element as AnElement};
+ghost use Rattle.ws_session.specs.declared.send_fault.SendFault.{SendFault as AFault};
+ghost use Rattle.ws_c.specs.declared.host_body.BodyFault.{BodyFault as ABodyFault};
+ghost use Rattle.ws_c.specs.declared.status.Status.{Status as AStatus};
+ghost use Rattle.ws_c.specs.Calls.{OnHeld, number_of};
+ghost use Rattle.ws_c.specs.Sends.{HostCancelled, HostSent, IsCancel, IsCancelTold, IsFetched, IsOpcodeFrom, IsReadFrom, IsSend, IsSendFaultTold, IsSendFrom, IsSendGiven, IsSentTold, OnHost, host_held};
+
+use crate::host_body::{BodyFault, read_body};
+use crate::station::put_front;
+use crate::{Handle, HeldHost, Machine, Status, Told};
+use std::alloc::Global;
+use ws_code::{ByteList, List};
+use ws_record::Opcode;
+use ws_session::{HostEnd, SendFault};
+use ws_stream::{Commands, Element};
+
+// The opcode of a byte; that of Cancel Invite, which a cancel sends, is none.
+fn opcode_from(byte: u8) -> Option<Opcode>
+    ensures { IsOpcodeFrom byte result }
+{
+    match Opcode::from_byte(byte) {
+        None | Some(Opcode::CancelInvite) => None,
+        Some(opcode) => Some(opcode),
+    }
+}
+
+// The status of a fault, and what is told of it.
+fn tell_fault(fault: SendFault, told: &mut Told) -> Status
+    ensures { IsSendFaultTold fault result told.new }
+{
+    *told = Told::length(0);
+    match fault {
+        SendFault::Failed => Status::Failed,
+        SendFault::NotAllowed => Status::NotReady,
+        SendFault::ReadOutstanding => Status::ReadOutstanding,
+        SendFault::NoReadToCancel => Status::NoReadToCancel,
+        SendFault::BadSequence => Status::BadArgument,
+        SendFault::Screen(reason) => {
+            told.reason = reason.number();
+            Status::Refused
+        }
+        SendFault::TooBig => Status::TooBig,
+        SendFault::Memory => Status::NoMemory,
+    }
+}
+
+// Sends a record.
+fn send_record(end: &mut HostEnd, opcode: Opcode, body: &[Element]) -> Result<List<u8>, SendFault>
+    requires other { opcode ≢ Opcode.CancelInvite }
+    ensures { HostSent end.old end.new opcode body.now result }
+{
+    match end.send(opcode, body) {
+        Ok(bytes) => Ok(List::of(bytes)),
+        Err(fault) => Err(fault),
+    }
+}
+
+// What a send crosses as; the bytes are kept.
+fn tell_sent(sent: Result<List<u8>, SendFault>, kept: &mut List<u8>, told: &mut Told) -> Status
+    ensures { IsSentTold sent result told.new kept.old kept.new }
+{
+    match sent {
+        Ok(bytes) => {
+            *told = Told::length(bytes.as_slice().len());
+            *kept = bytes;
+            Status::Done
+        }
+        Err(fault) => tell_fault(fault, told),
+    }
+}
+
+// Sends a record of a host's end.
+fn send_host(host: &mut HeldHost, opcode: Opcode, body: &[Element], told: &mut Told) -> Status
+    requires other { opcode ≢ Opcode.CancelInvite }
+    ensures sent { (sent : Result (Seq ℕ) AFault) × HostSent host.old.end host.new.end opcode body.now sent
+        × IsSentTold sent result told.new host.old.sent host.new.sent }
+    ensures answer { host.new.answer ≡ host.old.answer }
+{
+    let sent = send_record(&mut host.end, opcode, body);
+    tell_sent(sent, &mut host.sent, told)
+}
+
+// Sends a record of what a handle holds.
+fn send_held(held: &mut Machine, opcode: Opcode, body: &[Element], told: &mut Told) -> Status
+    requires other { opcode ≢ Opcode.CancelInvite }
+    ensures { IsSend opcode body.now result told.new held.old held.new }
+{
+    match held {
+        Machine::Host(host) => send_host(host, opcode, body, told),
+        Machine::Station(_) | Machine::Decoder(_) => Status::NothingHeld,
+    }
+}
+
+// Sends a record of the host's end that a handle holds.
+fn send(
+    alloc: Global,
+    handle: &mut Handle,
+    opcode: Opcode,
+    body: &[Element],
+    told: &mut Told,
+) -> Status
+    requires other { opcode ≢ Opcode.CancelInvite }
+    ensures { OnHeld handle.old.owned.value handle.new.owned.value result
+        (IsSend opcode body.now result told.new) }
+{
+    match handle.take(alloc) {
+        Some(mut held) => {
+            let status = send_held(&mut *held, opcode, body, told);
+            handle.put(held);
+            status
+        }
+        None => Status::NothingHeld,
+    }
+}
+
+// The elements that the bytes spell.
+fn read_elements(alloc: Global, bytes: &[u8]) -> Result<List<Element>, BodyFault>
+    ensures { IsReadFrom element_rules bytes.now result }
+{
+    match read_body::<Commands>(alloc, bytes) {
+        Ok(body) => Ok(List::of(body)),
+        Err(fault) => Err(fault),
+    }
+}
+
+// Sends a record with a body that was read.
+fn send_read(
+    alloc: Global,
+    handle: &mut Handle,
+    opcode: Opcode,
+    body: Result<List<Element>, BodyFault>,
+    told: &mut Told,
+) -> Status
+    requires other { opcode ≢ Opcode.CancelInvite }
+    ensures { IsSendFrom opcode body handle.old.owned.value handle.new.owned.value told.new result }
+{
+    match body {
+        Ok(body) => send(alloc, handle, opcode, body.as_slice(), told),
+        Err(BodyFault::Bad) => Status::BadArgument,
+        Err(BodyFault::Memory) => Status::NoMemory,
+    }
+}
+
+// Sends a record of an opcode, where there is one, and a body in bytes.
+fn send_given(
+    alloc: Global,
+    handle: &mut Handle,
+    opcode: Option<Opcode>,
+    bytes: &[u8],
+    told: &mut Told,
+) -> Status
+    requires other { IfSome opcode (λ given. given ≢ Opcode.CancelInvite) }
+    ensures { (body : Result (Seq AnElement) ABodyFault) × IsReadFrom element_rules bytes.now body
+        × IsSendGiven opcode body handle.old.owned.value handle.new.owned.value told.new result }
+{
+    let body = read_elements(alloc, bytes);
+    match opcode {
+        Some(opcode) => send_read(alloc, handle, opcode, body, told),
+        None => Status::BadArgument,
+    }
+}
+
+/// Sends a record with flags 0, an opcode and a body, which is given by the bytes that spell its elements (SC30-3533).
+/// `told` says of how many bytes the record is; `ws_c_host_sent` gives them.
+///
+/// `BadArgument` where no opcode but that of Cancel Invite has the byte, or the bytes spell no body; `NotReady` while
+/// records aren't allowed; `ReadOutstanding` where a read is asked or a cancel is unanswered, and the body isn't empty;
+/// `Refused` where the screen refuses an element, by the reason; `TooBig` at more than 65,535 bytes; `NoMemory`;
+/// `Failed` after a refused byte; `NothingHeld` where the handle holds no host. Nothing is then changed.
+#[unsafe(no_mangle)]
+pub extern "C" fn ws_c_host_send(
+    alloc: Global,
+    handle: &mut Handle,
+    opcode: u8,
+    body: &[u8],
+    told: &mut Told,
+) -> u32
+    ensures sent { (given : Option AnOpcode) × IsOpcodeFrom opcode given
+        × (read : Result (Seq AnElement) ABodyFault) × IsReadFrom element_rules body.now read
+        × (status : AStatus) × (result ≡ number_of status)
+        × IsSendGiven given read handle.old.owned.value handle.new.owned.value told.new status }
+{
+    let given = opcode_from(opcode);
+    send_given(alloc, handle, given, body, told).number()
+}
+
+// Puts the bytes that were sent last into a buffer.
+fn fetch_host(host: &HeldHost, buffer: &mut [u8], told: &mut Told) -> Status
+    ensures { IsFetched host.now.sent result told.old told.new buffer.old buffer.new }
+{
+    let bytes = host.sent.as_slice();
+    if buffer.len() < bytes.len() {
+        return Status::NoRoom;
+    }
+    *told = Told::length(put_front(buffer, bytes));
+    Status::Done
+}
+
+// Puts the bytes that were sent last into a buffer, from what is held.
+fn fetch_held(held: &Machine, buffer: &mut [u8], told: &mut Told) -> Status
+    ensures { OnHost (host_held (Some held.now)) result
+        (λ host. IsFetched host.sent result told.old told.new buffer.old buffer.new) }
+{
+    match held {
+        Machine::Host(host) => fetch_host(host, buffer, told),
+        Machine::Station(_) | Machine::Decoder(_) => Status::NothingHeld,
+    }
+}
+
+// Puts the bytes that were sent last into a buffer, from what a handle holds.
+fn fetch(alloc: Global, handle: &mut Handle, buffer: &mut [u8], told: &mut Told) -> Status
+    ensures fetched { OnHost (host_held handle.old.owned.value) result
+        (λ host. IsFetched host.sent result told.old told.new buffer.old buffer.new) }
+    ensures same { handle.new.owned.value ≡ handle.old.owned.value }
+{
+    match handle.take(alloc) {
+        Some(held) => {
+            let status = fetch_held(&*held, buffer, told);
+            handle.put(held);
+            status
+        }
+        None => Status::NothingHeld,
+    }
+}
+
+/// Puts the bytes of the record that was sent last into a buffer: none before the first. `told` says how many.
+///
+/// `NoRoom` where the buffer has fewer bytes, and then nothing is changed; `NothingHeld` where the handle holds no host.
+#[unsafe(no_mangle)]
+pub extern "C" fn ws_c_host_sent(
+    alloc: Global,
+    handle: &mut Handle,
+    buffer: &mut [u8],
+    told: &mut Told,
+) -> u32
+    ensures fetched { (status : AStatus) × (result ≡ number_of status)
+        × OnHost (host_held handle.old.owned.value) status
+        (λ host. IsFetched host.sent status told.old told.new buffer.old buffer.new) }
+    ensures same { handle.new.owned.value ≡ handle.old.owned.value }
+{
+    fetch(alloc, handle, buffer, told).number()
+}
+
+// Cancels the asked read.
+fn cancel_read(end: &mut HostEnd) -> Result<ByteList<12>, SendFault>
+    ensures { HostCancelled end.old end.new result }
+{
+    match end.cancel() {
+        Ok(bytes) => Ok(ByteList::of(bytes)),
+        Err(fault) => Err(fault),
+    }
+}
+
+// What a cancel crosses as.
+fn tell_cancel(sent: Result<ByteList<12>, SendFault>, buffer: &mut [u8], told: &mut Told) -> Status
+    requires { 12 ≤ length buffer.old }
+    ensures { IsCancelTold sent result told.new buffer.old buffer.new }
+{
+    match sent {
+        Ok(bytes) => {
+            *told = Told::length(put_front(buffer, bytes.as_slice()));
+            Status::Done
+        }
+        Err(fault) => tell_fault(fault, told),
+    }
+}
+
+// Cancels the asked read of a host's end.
+fn cancel_host(host: &mut HeldHost, buffer: &mut [u8], told: &mut Told) -> Status
+    requires { 12 ≤ length buffer.old }
+    ensures sent { (sent : Result (Seq ℕ) AFault) × HostCancelled host.old.end host.new.end sent
+        × IsCancelTold sent result told.new buffer.old buffer.new }
+    ensures kept { host.new.sent ≡ host.old.sent }
+    ensures answer { host.new.answer ≡ host.old.answer }
+{
+    let sent = cancel_read(&mut host.end);
+    tell_cancel(sent, buffer, told)
+}
+
+// Cancels the asked read of what a handle holds.
+fn cancel_held(held: &mut Machine, buffer: &mut [u8], told: &mut Told) -> Status
+    requires { 12 ≤ length buffer.old }
+    ensures { IsCancel buffer.old buffer.new result told.new held.old held.new }
+{
+    match held {
+        Machine::Host(host) => cancel_host(host, buffer, told),
+        Machine::Station(_) | Machine::Decoder(_) => Status::NothingHeld,
+    }
+}
+
+// Cancels the asked read of the host's end that a handle holds.
+fn cancel(alloc: Global, handle: &mut Handle, buffer: &mut [u8], told: &mut Told) -> Status
+    requires { 12 ≤ length buffer.old }
+    ensures { OnHeld handle.old.owned.value handle.new.owned.value result
+        (IsCancel buffer.old buffer.new result told.new) }
+{
+    match handle.take(alloc) {
+        Some(mut held) => {
+            let status = cancel_held(&mut *held, buffer, told);
+            handle.put(held);
+            status
+        }
+        None => Status::NothingHeld,
+    }
+}
+
+/// Cancels the asked read: `buffer` gets the record, and `told` its number of bytes. The read stays asked until an
+/// answer or the cancel's end comes.
+///
+/// `NoReadToCancel` where no read is asked or a cancel is unanswered, `NotReady` while records aren't allowed, `Failed`
+/// after a refused byte; `NothingHeld` where the handle holds no host; `NoRoom` where the buffer has fewer than 12
+/// bytes. Nothing is then changed.
+#[unsafe(no_mangle)]
+pub extern "C" fn ws_c_host_cancel(
+    alloc: Global,
+    handle: &mut Handle,
+    buffer: &mut [u8],
+    told: &mut Told,
+) -> u32
+    ensures room { length buffer.old < 12 → (result ≡ number_of Status.NoRoom)
+        × (handle.new ≡ handle.old) × (buffer.new ≡ buffer.old) × (told.new ≡ told.old) }
+    ensures sent { 12 ≤ length buffer.old → (status : AStatus) × (result ≡ number_of status)
+        × OnHeld handle.old.owned.value handle.new.owned.value status
+        (IsCancel buffer.old buffer.new status told.new) }
+{
+    if buffer.len() < 12 {
+        return Status::NoRoom.number();
+    }
+    cancel(alloc, handle, buffer, told).number()
+}
