@@ -38,7 +38,8 @@
  *     write_station(reply, told.length);
  *     while ((count = read_station(bytes, sizeof bytes)) > 0)
  *         for (size_t at = 0; at < count; at += pushed.taken) {
- *             if (rs_host_push(&host, bytes + at, count - at, reply, sizeof reply, &pushed, &event) != RS_DONE) return 1;
+ *             if (rs_host_push(&host, bytes + at, count - at, reply, sizeof reply, &pushed, &event) != RS_DONE)
+ *                 return 1;
  *             write_station(reply, pushed.replied);
  *             if (event.kind == RS_EVENT_READY) {
  *                 rs_host_send(&host, RS_OPCODE_PUT_GET, body, sizeof body, &told); // told.length bytes to be fetched
@@ -55,18 +56,19 @@
  *
  * What the caller upholds:
  *  - A handle begins as RS_STATION_NONE, RS_HOST_NONE or RS_DECODER_NONE (zero bytes), is changed by these functions
- *    alone, and is never copied while it holds something. What `new` puts into it `free` frees, once; a free handle may be freed again and used again.
+ *    alone, and is never copied while it holds something. What `new` puts into it `free` frees, once; a free handle may
+ *    be freed again and used again.
  *  - A pointer that is not null leads to a whole object of its type, or to as many bytes as the length that follows it.
  *    The objects and buffers of one call do not overlap, and nothing else uses them during the call. No call keeps a
  *    pointer after it returns.
  *  - A handle is given to one call at a time, and stays on the thread that made it.
  *  - malloc, realloc and free come from one allocator, and align as C asks. No call is made in a signal handler, or in
  *    a forked child of a process with threads.
- *  - A station or a host is made on the stack before it moves to the heap: `new` asks for about a megabyte of stack, and
- *    so does rs_host_send, which spells a record there.
+ *  - A station or a host is made on the stack before it moves to the heap: `new` asks for about a megabyte of stack,
+ *    and so does rs_host_send, which spells a record there.
  *
- * Of a station and a decoder only `new` asks for memory. Of a host rs_host_new does, rs_host_push for the answers that it
- * keeps, and rs_host_send for the record that it keeps. */
+ * Of a station and a decoder only `new` asks for memory. Of a host rs_host_new does, rs_host_push for what an answer
+ * holds, and rs_host_send for the elements that it reads and the record that it keeps. */
 #ifndef RIBBONSCARP_H
 #define RIBBONSCARP_H
 
@@ -95,9 +97,9 @@ enum {
     RS_TRUNCATED = 10,   /* the stream ends inside a token or a record */
     RS_READ_OUTSTANDING = 11,  /* a read is asked or a cancel is unanswered, and a body isn't empty */
     RS_NO_READ_TO_CANCEL = 12, /* no read is asked, or a cancel is unanswered */
-    RS_TOO_BIG = 13,     /* a record would be of more than 65,535 bytes */
-    RS_NO_ANSWER = 14,   /* no answer has come yet */
-    RS_NULL = 100        /* a pointer is null where the call needs one */
+    RS_TOO_BIG = 13,           /* a record would be of more than 65,535 bytes */
+    RS_NO_ANSWER = 14,         /* no answer has come yet */
+    RS_NULL = 100              /* a pointer is null where the call needs one */
 };
 
 /* How much room a buffer needs, in bytes. */
@@ -397,8 +399,8 @@ static inline rs_status rs_station_field(rs_station *station, size_t index, rs_f
     return ws_c_station_field(&station->handle, index, field);
 }
 
-/* Makes a host's end and opens its session: the bytes that ask the station for its terminal type are put into `opening`,
- * `told->length` of them, and are to be sent first.
+/* Makes a host's end and opens its session: the bytes that ask the station for its terminal type are put into
+ * `opening`, `told->length` of them, and are to be sent first.
  *
  * RS_IN_USE where the handle holds something, RS_NO_ROOM where `opening` has fewer than RS_REPLY_ROOM bytes,
  * RS_NO_MEMORY. Nothing is then changed. */
@@ -420,10 +422,10 @@ static inline void rs_host_free(rs_host *host)
  * `reply`. `event` says what the last taken byte tells; bytes behind it are left, and are pushed by a further call.
  *
  * RS_REFUSED at the first byte after which the bytes begin no stream, or the last byte of an item that the host refuses
- * (reasons 60 to 63): `taken` counts the bytes before it. RS_NO_MEMORY where memory is
- * wanting. Each further byte, send and cancel is then answered by RS_FAILED; the last record and the last answer can
- * still be fetched. RS_NO_ROOM where fewer than RS_REPLY_ROOM bytes of `reply` are left before a byte: what was taken was
- * taken, and the rest can be pushed with an empty buffer. RS_NOTHING_HELD where the handle holds no host. */
+ * (reasons 60 to 63): `taken` counts the bytes before it. RS_NO_MEMORY where memory is wanting. Each further byte, send
+ * and cancel is then answered by RS_FAILED; the last record and the last answer can still be fetched. RS_NO_ROOM where
+ * fewer than RS_REPLY_ROOM bytes of `reply` are left before a byte: what was taken was taken, and the rest can be pushed
+ * with an empty buffer. RS_NOTHING_HELD where the handle holds no host. */
 static inline rs_status rs_host_push(rs_host *host, const uint8_t *bytes, size_t count, uint8_t *reply, size_t room,
                                      rs_pushed *pushed, rs_event *event)
 {
@@ -452,15 +454,15 @@ static inline rs_status rs_host_push(rs_host *host, const uint8_t *bytes, size_t
     return RS_DONE;
 }
 
-/* Sends a record of an opcode, with flags 0 and a body: the `size` bytes that spell its elements (SC30-3533, commands and
- * orders), none for an empty one. The host keeps the record, `told->length` bytes; rs_host_sent gives them, up to the
- * next send. The host applies the body to a screen of its own, by which it reads the station's answers.
+/* Sends a record of an opcode, with flags 0 and a body: the `size` bytes that spell its elements (SC30-3533, commands
+ * and orders), none for an empty one. The host keeps the record, `told->length` bytes; rs_host_sent gives them, up to
+ * the next send. The host applies the body to a screen of its own, by which it reads the station's answers.
  *
  * RS_BAD_ARGUMENT at an opcode that isn't one of RS_OPCODE_..., or where the bytes spell no body; RS_NOT_READY while
- * records aren't allowed; RS_READ_OUTSTANDING where a read is asked or a cancel is unanswered, and the body isn't empty;
- * RS_REFUSED where the screen refuses an element, by `told->reason` (50 to 55); RS_TOO_BIG at a record of more than 65,535
- * bytes; RS_NO_MEMORY; RS_FAILED after a refused byte; RS_NOTHING_HELD where the handle holds no host. Nothing is then
- * sent, and the host is as it was. */
+ * records aren't allowed; RS_READ_OUTSTANDING where a read is asked or a cancel is unanswered, and the body isn't
+ * empty; RS_REFUSED where the screen refuses an element, by `told->reason` (50 to 55); RS_TOO_BIG at a record of more
+ * than 65,535 bytes; RS_NO_MEMORY; RS_FAILED after a refused byte; RS_NOTHING_HELD where the handle holds no host.
+ * Nothing is then sent, and the host is as it was. */
 static inline rs_status rs_host_send(rs_host *host, uint8_t opcode, const uint8_t *body, size_t size, rs_told *told)
 {
     static const uint8_t empty[1] = {0};
@@ -483,8 +485,8 @@ static inline rs_status rs_host_sent(rs_host *host, uint8_t *record, size_t room
  * comes, which may have crossed the cancel, or the cancel's end, RS_EVENT_CANCELLED.
  *
  * RS_NO_READ_TO_CANCEL where no read is asked or a cancel is unanswered, RS_NOT_READY while records aren't allowed,
- * RS_NO_ROOM where `record` has fewer than RS_CANCEL_ROOM bytes, RS_FAILED after a refused byte, RS_NOTHING_HELD where the
- * handle holds no host. Nothing is then changed. */
+ * RS_NO_ROOM where `record` has fewer than RS_CANCEL_ROOM bytes, RS_FAILED after a refused byte, RS_NOTHING_HELD where
+ * the handle holds no host. Nothing is then changed. */
 static inline rs_status rs_host_cancel(rs_host *host, uint8_t *record, size_t room, rs_told *told)
 {
     if (host == NULL || record == NULL || told == NULL)
@@ -504,8 +506,8 @@ static inline rs_status rs_host_answer(rs_host *host, rs_answer *answer)
 /* Tells a field of the answer that came last, by its index from 0 in the order of the fields' starts, and puts its
  * content into `content`, `field->length` bytes of code page 037.
  *
- * RS_NO_ROOM where `content` has fewer bytes than that; `field` is then set nevertheless. RS_BAD_ARGUMENT where there is no
- * field of the index, RS_NO_ANSWER where no answer has come yet, RS_NOTHING_HELD where the handle holds no host. */
+ * RS_NO_ROOM where `content` has fewer bytes than that; `field` is then set nevertheless. RS_BAD_ARGUMENT where there is
+ * no field of the index, RS_NO_ANSWER where no answer has come yet, RS_NOTHING_HELD where the handle holds no host. */
 static inline rs_status rs_host_answer_field(rs_host *host, size_t index, uint8_t *content, size_t room,
                                              rs_read_field *field)
 {

@@ -126,7 +126,8 @@ static int press(session *both, uint32_t kind, uint32_t value)
 {
     rs_told told;
     wire *up = &both->up;
-    if (rs_station_key(&both->station, kind, value, up->bytes + up->count, sizeof up->bytes - up->count, &told) != RS_DONE)
+    if (rs_station_key(&both->station, kind, value, up->bytes + up->count, sizeof up->bytes - up->count, &told)
+        != RS_DONE)
         return 1;
     up->count += told.length;
     return 0;
@@ -191,7 +192,7 @@ static int cancel(session *both)
     return carry_down(both);
 }
 
-/* The cancel's end, which the station has written, and then a byte after which the bytes begin no stream. */
+/* The cancel's end, which the station has written, and then a record of another type than 12A0 (reason 11). */
 static int end(session *both)
 {
     static const uint8_t bad[] = {0x00, 0x0a, 0x13};
@@ -202,7 +203,7 @@ static int end(session *both)
         || event.kind != RS_EVENT_CANCELLED || pushed.taken != both->up.count)
         return 1;
     if (rs_host_push(&both->host, bad, sizeof bad, reply, sizeof reply, &pushed, &event) != RS_REFUSED
-        || pushed.taken != 2 || pushed.reason != 6)
+        || pushed.taken != 2 || pushed.reason != 11)
         return 1;
     return rs_host_push(&both->host, bad, 1, reply, sizeof reply, &pushed, &event) != RS_FAILED;
 }
@@ -211,7 +212,8 @@ static int play(session *both)
 {
     if (!is_told_early(&both->host) || settle(both) != 0)
         return 1;
-    if (send_record(both, RS_OPCODE_PUT_GET, body, sizeof body) != 0 || !is_told_asking(&both->host) || settle(both) != 0)
+    if (send_record(both, RS_OPCODE_PUT_GET, body, sizeof body) != 0 || !is_told_asking(&both->host)
+        || settle(both) != 0)
         return 1;
     if (type(both, "BOB") != 0 || press(both, RS_KEY_AID, 0xf1) != 0 || settle(both) != 0)
         return 1;

@@ -14,9 +14,10 @@ use Rattle.ws_session.specs.HostLeads.{HostHolding, HostLeads, IsSent, IsSendFau
 use Rattle.ws_session.specs.HostSide.{HostSide, RefusesSend, host_send, host_cancel}
 use Rattle.ws_session.specs.declared.send_fault.SendFault.{SendFault}
 use Rattle.ws_session.specs.declared.send_fault.SendFault.TheVariants.{Failed as SendFailed, NotAllowed}
-use Rattle.ws_session.specs.declared.send_fault.SendFault.TheVariants.{ReadOutstanding as IsOutstanding, TooBig as IsTooBig}
-use Rattle.ws_session.specs.declared.send_fault.SendFault.TheVariants.{NoReadToCancel as NoneToCancel, BadSequence}
-use Rattle.ws_session.specs.declared.send_fault.SendFault.TheVariants.{Screen as RefusedByScreen, Memory as SendMemory}
+use Rattle.ws_session.specs.declared.send_fault.SendFault.TheVariants.{ReadOutstanding as IsOutstanding, BadSequence}
+use Rattle.ws_session.specs.declared.send_fault.SendFault.TheVariants.{NoReadToCancel as NoneToCancel}
+use Rattle.ws_session.specs.declared.send_fault.SendFault.TheVariants.{Screen as RefusedByScreen, TooBig as IsTooBig}
+use Rattle.ws_session.specs.declared.send_fault.SendFault.TheVariants.{Memory as SendMemory}
 use Rattle.ws_c.specs.declared.host.HeldHost.{HeldHost}
 use Rattle.ws_c.specs.declared.host_body.BodyFault.{BodyFault}
 use Rattle.ws_c.specs.declared.host_body.BodyFault.TheVariants.{Bad, Memory as BodyMemory}
@@ -24,7 +25,8 @@ use Rattle.ws_c.specs.declared.machine.Machine.{Machine}
 use Rattle.ws_c.specs.declared.machine.Machine.TheVariants.{Host}
 use Rattle.ws_c.specs.declared.status.Status.{Status}
 use Rattle.ws_c.specs.declared.status.Status.TheVariants.{Done, Refused, Failed, NoMemory, NothingHeld, NoRoom}
-use Rattle.ws_c.specs.declared.status.Status.TheVariants.{BadArgument, NotReady, ReadOutstanding, NoReadToCancel, TooBig}
+use Rattle.ws_c.specs.declared.status.Status.TheVariants.{BadArgument, NotReady, ReadOutstanding, NoReadToCancel}
+use Rattle.ws_c.specs.declared.status.Status.TheVariants.{TooBig}
 use Rattle.ws_c.specs.declared.told.Told.{Told}
 use Rattle.ws_c.specs.Bodies.{IsBody, IsBodyFault}
 use Rattle.ws_c.specs.Calls.{OnHeld, holds_front, told_length}
@@ -91,7 +93,8 @@ IsSend opcode body status told (Host old) now = (new : HeldHost) × (result : Re
 IsSend opcode body status told old now = (status ≡ NothingHeld) × (now ≡ old)
 
 -- a send of the body that was read, where one was
-abbrev pub IsSendFrom : Opcode → Result (List Element) BodyFault → Option Machine → Option Machine → Told → Status → Type 0
+abbrev pub IsSendFrom : Opcode → Result (List Element) BodyFault → Option Machine → Option Machine → Told → Status
+    → Type 0
 IsSendFrom opcode (Ok body) held now told status = OnHeld held now status (IsSend opcode body status told)
 IsSendFrom opcode (Err Bad) held now told status = (status ≡ BadArgument) × (now ≡ held)
 IsSendFrom opcode (Err BodyMemory) held now told status = (status ≡ NoMemory) × (now ≡ held)

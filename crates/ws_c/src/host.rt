@@ -218,8 +218,8 @@ fn push(
     }
 }
 
-/// Pushes a byte into a host's end: `buffer` gets what the host writes, `told` how many bytes that is, or why the byte is
-/// refused, and `event` what the byte tells. An answer is kept until the next comes.
+/// Pushes a byte into a host's end: `buffer` gets what the host writes, `told` how many bytes that is, or why the byte
+/// is refused, and `event` what the byte tells. An answer is kept until the next comes.
 ///
 /// `Refused` at a byte that the host's end refuses, `NoMemory` where a growth was refused, `Failed` from then on;
 /// `NothingHeld` where the handle holds no host; `NoRoom` where the buffer has fewer than 17 bytes, and then nothing is

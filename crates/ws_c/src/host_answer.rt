@@ -167,9 +167,9 @@ fn field_of(
 /// Tells a field of the answer that came last, by its index in the order of the fields' starts, from 0, and puts its
 /// content into `buffer`.
 ///
-/// `NoRoom` where the buffer has fewer bytes than the content: `told` says how many it has. `BadArgument` where there is
-/// no such field, `NoAnswer` where no answer has come yet, `NothingHeld` where the handle holds no host; then `told` is
-/// as it was.
+/// `NoRoom` where the buffer has fewer bytes than the content: `told` says how many it has. `BadArgument` where there
+/// is no such field, `NoAnswer` where no answer has come yet, `NothingHeld` where the handle holds no host; then `told`
+/// is as it was.
 #[unsafe(no_mangle)]
 pub extern "C" fn ws_c_host_answer_field(
     alloc: Global,

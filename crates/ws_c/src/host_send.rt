@@ -230,7 +230,8 @@ fn fetch(alloc: Global, handle: &mut Handle, buffer: &mut [u8], told: &mut Told)
 
 /// Puts the bytes of the record that was sent last into a buffer: none before the first. `told` says how many.
 ///
-/// `NoRoom` where the buffer has fewer bytes, and then nothing is changed; `NothingHeld` where the handle holds no host.
+/// `NoRoom` where the buffer has fewer bytes, and then nothing is changed; `NothingHeld` where the handle holds no
+/// host.
 #[unsafe(no_mangle)]
 pub extern "C" fn ws_c_host_sent(
     alloc: Global,
