@@ -17,11 +17,11 @@ use Rattle.ws_screen.specs.ByHost.{layout}
 use Rattle.ws_screen.specs.Formats.{starts_at}
 use Rattle.ws_screen.specs.Shown.{AreApart, Shown}
 use Rattle.ws_keys.proofs.AnswerLemmas.{content_short, sent_less}
-use Rattle.ws_keys.proofs.ContentLemmas.{length-negated}
+use Rattle.ws_keys.proofs.ContentLemmas.{length-with_last_digit_minus}
 use Rattle.ws_screen.proofs.Legal.{apart-le}
 use Rattle.ws_screen.specs.Keyed.{returns_data}
-use Rattle.ws_keys.specs.Contents.{field_parts, field_content, has_mdt, sent_length, sent_cells, is_negative, treated, blank_for_null, sent_as, modified, content, all_input, data_parts, answer_parts}
-use Rattle.ws_keys.specs.Splits.{CutsInput, ReadsModified, SplitsData, Splits, FitsField, SameFields, cut, cut_input, read_back, answer_of, IsSplit, ReadsBack}
+use Rattle.ws_keys.specs.Contents.{field_parts, field_content, has_mdt, sent_length, sent_cells, is_negative, with_nulls_as_sent, blank_for_null, as_sent, modified_fields, content, all_input, data_parts, answer_parts}
+use Rattle.ws_keys.specs.Splits.{CutsInput, ReadsModified, SplitsData, Splits, FitsField, SameFields, input_by_field, cut_input, read_back, answer_of, IsSplit, ReadsBack}
 use Rattle.ws_keys.specs.declared.host_answer.HostFault.{HostFault}
 use Rattle.ws_keys.specs.declared.host_answer.HostFault.TheVariants.{Reason, Memory}
 use Rattle.ws_keys.specs.declared.host_answer.HostAnswer.{HostAnswer}
@@ -39,7 +39,7 @@ same_sent f g e =
     let shift : shift_number f.format ≡ shift_number g.format = sym (shift-kept f.format) ∙ ap (λ (x : Field). shift_number x.format) e ∙ shift-kept g.format in
     (start, n, ap (λ k. if k == 7 then f.length - 1 else f.length) shift ∙ ap (λ k. if shift_number g.format == 7 then k - 1 else k) n)
 
-pub same_cut : (fs gs : List Field) (bytes : List ℕ) → SameFields fs gs → cut fs bytes ≡ cut gs bytes
+pub same_cut : (fs gs : List Field) (bytes : List ℕ) → SameFields fs gs → input_by_field fs bytes ≡ input_by_field gs bytes
 same_cut [] [] bytes e = refl
 same_cut [] (g ∷ gs) bytes e = absurd (cc)
 same_cut (f ∷ fs) [] bytes e = absurd (cc)
@@ -47,8 +47,8 @@ same_cut (f ∷ fs) (g ∷ gs) bytes e =
     let here : layout f ≡ layout g = cc in
     let rest : SameFields fs gs = cc in
     let same = same_sent f g here in
-    ap (λ (x : ReadField). x ∷ cut fs (drop (sent_length f) bytes)) (same_field (record { address = f.start; content = take (sent_length f) bytes }) (record { address = g.start; content = take (sent_length g) bytes }) same.0 (ap (λ k. take k bytes) same.2))
-    ∙ ap (λ (l : List ReadField). let all : List ReadField = record { address = g.start; content = take (sent_length g) bytes } ∷ l in all) (ap (λ k. cut fs (drop k bytes)) same.2 ∙ same_cut fs gs (drop (sent_length g) bytes) rest)
+    ap (λ (x : ReadField). x ∷ input_by_field fs (drop (sent_length f) bytes)) (same_field (record { address = f.start; content = take (sent_length f) bytes }) (record { address = g.start; content = take (sent_length g) bytes }) same.0 (ap (λ k. take k bytes) same.2))
+    ∙ ap (λ (l : List ReadField). let all : List ReadField = record { address = g.start; content = take (sent_length g) bytes } ∷ l in all) (ap (λ k. input_by_field fs (drop k bytes)) same.2 ∙ same_cut fs gs (drop (sent_length g) bytes) rest)
 
 pub same_sum : (fs gs : List Field) → SameFields fs gs → sum_by sent_length fs ≡ sum_by sent_length gs
 same_sum [] [] e = refl
@@ -119,7 +119,7 @@ rises_from low (f ∷ fs) g is apart = go (has_mdt f) (rises_from (f.start + f.l
     go true h = (λ some. omega (arith, is f, apart.0), cons (g f).address (places (filter has_mdt fs)) (λ some. omega (arith, is f, h.0 some, apart.1)) h.1)
     go false h = (λ some. omega (arith, h.0 some, apart.0), h.1)
 
-modified_reads : (kind : ReadKind) (s : Shown) (fields : List Field) → AreApart 0 s.fields → SameFields s.fields fields → ReadsModified fields (flat_map field_parts (modified kind s)) (modified kind s)
+modified_reads : (kind : ReadKind) (s : Shown) (fields : List Field) → AreApart 0 s.fields → SameFields s.fields fields → ReadsModified fields (flat_map field_parts (modified_fields kind s)) (modified_fields kind s)
 modified_reads kind s fields apart e = (
   refl,
   (rises_from 0 s.fields (field_content kind s) (λ f. refl) apart).1,
@@ -128,8 +128,8 @@ modified_reads kind s fields apart e = (
 
 -- ALL INPUT
 
-length-treated : (xs : List ℕ) → length (treated Input xs) ≡ length xs
-length-treated xs = length-map xs blank_for_null
+length-with_nulls_as_sent : (xs : List ℕ) → length (with_nulls_as_sent Input xs) ≡ length xs
+length-with_nulls_as_sent xs = length-map xs blank_for_null
 
 length-input : (s : Shown) (f : Field) → length s.cells ≡ 1920 → f.start + f.length ≤ 1920 → length (content Input s f) ≡ sent_length f
 length-input s f size ends = go (is_negative s f)
@@ -137,9 +137,9 @@ length-input s f size ends = go (is_negative s f)
     cells : length (sent_cells s f) ≡ sent_length f
     cells = omega (arith, length-take (f.start + sent_length f - f.start) (drop f.start s.cells), length-drop f.start s.cells, size, ends, sent_less f)
 
-    go : (t : Bool) → length (sent_as Input t (sent_cells s f)) ≡ sent_length f
-    go true = length-negated (treated Input (sent_cells s f)) ∙ length-treated (sent_cells s f) ∙ cells
-    go false = length-treated (sent_cells s f) ∙ cells
+    go : (t : Bool) → length (as_sent Input t (sent_cells s f)) ≡ sent_length f
+    go true = length-with_last_digit_minus (with_nulls_as_sent Input (sent_cells s f)) ∙ length-with_nulls_as_sent (sent_cells s f) ∙ cells
+    go false = length-with_nulls_as_sent (sent_cells s f) ∙ cells
 
 length-all : (s : Shown) (low : ℕ) (fs : List Field) → length s.cells ≡ 1920 → AreApart low fs → length (flat_map (content Input s) fs) ≡ sum_by sent_length fs
 length-all s low [] size apart = refl

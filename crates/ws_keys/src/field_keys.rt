@@ -1,7 +1,7 @@
 //! Keys that change the open field and enter no character.
 ghost use Rattle.std.specs.Prelude.{◌≡◌, ◌≤◌, ◌+◌, ◌-◌, ◌∷◌, [], Some, false, MatchResult};
 ghost use Rattle.ws_screen.specs.Keyed.{after_edit, field_edit, cells_of, open_field};
-ghost use Rattle.ws_keys.specs.Changes.{changed, AsksChange};
+ghost use Rattle.ws_keys.specs.Changes.{after_change, AsksChange};
 ghost use Rattle.ws_keys.specs.Keys as Spec;
 ghost use Rattle.ws_keys.specs.declared.key.Key.TheVariants as Pressing;
 
@@ -17,9 +17,9 @@ pub fn entered_field(screen: &Screen) -> Result<Field, KeyRefusal>
     ensures { MatchResult result
         (λ field. (screen.now.locked ≡ false) × (open_field screen.now ≡ Some field)
         × (1 ≤ field.length) × (field.start + field.length ≤ CELLS))
-        (λ why. Spec.first_of (Spec.locked screen.now ∷ Spec.protected screen.now ∷ []) ≡ Some why) }
+        (λ why. Spec.first_of (Spec.locked_refusal screen.now ∷ Spec.protected_refusal screen.now ∷ []) ≡ Some why) }
 {
-    if screen.locked() {
+    if screen.is_locked() {
         return Err(KeyRefusal::Locked);
     }
     match screen.open_field() {
@@ -33,7 +33,7 @@ pub fn change_field(screen: &mut Screen, field: &Field, change: Change, to: Addr
     requires open_ { open_field screen.old ≡ Some field.now }
     requires asked { AsksChange change field.now.format (screen.old.cursor - field.now.start) field.now.length }
     ensures { screen.new ≡ after_edit (field_edit field.now
-        (changed change field.now.format (cells_of screen.old field.now) (screen.old.cursor - field.now.start)) to)
+        (after_change change field.now.format (cells_of screen.old field.now) (screen.old.cursor - field.now.start)) to)
         screen.old }
 {
     let edit = FieldEdit {
@@ -45,7 +45,7 @@ pub fn change_field(screen: &mut Screen, field: &Field, change: Change, to: Addr
 }
 
 pub fn delete(screen: &mut Screen) -> Result<Option<Answer>, KeyRefusal>
-    ensures { Spec.Pressed Pressing.Delete screen.old screen.new result }
+    ensures { Spec.IsPressed Pressing.Delete screen.old screen.new result }
 {
     let field = entered_field(screen)?;
     let to = screen.cursor();
@@ -54,7 +54,7 @@ pub fn delete(screen: &mut Screen) -> Result<Option<Answer>, KeyRefusal>
 }
 
 pub fn exit_field(screen: &mut Screen) -> Result<Option<Answer>, KeyRefusal>
-    ensures { Spec.Pressed Pressing.FieldExit screen.old screen.new result }
+    ensures { Spec.IsPressed Pressing.FieldExit screen.old screen.new result }
 {
     let field = entered_field(screen)?;
     let to = next_field(screen);
@@ -63,7 +63,7 @@ pub fn exit_field(screen: &mut Screen) -> Result<Option<Answer>, KeyRefusal>
 }
 
 pub fn exit_with_minus(screen: &mut Screen) -> Result<Option<Answer>, KeyRefusal>
-    ensures { Spec.Pressed Pressing.FieldMinus screen.old screen.new result }
+    ensures { Spec.IsPressed Pressing.FieldMinus screen.old screen.new result }
 {
     let field = entered_field(screen)?;
     if !is_signed(field.format) {
@@ -75,7 +75,7 @@ pub fn exit_with_minus(screen: &mut Screen) -> Result<Option<Answer>, KeyRefusal
 }
 
 pub fn dup(screen: &mut Screen) -> Result<Option<Answer>, KeyRefusal>
-    ensures { Spec.Pressed Pressing.Dup screen.old screen.new result }
+    ensures { Spec.IsPressed Pressing.Dup screen.old screen.new result }
 {
     let field = entered_field(screen)?;
     if !field.format.dup() {
@@ -87,9 +87,9 @@ pub fn dup(screen: &mut Screen) -> Result<Option<Answer>, KeyRefusal>
 }
 
 pub fn erase_input(screen: &mut Screen) -> Result<Option<Answer>, KeyRefusal>
-    ensures { Spec.Pressed Pressing.EraseInput screen.old screen.new result }
+    ensures { Spec.IsPressed Pressing.EraseInput screen.old screen.new result }
 {
-    if screen.locked() {
+    if screen.is_locked() {
         return Err(KeyRefusal::Locked);
     }
     screen.erase_input();

@@ -11,7 +11,7 @@ use ws_code::{Address, CELLS};
 use ws_screen::{Field, Screen};
 
 // The place some cells on, from the last to the first.
-pub fn moved(from: Address, cells: u16) -> Address
+pub fn address_after(from: Address, cells: u16) -> Address
     requires { cells < CELLS }
     ensures { result ≡ (from + cells) % CELLS }
 {
@@ -23,10 +23,10 @@ pub fn moved(from: Address, cells: u16) -> Address
 
 // A key that only moves the cursor.
 pub fn move_to(screen: &mut Screen, to: Address) -> Result<Option<Answer>, KeyRefusal>
-    ensures { Spec.Does (Spec.locked screen.old ∷ []) (Some (cursor_edit to)) None
+    ensures { Spec.Does (Spec.locked_refusal screen.old ∷ []) (Some (cursor_edit to)) None
         screen.old screen.new result }
 {
-    if screen.locked() {
+    if screen.is_locked() {
         return Err(KeyRefusal::Locked);
     }
     screen.move_cursor(to);

@@ -1,6 +1,6 @@
 // What a host reads from answers, and from the contents of signed numeric fields.
 
-use crate::tests::{ONE_FIELD, apply, one_field, shown, two_fields};
+use crate::tests::{ONE_FIELD, apply, one_field, screen_with, two_fields};
 use crate::{HostAnswer, HostFault, decode_signed, split_answer};
 use std::alloc::Global;
 use std::process::Abort;
@@ -52,7 +52,7 @@ fn put_place(rt: &impl Abort, bytes: &mut Vec<u8>, place: Address) {
 }
 
 // What was read in one list: the cursor, the key, and of each field its place, the number of its bytes, and these.
-fn listed(rt: &impl Abort, alloc: Global, answer: &HostAnswer) -> Vec<u8> {
+fn listing(rt: &impl Abort, alloc: Global, answer: &HostAnswer) -> Vec<u8> {
     let mut bytes = Vec::new(alloc);
     put_place(rt, &mut bytes, answer.cursor);
     put_byte(rt, &mut bytes, answer.aid.byte());
@@ -70,11 +70,11 @@ fn listed(rt: &impl Abort, alloc: Global, answer: &HostAnswer) -> Vec<u8> {
 
 // A host that sent a body reads this from the body of an answer.
 fn expect_read(rt: &impl Abort, alloc: Global, host: &[u8], answer: &[u8], read: &[u8]) {
-    let screen = shown(rt, host);
-    let kind = screen.pending().expect(rt, "a read");
+    let screen = screen_with(rt, host);
+    let kind = screen.pending_read().expect(rt, "a read");
     let parts = parts_of(rt, alloc, answer);
     let fields = split_answer(alloc, &screen, kind, parts.as_slice()).expect(rt, "an answer");
-    let found = listed(rt, alloc, &fields);
+    let found = listing(rt, alloc, &fields);
     assert_eq!(rt; found.as_slice(), read);
 }
 
@@ -84,7 +84,13 @@ fn split_bob(rt: HostRuntime) {
     let answer = [0x06, 0x38, 0xF1, 0x11, 0x06, 0x35, 0xC2, 0xD6, 0xC2];
     let read = [0x06, 0x38, 0xF1, 0x06, 0x35, 3, 0xC2, 0xD6, 0xC2];
     expect_read(&rt, alloc, &ONE_FIELD, &answer, &read);
-    expect_mismatch(&rt, alloc, &shown(&rt, &ONE_FIELD), ReadKind::Mdt, b"HB");
+    expect_mismatch(
+        &rt,
+        alloc,
+        &screen_with(&rt, &ONE_FIELD),
+        ReadKind::Mdt,
+        b"HB",
+    );
 }
 
 #[test]
@@ -170,7 +176,7 @@ fn expect_mismatch(
 #[test]
 fn mismatches_of_modified_fields(rt: HostRuntime) {
     let alloc = rt.alloc();
-    let screen = shown(&rt, &two_fields(0x48, 0x48, 0x52));
+    let screen = screen_with(&rt, &two_fields(0x48, 0x48, 0x52));
     let mdt = ReadKind::Mdt;
     // no head, or not first
     expect_mismatch(&rt, alloc, &screen, mdt, b"");
@@ -190,14 +196,14 @@ fn mismatches_of_modified_fields(rt: HostRuntime) {
     // more than the field's cells, or than its digit cells
     expect_mismatch(&rt, alloc, &screen, mdt, b"HEBBBBB");
     expect_mismatch(&rt, alloc, &screen, ReadKind::MdtAlternate, b"HEBBBBB");
-    let signed = shown(&rt, &one_field(0x47, 0x00, 2, 0x52));
+    let signed = screen_with(&rt, &one_field(0x47, 0x00, 2, 0x52));
     expect_mismatch(&rt, alloc, &signed, mdt, b"HLBB");
 }
 
 #[test]
 fn mismatches_of_all_input(rt: HostRuntime) {
     let alloc = rt.alloc();
-    let screen = shown(&rt, &one_field(0x48, 0x00, 2, 0x42));
+    let screen = screen_with(&rt, &one_field(0x48, 0x00, 2, 0x42));
     let input = ReadKind::Input;
     // a byte too few, a byte too many
     expect_mismatch(&rt, alloc, &screen, input, b"HB");

@@ -11,7 +11,7 @@ use crate::answer::Answer;
 use crate::edit::{Change, is_signed};
 use crate::field_keys::{change_field, entered_field};
 use crate::key::KeyRefusal;
-use crate::movement::{moved, next_field};
+use crate::movement::{address_after, next_field};
 use ws_code::{Address, CELLS, Shift, ebcdic};
 use ws_screen::{Field, Screen};
 
@@ -89,12 +89,12 @@ fn after_character(screen: &Screen, field: &Field) -> Address
     if screen.cursor().place() == last_cell(field) {
         next_field(screen)
     } else {
-        moved(screen.cursor(), 1)
+        address_after(screen.cursor(), 1)
     }
 }
 
 pub fn type_character(screen: &mut Screen, character: char) -> Result<Option<Answer>, KeyRefusal>
-    ensures { Spec.Pressed (Pressing.Char character) screen.old screen.new result }
+    ensures { Spec.IsPressed (Pressing.Char character) screen.old screen.new result }
 {
     let field = entered_field(screen)?;
     let byte = byte_for(screen, &field, character)?;
@@ -104,9 +104,9 @@ pub fn type_character(screen: &mut Screen, character: char) -> Result<Option<Ans
 }
 
 // The last cell that characters are entered in.
-fn last_entered(field: &Field) -> u16
+fn last_entry_cell(field: &Field) -> u16
     requires { field.now.start + field.now.length ≤ CELLS }
-    ensures value { result ≡ Spec.last_entered field.now }
+    ensures value { result ≡ Spec.last_entry_cell field.now }
     ensures within { 1 ≤ field.now.start + field.now.length → result < CELLS }
 {
     let end = field.start.place() + field.length;
@@ -121,16 +121,16 @@ fn last_entered(field: &Field) -> u16
 fn has_room(screen: &Screen, field: &Field) -> bool
     requires some { 1 ≤ field.now.length }
     requires within { field.now.start + field.now.length ≤ CELLS }
-    ensures { result ≡ (slice_index screen.now.cells (Spec.last_entered field.now) == 0) }
+    ensures { result ≡ (slice_index screen.now.cells (Spec.last_entry_cell field.now) == 0) }
 {
-    let Some(at) = Address::at(last_entered(field)) else {
+    let Some(at) = Address::at(last_entry_cell(field)) else {
         unreachable!()
     };
     screen.cell(at) == 0
 }
 
 pub fn insert_character(screen: &mut Screen, character: char) -> Result<Option<Answer>, KeyRefusal>
-    ensures { Spec.Pressed (Pressing.Insert character) screen.old screen.new result }
+    ensures { Spec.IsPressed (Pressing.Insert character) screen.old screen.new result }
 {
     let field = entered_field(screen)?;
     let byte = byte_for(screen, &field, character)?;

@@ -10,7 +10,7 @@ use Rattle.ws_nego.specs.declared.host.Mode.TheVariants.{Off, Asked, On}
 use Rattle.ws_nego.specs.declared.host.TerminalName.{TerminalName}
 use Rattle.ws_nego.specs.declared.host.TerminalName.TheVariants.{Unknown, Requested, Accepted}
 use Rattle.ws_nego.specs.Terminal.{name_of, terminal_named}
-use Rattle.ws_nego.specs.Options.{binary, terminal_type, end_of_record}
+use Rattle.ws_telnet.specs.declared.codes.TheConstants.{BINARY, TERMINAL_TYPE, END_OF_RECORD}
 use Rattle.ws_nego.specs.Station.{StationState, new_station, station_answer, station_allows_records, name_request, name_answer}
 use Rattle.ws_nego.specs.Host.{HostState, opening, host_allows_records}
 use Rattle.ws_nego.specs.Exchange.{Exchange, Move, ToStation, ToHost, new_exchange, after_move, after_moves, IsQuiet, TablesAgree, after_all_to_host, after_delivery, after_three_deliveries}
@@ -42,14 +42,14 @@ pub data Stage : Type 0 where
 abbrev host_tokens : List Telnet
 host_tokens =
     opening ∷ name_request
-    ∷ Negotiate Do end_of_record ∷ Negotiate Will end_of_record
-    ∷ Negotiate Do binary ∷ Negotiate Will binary ∷ []
+    ∷ Negotiate Do END_OF_RECORD ∷ Negotiate Will END_OF_RECORD
+    ∷ Negotiate Do BINARY ∷ Negotiate Will BINARY ∷ []
 
 abbrev station_tokens : TerminalType → List Telnet
 station_tokens t =
-    Negotiate Will terminal_type ∷ name_answer t
-    ∷ Negotiate Will end_of_record ∷ Negotiate Do end_of_record
-    ∷ Negotiate Will binary ∷ Negotiate Do binary ∷ []
+    Negotiate Will TERMINAL_TYPE ∷ name_answer t
+    ∷ Negotiate Will END_OF_RECORD ∷ Negotiate Do END_OF_RECORD
+    ∷ Negotiate Will BINARY ∷ Negotiate Do BINARY ∷ []
 
 abbrev station_after : StationState → List Telnet → StationState
 station_after s [] = s

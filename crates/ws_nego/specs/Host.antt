@@ -2,12 +2,14 @@
 
 use Rattle.std.specs.Prelude.{ℕ, List, [], ◌∷◌, ◌++◌, Bool, true, false, ◌==◌, ◌&&◌, if◌then◌else◌, Option, Some, None}
 use Rattle.std.specs.Prelude.{is_none, is_some}
+use Rattle.ws_telnet.specs.declared.codes.TheConstants.{BINARY, TERMINAL_TYPE, END_OF_RECORD}
 use Rattle.ws_telnet.specs.declared.token.Verb.{Verb}
 use Rattle.ws_telnet.specs.declared.token.Verb.TheVariants.{Will, Wont, Do, Dont}
 use Rattle.ws_telnet.specs.declared.token.Sub.{Sub}
 use Rattle.ws_telnet.specs.declared.token.Telnet.{Telnet}
 use Rattle.ws_telnet.specs.declared.token.Telnet.TheVariants.{Command, Option as Negotiate, Sub as Subnegotiate}
 use Rattle.ws_nego.specs.declared.terminal.TerminalType.{TerminalType}
+use Rattle.ws_nego.specs.declared.options.TheConstants.{IS}
 use Rattle.ws_nego.specs.declared.options.Direction.{Direction}
 use Rattle.ws_nego.specs.declared.options.Direction.TheVariants.{StationTerminalType}
 use Rattle.ws_nego.specs.declared.options.OptionTable.{OptionTable}
@@ -16,7 +18,7 @@ use Rattle.ws_nego.specs.declared.host.Mode.TheVariants.{Off, Asked, On}
 use Rattle.ws_nego.specs.declared.host.TerminalName.{TerminalName}
 use Rattle.ws_nego.specs.declared.host.TerminalName.TheVariants.{Unknown, Requested, Accepted}
 use Rattle.ws_nego.specs.Terminal.{terminal_named}
-use Rattle.ws_nego.specs.Options.{binary, terminal_type, end_of_record, byte_of_is, entry, with_entry, filled}
+use Rattle.ws_nego.specs.Options.{entry, with_entry, uniform_table}
 use Rattle.ws_nego.specs.Options.{direction_at_host, refusal_of, option_tokens, Answer, no_effect}
 use Rattle.ws_nego.specs.Station.{name_request}
 
@@ -26,11 +28,11 @@ pub record HostState : Type 0 where
   pub name : TerminalName
 
 abbrev pub new_host : HostState
-new_host = record { modes = filled Off; name = Unknown }
+new_host = record { modes = uniform_table Off; name = Unknown }
 
 -- the first token of a session, and the host end after it
 abbrev pub opening : Telnet
-opening = Negotiate Do terminal_type
+opening = Negotiate Do TERMINAL_TYPE
 
 abbrev pub after_open : HostState → HostState
 after_open host = record { modes = with_entry host.modes StationTerminalType Asked; name = host.name }
@@ -120,10 +122,10 @@ mode_once_requested Asked = Asked
 -- the station first
 abbrev pub requests : OptionTable Mode → List Telnet
 requests modes =
-    request modes.station_end_of_record Do end_of_record
-    ++ request modes.host_end_of_record Will end_of_record
-    ++ request modes.station_binary Do binary
-    ++ request modes.host_binary Will binary
+    request modes.station_end_of_record Do END_OF_RECORD
+    ++ request modes.host_end_of_record Will END_OF_RECORD
+    ++ request modes.station_binary Do BINARY
+    ++ request modes.host_binary Will BINARY
 
 abbrev pub modes_once_requested : OptionTable Mode → OptionTable Mode
 modes_once_requested modes = record {
@@ -137,10 +139,10 @@ modes_once_requested modes = record {
 -- the name in a subnegotiation that is IS of TERMINAL-TYPE (RFC 1091, section 2)
 abbrev pub name_after_is : List ℕ → Option (List ℕ)
 name_after_is [] = None
-name_after_is (code ∷ name) = if code == byte_of_is then Some name else None
+name_after_is (code ∷ name) = if code == IS then Some name else None
 
 abbrev pub name_in : Sub → Option (List ℕ)
-name_in sub = if sub.option == terminal_type then name_after_is sub.data_ else None
+name_in sub = if sub.option == TERMINAL_TYPE then name_after_is sub.data_ else None
 
 -- a name is judged by the terminal type that has it: one without any is refused
 abbrev pub host_judgement : HostState → Option TerminalType → Option (Answer HostState)

@@ -8,21 +8,10 @@ use Rattle.ws_telnet.specs.declared.token.Verb.{Verb}
 use Rattle.ws_telnet.specs.declared.token.Verb.TheVariants.{Will, Wont, Do, Dont}
 use Rattle.ws_telnet.specs.declared.token.Telnet.{Telnet}
 use Rattle.ws_telnet.specs.declared.token.Telnet.TheVariants.{Option as Negotiate, Sub as Subnegotiate}
-use Rattle.ws_nego.specs.declared.options.TheConstants.{IS, SEND}
 use Rattle.ws_nego.specs.declared.options.Direction.{Direction}
 use Rattle.ws_nego.specs.declared.options.Direction.TheVariants.{StationBinary, StationTerminalType, StationEndOfRecord}
 use Rattle.ws_nego.specs.declared.options.Direction.TheVariants.{HostBinary, HostEndOfRecord}
 use Rattle.ws_nego.specs.declared.options.OptionTable.{OptionTable}
-
--- the option codes of BINARY (RFC 856), TERMINAL-TYPE (RFC 1091) and END-OF-RECORD (RFC 885)
-abbrev pub binary : ℕ
-binary = BINARY
-
-abbrev pub terminal_type : ℕ
-terminal_type = TERMINAL_TYPE
-
-abbrev pub end_of_record : ℕ
-end_of_record = END_OF_RECORD
 
 -- the entry of a direction
 abbrev pub entry : {T : Type 0} → OptionTable T → Direction → T
@@ -41,8 +30,8 @@ with_entry table HostBinary value = record table { host_binary = value }
 with_entry table HostEndOfRecord value = record table { host_end_of_record = value }
 
 -- the table whose entries are all the same
-abbrev pub filled : {T : Type 0} → T → OptionTable T
-filled value = record {
+abbrev pub uniform_table : {T : Type 0} → T → OptionTable T
+uniform_table value = record {
   station_binary = value;
   station_terminal_type = value;
   station_end_of_record = value;
@@ -53,15 +42,15 @@ filled value = record {
 -- the direction in which the station performs an option, and that in which the host end does
 abbrev pub station_direction : ℕ → Option Direction
 station_direction option =
-    if option == binary then Some StationBinary
-    else (if option == terminal_type then Some StationTerminalType
-    else (if option == end_of_record then Some StationEndOfRecord
+    if option == BINARY then Some StationBinary
+    else (if option == TERMINAL_TYPE then Some StationTerminalType
+    else (if option == END_OF_RECORD then Some StationEndOfRecord
     else None))
 
 abbrev pub host_direction : ℕ → Option Direction
 host_direction option =
-    if option == binary then Some HostBinary
-    else (if option == end_of_record then Some HostEndOfRecord
+    if option == BINARY then Some HostBinary
+    else (if option == END_OF_RECORD then Some HostEndOfRecord
     else None)
 
 -- DO and DONT speak of what the end that gets them performs, WILL and WONT of what the end that wrote
@@ -90,15 +79,9 @@ abbrev pub option_tokens : Option Verb → ℕ → List Telnet
 option_tokens None option = []
 option_tokens (Some verb) option = Negotiate verb option ∷ []
 
--- the subnegotiation of TERMINAL-TYPE that begins with IS or SEND (RFC 1091, section 2)
-abbrev pub byte_of_is : ℕ
-byte_of_is = IS
-
-abbrev pub byte_of_send : ℕ
-byte_of_send = SEND
-
+-- the subnegotiation of TERMINAL-TYPE that begins with this code, IS or SEND (RFC 1091, section 2)
 abbrev pub terminal_type_token : ℕ → List ℕ → Telnet
-terminal_type_token code name = Subnegotiate (record { option = terminal_type; data_ = code ∷ name })
+terminal_type_token code name = Subnegotiate (record { option = TERMINAL_TYPE; data_ = code ∷ name })
 
 -- the bytes of tokens
 abbrev pub bytes_of : List Telnet → List ℕ

@@ -2,17 +2,19 @@
 
 use Rattle.std.specs.Prelude.{ℕ, [], ◌∷◌, Bool, true, false, ◌==◌, ◌&&◌, if◌then◌else◌, Option, Some, None}
 use Rattle.std.specs.Str.{bytes_eq}
+use Rattle.ws_telnet.specs.declared.codes.TheConstants.{TERMINAL_TYPE}
 use Rattle.ws_telnet.specs.declared.token.Verb.{Verb}
 use Rattle.ws_telnet.specs.declared.token.Verb.TheVariants.{Will, Wont, Do, Dont}
 use Rattle.ws_telnet.specs.declared.token.Sub.{Sub}
 use Rattle.ws_telnet.specs.declared.token.Telnet.{Telnet}
 use Rattle.ws_telnet.specs.declared.token.Telnet.TheVariants.{Command, Option as Negotiate, Sub as Subnegotiate}
 use Rattle.ws_nego.specs.declared.terminal.TerminalType.{TerminalType}
+use Rattle.ws_nego.specs.declared.options.TheConstants.{IS, SEND}
 use Rattle.ws_nego.specs.declared.options.Direction.{Direction}
 use Rattle.ws_nego.specs.declared.options.OptionTable.{OptionTable}
 use Rattle.ws_nego.specs.Terminal.{name_of}
-use Rattle.ws_nego.specs.Options.{terminal_type, entry, with_entry, filled, direction_at_station, refusal_of}
-use Rattle.ws_nego.specs.Options.{option_tokens, terminal_type_token, byte_of_is, byte_of_send, Answer, no_effect}
+use Rattle.ws_nego.specs.Options.{entry, with_entry, uniform_table, direction_at_station, refusal_of}
+use Rattle.ws_nego.specs.Options.{option_tokens, terminal_type_token, Answer, no_effect}
 
 -- its terminal, and which directions are on
 pub record StationState : Type 0 where
@@ -20,7 +22,7 @@ pub record StationState : Type 0 where
   pub on : OptionTable Bool
 
 abbrev pub new_station : TerminalType → StationState
-new_station terminal = record { terminal = terminal; on = filled false }
+new_station terminal = record { terminal = terminal; on = uniform_table false }
 
 -- The station's table: whether the direction is on afterwards, and the answer. What is asked and stands
 -- already isn't acknowledged (RFC 854, "GENERAL CONSIDERATIONS").
@@ -36,13 +38,13 @@ station_row Wont true = (false, Some Dont)
 
 -- SEND asks for the terminal's name, and IS brings it (RFC 1091, section 2)
 abbrev pub name_request : Telnet
-name_request = terminal_type_token byte_of_send []
+name_request = terminal_type_token SEND []
 
 abbrev pub name_answer : TerminalType → Telnet
-name_answer terminal = terminal_type_token byte_of_is (name_of terminal)
+name_answer terminal = terminal_type_token IS (name_of terminal)
 
 abbrev pub is_name_request : Sub → Bool
-is_name_request sub = (sub.option == terminal_type) && bytes_eq sub.data_ (byte_of_send ∷ [])
+is_name_request sub = (sub.option == TERMINAL_TYPE) && bytes_eq sub.data_ (SEND ∷ [])
 
 -- what the station does at a verb of an option, in a direction of its table or in none
 abbrev pub station_option_answer : StationState → Verb → ℕ → Option Direction → Answer StationState

@@ -58,7 +58,7 @@ impl Mode {
     }
 
     // What a direction is once it was asked for.
-    fn requested(self) -> Mode
+    fn once_requested(self) -> Mode
         ensures { result ≡ spec.mode_once_requested self }
     {
         match self {
@@ -131,7 +131,7 @@ impl HostOptions {
         ensures { result ≡ new_host }
     {
         HostOptions {
-            modes: OptionTable::filled(Mode::Off),
+            modes: OptionTable::uniform(Mode::Off),
             name: TerminalName::Unknown,
         }
     }
@@ -232,10 +232,10 @@ impl HostOptions {
         };
         let reply = request_reply(&self.modes);
         let modes = &mut self.modes;
-        modes.station_binary = modes.station_binary.requested();
-        modes.station_end_of_record = modes.station_end_of_record.requested();
-        modes.host_binary = modes.host_binary.requested();
-        modes.host_end_of_record = modes.host_end_of_record.requested();
+        modes.station_binary = modes.station_binary.once_requested();
+        modes.station_end_of_record = modes.station_end_of_record.once_requested();
+        modes.host_binary = modes.host_binary.once_requested();
+        modes.host_end_of_record = modes.host_end_of_record.once_requested();
         self.name = TerminalName::Accepted(terminal);
         Ok(reply)
     }

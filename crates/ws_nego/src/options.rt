@@ -39,8 +39,8 @@ pub struct OptionTable<T> {
 
 impl<T: Copy> OptionTable<T> {
     /// The table whose entries are all the same.
-    pub fn filled(value: T) -> Self
-        ensures { result ≡ spec.filled value }
+    pub fn uniform(value: T) -> Self
+        ensures { result ≡ spec.uniform_table value }
     {
         OptionTable {
             station_binary: value,

@@ -56,7 +56,7 @@ impl StationOptions {
     {
         StationOptions {
             terminal,
-            on: OptionTable::filled(false),
+            on: OptionTable::uniform(false),
         }
     }
 

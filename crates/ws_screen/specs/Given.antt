@@ -9,7 +9,7 @@ use Rattle.ws_screen.specs.Cells.{cell}
 use Rattle.ws_screen.specs.Events.{Event, did, ended, History}
 use Rattle.ws_screen.specs.Formats.{fields}
 use Rattle.ws_screen.specs.Shown.{Shown}
-use Rattle.ws_screen.specs.States.{switches, home_set, cursor, locked, message, blink, pending}
+use Rattle.ws_screen.specs.States.{switches, home_set, cursor, is_locked, message, blink, pending_read}
 use Rattle.ws_screen.specs.Writes.{open_write}
 
 pub record Gives (h : History) (s : Shown) : Type 0 where
@@ -18,10 +18,10 @@ pub record Gives (h : History) (s : Shown) : Type 0 where
   pub switches_are : s.switches ≡ switches h
   pub home_is : s.home_set ≡ home_set h
   pub cursor_is : s.cursor ≡ cursor h
-  pub locked_is : s.locked ≡ locked h
+  pub locked_is : s.locked ≡ is_locked h
   pub message_is : s.message ≡ message h
   pub blink_is : s.blink ≡ blink h
-  pub pending_is : s.pending ≡ pending h
+  pub pending_is : s.pending ≡ pending_read h
   pub writing_is : s.writing ≡ open_write h
 
 -- one event leads from the one screen to the other, whatever events gave the one

@@ -23,9 +23,9 @@ shown_char b = if (b == 0) || is_attribute b then 0x20
     else (if b == 0x1C then 0x2A else unwrap_or (char_of b) 0x2E)
 
 -- the character that a cell shows
-abbrev pub shown_at : List ℕ → ℕ → ℕ
-shown_at cells c = if is_hidden cells c then 0x20 else shown_char (slice_index cells c)
+abbrev pub char_at : List ℕ → ℕ → ℕ
+char_at cells c = if is_hidden cells c then 0x20 else shown_char (slice_index cells c)
 
 -- the 80 characters of a row, counted from 1
 unfoldable pub row_chars : List ℕ → ℕ → List ℕ
-row_chars cells row = map (shown_at cells) (range_with_len ((row - 1) * COLUMNS) COLUMNS)
+row_chars cells row = map (char_at cells) (range_with_len ((row - 1) * COLUMNS) COLUMNS)

@@ -77,7 +77,7 @@ pub fn row_text(cells: &[u8], first: usize, width: usize) -> ArrayString<160>
     requires short { width ≤ 80 }
     requires within { first + width ≤ length cells.now }
     ensures { result.bytes
-        ≡ encode_utf8_all (map (Spec.shown_at cells.now) (range_with_len first width)) }
+        ≡ encode_utf8_all (map (Spec.char_at cells.now) (range_with_len first width)) }
 {
     let mut text = ArrayString::new();
     let mut hidden = is_hidden(cells, first);

@@ -14,12 +14,12 @@ use Rattle.ws_screen.specs.Bodies.{after_elements, after_end, body_fault}
 use Rattle.ws_screen.specs.Events.{cancelled, History}
 use Rattle.ws_screen.specs.Formats.{fields}
 use Rattle.ws_screen.specs.declared.field.Field.{Field}
-use Rattle.ws_screen.specs.States.{pending}
+use Rattle.ws_screen.specs.States.{pending_read}
 use Rattle.ws_stream.specs.declared.answer_part.AnswerPart.{AnswerPart}
 use Rattle.ws_keys.specs.declared.host_answer.HostAnswer.{HostAnswer}
 use Rattle.ws_keys.specs.Readings.{read_answer}
 use Rattle.ws_keys.proofs.ReadingLaws.{same_reading}
-use Rattle.ws_screen.specs.ByHost.{layouts, left_by}
+use Rattle.ws_screen.specs.ByHost.{layouts, read_left_by}
 use Rattle.ws_session.specs.StationSide.{StationSide, opcode_events, opcode_answer, after_record}
 use Rattle.ws_session.specs.HostSide.{HostSide, sent_record, after_read}
 use Rattle.ws_session.proofs.Orders.{x_host, x_station, x_both, x_down, x_down_count, x_up, x_up_count}
@@ -84,11 +84,11 @@ answer_items (Body o other body ok) = none o other
     none o e = refl
 answer_items Stop = refl
 
-pending-opcode : (o : Opcode) → is_stop o ≡ false → (h : History) → pending (opcode_events o ++ h) ≡ pending h
+pending-opcode : (o : Opcode) → is_stop o ≡ false → (h : History) → pending_read (opcode_events o ++ h) ≡ pending_read h
 pending-opcode CancelInvite e h = cc
 pending-opcode o e h = refl
 
-pending-body : (h : History) (o : Opcode) → is_stop o ≡ false → (body : List Element) → pending (after_record h (sent_record o body)) ≡ left_by (pending h) body
+pending-body : (h : History) (o : Opcode) → is_stop o ≡ false → (body : List Element) → pending_read (after_record h (sent_record o body)) ≡ read_left_by (pending_read h) body
 pending-body h o other body = pending-opcode o other (after_end (after_elements h body)) ∙ pending-end (after_elements h body) ∙ pending-elements h body
 
 module _ (a : Option ReadKind) (c : Bool) (p : Option ReadKind) (later : List DownMark) (u : List UpMark) where
@@ -97,17 +97,17 @@ module _ (a : Option ReadKind) (c : Bool) (p : Option ReadKind) (later : List Do
   turn_body None t = gets_text a c p (mark_left None ∷ later) u t later refl
   turn_body (Some kind) t = gets_read a c p (mark_left (Some kind) ∷ later) u t kind later refl
 
-turn_record : (a : Option ReadKind) (c : Bool) (h : History) (d : Posted) (ds : List Posted) (es : List Sent) → TurnAt a c (pending h) (marks_down (d ∷ ds)) (marks_up es) → TurnAt a c (pending (after_record h (record_of d))) (marks_down ds) (marks_up (es ++ answers_to d))
+turn_record : (a : Option ReadKind) (c : Bool) (h : History) (d : Posted) (ds : List Posted) (es : List Sent) → TurnAt a c (pending_read h) (marks_down (d ∷ ds)) (marks_up es) → TurnAt a c (pending_read (after_record h (record_of d))) (marks_down ds) (marks_up (es ++ answers_to d))
 turn_record a c h (Body o other [] ok) ds es t =
-    subst (λ (z : List Sent). TurnAt a c (pending (after_record h (sent_record o []))) (marks_down ds) (marks_up z)) (sym (append-nil es))
+    subst (λ (z : List Sent). TurnAt a c (pending_read (after_record h (sent_record o []))) (marks_down ds) (marks_up z)) (sym (append-nil es))
     (subst (λ z. TurnAt a c z (marks_down ds) (marks_up es)) (sym (pending-body h o other [])) t)
 turn_record a c h (Body o other (e ∷ body) ok) ds es t =
-    let found = turn_body a c (pending h) (marks_down ds) (marks_up es) (left_by None (e ∷ body)) t in
-    let is : pending (after_record h (sent_record o (e ∷ body))) ≡ left_by None (e ∷ body) = pending-body h o other (e ∷ body) ∙ ap (λ q. left_by q (e ∷ body)) found.1 in
-    subst (λ (z : List Sent). TurnAt a c (pending (after_record h (sent_record o (e ∷ body)))) (marks_down ds) (marks_up z)) (sym (append-nil es))
+    let found = turn_body a c (pending_read h) (marks_down ds) (marks_up es) (read_left_by None (e ∷ body)) t in
+    let is : pending_read (after_record h (sent_record o (e ∷ body))) ≡ read_left_by None (e ∷ body) = pending-body h o other (e ∷ body) ∙ ap (λ q. read_left_by q (e ∷ body)) found.1 in
+    subst (λ (z : List Sent). TurnAt a c (pending_read (after_record h (sent_record o (e ∷ body)))) (marks_down ds) (marks_up z)) (sym (append-nil es))
     (subst (λ z. TurnAt a c z (marks_down ds) (marks_up es)) (sym is) found.0)
 turn_record a c h Stop ds es t =
-    subst (TurnAt a c None (marks_down ds)) (sym (marks_up_more es Ends)) (gets_stop a c (pending h) (StopMark ∷ marks_down ds) (marks_up es) t (marks_down ds) refl)
+    subst (TurnAt a c None (marks_down ds)) (sym (marks_up_more es Ends)) (gets_stop a c (pending_read h) (StopMark ∷ marks_down ds) (marks_up es) t (marks_down ds) refl)
 
 waits_more : (places : List Field) (asked : Option ReadKind) (es : List Sent) (later : List HostAnswer) (d : Posted) → Waits places asked es later → Waits places asked (es ++ answers_to d) later
 waits_more places asked es later (Body o other body ok) w = subst (λ (z : List Sent). Waits places asked z later) (sym (append-nil es)) w
@@ -135,8 +135,8 @@ station_record t ex s h us d ds es later b =
         alike = b.alike;
         fits = b.fits.1;
         within = within_record s.happened (record_of d) (whole d) b.within b.fits.0;
-        turn = turn_record (pending h.kept) h.cancelling s.happened d ds es b.turn;
-        waits = waits_more (layouts (fields h.kept)) (pending h.kept) es later d b.waits;
+        turn = turn_record (pending_read h.kept) h.cancelling s.happened d ds es b.turn;
+        waits = waits_more (layouts (fields h.kept)) (pending_read h.kept) es later d b.waits;
         closed = b.closed;
       },
     )
@@ -158,12 +158,12 @@ waits_any p q a o (Signal flags ∷ es) later n w = waits_any p q a o es later n
 
 module _ (t : TerminalType) (ex : Exchange) (s : StationSide) (h : HostSide) (ts : List Telnet) (ds : List Posted) (es : List Sent) where
   pub host_reply : (parts : List AnswerPart) (later : List HostAnswer) → Between t ex s h ts [] ds (Replies parts ∷ es) later
-      → (kind : ReadKind) × (x : HostAnswer) × (rest : List HostAnswer) × (host_allows_records h.options ≡ true) × (pending h.kept ≡ Some kind) × (read_answer kind (fields h.kept) parts ≡ Some x) × (later ≡ x ∷ rest)
+      → (kind : ReadKind) × (x : HostAnswer) × (rest : List HostAnswer) × (host_allows_records h.options ≡ true) × (pending_read h.kept ≡ Some kind) × (read_answer kind (fields h.kept) parts ≡ Some x) × (later ≡ x ∷ rest)
       × Between t ex s (after_read h h.cancelling) ts [] ds es rest
   host_reply parts later b =
       let ready = host_ready_for t ex s h ts ds (Replies parts) es later b in
       let w = b.waits in
-      let turn : TurnAt None h.cancelling (pending s.happened) (marks_down ds) (marks_up es) = gets_reply (pending h.kept) h.cancelling (pending s.happened) (marks_down ds) (Reply ∷ marks_up es) b.turn (marks_up es) refl in (
+      let turn : TurnAt None h.cancelling (pending_read s.happened) (marks_down ds) (marks_up es) = gets_reply (pending_read h.kept) h.cancelling (pending_read s.happened) (marks_down ds) (Reply ∷ marks_up es) b.turn (marks_up es) refl in (
         w.0,
         w.2,
         w.3,
@@ -179,7 +179,7 @@ module _ (t : TerminalType) (ex : Exchange) (s : StationSide) (h : HostSide) (ts
           fits = b.fits;
           within = b.within;
           turn = turn;
-          waits = waits_any (layouts (fields h.kept)) (layouts (fields (cancelled ∷ h.kept))) (pending h.kept) None es w.3 (no_answer None h.cancelling (pending s.happened) (marks_down ds) (marks_up es) turn refl) w.8;
+          waits = waits_any (layouts (fields h.kept)) (layouts (fields (cancelled ∷ h.kept))) (pending_read h.kept) None es w.3 (no_answer None h.cancelling (pending_read s.happened) (marks_down ds) (marks_up es) turn refl) w.8;
           closed = open_write_alike (cancelled ∷ h.kept) h.kept refl ∙ b.closed;
         },
       )
@@ -188,7 +188,7 @@ module _ (t : TerminalType) (ex : Exchange) (s : StationSide) (h : HostSide) (ts
       → (host_allows_records h.options ≡ true) × (h.cancelling ≡ true) × Between t ex s (after_read h false) ts [] ds es later
   host_end later b =
       let ready = host_ready_for t ex s h ts ds Ends es later b in
-      let found = gets_done (pending h.kept) h.cancelling (pending s.happened) (marks_down ds) (Done ∷ marks_up es) b.turn (marks_up es) refl in (
+      let found = gets_done (pending_read h.kept) h.cancelling (pending_read s.happened) (marks_down ds) (Done ∷ marks_up es) b.turn (marks_up es) refl in (
         ready,
         found.1,
         record {
@@ -199,7 +199,7 @@ module _ (t : TerminalType) (ex : Exchange) (s : StationSide) (h : HostSide) (ts
           fits = b.fits;
           within = b.within;
           turn = found.0;
-          waits = waits_any (layouts (fields h.kept)) (layouts (fields (cancelled ∷ h.kept))) (pending h.kept) None es later (no_answer None false (pending s.happened) (marks_down ds) (marks_up es) found.0 refl) b.waits;
+          waits = waits_any (layouts (fields h.kept)) (layouts (fields (cancelled ∷ h.kept))) (pending_read h.kept) None es later (no_answer None false (pending_read s.happened) (marks_down ds) (marks_up es) found.0 refl) b.waits;
           closed = open_write_alike (cancelled ∷ h.kept) h.kept refl ∙ b.closed;
         },
       )

@@ -10,7 +10,7 @@ use Rattle.ws_screen.specs.declared.read_kind.ReadKind.{ReadKind}
 use Rattle.ws_keys.specs.declared.host_answer.HostAnswer.{HostAnswer}
 use Rattle.ws_stream.specs.AnswerParts.{answer_rules}
 use Rattle.ws_stream.specs.declared.answer_part.AnswerPart.{AnswerPart}
-use Rattle.ws_session.specs.Answered.{coming, is_answer, answers_coming}
+use Rattle.ws_session.specs.Answered.{items_coming, is_answer, answers_coming}
 use Rattle.ws_session.specs.World.{World}
 use Rattle.ws_session.proofs.Betweens.{Sent, Replies, Ends, Signal, sents, tokens, Waits}
 use Rattle.ws_session.proofs.Flights.{size, total, total_cons, IsInside, InFlight}
@@ -19,15 +19,15 @@ use Rattle.ws_session.proofs.Sounds.{Sound}
 -- The answers that the host end hasn't told are on their way.
 
 module _ {Place U : Type 0} (rules : Rules Place U) where
-  from_here : (rest : List (Item U)) (part : ℕ) → IsInside rules rest part → coming rules rest part ≡ rest
+  from_here : (rest : List (Item U)) (part : ℕ) → IsInside rules rest part → items_coming rules rest part ≡ rest
   from_here [] part i = refl
   from_here (item ∷ rest) part i =
       let less : part < size rules item = i in
       let a : nat_lt part (size rules item) ≡ true = grind (arith, nat_tests) in
-      ap (λ (b : Bool). if b then item ∷ rest else coming rules rest (part - size rules item)) a
+      ap (λ (b : Bool). if b then item ∷ rest else items_coming rules rest (part - size rules item)) a
 
-  behind : (gone rest : List (Item U)) (part n : ℕ) → total rules gone + part ≡ n → IsInside rules rest part → coming rules (gone ++ rest) n ≡ rest
-  behind [] rest part n e i = ap (coming rules rest) (sym (same e)) ∙ from_here rest part i
+  behind : (gone rest : List (Item U)) (part n : ℕ) → total rules gone + part ≡ n → IsInside rules rest part → items_coming rules (gone ++ rest) n ≡ rest
+  behind [] rest part n e i = ap (items_coming rules rest) (sym (same e)) ∙ from_here rest part i
     where
       same : total rules [] + part ≡ n → part ≡ n
       same q = omega arith
@@ -35,11 +35,11 @@ module _ {Place U : Type 0} (rules : Rules Place U) where
       let all = total_cons rules g gone in
       let a : nat_lt n (size rules g) ≡ false = grind (arith, nat_tests) in
       let left : n - size rules g ≡ total rules gone + part = omega arith in
-      ap (λ (b : Bool). if b then g ∷ (gone ++ rest) else coming rules (gone ++ rest) (n - size rules g)) a
-      ∙ ap (coming rules (gone ++ rest)) left ∙ behind gone rest part (total rules gone + part) refl i
+      ap (λ (b : Bool). if b then g ∷ (gone ++ rest) else items_coming rules (gone ++ rest) (n - size rules g)) a
+      ∙ ap (items_coming rules (gone ++ rest)) left ∙ behind gone rest part (total rules gone + part) refl i
 
-  coming_is : (items : List (Item U)) (n : ℕ) (rest : List (Item U)) → InFlight rules items n rest → coming rules items n ≡ rest
-  coming_is items n rest f = ap (λ z. coming rules z n) (sym f.split) ∙ behind f.gone rest f.part n f.count f.inside
+  coming_is : (items : List (Item U)) (n : ℕ) (rest : List (Item U)) → InFlight rules items n rest → items_coming rules items n ≡ rest
+  coming_is items n rest f = ap (λ z. items_coming rules z n) (sym f.split) ∙ behind f.gone rest f.part n f.count f.inside
 
 no_answers : (us : List Telnet) (items : List (Item AnswerPart)) → filter is_answer (tokens us ++ items) ≡ filter is_answer items
 no_answers [] items = refl

@@ -5,7 +5,7 @@ use Rattle.ws_code.specs.declared.fault.Fault.{Fault}
 use Rattle.ws_code.specs.declared.fault.Fault.TheVariants.{Memory}
 use Rattle.ws_code.specs.Device.{MayTake, MayGive}
 use Rattle.ws_session.specs.declared.line.Line.{Line}
-use Rattle.ws_session.specs.Crossings.{Crossing, AreFaithful, Crossed, IsStopped, written_over}
+use Rattle.ws_session.specs.Crossings.{Crossing, AreFaithful, HaveCrossed, IsStopped, with_piece_at}
 use Rattle.ws_session.specs.World.{World, bytes_to_station, bytes_to_host, byte_to_station, byte_to_host}
 use Rattle.ws_session.proofs.DownSteps.{bytes_more}
 use Rattle.ws_session.proofs.UpSteps.{host_bytes_more}
@@ -14,12 +14,12 @@ use Rattle.ws_session.proofs.UpSteps.{host_bytes_more}
 
 module _ {S R : Type 0} (takes : MayTake S) (failures : S → ℕ) (gives : MayGive R) (misses : R → ℕ) where
   -- pieces, and then further ones
-  pub crossed_on : (a b c : Line S R) (cs ds : List Crossing) → Crossed takes failures gives misses a cs b → Crossed takes failures gives misses b ds c → Crossed takes failures gives misses a (cs ++ ds) c
-  crossed_on a b c [] ds p q = subst (λ (z : Line S R). Crossed takes failures gives misses z ds c) (sym p) q
+  pub crossed_on : (a b c : Line S R) (cs ds : List Crossing) → HaveCrossed takes failures gives misses a cs b → HaveCrossed takes failures gives misses b ds c → HaveCrossed takes failures gives misses a (cs ++ ds) c
+  crossed_on a b c [] ds p q = subst (λ (z : Line S R). HaveCrossed takes failures gives misses z ds c) (sym p) q
   crossed_on a b c (x ∷ cs) ds p q = (p.0, p.1, crossed_on p.0 b c cs ds p.2 q)
 
   -- a stop behind pieces that crossed
-  pub stop_behind : (a b c : Line S R) (cs : List Crossing) (fault : Fault) → Crossed takes failures gives misses a cs b → IsStopped takes failures gives misses b c fault → IsStopped takes failures gives misses a c fault
+  pub stop_behind : (a b c : Line S R) (cs : List Crossing) (fault : Fault) → HaveCrossed takes failures gives misses a cs b → IsStopped takes failures gives misses b c fault → IsStopped takes failures gives misses a c fault
   stop_behind a b c cs fault p q = record {
     crossings = cs ++ q.crossings;
     last = q.last;
@@ -29,13 +29,13 @@ module _ {S R : Type 0} (takes : MayTake S) (failures : S → ℕ) (gives : MayG
     failed = q.failed;
   }
 
-  pub stopped_behind : (a b c : Line S R) (cs : List Crossing) (fault : Fault) → Crossed takes failures gives misses a cs b → (fault ≡ Memory) ⊎ IsStopped takes failures gives misses b c fault → (fault ≡ Memory) ⊎ IsStopped takes failures gives misses a c fault
+  pub stopped_behind : (a b c : Line S R) (cs : List Crossing) (fault : Fault) → HaveCrossed takes failures gives misses a cs b → (fault ≡ Memory) ⊎ IsStopped takes failures gives misses b c fault → (fault ≡ Memory) ⊎ IsStopped takes failures gives misses a c fault
   stopped_behind a b c cs fault p (inl m) = inl m
   stopped_behind a b c cs fault p (inr k) = inr (stop_behind a b c cs fault p k)
 
 -- one of two lines stops
 module _ {S R T Q : Type 0} (takes : MayTake S) (failures : S → ℕ) (gives : MayGive R) (misses : R → ℕ) (takes' : MayTake T) (failures' : T → ℕ) (gives' : MayGive Q) (misses' : Q → ℕ) where
-  pub either_behind : (a b c : Line S R) (cs : List Crossing) (a' b' c' : Line T Q) (cs' : List Crossing) (fault : Fault) → Crossed takes failures gives misses a cs b → Crossed takes' failures' gives' misses' a' cs' b' → (fault ≡ Memory) ⊎ (IsStopped takes failures gives misses b c fault ⊎ IsStopped takes' failures' gives' misses' b' c' fault) → (fault ≡ Memory) ⊎ (IsStopped takes failures gives misses a c fault ⊎ IsStopped takes' failures' gives' misses' a' c' fault)
+  pub either_behind : (a b c : Line S R) (cs : List Crossing) (a' b' c' : Line T Q) (cs' : List Crossing) (fault : Fault) → HaveCrossed takes failures gives misses a cs b → HaveCrossed takes' failures' gives' misses' a' cs' b' → (fault ≡ Memory) ⊎ (IsStopped takes failures gives misses b c fault ⊎ IsStopped takes' failures' gives' misses' b' c' fault) → (fault ≡ Memory) ⊎ (IsStopped takes failures gives misses a c fault ⊎ IsStopped takes' failures' gives' misses' a' c' fault)
   either_behind a b c cs a' b' c' cs' fault p p' (inl m) = inl m
   either_behind a b c cs a' b' c' cs' fault p p' (inr (inl k)) = inr (inl (stop_behind takes failures gives misses a b c cs fault p k))
   either_behind a b c cs a' b' c' cs' fault p p' (inr (inr k)) = inr (inr (stop_behind takes' failures' gives' misses' a' b' c' cs' fault p' k))
@@ -74,7 +74,7 @@ host_bytes_on m (suc n) w =
     ∙ ap (λ k. bytes_to_host k w) (sym (add-suc m n))
 
 -- what stands at a place, put there again
-pub written_back : (bytes : List ℕ) (at n : ℕ) → at + n ≤ length bytes → written_over bytes at (take n (drop at bytes)) ≡ bytes
+pub written_back : (bytes : List ℕ) (at n : ℕ) → at + n ≤ length bytes → with_piece_at bytes at (take n (drop at bytes)) ≡ bytes
 written_back bytes at n h =
     let room : n ≤ length (drop at bytes) = subst (λ k. n ≤ k) (sym (length-drop at bytes)) (omega (arith, h)) in
     let long : length (take n (drop at bytes)) ≡ n = length-take-le n (drop at bytes) room in

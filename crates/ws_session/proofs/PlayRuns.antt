@@ -17,7 +17,7 @@ use Rattle.ws_session.specs.declared.player.Player.{Player}
 use Rattle.ws_session.specs.Moments.{outcome, due, later}
 use Rattle.ws_session.specs.Playing.{HasDone, HasCome}
 use Rattle.ws_session.specs.StationLeads.{Holding, StationLeads}
-use Rattle.ws_session.specs.StationRun.{IsRunFault, IsRun, counted, behind}
+use Rattle.ws_session.specs.StationRun.{IsRunFault, IsRun, refusal_count, behind}
 use Rattle.ws_session.specs.StationSide.{StationSide, new_station_side}
 use Rattle.ws_session.proofs.Plays.{text_of}
 use Rattle.ws_session.proofs.PlaySteps.{keys_taken}
@@ -47,7 +47,7 @@ module _ {R S : Type 0} (gives : MayGive R) (misses : R → ℕ) (takes : MayTak
     gave = gave_none source;
     come = record {
       is_behind = record { leads = done.leads; taken = keys_taken (new_station_side t) 0 keys };
-      refused = done.refused 0 refl ∙ ap counted (let e : 0 + (outcome (new_station_side t) (due 0 keys)).refused ≡ (outcome (new_station_side t) (due 0 keys)).refused = omega arith in e);
+      refused = done.refused 0 refl ∙ ap refusal_count (let e : 0 + (outcome (new_station_side t) (due 0 keys)).refused ≡ (outcome (new_station_side t) (due 0 keys)).refused = omega arith in e);
       records = done.records;
       left = left;
       few = omega (arith, done.records);

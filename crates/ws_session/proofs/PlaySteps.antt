@@ -14,10 +14,10 @@ use Rattle.ws_keys.specs.declared.key.Key.{Key}
 use Rattle.ws_session.specs.declared.player.Player.{Player}
 use Rattle.ws_session.specs.declared.refusal.Refusal.TheVariants.{At}
 use Rattle.ws_session.specs.declared.station.StationStep.{StationStep}
-use Rattle.ws_session.specs.Moments.{Moment, Arrives, Presses, Outcome, unmoved, followed_by, at_item, at_moment, outcome, goes_on, AreTaken, due, later, one_record, moments_from, moments}
-use Rattle.ws_session.specs.Playing.{HasDone, HasCome, records_from, left_from}
+use Rattle.ws_session.specs.Moments.{Moment, Arrives, Presses, Outcome, idle_outcome, outcome_of_both, at_item, at_moment, outcome, goes_on, AreTaken, due, later, one_record, moments_from, moments}
+use Rattle.ws_session.specs.Playing.{HasDone, HasCome, records_from, keys_left_from}
 use Rattle.ws_session.specs.StationLeads.{Holding, StationLeads, IsInside, IsTaken, IsStepped, is_record}
-use Rattle.ws_session.specs.StationRun.{counted, behind, run_text, RunRefuses, RunUnwritten, IsRunFault}
+use Rattle.ws_session.specs.StationRun.{refusal_count, behind, run_text, RunRefuses, RunUnwritten, IsRunFault}
 use Rattle.ws_session.specs.StationSide.{StationSide, new_station_side}
 use Rattle.ws_session.proofs.Plays.{text_of, text_append, outcome_append, none_due, later_by}
 
@@ -26,13 +26,13 @@ use Rattle.ws_session.proofs.Plays.{text_of, text_append, outcome_append, none_d
 -- ---- the moments of one item more
 
 moments_more : (n : ℕ) (keys : List (ℕ × Key)) (items : List (Item Element)) (item : Item Element)
-    → moments_from n keys (items ++ item ∷ []) ≡ moments_from n keys items ++ Arrives item ∷ due (records_from n items + one_record item) (left_from n keys items)
+    → moments_from n keys (items ++ item ∷ []) ≡ moments_from n keys items ++ Arrives item ∷ due (records_from n items + one_record item) (keys_left_from n keys items)
 moments_more n keys [] item = refl
 moments_more n keys (i ∷ items) item =
     ap (λ z. due n keys ++ Arrives i ∷ z) (moments_more (n + one_record i) (later n keys) items item)
-    ∙ sym (append_assoc (due n keys) (Arrives i ∷ moments_from (n + one_record i) (later n keys) items) (Arrives item ∷ due (records_from (n + one_record i) items + one_record item) (left_from (n + one_record i) (later n keys) items)))
+    ∙ sym (append_assoc (due n keys) (Arrives i ∷ moments_from (n + one_record i) (later n keys) items) (Arrives item ∷ due (records_from (n + one_record i) items + one_record item) (keys_left_from (n + one_record i) (later n keys) items)))
 
-left_more : (n : ℕ) (keys : List (ℕ × Key)) (items : List (Item Element)) (item : Item Element) → left_from n keys (items ++ item ∷ []) ≡ later (records_from n items + one_record item) (left_from n keys items)
+left_more : (n : ℕ) (keys : List (ℕ × Key)) (items : List (Item Element)) (item : Item Element) → keys_left_from n keys (items ++ item ∷ []) ≡ later (records_from n items + one_record item) (keys_left_from n keys items)
 left_more n keys [] item = refl
 left_more n keys (i ∷ items) item = left_more (n + one_record i) (later n keys) items item
 
@@ -49,7 +49,7 @@ due_later n (k ∷ ks) = by_test (nat_lt n k.0) refl (due_later n ks)
     by_test false e next = let q = later_by n k ks e in (ap (due n) q ∙ next.0, ap (later n) q ∙ next.1 ∙ sym q)
 
 -- behind items no key is due
-pub left_settled : (n : ℕ) (keys : List (ℕ × Key)) (items : List (Item Element)) → (due (records_from n items) (left_from n keys items) ≡ []) × (later (records_from n items) (left_from n keys items) ≡ left_from n keys items)
+pub left_settled : (n : ℕ) (keys : List (ℕ × Key)) (items : List (Item Element)) → (due (records_from n items) (keys_left_from n keys items) ≡ []) × (later (records_from n items) (keys_left_from n keys items) ≡ keys_left_from n keys items)
 left_settled n keys [] = due_later n keys
 left_settled n keys (i ∷ items) = left_settled (n + one_record i) (later n keys) items
 
@@ -97,7 +97,7 @@ module _ {S : Type 0} (takes : MayTake S) (failures : S → ℕ) (t : TerminalTy
     more = items ++ taken.item ∷ []
 
     abbrev due_then : List Moment
-    due_then = due (records_from 0 items + one_record taken.item) (left_from 0 keys items)
+    due_then = due (records_from 0 items + one_record taken.item) (keys_left_from 0 keys items)
 
     abbrev did : Outcome
     did = record { side = taken.next; written = taken.writes; refused = 0 }
@@ -105,16 +105,16 @@ module _ {S : Type 0} (takes : MayTake S) (failures : S → ℕ) (t : TerminalTy
     abbrev keyed : Outcome
     keyed = outcome taken.next due_then
 
-    one_more : behind t keys more ≡ followed_by so_far (followed_by did keyed)
+    one_more : behind t keys more ≡ outcome_of_both so_far (outcome_of_both did keyed)
     one_more =
         ap (outcome (new_station_side t)) (moments_more 0 keys items taken.item) ∙ outcome_append (new_station_side t) (moments keys items) (Arrives taken.item ∷ due_then)
-        ∙ ap (λ r. let a : Outcome = at_item so_far.side r in followed_by so_far (followed_by a (outcome a.side due_then))) taken.goes_on
+        ∙ ap (λ r. let a : Outcome = at_item so_far.side r in outcome_of_both so_far (outcome_of_both a (outcome a.side due_then))) taken.goes_on
 
     taken_more : AreTaken (new_station_side t) (moments keys more)
     taken_more =
         subst (AreTaken (new_station_side t)) (sym (moments_more 0 keys items taken.item))
         (taken_append (new_station_side t) (moments keys items) (Arrives taken.item ∷ due_then) c.is_behind.taken
-        (ap goes_on taken.goes_on, keys_taken (at_moment so_far.side (Arrives taken.item)).side (records_from 0 items + one_record taken.item) (left_from 0 keys items)))
+        (ap goes_on taken.goes_on, keys_taken (at_moment so_far.side (Arrives taken.item)).side (records_from 0 items + one_record taken.item) (keys_left_from 0 keys items)))
 
     text_more : run_text t keys items ++ (reply ++ text_of keyed.written) ≡ run_text t keys more
     text_more =
@@ -123,11 +123,11 @@ module _ {S : Type 0} (takes : MayTake S) (failures : S → ℕ) (t : TerminalTy
 
     -- an item is, and the keys that are due behind it are pressed
     item_comes : (records : ℕ) (new : Player) (mid to : S) → records ≡ old.records + one_record taken.item → WentOut takes failures now mid reply
-        → HasDone takes failures longer more (record old { records = records }) new mid to keyed → drop new.pressed keys ≡ later (records_from 0 items + one_record taken.item) (left_from 0 keys items) → one_record taken.item ≤ 1
+        → HasDone takes failures longer more (record old { records = records }) new mid to keyed → drop new.pressed keys ≡ later (records_from 0 items + one_record taken.item) (keys_left_from 0 keys items) → one_record taken.item ≤ 1
         → HasCome takes failures t keys start new to longer more
     item_comes records new mid to is went done left one = record {
       is_behind = record { leads = subst (λ (o : Outcome). StationLeads new.station longer more o.side) (sym one_more) done.leads; taken = taken_more };
-      refused = done.refused so_far.refused c.refused ∙ ap counted (let e : so_far.refused + keyed.refused ≡ so_far.refused + (0 + keyed.refused) = omega arith in e) ∙ ap (λ (o : Outcome). counted o.refused) (sym one_more);
+      refused = done.refused so_far.refused c.refused ∙ ap refusal_count (let e : so_far.refused + keyed.refused ≡ so_far.refused + (0 + keyed.refused) = omega arith in e) ∙ ap (λ (o : Outcome). refusal_count o.refused) (sym one_more);
       records = done.records ∙ is ∙ ap (λ n. n + one_record taken.item) c.records ∙ sym (records_more 0 items taken.item);
       left = left ∙ sym (left_more 0 keys items taken.item);
       few = omega (arith, done.records, is, one, c.few, length-append bytes (byte ∷ []));
@@ -178,18 +178,18 @@ module _ {S : Type 0} (takes : MayTake S) (failures : S → ℕ) (t : TerminalTy
         let one : one_record item ≡ 0 = one_of item (sym taken.1 ∙ e) in
         let same : records_from 0 items + one_record item ≡ records_from 0 items = omega (arith, one) in
         let settled = left_settled 0 keys items in
-        let none : due (records_from 0 items + one_record item) (left_from 0 keys items) ≡ [] = ap (λ n. due n (left_from 0 keys items)) same ∙ settled.0 in
+        let none : due (records_from 0 items + one_record item) (keys_left_from 0 keys items) ≡ [] = ap (λ n. due n (keys_left_from 0 keys items)) same ∙ settled.0 in
         let side : StationSide = taken.0.next in
-        let done : HasDone takes failures longer (items ++ item ∷ []) (record old { records = old.records }) old to to (unmoved side) = record {
+        let done : HasDone takes failures longer (items ++ item ∷ []) (record old { records = old.records }) old to to (idle_outcome side) = record {
           leads = taken.0.leads;
-          refused = λ n is. is ∙ ap counted (let f : n ≡ n + 0 = omega arith in f);
+          refused = λ n is. is ∙ ap refusal_count (let f : n ≡ n + 0 = omega arith in f);
           records = refl;
           wrote = went_out_none takes failures to;
         } in (
           items ++ item ∷ [],
           item_comes step.reply taken.0 old.records old to to (omega (arith, one)) went
               (subst (λ (ms : List Moment). HasDone takes failures longer (items ++ item ∷ []) (record old { records = old.records }) old to to (outcome side ms)) (sym none) done)
-              (c.left ∙ sym settled.1 ∙ ap (λ n. later n (left_from 0 keys items)) (sym same)) (omega (arith, one)),
+              (c.left ∙ sym settled.1 ∙ ap (λ n. later n (keys_left_from 0 keys items)) (sym same)) (omega (arith, one)),
         )
 
     -- it ends one
@@ -208,7 +208,7 @@ module _ {S : Type 0} (takes : MayTake S) (failures : S → ℕ) (t : TerminalTy
           let item : Item Element = taken.0.item in
           let n = counts item (sym taken.1 ∙ ends) in
           let one : one_record item ≡ 1 = one_of_record item (sym taken.1 ∙ ends) in
-          let at : due records (drop old.pressed keys) ≡ due (records_from 0 items + one_record item) (left_from 0 keys items) = ap (λ z. due z (drop old.pressed keys)) n.1 ∙ ap (due (records_from 0 items + one_record item)) c.left in (
+          let at : due records (drop old.pressed keys) ≡ due (records_from 0 items + one_record item) (keys_left_from 0 keys items) = ap (λ z. due z (drop old.pressed keys)) n.1 ∙ ap (due (records_from 0 items + one_record item)) c.left in (
             items ++ item ∷ [],
             item_comes step.reply taken.0 records new mid to n.0 went
                 (subst (λ (ms : List Moment). HasDone takes failures longer (items ++ item ∷ []) (record old { records = records }) new mid to (outcome taken.0.next ms)) at (done longer (items ++ item ∷ []) taken.0.next taken.0.leads))
@@ -222,7 +222,7 @@ module _ {S : Type 0} (takes : MayTake S) (failures : S → ℕ) (t : TerminalTy
       keys_fail to failed (inr taken) =
           let item : Item Element = taken.0.item in
           let n = counts item (sym taken.1 ∙ ends) in
-          let at : due records (drop old.pressed keys) ≡ due (records_from 0 items + one_record item) (left_from 0 keys items) = ap (λ z. due z (drop old.pressed keys)) n.1 ∙ ap (due (records_from 0 items + one_record item)) c.left in
+          let at : due records (drop old.pressed keys) ≡ due (records_from 0 items + one_record item) (keys_left_from 0 keys items) = ap (λ z. due z (drop old.pressed keys)) n.1 ∙ ap (due (records_from 0 items + one_record item)) c.left in
           keys_unwritten step.reply taken.0 mid to went
           (subst (λ (ms : List Moment). FailedWithin takes failures mid to (text_of (outcome taken.0.next ms).written)) at (failed longer (items ++ item ∷ []) taken.0.next taken.0.leads))
 

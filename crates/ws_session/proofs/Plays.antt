@@ -18,10 +18,10 @@ use Rattle.ws_keys.specs.declared.key.Key.{Key}
 use Rattle.ws_session.specs.AnswerSpelling.{answer_spelling}
 use Rattle.ws_session.specs.declared.player.Player.{Player}
 use Rattle.ws_session.specs.declared.key_fault.KeyFault.{KeyFault}
-use Rattle.ws_session.specs.Moments.{Moment, Presses, Outcome, unmoved, followed_by, at_key, at_moment, outcome, due, later}
+use Rattle.ws_session.specs.Moments.{Moment, Presses, Outcome, idle_outcome, outcome_of_both, at_key, at_moment, outcome, due, later}
 use Rattle.ws_session.specs.Playing.{HasDone}
 use Rattle.ws_session.specs.StationLeads.{Holding, StationLeads, IsKeyed}
-use Rattle.ws_session.specs.StationRun.{counted}
+use Rattle.ws_session.specs.StationRun.{refusal_count}
 use Rattle.ws_session.specs.StationSide.{StationSide, KeyReaction}
 
 -- What the keys of a run make of its player.
@@ -37,24 +37,24 @@ text_append xs ys = flat_map-append (item_spelling answer_rules) xs ys
 made : (side : StationSide) (written : List (Item AnswerPart)) (refused : ℕ) → Outcome
 made side written refused = record { side = side; written = written; refused = refused }
 
-pub followed_assoc : (a b c : Outcome) → followed_by (followed_by a b) c ≡ followed_by a (followed_by b c)
+pub followed_assoc : (a b c : Outcome) → outcome_of_both (outcome_of_both a b) c ≡ outcome_of_both a (outcome_of_both b c)
 followed_assoc a b c =
     ap (λ z. let o : Outcome = record { side = c.side; written = z; refused = (a.refused + b.refused) + c.refused } in o) (append_assoc a.written b.written c.written)
     ∙ ap (λ n. let o : Outcome = record { side = c.side; written = a.written ++ (b.written ++ c.written); refused = n } in o) (let e : (a.refused + b.refused) + c.refused ≡ a.refused + (b.refused + c.refused) = omega arith in e)
 
-pub unmoved_first : (s : StationSide) (b : Outcome) → followed_by (unmoved s) b ≡ b
+pub unmoved_first : (s : StationSide) (b : Outcome) → outcome_of_both (idle_outcome s) b ≡ b
 unmoved_first s b = ap (λ n. let o : Outcome = record { side = b.side; written = b.written; refused = n } in o) (let e : 0 + b.refused ≡ b.refused = omega arith in e)
 
-pub unmoved_last : (a : Outcome) → followed_by a (unmoved a.side) ≡ a
+pub unmoved_last : (a : Outcome) → outcome_of_both a (idle_outcome a.side) ≡ a
 unmoved_last a =
     ap (λ z. let o : Outcome = record { side = a.side; written = z; refused = a.refused + 0 } in o) (append-nil a.written)
     ∙ ap (λ n. let o : Outcome = record { side = a.side; written = a.written; refused = n } in o) (let e : a.refused + 0 ≡ a.refused = omega arith in e)
 
-pub outcome_append : (s : StationSide) (ms ns : List Moment) → outcome s (ms ++ ns) ≡ followed_by (outcome s ms) (outcome (outcome s ms).side ns)
+pub outcome_append : (s : StationSide) (ms ns : List Moment) → outcome s (ms ++ ns) ≡ outcome_of_both (outcome s ms) (outcome (outcome s ms).side ns)
 outcome_append s [] ns = sym (unmoved_first s (outcome s ns))
 outcome_append s (m ∷ ms) ns =
     let a : Outcome = at_moment s m in
-    ap (followed_by a) (outcome_append a.side ms ns) ∙ sym (followed_assoc a (outcome a.side ms) (outcome (outcome a.side ms).side ns))
+    ap (outcome_of_both a) (outcome_append a.side ms ns) ∙ sym (followed_assoc a (outcome a.side ms) (outcome (outcome a.side ms).side ns))
 
 -- what an answer is spelled as
 abbrev Sends : Holding → List ℕ → List (Item Element) → List ℕ → Outcome → Type 0
@@ -70,8 +70,8 @@ key_sends old station bytes items side key Attention k =
 key_sends old station bytes items side key SystemRequest k =
     subst (λ (z : KeyReaction). Sends station bytes items (answer_spelling SystemRequest) (at_key side z)) (sym k.0) (refl, k.1, refl)
 
-add_none : (n m : ℕ) (before : ℕ) → m ≡ 0 → n ≡ counted before → n ≡ counted (before + m)
-add_none n m before e is = is ∙ ap counted (let f : before ≡ before + m = omega (arith, e) in f)
+add_none : (n m : ℕ) (before : ℕ) → m ≡ 0 → n ≡ refusal_count before → n ≡ refusal_count (before + m)
+add_none n m before e is = is ∙ ap refusal_count (let f : before ≡ before + m = omega (arith, e) in f)
 
 module _ {S : Type 0} (takes : MayTake S) (failures : S → ℕ) (old : Player) (bytes : List ℕ) (items : List (Item Element)) (side : StationSide) (key : Key) (station : Holding) where
   abbrev Done : Player → S → S → KeyReaction → Type 0
@@ -105,7 +105,7 @@ module _ {S : Type 0} (takes : MayTake S) (failures : S → ℕ) (old : Player) 
       → HasDone takes failures bytes items old (record old { station = station; keys_refused = count }) now now (at_moment side (Presses key))
   refused_done now fault count l k is = subst (Done (record old { station = station; keys_refused = count }) now now) (sym k.0) (record {
     leads = subst (λ (z : Holding). StationLeads z bytes items side) (sym k.1) l;
-    refused = λ before e. (let f : count ≡ counted (before + 1) = omega (arith, e, is) in f);
+    refused = λ before e. (let f : count ≡ refusal_count (before + 1) = omega (arith, e, is) in f);
     records = refl;
     wrote = went_out_none takes failures now;
   })
@@ -113,10 +113,10 @@ module _ {S : Type 0} (takes : MayTake S) (failures : S → ℕ) (old : Player) 
 -- one after another
 module _ {S : Type 0} (takes : MayTake S) (failures : S → ℕ) (bytes : List ℕ) (items : List (Item Element)) where
   pub done_both : (old mid new : Player) (from between to : S) (a b : Outcome) → HasDone takes failures bytes items old mid from between a → HasDone takes failures bytes items mid new between to b
-      → HasDone takes failures bytes items old new from to (followed_by a b)
+      → HasDone takes failures bytes items old new from to (outcome_of_both a b)
   done_both old mid new from between to a b p q = record {
     leads = q.leads;
-    refused = λ before is. q.refused (before + a.refused) (p.refused before is) ∙ ap counted (let e : (before + a.refused) + b.refused ≡ before + (a.refused + b.refused) = omega arith in e);
+    refused = λ before is. q.refused (before + a.refused) (p.refused before is) ∙ ap refusal_count (let e : (before + a.refused) + b.refused ≡ before + (a.refused + b.refused) = omega arith in e);
     records = q.records ∙ p.records;
     wrote = subst (WentOut takes failures from to) (sym (text_append a.written b.written)) (went_out_both takes failures from between to (text_of a.written) (text_of b.written) p.wrote q.wrote);
   }
@@ -193,7 +193,7 @@ module _ {S : Type 0} (takes : MayTake S) (failures : S → ℕ) where
             let d = p.did bytes items side l in
             let o : Outcome = outcome side p.moments in
             let b : Outcome = at_moment o.side (Presses k.1) in
-            let e : followed_by o b ≡ outcome side (p.moments ++ Presses k.1 ∷ []) = ap (followed_by o) (sym (unmoved_last b)) ∙ sym (outcome_append side p.moments (Presses k.1 ∷ [])) in
+            let e : outcome_of_both o b ≡ outcome side (p.moments ++ Presses k.1 ∷ []) = ap (outcome_of_both o) (sym (unmoved_last b)) ∙ sym (outcome_append side p.moments (Presses k.1 ∷ [])) in
             let both = done_both takes failures bytes items first now next from mid to o b d (q bytes items o.side d.leads) in
             subst (HasDone takes failures bytes items first (record next { pressed = place }) from to) e (record { leads = both.leads; refused = both.refused; records = both.records; wrote = both.wrote });
       }
@@ -207,7 +207,7 @@ module _ {S : Type 0} (takes : MayTake S) (failures : S → ℕ) where
           let o : Outcome = outcome side p.moments in
           let b : Outcome = at_moment o.side (Presses k.1) in
           let rest : List Moment = due first.records (drop (now.pressed + 1) keys) in
-          let e : outcome side (due first.records (drop first.pressed keys)) ≡ followed_by o (followed_by b (outcome b.side rest)) =
+          let e : outcome side (due first.records (drop first.pressed keys)) ≡ outcome_of_both o (outcome_of_both b (outcome b.side rest)) =
           ap (outcome side) (rest_due ∙ append_assoc p.moments (Presses k.1 ∷ []) rest) ∙ outcome_append side p.moments (Presses k.1 ∷ rest) in
           let text : text_of o.written ++ (text_of b.written ++ text_of (outcome b.side rest).written) ≡ text_of (outcome side (due first.records (drop first.pressed keys))).written =
           ap (λ z. text_of o.written ++ z) (sym (text_append b.written (outcome b.side rest).written)) ∙ sym (text_append o.written (b.written ++ (outcome b.side rest).written)) ∙ ap (λ (z : Outcome). text_of z.written) (sym e) in

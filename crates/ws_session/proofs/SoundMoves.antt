@@ -12,7 +12,7 @@ use Rattle.ws_stream.specs.declared.element.Element.{Element}
 use Rattle.ws_stream.specs.Elements.{element_rules}
 use Rattle.ws_screen.specs.declared.read_kind.ReadKind.{ReadKind}
 use Rattle.ws_screen.specs.Bodies.{after_elements, after_end, body_fault}
-use Rattle.ws_screen.specs.States.{pending}
+use Rattle.ws_screen.specs.States.{pending_read}
 use Rattle.ws_keys.specs.declared.key.Key.{Key}
 use Rattle.ws_keys.specs.declared.key.Key.TheVariants.{Aid as Send, Attention, SystemRequest}
 use Rattle.ws_keys.specs.declared.key.KeyRefusal.{KeyRefusal}
@@ -31,7 +31,7 @@ use Rattle.ws_session.specs.declared.world.Event.TheVariants.{KeyRefused, SendRe
 use Rattle.ws_session.specs.Answered.{answers_in}
 use Rattle.ws_session.specs.Reaction.{empty_record}
 use Rattle.ws_session.specs.StationSide.{screen_at, RefusesKey, sends, after_key, answers_read, presses, key_by_refusal, station_key}
-use Rattle.ws_session.specs.HostSide.{asked, SendReaction, RefusesSend, Sends, is_outstanding, sent_record, is_too_big, host_sends_body, host_send, host_cancel}
+use Rattle.ws_session.specs.HostSide.{asked_read, SendReaction, RefusesSend, Sends, is_outstanding, sent_record, is_too_big, host_sends_body, host_send, host_cancel}
 use Rattle.ws_session.specs.World.{World, station_pressed, after_press, host_sent, host_sends, after_send}
 use Rattle.ws_session.proofs.Flights.{InFlight, written}
 use Rattle.ws_session.proofs.Betweens.{is_stop, Posted, Body, Stop, posted, Sent, Replies, Signal, sents, tokens}
@@ -80,7 +80,7 @@ module _ (t : TerminalType) where
   must_allow false e = cc
 
   module _ (w : World) (s : Sound t w) where
-    silent : (key : Key) → pending (events_by (edit_of (screen_at w.station) key) ++ w.station.happened) ≡ pending w.station.happened → Sound t (record w { station = after_key w.station key })
+    silent : (key : Key) → pending_read (events_by (edit_of (screen_at w.station) key) ++ w.station.happened) ≡ pending_read w.station.happened → Sound t (record w { station = after_key w.station key })
     silent key same = record {
       ts = s.ts;
       us = s.us;
@@ -117,7 +117,7 @@ module _ (t : TerminalType) where
       host_going = s.host_going;
     }
 
-    answers_by : (aid : ℕ) → station_allows_records w.station.options ≡ true → (o : Option ReadKind) → pending w.station.happened ≡ o → Sound t (station_pressed w (answers_read w.station aid o))
+    answers_by : (aid : ℕ) → station_allows_records w.station.options ≡ true → (o : Option ReadKind) → pending_read w.station.happened ≡ o → Sound t (station_pressed w (answers_read w.station aid o))
     answers_by aid allows None is =
         silent (Send aid) (pending-keyed (edit_of (screen_at w.station) (Send aid)) w.station.happened true (aids_answer (screen_at w.station) (Send aid)) ∙ sym is)
     answers_by aid allows (Some kind) is =
@@ -140,7 +140,7 @@ module _ (t : TerminalType) where
         }
 
     by_key : (key : Key) → (sends key && not (station_allows_records w.station.options)) ≡ false → Sound t (station_pressed w (presses w.station key))
-    by_key (Send aid) e = answers_by aid (must_allow (station_allows_records w.station.options) e) (pending w.station.happened) refl
+    by_key (Send aid) e = answers_by aid (must_allow (station_allows_records w.station.options) e) (pending_read w.station.happened) refl
     by_key Attention e = signals 0x4000 (must_allow (station_allows_records w.station.options) e)
     by_key SystemRequest e = signals 0x0400 (must_allow (station_allows_records w.station.options) e)
     by_key key e = unanswered key refl
@@ -208,7 +208,7 @@ module _ (t : TerminalType) where
     pub cancel : Sound t (host_sent w (host_cancel w.host))
     cancel = by_allowed (host_allows_records w.host.options) refl
       where
-        by_test : host_allows_records w.host.options ≡ true → (o : Option ReadKind) → pending w.host.kept ≡ o → (c : Bool) → w.host.cancelling ≡ c
+        by_test : host_allows_records w.host.options ≡ true → (o : Option ReadKind) → pending_read w.host.kept ≡ o → (c : Bool) → w.host.cancelling ≡ c
             → Sound t (host_sent w (if is_some o && not c then Sends (record { options = w.host.options; kept = w.host.kept; cancelling = true }) (empty_record 0 CancelInvite) else RefusesSend NoReadToCancel))
         by_test ready None e c f = send_refused w NoReadToCancel s
         by_test ready (Some kind) e true f = send_refused w NoReadToCancel s
@@ -230,9 +230,9 @@ module _ (t : TerminalType) where
 
         by_allowed : (b : Bool) → host_allows_records w.host.options ≡ b
             → Sound t (host_sent w (if not b then RefusesSend NotAllowed
-            else (if is_some (asked w.host) && not w.host.cancelling then Sends (record { options = w.host.options; kept = w.host.kept; cancelling = true }) (empty_record 0 CancelInvite) else RefusesSend NoReadToCancel)))
+            else (if is_some (asked_read w.host) && not w.host.cancelling then Sends (record { options = w.host.options; kept = w.host.kept; cancelling = true }) (empty_record 0 CancelInvite) else RefusesSend NoReadToCancel)))
         by_allowed false e = send_refused w NotAllowed s
-        by_allowed true e = by_test e (pending w.host.kept) refl w.host.cancelling refl
+        by_allowed true e = by_test e (pending_read w.host.kept) refl w.host.cancelling refl
 
     pub by_opcode : (o : Opcode) (body : List Element) → Sound t (host_sent w (host_sends w.host o body))
     by_opcode CancelInvite body = cancel

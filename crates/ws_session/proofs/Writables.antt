@@ -3,7 +3,8 @@ use Rattle.std.proofs.Common.{◌≡◌, ℕ, ◌<◌, Bool, true, false, List, 
 use Rattle.std.specs.List.{AllByRecursion}
 use Rattle.ws_code.specs.declared.reason.Reason.{Reason}
 use Rattle.ws_code.specs.declared.reason.Reason.TheVariants.{RecordBeforeNegotiation}
-use Rattle.ws_nego.specs.Options.{Answer, binary, end_of_record}
+use Rattle.ws_telnet.specs.declared.codes.TheConstants.{BINARY, END_OF_RECORD}
+use Rattle.ws_nego.specs.Options.{Answer}
 use Rattle.ws_nego.specs.Host.{HostState, host_answer, host_option_answer, host_table_answer, host_row, host_sub_answer, host_name_answer, host_judgement, after_name_request, is_name_withheld, is_name_offered, name_in, request, requests, host_allows_records}
 use Rattle.ws_nego.specs.Options.{direction_at_host}
 use Rattle.ws_nego.specs.Station.{name_request}
@@ -18,7 +19,7 @@ use Rattle.ws_screen.specs.Formats.{fields}
 use Rattle.ws_screen.specs.declared.read_kind.ReadKind.{ReadKind}
 use Rattle.ws_keys.specs.Readings.{read_answer}
 use Rattle.ws_keys.specs.declared.host_answer.HostAnswer.{HostAnswer}
-use Rattle.ws_session.specs.HostSide.{HostSide, Told, asked, host_negotiates, host_reads, host_reads_by, host_ends_cancel, host_takes_record, host_takes}
+use Rattle.ws_session.specs.HostSide.{HostSide, Told, asked_read, host_negotiates, host_reads, host_reads_by, host_ends_cancel, host_takes_record, host_takes}
 use Rattle.ws_telnet.specs.Token.{IsTelnet}
 use Rattle.ws_telnet.specs.declared.token.Verb.{Verb}
 use Rattle.ws_telnet.specs.declared.token.Telnet.{Telnet}
@@ -121,12 +122,12 @@ request_in_range Asked verb option h = (h, tt)
 
 requests_in_range : (modes : OptionTable Mode) → AllByRecursion IsTelnet (requests modes)
 requests_in_range modes =
-    let a = request modes.station_end_of_record Do end_of_record in
-    let b = request modes.host_end_of_record Will end_of_record in
-    let c = request modes.station_binary Do binary in
-    let d = request modes.host_binary Will binary in
-    all_append IsTelnet ((a ++ b) ++ c) d (all_append IsTelnet (a ++ b) c (all_append IsTelnet a b (request_in_range modes.station_end_of_record Do end_of_record (omega arith)) (request_in_range modes.host_end_of_record Will end_of_record (omega arith)))
-    (request_in_range modes.station_binary Do binary (omega arith))) (request_in_range modes.host_binary Will binary (omega arith))
+    let a = request modes.station_end_of_record Do END_OF_RECORD in
+    let b = request modes.host_end_of_record Will END_OF_RECORD in
+    let c = request modes.station_binary Do BINARY in
+    let d = request modes.host_binary Will BINARY in
+    all_append IsTelnet ((a ++ b) ++ c) d (all_append IsTelnet (a ++ b) c (all_append IsTelnet a b (request_in_range modes.station_end_of_record Do END_OF_RECORD (omega arith)) (request_in_range modes.host_end_of_record Will END_OF_RECORD (omega arith)))
+    (request_in_range modes.station_binary Do BINARY (omega arith))) (request_in_range modes.host_binary Will BINARY (omega arith))
 
 asks_in_range : IsTelnet name_request
 asks_in_range = search rules
@@ -167,7 +168,7 @@ WritesWell (Refuses reason) = Unit {0}
 WritesWell (GoesOn end told) = AreWritable element_rules told.items
 
 record_writes : (h : HostSide) (flags : ℕ) (o : Opcode) (parts : List AnswerPart) → WritesWell (host_takes_record h flags o parts)
-record_writes h flags PutGet parts = by_kind (asked h)
+record_writes h flags PutGet parts = by_kind (asked_read h)
   where
     by_answer : (o : Option HostAnswer) → WritesWell (host_reads h o)
     by_answer None = tt

@@ -17,22 +17,22 @@ abbrev pub AreFaithful : List Crossing → Type 0
 AreFaithful crossings = AllByRecursion (λ (c : Crossing). c.read ≡ c.sent) crossings
 
 -- a piece in the place of as many bytes
-abbrev pub written_over : List ℕ → ℕ → List ℕ → List ℕ
-written_over bytes at piece = take at bytes ++ piece ++ drop (at + length piece) bytes
+abbrev pub with_piece_at : List ℕ → ℕ → List ℕ → List ℕ
+with_piece_at bytes at piece = take at bytes ++ piece ++ drop (at + length piece) bytes
 
 module _ {S R : Type 0} (takes : MayTake S) (failures : S → ℕ) (gives : MayGive R) (misses : R → ℕ) where
   -- the pieces crossed the line, one after another
-  abbrev pub Crossed : Line S R → List Crossing → Line S R → Type 0
-  Crossed from [] to = from ≡ to
-  Crossed from (c ∷ crossings) to = (next : Line S R)
+  abbrev pub HaveCrossed : Line S R → List Crossing → Line S R → Type 0
+  HaveCrossed from [] to = from ≡ to
+  HaveCrossed from (c ∷ crossings) to = (next : Line S R)
       × IsCarried takes failures from.sink next.sink gives misses from.source next.source c.sent c.read
-      × Crossed next crossings to
+      × HaveCrossed next crossings to
 
   -- some pieces crossed the line, and the next one did not, for this fault
   pub record IsStopped (from to : Line S R) (fault : Fault) : Type 0 where
     pub crossings : List Crossing
     pub last : Line S R
-    pub crossed : Crossed from crossings last
+    pub crossed : HaveCrossed from crossings last
     pub bytes : List ℕ
     pub slice : List ℕ
     pub failed : IsCarryFault takes failures last.sink to.sink gives misses last.source to.source bytes slice fault

@@ -20,21 +20,21 @@ pub record Outcome : Type 0 where
   pub written : List (Item AnswerPart)
   pub refused : ℕ
 
-abbrev pub unmoved : StationSide → Outcome
-unmoved s = record { side = s; written = []; refused = 0 }
+abbrev pub idle_outcome : StationSide → Outcome
+idle_outcome s = record { side = s; written = []; refused = 0 }
 
-abbrev pub followed_by : Outcome → Outcome → Outcome
-followed_by a b = record { side = b.side; written = a.written ++ b.written; refused = a.refused + b.refused }
+abbrev pub outcome_of_both : Outcome → Outcome → Outcome
+outcome_of_both a b = record { side = b.side; written = a.written ++ b.written; refused = a.refused + b.refused }
 
 -- at an item; where it refuses one it does nothing
 abbrev pub at_item : StationSide → Reaction StationSide (List (Item AnswerPart)) → Outcome
-at_item s (Refuses reason) = unmoved s
+at_item s (Refuses reason) = idle_outcome s
 at_item s (GoesOn next items) = record { side = next; written = items; refused = 0 }
 
 -- at a key
 abbrev pub at_key : StationSide → KeyReaction → Outcome
 at_key s (RefusesKey fault) = record { side = s; written = []; refused = 1 }
-at_key s (Silent next) = unmoved next
+at_key s (Silent next) = idle_outcome next
 at_key s (Answers next kind aid) =
     record { side = next; written = answer_record (screen_at s) kind aid ∷ []; refused = 0 }
 at_key s (Signals opcode flags) = record { side = s; written = empty_record flags opcode ∷ []; refused = 0 }
@@ -45,8 +45,8 @@ at_moment s (Presses key) = at_key s (station_key s key)
 
 -- at one moment after another
 abbrev pub outcome : StationSide → List Moment → Outcome
-outcome s [] = unmoved s
-outcome s (m ∷ ms) = followed_by (at_moment s m) (outcome (at_moment s m).side ms)
+outcome s [] = idle_outcome s
+outcome s (m ∷ ms) = outcome_of_both (at_moment s m) (outcome (at_moment s m).side ms)
 
 -- and none of the items is refused
 abbrev pub goes_on : Reaction StationSide (List (Item AnswerPart)) → Bool

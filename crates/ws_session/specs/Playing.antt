@@ -11,7 +11,7 @@ use Rattle.ws_keys.specs.declared.key.Key.{Key}
 use Rattle.ws_session.specs.declared.player.Player.{Player}
 use Rattle.ws_session.specs.Moments.{Outcome, later, one_record}
 use Rattle.ws_session.specs.StationLeads.{StationLeads}
-use Rattle.ws_session.specs.StationRun.{IsBehind, behind, run_text, counted}
+use Rattle.ws_session.specs.StationRun.{IsBehind, behind, run_text, refusal_count}
 
 -- how many records the items are, before which there were so many
 abbrev pub records_from : ℕ → List (Item Element) → ℕ
@@ -19,16 +19,17 @@ records_from n [] = n
 records_from n (item ∷ items) = records_from (n + one_record item) items
 
 -- the keys that aren't due behind the items
-abbrev pub left_from : ℕ → List (ℕ × Key) → List (Item Element) → List (ℕ × Key)
-left_from n keys [] = later n keys
-left_from n keys (item ∷ items) = left_from (n + one_record item) (later n keys) items
+abbrev pub keys_left_from : ℕ → List (ℕ × Key) → List (Item Element) → List (ℕ × Key)
+keys_left_from n keys [] = later n keys
+keys_left_from n keys (item ∷ items) = keys_left_from (n + one_record item) (later n keys) items
 
 module _ {S : Type 0} (takes : MayTake S) (failures : S → ℕ) where
   -- the player has done this, and what it wrote went out
   pub record HasDone (bytes : List ℕ) (items : List (Item Element)) (old new : Player) (from to : S)
       (did : Outcome) : Type 0 where
     pub leads : StationLeads new.station bytes items did.side
-    pub refused : (before : ℕ) → old.keys_refused ≡ counted before → new.keys_refused ≡ counted (before + did.refused)
+    pub refused : (before : ℕ) → old.keys_refused ≡ refusal_count before
+        → new.keys_refused ≡ refusal_count (before + did.refused)
     pub records : new.records ≡ old.records
     pub wrote : WentOut takes failures from to (plain_spelling answer_rules did.written)
 
@@ -36,8 +37,8 @@ module _ {S : Type 0} (takes : MayTake S) (failures : S → ℕ) where
   pub record HasCome (terminal : TerminalType) (keys : List (ℕ
       × Key)) (start : S) (player : Player) (now : S) (bytes : List ℕ) (items : List (Item Element)) : Type 0 where
     pub is_behind : IsBehind terminal keys bytes items player.station
-    pub refused : player.keys_refused ≡ counted (behind terminal keys items).refused
+    pub refused : player.keys_refused ≡ refusal_count (behind terminal keys items).refused
     pub records : player.records ≡ records_from 0 items
-    pub left : drop player.pressed keys ≡ left_from 0 keys items
+    pub left : drop player.pressed keys ≡ keys_left_from 0 keys items
     pub few : player.records ≤ length bytes
     pub wrote : WentOut takes failures start now (run_text terminal keys items)

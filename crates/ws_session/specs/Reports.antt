@@ -9,7 +9,7 @@ use Rattle.ws_stream.specs.AnswerParts.{answer_rules}
 use Rattle.ws_stream.specs.Elements.{element_rules}
 use Rattle.ws_session.specs.declared.world.Event.{Event}
 use Rattle.ws_session.specs.HostLeads.{HostHolding, HostLeads}
-use Rattle.ws_session.specs.HostSide.{asked}
+use Rattle.ws_session.specs.HostSide.{asked_read}
 use Rattle.ws_session.specs.StationLeads.{Holding, StationLeads}
 use Rattle.ws_session.specs.StationSide.{screen_at}
 use Rattle.ws_session.specs.World.{World, down_bytes, up_bytes, to_station, to_host}
@@ -23,7 +23,7 @@ pub record IsReport (told : List Event) (station : Holding) (host : HostHolding)
   pub station_options : station.options ≡ w.station.options
   pub host_options : host.options ≡ w.host.options
   pub fields : host.screen.fields ≡ fields w.host.kept
-  pub asked : host.screen.pending ≡ asked w.host
+  pub asked : host.screen.pending ≡ asked_read w.host
   pub to_station : down ≡ to_station w
   pub to_host : up ≡ to_host w
   -- each end goes on from there: it has taken the bytes that have arrived, and their items left it on its side

@@ -20,8 +20,8 @@ use Rattle.ws_session.specs.StationLeads.{Holding, StationLeads, IsItemRefused}
 use Rattle.ws_session.specs.StationSide.{new_station_side}
 
 -- the count of refused keys stops at the greatest number of 32 bits
-abbrev pub counted : ℕ → ℕ
-counted n = min n (2 ^ 32 - 1)
+abbrev pub refusal_count : ℕ → ℕ
+refusal_count n = min n (2 ^ 32 - 1)
 
 module _ (terminal : TerminalType) (keys : List (ℕ × Key)) where
   -- what a new station has done behind these items and the keys that were due
@@ -80,7 +80,7 @@ module _ (terminal : TerminalType) (keys : List (ℕ × Key)) where
       pub gave : GaveAll gives misses source source' bytes
       pub accepted : IsInGrammar element_rules bytes items
       pub is_behind : IsBehind bytes items played.station
-      pub refused : played.keys_refused ≡ counted (behind items).refused
+      pub refused : played.keys_refused ≡ refusal_count (behind items).refused
       pub wrote : WentOut takes failures sink sink' (run_text items)
 
     -- it gave its end inside a token or a record

@@ -14,7 +14,7 @@ const WILL_TERMINAL: &[u8] = b"\xff\xfb\x18";
 const SEND_TERMINAL: &[u8] = b"\xff\xfa\x18\x01\xff\xf0";
 
 // The opening, where the line down is given, and the station's bytes arrive as `read`.
-fn opened<S: Sink, R: Source>(
+fn opening_report<S: Sink, R: Source>(
     alloc: Global,
     down: &mut Line<S, R>,
     read: &[u8],
@@ -32,7 +32,7 @@ fn lines_that_bring_what_was_written(rt: HostRuntime) -> Result<(), Fail> {
         sink: FailingSink::new(rt.alloc(), 3),
         source: FailingSource::new(DO_TERMINAL, 3),
     };
-    let report = opened(rt.alloc(), &mut down, WILL_TERMINAL).expect(&rt, "an opening");
+    let report = opening_report(rt.alloc(), &mut down, WILL_TERMINAL).expect(&rt, "an opening");
     assert_eq!(rt; down.sink.as_slice(), DO_TERMINAL);
     assert_eq!(rt; report.to_station.as_slice(), SEND_TERMINAL);
     assert!(rt; report.to_host.as_slice().is_empty() && report.events.as_slice().is_empty());
@@ -46,7 +46,7 @@ fn a_line_that_brings_other_bytes(rt: HostRuntime) -> Result<(), Fail> {
         sink: VecSink::new(rt.alloc()),
         source: SliceSource::new(b"\xff\x00\xff"),
     };
-    let report = opened(rt.alloc(), &mut down, b"").expect(&rt, "an opening");
+    let report = opening_report(rt.alloc(), &mut down, b"").expect(&rt, "an opening");
     assert_eq!(rt; down.sink.as_slice(), DO_TERMINAL);
     assert!(rt; report.to_station.as_slice().is_empty() && report.to_host.as_slice().is_empty());
     assert_eq!(rt; report.events.as_slice().len(), 1);
@@ -69,27 +69,27 @@ fn lines_that_fail(rt: HostRuntime) -> Result<(), Fail> {
             sink: FailingSink::new(rt.alloc(), calls),
             source: SliceSource::new(DO_TERMINAL),
         };
-        let outcome = opened(rt.alloc(), &mut down, WILL_TERMINAL);
+        let outcome = opening_report(rt.alloc(), &mut down, WILL_TERMINAL);
         assert_eq!(rt; outcome.err(), Some(Fault::Write), "{calls}");
         assert_eq!(rt; down.sink.as_slice(), &DO_TERMINAL[..calls as usize]);
         let mut down = Line {
             sink: VecSink::new(rt.alloc()),
             source: FailingSource::new(DO_TERMINAL, calls),
         };
-        let outcome = opened(rt.alloc(), &mut down, WILL_TERMINAL);
+        let outcome = opening_report(rt.alloc(), &mut down, WILL_TERMINAL);
         assert_eq!(rt; outcome.err(), Some(Fault::Read), "{calls}");
         let mut down = Line {
             sink: VecSink::new(rt.alloc()),
             source: SliceSource::new(DO_TERMINAL),
         };
-        let outcome = opened(rt.alloc(), &mut down, &WILL_TERMINAL[..calls as usize]);
+        let outcome = opening_report(rt.alloc(), &mut down, &WILL_TERMINAL[..calls as usize]);
         assert_eq!(rt; outcome.err(), Some(Fault::Truncated { at: calls }));
     }
     let mut down = Line {
         sink: StuckSink,
         source: SliceSource::new(DO_TERMINAL),
     };
-    let outcome = opened(rt.alloc(), &mut down, WILL_TERMINAL);
+    let outcome = opening_report(rt.alloc(), &mut down, WILL_TERMINAL);
     assert_eq!(rt; outcome.err(), Some(Fault::Write));
     Ok(())
 }

@@ -1,7 +1,7 @@
 //! A session whose bytes go over a connection.
 ghost use Rattle.std.specs.Prelude.{◌≡◌, ◌≤◌, ◌+◌, ◌⊎◌, ◌∷◌, [], List as Seq, length, vec_len, IfOk, IfErr, OnOk};
 ghost use Rattle.ws_nego.specs.declared.terminal.TerminalType.{TerminalType as ATerminal};
-ghost use Rattle.ws_session.specs.Crossings.{Crossing, AreFaithful, Crossed, IsStopped, written_over};
+ghost use Rattle.ws_session.specs.Crossings.{Crossing, AreFaithful, HaveCrossed, IsStopped, with_piece_at};
 ghost use Rattle.ws_session.specs.Reports.{IsReport};
 ghost use Rattle.ws_session.specs.Runs.{Runs};
 ghost use Rattle.ws_session.specs.World as spec;
@@ -34,8 +34,8 @@ impl World {
     ) -> Result<Report, Fault>
         // Pieces crossed the lines. Where what was read is what was written, the session is that of `run`.
         ensures done { IfOk result (λ r. (downs ups : Seq Crossing)
-            × Crossed S.takes S.failures R.gives R.failures down.old downs down.new
-            × Crossed T.takes T.failures Q.gives Q.failures up.old ups up.new
+            × HaveCrossed S.takes S.failures R.gives R.failures down.old downs down.new
+            × HaveCrossed T.takes T.failures Q.gives Q.failures up.old ups up.new
             × (AreFaithful downs → AreFaithful ups → IsReport r.events r.station r.host
             r.to_station r.to_host (after_moves (new_world terminal) moves.now))) }
         ensures fault { IfErr result (λ fault. (fault ≡ Fault.Memory)
@@ -56,8 +56,8 @@ impl World {
         up: &mut Line<T, Q>,
     ) -> Result<(), Fault>
         ensures taken { OnOk result ((downs ups : Seq Crossing)
-            × Crossed S.takes S.failures R.gives R.failures down.old downs down.new
-            × Crossed T.takes T.failures Q.gives Q.failures up.old ups up.new
+            × HaveCrossed S.takes S.failures R.gives R.failures down.old downs down.new
+            × HaveCrossed T.takes T.failures Q.gives Q.failures up.old ups up.new
             × (AreFaithful downs → AreFaithful ups → (t : ATerminal) (w : AWorld)
             → Runs t self.old w → Runs t self.new (after_move w step.now))) }
         ensures fault { IfErr result (λ fault. (fault ≡ Fault.Memory)
@@ -77,7 +77,7 @@ impl World {
         count: usize,
     ) -> Result<(), Fault>
         ensures came { OnOk result ((crossings : Seq Crossing)
-            × Crossed S.takes S.failures R.gives R.failures line.old crossings line.new
+            × HaveCrossed S.takes S.failures R.gives R.failures line.old crossings line.new
             × (AreFaithful crossings → (t : ATerminal) (w : AWorld)
             → Runs t self.old w → Runs t self.new (spec.bytes_to_station count w))) }
         ensures fault { IfErr result (λ fault. (fault ≡ Fault.Memory)
@@ -104,7 +104,7 @@ impl World {
         requires some { self.old.at_station + piece ≤ length self.old.down }
         requires small { piece ≤ 4096 }
         ensures came { OnOk result ((crossing : Crossing)
-            × Crossed S.takes S.failures R.gives R.failures line.old (crossing ∷ []) line.new
+            × HaveCrossed S.takes S.failures R.gives R.failures line.old (crossing ∷ []) line.new
             × (crossing.read ≡ crossing.sent → (t : ATerminal) (w : AWorld)
             → Runs t self.old w → Runs t self.new (spec.bytes_to_station piece w))) }
         ensures fault { IfErr result (λ fault. (fault ≡ Fault.Memory)
@@ -124,7 +124,7 @@ impl World {
         count: usize,
     ) -> Result<(), Fault>
         ensures came { OnOk result ((crossings : Seq Crossing)
-            × Crossed S.takes S.failures R.gives R.failures line.old crossings line.new
+            × HaveCrossed S.takes S.failures R.gives R.failures line.old crossings line.new
             × (AreFaithful crossings → (t : ATerminal) (w : AWorld)
             → Runs t self.old w → Runs t self.new (spec.bytes_to_host count w))) }
         ensures fault { IfErr result (λ fault. (fault ≡ Fault.Memory)
@@ -151,7 +151,7 @@ impl World {
         requires some { self.old.at_host + piece ≤ length self.old.up }
         requires small { piece ≤ 4096 }
         ensures came { OnOk result ((crossing : Crossing)
-            × Crossed S.takes S.failures R.gives R.failures line.old (crossing ∷ []) line.new
+            × HaveCrossed S.takes S.failures R.gives R.failures line.old (crossing ∷ []) line.new
             × (crossing.read ≡ crossing.sent → (t : ATerminal) (w : AWorld)
             → Runs t self.old w → Runs t self.new (spec.bytes_to_host piece w))) }
         ensures fault { IfErr result (λ fault. (fault ≡ Fault.Memory)
@@ -169,7 +169,7 @@ impl World {
 // Puts a piece in the place of as many bytes.
 fn write_over(bytes: &mut Vec<u8>, at: usize, piece: &[u8])
     requires { at + length piece.now ≤ vec_len bytes.old }
-    ensures { bytes.new.items ≡ written_over bytes.old.items at piece.now }
+    ensures { bytes.new.items ≡ with_piece_at bytes.old.items at piece.now }
 {
     bytes[at..at + piece.len()].copy_from_slice(piece);
 }

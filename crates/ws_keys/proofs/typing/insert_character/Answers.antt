@@ -1,7 +1,7 @@
 use Rattle.std.proofs.Common.{◌≡◌, ◌-◌, ◌==◌, slice_index, [], ◌∷◌, false, not, arith, sym, ap, ◌∙◌, refl}
 use Rattle.ws_screen.specs.Keyed.{after_edit, field_edit, cells_of}
 use Rattle.ws_keys.specs.Edits.{after_insert}
-use Rattle.ws_keys.specs.Keys.{forbids, of_open, byte_entered, after_character, last_entered}
+use Rattle.ws_keys.specs.Keys.{forbids, of_open, byte_entered, after_character, last_entry_cell}
 use Rattle.ws_keys.specs.declared.key.KeyRefusal.TheVariants.{WrongCharacter, NoRoom}
 use Rattle.ws_keys.proofs.StepLemmas.{cursor_in, past_open, past_test, edited_to, before_sign}
 use Rattle.ws_keys.proofs.typing.insert_character.Goals as goal
@@ -17,10 +17,10 @@ pub returns : goal.returns
 returns c =
     let s = c.args.screen.now in
     let f = c.in_ok-field.field in
-    let full : not (slice_index s.cells (last_entered f) == 0) ≡ false = ap not (sym c.has_room.ensures ∙ c.if-not-has_room.false) in (
-      past_open s f ((of_open s (forbids s c.args.character), WrongCharacter) ∷ (of_open s (λ f. not (slice_index s.cells (last_entered f) == 0)), NoRoom) ∷ []) c.in_ok-field.ensures.0 c.in_ok-field.ensures.1
-          ∙ past_test s f (forbids s c.args.character) WrongCharacter ((of_open s (λ f. not (slice_index s.cells (last_entered f) == 0)), NoRoom) ∷ []) c.in_ok-field.ensures.1 c.in_ok-byte.ensures.0
-          ∙ past_test s f (λ f. not (slice_index s.cells (last_entered f) == 0)) NoRoom [] c.in_ok-field.ensures.1 full,
+    let full : not (slice_index s.cells (last_entry_cell f) == 0) ≡ false = ap not (sym c.has_room.ensures ∙ c.if-not-has_room.false) in (
+      past_open s f ((of_open s (forbids s c.args.character), WrongCharacter) ∷ (of_open s (λ f. not (slice_index s.cells (last_entry_cell f) == 0)), NoRoom) ∷ []) c.in_ok-field.ensures.0 c.in_ok-field.ensures.1
+          ∙ past_test s f (forbids s c.args.character) WrongCharacter ((of_open s (λ f. not (slice_index s.cells (last_entry_cell f) == 0)), NoRoom) ∷ []) c.in_ok-field.ensures.1 c.in_ok-byte.ensures.0
+          ∙ past_test s f (λ f. not (slice_index s.cells (last_entry_cell f) == 0)) NoRoom [] c.in_ok-field.ensures.1 full,
       edited_to s c.change_field.new.screen f (λ f x i. after_insert f.format x i (byte_entered f c.args.character)) (after_character s) _ c.in_ok-field.ensures.1 c.after_character-to.ensures
           (c.change_field.ensures ∙ ap (λ b. after_edit (field_edit f (after_insert f.format (cells_of s f) (s.cursor - f.start) b) c.after_character-to.result) s) c.in_ok-byte.ensures.1),
       refl,

@@ -1,6 +1,6 @@
 use Rattle.std.proofs.Common.{◌-◌, [], ◌∷◌, arith, ap, ◌∙◌, refl}
 use Rattle.ws_screen.specs.Keyed.{after_edit, field_edit, cells_of}
-use Rattle.ws_keys.specs.Edits.{typed}
+use Rattle.ws_keys.specs.Edits.{with_byte_at}
 use Rattle.ws_keys.specs.Keys.{forbids, of_open, byte_entered, after_character}
 use Rattle.ws_keys.specs.declared.key.KeyRefusal.TheVariants.{WrongCharacter}
 use Rattle.ws_keys.proofs.StepLemmas.{cursor_in, past_open, past_test, edited_to}
@@ -17,7 +17,7 @@ returns c =
     let f = c.in_ok-field.field in (
       past_open s f ((of_open s (forbids s c.args.character), WrongCharacter) ∷ []) c.in_ok-field.ensures.0 c.in_ok-field.ensures.1
           ∙ past_test s f (forbids s c.args.character) WrongCharacter [] c.in_ok-field.ensures.1 c.in_ok-byte.ensures.0,
-      edited_to s c.change_field.new.screen f (λ f x i. typed x i (byte_entered f c.args.character)) (after_character s) _ c.in_ok-field.ensures.1 c.after_character-to.ensures
-          (c.change_field.ensures ∙ ap (λ b. after_edit (field_edit f (typed (cells_of s f) (s.cursor - f.start) b) c.after_character-to.result) s) c.in_ok-byte.ensures.1),
+      edited_to s c.change_field.new.screen f (λ f x i. with_byte_at x i (byte_entered f c.args.character)) (after_character s) _ c.in_ok-field.ensures.1 c.after_character-to.ensures
+          (c.change_field.ensures ∙ ap (λ b. after_edit (field_edit f (with_byte_at (cells_of s f) (s.cursor - f.start) b) c.after_character-to.result) s) c.in_ok-byte.ensures.1),
       refl,
     )

@@ -3,7 +3,7 @@ use Rattle.std.specs.List.{range_with_len}
 use Rattle.std.specs.Prelude.{encode_utf8}
 use Rattle.std.specs.Str.{encode_utf8_all}
 use Rattle.ws_stream.specs.FieldOrder.{is_attribute}
-use Rattle.ws_screen.specs.Lines.{hides, shown_at, shown_char}
+use Rattle.ws_screen.specs.Lines.{hides, char_at, shown_char}
 use Rattle.ws_screen.proofs.LineLemmas.{is_hidden-more, text-more, two_bytes}
 use Rattle.ws_screen.proofs.lines.row_text.Goals as goal
 
@@ -20,13 +20,13 @@ loop-at-preserved c =
     let first = c.args.first in
     let next : at + 1 - first ≡ at - first + 1 = omega arith in
     let inside : at < length cells = omega arith in
-    let is : c.shown_unless.result ≡ shown_at cells at =
+    let is : c.shown_unless.result ≡ char_at cells at =
     c.shown_unless.ensures.value ∙ ap (λ h. if h then 0x20 else shown_char (slice_index cells at)) c.loop-at.invariant.nearest in
     record {
       shown = c.push.ensures.bytes ∙ ap (λ text. text ++ encode_utf8 c.shown_unless.result) c.loop-at.invariant.shown
-          ∙ ap (λ x. encode_utf8_all (map (shown_at cells) (range_with_len first (at - first))) ++ encode_utf8 x) is
-          ∙ sym (text-more (shown_at cells) first at (at - first) (omega arith))
-          ∙ ap (λ n. encode_utf8_all (map (shown_at cells) (range_with_len first n))) (sym next);
+          ∙ ap (λ x. encode_utf8_all (map (char_at cells) (range_with_len first (at - first))) ++ encode_utf8 x) is
+          ∙ sym (text-more (char_at cells) first at (at - first) (omega arith))
+          ∙ ap (λ n. encode_utf8_all (map (char_at cells) (range_with_len first n))) (sym next);
       short = omega (arith, c.loop-at.invariant.short, ap length c.push.ensures.bytes, length-append c.loop-at.text.bytes (encode_utf8 c.shown_unless.result), two_bytes c.shown_unless.result c.shown_unless.ensures.latin);
       nearest = c.hides_after-hidden.ensures ∙ ap (λ h. if is_attribute (slice_index cells at) then hides (slice_index cells at) else h) c.loop-at.invariant.nearest
           ∙ sym (is_hidden-more cells at inside);

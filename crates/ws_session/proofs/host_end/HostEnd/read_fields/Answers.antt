@@ -12,9 +12,9 @@ use Rattle.ws_session.specs.HostLeads.{HostHolding}
 use Rattle.ws_session.proofs.host_end.HostEnd.read_fields.Goals as goal
 
 -- what may be answered by the asked read
-asked_read : (asked : Option ReadKind) (fields : List Field) (parts : List AnswerPart) (kind : ReadKind) (result : Result HostAnswer HostFault) → asked ≡ Some kind → IsSplit kind fields parts result
+by_asked_read : (asked : Option ReadKind) (fields : List Field) (parts : List AnswerPart) (kind : ReadKind) (result : Result HostAnswer HostFault) → asked ≡ Some kind → IsSplit kind fields parts result
     → (k : ReadKind) → asked ≡ Some k → IsRead (read_answer k fields parts) result
-asked_read asked fields parts kind result is split k e =
+by_asked_read asked fields parts kind result is split k e =
     let same : kind ≡ k = cc in
     subst (λ (j : ReadKind). IsRead (read_answer j fields parts) result) same (is_read kind fields parts result split)
 
@@ -24,5 +24,5 @@ returns c =
     let old : HostHolding = record { receiver = s.receiver; options = s.options; screen = s.kept; cancelling = s.cancelling; failed = s.has_failed } in
     record {
       read = subst (λ (h : HostHolding). (k : ReadKind) → h.screen.pending ≡ Some k → IsRead (read_answer k h.screen.fields c.args.parts.now) c.split_answer.result) c.self.view_is
-          (asked_read old.screen.pending old.screen.fields c.args.parts.now c.in-Some.kind c.split_answer.result (sym c.pending.ensures ∙ c.in-Some.is) c.split_answer.ensures.split);
+          (by_asked_read old.screen.pending old.screen.fields c.args.parts.now c.in-Some.kind c.split_answer.result (sym c.pending_read.ensures ∙ c.in-Some.is) c.split_answer.ensures.split);
     }

@@ -1,6 +1,6 @@
 use Rattle.std.proofs.Common.{◌≡◌, ◌+◌, ◌-◌, ◌≤◌, length, List, ℕ, [], take, drop, inr, refl, sym, ap, ◌∙◌, subst}
 use Rattle.std.proofs.lemmas.Result.{err_from_is_err_and, on_ok_weaker}
-use Rattle.ws_session.specs.Crossings.{written_over}
+use Rattle.ws_session.specs.Crossings.{with_piece_at}
 use Rattle.ws_session.specs.Runs.{Running, Runs}
 use Rattle.ws_session.proofs.Lines.{written_back, range_is}
 use Rattle.ws_session.proofs.world.World.piece_to_host.Goals as goal
@@ -32,6 +32,6 @@ returns-clause-came g c =
       record { sent = sent; read = c.carry.new.taken },
       (record { sink = c.carry.new.sink; source = c.carry.new.source }, c.in_ok-carry.ensures.carried, refl),
       (λ faithful t w r.
-          let kept : c.write_over.new.bytes.items ≡ bytes = c.write_over.ensures ∙ ap (written_over bytes at) (faithful ∙ same) ∙ written_back bytes at n fits in
+          let kept : c.write_over.new.bytes.items ≡ bytes = c.write_over.ensures ∙ ap (with_piece_at bytes at) (faithful ∙ same) ∙ written_back bytes at n fits in
           q t w (subst (λ l. Runs t (with l) w) (sym kept) (subst (λ (k : Running). Runs t k w) (sym c.self.view_is) r))),
     )) c.bytes_to_host.ensures.came
