@@ -1,5 +1,6 @@
 pub mod CheckLemmas
 pub mod FrontItems
+pub mod HexDigits
 pub mod Parts
 pub mod Plays
 pub mod Prints

@@ -1,8 +1,8 @@
-use Rattle.std.proofs.Common.{true, false, Bool, ◌≡◌, ◌<◌, ◌≤◌, ◌+◌, ◌-◌, ℕ, List, [], ◌∷◌, ◌++◌, length, take, drop, get_or, refl, sym, ap, ◌∙◌, subst, arith, append_assoc}
+use Rattle.std.proofs.Common.{true, false, ◌≡◌, ◌<◌, ◌+◌, ℕ, List, [], ◌∷◌, ◌++◌, length, take, drop, get_or, refl, sym, ap, ◌∙◌, subst, arith, append_assoc}
 use Rattle.std.proofs.lemmas.Bool.{false≢true}
-use Rattle.std.proofs.lemmas.List.{append-nil, take-append-drop, take_all}
+use Rattle.std.proofs.lemmas.List.{append-nil, take-append-drop}
 use Rattle.std.proofs.lemmas.Grind.{flat_map-append}
-use Rattle.ws_code.specs.Code.{Rules, Stands, IsChain, IsSpelled, IsWhole, IsPrefix, IsPrefixFree, IsUnfinished, place_after, spelling_of}
+use Rattle.ws_code.specs.Code.{Rules, Stands, IsChain, IsSpelled, IsPrefix, IsPrefixFree, IsUnfinished, place_after, spelling_of}
 use Rattle.ws_code.proofs.CodeLaws.{Begins, one_cut, one_list, cut_begins, cut_bad, chain_more, place_after_more}
 use Rattle.ws_record.proofs.Decodes.{at_index}
 use Rattle.t5250.specs.Script.{IsBody}

@@ -8,7 +8,7 @@ use Rattle.ws_code.specs.declared.fault.Fault.{Fault}
 use Rattle.ws_code.specs.declared.fault.Fault.TheVariants as device
 use Rattle.ws_stream.specs.Elements.{element_rules}
 use Rattle.ws_stream.specs.AnswerParts.{answer_rules}
-use Rattle.t5250.specs.HexText.{without_blanks}
+use Rattle.t5250.specs.HexText.{IsHexOf, without_blanks}
 use Rattle.t5250.specs.CheckLine.{IsVerdict, is_accepted, line_of}
 use Rattle.t5250.specs.Checking.{IsCheckFault}
 use Rattle.t5250.specs.StreamText.{IsShown, IsShowFault}
@@ -42,10 +42,6 @@ pub record IsToldText (screen all_well : Bool) (text : List ℕ) : Type 0 where
   pub station : Shown
   pub told : IsPlayText events station screen text
   pub well : all_well ≡ no_end_refuses events
-
--- the bytes of a hex text
-abbrev pub IsHexOf : List ℕ → List ℕ → Type 0
-IsHexOf bytes text = decode_of (without_blanks text) ≡ Ok bytes
 
 module _ {S : Type 0} (takes : MayTake S) (failures : S → ℕ) (from to : S) where
   -- the line of a check went out
@@ -82,7 +78,8 @@ module _ {S : Type 0} (takes : MayTake S) (failures : S → ℕ) (from to : S) w
   -- what is answered of a hex text where a command answers such faults of its bytes
   abbrev pub IsHexFault : (List ℕ → Fault → Type 0) → List ℕ → RunFault → Type 0
   IsHexFault IsFault input NotHex = (to ≡ from) × IsErr (decode_of (without_blanks input))
-  IsHexFault IsFault input Memory = (to ≡ from) ⊎ ((bytes : List ℕ) × IsHexOf bytes input × IsFault bytes device.Memory)
+  IsHexFault IsFault input Memory = (bytes : List ℕ) × IsHexOf bytes input
+      × ((to ≡ from) ⊎ IsFault bytes device.Memory)
   IsHexFault IsFault input Write = (bytes : List ℕ) × IsHexOf bytes input × IsFault bytes device.Write
   IsHexFault IsFault input Read = ⊥
   IsHexFault IsFault input (Refused place reason) = ⊥

@@ -1,6 +1,6 @@
 -- What a script that gives no moves is refused for.
 
-use Rattle.std.specs.Prelude.{◌≡◌, ℕ, List, ◌++◌, Bool, ◌==◌, not, true, codes}
+use Rattle.std.specs.Prelude.{◌≡◌, ℕ, List, ◌++◌, Bool, ◌==◌, not, codes}
 use Rattle.std.specs.List.{list_all}
 use Rattle.t5250.specs.declared.script.ScriptFault.{ScriptFault}
 use Rattle.t5250.specs.declared.script.ScriptFault.TheVariants.{Line, Memory}

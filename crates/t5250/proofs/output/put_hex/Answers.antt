@@ -1,4 +1,3 @@
-use Rattle.std.proofs.Common.{subst, arith}
 use Rattle.hex.specs.Hex.{upper_digits}
 use Rattle.std.proofs.lemmas.List.{take_all}
 use Rattle.hex.specs.Hex.{encode_upper}

@@ -1,4 +1,4 @@
-use Rattle.std.proofs.Common.{◌≡◌, ◌&&◌, Bool, true, not, take, get_or, refl, sym, ap, ◌∙◌}
+use Rattle.std.proofs.Common.{◌&&◌, Bool, not, get_or, sym, ap, ◌∙◌}
 use Rattle.std.proofs.lemmas.List.{take_all}
 use Rattle.std.proofs.lemmas.List.Folds.{list_all_at, list_all_more}
 use Rattle.ws_session.specs.declared.world.Event.{Event}

@@ -1,6 +1,4 @@
-use Rattle.std.proofs.Common.{◌≡◌, ◌++◌, List, ℕ, refl, sym, ap, ◌∙◌, subst}
-use Rattle.ws_code.specs.Device.{WentOut, FailedWithin}
-use Rattle.ws_session.specs.declared.world.Event.{Event}
+use Rattle.std.proofs.Common.{◌++◌, refl, ap, ◌∙◌, subst}
 use Rattle.t5250.specs.declared.output.Output.{Output}
 use Rattle.t5250.specs.PlayLines.{AreScreenLines, events_text, no_end_refuses}
 use Rattle.ws_screen.specs.Shown.{Shown}

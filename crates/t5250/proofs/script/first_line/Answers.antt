@@ -1,9 +1,5 @@
-use Rattle.std.proofs.Common.{◌≡◌, ◌==◌, ◌∷◌, ◌+◌, ◌<◌, List, ℕ, length, take, drop, refl, sym, ap, ◌∙◌, subst, arith, not}
-use Rattle.std.proofs.lemmas.List.Sums.{prefix_len-le-length}
-use Rattle.std.proofs.lemmas.List.{take_all}
-use Rattle.std.proofs.Math.ListN.{length-drop}
-use Rattle.std.specs.Str.Lines.{lines, strip_carriage_return}
-use Rattle.t5250.proofs.Scripts.{lines_first, lines_only, same_line}
+use Rattle.std.proofs.Common.{sym, ◌∙◌, arith}
+use Rattle.t5250.proofs.Scripts.{lines_only, same_line}
 use Rattle.t5250.proofs.script.first_line.Goals as goal
 
 pub returns-then-end-text-clause-line : goal.returns-then-end-text-clause-line

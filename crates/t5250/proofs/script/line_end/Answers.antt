@@ -1,4 +1,4 @@
-use Rattle.std.proofs.Common.{◌≡◌, ◌<◌, ◌==◌, ℕ, length, sym, arith}
+use Rattle.std.proofs.Common.{◌==◌, length, sym, arith}
 use Rattle.std.proofs.lemmas.List.Sums.{position_or_len_is}
 use Rattle.t5250.proofs.Scripts.{is_equal}
 use Rattle.t5250.proofs.script.line_end.Goals as goal

@@ -1,6 +1,4 @@
-use Rattle.std.proofs.Common.{◌≡◌, sym}
-use Rattle.t5250.proofs.CheckLemmas.{none_left}
-use Rattle.t5250.proofs.Scripts.{reads_none, reads_more, reads_all, reads_bad}
+use Rattle.t5250.proofs.Scripts.{reads_more}
 use Rattle.t5250.proofs.script.read_script.Goals as goal
 
 pub loop-rest-preserved : goal.loop-rest-preserved

@@ -1,6 +1,5 @@
-use Rattle.std.proofs.Common.{◌≡◌, ◌-◌, List, ℕ, length, take, drop, sym, ◌∙◌, arith, length-drop}
+use Rattle.std.proofs.Common.{◌-◌, length, drop, sym, ◌∙◌, arith, length-drop}
 use Rattle.std.proofs.lemmas.List.{take_all}
-use Rattle.std.proofs.lemmas.Result.{err_from_is_err_and}
 use Rattle.t5250.proofs.CheckLemmas.{none_left}
 use Rattle.t5250.proofs.ScriptBodies.{nothing_yet, no_more, unit_more, ended, not_ended}
 use Rattle.t5250.proofs.script_body.read_body.Goals as goal

@@ -1,4 +1,4 @@
-use Rattle.std.proofs.Common.{◌≡◌, List, ℕ, length, take, subst, arith}
+use Rattle.std.proofs.Common.{List, ℕ, subst}
 use Rattle.std.proofs.lemmas.List.{take_all}
 use Rattle.ws_code.specs.Code.{IsUnfinished}
 use Rattle.t5250.proofs.ScriptBodies.{no_units_of, no_whole}

@@ -1,8 +1,8 @@
-use Rattle.std.proofs.Common.{◌≡◌, List, ℕ, ◌++◌}
+use Rattle.std.proofs.Common.{◌++◌}
 use Rattle.std.specs.Prelude.{codes}
 use Rattle.std.proofs.lemmas.Result.{err_from_is_err_and}
 use Rattle.t5250.specs.Script.{IsMove, IsCount}
-use Rattle.t5250.proofs.Scripts.{no_down, no_up, no_key, no_other, fault_on}
+use Rattle.t5250.proofs.Scripts.{no_down, no_up, no_other, fault_on}
 use Rattle.t5250.proofs.script_move.read_move.Goals as goal
 
 pub returns-in_err-read_count-in-down-clause-fault : goal.returns-in_err-read_count-in-down-clause-fault

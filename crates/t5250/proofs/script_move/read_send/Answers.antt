@@ -1,8 +1,8 @@
-use Rattle.std.proofs.Common.{◌≡◌, List, ℕ, ◌++◌, sym, ◌∙◌}
+use Rattle.std.proofs.Common.{◌++◌, sym, ◌∙◌}
 use Rattle.std.specs.Prelude.{codes}
 use Rattle.std.proofs.lemmas.Result.{err_from_is_err_and}
 use Rattle.t5250.specs.Script.{IsMove, IsOpcodeText, IsBodyText}
-use Rattle.t5250.proofs.Scripts.{no_send, no_send_alone, sends, sends_alone, fault_on, is_none}
+use Rattle.t5250.proofs.Scripts.{no_send, fault_on, is_none}
 use Rattle.t5250.proofs.script_move.read_send.Goals as goal
 
 pub returns-in_err-opcode-2-clause-fault : goal.returns-in_err-opcode-2-clause-fault

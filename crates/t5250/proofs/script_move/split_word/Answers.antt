@@ -1,4 +1,3 @@
-use Rattle.std.proofs.Common.{lit<}
 use Rattle.t5250.proofs.ScriptWords.{split_at_blank}
 use Rattle.t5250.proofs.script_move.split_word.Goals as goal
 
