@@ -97,6 +97,23 @@ impl<B: Body> OpenRecord<B> {
         Some(unit)
     }
 
+    /// Takes a byte with which nothing is complete; `false` says nothing, and the byte isn't taken.
+    #[inline(always)]
+    pub fn take_more(&mut self, byte: u8) -> bool
+        ensures taken { result ≡ true → (so_far : RecordSoFar B.Unit) → HasRead B.rules self.old so_far
+            → IsDataStep B.rules self.new so_far byte DataStep.More }
+        ensures left { result ≡ false → self.new ≡ self.old }
+    {
+        if self.left == 0 {
+            return self.header.len() < 9 && self.take_header(byte).is_none();
+        }
+        if !self.units.goes_on(byte) {
+            return false;
+        }
+        self.left -= 1;
+        true
+    }
+
     /// Takes a byte of the record.
     #[inline(always)]
     pub fn take(&mut self, byte: u8) -> DataStep<B::Unit>
@@ -106,7 +123,10 @@ impl<B: Body> OpenRecord<B> {
         if self.left > 0 {
             self.take_body(byte)
         } else if self.header.len() < 9 {
-            self.take_header(byte)
+            match self.take_header(byte) {
+                None => DataStep::More,
+                Some(reason) => DataStep::Refused(reason),
+            }
         } else if self.header.len() < 10 {
             self.take_opcode(byte)
         } else {
@@ -114,16 +134,21 @@ impl<B: Body> OpenRecord<B> {
         }
     }
 
-    fn take_header(&mut self, byte: u8) -> DataStep<B::Unit>
+    // Takes a byte of the header before the opcode, or gives the reason why it can't stand there.
+    #[inline(always)]
+    fn take_header(&mut self, byte: u8) -> Option<Reason>
         requires { length self.old.header < 9 }
-        ensures { (so_far : RecordSoFar B.Unit) → HasRead B.rules self.old so_far
-            → IsDataStep B.rules self.new so_far byte result }
+        ensures taken { IfNone result ((so_far : RecordSoFar B.Unit) → HasRead B.rules self.old so_far
+            → IsDataStep B.rules self.new so_far byte DataStep.More) }
+        ensures refused { IfSome result (λ reason. (so_far : RecordSoFar B.Unit) → HasRead B.rules self.old so_far
+            → IsDataStep B.rules self.new so_far byte (DataStep.Refused reason)) }
+        ensures left { IfSome result (λ _. self.new ≡ self.old) }
     {
         if let Some(reason) = header_refusal(self.header.as_slice(), byte) {
-            return DataStep::Refused(reason);
+            return Some(reason);
         }
         self.header.push(byte);
-        DataStep::More
+        None
     }
 
     fn take_opcode(&mut self, byte: u8) -> DataStep<B::Unit>

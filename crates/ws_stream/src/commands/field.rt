@@ -1,4 +1,4 @@
-ghost use Rattle.std.specs.Prelude.{◌≡◌, ◌∷◌, ◌++◌, [], ℕ, true, nat_le};
+ghost use Rattle.std.specs.Prelude.{◌≡◌, ◌≢◌, ◌∷◌, ◌++◌, [], ℕ, true, nat_le};
 ghost use Rattle.ws_code.specs.Code.{IsUnfinished};
 ghost use Rattle.ws_code.specs.Step.{IsStep};
 ghost use Rattle.ws_stream.specs.Elements.{element_rules};
@@ -15,8 +15,9 @@ impl Commands {
     #[inline(always)]
     pub(super) fn field_first(&mut self, byte: u8) -> Push<Element>
         requires { IsUnfinished element_rules self.old.place (START_OF_FIELD ∷ []) }
-        ensures { IsStep element_rules self.old.place (START_OF_FIELD ∷ []) byte
+        ensures step { IsStep element_rules self.old.place (START_OF_FIELD ∷ []) byte
             self.new.place (unfinished_in self.new.phase self.new.bytes self.new.kinds self.new.controls) result }
+        ensures kept { result ≢ Push.More → self.new ≡ self.old }
     {
         match byte {
             0x20..=0x3f => self.wait_for(Phase::LengthHigh(None, byte)),
@@ -34,8 +35,9 @@ impl Commands {
     pub(super) fn format_low(&mut self, high: u8, byte: u8) -> Push<Element>
         requires format { nat_le 0x40 high ≡ true }
         requires begun { IsUnfinished element_rules self.old.place (START_OF_FIELD ∷ high ∷ []) }
-        ensures { IsStep element_rules self.old.place (START_OF_FIELD ∷ high ∷ []) byte
+        ensures step { IsStep element_rules self.old.place (START_OF_FIELD ∷ high ∷ []) byte
             self.new.place (unfinished_in self.new.phase self.new.bytes self.new.kinds self.new.controls) result }
+        ensures kept { result ≢ Push.More → self.new ≡ self.old }
     {
         let word = u16::from(high) * 256 + u16::from(byte);
         match Ffw::new(word) {
@@ -52,8 +54,9 @@ impl Commands {
         requires words { are_words format self.old.controls ≡ true }
         requires begun { IsUnfinished element_rules self.old.place
             (START_OF_FIELD ∷ words_bytes format self.old.controls) }
-        ensures { IsStep element_rules self.old.place (START_OF_FIELD ∷ words_bytes format self.old.controls) byte
+        ensures step { IsStep element_rules self.old.place (START_OF_FIELD ∷ words_bytes format self.old.controls) byte
             self.new.place (unfinished_in self.new.phase self.new.bytes self.new.kinds self.new.controls) result }
+        ensures kept { result ≢ Push.More → self.new ≡ self.old }
     {
         match byte {
             0x20..=0x3f => self.wait_for(Phase::LengthHigh(Some(format), byte)),
@@ -74,9 +77,10 @@ impl Commands {
         requires control { nat_le 0x80 high ≡ true }
         requires begun { IsUnfinished element_rules self.old.place
             (START_OF_FIELD ∷ words_bytes format self.old.controls ++ high ∷ []) }
-        ensures { IsStep element_rules self.old.place
+        ensures step { IsStep element_rules self.old.place
             (START_OF_FIELD ∷ words_bytes format self.old.controls ++ high ∷ []) byte
             self.new.place (unfinished_in self.new.phase self.new.bytes self.new.kinds self.new.controls) result }
+        ensures kept { result ≢ Push.More → self.new ≡ self.old }
     {
         self.controls.push(u16::from(high) * 256 + u16::from(byte));
         self.wait_for(Phase::FieldNext(format))
@@ -93,9 +97,10 @@ impl Commands {
         requires attribute { is_attribute attribute ≡ true }
         requires begun { IsUnfinished element_rules self.old.place
             (START_OF_FIELD ∷ front_bytes format self.old.controls ++ attribute ∷ []) }
-        ensures { IsStep element_rules self.old.place
+        ensures step { IsStep element_rules self.old.place
             (START_OF_FIELD ∷ front_bytes format self.old.controls ++ attribute ∷ []) byte
             self.new.place (unfinished_in self.new.phase self.new.bytes self.new.kinds self.new.controls) result }
+        ensures kept { result ≢ Push.More → self.new ≡ self.old }
     {
         self.wait_for(Phase::LengthLow(format, attribute, byte))
     }

@@ -1,4 +1,4 @@
-ghost use Rattle.std.specs.Prelude.{◌≡◌, ◌∷◌, ◌++◌, ◌+◌, [], ℕ};
+ghost use Rattle.std.specs.Prelude.{◌≡◌, ◌≢◌, ◌∷◌, ◌++◌, ◌+◌, [], ℕ, length};
 ghost use Rattle.ws_code.specs.Code.{IsUnfinished};
 ghost use Rattle.ws_code.specs.Step.{IsStep};
 ghost use Rattle.ws_stream.specs.Elements.{element_rules, row_and_column};
@@ -14,8 +14,9 @@ impl Commands {
     #[inline(always)]
     pub(super) fn soh_length(&mut self, byte: u8) -> Push<Element>
         requires { IsUnfinished element_rules self.old.place (START_OF_HEADER ∷ []) }
-        ensures { IsStep element_rules self.old.place (START_OF_HEADER ∷ []) byte
+        ensures step { IsStep element_rules self.old.place (START_OF_HEADER ∷ []) byte
             self.new.place (unfinished_in self.new.phase self.new.bytes self.new.kinds self.new.controls) result }
+        ensures kept { result ≢ Push.More → self.new ≡ self.old }
     {
         if byte > 7 {
             return Push::Bad(Reason::BadSohLength);
@@ -32,8 +33,9 @@ impl Commands {
         requires phase { self.old.phase ≡ Phase.SohByte count }
         requires begun { IsUnfinished element_rules self.old.place
             (START_OF_HEADER ∷ count ∷ self.old.bytes) }
-        ensures { IsStep element_rules self.old.place (START_OF_HEADER ∷ count ∷ self.old.bytes) byte
+        ensures step { IsStep element_rules self.old.place (START_OF_HEADER ∷ count ∷ self.old.bytes) byte
             self.new.place (unfinished_in self.new.phase self.new.bytes self.new.kinds self.new.controls) result }
+        ensures kept { length self.old.bytes + 1 ≢ count → result ≢ Push.More → self.new ≡ self.old }
     {
         if self.bytes.len() == 2 && byte != 0 {
             return Push::Bad(Reason::Resequencing);
@@ -49,8 +51,9 @@ impl Commands {
     #[inline(always)]
     pub(super) fn row(&mut self, order: Order, byte: u8) -> Push<Element>
         requires { IsUnfinished element_rules self.old.place (order_byte order ∷ []) }
-        ensures { IsStep element_rules self.old.place (order_byte order ∷ []) byte
+        ensures step { IsStep element_rules self.old.place (order_byte order ∷ []) byte
             self.new.place (unfinished_in self.new.phase self.new.bytes self.new.kinds self.new.controls) result }
+        ensures kept { result ≢ Push.More → self.new ≡ self.old }
     {
         if byte < 1 || byte > ROWS {
             return Push::Bad(Reason::BadAddress);
@@ -61,8 +64,9 @@ impl Commands {
     #[inline(always)]
     pub(super) fn column(&mut self, order: Order, row: u8, byte: u8) -> Push<Element>
         requires { IsUnfinished element_rules self.old.place (order_byte order ∷ row ∷ []) }
-        ensures { IsStep element_rules self.old.place (order_byte order ∷ row ∷ []) byte
+        ensures step { IsStep element_rules self.old.place (order_byte order ∷ row ∷ []) byte
             self.new.place (unfinished_in self.new.phase self.new.bytes self.new.kinds self.new.controls) result }
+        ensures kept { result ≢ Push.More → self.new ≡ self.old }
     {
         let to = match Address::new(row, byte) {
             Some(to) => to,
@@ -80,8 +84,9 @@ impl Commands {
     #[inline(always)]
     pub(super) fn repeat_byte(&mut self, to: Address, byte: u8) -> Push<Element>
         requires { IsUnfinished element_rules self.old.place (REPEAT_TO_ADDRESS ∷ row_and_column to) }
-        ensures { IsStep element_rules self.old.place (REPEAT_TO_ADDRESS ∷ row_and_column to) byte
+        ensures step { IsStep element_rules self.old.place (REPEAT_TO_ADDRESS ∷ row_and_column to) byte
             self.new.place (unfinished_in self.new.phase self.new.bytes self.new.kinds self.new.controls) result }
+        ensures kept { result ≢ Push.More → self.new ≡ self.old }
     {
         match DataByte::new(byte) {
             Some(byte) => Push::Unit(Element::Ra { to, byte }),
@@ -92,8 +97,9 @@ impl Commands {
     #[inline(always)]
     pub(super) fn erase_length(&mut self, to: Address, byte: u8) -> Push<Element>
         requires { IsUnfinished element_rules self.old.place (ERASE_TO_ADDRESS ∷ row_and_column to) }
-        ensures { IsStep element_rules self.old.place (ERASE_TO_ADDRESS ∷ row_and_column to) byte
+        ensures step { IsStep element_rules self.old.place (ERASE_TO_ADDRESS ∷ row_and_column to) byte
             self.new.place (unfinished_in self.new.phase self.new.bytes self.new.kinds self.new.controls) result }
+        ensures kept { result ≢ Push.More → self.new ≡ self.old }
     {
         if byte < 2 || byte > 5 {
             return Push::Bad(Reason::BadEraseList);
@@ -107,9 +113,10 @@ impl Commands {
         requires phase { self.old.phase ≡ Phase.EraseKind to count }
         requires begun { IsUnfinished element_rules self.old.place
             (ERASE_TO_ADDRESS ∷ row_and_column to ++ (count + 1) ∷ self.old.kinds) }
-        ensures { IsStep element_rules self.old.place
+        ensures step { IsStep element_rules self.old.place
             (ERASE_TO_ADDRESS ∷ row_and_column to ++ (count + 1) ∷ self.old.kinds) byte
             self.new.place (unfinished_in self.new.phase self.new.bytes self.new.kinds self.new.controls) result }
+        ensures kept { length self.old.kinds + 1 ≢ count → result ≢ Push.More → self.new ≡ self.old }
     {
         if byte != 0 && byte != 0xff {
             return Push::Bad(Reason::BadEraseList);

@@ -1,5 +1,4 @@
-use Rattle.std.proofs.Common.{◌++◌, ◌∷◌, [], sym, subst}
-use Rattle.std.specs.Prelude.{Some}
+use Rattle.std.proofs.Common.{◌++◌, ◌∷◌, [], sym, ◌∙◌, subst}
 use Rattle.ws_telnet.specs.declared.token.Token.TheVariants.{Data}
 use Rattle.ws_record.specs.Live.{Watching}
 use Rattle.ws_record.specs.TokenStep.{Completes}
@@ -16,30 +15,14 @@ returns-in-Some-clause-pass g c = λ bytes items begun byte t.
 pub returns-in-Some-clause-after : goal.returns-in-Some-clause-after
 returns-in-Some-clause-after g c = kept_stops g.B.Code.rules _ _ c.in-Some.unit c.keep.result c.keep.ensures
 
-pub returns-in-More-clause-pass : goal.returns-in-More-clause-pass
-returns-in-More-clause-pass g c = λ bytes items begun byte t.
+pub returns-then-take_more-clause-pass : goal.returns-then-take_more-clause-pass
+returns-then-take_more-clause-pass g c = λ bytes items begun byte t.
     let t' = subst (λ (k : Receiving g.row.B-Place.Denot g.row.B-Unit.Denot). CompletesReceived g.B.Code.rules k bytes items begun byte (Data c.args.value)) (sym c.self.view_is) t in
     let done = subst (λ (k : Watching g.row.B-Place.Denot). Completes g.B.Code.rules k bytes items (record { bytes = t'.so_far; head = t'.head; units = c.self.inside.units.items }) begun byte (Data c.args.value)) (sym c.in_default.ensures.none) t'.completes in
-    record { head = t'.head; leads = (t'.so_far ++ c.args.value ∷ [], c.in-More.ensures.step bytes items (record { bytes = t'.so_far; head = t'.head; units = c.self.inside.units.items }) begun byte done) }
+    record { head = t'.head; leads = (t'.so_far ++ c.args.value ∷ [], c.take_more.ensures.taken c.if-take_more.true bytes items (record { bytes = t'.so_far; head = t'.head; units = c.self.inside.units.items }) begun byte done) }
 
-pub returns-in-Open-clause-pass : goal.returns-in-Open-clause-pass
-returns-in-Open-clause-pass g c = λ bytes items begun byte t.
+pub returns-clause-pass : goal.returns-clause-pass
+returns-clause-pass g c = λ bytes items begun byte t.
     let t' = subst (λ (k : Receiving g.row.B-Place.Denot g.row.B-Unit.Denot). CompletesReceived g.B.Code.rules k bytes items begun byte (Data c.args.value)) (sym c.self.view_is) t in
-    let done = subst (λ (k : Watching g.row.B-Place.Denot). Completes g.B.Code.rules k bytes items (record { bytes = t'.so_far; head = t'.head; units = c.self.inside.units.items }) begun byte (Data c.args.value)) (sym c.in_default.ensures.none) t'.completes in
-    record { head = Some c.in-Open._head; leads = (t'.so_far ++ c.args.value ∷ [], (c.in-Open.ensures.step bytes items (record { bytes = t'.so_far; head = t'.head; units = c.self.inside.units.items }) begun byte done).1) }
-
-pub returns-in-Unit-clause-pass : goal.returns-in-Unit-clause-pass
-returns-in-Unit-clause-pass g c = λ bytes items begun byte t.
-    let t' = subst (λ (k : Receiving g.row.B-Place.Denot g.row.B-Unit.Denot). CompletesReceived g.B.Code.rules k bytes items begun byte (Data c.args.value)) (sym c.self.view_is) t in
-    let done = subst (λ (k : Watching g.row.B-Place.Denot). Completes g.B.Code.rules k bytes items (record { bytes = t'.so_far; head = t'.head; units = c.self.inside.units.items }) begun byte (Data c.args.value)) (sym c.in_default.ensures.none) t'.completes in
-    let step = c.in-Unit.ensures.step bytes items (record { bytes = t'.so_far; head = t'.head; units = c.self.inside.units.items }) begun byte done in
-    kept_passes g.B.Code.rules _ _ bytes items byte c.in-Unit.unit t'.head c.keep-in-Unit.result c.keep-in-Unit.ensures (t'.so_far ++ c.args.value ∷ [], step.0) (unit_completed g.B.Code.rules _ _ bytes items (record { bytes = t'.so_far; head = t'.head; units = c.self.inside.units.items }) begun byte c.args.value c.in-Unit.unit done step)
-
-pub returns-in-Unit-clause-after : goal.returns-in-Unit-clause-after
-returns-in-Unit-clause-after g c = kept_stops g.B.Code.rules _ _ c.in-Unit.unit c.keep-in-Unit.result c.keep-in-Unit.ensures
-
-pub returns-in-Refused-clause-pass : goal.returns-in-Refused-clause-pass
-returns-in-Refused-clause-pass g c = λ bytes items begun byte t.
-    let t' = subst (λ (k : Receiving g.row.B-Place.Denot g.row.B-Unit.Denot). CompletesReceived g.B.Code.rules k bytes items begun byte (Data c.args.value)) (sym c.self.view_is) t in
-    let done = subst (λ (k : Watching g.row.B-Place.Denot). Completes g.B.Code.rules k bytes items (record { bytes = t'.so_far; head = t'.head; units = c.self.inside.units.items }) begun byte (Data c.args.value)) (sym c.in_default.ensures.none) t'.completes in
-    c.in-Refused.ensures.step bytes items (record { bytes = t'.so_far; head = t'.head; units = c.self.inside.units.items }) begun byte done
+    let done = subst (λ (k : Watching g.row.B-Place.Denot). Completes g.B.Code.rules k bytes items (record { bytes = t'.so_far; head = t'.head; units = c.self.inside.units.items }) begun byte (Data c.args.value)) (sym (c.take_more.ensures.left c.if-take_more.false ∙ c.in_default.ensures.none)) t'.completes in
+    c.take_last.ensures.pass bytes items begun byte (record { so_far = t'.so_far; head = t'.head; completes = done })

@@ -17,8 +17,8 @@ push-requires c =
     let follows = follows_byte c.args.self.now.place w controls c.args.high [] format parts.1 c.requires.begun in
     (omega arith, control_fits w controls c.args.high _ (leb-true 0x80 c.args.high c.requires.control) follows)
 
-pub returns : goal.returns
-returns c =
+pub returns-clause-step : goal.returns-clause-step
+returns-clause-step c =
     let w = c.args.format in
     let controls = c.args.self.now.controls in
     let parts = and_parts (nat_le 0x4000 w) (list_all is_control controls) c.requires.words in

@@ -6,8 +6,8 @@ use Rattle.ws_stream.proofs.UnfinishedAddress.{erase_more}
 use Rattle.ws_stream.proofs.commands.Commands.erase_kind.Goals as goal
 use Rattle.ws_stream.proofs.commands.Commands.erase_kind.Goals.{else-byte-ne0-via-then-byte-ne0+else-byte-ne255, else-byte-ne0-via-else-byte-ne0}
 
-pub returns : goal.returns
-returns c =
+pub returns-clause-step : goal.returns-clause-step
+returns-clause-step c =
     let xs = c.args.self.now.kinds in
     let kind : is_kind c.args.byte ≡ true = elim c.else-byte-ne0.branch [
       | else-byte-ne0-via-then-byte-ne0+else-byte-ne255 w ↦ ap is_kind w.if-byte-ne255.false

@@ -4,7 +4,7 @@ use Rattle.ws_stream.proofs.Unfinished.{step_more}
 use Rattle.ws_stream.proofs.UnfinishedAddress.{erase_counted}
 use Rattle.ws_stream.proofs.commands.Commands.erase_length.Goals as goal
 
-pub returns : goal.returns
-returns c =
+pub returns-clause-step : goal.returns-clause-step
+returns-clause-step c =
     let found = erase_counted c.args.self.now.place c.args.to c.args.byte c.clear.new.self c.requires (omega arith) (omega arith) c.clear.ensures in
     step_more (0x03 ∷ row_and_column c.args.to) c.args.byte _ _ _ _ _ c.wait_for.ensures.more c.wait_for.ensures.place c.wait_for.ensures.begun found.0 found.1
