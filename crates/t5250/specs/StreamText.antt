@@ -1,19 +1,23 @@
 -- What is shown of a stream: the lines of its items, and those of the screen or of a refusal.
 
 use Rattle.std.specs.Prelude.{◌≡◌, ℕ, ◌+◌, ◌<◌, List, [], ◌∷◌, ◌++◌, ◌⊎◌, Bool, true, false, Option, None, Some, IfSome}
+use Rattle.std.specs.Prelude.{Result, Ok, Err}
 use Rattle.std.specs.Prelude.{length, take, map}
 use Rattle.std.specs.List.{flat_map}
 use Rattle.ws_code.specs.Code.{IsChain}
 use Rattle.ws_code.specs.Device.{MayTake, WentOut, FailedWithin}
 use Rattle.ws_code.specs.declared.fault.Fault.{Fault}
 use Rattle.ws_code.specs.declared.fault.Fault.TheVariants.{Memory, Write}
+use Rattle.ws_code.specs.declared.fault.Fault.TheVariants as faults
 use Rattle.ws_code.specs.declared.reason.Reason.{Reason}
 use Rattle.ws_record.specs.Grammar.{Holds, IsInGrammar}
 use Rattle.ws_record.specs.Refusal.{Layer, IsOpen, IsRefused, IsTruncated}
+use Rattle.ws_record.specs.Receiver.{Receiving, HasReceived}
 use Rattle.ws_record.specs.declared.record.Item.{Item}
 use Rattle.ws_record.specs.declared.record.Item.TheVariants.{Record as RecordItem, Telnet as TelnetItem}
 use Rattle.ws_stream.specs.Elements.{element_rules}
 use Rattle.ws_stream.specs.declared.element.Element.{Element}
+use Rattle.ws_stream.specs.declared.place.Place.{Place}
 use Rattle.ws_screen.specs.Bodies.{body_fault}
 use Rattle.ws_screen.specs.Events.{History}
 use Rattle.ws_screen.specs.Given.{Gives}
@@ -133,17 +137,37 @@ module _ {S : Type 0} (takes : MayTake S) (failures : S → ℕ) (from to : S) w
       × FailedWithin takes failures from to text
   IsShowFault bytes fault = ⊥
 
--- Items one by one: none, or one with its place.
-abbrev pub placed_by : ℕ → Option (Item Element) → List Placed
-placed_by place None = []
-placed_by place (Some item) = (place, item) ∷ []
+  -- what is answered where the screen isn't shown: the items' lines went out, and the line of a verdict goes on
+  -- behind them, or there was a fault
+  abbrev pub IsStop : List ℕ → Result Verdict Fault → Type 0
+  IsStop bytes (Ok verdict) = (is_accepted verdict ≡ false) × ((lines : List ℕ) × IsPart bytes lines
+      × WentOut takes failures from to lines × IsShown bytes false (lines ++ line_of verdict (length bytes)))
+  IsStop bytes (Err fault) = IsShowFault bytes fault
 
-abbrev pub fault_of : History → List Placed → Option Reason
-fault_of h [] = None
-fault_of h (x ∷ xs) = item_fault h x.1
+-- a receiver has taken the first of the bytes, and has given these items
+abbrev pub HasTaken : List ℕ → Receiving Place Element → List (Item Element) → Type 0
+HasTaken bytes receiver items = HasReceived element_rules receiver (take receiver.live.taken bytes) items
 
--- how the lines go on behind those of the items: with the line of a verdict, or with the screen's
-abbrev pub GoesOn : List ℕ → Shown → List ℕ → Option Verdict → Type 0
-GoesOn bytes screen lines None = (text : List ℕ) → IsScreenText screen text → IsShown bytes true (lines ++ text)
-GoesOn bytes screen lines (Some verdict) = (is_accepted verdict ≡ false)
-    × IsShown bytes false (lines ++ line_of verdict (length bytes))
+abbrev pub HasBegun : List ℕ → Receiving Place Element → Type 0
+HasBegun bytes receiver = (items : List (Item Element)) × HasTaken bytes receiver items
+
+-- the item is complete next, and the receiver has taken the bytes up to its last one
+pub record IsNextItem (bytes : List ℕ) (items : List (Item Element)) (old new : Receiving Place Element)
+    (x : Placed) : Type 0 where
+  pub complete : IsComplete bytes items x
+  pub further : old.live.taken < new.live.taken
+  pub taken : HasTaken bytes new (items ++ x.1 ∷ [])
+
+-- what comes next: an item, or none in all the bytes
+abbrev pub IsNext : List ℕ → Receiving Place Element → Receiving Place Element → Option Placed → Type 0
+IsNext bytes old new None = (items : List (Item Element)) → HasTaken bytes old items
+    → HasReceived element_rules new bytes items
+IsNext bytes old new (Some x) = (items : List (Item Element)) → HasTaken bytes old items
+    → IsNextItem bytes items old new x
+
+-- why nothing comes next: a byte is refused, before which no item more is complete, or a growth was
+abbrev pub IsNextFault : List ℕ → Receiving Place Element → Fault → Type 0
+IsNextFault bytes old (faults.Refused place reason) = IsRefused element_rules bytes place reason
+    × ((items : List (Item Element)) → HasTaken bytes old items → HoldsItems (take place bytes) items)
+IsNextFault bytes old Memory = Unit {0}
+IsNextFault bytes old fault = ⊥

@@ -1,12 +1,12 @@
-ghost use Rattle.std.specs.Prelude.{◌≡◌, ◌++◌, Bool, List, [], ℕ, true, length, None, IfOk, IfErr, IfSome, OnOk};
+ghost use Rattle.std.specs.Prelude.{◌≡◌, ◌++◌, Bool, List, [], ℕ, true, None, IfOk, IfErr, OnOk};
 ghost use Rattle.ws_screen.specs.Events.{History};
 ghost use Rattle.ws_screen.specs.Faults.{refusal};
 ghost use Rattle.ws_screen.specs.Given.{Gives};
 ghost use Rattle.ws_code.specs.Device.{WentOut};
-ghost use Rattle.t5250.specs.CheckLine.{line_of, is_accepted};
+ghost use Rattle.t5250.specs.CheckLine.{line_of, is_accepted, verdict_by};
 ghost use Rattle.t5250.specs.ItemLines as Lines;
 ghost use Rattle.t5250.specs.ScreenLines.{IsScreenText};
-ghost use Rattle.t5250.specs.StreamText.{IsShown, IsPart, IsTextFault, IsShowFault, IsWholeItem, GoesOn, lines_of, placed_by, item_fault, fault_of, after_item, after_items};
+ghost use Rattle.t5250.specs.StreamText.{IsShown, IsPart, IsTextFault, IsShowFault, IsStop, IsWholeItem, HasBegun, IsNext, IsNextFault, item_fault, after_item};
 
 use crate::item_text::item_text;
 use crate::output::Output;
@@ -14,7 +14,7 @@ use crate::screen_lines::put_screen;
 use crate::verdict::{Verdict, verdict_by_fault};
 use std::alloc::Global;
 use ws_code::{Fault, Reason, Sink, write_whole};
-use ws_record::{Fed, Item, Receiver};
+use ws_record::{Item, Receiver};
 use ws_screen::Screen;
 use ws_session::apply_record;
 use ws_stream::{Commands, Element};
@@ -34,71 +34,52 @@ pub fn show_to<S: Sink>(alloc: Global, bytes: &[u8], sink: &mut S) -> Result<boo
         → IsPart bytes.now part → (rest : List ℕ) × (whole ≡ part ++ rest) }
 {
     let mut screen = Screen::new();
-    match show_items(alloc, bytes, &mut screen, sink)? {
-        None => write_screen(&screen, sink),
-        Some(verdict) => write_verdict(alloc, verdict, bytes.len(), sink),
+    match show_items(alloc, bytes, &mut screen, sink) {
+        Ok(()) => write_screen(&screen, sink),
+        Err(fault) => write_verdict(alloc, verdict_by_fault(fault)?, bytes.len(), sink),
     }
 }
 
-// Writes the items, and carries them out on a new screen. Gives the verdict where the stream isn't accepted,
-// or the screen refuses an item.
+// Writes the items, and carries them out on a new screen. `Refused` and `Truncated` where the stream isn't
+// accepted, or the screen refuses an item, at that item's last byte.
 fn show_items<S: Sink>(
     alloc: Global,
     bytes: &[u8],
     screen: &mut Screen,
     sink: &mut S,
-) -> Result<Option<Verdict>, Fault>
+) -> Result<(), Fault>
     requires given { Gives [] screen.old }
-    ensures ok { IfOk result (λ end. (lines : List ℕ) × IsPart bytes.now lines
+    ensures ok { OnOk result ((lines : List ℕ) × IsPart bytes.now lines
         × WentOut S.takes S.failures sink.old sink.new lines
-        × GoesOn bytes.now screen.new lines end) }
+        × ((text : List ℕ) → IsScreenText screen.new text
+        → IsShown bytes.now true (lines ++ text))) }
     ensures err { IfErr result
-        (λ fault. IsShowFault S.takes S.failures sink.old sink.new bytes.now fault) }
+        (λ fault. IsStop S.takes S.failures sink.old sink.new bytes.now (verdict_by fault)) }
 {
     let mut receiver = Receiver::<Commands>::new(alloc);
-    let mut rest = bytes;
-    while !rest.is_empty() {
-        let Fed { used, item } = match receiver.feed(rest) {
-            Ok(fed) => fed,
-            Err(fault) => return Ok(Some(verdict_by_fault(fault)?)),
-        };
-        rest = rest.split_at(used).1;
-        let place = bytes.len().saturating_sub(rest.len()).saturating_sub(1) as u64;
-        if let Some(reason) = show_item(alloc, place, &item, screen, sink)? {
-            return Ok(Some(Verdict::Refused { place, reason }));
+    while let Some((place, item)) = next_item(&mut receiver, bytes)? {
+        write_item(alloc, place, &item, sink)?;
+        if let Err(reason) = apply_item(screen, &item) {
+            return Err(Fault::Refused { place, reason });
         }
     }
-    match receiver.finish() {
-        Ok(()) => Ok(None),
-        Err(fault) => Ok(Some(verdict_by_fault(fault)?)),
-    }
+    receiver.finish()
 }
 
-// Writes an item and carries it out, if there is one. Gives the reason for which the screen refuses it.
-fn show_item<S: Sink>(
-    alloc: Global,
-    place: u64,
-    item: &Option<Item<Element>>,
-    screen: &mut Screen,
-    sink: &mut S,
-) -> Result<Option<Reason>, Fault>
-    requires whole { IfSome item.now IsWholeItem }
-    requires closed { screen.old.writing ≡ None }
-    ensures written { IfOk result (λ _. WentOut S.takes S.failures sink.old sink.new
-        (lines_of (placed_by place item.now))) }
-    ensures refused { IfOk result (λ found. (h : History) → Gives h screen.old
-        → found ≡ fault_of h (placed_by place item.now)) }
-    ensures after { IfOk result (λ found. found ≡ None → (h : History) → Gives h screen.old
-        → Gives (after_items h (placed_by place item.now)) screen.new) }
-    ensures closed { IfOk result (λ found. found ≡ None → screen.new.writing ≡ None) }
-    ensures err { IfErr result (IsTextFault S.takes S.failures sink.old sink.new
-        (λ text. text ≡ lines_of (placed_by place item.now))) }
+// The item that is complete next behind the bytes that were taken, with the place of its last byte.
+fn next_item(
+    receiver: &mut Receiver<Commands>,
+    bytes: &[u8],
+) -> Result<Option<(u64, Item<Element>)>, Fault>
+    requires { HasBegun bytes.now receiver.old }
+    ensures next { IfOk result (IsNext bytes.now receiver.old receiver.new) }
+    ensures fault { IfErr result (IsNextFault bytes.now receiver.old) }
 {
-    let Some(item) = item else {
+    let rest = bytes.split_at(receiver.taken() as usize).1;
+    let Some(item) = receiver.feed(rest)?.item else {
         return Ok(None);
     };
-    write_item(alloc, place, item, sink)?;
-    Ok(apply_item(screen, item).err())
+    Ok(Some((receiver.taken() - 1, item)))
 }
 
 // Carries out an item: a record as a station does; a Telnet command has no effect.

@@ -1,10 +1,11 @@
-use Rattle.std.proofs.Common.{length}
+use Rattle.std.proofs.Common.{List, ℕ, ◌-◌, length}
+use Rattle.ws_code.specs.Device.{WentOut}
 use Rattle.t5250.proofs.Shows.{Shows}
 use Rattle.t5250.proofs.show.show_items.Given as goal
 
--- the bytes before the rest are shown
-abbrev pub invariant-loop-rest : goal.invariant-loop-rest
-invariant-loop-rest g l = Shows g.S.Sink.takes g.S.Sink.failures l.bytes l.rest l.receiver l.screen l.fn.sink l.sink
+-- the items so far are shown
+abbrev pub invariant-loop-receiver : goal.invariant-loop-receiver
+invariant-loop-receiver g l = (lines : List ℕ) × Shows l.bytes l.receiver l.screen lines × WentOut g.S.Sink.takes g.S.Sink.failures l.fn.sink l.sink lines
 
-abbrev pub decreases-loop-rest : goal.decreases-loop-rest
-decreases-loop-rest g l = length l.rest
+abbrev pub decreases-loop-receiver : goal.decreases-loop-receiver
+decreases-loop-receiver g l = length l.bytes - l.receiver.live.taken
