@@ -6,6 +6,7 @@ use Rattle.std.specs.List.{range_with_len}
 use Rattle.ws_code.specs.declared.address.TheConstants.{COLUMNS}
 use Rattle.ws_code.specs.Ebcdic.{char_of}
 use Rattle.ws_stream.specs.FieldOrder.{is_attribute}
+use Rattle.ws_screen.specs.declared.lines.TheConstants.{DUP}
 
 -- what stands behind it doesn't display
 abbrev pub hides : ℕ → Bool
@@ -20,7 +21,7 @@ is_hidden cells c = option_map_or hides (find is_attribute (reverse (take c cell
 -- lacks a full stop
 abbrev pub shown_char : ℕ → ℕ
 shown_char b = if (b == 0) || is_attribute b then 0x20
-    else (if b == 0x1C then 0x2A else unwrap_or (char_of b) 0x2E)
+    else (if b == DUP then 0x2A else unwrap_or (char_of b) 0x2E)
 
 -- the character that a cell shows
 abbrev pub char_at : List ℕ → ℕ → ℕ

@@ -3,8 +3,24 @@ ghost use Rattle.std.specs.Prelude.{◌≡◌, ◌<◌, if◌then◌else◌, tru
 ghost use Rattle.ws_screen.specs.Controls.{cc1_code, effect_of, clears_mdt, is_nulled, locks_keyboard, has_bit, goes_home, light};
 
 use crate::Field;
-use crate::control_effect::{Cleared, ControlEffect, Nulled};
+use crate::control_effect::{ClearedFields, ControlEffect, NulledFields};
 use ws_code::Address;
+
+/// The bit of a CC2 that unlocks the keyboard (SC30-3533, Write to Display command, control character 2).
+pub const UNLOCK: u8 = 0x08;
+
+/// The bit of a CC2 that keeps the cursor where it is at an unlock.
+pub const KEEP_CURSOR: u8 = 0x40;
+
+/// The bits of a CC2 that turn the message light on and off.
+pub const MESSAGE_ON: u8 = 0x01;
+
+pub const MESSAGE_OFF: u8 = 0x02;
+
+/// The bits of a CC2 that turn blink on and off.
+pub const BLINK_ON: u8 = 0x10;
+
+pub const BLINK_OFF: u8 = 0x20;
 
 // What a code of a CC1 does.
 fn effect(code: u8) -> ControlEffect
@@ -12,14 +28,22 @@ fn effect(code: u8) -> ControlEffect
     ensures { result ≡ effect_of code }
 {
     let (locks, clears, nulls) = match code {
-        0 => (false, Cleared::NoField, Nulled::NoField),
-        1 => (true, Cleared::NoField, Nulled::NoField),
-        2 => (true, Cleared::NonBypass, Nulled::NoField),
-        3 => (true, Cleared::EveryField, Nulled::NoField),
-        4 => (true, Cleared::NoField, Nulled::ModifiedNonBypass),
-        5 => (true, Cleared::NonBypass, Nulled::NonBypass),
-        6 => (true, Cleared::NonBypass, Nulled::ModifiedNonBypass),
-        _ => (true, Cleared::EveryField, Nulled::NonBypass),
+        0 => (false, ClearedFields::NoField, NulledFields::NoField),
+        1 => (true, ClearedFields::NoField, NulledFields::NoField),
+        2 => (true, ClearedFields::NonBypass, NulledFields::NoField),
+        3 => (true, ClearedFields::EveryField, NulledFields::NoField),
+        4 => (
+            true,
+            ClearedFields::NoField,
+            NulledFields::ModifiedNonBypass,
+        ),
+        5 => (true, ClearedFields::NonBypass, NulledFields::NonBypass),
+        6 => (
+            true,
+            ClearedFields::NonBypass,
+            NulledFields::ModifiedNonBypass,
+        ),
+        _ => (true, ClearedFields::EveryField, NulledFields::NonBypass),
     };
     ControlEffect {
         locks,
@@ -40,9 +64,9 @@ pub fn nulls(cc1: u8, field: Field) -> bool
     ensures { result ≡ is_nulled cc1 field }
 {
     match effect_of_cc1(cc1).nulls {
-        Nulled::NoField => false,
-        Nulled::ModifiedNonBypass => !field.format.bypass() && field.format.modified(),
-        Nulled::NonBypass => !field.format.bypass(),
+        NulledFields::NoField => false,
+        NulledFields::ModifiedNonBypass => !field.format.bypass() && field.format.modified(),
+        NulledFields::NonBypass => !field.format.bypass(),
     }
 }
 
@@ -51,9 +75,9 @@ pub fn clears(cc1: u8, bypass: bool) -> bool
     ensures { result ≡ clears_mdt cc1 bypass }
 {
     match effect_of_cc1(cc1).clears {
-        Cleared::NoField => false,
-        Cleared::NonBypass => !bypass,
-        Cleared::EveryField => true,
+        ClearedFields::NoField => false,
+        ClearedFields::NonBypass => !bypass,
+        ClearedFields::EveryField => true,
     }
 }
 
@@ -78,9 +102,9 @@ pub fn has(bit: u8, byte: u8) -> bool
 
 /// Whether a CC2 leaves the keyboard locked.
 pub fn still_locked(cc2: u8, locked: bool) -> bool
-    ensures { result ≡ (if has_bit 0x08 cc2 then false else locked) }
+    ensures { result ≡ (if has_bit UNLOCK cc2 then false else locked) }
 {
-    if has(0x08, cc2) { false } else { locked }
+    if has(UNLOCK, cc2) { false } else { locked }
 }
 
 /// A light after a CC2, one bit of which turns it on and another off.
@@ -110,7 +134,7 @@ pub fn cursor_after(
 {
     match mc {
         Some(place) => place,
-        None if locked && has(0x08, cc2) && !has(0x40, cc2) => home,
+        None if locked && has(UNLOCK, cc2) && !has(KEEP_CURSOR, cc2) => home,
         None => cursor,
     }
 }

@@ -1,6 +1,6 @@
 /// Of which input fields a CC1 turns the MDT off.
 #[derive(Clone, Copy, Debug, PartialEq, Eq)]
-pub enum Cleared {
+pub enum ClearedFields {
     NoField,
     NonBypass,
     EveryField,
@@ -8,7 +8,7 @@ pub enum Cleared {
 
 /// Which input fields a CC1 nulls.
 #[derive(Clone, Copy, Debug, PartialEq, Eq)]
-pub enum Nulled {
+pub enum NulledFields {
     NoField,
     /// Those without bypass whose MDT is on.
     ModifiedNonBypass,
@@ -20,6 +20,6 @@ pub enum Nulled {
 pub struct ControlEffect {
     /// It locks the keyboard.
     pub locks: bool,
-    pub clears: Cleared,
-    pub nulls: Nulled,
+    pub clears: ClearedFields,
+    pub nulls: NulledFields,
 }

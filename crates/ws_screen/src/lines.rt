@@ -8,6 +8,9 @@ ghost use Rattle.ws_screen.specs.Lines as Spec;
 use arrayvec::ArrayString;
 use ws_code::ebcdic;
 
+/// What the key Dup leaves in a cell (SC30-3533, Dup key); it shows as an asterisk.
+pub const DUP: u8 = 0x1c;
+
 fn is_attribute(byte: u8) -> bool
     ensures { result ≡ Attribute.is_attribute byte }
 {
@@ -57,7 +60,7 @@ fn shown_char(byte: u8) -> char
 {
     match byte {
         0x00 | 0x20..=0x3F => ' ',
-        0x1C => '*',
+        DUP => '*',
         _ => match ebcdic::to_char(byte) {
             Some(character) => character,
             None => '.',

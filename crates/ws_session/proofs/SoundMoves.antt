@@ -37,6 +37,7 @@ use Rattle.ws_session.proofs.Flights.{InFlight, written}
 use Rattle.ws_session.proofs.Betweens.{is_stop, Posted, Body, Stop, posted, Sent, Replies, Signal, sents, tokens}
 use Rattle.ws_session.proofs.BetweenKeys.{key_silent, key_signal, key_answer, pending-keyed, sends_body, sends_cancel}
 use Rattle.ws_session.proofs.Sounds.{Sound, quiet_event, records_down, records_up, with_posted, with_sents}
+use Rattle.ws_session.specs.declared.answer.TheConstants.{ATN, SRQ}
 
 -- A key, a send or a cancel in a session.
 
@@ -141,8 +142,8 @@ module _ (t : TerminalType) where
 
     by_key : (key : Key) → (sends key && not (station_allows_records w.station.options)) ≡ false → Sound t (station_pressed w (presses w.station key))
     by_key (Send aid) e = answers_by aid (must_allow (station_allows_records w.station.options) e) (pending_read w.station.happened) refl
-    by_key Attention e = signals 0x4000 (must_allow (station_allows_records w.station.options) e)
-    by_key SystemRequest e = signals 0x0400 (must_allow (station_allows_records w.station.options) e)
+    by_key Attention e = signals ATN (must_allow (station_allows_records w.station.options) e)
+    by_key SystemRequest e = signals SRQ (must_allow (station_allows_records w.station.options) e)
     by_key key e = unanswered key refl
 
     by_refusal : (key : Key) → (sends key && not (station_allows_records w.station.options)) ≡ false → (r : Option KeyRefusal) → Sound t (station_pressed w (key_by_refusal w.station key r))

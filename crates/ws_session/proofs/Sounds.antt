@@ -25,6 +25,7 @@ use Rattle.ws_session.specs.HostSide.{ready_by_terminal, ready_event, has_flag, 
 use Rattle.ws_session.specs.World.{World, events_with}
 use Rattle.ws_session.proofs.Flights.{InFlight}
 use Rattle.ws_session.proofs.Betweens.{Posted, record_of, posted, Sent, Replies, Ends, Signal, item_of, sents, tokens, Between}
+use Rattle.ws_session.specs.declared.answer.TheConstants.{ATN, SRQ}
 
 -- Every session: what is in flight stands between both ends.
 
@@ -119,7 +120,7 @@ ready_silent was now = by_test (not was && host_allows_records now) (accepted_te
     by_test true (Some terminal) = refl
 
 pub signal_silent : (flags : ℕ) → IsSilent (signal flags)
-signal_silent flags = by_tests (has_flag 0x4000 flags) (has_flag 0x0400 flags)
+signal_silent flags = by_tests (has_flag ATN flags) (has_flag SRQ flags)
   where
     by_tests : (a b : Bool) → IsSilent (if a then Some AttentionCame else (if b then Some RequestCame else None))
     by_tests true b = refl

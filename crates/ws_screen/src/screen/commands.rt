@@ -9,7 +9,10 @@ ghost use Rattle.ws_screen.specs.Reads.{read_in};
 ghost use Rattle.ws_screen.specs.Steps.{IsCarried, after_cc2, without_format};
 
 use crate::cells::fill;
-use crate::control::{cursor_after, light_after, locked_after, still_locked};
+use crate::control::{
+    BLINK_OFF, BLINK_ON, MESSAGE_OFF, MESSAGE_ON, cursor_after, light_after, locked_after,
+    still_locked,
+};
 use crate::format_table::{clear_table_mdts, null_fields};
 use crate::open_write::OpenWrite;
 use crate::{ReadKind, Screen};
@@ -69,8 +72,8 @@ impl Screen {
         let blink = self.blink;
         self.cursor = cursor_after(locked, cc2, mc, home, cursor);
         self.locked = still_locked(cc2, locked);
-        self.message = light_after(0x01, 0x02, cc2, message);
-        self.blink = light_after(0x10, 0x20, cc2, blink);
+        self.message = light_after(MESSAGE_ON, MESSAGE_OFF, cc2, message);
+        self.blink = light_after(BLINK_ON, BLINK_OFF, cc2, blink);
     }
 
     // Drops the format table, the key switches, the home, the pending read and the open write, and
