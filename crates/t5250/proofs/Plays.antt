@@ -4,8 +4,8 @@ use Rattle.ws_nego.specs.declared.terminal.TerminalType.TheVariants.{Ibm3179Mode
 use Rattle.ws_screen.specs.Shown.{Shown}
 use Rattle.ws_session.specs.declared.world.Event.{Event}
 use Rattle.ws_session.specs.declared.world.Move.{Move}
-use Rattle.ws_session.specs.HostLeads.{HostHolding}
-use Rattle.ws_session.specs.StationLeads.{Holding}
+use Rattle.ws_session.specs.HostLeads.{HostParts}
+use Rattle.ws_session.specs.StationLeads.{StationParts}
 use Rattle.ws_session.specs.StationSide.{screen_at}
 use Rattle.ws_session.specs.World.{World, new_world, after_moves}
 use Rattle.ws_session.specs.Reports.{IsReport}
@@ -18,14 +18,14 @@ use Rattle.t5250.specs.Script.{IsScript}
 
 -- What is told of a session is its report's.
 
-pub session_text : (moves given : List Move) (events : List Event) (station : Holding) (host : HostHolding) (down up : List ℕ) (screen : Bool) (text : List ℕ) → given ≡ moves
+pub session_text : (moves given : List Move) (events : List Event) (station : StationParts) (host : HostParts) (down up : List ℕ) (screen : Bool) (text : List ℕ) → given ≡ moves
     → IsReport events station host down up (after_moves (new_world Ibm3179Model2) given) → IsPlayText events station.screen screen text → IsSessionText (after_moves (new_world Ibm3179Model2) moves) screen text
 session_text moves given events station host down up screen text same r t =
     let w : World = after_moves (new_world Ibm3179Model2) given in
     let told : IsPlayText w.events (screen_at w.station) screen text = subst (λ (s : Shown). IsPlayText w.events s screen text) r.screen (subst (λ (es : List Event). IsPlayText es station.screen screen text) r.events t) in
     subst (λ (ms : List Move). IsSessionText (after_moves (new_world Ibm3179Model2) ms) screen text) same told
 
-pub session_well : (moves given : List Move) (events : List Event) (station : Holding) (host : HostHolding) (down up : List ℕ) → given ≡ moves
+pub session_well : (moves given : List Move) (events : List Event) (station : StationParts) (host : HostParts) (down up : List ℕ) → given ≡ moves
     → IsReport events station host down up (after_moves (new_world Ibm3179Model2) given) → no_end_refuses events ≡ no_end_refuses (after_moves (new_world Ibm3179Model2) moves).events
 session_well moves given events station host down up same r = ap no_end_refuses r.events ∙ ap (λ (ms : List Move). no_end_refuses (after_moves (new_world Ibm3179Model2) ms).events) same
 

@@ -11,7 +11,7 @@ use Rattle.ws_screen.specs.Shown.{Shown}
 use Rattle.ws_screen.specs.declared.field.Field.{Field}
 use Rattle.ws_screen.specs.declared.read_kind.ReadKind.{ReadKind}
 use Rattle.ws_screen.specs.declared.read_kind.ReadKind.TheVariants.{Input, Mdt, MdtAlternate}
-use Rattle.ws_session.specs.StationLeads.{Holding, StationLeads, IsPushed}
+use Rattle.ws_session.specs.StationLeads.{StationParts, StationLeads, IsPushed}
 use Rattle.ws_session.specs.StationSide.{StationSide, new_station_side}
 use Rattle.ws_session.specs.declared.refusal.Refusal.{Refusal}
 use Rattle.ws_session.specs.declared.refusal.Refusal.TheVariants.{At, Failed as HasFailed, Memory}
@@ -80,7 +80,7 @@ IsPushTold (Err refusal) status told old new = IsRefusalTold refusal status told
 -- a station is made for the terminal of the name, or the handle stays as it is
 abbrev pub IsStationNew : List ℕ → Option Machine → Option Machine → Status → Type 0
 IsStationNew name (Some held) now status = (status ≡ InUse) × (now ≡ Some held)
-IsStationNew name None now Done = (terminal : TerminalType) × (station : Holding)
+IsStationNew name None now Done = (terminal : TerminalType) × (station : StationParts)
     × (terminal_named name ≡ Some terminal) × (now ≡ Some (Station station))
     × StationLeads station [] [] (new_station_side terminal)
 IsStationNew name None now BadArgument = (terminal_named name ≡ None) × (now ≡ None)
@@ -88,7 +88,7 @@ IsStationNew name None now NoMemory = (terminal : TerminalType) × (terminal_nam
 IsStationNew name None now status = ⊥
 
 -- a station at a byte
-pub record StationPushed (old new : Holding) (byte : ℕ) (result : Result (List ℕ) Refusal) : Type 0 where
+pub record StationPushed (old new : StationParts) (byte : ℕ) (result : Result (List ℕ) Refusal) : Type 0 where
   pub pushed : (bytes : List ℕ) (items : List (Item Element)) (side : StationSide) → StationLeads old bytes items side
       → length bytes + 1 < 2 ^ 64 → IsPushed old new bytes items side byte result
   pub failed : old.failed ≡ true → result ≡ Err HasFailed
@@ -96,12 +96,12 @@ pub record StationPushed (old new : Holding) (byte : ℕ) (result : Result (List
 
 -- a push of a byte into what the handle holds
 abbrev pub IsPush : ℕ → List ℕ → List ℕ → Status → Told → Machine → Machine → Type 0
-IsPush byte buffer after status told (Station old) now = (new : Holding) × (result : Result (List ℕ) Refusal)
+IsPush byte buffer after status told (Station old) now = (new : StationParts) × (result : Result (List ℕ) Refusal)
     × (now ≡ Station new) × StationPushed old new byte result × IsPushTold result status told buffer after
 IsPush byte buffer after status told old now = (status ≡ NothingHeld) × (now ≡ old) × (after ≡ buffer)
 
 -- a station at a key
-pub record StationKeyed (old new : Holding) (key : Key) (result : Result (Option Answer) KeyFault) : Type 0 where
+pub record StationKeyed (old new : StationParts) (key : Key) (result : Result (Option Answer) KeyFault) : Type 0 where
   pub keyed : (bytes : List ℕ) (items : List (Item Element)) (side : StationSide) → StationLeads old bytes items side
       → IsKeyed old new bytes items side key result
   pub failed : old.failed ≡ true → result ≡ Err KeyFailed
@@ -122,7 +122,8 @@ IsKeyTold (Err fault) status told old new = IsKeyFaultTold fault status told × 
 
 -- a key at what the handle holds
 abbrev pub IsPress : Key → List ℕ → List ℕ → Status → Told → Machine → Machine → Type 0
-IsPress key buffer after status told (Station old) now = (new : Holding) × (result : Result (Option Answer) KeyFault)
+IsPress key buffer after status told (Station old) now = (new : StationParts)
+    × (result : Result (Option Answer) KeyFault)
     × (now ≡ Station new) × StationKeyed old new key result × IsKeyTold result status told buffer after
 IsPress key buffer after status told old now = (status ≡ NothingHeld) × (now ≡ old) × (after ≡ buffer)
 

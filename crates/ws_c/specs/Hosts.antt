@@ -12,7 +12,7 @@ use Rattle.ws_record.specs.declared.record.Item.TheVariants.{Telnet as TelnetIte
 use Rattle.ws_stream.specs.Elements.{element_rules}
 use Rattle.ws_stream.specs.declared.answer_part.AnswerPart.{AnswerPart}
 use Rattle.ws_keys.specs.declared.host_answer.HostAnswer.{HostAnswer}
-use Rattle.ws_session.specs.HostLeads.{HostHolding, HostLeads, IsHostPushed}
+use Rattle.ws_session.specs.HostLeads.{HostParts, HostLeads, IsHostPushed}
 use Rattle.ws_session.specs.HostSide.{HostSide, new_host_side}
 use Rattle.ws_session.specs.declared.host_event.HostEvent.{HostEvent}
 use Rattle.ws_session.specs.declared.host_event.HostEvent.TheVariants.{Ready, Answer, Attention, SystemRequest}
@@ -49,7 +49,7 @@ IsHostNew buffer after old told None now NoMemory = (now ≡ None) × (after ≡
 IsHostNew buffer after old told None now status = ⊥
 
 -- a host's end at a byte
-pub record HostPushed (old new : HostHolding) (byte : ℕ) (result : Result HostStep Refusal) : Type 0 where
+pub record HostPushed (old new : HostParts) (byte : ℕ) (result : Result HostStep Refusal) : Type 0 where
   pub pushed : (bytes : List ℕ) (items : List (Item AnswerPart)) (side : HostSide) → HostLeads old bytes items side
       → length bytes + 1 < 2 ^ 64 → IsHostPushed old new bytes items side byte result
   pub full : old.receiver.live.taken + 1 ≡ 2 ^ 64 → result ≡ Err HasFailed

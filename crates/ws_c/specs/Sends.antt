@@ -10,7 +10,7 @@ use Rattle.ws_record.specs.declared.opcode.Opcode.TheVariants.{CancelInvite}
 use Rattle.ws_record.specs.declared.record.Item.{Item}
 use Rattle.ws_stream.specs.declared.answer_part.AnswerPart.{AnswerPart}
 use Rattle.ws_stream.specs.declared.element.Element.{Element}
-use Rattle.ws_session.specs.HostLeads.{HostHolding, HostLeads, IsSent, IsSendFault}
+use Rattle.ws_session.specs.HostLeads.{HostParts, HostLeads, IsSent, IsSendFault}
 use Rattle.ws_session.specs.HostSide.{HostSide, RefusesSend, host_send, host_cancel}
 use Rattle.ws_session.specs.declared.send_fault.SendFault.{SendFault}
 use Rattle.ws_session.specs.declared.send_fault.SendFault.TheVariants.{Failed as SendFailed, NotAllowed}
@@ -42,7 +42,7 @@ IsReadFrom rules bytes (Ok body) = IsBody rules bytes body
 IsReadFrom rules bytes (Err fault) = IsBodyFault (IsBody rules bytes) fault
 
 -- a host's end at a send
-pub record HostSent (old new : HostHolding) (opcode : Opcode) (body : List Element)
+pub record HostSent (old new : HostParts) (opcode : Opcode) (body : List Element)
     (result : Result (List ℕ) SendFault) : Type 0 where
   pub sent : (bytes : List ℕ) (items : List (Item AnswerPart)) (side : HostSide) → HostLeads old bytes items side
       → MatchResult result (λ spelled. IsSent new bytes items (host_send side opcode body) spelled)
@@ -51,7 +51,7 @@ pub record HostSent (old new : HostHolding) (opcode : Opcode) (body : List Eleme
   pub failed : old.failed ≡ true → result ≡ Err SendFailed
 
 -- a host's end at a cancel
-pub record HostCancelled (old new : HostHolding) (result : Result (List ℕ) SendFault) : Type 0 where
+pub record HostCancelled (old new : HostParts) (result : Result (List ℕ) SendFault) : Type 0 where
   pub sent : (bytes : List ℕ) (items : List (Item AnswerPart)) (side : HostSide) → HostLeads old bytes items side
       → MatchResult result (λ spelled. IsSent new bytes items (host_cancel side) spelled)
       (λ fault. host_cancel side ≡ RefusesSend fault)

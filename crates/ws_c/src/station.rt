@@ -1,7 +1,7 @@
 //! Display stations.
 ghost use Rattle.std.specs.Prelude.{◌≡◌, ◌≤◌, ◌<◌, [], List, ℕ, Option, Some, None, Result, Ok, Err, true, length};
 ghost use Rattle.ws_nego.specs.Terminal.{terminal_named};
-ghost use Rattle.ws_session.specs.StationLeads.{Holding, StationLeads};
+ghost use Rattle.ws_session.specs.StationLeads.{StationParts, StationLeads};
 ghost use Rattle.ws_session.specs.StationSide.{new_station_side};
 ghost use Rattle.ws_session.specs.declared.refusal.Refusal.{Refusal as ARefusal};
 ghost use Rattle.ws_c.specs.declared.status.Status.{Status as AStatus};

@@ -14,7 +14,7 @@ use Rattle.ws_session.specs.declared.world.Event.{Event}
 use Rattle.ws_session.specs.declared.world.Event.TheVariants.{Host, KeyRefused, SendRefused}
 use Rattle.ws_session.specs.declared.world.Move.{Move}
 use Rattle.ws_session.specs.declared.world.Move.TheVariants.{Send, Cancel, ToStation, ToHost, Key as Press}
-use Rattle.ws_session.specs.HostSide.{HostSide, Told, host_takes, SendReaction, RefusesSend, Sends, host_cancel}
+use Rattle.ws_session.specs.HostSide.{HostSide, HostOutput, host_takes, SendReaction, RefusesSend, Sends, host_cancel}
 use Rattle.ws_session.specs.Reaction.{Reaction, Refuses, GoesOn}
 use Rattle.ws_session.specs.Refusals.{is_refusal, refusals_in}
 use Rattle.ws_session.specs.StationSide.{StationSide, station_takes, KeyReaction, RefusesKey, Silent, Answers, Signals, station_key}
@@ -48,7 +48,7 @@ station_byte w true o calm = calm
 station_byte w false None calm = calm
 station_byte w false (Some item) calm = station_item w (station_takes w.station item) calm
 
-host_item : (w : World) (r : Reaction HostSide Told) → IsCalm w → IsCalm (host_did w r)
+host_item : (w : World) (r : Reaction HostSide HostOutput) → IsCalm w → IsCalm (host_did w r)
 host_item w (Refuses reason) calm = λ p q. cc
 host_item w (GoesOn host told) calm = λ p q. tells w.events told.event (calm p q)
 

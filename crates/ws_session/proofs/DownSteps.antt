@@ -18,8 +18,8 @@ use Rattle.ws_session.specs.declared.refusal.Refusal.{Refusal}
 use Rattle.ws_session.specs.declared.refusal.Refusal.TheVariants.{At, Failed, Memory}
 use Rattle.ws_session.specs.declared.world.Move.TheVariants.{ToStation}
 use Rattle.ws_session.specs.HostLeads.{HostLeads}
-use Rattle.ws_session.specs.Runs.{Running, Runs, AreWritable}
-use Rattle.ws_session.specs.StationLeads.{Holding, StationLeads, IsPushed, IsInside, IsTaken}
+use Rattle.ws_session.specs.Runs.{WorldParts, Runs, AreWritable}
+use Rattle.ws_session.specs.StationLeads.{StationParts, StationLeads, IsPushed, IsInside, IsTaken}
 use Rattle.ws_session.specs.StationSide.{StationSide}
 use Rattle.ws_record.specs.Arrived.{ending_at, arrived}
 use Rattle.ws_session.specs.World.{World, down_bytes, up_bytes, station_did, station_gets, byte_to_station, bytes_to_station}
@@ -33,7 +33,7 @@ use Rattle.ws_session.proofs.Reached.{going_station, is_sound, reached_by}
 
 -- A byte comes to the station of a running session.
 
-module _ (t : TerminalType) (w : World) (old : Running) (r : Runs t old w) where
+module _ (t : TerminalType) (w : World) (old : WorldParts) (r : Runs t old w) where
   module _ (more : w.at_station < length (down_bytes w)) (byte : ℕ) (is : byte ≡ get_or (down_bytes w) w.at_station byte) where
     abbrev byte_on : World
     byte_on = record w { at_station = w.at_station + 1 }
@@ -61,7 +61,7 @@ module _ (t : TerminalType) (w : World) (old : Running) (r : Runs t old w) where
         ∙ arrived_next element_rules w.down w.at_station
 
     -- a byte at which the station goes on
-    goes : (side : StationSide) (writes : List (Item AnswerPart)) (station : Holding) (reply : List ℕ) → reply ≡ plain_spelling answer_rules writes → AreWritable answer_rules writes
+    goes : (side : StationSide) (writes : List (Item AnswerPart)) (station : StationParts) (reply : List ℕ) → reply ≡ plain_spelling answer_rules writes → AreWritable answer_rules writes
         → StationLeads station front (arrived element_rules w.down w.at_station ++ given ends) side → byte_to_station w ≡ record w { at_station = w.at_station + 1; station = side; up = w.up ++ writes }
         → Runs t (record old { at_station = old.at_station + 1; station = station; up = old.up ++ reply }) (byte_to_station w)
     goes side writes station reply spelled fit leads does =
@@ -84,7 +84,7 @@ module _ (t : TerminalType) (w : World) (old : Running) (r : Runs t old w) where
           events = r.events;
         })
 
-    inside : (station : Holding) (reply : List ℕ) → IsInside old.station station (take w.at_station (down_bytes w)) (arrived element_rules w.down w.at_station) w.station byte reply
+    inside : (station : StationParts) (reply : List ℕ) → IsInside old.station station (take w.at_station (down_bytes w)) (arrived element_rules w.down w.at_station) w.station byte reply
         → Runs t (record old { at_station = old.at_station + 1; station = station; up = old.up ++ reply }) (byte_to_station w)
     inside station reply i =
         let done = arrived element_rules w.down w.at_station in
@@ -93,7 +93,7 @@ module _ (t : TerminalType) (w : World) (old : Running) (r : Runs t old w) where
         goes w.station [] station reply i.silent (tt, tt) (subst (λ z. StationLeads station front z w.station) (held_is done (i.leads.leads.0, _, i.leads.leads.1.holds)) i.leads)
         (steps None o ∙ ap (λ z. record w { at_station = w.at_station + 1; up = z }) (sym (append-nil w.up)))
 
-    taken : (station : Holding) (reply : List ℕ) → IsTaken station (take w.at_station (down_bytes w)) (arrived element_rules w.down w.at_station) w.station byte reply
+    taken : (station : StationParts) (reply : List ℕ) → IsTaken station (take w.at_station (down_bytes w)) (arrived element_rules w.down w.at_station) w.station byte reply
         → Runs t (record old { at_station = old.at_station + 1; station = station; up = old.up ++ reply }) (byte_to_station w)
     taken station reply k =
         let done = arrived element_rules w.down w.at_station in
@@ -103,7 +103,7 @@ module _ (t : TerminalType) (w : World) (old : Running) (r : Runs t old w) where
         goes k.next k.writes station reply k.spelled (answers_writable w.station k.item k.next k.writes range k.goes_on) (subst (λ z. StationLeads station front z k.next) held k.leads)
         (steps (Some k.item) o ∙ ap (station_did byte_on) k.goes_on)
 
-    pub station_on : (station : Holding) (reply : List ℕ) → IsPushed old.station station (take w.at_station (down_bytes w)) (arrived element_rules w.down w.at_station) w.station byte (Ok reply)
+    pub station_on : (station : StationParts) (reply : List ℕ) → IsPushed old.station station (take w.at_station (down_bytes w)) (arrived element_rules w.down w.at_station) w.station byte (Ok reply)
         → Runs t (record old { at_station = old.at_station + 1; station = station; up = old.up ++ reply }) (byte_to_station w)
     station_on station reply p = elim p [
       | inl i ↦ inside station reply i
@@ -111,7 +111,7 @@ module _ (t : TerminalType) (w : World) (old : Running) (r : Runs t old w) where
     ]
 
     -- no byte is refused
-    pub station_never : (station : Holding) (refusal : Refusal) → IsPushed old.station station (take w.at_station (down_bytes w)) (arrived element_rules w.down w.at_station) w.station byte (Err refusal) → ⊥
+    pub station_never : (station : StationParts) (refusal : Refusal) → IsPushed old.station station (take w.at_station (down_bytes w)) (arrived element_rules w.down w.at_station) w.station byte (Err refusal) → ⊥
     station_never station (At at reason) p = elim p.2 [
       | inl refused ↦ front_not_refused element_rules element_bytes w.down r.writable_down.0 r.writable_down.1 (take (w.at_station + 1) (down_bytes w)) (drop (w.at_station + 1) (down_bytes w)) (sym (take-append-drop (w.at_station + 1) (down_bytes w))) at reason
           (subst (λ z. IsRefused element_rules z at reason) (sym longer) refused)
@@ -127,10 +127,10 @@ module _ (t : TerminalType) (w : World) (old : Running) (r : Runs t old w) where
     station_never station Memory p = p
 
 -- what the station's clause says, of the bytes that have arrived
-abbrev pub Pushes : Holding → Holding → ℕ → Result (List ℕ) Refusal → Type 0
+abbrev pub Pushes : StationParts → StationParts → ℕ → Result (List ℕ) Refusal → Type 0
 Pushes old new byte result = (bytes : List ℕ) (items : List (Item Element)) (side : StationSide) → StationLeads old bytes items side → length bytes + 1 < 18446744073709551616 → IsPushed old new bytes items side byte result
 
-module _ (t : TerminalType) (w : World) (old : Running) (r : Runs t old w) (more : old.at_station < length old.down) (few : length old.down < 18446744073709551616) (byte : ℕ) (is : byte ≡ get_or old.down old.at_station byte) where
+module _ (t : TerminalType) (w : World) (old : WorldParts) (r : Runs t old w) (more : old.at_station < length old.down) (few : length old.down < 18446744073709551616) (byte : ℕ) (is : byte ≡ get_or old.down old.at_station byte) where
   more_in : w.at_station < length (down_bytes w)
   more_in = omega (arith, more, r.at_station, ap length r.down)
 
@@ -140,10 +140,10 @@ module _ (t : TerminalType) (w : World) (old : Running) (r : Runs t old w) (more
   few_in : length (take w.at_station (down_bytes w)) + 1 < 18446744073709551616
   few_in = omega (arith, more_in, few, ap length r.down, length-take-le w.at_station (down_bytes w) (omega (arith, more_in)))
 
-  pub station_byte : (station : Holding) (reply : List ℕ) → Pushes old.station station byte (Ok reply) → Runs t (record old { at_station = old.at_station + 1; station = station; up = old.up ++ reply }) (byte_to_station w)
+  pub station_byte : (station : StationParts) (reply : List ℕ) → Pushes old.station station byte (Ok reply) → Runs t (record old { at_station = old.at_station + 1; station = station; up = old.up ++ reply }) (byte_to_station w)
   station_byte station reply p = station_on t w old r more_in byte is_in station reply (p (take w.at_station (down_bytes w)) (arrived element_rules w.down w.at_station) w.station r.station few_in)
 
-  pub station_never_byte : (station : Holding) (refusal : Refusal) → Pushes old.station station byte (Err refusal) → ⊥
+  pub station_never_byte : (station : StationParts) (refusal : Refusal) → Pushes old.station station byte (Err refusal) → ⊥
   station_never_byte station refusal p = station_never t w old r more_in byte is_in station refusal (p (take w.at_station (down_bytes w)) (arrived element_rules w.down w.at_station) w.station r.station few_in)
 
 -- a move of several bytes
@@ -161,7 +161,7 @@ stops zero m h w e = idle m w e
 stops (suc n) zero h w e = absurd (omega (arith, h))
 stops (suc n) (suc m) h w e = stops n m (omega (arith, h)) (byte_to_station w) e
 
-pub none_comes : (t : TerminalType) (w : World) (old : Running) → Runs t old w → length old.down ≤ old.at_station → byte_to_station w ≡ w
+pub none_comes : (t : TerminalType) (w : World) (old : WorldParts) → Runs t old w → length old.down ≤ old.at_station → byte_to_station w ≡ w
 none_comes t w old r all =
     let less : nat_lt w.at_station (length (down_bytes w)) ≡ false = grind (arith, nat_tests, all, r.at_station, ap length r.down) in
     ap (λ (b : Bool). if b then station_gets (record w { at_station = w.at_station + 1 }) w.station_refused (ending_at element_rules w.down (w.at_station + 1)) else w) less

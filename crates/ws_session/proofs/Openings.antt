@@ -16,7 +16,7 @@ use Rattle.ws_stream.specs.Elements.{element_rules}
 use Rattle.ws_stream.specs.declared.answer_part.AnswerPart.{AnswerPart}
 use Rattle.ws_stream.specs.declared.element.Element.{Element}
 use Rattle.ws_session.specs.Deliveries.{delivery, three_deliveries}
-use Rattle.ws_session.specs.HostSide.{HostSide, Told, host_takes}
+use Rattle.ws_session.specs.HostSide.{HostSide, HostOutput, host_takes}
 use Rattle.ws_session.specs.Reaction.{Reaction, Refuses, GoesOn}
 use Rattle.ws_session.specs.StationSide.{StationSide, station_takes}
 use Rattle.ws_session.specs.World.{World, down_bytes, up_bytes, station_did, station_gets, host_did, host_gets, byte_to_station, byte_to_host, bytes_to_station, bytes_to_host, after_moves, IsQuiet}
@@ -48,7 +48,7 @@ station_byte w true o = still w
 station_byte w false None = still w
 station_byte w false (Some item) = station_item w (station_takes w.station item)
 
-host_item : (w : World) (r : Reaction HostSide Told) → Grows w (host_did w r)
+host_item : (w : World) (r : Reaction HostSide HostOutput) → Grows w (host_did w r)
 host_item w (Refuses reason) = still w
 host_item w (GoesOn host told) = (omega (arith, total_append element_rules w.down told.items), omega arith)
 

@@ -16,7 +16,7 @@ use Rattle.ws_session.specs.declared.run.Played.{Played}
 use Rattle.ws_session.specs.declared.player.Player.{Player}
 use Rattle.ws_session.specs.Moments.{outcome, due, later}
 use Rattle.ws_session.specs.Playing.{HasDone, HasCome}
-use Rattle.ws_session.specs.StationLeads.{Holding, StationLeads}
+use Rattle.ws_session.specs.StationLeads.{StationParts, StationLeads}
 use Rattle.ws_session.specs.StationRun.{IsRunFault, IsRun, refusal_count, behind}
 use Rattle.ws_session.specs.StationSide.{StationSide, new_station_side}
 use Rattle.ws_session.proofs.Plays.{text_of}
@@ -37,7 +37,7 @@ module _ {R S : Type 0} (gives : MayGive R) (misses : R → ℕ) (takes : MayTak
   gave_none s = record { reads = []; made = refl; counted = refl; within = omega arith; gave = refl; uncounted = refl }
 
   -- before the first read the keys are pressed that wait for no record
-  pub run_starts : (station : Holding) (source : R) (sink here : S) (player : Player)
+  pub run_starts : (station : StationParts) (source : R) (sink here : S) (player : Player)
       → HasDone takes failures [] [] (record { station = station; records = 0; pressed = 0; keys_refused = 0 }) player sink here (outcome (new_station_side t) (due 0 keys))
       → drop player.pressed keys ≡ later 0 keys
       → Reading gives misses source source 0 takes failures t keys sink here player
@@ -56,7 +56,7 @@ module _ {R S : Type 0} (gives : MayGive R) (misses : R → ℕ) (takes : MayTak
     few = omega arith;
   }
 
-  pub start_fails : (station : Holding) (source : R) (sink here : S) → StationLeads station [] [] (new_station_side t)
+  pub start_fails : (station : StationParts) (source : R) (sink here : S) → StationLeads station [] [] (new_station_side t)
       → FailedWithin takes failures sink here (text_of (outcome (new_station_side t) (due 0 keys)).written) → IsRun t keys gives misses source source takes failures sink here (Err Write)
   start_fails station source sink here l failed = record {
     bytes = [];
@@ -86,7 +86,7 @@ module _ {R S : Type 0} (gives : MayGive R) (misses : R → ℕ) (takes : MayTak
       items = r.items;
       gave = gave_all gives misses source now now' reads r.bytes room r.gave one_left h made same;
       accepted = ok.2 r.bytes r.items (behind t keys r.items).side r.come.is_behind.leads;
-      is_behind = record { leads = subst (λ (z : Holding). StationLeads z r.bytes r.items (behind t keys r.items).side) (sym ok.0) r.come.is_behind.leads; taken = r.come.is_behind.taken };
+      is_behind = record { leads = subst (λ (z : StationParts). StationLeads z r.bytes r.items (behind t keys r.items).side) (sym ok.0) r.come.is_behind.leads; taken = r.come.is_behind.taken };
       refused = ok.1 ∙ r.come.refused;
       wrote = r.come.wrote;
     }

@@ -16,7 +16,7 @@ use Rattle.ws_session.specs.declared.refusal.Refusal.TheVariants.{At}
 use Rattle.ws_session.specs.declared.station.StationStep.{StationStep}
 use Rattle.ws_session.specs.Moments.{Moment, Arrives, Presses, Outcome, idle_outcome, outcome_of_both, at_item, at_moment, outcome, goes_on, AreTaken, due, later, one_record, moments_from, moments}
 use Rattle.ws_session.specs.Playing.{HasDone, HasCome, records_from, keys_left_from}
-use Rattle.ws_session.specs.StationLeads.{Holding, StationLeads, IsInside, IsTaken, IsStepped, is_record}
+use Rattle.ws_session.specs.StationLeads.{StationParts, StationLeads, IsInside, IsTaken, IsStepped, is_record}
 use Rattle.ws_session.specs.StationRun.{refusal_count, behind, run_text, RunRefuses, RunUnwritten, IsRunFault}
 use Rattle.ws_session.specs.StationSide.{StationSide, new_station_side}
 use Rattle.ws_session.proofs.Plays.{text_of, text_append, outcome_append, none_due, later_by}
@@ -73,7 +73,7 @@ one_of_record : (item : Item Element) → is_record item ≡ true → one_record
 one_of_record (RecordItem r) e = refl
 one_of_record (TelnetItem token) e = cc
 
-module _ {S : Type 0} (takes : MayTake S) (failures : S → ℕ) (t : TerminalType) (keys : List (ℕ × Key)) (start now : S) (old : Player) (before : Holding) (bytes : List ℕ) (items : List (Item Element)) (byte : ℕ)
+module _ {S : Type 0} (takes : MayTake S) (failures : S → ℕ) (t : TerminalType) (keys : List (ℕ × Key)) (start now : S) (old : Player) (before : StationParts) (bytes : List ℕ) (items : List (Item Element)) (byte : ℕ)
     (c : HasCome takes failures t keys start (record old { station = before }) now bytes items) where
   abbrev so_far : Outcome
   so_far = behind t keys items
@@ -229,7 +229,7 @@ module _ {S : Type 0} (takes : MayTake S) (failures : S → ℕ) (t : TerminalTy
 -- the byte is refused, or its item
 module _ {S : Type 0} (takes : MayTake S) (failures : S → ℕ) (t : TerminalType) (keys : List (ℕ × Key)) (start now : S) (old : Player) (bytes : List ℕ) (items : List (Item Element)) (byte : ℕ)
     (c : HasCome takes failures t keys start old now bytes items) where
-  pub byte_refused : (station : Holding) (place : ℕ) (reason : Reason) → IsStepped old.station station bytes items (behind t keys items).side byte (Err (At place reason)) → RunRefuses t keys takes failures start now (length bytes) (bytes ++ byte ∷ []) place reason
+  pub byte_refused : (station : StationParts) (place : ℕ) (reason : Reason) → IsStepped old.station station bytes items (behind t keys items).side byte (Err (At place reason)) → RunRefuses t keys takes failures start now (length bytes) (bytes ++ byte ∷ []) place reason
   byte_refused station place reason is = record {
     before = bytes;
     byte = byte;

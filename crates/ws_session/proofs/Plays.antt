@@ -20,7 +20,7 @@ use Rattle.ws_session.specs.declared.player.Player.{Player}
 use Rattle.ws_session.specs.declared.key_fault.KeyFault.{KeyFault}
 use Rattle.ws_session.specs.Moments.{Moment, Presses, Outcome, idle_outcome, outcome_of_both, at_key, at_moment, outcome, due, later}
 use Rattle.ws_session.specs.Playing.{HasDone}
-use Rattle.ws_session.specs.StationLeads.{Holding, StationLeads, IsKeyed}
+use Rattle.ws_session.specs.StationLeads.{StationParts, StationLeads, IsKeyed}
 use Rattle.ws_session.specs.StationRun.{refusal_count}
 use Rattle.ws_session.specs.StationSide.{StationSide, KeyReaction}
 
@@ -57,10 +57,10 @@ outcome_append s (m ∷ ms) ns =
     ap (outcome_of_both a) (outcome_append a.side ms ns) ∙ sym (followed_assoc a (outcome a.side ms) (outcome (outcome a.side ms).side ns))
 
 -- what an answer is spelled as
-abbrev Sends : Holding → List ℕ → List (Item Element) → List ℕ → Outcome → Type 0
+abbrev Sends : StationParts → List ℕ → List (Item Element) → List ℕ → Outcome → Type 0
 Sends station bytes items text o = (text ≡ text_of o.written) × StationLeads station bytes items o.side × (o.refused ≡ 0)
 
-pub key_sends : (old station : Holding) (bytes : List ℕ) (items : List (Item Element)) (side : StationSide) (key : Key) (answer : Answer) → IsKeyed old station bytes items side key (Ok (Some answer))
+pub key_sends : (old station : StationParts) (bytes : List ℕ) (items : List (Item Element)) (side : StationSide) (key : Key) (answer : Answer) → IsKeyed old station bytes items side key (Ok (Some answer))
     → Sends station bytes items (answer_spelling answer) (at_moment side (Presses key))
 key_sends old station bytes items side key (Read body) k =
     subst (λ (z : KeyReaction). Sends station bytes items (answer_spelling (Read body)) (at_key side z)) (sym k.3)
@@ -73,7 +73,7 @@ key_sends old station bytes items side key SystemRequest k =
 add_none : (n m : ℕ) (before : ℕ) → m ≡ 0 → n ≡ refusal_count before → n ≡ refusal_count (before + m)
 add_none n m before e is = is ∙ ap refusal_count (let f : before ≡ before + m = omega (arith, e) in f)
 
-module _ {S : Type 0} (takes : MayTake S) (failures : S → ℕ) (old : Player) (bytes : List ℕ) (items : List (Item Element)) (side : StationSide) (key : Key) (station : Holding) where
+module _ {S : Type 0} (takes : MayTake S) (failures : S → ℕ) (old : Player) (bytes : List ℕ) (items : List (Item Element)) (side : StationSide) (key : Key) (station : StationParts) where
   abbrev Done : Player → S → S → KeyReaction → Type 0
   Done new from to z = HasDone takes failures bytes items old new from to (at_key side z)
 
@@ -104,7 +104,7 @@ module _ {S : Type 0} (takes : MayTake S) (failures : S → ℕ) (old : Player) 
   pub refused_done : (now : S) (fault : KeyFault) (count : ℕ) → StationLeads old.station bytes items side → IsKeyed old.station station bytes items side key (Err fault) → count ≡ min (old.keys_refused + 1) (2 ^ 32 - 1)
       → HasDone takes failures bytes items old (record old { station = station; keys_refused = count }) now now (at_moment side (Presses key))
   refused_done now fault count l k is = subst (Done (record old { station = station; keys_refused = count }) now now) (sym k.0) (record {
-    leads = subst (λ (z : Holding). StationLeads z bytes items side) (sym k.1) l;
+    leads = subst (λ (z : StationParts). StationLeads z bytes items side) (sym k.1) l;
     refused = λ before e. (let f : count ≡ refusal_count (before + 1) = omega (arith, e, is) in f);
     records = refl;
     wrote = went_out_none takes failures now;

@@ -1,7 +1,7 @@
 use Rattle.std.proofs.Common.{◌≡◌, false, List, [], ◌∷◌, ◌++◌, refl, ap, ◌∙◌, sym, subst}
 use Rattle.ws_nego.specs.declared.terminal.TerminalType.{TerminalType}
 use Rattle.ws_session.specs.declared.world.Move.{Move}
-use Rattle.ws_session.specs.Runs.{Running, Runs}
+use Rattle.ws_session.specs.Runs.{WorldParts, Runs}
 use Rattle.ws_session.specs.World.{World, new_world, after_move, after_moves}
 use Rattle.ws_session.proofs.Sounds.{Sound}
 use Rattle.ws_session.proofs.Worlds.{sound}
@@ -12,7 +12,7 @@ pub more_moves : (moves : List Move) (move : Move) (w : World) → after_moves w
 more_moves [] move w = refl
 more_moves (m ∷ moves) move w = more_moves moves move (after_move w m)
 
-module _ (t : TerminalType) (w : World) (old : Running) (r : Runs t old w) where
+module _ (t : TerminalType) (w : World) (old : WorldParts) (r : Runs t old w) where
   pub is_sound : Sound t w
   is_sound = subst (Sound t) (sym r.reached) (sound t r.moves)
 

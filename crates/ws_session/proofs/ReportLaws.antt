@@ -10,10 +10,10 @@ use Rattle.ws_session.specs.declared.world.Event.{Event}
 use Rattle.ws_session.specs.declared.world.Move.{Move}
 use Rattle.ws_session.specs.Answered.{answers_in, answers_coming}
 use Rattle.ws_session.specs.Deliveries.{three_deliveries}
-use Rattle.ws_session.specs.HostLeads.{HostHolding}
+use Rattle.ws_session.specs.HostLeads.{HostParts}
 use Rattle.ws_session.specs.Refusals.{refusals_in}
 use Rattle.ws_session.specs.Reports.{IsReport, IsOpened}
-use Rattle.ws_session.specs.StationLeads.{Holding}
+use Rattle.ws_session.specs.StationLeads.{StationParts}
 use Rattle.ws_session.specs.World.{World, new_world, down_bytes, up_bytes, after_moves}
 use Rattle.ws_session.proofs.Agreements.{agree_when_quiet}
 use Rattle.ws_session.proofs.Calms.{none_refused}
@@ -39,7 +39,7 @@ after_both : (xs ys : List Move) (w : World) → after_moves w (xs ++ ys) ≡ af
 after_both [] ys w = refl
 after_both (x ∷ xs) ys w = after_both xs ys _
 
-module _ (t : TerminalType) (ms : List Move) (told : List Event) (station : Holding) (host : HostHolding) (down up : List ℕ) (r : IsReport told station host down up (after_moves (new_world t) ms)) where
+module _ (t : TerminalType) (ms : List Move) (told : List Event) (station : StationParts) (host : HostParts) (down up : List ℕ) (r : IsReport told station host down up (after_moves (new_world t) ms)) where
   abbrev now : World
   now = after_moves (new_world t) ms
 

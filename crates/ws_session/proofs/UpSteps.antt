@@ -22,8 +22,8 @@ use Rattle.ws_stream.specs.declared.element.Element.{Element}
 use Rattle.ws_session.specs.declared.refusal.Refusal.{Refusal}
 use Rattle.ws_session.specs.declared.refusal.Refusal.TheVariants.{At, Failed}
 use Rattle.ws_session.specs.declared.world.Move.TheVariants.{ToHost}
-use Rattle.ws_session.specs.HostLeads.{HostHolding, HostLeads, IsHostPushed, IsHostInside, IsHostTaken}
-use Rattle.ws_session.specs.Runs.{Running, Runs, AreWritable}
+use Rattle.ws_session.specs.HostLeads.{HostParts, HostLeads, IsHostPushed, IsHostInside, IsHostTaken}
+use Rattle.ws_session.specs.Runs.{WorldParts, Runs, AreWritable}
 use Rattle.ws_session.specs.StationLeads.{StationLeads}
 use Rattle.ws_record.specs.Arrived.{ending_at, arrived}
 use Rattle.ws_session.specs.World.{World, down_bytes, up_bytes, events_with, host_did, host_gets, byte_to_host, bytes_to_host}
@@ -37,7 +37,7 @@ use Rattle.ws_session.proofs.Reached.{going_host, is_sound, reached_by}
 
 -- A byte comes to the host end of a running session.
 
-module _ (t : TerminalType) (w : World) (old : Running) (r : Runs t old w) where
+module _ (t : TerminalType) (w : World) (old : WorldParts) (r : Runs t old w) where
   module _ (more : w.at_host < length (up_bytes w)) (byte : ℕ) (is : byte ≡ get_or (up_bytes w) w.at_host byte) where
     abbrev byte_off : World
     byte_off = record w { at_host = w.at_host + 1 }
@@ -63,7 +63,7 @@ module _ (t : TerminalType) (w : World) (old : Running) (r : Runs t old w) where
         (subst (λ z. HoldsSome answer_rules z (arrived answer_rules w.up (w.at_host + 1))) longer_off (arrived_held answer_rules part_bytes w.up r.writable_up (w.at_host + 1) (omega (arith, more))))
         ∙ arrived_next answer_rules w.up w.at_host
 
-    goes_up : (side : HostSide) (items : List (Item Element)) (event : Option HostEvent) (host : HostHolding) (reply : List ℕ) (events : List Event) → reply ≡ plain_spelling element_rules items → AreWritable element_rules items → events ≡ events_with old.events event
+    goes_up : (side : HostSide) (items : List (Item Element)) (event : Option HostEvent) (host : HostParts) (reply : List ℕ) (events : List Event) → reply ≡ plain_spelling element_rules items → AreWritable element_rules items → events ≡ events_with old.events event
         → HostLeads host front_up (arrived answer_rules w.up w.at_host ++ given ends_up) side → byte_to_host w ≡ record w { at_host = w.at_host + 1; host = side; down = w.down ++ items; events = events_with w.events event }
         → Runs t (record old { at_host = old.at_host + 1; host = host; down = old.down ++ reply; events = events }) (byte_to_host w)
     goes_up side items event host reply events spelled fit told leads does =
@@ -86,7 +86,7 @@ module _ (t : TerminalType) (w : World) (old : Running) (r : Runs t old w) where
           events = told ∙ ap (λ z. events_with z event) r.events;
         })
 
-    inside_up : (host : HostHolding) (step : HostStep) (events : List Event) → events ≡ events_with old.events step.event → IsHostInside old.host host (take w.at_host (up_bytes w)) (arrived answer_rules w.up w.at_host) w.host byte step
+    inside_up : (host : HostParts) (step : HostStep) (events : List Event) → events ≡ events_with old.events step.event → IsHostInside old.host host (take w.at_host (up_bytes w)) (arrived answer_rules w.up w.at_host) w.host byte step
         → Runs t (record old { at_host = old.at_host + 1; host = host; down = old.down ++ step.reply; events = events }) (byte_to_host w)
     inside_up host step events told i =
         let done = arrived answer_rules w.up w.at_host in
@@ -95,7 +95,7 @@ module _ (t : TerminalType) (w : World) (old : Running) (r : Runs t old w) where
         goes_up w.host [] None host step.reply events i.silent (tt, tt) (told ∙ ap (events_with old.events) i.untold) (subst (λ z. HostLeads host front_up z w.host) held i.leads)
         (steps_up None o ∙ ap (λ z. record w { at_host = w.at_host + 1; down = z }) (sym (append-nil w.down)))
 
-    taken_up : (host : HostHolding) (step : HostStep) (events : List Event) → events ≡ events_with old.events step.event → IsHostTaken host (take w.at_host (up_bytes w)) (arrived answer_rules w.up w.at_host) w.host byte step
+    taken_up : (host : HostParts) (step : HostStep) (events : List Event) → events ≡ events_with old.events step.event → IsHostTaken host (take w.at_host (up_bytes w)) (arrived answer_rules w.up w.at_host) w.host byte step
         → Runs t (record old { at_host = old.at_host + 1; host = host; down = old.down ++ step.reply; events = events }) (byte_to_host w)
     taken_up host step events told k =
         let done = arrived answer_rules w.up w.at_host in
@@ -106,14 +106,14 @@ module _ (t : TerminalType) (w : World) (old : Running) (r : Runs t old w) where
         goes_up k.next k.told.items k.told.event host step.reply events k.spelled fit (told ∙ ap (events_with old.events) k.event) (subst (λ z. HostLeads host front_up z k.next) held k.leads)
         (steps_up (Some k.item) o ∙ ap (host_did byte_off) k.goes_on)
 
-    host_on : (host : HostHolding) (step : HostStep) (events : List Event) → events ≡ events_with old.events step.event → IsHostPushed old.host host (take w.at_host (up_bytes w)) (arrived answer_rules w.up w.at_host) w.host byte (Ok step)
+    host_on : (host : HostParts) (step : HostStep) (events : List Event) → events ≡ events_with old.events step.event → IsHostPushed old.host host (take w.at_host (up_bytes w)) (arrived answer_rules w.up w.at_host) w.host byte (Ok step)
         → Runs t (record old { at_host = old.at_host + 1; host = host; down = old.down ++ step.reply; events = events }) (byte_to_host w)
     host_on host step events told p = elim p [
       | inl i ↦ inside_up host step events told i
       | inr k ↦ taken_up host step events told k
     ]
 
-    host_never : (host : HostHolding) (at : ℕ) (reason : Reason) → IsHostPushed old.host host (take w.at_host (up_bytes w)) (arrived answer_rules w.up w.at_host) w.host byte (Err (At at reason)) → ⊥
+    host_never : (host : HostParts) (at : ℕ) (reason : Reason) → IsHostPushed old.host host (take w.at_host (up_bytes w)) (arrived answer_rules w.up w.at_host) w.host byte (Err (At at reason)) → ⊥
     host_never host at reason p = elim p.2 [
       | inl refused ↦ front_not_refused answer_rules part_bytes w.up r.writable_up.0 r.writable_up.1 (take (w.at_host + 1) (up_bytes w)) (drop (w.at_host + 1) (up_bytes w)) (sym (take-append-drop (w.at_host + 1) (up_bytes w))) at reason
           (subst (λ z. IsRefused answer_rules z at reason) (sym longer_off) refused)
@@ -127,10 +127,10 @@ module _ (t : TerminalType) (w : World) (old : Running) (r : Runs t old w) where
     ]
 
 -- what the host end's clause says, of the bytes that have arrived
-abbrev pub HostPushes : HostHolding → HostHolding → ℕ → Result HostStep Refusal → Type 0
+abbrev pub HostPushes : HostParts → HostParts → ℕ → Result HostStep Refusal → Type 0
 HostPushes old new byte result = (bytes : List ℕ) (items : List (Item AnswerPart)) (side : HostSide) → HostLeads old bytes items side → length bytes + 1 < 18446744073709551616 → IsHostPushed old new bytes items side byte result
 
-module _ (t : TerminalType) (w : World) (old : Running) (r : Runs t old w) (more : old.at_host < length old.up) (few : length old.up < 18446744073709551616) (byte : ℕ) (is : byte ≡ get_or old.up old.at_host byte) where
+module _ (t : TerminalType) (w : World) (old : WorldParts) (r : Runs t old w) (more : old.at_host < length old.up) (few : length old.up < 18446744073709551616) (byte : ℕ) (is : byte ≡ get_or old.up old.at_host byte) where
   more_up : w.at_host < length (up_bytes w)
   more_up = omega (arith, more, r.at_host, ap length r.up)
 
@@ -140,13 +140,13 @@ module _ (t : TerminalType) (w : World) (old : Running) (r : Runs t old w) (more
   few_up : length (take w.at_host (up_bytes w)) + 1 < 18446744073709551616
   few_up = omega (arith, more_up, few, ap length r.up, length-take-le w.at_host (up_bytes w) (omega (arith, more_up)))
 
-  pub host_byte : (host : HostHolding) (step : HostStep) (events : List Event) → events ≡ events_with old.events step.event → HostPushes old.host host byte (Ok step) → Runs t (record old { at_host = old.at_host + 1; host = host; down = old.down ++ step.reply; events = events }) (byte_to_host w)
+  pub host_byte : (host : HostParts) (step : HostStep) (events : List Event) → events ≡ events_with old.events step.event → HostPushes old.host host byte (Ok step) → Runs t (record old { at_host = old.at_host + 1; host = host; down = old.down ++ step.reply; events = events }) (byte_to_host w)
   host_byte host step events told p = host_on t w old r more_up byte is_up host step events told (p (take w.at_host (up_bytes w)) (arrived answer_rules w.up w.at_host) w.host r.host few_up)
 
-  pub host_never_byte : (host : HostHolding) (at : ℕ) (reason : Reason) → HostPushes old.host host byte (Err (At at reason)) → ⊥
+  pub host_never_byte : (host : HostParts) (at : ℕ) (reason : Reason) → HostPushes old.host host byte (Err (At at reason)) → ⊥
   host_never_byte host at reason p = host_never t w old r more_up byte is_up host at reason (p (take w.at_host (up_bytes w)) (arrived answer_rules w.up w.at_host) w.host r.host few_up)
 
-  pub host_works_byte : (host : HostHolding) → HostPushes old.host host byte (Err Failed) → ⊥
+  pub host_works_byte : (host : HostParts) → HostPushes old.host host byte (Err Failed) → ⊥
   host_works_byte host p = p (take w.at_host (up_bytes w)) (arrived answer_rules w.up w.at_host) w.host r.host few_up
 
 pub host_bytes_more : (n : ℕ) (w : World) → bytes_to_host (suc n) w ≡ byte_to_host (bytes_to_host n w)
@@ -162,7 +162,7 @@ host_stops zero m h w e = host_idle m w e
 host_stops (suc n) zero h w e = absurd (omega (arith, h))
 host_stops (suc n) (suc m) h w e = host_stops n m (omega (arith, h)) (byte_to_host w) e
 
-pub none_comes_up : (t : TerminalType) (w : World) (old : Running) → Runs t old w → length old.up ≤ old.at_host → byte_to_host w ≡ w
+pub none_comes_up : (t : TerminalType) (w : World) (old : WorldParts) → Runs t old w → length old.up ≤ old.at_host → byte_to_host w ≡ w
 none_comes_up t w old r all =
     let less : nat_lt w.at_host (length (up_bytes w)) ≡ false = grind (arith, nat_tests, all, r.at_host, ap length r.up) in
     ap (λ (b : Bool). if b then host_gets (record w { at_host = w.at_host + 1 }) w.host_refused (ending_at answer_rules w.up (w.at_host + 1)) else w) less

@@ -19,7 +19,7 @@ use Rattle.ws_screen.specs.Formats.{fields}
 use Rattle.ws_screen.specs.declared.read_kind.ReadKind.{ReadKind}
 use Rattle.ws_keys.specs.Readings.{read_answer}
 use Rattle.ws_keys.specs.declared.host_answer.HostAnswer.{HostAnswer}
-use Rattle.ws_session.specs.HostSide.{HostSide, Told, asked_read, host_negotiates, host_reads, host_reads_by, host_ends_cancel, host_takes_record, host_takes}
+use Rattle.ws_session.specs.HostSide.{HostSide, HostOutput, asked_read, host_negotiates, host_reads, host_reads_by, host_ends_cancel, host_takes_record, host_takes}
 use Rattle.ws_telnet.specs.Token.{IsTelnet}
 use Rattle.ws_telnet.specs.declared.token.Verb.{Verb}
 use Rattle.ws_telnet.specs.declared.token.Telnet.{Telnet}
@@ -163,7 +163,7 @@ host_reply_in_range h (Subnegotiate sub) r = by_name (name_in sub)
     by_name (Some name) = by_known h.name name
 
 -- what a reaction writes can be written
-abbrev pub WritesWell : Reaction HostSide Told → Type 0
+abbrev pub WritesWell : Reaction HostSide HostOutput → Type 0
 WritesWell (Refuses reason) = Unit {0}
 WritesWell (GoesOn end told) = AreWritable element_rules told.items
 

@@ -8,15 +8,15 @@ use Rattle.ws_screen.specs.Formats.{fields}
 use Rattle.ws_stream.specs.AnswerParts.{answer_rules}
 use Rattle.ws_stream.specs.Elements.{element_rules}
 use Rattle.ws_session.specs.declared.world.Event.{Event}
-use Rattle.ws_session.specs.HostLeads.{HostHolding, HostLeads}
+use Rattle.ws_session.specs.HostLeads.{HostParts, HostLeads}
 use Rattle.ws_session.specs.HostSide.{asked_read}
-use Rattle.ws_session.specs.StationLeads.{Holding, StationLeads}
+use Rattle.ws_session.specs.StationLeads.{StationParts, StationLeads}
 use Rattle.ws_session.specs.StationSide.{screen_at}
 use Rattle.ws_session.specs.World.{World, down_bytes, up_bytes, to_station, to_host}
 
 -- What is reported of a session: its events, both ends, and the bytes in flight to the station and to the host end.
 -- It is that of this world of whole items.
-pub record IsReport (told : List Event) (station : Holding) (host : HostHolding) (down up : List ℕ)
+pub record IsReport (told : List Event) (station : StationParts) (host : HostParts) (down up : List ℕ)
     (w : World) : Type 0 where
   pub events : told ≡ w.events
   pub screen : station.screen ≡ screen_at w.station
@@ -32,7 +32,7 @@ pub record IsReport (told : List Event) (station : Holding) (host : HostHolding)
   pub host_leads : HostLeads host (take w.at_host (up_bytes w)) (arrived answer_rules w.up w.at_host) w.host
 
 -- nothing is in flight, and records are allowed at both ends
-pub record IsOpened (station : Holding) (host : HostHolding) (down up : List ℕ) : Type 0 where
+pub record IsOpened (station : StationParts) (host : HostParts) (down up : List ℕ) : Type 0 where
   pub to_station : down ≡ []
   pub to_host : up ≡ []
   pub at_station : station_allows_records station.options ≡ true

@@ -16,7 +16,7 @@ use Rattle.ws_stream.specs.declared.element.Element.{Element}
 use Rattle.ws_keys.specs.declared.key.Key.{Key}
 use Rattle.ws_session.specs.declared.run.Played.{Played}
 use Rattle.ws_session.specs.Moments.{Outcome, outcome, AreTaken, moments}
-use Rattle.ws_session.specs.StationLeads.{Holding, StationLeads, IsItemRefused}
+use Rattle.ws_session.specs.StationLeads.{StationParts, StationLeads, IsItemRefused}
 use Rattle.ws_session.specs.StationSide.{new_station_side}
 
 -- the count of refused keys stops at the greatest number of 32 bits
@@ -33,7 +33,7 @@ module _ (terminal : TerminalType) (keys : List (ℕ × Key)) where
   run_text items = plain_spelling answer_rules (behind items).written
 
   -- the bytes hold these items, none of them is refused, and the station has come there
-  pub record IsBehind (bytes : List ℕ) (items : List (Item Element)) (station : Holding) : Type 0 where
+  pub record IsBehind (bytes : List ℕ) (items : List (Item Element)) (station : StationParts) : Type 0 where
     pub leads : StationLeads station bytes items (behind items).side
     pub taken : AreTaken (new_station_side terminal) (moments keys items)
 
@@ -47,7 +47,7 @@ module _ (terminal : TerminalType) (keys : List (ℕ × Key)) where
       pub at_place : place ≡ length before
       pub prompt : first ≤ place
       pub items : List (Item Element)
-      pub station : Holding
+      pub station : StationParts
       pub is_behind : IsBehind before items station
       pub why : IsRefused element_rules (before ++ byte ∷ []) place reason
           ⊎ IsItemRefused before items (behind items).side byte reason
@@ -87,7 +87,7 @@ module _ (terminal : TerminalType) (keys : List (ℕ × Key)) where
     pub record IsRunTruncated (n : ℕ) : Type 0 where
       pub bytes : List ℕ
       pub items : List (Item Element)
-      pub station : Holding
+      pub station : StationParts
       pub gave : GaveAll gives misses source source' bytes
       pub at_end : n ≡ length bytes
       pub truncated : IsTruncated element_rules bytes
@@ -98,7 +98,7 @@ module _ (terminal : TerminalType) (keys : List (ℕ × Key)) where
     pub record IsRunUnread : Type 0 where
       pub bytes : List ℕ
       pub items : List (Item Element)
-      pub station : Holding
+      pub station : StationParts
       pub failed : ReadFault gives misses source source' bytes
       pub is_behind : IsBehind bytes items station
       pub wrote : WentOut takes failures sink sink' (run_text items)

@@ -10,7 +10,7 @@ ghost use Rattle.ws_stream.specs.Elements.{element_rules};
 ghost use Rattle.ws_stream.specs.declared.element.Element.{Element};
 ghost use Rattle.ws_session.specs.Moments.{Presses, at_moment, outcome, due, later};
 ghost use Rattle.ws_session.specs.Playing.{HasDone, HasCome};
-ghost use Rattle.ws_session.specs.StationLeads.{Holding, StationLeads, IsStepped};
+ghost use Rattle.ws_session.specs.StationLeads.{StationParts, StationLeads, IsStepped};
 ghost use Rattle.ws_session.specs.StationRun.{IsRunFault, RunUnwritten, behind};
 ghost use Rattle.ws_session.specs.StationSide.{StationSide};
 
@@ -89,7 +89,7 @@ impl Player {
         keys: &[(u32, Key)],
         step: &StationStep,
     ) -> Result<(), Fault>
-        ensures come { OnOk result ((start : S) (terminal : ATerminal) (before : Holding) (bytes : List ℕ)
+        ensures come { OnOk result ((start : S) (terminal : ATerminal) (before : StationParts) (bytes : List ℕ)
             (items : List (Item Element)) (byte : ℕ)
             → HasCome S.takes S.failures terminal keys.now start
             (record self.old { station = before }) sink.old bytes items
@@ -99,7 +99,7 @@ impl Player {
             → (next : List (Item Element)) × HasCome S.takes S.failures terminal keys.now
             start self.new sink.new (bytes ++ byte ∷ []) next) }
         ensures fault { IfErr result (λ fault. (fault ≡ Fault.Write) × ((start : S)
-            (terminal : ATerminal) (before : Holding) (bytes : List ℕ) (items : List (Item Element)) (byte : ℕ)
+            (terminal : ATerminal) (before : StationParts) (bytes : List ℕ) (items : List (Item Element)) (byte : ℕ)
             → HasCome S.takes S.failures terminal keys.now start
             (record self.old { station = before }) sink.old bytes items
             → length bytes + 1 < 2 ^ 64

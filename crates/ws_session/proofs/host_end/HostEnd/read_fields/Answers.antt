@@ -8,7 +8,7 @@ use Rattle.ws_keys.specs.Splits.{IsSplit}
 use Rattle.ws_keys.specs.declared.host_answer.HostAnswer.{HostAnswer}
 use Rattle.ws_keys.specs.declared.host_answer.HostFault.{HostFault}
 use Rattle.ws_keys.proofs.ReadingLaws.{is_read}
-use Rattle.ws_session.specs.HostLeads.{HostHolding}
+use Rattle.ws_session.specs.HostLeads.{HostParts}
 use Rattle.ws_session.proofs.host_end.HostEnd.read_fields.Goals as goal
 
 -- what may be answered by the asked read
@@ -21,8 +21,8 @@ by_asked_read asked fields parts kind result is split k e =
 pub returns : goal.returns
 returns c =
     let s = c.self.inside in
-    let old : HostHolding = record { receiver = s.receiver; options = s.options; screen = s.kept; cancelling = s.cancelling; failed = s.has_failed } in
+    let old : HostParts = record { receiver = s.receiver; options = s.options; screen = s.kept; cancelling = s.cancelling; failed = s.has_failed } in
     record {
-      read = subst (λ (h : HostHolding). (k : ReadKind) → h.screen.pending ≡ Some k → IsRead (read_answer k h.screen.fields c.args.parts.now) c.split_answer.result) c.self.view_is
+      read = subst (λ (h : HostParts). (k : ReadKind) → h.screen.pending ≡ Some k → IsRead (read_answer k h.screen.fields c.args.parts.now) c.split_answer.result) c.self.view_is
           (by_asked_read old.screen.pending old.screen.fields c.args.parts.now c.in-Some.kind c.split_answer.result (sym c.pending_read.ensures ∙ c.in-Some.is) c.split_answer.ensures.split);
     }

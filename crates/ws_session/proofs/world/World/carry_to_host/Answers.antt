@@ -1,6 +1,6 @@
 use Rattle.std.proofs.Common.{◌≡◌, ◌≤◌, ◌+◌, [], ◌∷◌, ◌++◌, length, refl, sym, subst, arith}
 use Rattle.std.proofs.lemmas.Result.{err_from_is_err_and}
-use Rattle.ws_session.specs.Runs.{Running, Runs}
+use Rattle.ws_session.specs.Runs.{WorldParts, Runs}
 use Rattle.ws_session.specs.World.{bytes_to_host}
 use Rattle.ws_session.proofs.Lines.{crossed_on, stopped_behind, faithful_front, faithful_back, host_bytes_on}
 use Rattle.ws_session.proofs.UpSteps.{host_stops, none_comes_up}
@@ -31,7 +31,7 @@ loop-left-preserved g c =
 pub returns-then-piece-eq0-clause-came : goal.returns-then-piece-eq0-clause-came
 returns-then-piece-eq0-clause-came g c =
     let i = c.loop-left.invariant in
-    let all : length c.loop-left.self.up ≤ c.loop-left.self.at_host = subst (λ (k : Running). length k.up ≤ k.at_host) c.self.view_is (omega (arith, c.if-piece-eq0.true, c.min-piece.ensures, c.min.ensures, c.len.ensures, c.loop-left-test.true)) in (
+    let all : length c.loop-left.self.up ≤ c.loop-left.self.at_host = subst (λ (k : WorldParts). length k.up ≤ k.at_host) c.self.view_is (omega (arith, c.if-piece-eq0.true, c.min-piece.ensures, c.min.ensures, c.len.ensures, c.loop-left-test.true)) in (
       i.crossings,
       i.crossed,
       (λ f t w r.

@@ -1,6 +1,6 @@
 use Rattle.std.proofs.Common.{◌≡◌, ◌≤◌, ◌+◌, [], ◌∷◌, ◌++◌, length, refl, sym, subst, arith}
 use Rattle.std.proofs.lemmas.Result.{err_from_is_err_and}
-use Rattle.ws_session.specs.Runs.{Running, Runs}
+use Rattle.ws_session.specs.Runs.{WorldParts, Runs}
 use Rattle.ws_session.specs.World.{bytes_to_station}
 use Rattle.ws_session.proofs.Lines.{crossed_on, stopped_behind, faithful_front, faithful_back, bytes_on}
 use Rattle.ws_session.proofs.DownSteps.{stops, none_comes}
@@ -31,7 +31,7 @@ loop-left-preserved g c =
 pub returns-then-piece-eq0-clause-came : goal.returns-then-piece-eq0-clause-came
 returns-then-piece-eq0-clause-came g c =
     let i = c.loop-left.invariant in
-    let all : length c.loop-left.self.down ≤ c.loop-left.self.at_station = subst (λ (k : Running). length k.down ≤ k.at_station) c.self.view_is (omega (arith, c.if-piece-eq0.true, c.min-piece.ensures, c.min.ensures, c.len.ensures, c.loop-left-test.true)) in (
+    let all : length c.loop-left.self.down ≤ c.loop-left.self.at_station = subst (λ (k : WorldParts). length k.down ≤ k.at_station) c.self.view_is (omega (arith, c.if-piece-eq0.true, c.min-piece.ensures, c.min.ensures, c.len.ensures, c.loop-left-test.true)) in (
       i.crossings,
       i.crossed,
       (λ f t w r.
