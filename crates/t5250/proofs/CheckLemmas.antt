@@ -4,6 +4,7 @@ use Rattle.std.proofs.Math.Seq.{take-add}
 use Rattle.std.proofs.Common.{eqb-true, true}
 use Rattle.std.proofs.lemmas.List.{take-append-drop, append-nil, take_all}
 use Rattle.ws_code.specs.Code.{Rules}
+use Rattle.ws_code.specs.Device.{MayTake}
 use Rattle.ws_code.specs.declared.fault.Fault.{Fault}
 use Rattle.ws_code.specs.declared.fault.Fault.TheVariants.{Refused, Truncated, Memory, Read, Write, Failed}
 use Rattle.ws_record.specs.declared.record.Item.{Item}
@@ -15,6 +16,7 @@ use Rattle.t5250.specs.declared.verdict.Verdict.{Verdict}
 use Rattle.t5250.specs.declared.check.Tally.{Tally}
 use Rattle.t5250.specs.CheckLine.{IsVerdict, record_count, command_count, verdict_by}
 use Rattle.t5250.specs.Checking.{Counts, tally_after}
+use Rattle.t5250.specs.Printing.{IsTextFault}
 
 record_count-append : {U : Type 0} (xs ys : List (Item U)) → record_count (xs ++ ys) ≡ record_count xs + record_count ys
 record_count-append [] ys = omega arith
@@ -126,3 +128,12 @@ module _ {Place U : Type 0} (rules : Rules Place U) where
   -- what a fault says of the bytes
   pub verdict_means : (bytes : List ℕ) (fault : Fault) (r : Result Verdict Fault) → IsDecodeFault rules bytes fault → r ≡ verdict_by fault → IfOk r (IsVerdict rules bytes) × IfErr r (λ f. f ≡ Memory)
   verdict_means bytes fault r f e = subst (λ (x : Result Verdict Fault). IfOk x (IsVerdict rules bytes) × IfErr x (λ f. f ≡ Memory)) (sym e) (by_fault bytes fault f)
+
+-- a text of one kind is one of another
+pub text_fault_weaker : {S : Type 0} (takes : MayTake S) (failures : S → ℕ) (from to : S) (P Q : List ℕ → Type 0) → ((text : List ℕ) → P text → Q text) → (fault : Fault) → IsTextFault takes failures from to P fault → IsTextFault takes failures from to Q fault
+text_fault_weaker takes failures from to P Q on (Refused place reason) f = absurd f
+text_fault_weaker takes failures from to P Q on (Truncated n) f = absurd f
+text_fault_weaker takes failures from to P Q on Memory f = f
+text_fault_weaker takes failures from to P Q on Read f = absurd f
+text_fault_weaker takes failures from to P Q on Write f = (f.0, on f.0 f.1, f.2)
+text_fault_weaker takes failures from to P Q on Failed f = absurd f

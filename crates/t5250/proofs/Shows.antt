@@ -29,7 +29,8 @@ use Rattle.t5250.specs.declared.verdict.Verdict.TheVariants.{Refused, Truncated}
 use Rattle.t5250.specs.CheckLine.{line_of, verdict_by}
 use Rattle.t5250.specs.ItemLines.{item_text}
 use Rattle.t5250.specs.ScreenLines.{IsScreenText}
-use Rattle.t5250.specs.StreamText.{Placed, items_of, lines_of, after_item, item_fault, after_items, HoldsItems, IsComplete, AreShown, IsShown, IsPart, IsTextFault, IsShowFault, IsStop, IsWholeItem, HasTaken, HasBegun, IsNextItem, IsNext, IsNextFault}
+use Rattle.t5250.specs.Printing.{IsTextFault}
+use Rattle.t5250.specs.StreamText.{Placed, items_of, lines_of, after_item, item_fault, after_items, HoldsItems, IsComplete, AreShown, IsShown, IsPart, IsShowFault, IsStop, IsWholeItem, HasTaken, HasBegun, IsNextItem, IsNext, IsNextFault}
 
 -- Items that are shown one after another.
 

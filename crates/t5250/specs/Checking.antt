@@ -2,15 +2,15 @@
 
 use Rattle.std.specs.Prelude.{◌≡◌, ℕ, ◌+◌, ◌-◌, ◌^◌, ◌≤◌, min, List, length, Option, Some, None}
 use Rattle.ws_code.specs.Code.{Rules}
-use Rattle.ws_code.specs.Device.{MayTake, FailedWithin}
+use Rattle.ws_code.specs.Device.{MayTake}
 use Rattle.ws_code.specs.declared.fault.Fault.{Fault}
-use Rattle.ws_code.specs.declared.fault.Fault.TheVariants.{Memory, Write}
 use Rattle.ws_record.specs.declared.record.Item.{Item}
 use Rattle.ws_record.specs.declared.record.Item.TheVariants.{Record, Telnet}
 use Rattle.ws_record.specs.Receiver.{Receiving, HasReceived}
 use Rattle.t5250.specs.declared.check.Tally.{Tally}
 use Rattle.t5250.specs.declared.verdict.Verdict.{Verdict}
 use Rattle.t5250.specs.CheckLine.{IsVerdict, line_of, record_count, command_count}
+use Rattle.t5250.specs.Printing.{IsTextFault}
 
 -- the tally after one item more, where there is one
 abbrev pub tally_after : {U : Type 0} → Tally → Option (Item U) → Tally
@@ -27,9 +27,12 @@ pub record Counts {Place U : Type 0} (rules : Rules Place U) (receiver : Receivi
   pub commands : tally.commands ≡ command_count items
   pub few : tally.records + tally.commands ≤ length bytes
 
+-- the line of what holds of the bytes
+abbrev pub IsCheckText : {Place U : Type 0} → Rules Place U → List ℕ → List ℕ → Type 0
+IsCheckText rules bytes text = (verdict : Verdict) × IsVerdict rules bytes verdict
+    × (text ≡ line_of verdict (length bytes))
+
 -- what a check answers where it doesn't print its line: nothing went out, or a part of the line
 abbrev pub IsCheckFault : {Place U S : Type 0} → Rules Place U → MayTake S → (S → ℕ) → S → S → List ℕ → Fault → Type 0
-IsCheckFault rules takes failures from to bytes Memory = to ≡ from
-IsCheckFault rules takes failures from to bytes Write = (verdict : Verdict) × IsVerdict rules bytes verdict
-    × FailedWithin takes failures from to (line_of verdict (length bytes))
-IsCheckFault rules takes failures from to bytes fault = ⊥
+IsCheckFault rules takes failures from to bytes fault = IsTextFault takes failures from to
+    (IsCheckText rules bytes) fault

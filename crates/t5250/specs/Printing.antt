@@ -1,6 +1,8 @@
--- A text that goes out in parts, up to the first failure.
+-- A text that goes out: in parts, up to the first failure, or in one piece.
 
-use Rattle.std.specs.Prelude.{ℕ, List, ◌++◌}
+use Rattle.std.specs.Prelude.{◌≡◌, ℕ, List, ◌++◌}
+use Rattle.ws_code.specs.declared.fault.Fault.{Fault}
+use Rattle.ws_code.specs.declared.fault.Fault.TheVariants.{Memory, Write}
 use Rattle.ws_code.specs.Device.{MayTake, WentOut, FailedWithin}
 use Rattle.t5250.specs.declared.output.Output.{Output}
 use Rattle.t5250.specs.declared.output.Output.TheVariants.{Open, Failed}
@@ -15,3 +17,10 @@ pub record Prints {S : Type 0} (takes : MayTake S) (failures : S
     → ℕ) (old new : S) (before after : Output) (part : List ℕ) : Type 0 where
   pub on : (from : S) (text : List ℕ) → IsOut takes failures from old before text
       → IsOut takes failures from new after (text ++ part)
+
+-- one of these texts didn't go out whole: for want of memory nothing did, or a failure came within it
+abbrev pub IsTextFault : {S : Type 0} → MayTake S → (S → ℕ) → S → S → (List ℕ → Type 0) → Fault → Type 0
+IsTextFault takes failures from to IsText Memory = to ≡ from
+IsTextFault takes failures from to IsText Write = (text : List ℕ) × IsText text
+    × FailedWithin takes failures from to text
+IsTextFault takes failures from to IsText fault = ⊥

@@ -124,12 +124,6 @@ IsWholeItem (RecordItem r) = IsChain element_rules element_rules.first r.body
 IsWholeItem (TelnetItem telnet) = Unit {0}
 
 module _ {S : Type 0} (takes : MayTake S) (failures : S → ℕ) (from to : S) where
-  -- a text didn't go out whole
-  abbrev pub IsTextFault : (List ℕ → Type 0) → Fault → Type 0
-  IsTextFault IsText Memory = to ≡ from
-  IsTextFault IsText Write = (text : List ℕ) × IsText text × FailedWithin takes failures from to text
-  IsTextFault IsText fault = ⊥
-
   -- what is answered where not all is shown: the first lines went out, or a part of them
   abbrev pub IsShowFault : List ℕ → Fault → Type 0
   IsShowFault bytes Memory = (text : List ℕ) × IsPart bytes text × WentOut takes failures from to text

@@ -7,7 +7,7 @@ ghost use Rattle.t5250.specs.Checking.{Counts, IsCheckFault};
 
 use crate::verdict::{Verdict, verdict_by_fault};
 use std::alloc::Global;
-use ws_code::{Body, Fault, Sink, write_whole};
+use ws_code::{Body, Fault, Sink};
 use ws_record::{Fed, Item, Receiver};
 
 // How many items a receiver has given.
@@ -50,13 +50,7 @@ pub fn check_to<B: Body, S: Sink>(
     ensures fault { IfErr result
         (λ fault. IsCheckFault B.rules S.takes S.failures sink.old sink.new bytes.now fault) }
 {
-    let verdict = verdict_of::<B>(alloc, bytes, cut)?;
-    let line = match verdict.line(alloc, bytes.len()) {
-        Ok(line) => line,
-        Err(_) => return Err(Fault::Memory),
-    };
-    write_whole(sink, line.as_str().as_bytes())?;
-    Ok(verdict.is_accepted())
+    verdict_of::<B>(alloc, bytes, cut)?.write_to(alloc, bytes.len(), sink)
 }
 
 // What holds of the bytes, read in pieces of a size.

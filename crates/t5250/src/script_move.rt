@@ -102,7 +102,8 @@ fn read_count(word: &str) -> Result<usize, LineFault>
 
 // The number that a word writes in 1 to 9 decimal digits.
 fn read_number(word: &str) -> Option<u32>
-    ensures { MatchOption result ((n : ℕ) → Spec.IsNumber word.now n → ⊥) (Spec.IsNumber word.now) }
+    ensures { MatchOption result
+        ((n : ℕ) → Spec.IsNumber word.now n → ⊥) (Spec.IsNumber word.now) }
 {
     if word.len() > 9 || word.starts_with('+') {
         return None;

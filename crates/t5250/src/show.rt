@@ -3,15 +3,16 @@ ghost use Rattle.ws_screen.specs.Events.{History};
 ghost use Rattle.ws_screen.specs.Faults.{refusal};
 ghost use Rattle.ws_screen.specs.Given.{Gives};
 ghost use Rattle.ws_code.specs.Device.{WentOut};
-ghost use Rattle.t5250.specs.CheckLine.{line_of, is_accepted, verdict_by};
+ghost use Rattle.t5250.specs.CheckLine.{verdict_by};
 ghost use Rattle.t5250.specs.ItemLines as Lines;
+ghost use Rattle.t5250.specs.Printing.{IsTextFault};
 ghost use Rattle.t5250.specs.ScreenLines.{IsScreenText};
-ghost use Rattle.t5250.specs.StreamText.{IsShown, IsPart, IsTextFault, IsShowFault, IsStop, IsWholeItem, HasBegun, IsNext, IsNextFault, item_fault, after_item};
+ghost use Rattle.t5250.specs.StreamText.{IsShown, IsPart, IsShowFault, IsStop, IsWholeItem, HasBegun, IsNext, IsNextFault, item_fault, after_item};
 
 use crate::item_text::item_text;
 use crate::output::Output;
 use crate::screen_lines::put_screen;
-use crate::verdict::{Verdict, verdict_by_fault};
+use crate::verdict::verdict_by_fault;
 use std::alloc::Global;
 use ws_code::{Fault, Reason, Sink, write_whole};
 use ws_record::{Item, Receiver};
@@ -30,13 +31,14 @@ pub fn show_to<S: Sink>(alloc: Global, bytes: &[u8], sink: &mut S) -> Result<boo
         × WentOut S.takes S.failures sink.old sink.new text) }
     ensures fault { IfErr result
         (λ fault. IsShowFault S.takes S.failures sink.old sink.new bytes.now fault) }
-    ensures parts_begin { (accepted : Bool) (whole part : List ℕ) → IsShown bytes.now accepted whole
-        → IsPart bytes.now part → (rest : List ℕ) × (whole ≡ part ++ rest) }
+    ensures parts_begin { (accepted : Bool) (whole part : List ℕ)
+        → IsShown bytes.now accepted whole → IsPart bytes.now part
+        → (rest : List ℕ) × (whole ≡ part ++ rest) }
 {
     let mut screen = Screen::new();
     match show_items(alloc, bytes, &mut screen, sink) {
         Ok(()) => write_screen(&screen, sink),
-        Err(fault) => write_verdict(alloc, verdict_by_fault(fault)?, bytes.len(), sink),
+        Err(fault) => verdict_by_fault(fault)?.write_to(alloc, bytes.len(), sink),
     }
 }
 
@@ -114,25 +116,6 @@ fn write_item<S: Sink>(
         return Err(Fault::Memory);
     };
     write_whole(sink, text.as_str().as_bytes())
-}
-
-// Writes the line of a verdict of so many bytes: true where it is that they are accepted.
-fn write_verdict<S: Sink>(
-    alloc: Global,
-    verdict: Verdict,
-    size: usize,
-    sink: &mut S,
-) -> Result<bool, Fault>
-    ensures ok { IfOk result (λ accepted. (accepted ≡ is_accepted verdict)
-        × WentOut S.takes S.failures sink.old sink.new (line_of verdict size)) }
-    ensures err { IfErr result (IsTextFault S.takes S.failures sink.old sink.new
-        (λ text. text ≡ line_of verdict size)) }
-{
-    let Ok(line) = verdict.line(alloc, size) else {
-        return Err(Fault::Memory);
-    };
-    write_whole(sink, line.as_str().as_bytes())?;
-    Ok(verdict.is_accepted())
 }
 
 // Writes a screen's lines.

@@ -1,8 +1,10 @@
 ghost use Rattle.std.specs.Prelude.{◌≡◌, ◌<◌, ◌≢◌, List, ℕ, length, IfOk, IfErr, string_bytes};
+ghost use Rattle.ws_code.specs.Device.{WentOut};
 ghost use Rattle.t5250.specs.CheckLine.{verdict_by};
+ghost use Rattle.t5250.specs.Printing.{IsTextFault};
 
 use std::alloc::{AllocError, Global};
-use ws_code::{Fault, Reason};
+use ws_code::{Fault, Reason, Sink, write_whole};
 
 /// What holds of a stream.
 #[derive(Clone, Copy, Debug, PartialEq, Eq)]
@@ -25,8 +27,24 @@ impl Verdict {
         matches!(self, Verdict::Accepted { .. })
     }
 
-    /// The line that says it, of a stream of so many bytes.
-    pub fn line(self, alloc: Global, size: usize) -> Result<String, AllocError>
+    /// Writes the line that says it, of a stream of so many bytes: true where they are accepted.
+    ///
+    /// `Memory` where a growth was refused, and then nothing was written; `Write` where the sink failed.
+    pub fn write_to<S: Sink>(self, alloc: Global, size: usize, sink: &mut S) -> Result<bool, Fault>
+        ensures printed { IfOk result (λ accepted. (accepted ≡ is_accepted self)
+            × WentOut S.takes S.failures sink.old sink.new (line_of self size)) }
+        ensures fault { IfErr result (IsTextFault S.takes S.failures sink.old sink.new
+            (λ text. text ≡ line_of self size)) }
+    {
+        let Ok(line) = self.line(alloc, size) else {
+            return Err(Fault::Memory);
+        };
+        write_whole(sink, line.as_str().as_bytes())?;
+        Ok(self.is_accepted())
+    }
+
+    // The line that says it, of a stream of so many bytes.
+    fn line(self, alloc: Global, size: usize) -> Result<String, AllocError>
         ensures { IfOk result (λ line. string_bytes line ≡ line_of self size) }
     {
         match self {

@@ -37,20 +37,20 @@ returns-in_ok-verdict_by_fault-in-Err-clause-printed g c =
     let stop = subst (λ (r : Result Verdict Fault). IsStop g.S.Sink.takes g.S.Sink.failures c.args.sink.now c.show_items.new.sink c.args.bytes.now r) (sym c.in_ok-verdict_by_fault-in-Err.ensures) c.in-Err.ensures.err in
     let lines = stop.1.0 in
     let line = line_of c.in_ok-verdict_by_fault-in-Err.field-0 (length c.args.bytes.now) in
-    IfOk-weaker c.write_verdict.result _ _ (λ accepted h. (
+    IfOk-weaker c.write_to.result _ _ (λ accepted h. (
       lines ++ line,
       subst (λ (b : Bool). IsShown c.args.bytes.now b (lines ++ line)) (sym (h.0 ∙ stop.0)) stop.1.3,
-      went_out_both g.S.Sink.takes g.S.Sink.failures c.args.sink.now c.show_items.new.sink c.write_verdict.new.sink lines line stop.1.2 h.1,
-    )) c.write_verdict.ensures.ok
+      went_out_both g.S.Sink.takes g.S.Sink.failures c.args.sink.now c.show_items.new.sink c.write_to.new.sink lines line stop.1.2 h.1,
+    )) c.write_to.ensures.printed
 
 pub returns-in_ok-verdict_by_fault-in-Err-clause-fault : goal.returns-in_ok-verdict_by_fault-in-Err-clause-fault
 returns-in_ok-verdict_by_fault-in-Err-clause-fault g c =
     let stop = subst (λ (r : Result Verdict Fault). IsStop g.S.Sink.takes g.S.Sink.failures c.args.sink.now c.show_items.new.sink c.args.bytes.now r) (sym c.in_ok-verdict_by_fault-in-Err.ensures) c.in-Err.ensures.err in
     let lines = stop.1.0 in
     let line = line_of c.in_ok-verdict_by_fault-in-Err.field-0 (length c.args.bytes.now) in
-    IfErr-weaker c.write_verdict.result _ _ (λ fault f.
-    text_fails g.S.Sink.takes g.S.Sink.failures c.args.sink.now c.args.bytes.now lines c.show_items.new.sink c.write_verdict.new.sink (λ text. text ≡ line) stop.1.1 stop.1.2
-    (λ text is. inr (false, subst (λ (z : List ℕ). IsShown c.args.bytes.now false (lines ++ z)) (sym is) stop.1.3)) fault f) c.write_verdict.ensures.err
+    IfErr-weaker c.write_to.result _ _ (λ fault f.
+    text_fails g.S.Sink.takes g.S.Sink.failures c.args.sink.now c.args.bytes.now lines c.show_items.new.sink c.write_to.new.sink (λ text. text ≡ line) stop.1.1 stop.1.2
+    (λ text is. inr (false, subst (λ (z : List ℕ). IsShown c.args.bytes.now false (lines ++ z)) (sym is) stop.1.3)) fault f) c.write_to.ensures.fault
 
 pub returns-in_err-verdict_by_fault-in-Err-clause-parts_begin : goal.returns-in_err-verdict_by_fault-in-Err-clause-parts_begin
 returns-in_err-verdict_by_fault-in-Err-clause-parts_begin g c = part_begins c.args.bytes.now
