@@ -1,6 +1,6 @@
 ghost use Rattle.std.specs.Prelude.{◌≡◌, ◌≢◌, ◌++◌, ◌∷◌, ◌<◌, [], List, ℕ, true, false, IfSome};
 ghost use Rattle.ws_code.specs.Code.{Rules, Stands, IsSpelled, IsPrefix, IsUnfinished, IsPrefixFree, AreBytes};
-ghost use Rattle.ws_code.specs.Push.{MatchPush};
+ghost use Rattle.ws_code.specs.Step.{IsStep};
 
 use crate::Reason;
 
@@ -76,17 +76,7 @@ pub trait Code: Drop {
     /// Takes a byte. After `Unit` or `Bad` a new machine is started, or this one is started anew.
     fn push(&mut self, byte: u8) -> Push<Self::Unit>
         requires { IsUnfinished rules (place self.old) (unfinished self.old) }
-        ensures more { MatchPush result
-            (IsUnfinished rules (place self.old) (unfinished self.old ++ byte ∷ [])
-            × (place self.new ≡ place self.old)
-            × (unfinished self.new ≡ unfinished self.old ++ byte ∷ []))
-            (λ _. Unit {0}) (λ _. Unit {0}) }
-        ensures unit { MatchPush result (Unit {0})
-            (λ unit. IsSpelled rules (place self.old) (unfinished self.old ++ byte ∷ []) unit)
-            (λ _. Unit {0}) }
-        ensures bad { MatchPush result (Unit {0}) (λ _. Unit {0})
-            (λ reason. ¬ IsPrefix rules (place self.old) (unfinished self.old ++ byte ∷ [])
-            × (reason ≡ rules.reason (place self.old) (unfinished self.old) byte)) };
+        ensures { IsStep rules (place self.old) (unfinished self.old) byte (place self.new) (unfinished self.new) result };
 
     /// Has no effect, and tells that a unit in hand is in the code's range.
     fn known(unit: &Self::Unit)

@@ -1,7 +1,7 @@
 ghost use Rattle.std.specs.Prelude.{◌≡◌, ◌≢◌, ◌++◌, ◌∷◌, ◌<◌, ◌≤◌, [], List, ℕ, true, false, length, ◌⊎◌, IfSome, IfNone};
 ghost use Rattle.ws_telnet.specs.Token.{token_rules, token_reason, IsToken, command_byte, verb_byte};
 ghost use Rattle.ws_code.specs.Code.{IsSpelled, IsPrefix, IsUnfinished};
-ghost use Rattle.ws_code.specs.Push.{MatchPush};
+ghost use Rattle.ws_code.specs.Step.{IsStep};
 ghost use Rattle.ws_telnet.specs.Machine.{unfinished_of};
 ghost use Rattle.ws_telnet.specs.TokenLaws.{token_nonempty, token_bytes_are, token_prefix_free, token_begins};
 
@@ -70,8 +70,8 @@ impl Tokens {
     /// Whether the bytes so far are one FF, so that a second one makes the data byte FF (RFC 854).
     #[inline(always)]
     pub fn has_iac(&self) -> bool
-        ensures yes { result ≡ true → unfinished_of self.now ≡ 0xff ∷ [] }
-        ensures no { result ≡ false → unfinished_of self.now ≢ 0xff ∷ [] }
+        ensures yes { result ≡ true → unfinished_of self.now ≡ IAC ∷ [] }
+        ensures no { result ≡ false → unfinished_of self.now ≢ IAC ∷ [] }
     {
         matches!(self.phase, Phase::Iac)
     }
@@ -79,10 +79,10 @@ impl Tokens {
     // An FF, an SB or a verb with more of its token behind it.
     #[inline(always)]
     fn command_goes_on(&mut self, byte: u8) -> bool
-        ensures taken { result ≡ true → IsUnfinished token_rules tt (0xff ∷ byte ∷ [])
-            × (unfinished_of self.new ≡ 0xff ∷ byte ∷ []) }
+        ensures taken { result ≡ true → IsUnfinished token_rules tt (IAC ∷ byte ∷ [])
+            × (unfinished_of self.new ≡ IAC ∷ byte ∷ []) }
         ensures left { result ≡ false → self.new ≡ self.old }
-        ensures no_sub { result ≡ false → byte ≢ 0xfa }
+        ensures no_sub { result ≡ false → byte ≢ SB }
         ensures no_verb { result ≡ false → (byte < 0xfb) ⊎ (0xfe < byte) }
     {
         if byte == SB {
@@ -101,7 +101,7 @@ impl Tokens {
     // The option of a subnegotiation, whose data follow.
     #[inline(always)]
     fn take_option(&mut self, option: u8)
-        ensures { unfinished_of self.new ≡ 0xff ∷ 0xfa ∷ option ∷ [] }
+        ensures { unfinished_of self.new ≡ IAC ∷ SB ∷ option ∷ [] }
     {
         self.option = option;
         self.content.clear();
@@ -117,7 +117,7 @@ impl Tokens {
             → IsUnfinished token_rules tt (unfinished_of self.old ++ byte ∷ [])
             × (unfinished_of self.new ≡ unfinished_of self.old ++ byte ∷ []) }
         ensures left { result ≡ false → self.new ≡ self.old }
-        ensures no_iac { result ≡ false → byte ≢ 0xff }
+        ensures no_iac { result ≡ false → byte ≢ IAC }
         ensures full { result ≡ false → length self.old.content.items ≡ 64 }
     {
         if byte == IAC {
@@ -140,7 +140,7 @@ impl Tokens {
             → IsUnfinished token_rules tt (unfinished_of self.old ++ byte ∷ [])
             × (unfinished_of self.new ≡ unfinished_of self.old ++ byte ∷ []) }
         ensures left { result ≡ false → self.new ≡ self.old }
-        ensures full { result ≡ false → byte ≡ 0xff → length self.old.content.items ≡ 64 }
+        ensures full { result ≡ false → byte ≡ IAC → length self.old.content.items ≡ 64 }
     {
         if byte != IAC {
             return false;
@@ -156,13 +156,7 @@ impl Tokens {
     // What follows an FF outside a subnegotiation.
     #[inline(always)]
     fn after_iac(&mut self, byte: u8) -> Push<Token>
-        ensures more { MatchPush result (IsUnfinished token_rules tt (0xff ∷ byte ∷ [])
-            × (unfinished_of self.new ≡ 0xff ∷ byte ∷ [])) (λ _. Unit {0}) (λ _. Unit {0}) }
-        ensures unit { MatchPush result (Unit {0})
-            (λ unit. IsSpelled token_rules tt (0xff ∷ byte ∷ []) unit) (λ _. Unit {0}) }
-        ensures bad { MatchPush result (Unit {0}) (λ _. Unit {0})
-            (λ reason. ¬ IsPrefix token_rules tt (0xff ∷ byte ∷ [])
-            × (reason ≡ token_reason (0xff ∷ []) byte)) }
+        ensures { IsStep token_rules tt (IAC ∷ []) byte tt (unfinished_of self.new) result }
     {
         if byte == IAC {
             return Push::Unit(Token::Data(byte));
@@ -188,16 +182,7 @@ impl Tokens {
     fn after_content(&mut self, byte: u8) -> Push<Token>
         requires phase { self.old.phase ≡ Phase.Content }
         requires begun { IsUnfinished token_rules tt (unfinished_of self.old) }
-        ensures more { MatchPush result
-            (IsUnfinished token_rules tt (unfinished_of self.old ++ byte ∷ [])
-            × (unfinished_of self.new ≡ unfinished_of self.old ++ byte ∷ []))
-            (λ _. Unit {0}) (λ _. Unit {0}) }
-        ensures unit { MatchPush result (Unit {0})
-            (λ unit. IsSpelled token_rules tt (unfinished_of self.old ++ byte ∷ []) unit)
-            (λ _. Unit {0}) }
-        ensures bad { MatchPush result (Unit {0}) (λ _. Unit {0})
-            (λ reason. ¬ IsPrefix token_rules tt (unfinished_of self.old ++ byte ∷ [])
-            × (reason ≡ token_reason (unfinished_of self.old) byte)) }
+        ensures { IsStep token_rules tt (unfinished_of self.old) byte tt (unfinished_of self.new) result }
     {
         if self.content_goes_on(byte) {
             Push::More
@@ -211,16 +196,7 @@ impl Tokens {
     fn after_content_iac(&mut self, byte: u8) -> Push<Token>
         requires phase { self.old.phase ≡ Phase.ContentIac }
         requires begun { IsUnfinished token_rules tt (unfinished_of self.old) }
-        ensures more { MatchPush result
-            (IsUnfinished token_rules tt (unfinished_of self.old ++ byte ∷ [])
-            × (unfinished_of self.new ≡ unfinished_of self.old ++ byte ∷ []))
-            (λ _. Unit {0}) (λ _. Unit {0}) }
-        ensures unit { MatchPush result (Unit {0})
-            (λ unit. IsSpelled token_rules tt (unfinished_of self.old ++ byte ∷ []) unit)
-            (λ _. Unit {0}) }
-        ensures bad { MatchPush result (Unit {0}) (λ _. Unit {0})
-            (λ reason. ¬ IsPrefix token_rules tt (unfinished_of self.old ++ byte ∷ [])
-            × (reason ≡ token_reason (unfinished_of self.old) byte)) }
+        ensures { IsStep token_rules tt (unfinished_of self.old) byte tt (unfinished_of self.new) result }
     {
         if self.pair_goes_on(byte) {
             return Push::More;
@@ -281,7 +257,7 @@ impl Code for Tokens {
 
     #[inline(always)]
     fn single(_at: (), byte: u8) -> Option<Token> {
-        if byte == 0xff {
+        if byte == IAC {
             None
         } else {
             Some(Token::Data(byte))
