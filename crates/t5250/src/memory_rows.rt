@@ -123,14 +123,14 @@ fn send_within(rt: &impl Abort, host: &mut HostEnd) {
         Ok(sent) => sent,
         Err(fault) => {
             assert_eq!(rt; fault, SendFault::Memory);
-            assert!(rt; host.asked_read().is_none());
+            assert!(rt; host.asked().is_none());
             assert!(rt; host.fields().is_empty());
             host.send(Opcode::PutGet, &body)
                 .expect(rt, "sent at the second time")
         }
     };
     assert_eq!(rt; sent.as_slice(), BOB);
-    assert!(rt; host.asked_read().is_some());
+    assert!(rt; host.asked().is_some());
     assert_eq!(rt; host.fields().len(), 1);
 }
 
@@ -143,7 +143,7 @@ fn is_bob(answer: &HostAnswer) -> bool {
 
 // Reads the parts of `bob`'s answer, at the second time where memory was wanted.
 fn read_fields_within(rt: &impl Abort, host: &HostEnd) {
-    if host.asked_read().is_none() {
+    if host.asked().is_none() {
         panic!(rt; "a read");
     }
     let parts = parts(rt);

@@ -91,7 +91,7 @@ fn put_state<S: Sink>(sink: &mut S, output: Output, screen: &Screen) -> Output
     let output = put_text(sink, output, "cursor ");
     let output = put_cell(sink, output, screen.cursor());
     let output = put_text(sink, output, ", ");
-    let output = put_text(sink, output, lock_name(screen.is_locked()));
+    let output = put_text(sink, output, lock_name(screen.locked()));
     let output = put_text(sink, output, ", message ");
     let output = put_text(sink, output, on_or_off(screen.message()));
     let output = put_text(sink, output, ", blink ");

@@ -89,8 +89,8 @@ fn state_of(screen: &Screen) -> ScreenState
     ScreenState {
         cursor_row: cursor.row(),
         cursor_column: cursor.col(),
-        pending_read: read_number(screen.pending_read()),
-        is_locked: screen.is_locked(),
+        pending_read: read_number(screen.pending()),
+        is_locked: screen.locked(),
         is_message_lit: screen.message(),
         is_blinking: screen.blink(),
         field_count: fields.len() as u16,

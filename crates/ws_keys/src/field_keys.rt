@@ -19,7 +19,7 @@ pub fn entered_field(screen: &Screen) -> Result<Field, KeyRefusal>
         × (1 ≤ field.length) × (field.start + field.length ≤ CELLS))
         (λ why. Spec.first_of (Spec.locked_refusal screen.now ∷ Spec.protected_refusal screen.now ∷ []) ≡ Some why) }
 {
-    if screen.is_locked() {
+    if screen.locked() {
         return Err(KeyRefusal::Locked);
     }
     match screen.open_field() {
@@ -89,7 +89,7 @@ pub fn dup(screen: &mut Screen) -> Result<Option<Answer>, KeyRefusal>
 pub fn erase_input(screen: &mut Screen) -> Result<Option<Answer>, KeyRefusal>
     ensures { Spec.IsPressed Pressing.EraseInput screen.old screen.new result }
 {
-    if screen.is_locked() {
+    if screen.locked() {
         return Err(KeyRefusal::Locked);
     }
     screen.erase_input();

@@ -26,7 +26,7 @@ pub fn move_to(screen: &mut Screen, to: Address) -> Result<Option<Answer>, KeyRe
     ensures { Spec.Does (Spec.locked_refusal screen.old ∷ []) (Some (cursor_edit to)) None
         screen.old screen.new result }
 {
-    if screen.is_locked() {
+    if screen.locked() {
         return Err(KeyRefusal::Locked);
     }
     screen.move_cursor(to);

@@ -71,7 +71,7 @@ fn listing(rt: &impl Abort, alloc: Global, answer: &HostAnswer) -> Vec<u8> {
 // A host that sent a body reads this from the body of an answer.
 fn expect_read(rt: &impl Abort, alloc: Global, host: &[u8], answer: &[u8], read: &[u8]) {
     let screen = screen_with(rt, host);
-    let kind = screen.pending_read().expect(rt, "a read");
+    let kind = screen.pending().expect(rt, "a read");
     let parts = parts_of(rt, alloc, answer);
     let fields = split_answer(alloc, &screen, kind, parts.as_slice()).expect(rt, "an answer");
     let found = listing(rt, alloc, &fields);

@@ -32,7 +32,7 @@ fn output(rt: &impl Abort, attribute: u8, length: u16) -> Element {
 // Applies elements in turn, up to the first that is refused.
 fn apply_all(rt: &impl Abort, screen: &mut Screen, elements: &[Element]) -> Option<Reason> {
     for element in elements {
-        let may_follow = Commands::may_follow(Commands::first(), element) || screen.is_writing();
+        let may_follow = Commands::may_follow(Commands::first(), element) || screen.writing();
         assert!(rt; may_follow);
         if let Err(reason) = screen.apply(element) {
             return Some(reason);
@@ -142,7 +142,7 @@ fn hidden_field_and_dup(rt: HostRuntime) {
     assert_eq!(rt; line.as_str().len(), 80);
     assert_eq!(rt; line.as_str().trim_end(), "     *a");
     assert_eq!(rt; screen.cursor().place(), 1);
-    assert!(rt; !screen.is_locked());
+    assert!(rt; !screen.locked());
 }
 
 #[test]
@@ -161,7 +161,7 @@ fn modified_nulled_and_locked(rt: HostRuntime) {
         assert_eq!(rt; screen.cell(place(&rt, at)), byte, "at {at}");
     }
     assert_eq!(rt; field_at(&rt, &screen, 1), Some((2, 0x4000)));
-    assert!(rt; screen.is_locked());
+    assert!(rt; screen.locked());
 }
 
 #[test]
@@ -207,7 +207,7 @@ fn cc1_codes(rt: HostRuntime) {
             apply_all(&rt, &mut screen, &[Element::Write { cc1, cc2: 0 }]),
             None
         );
-        assert_eq!(rt; screen.is_locked(), locked, "code {code}");
+        assert_eq!(rt; screen.locked(), locked, "code {code}");
         for (field, at) in [(0, 1), (1, 4), (2, 7), (3, 10)] {
             let byte = if nulled[field] { 0x00 } else { 0xC1 };
             assert_eq!(rt; screen.cell(place(&rt, at)), byte, "code {code} at {at}");
@@ -247,10 +247,10 @@ fn homes(rt: HostRuntime) {
 #[test]
 fn states(rt: HostRuntime) {
     let mut screen = Screen::new();
-    assert!(rt; screen.is_locked() && !screen.message() && !screen.blink() && !screen.is_writing());
+    assert!(rt; screen.locked() && !screen.message() && !screen.blink() && !screen.writing());
     assert_eq!(rt; screen.cursor().place(), 0);
     screen.begin_write(0, 0x19);
-    assert!(rt; screen.is_writing());
+    assert!(rt; screen.writing());
     let orders = [
         Element::Soh(SohBytes::new(&[0, 0, 0, 0, 0x80, 0, 1]).expect(&rt, "a header")),
         output(&rt, 0x22, 3),
@@ -266,32 +266,32 @@ fn states(rt: HostRuntime) {
     assert_eq!(rt; apply_all(&rt, &mut screen, &orders), None);
     assert_eq!(rt; screen.home().place(), 5);
     screen.end_write();
-    assert!(rt; !screen.is_locked() && screen.message() && screen.blink() && !screen.is_writing());
+    assert!(rt; !screen.locked() && screen.message() && screen.blink() && !screen.writing());
     assert_eq!(rt; screen.cursor().place(), 7);
 
     let read = [Element::ReadMdt { cc1: 0x20, cc2: 0 }];
     assert_eq!(rt; apply_all(&rt, &mut screen, &read), None);
-    assert_eq!(rt; screen.pending_read(), Some(ReadKind::Mdt));
+    assert_eq!(rt; screen.pending(), Some(ReadKind::Mdt));
     let mut other = Screen::new();
     other.assign(&screen);
     assert_eq!(rt; other.fields().as_slice(), screen.fields().as_slice());
-    assert_eq!(rt; other.pending_read(), Some(ReadKind::Mdt));
+    assert_eq!(rt; other.pending(), Some(ReadKind::Mdt));
     other.cancel_read();
-    assert_eq!(rt; other.pending_read(), None);
+    assert_eq!(rt; other.pending(), None);
     other.set_message(false);
-    assert!(rt; other.is_locked() && !other.message());
+    assert!(rt; other.locked() && !other.message());
     let read = [Element::ReadInput { cc1: 0, cc2: 0 }];
     assert_eq!(rt; apply_all(&rt, &mut screen, &read), None);
-    assert_eq!(rt; screen.pending_read(), Some(ReadKind::Input));
+    assert_eq!(rt; screen.pending(), Some(ReadKind::Input));
     let read = [Element::ReadMdtAlternate {
         cc1: 0x20,
         cc2: 0x06,
     }];
     assert_eq!(rt; apply_all(&rt, &mut screen, &read), None);
-    assert_eq!(rt; screen.pending_read(), Some(ReadKind::MdtAlternate));
-    assert!(rt; screen.is_locked() && !screen.message());
+    assert_eq!(rt; screen.pending(), Some(ReadKind::MdtAlternate));
+    assert!(rt; screen.locked() && !screen.message());
     assert_eq!(rt; apply_all(&rt, &mut screen, &[Element::ClearFormat]), None);
-    assert_eq!(rt; screen.pending_read(), None);
+    assert_eq!(rt; screen.pending(), None);
     assert_eq!(rt; screen.field_count(), 0);
     assert_eq!(rt; screen.cursor().place(), 7);
     assert_eq!(rt; apply_all(&rt, &mut screen, &[Element::ClearUnit]), None);
@@ -344,6 +344,6 @@ fn a_body_and_what_a_key_may_do(rt: HostRuntime) {
     assert_eq!(rt; field_at(&rt, &screen, 452), Some((10, 0x4000)));
     assert_eq!(rt; screen.cursor().place(), 452);
     screen.answer_read();
-    assert!(rt; screen.is_locked());
-    assert_eq!(rt; screen.pending_read(), None);
+    assert!(rt; screen.locked());
+    assert_eq!(rt; screen.pending(), None);
 }

@@ -55,7 +55,7 @@ pub(crate) fn screen_of(items: &[Item<Element>]) -> Result<Screen, Reason> {
     let mut screen = Screen::new();
     for item in items {
         if let Item::Record(record) = item {
-            if is_body(record.body.as_slice()) && !screen.is_writing() {
+            if is_body(record.body.as_slice()) && !screen.writing() {
                 apply_record(&mut screen, record)?;
             }
         }

@@ -47,7 +47,7 @@ fn host_refusals(rt: HostRuntime) -> Result<(), Fail> {
     assert_eq!(rt; cancelled.as_slice(), CANCEL);
     let told = last_event(&rt, &mut host, CANCEL);
     assert!(rt; matches!(&told, Some(HostEvent::Cancelled)));
-    assert!(rt; host.asked_read().is_none());
+    assert!(rt; host.asked().is_none());
     host_refuses(&rt, &mut host, BOB_ANSWER, 20, Reason::UnaskedAnswer);
     assert_eq!(rt; host.cancel().err(), Some(SendFault::Failed));
     // An answer with a byte before its first field.
@@ -116,7 +116,7 @@ fn answer_of(
     let parts = decode_all::<Answers>(alloc, answer).expect(rt, "an answer");
     match parts.as_slice() {
         [Item::Record(whole)] => {
-            if host.asked_read().is_some() {
+            if host.asked().is_some() {
                 let told = host.read_fields(whole.body.as_slice()).expect(rt, "fields");
                 assert_eq!(rt; flat(alloc, &told)?.as_slice(), read);
             }

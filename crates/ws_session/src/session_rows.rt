@@ -126,7 +126,7 @@ fn answers_hold_what_was_typed(rt: HostRuntime) -> Result<(), Fail> {
             }
         }
         assert!(rt; answered);
-        assert!(rt; report.host.asked_read().is_none());
+        assert!(rt; report.host.asked().is_none());
         assert_eq!(rt;
             report.to_station.as_slice().len() + report.to_host.as_slice().len(),
             0
@@ -148,7 +148,7 @@ fn typed_while_arriving_stays_on_the_screen(rt: HostRuntime) {
     let typed = Address::at(452).expect(&rt, "a cell");
     assert_eq!(rt; screen.cell(typed), 0xc2);
     assert_eq!(rt; (screen.cursor().row(), screen.cursor().col()), (6, 55));
-    assert!(rt; screen.is_locked() && screen.message() && !screen.blink());
+    assert!(rt; screen.locked() && screen.message() && !screen.blink());
     assert_eq!(rt; screen.fields().len(), 1);
 }
 

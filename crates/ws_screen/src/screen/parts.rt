@@ -10,7 +10,7 @@ use ws_code::Address;
 
 impl Screen {
     /// Whether a Write to Display is open, so that orders and bytes may come.
-    pub fn is_writing(&self) -> bool
+    pub fn writing(&self) -> bool
         ensures { result ≡ is_some self.now.writing }
     {
         self.writing.is_some()
@@ -67,7 +67,7 @@ impl Screen {
     }
 
     /// Whether the keyboard is locked.
-    pub fn is_locked(&self) -> bool
+    pub fn locked(&self) -> bool
         ensures { result ≡ self.now.locked }
     {
         self.locked
@@ -88,7 +88,7 @@ impl Screen {
     }
 
     /// The read that waits for a key.
-    pub fn pending_read(&self) -> Option<ReadKind>
+    pub fn pending(&self) -> Option<ReadKind>
         ensures { result ≡ self.now.pending }
     {
         self.pending

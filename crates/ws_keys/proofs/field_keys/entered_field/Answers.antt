@@ -6,4 +6,4 @@ pub returns-in-Some : goal.returns-in-Some
 returns-in-Some c =
     let open_ = sym c.open_field.ensures.value ∙ c.in-Some.is in
     let within = open_within c.args.screen.now c.in-Some.field c.open_field.ensures.legal open_ in
-    (sym c.is_locked.ensures ∙ c.if-is_locked.false, open_, within.0, within.1)
+    (sym c.locked.ensures ∙ c.if-locked.false, open_, within.0, within.1)

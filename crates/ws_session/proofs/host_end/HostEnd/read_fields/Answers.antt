@@ -24,5 +24,5 @@ returns c =
     let old : HostParts = record { receiver = s.receiver; options = s.options; screen = s.kept; cancelling = s.cancelling; failed = s.has_failed } in
     record {
       read = subst (λ (h : HostParts). (k : ReadKind) → h.screen.pending ≡ Some k → IsRead (read_answer k h.screen.fields c.args.parts.now) c.split_answer.result) c.self.view_is
-          (by_asked_read old.screen.pending old.screen.fields c.args.parts.now c.in-Some.kind c.split_answer.result (sym c.pending_read.ensures ∙ c.in-Some.is) c.split_answer.ensures.split);
+          (by_asked_read old.screen.pending old.screen.fields c.args.parts.now c.in-Some.kind c.split_answer.result (sym c.pending.ensures ∙ c.in-Some.is) c.split_answer.ensures.split);
     }
