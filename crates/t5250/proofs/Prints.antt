@@ -55,7 +55,7 @@ one_digit n h = sym (decimal_digit n h)
 pub more_digits : (n : ℕ) → 10 ≤ n → n < 2 ^ 64 → decimal (n / 10) ++ (48 + n % 10) ∷ [] ≡ decimal n
 more_digits n h k = sym (decimal_step n h k)
 
-encode_append : (t xs ys : List ℕ) → encode_with t (xs ++ ys) ≡ encode_with t xs ++ encode_with t ys
+pub encode_append : (t xs ys : List ℕ) → encode_with t (xs ++ ys) ≡ encode_with t xs ++ encode_with t ys
 unfolding encode_with
 encode_append t [] ys = refl
 encode_append t (b ∷ xs) ys = ap (λ z. slice_index t (b / 16) ∷ slice_index t (b % 16) ∷ z) (encode_append t xs ys)

@@ -1,7 +1,9 @@
 use Rattle.std.proofs.Common.{◌≡◌, ℕ, zero, suc, ◌+◌, List, [], ◌∷◌, ◌++◌, refl, sym, ap, ◌∙◌, arith, append_assoc}
 use Rattle.std.specs.List.{range_with_len}
+use Rattle.std.specs.Prelude.{◌≢◌, Option, None, Some, IfSome, replicate, take, drop, length, ◌-◌}
 use Rattle.std.specs.Str.{encode_utf8_all}
-use Rattle.std.proofs.lemmas.List.{append-nil}
+use Rattle.std.specs.Str.Pattern.{CutsSuffixes, IsFullyTrimmed, IsTrimEndMatches, FindsCharSuffix}
+use Rattle.std.proofs.lemmas.List.{append-nil, drop_all, take-append-drop}
 use Rattle.ws_screen.specs.Lines.{row_chars}
 use Rattle.t5250.specs.ScreenLines.{IsWithoutLastBlanks, AreRows, row_line}
 
@@ -20,3 +22,25 @@ rows_more cells (r ∷ rows) row text shown a w =
 pub range_more : (a n : ℕ) → range_with_len a (suc n) ≡ range_with_len a n ++ (a + n) ∷ []
 range_more a zero = ap (λ k. k ∷ []) (omega arith)
 range_more a (suc n) = ap (λ z. a ∷ z) (range_more (a + 1) n ∙ ap (λ k. range_with_len (a + 1) n ++ k ∷ []) (omega arith))
+
+-- A text without the blanks at its end.
+
+-- what is cut off an end is blanks
+only_blanks : (text shown : List ℕ) (ns : List ℕ) → CutsSuffixes (FindsCharSuffix 32) text ns shown → (blanks : ℕ) × (text ≡ shown ++ replicate blanks 32)
+unfolding lib.Utf8.encode
+only_blanks text shown [] c = (0, sym c ∙ sym (append-nil shown))
+only_blanks text shown (n ∷ ns) c =
+    let longer = c.0 in
+    let found = only_blanks text longer ns c.1 in
+    let at = c.2.1 in
+    let last : drop (length longer - n) longer ≡ 32 ∷ [] = at.split ∙ ap (λ z. 32 ∷ z) (drop_all (length longer) longer (omega arith)) in
+    let ends : longer ≡ shown ++ 32 ∷ [] = sym (take-append-drop (length longer - n) longer) ∙ ap (λ z. take (length longer - n) longer ++ z) last ∙ ap (λ z. z ++ 32 ∷ []) (sym c.3) in
+    (suc found.0, found.1 ∙ ap (λ z. z ++ replicate found.0 32) ends ∙ append_assoc shown (32 ∷ []) (replicate found.0 32))
+
+no_last_blank : (shown : List ℕ) (o : Option ℕ) → FindsCharSuffix 32 shown o → IfSome o (λ n. n ≡ 0) → (front : List ℕ) → shown ≢ front ++ 32 ∷ []
+unfolding lib.Utf8.encode
+no_last_blank shown None f z = f
+no_last_blank shown (Some n) f z = absurd (omega (arith, f.0))
+
+pub without_last_blanks : (text shown : List ℕ) → IsTrimEndMatches (FindsCharSuffix 32) text shown → IsWithoutLastBlanks text shown
+without_last_blanks text shown t = let found = only_blanks text shown t.0.0 t.0.1 in record { blanks = found.0; behind = found.1; last = no_last_blank shown t.1.0 t.1.1 t.1.2 }

@@ -4,6 +4,7 @@ use Rattle.std.specs.Prelude.{ℕ, ◌+◌, ◌/◌, ◌%◌, List, [], ◌∷�
 use Rattle.std.specs.List.{flat_map}
 use Rattle.std.specs.Fmt.{decimal}
 use Rattle.hex.specs.Hex.{encode_upper}
+use Rattle.ws_code.specs.declared.address.TheConstants.{COLUMNS}
 use Rattle.ws_telnet.specs.declared.token.CommandCode.{CommandCode}
 use Rattle.ws_telnet.specs.declared.token.CommandCode.TheVariants.{Nop, DataMark, Break, InterruptProcess, AbortOutput}
 use Rattle.ws_telnet.specs.declared.token.CommandCode.TheVariants.{AreYouThere, EraseCharacter, EraseLine, GoAhead}
@@ -27,7 +28,7 @@ hex_behind_blank (b ∷ bytes) = codes " " ++ encode_upper (b ∷ bytes)
 
 -- row and column of a cell, by its place from 0
 abbrev pub cell_text : ℕ → List ℕ
-cell_text place = decimal (place / 80 + 1) ++ codes " " ++ decimal (place % 80 + 1)
+cell_text place = decimal (place / COLUMNS + 1) ++ codes " " ++ decimal (place % COLUMNS + 1)
 
 -- the cell that an order goes to, and its bytes
 abbrev pub fill_text : ℕ → List ℕ → List ℕ
@@ -67,24 +68,44 @@ element_text (Mc to) = codes "MC " ++ cell_text to
 element_text (Sf f) = codes "SF " ++ field_text f
 element_text (Put byte) = codes "PUT " ++ encode_upper (byte ∷ [])
 
+-- bytes one after another, or another element by itself
+pub data Run : Type 0 where
+  Bytes : List ℕ → Run
+  Other : Element → Run
+
+-- runs with an element before them: a byte joins the run of bytes that it stands before
+abbrev pub runs_with : Element → List Run → List Run
+runs_with (Put byte) (Bytes bytes ∷ runs) = Bytes (byte ∷ bytes) ∷ runs
+runs_with (Put byte) runs = Bytes (byte ∷ []) ∷ runs
+runs_with e runs = Other e ∷ runs
+
+-- the runs of elements, as long as they can be
+abbrev pub runs_of : List Element → List Run
+runs_of [] = []
+runs_of (e ∷ es) = runs_with e (runs_of es)
+
+-- a run's line, after two blanks
+abbrev pub run_line : Run → List ℕ
+run_line (Bytes bytes) = 10 ∷ codes "  PUT " ++ encode_upper bytes
+run_line (Other e) = 10 ∷ codes "  " ++ element_text e
+
+-- the lines of elements, each with the line's end before it
+abbrev pub element_lines : List Element → List ℕ
+element_lines es = flat_map run_line (runs_of es)
+
 abbrev pub is_put : Element → Bool
 is_put (Put byte) = true
 is_put e = false
 
--- what an element adds to the lines: a line of its own after two blanks, but a byte behind a byte goes on
--- with that one's line
+-- what an element adds to the lines of those before it: a byte behind a byte goes on with that one's line
 abbrev pub element_line : Bool → Element → List ℕ
 element_line true (Put byte) = encode_upper (byte ∷ [])
 element_line is_behind_put e = 10 ∷ codes "  " ++ element_text e
 
-abbrev pub element_lines : Bool → List Element → List ℕ
-element_lines is_behind_put [] = []
-element_lines is_behind_put (e ∷ es) = element_line is_behind_put e ++ element_lines (is_put e) es
-
 -- a record whose last byte is at the place: a line for its header, and those of its elements
 abbrev pub record_text : ℕ → Record Element → List ℕ
 record_text place r = codes "at " ++ decimal place ++ codes " record flags " ++ encode_upper (two_bytes r.flags)
-    ++ codes " opcode " ++ decimal (opcode_byte r.opcode) ++ element_lines false r.body ++ 10 ∷ []
+    ++ codes " opcode " ++ decimal (opcode_byte r.opcode) ++ element_lines r.body ++ 10 ∷ []
 
 -- the name of a command (RFC 854)
 abbrev pub command_name : CommandCode → List ℕ

@@ -1,17 +1,19 @@
 -- The lines of a screen, as a text in bytes.
 
-use Rattle.std.specs.Prelude.{◌≡◌, ℕ, List, [], ◌∷◌, ◌++◌, Bool, codes, if◌then◌else◌, nat_lt, length}
+use Rattle.std.specs.Prelude.{◌≡◌, ◌≢◌, ℕ, List, [], ◌∷◌, ◌++◌, Bool, codes, if◌then◌else◌, nat_lt, length, replicate}
 use Rattle.std.specs.Str.{encode_utf8_all}
-use Rattle.std.specs.Str.Pattern.{IsTrimEndMatches, FindsCharSuffix}
 use Rattle.std.specs.List.{range_with_len}
 use Rattle.std.specs.Fmt.{decimal}
+use Rattle.ws_code.specs.declared.address.TheConstants.{ROWS}
 use Rattle.ws_screen.specs.Lines.{row_chars}
 use Rattle.ws_screen.specs.Shown.{Shown}
 use Rattle.t5250.specs.ItemLines.{cell_text}
 
--- a text without the blanks at its end, as `trim_end_matches` cuts them
-abbrev pub IsWithoutLastBlanks : List ℕ → List ℕ → Type 0
-IsWithoutLastBlanks text shown = IsTrimEndMatches (FindsCharSuffix 32) text shown
+-- a text without the blanks at its end: what it shows doesn't end in one, and behind it there are only blanks
+pub record IsWithoutLastBlanks (text shown : List ℕ) : Type 0 where
+  pub blanks : ℕ
+  pub behind : text ≡ shown ++ replicate blanks 0x20
+  pub last : (front : List ℕ) → shown ≢ front ++ 0x20 ∷ []
 
 -- what stands before a row's number
 abbrev pub indent : ℕ → List ℕ
@@ -43,5 +45,5 @@ state_line s = codes "cursor " ++ cell_text s.cursor ++ codes ", " ++ lock_name 
 
 -- the lines of a whole screen, whose rows count from 1
 abbrev pub IsScreenText : Shown → List ℕ → Type 0
-IsScreenText s text = (rows : List ℕ) × AreRows s.cells (range_with_len 1 24) rows
+IsScreenText s text = (rows : List ℕ) × AreRows s.cells (range_with_len 1 ROWS) rows
     × (text ≡ codes "screen\n" ++ rows ++ state_line s)

@@ -1,4 +1,4 @@
-ghost use Rattle.std.specs.Prelude.{◌≡◌, ◌++◌, false, IfOk, OnOk, string_bytes};
+ghost use Rattle.std.specs.Prelude.{◌≡◌, ◌++◌, IfOk, OnOk, string_bytes};
 ghost use Rattle.t5250.specs.ItemLines as Shown;
 
 use crate::element_text::push_element;
@@ -88,7 +88,7 @@ fn record_text(alloc: Global, place: u64, record: &Record<Element>) -> Result<St
 // The lines of a record's elements, each with the line's end before it.
 fn push_elements(alloc: Global, text: &mut String, elements: &[Element]) -> Result<(), AllocError>
     ensures { OnOk result (string_bytes text.new
-        ≡ string_bytes text.old ++ Shown.element_lines false elements.now) }
+        ≡ string_bytes text.old ++ Shown.element_lines elements.now) }
 {
     let mut is_behind_put = false;
     for element in elements {

@@ -7,7 +7,7 @@ ghost use Rattle.t5250.specs.ScreenLines as Spec;
 ghost use Rattle.t5250.specs.PlayLines.{AreScreenLines};
 
 use crate::output::{Output, put_cell, put_number, put_text};
-use ws_code::Sink;
+use ws_code::{ROWS, Sink};
 use ws_screen::Screen;
 
 /// Writes the lines of a screen, where they are asked for.
@@ -39,11 +39,11 @@ pub fn put_screen<S: Sink>(sink: &mut S, output: Output, screen: &Screen) -> Out
 
 // Writes the lines of all rows.
 fn put_rows<S: Sink>(sink: &mut S, output: Output, screen: &Screen) -> Output
-    ensures { (rows : List ℕ) × Spec.AreRows screen.now.cells (range_with_len 1 24) rows
+    ensures { (rows : List ℕ) × Spec.AreRows screen.now.cells (range_with_len 1 ROWS) rows
         × Prints S.takes S.failures sink.old sink.new output result rows }
 {
     let mut output = output;
-    for row in 1..25u8 {
+    for row in 1..=ROWS {
         output = put_row(sink, output, screen, row);
     }
     output
@@ -52,7 +52,7 @@ fn put_rows<S: Sink>(sink: &mut S, output: Output, screen: &Screen) -> Output
 // Writes a row's line, if it isn't all blank.
 fn put_row<S: Sink>(sink: &mut S, output: Output, screen: &Screen, row: u8) -> Output
     requires low { 1 ≤ row }
-    requires high { row ≤ 24 }
+    requires high { row ≤ ROWS }
     ensures { (shown : List ℕ)
         × Spec.IsWithoutLastBlanks (encode_utf8_all (row_chars screen.now.cells row)) shown
         × Prints S.takes S.failures sink.old sink.new output result (Spec.row_line row shown) }
