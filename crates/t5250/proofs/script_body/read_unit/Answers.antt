@@ -7,7 +7,7 @@ use Rattle.t5250.proofs.script_body.read_unit.Goals as goal
 pub returns-in-Bad-clause-none : goal.returns-in-Bad-clause-none
 returns-in-Bad-clause-none g c =
     let inv = c.loop-at.invariant in
-    no_units_of g.B.Code.rules g.met.B.Code.prefix_free g.met.B.Code.begins c.args.place _ _ c.args.bytes.now c.loop-at.at inv.stands inv.begun c.loop-at-test.true inv.more c.in-Bad.ensures.bad.0
+    no_units_of g.B.Code.rules g.met.B.Code.prefix_free g.met.B.Code.begins c.args.place _ _ c.args.bytes.now c.loop-at.at inv.stands inv.begun c.loop-at-test.true inv.more c.in-Bad.ensures.0
 
 pub returns-clause-none : goal.returns-clause-none
 returns-clause-none g c =
