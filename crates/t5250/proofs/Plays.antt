@@ -1,7 +1,7 @@
 use Rattle.std.proofs.Common.{◌≡◌, ℕ, List, Bool, inl, refl, ap, ◌∙◌, subst}
 use Rattle.ws_code.specs.Device.{MayTake}
 use Rattle.ws_nego.specs.declared.terminal.TerminalType.TheVariants.{Ibm3179Model2}
-use Rattle.ws_screen.specs.Shown.{Shown}
+use Rattle.ws_screen.specs.ScreenParts.{ScreenParts}
 use Rattle.ws_session.specs.declared.world.Event.{Event}
 use Rattle.ws_session.specs.declared.world.Move.{Move}
 use Rattle.ws_session.specs.HostLeads.{HostParts}
@@ -22,7 +22,7 @@ pub session_text : (moves given : List Move) (events : List Event) (station : St
     → IsReport events station host down up (after_moves (new_world Ibm3179Model2) given) → IsPlayText events station.screen screen text → IsSessionText (after_moves (new_world Ibm3179Model2) moves) screen text
 session_text moves given events station host down up screen text same r t =
     let w : World = after_moves (new_world Ibm3179Model2) given in
-    let told : IsPlayText w.events (screen_at w.station) screen text = subst (λ (s : Shown). IsPlayText w.events s screen text) r.screen (subst (λ (es : List Event). IsPlayText es station.screen screen text) r.events t) in
+    let told : IsPlayText w.events (screen_at w.station) screen text = subst (λ (s : ScreenParts). IsPlayText w.events s screen text) r.screen (subst (λ (es : List Event). IsPlayText es station.screen screen text) r.events t) in
     subst (λ (ms : List Move). IsSessionText (after_moves (new_world Ibm3179Model2) ms) screen text) same told
 
 pub session_well : (moves given : List Move) (events : List Event) (station : StationParts) (host : HostParts) (down up : List ℕ) → given ≡ moves

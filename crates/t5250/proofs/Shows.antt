@@ -24,7 +24,7 @@ use Rattle.ws_stream.specs.declared.element.Element.{Element}
 use Rattle.ws_stream.specs.declared.place.Place.{Place}
 use Rattle.ws_screen.specs.Events.{History}
 use Rattle.ws_screen.specs.Given.{Gives}
-use Rattle.ws_screen.specs.Shown.{Shown}
+use Rattle.ws_screen.specs.ScreenParts.{ScreenParts}
 use Rattle.t5250.specs.declared.verdict.Verdict.TheVariants.{Refused, Truncated}
 use Rattle.t5250.specs.CheckLine.{line_of, verdict_by}
 use Rattle.t5250.specs.ItemLines.{item_text}
@@ -148,7 +148,7 @@ next_fault bytes rest old is fits begun faults.Write faulted none = let t = take
 next_fault bytes rest old is fits begun faults.Failed faulted none = let t = taken_before bytes rest old begun.0 is begun.1 in absurd (faulted t.before begun.0 t.received (room t fits))
 
 -- The lines show the items of the bytes that were taken, and the items make the screen.
-pub record Shows (bytes : List ℕ) (receiver : Receiving Place Element) (screen : Shown) (lines : List ℕ) : Type 0 where
+pub record Shows (bytes : List ℕ) (receiver : Receiving Place Element) (screen : ScreenParts) (lines : List ℕ) : Type 0 where
   pub placed : List Placed
   pub shown : AreShown bytes [] [] placed
   pub taken : HasTaken bytes receiver (items_of placed)
@@ -157,7 +157,7 @@ pub record Shows (bytes : List ℕ) (receiver : Receiving Place Element) (screen
   pub are_lines : lines ≡ lines_of placed
 
 -- before the first byte
-pub shows_none : (bytes : List ℕ) (receiver : Receiving Place Element) (screen : Shown) → HasReceived element_rules receiver [] [] → Gives [] screen → Shows bytes receiver screen []
+pub shows_none : (bytes : List ℕ) (receiver : Receiving Place Element) (screen : ScreenParts) → HasReceived element_rules receiver [] [] → Gives [] screen → Shows bytes receiver screen []
 shows_none bytes receiver screen received given = record {
   placed = [];
   shown = tt;
@@ -167,7 +167,7 @@ shows_none bytes receiver screen received given = record {
   are_lines = refl;
 }
 
-module _ {bytes lines : List ℕ} {receiver : Receiving Place Element} {screen : Shown} (w : Shows bytes receiver screen lines) where
+module _ {bytes lines : List ℕ} {receiver : Receiving Place Element} {screen : ScreenParts} (w : Shows bytes receiver screen lines) where
   -- the item that comes next
   pub next_is : (new : Receiving Place Element) (found : Option Placed) (x : Placed) → found ≡ Some x → IsNext bytes receiver new found → IsNextItem bytes (items_of w.placed) receiver new x
   next_is new found x is next = (rw is at next) (items_of w.placed) w.taken
@@ -177,7 +177,7 @@ module _ {bytes lines : List ℕ} {receiver : Receiving Place Element} {screen :
   none_next new found is next = (rw is at next) (items_of w.placed) w.taken
 
   -- and its lines
-  shows_next : (x : Placed) (new : Receiving Place Element) (next : Shown) → IsNextItem bytes (items_of w.placed) receiver new x → item_fault (after_items [] w.placed) x.1 ≡ None → Gives (after_item (after_items [] w.placed) x.1) next → next.writing ≡ None → Shows bytes new next (lines ++ item_text x.0 x.1)
+  shows_next : (x : Placed) (new : Receiving Place Element) (next : ScreenParts) → IsNextItem bytes (items_of w.placed) receiver new x → item_fault (after_items [] w.placed) x.1 ≡ None → Gives (after_item (after_items [] w.placed) x.1) next → next.writing ≡ None → Shows bytes new next (lines ++ item_text x.0 x.1)
   shows_next x new next is none gives closed = record {
     placed = w.placed ++ x ∷ [];
     shown = shown_more bytes [] [] w.placed x w.shown is.complete none;
@@ -233,7 +233,7 @@ module _ {S : Type 0} (takes : MayTake S) (failures : S → ℕ) (from : S) wher
   text_fails bytes lines mid to IsText p w shown faults.Read f = absurd f
   text_fails bytes lines mid to IsText p w shown faults.Failed f = absurd f
 
-  module _ {bytes lines : List ℕ} {receiver : Receiving Place Element} {screen : Shown} (w : Shows bytes receiver screen lines) (to : S) where
+  module _ {bytes lines : List ℕ} {receiver : Receiving Place Element} {screen : ScreenParts} (w : Shows bytes receiver screen lines) (to : S) where
     -- nothing comes next
     pub stops_next : WentOut takes failures from to lines → (fault : Fault) → IsNextFault bytes receiver fault → IsStop takes failures from to bytes (verdict_by fault)
     stops_next went (faults.Refused place reason) f = (refl, (lines, part w, went, refused_behind w place reason f.0 (f.1 (items_of w.placed) w.taken)))
@@ -248,7 +248,7 @@ module _ {S : Type 0} (takes : MayTake S) (failures : S → ℕ) (from : S) wher
     stops_early went last received fault f = rw f.0 (refl, (lines, part w, went, truncated_behind w f.1 (received.leads.0, last.live.begun, received.leads.1.holds)))
 
     -- the next item's lines go out, and the screen takes it
-    pub goes_on : (mid : S) (x : Placed) (new : Receiving Place Element) (next : Shown) → WentOut takes failures from mid lines → IsNextItem bytes (items_of w.placed) receiver new x → WentOut takes failures mid to (item_text x.0 x.1)
+    pub goes_on : (mid : S) (x : Placed) (new : Receiving Place Element) (next : ScreenParts) → WentOut takes failures from mid lines → IsNextItem bytes (items_of w.placed) receiver new x → WentOut takes failures mid to (item_text x.0 x.1)
         → item_fault (after_items [] w.placed) x.1 ≡ None → Gives (after_item (after_items [] w.placed) x.1) next → next.writing ≡ None → (more : List ℕ) × Shows bytes new next more × WentOut takes failures from to more
     goes_on mid x new next went is more none gives closed = (lines ++ item_text x.0 x.1, shows_next w x new next is none gives closed, went_out_both takes failures from mid to lines (item_text x.0 x.1) went more)
 

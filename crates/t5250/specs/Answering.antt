@@ -19,7 +19,7 @@ use Rattle.t5250.specs.declared.fault.RunFault.TheVariants.{Read, NotHex, Line, 
 use Rattle.t5250.specs.declared.fault.RunFault.TheVariants.{Truncated, Failed}
 use Rattle.t5250.specs.declared.verdict.Verdict.{Verdict}
 use Rattle.ws_nego.specs.declared.terminal.TerminalType.TheVariants.{Ibm3179Model2}
-use Rattle.ws_screen.specs.Shown.{Shown}
+use Rattle.ws_screen.specs.ScreenParts.{ScreenParts}
 use Rattle.ws_session.specs.declared.world.Event.{Event}
 use Rattle.ws_session.specs.declared.world.Move.{Move}
 use Rattle.ws_session.specs.World.{World, new_world, after_moves}
@@ -39,7 +39,7 @@ IsSessionText w screen text = IsPlayText w.events (screen_at w.station) screen t
 -- what is told of some session, and whether no end refuses in it: what a connection does isn't known
 pub record IsToldText (screen all_well : Bool) (text : List ℕ) : Type 0 where
   pub events : List Event
-  pub station : Shown
+  pub station : ScreenParts
   pub told : IsPlayText events station screen text
   pub well : all_well ≡ no_end_refuses events
 

@@ -7,7 +7,7 @@ use Rattle.hex.specs.Hex.{encode_upper}
 use Rattle.ws_code.specs.declared.reason.Reason.{Reason}
 use Rattle.ws_code.specs.Reason.{number_of, name_of as reason_name}
 use Rattle.ws_nego.specs.Terminal.{name_of as terminal_name}
-use Rattle.ws_screen.specs.Shown.{Shown}
+use Rattle.ws_screen.specs.ScreenParts.{ScreenParts}
 use Rattle.ws_keys.specs.declared.key.KeyRefusal.{KeyRefusal}
 use Rattle.ws_keys.specs.declared.key.KeyRefusal.TheVariants.{Locked, Protected, WrongCharacter, DupNotAllowed, NoRoom}
 use Rattle.ws_keys.specs.declared.key.KeyRefusal.TheVariants.{NoReadPending, MandatoryEnter}
@@ -83,12 +83,12 @@ abbrev pub events_text : List Event → List ℕ
 events_text events = flat_map event_text events
 
 -- the lines of a screen, where they are asked for
-abbrev pub AreScreenLines : Bool → Shown → List ℕ → Type 0
+abbrev pub AreScreenLines : Bool → ScreenParts → List ℕ → Type 0
 AreScreenLines true screen lines = IsScreenText screen lines
 AreScreenLines false screen lines = lines ≡ []
 
 -- the events, and behind them the station's screen where it is asked for
-pub record IsPlayText (events : List Event) (station : Shown) (screen : Bool) (text : List ℕ) : Type 0 where
+pub record IsPlayText (events : List Event) (station : ScreenParts) (screen : Bool) (text : List ℕ) : Type 0 where
   pub lines : List ℕ
   pub are : AreScreenLines screen station lines
   pub all : text ≡ events_text events ++ lines

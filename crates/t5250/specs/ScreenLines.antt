@@ -6,7 +6,7 @@ use Rattle.std.specs.List.{range_with_len}
 use Rattle.std.specs.Fmt.{decimal}
 use Rattle.ws_code.specs.declared.address.TheConstants.{ROWS}
 use Rattle.ws_screen.specs.Lines.{row_chars}
-use Rattle.ws_screen.specs.Shown.{Shown}
+use Rattle.ws_screen.specs.ScreenParts.{ScreenParts}
 use Rattle.t5250.specs.ItemLines.{cell_text}
 
 -- a text without the blanks at its end: what it shows doesn't end in one, and behind it there are only blanks
@@ -38,12 +38,12 @@ abbrev pub on_or_off : Bool → List ℕ
 on_or_off on = if on then codes "on" else codes "off"
 
 -- the cursor, the keyboard's lock, the message light, the blinking cursor, the number of fields
-abbrev pub state_line : Shown → List ℕ
+abbrev pub state_line : ScreenParts → List ℕ
 state_line s = codes "cursor " ++ cell_text s.cursor ++ codes ", " ++ lock_name s.locked ++ codes ", message "
     ++ on_or_off s.message ++ codes ", blink " ++ on_or_off s.blink ++ codes ", fields " ++ decimal (length s.fields)
     ++ 10 ∷ []
 
 -- the lines of a whole screen, whose rows count from 1
-abbrev pub IsScreenText : Shown → List ℕ → Type 0
+abbrev pub IsScreenText : ScreenParts → List ℕ → Type 0
 IsScreenText s text = (rows : List ℕ) × AreRows s.cells (range_with_len 1 ROWS) rows
     × (text ≡ codes "screen\n" ++ rows ++ state_line s)

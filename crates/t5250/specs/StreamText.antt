@@ -21,7 +21,7 @@ use Rattle.ws_stream.specs.declared.place.Place.{Place}
 use Rattle.ws_screen.specs.Bodies.{body_fault}
 use Rattle.ws_screen.specs.Events.{History}
 use Rattle.ws_screen.specs.Given.{Gives}
-use Rattle.ws_screen.specs.Shown.{Shown}
+use Rattle.ws_screen.specs.ScreenParts.{ScreenParts}
 use Rattle.ws_session.specs.StationSide.{after_record}
 use Rattle.t5250.specs.CheckLine.{line_of, is_accepted}
 use Rattle.t5250.specs.ItemLines.{item_text}
@@ -75,7 +75,7 @@ AreShown bytes before h (x ∷ xs) = IsComplete bytes before x × (item_fault h 
 -- The ends. The bytes are accepted, and what the items make of a screen is shown.
 abbrev pub IsScreenEnd : List ℕ → List Placed → List ℕ → Type 0
 IsScreenEnd bytes placed text = IsInGrammar element_rules bytes (items_of placed)
-    × ((s : Shown) × Gives (after_items [] placed) s × IsScreenText s text)
+    × ((s : ScreenParts) × Gives (after_items [] placed) s × IsScreenText s text)
 
 -- A byte is refused behind the items.
 abbrev pub IsRefusedEnd : List ℕ → List Placed → List ℕ → Type 0

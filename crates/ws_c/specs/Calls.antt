@@ -7,7 +7,7 @@ use Rattle.ws_nego.specs.Terminal.{terminal_named}
 use Rattle.ws_nego.specs.declared.terminal.TerminalType.{TerminalType}
 use Rattle.ws_record.specs.declared.record.Item.{Item}
 use Rattle.ws_stream.specs.declared.element.Element.{Element}
-use Rattle.ws_screen.specs.Shown.{Shown}
+use Rattle.ws_screen.specs.ScreenParts.{ScreenParts}
 use Rattle.ws_screen.specs.declared.field.Field.{Field}
 use Rattle.ws_screen.specs.declared.read_kind.ReadKind.{ReadKind}
 use Rattle.ws_screen.specs.declared.read_kind.ReadKind.TheVariants.{Input, Mdt, MdtAlternate}
@@ -140,18 +140,18 @@ read_number (Some Mdt) = 2
 read_number (Some MdtAlternate) = 3
 
 -- the screen of the station that a handle holds
-abbrev pub screen_held : Option Machine → Option Shown
+abbrev pub screen_held : Option Machine → Option ScreenParts
 screen_held None = None
 screen_held (Some (Station station)) = Some station.screen
 screen_held (Some held) = None
 
 -- a look at a screen, where there is one
-abbrev pub OnScreen : Option Shown → ℕ → (Shown → Type 0) → Type 0
+abbrev pub OnScreen : Option ScreenParts → ℕ → (ScreenParts → Type 0) → Type 0
 OnScreen None status seen = status ≡ number_of NothingHeld
 OnScreen (Some screen) status seen = (status ≡ number_of Done) × seen screen
 
 -- what of a screen is no cell and no field
-abbrev pub state_of : Shown → ScreenState
+abbrev pub state_of : ScreenParts → ScreenState
 state_of s = record {
   cursor_row = s.cursor / 80 + 1;
   cursor_column = s.cursor % 80 + 1;

@@ -15,7 +15,7 @@ use Rattle.ws_screen.specs.declared.read_kind.ReadKind.{ReadKind}
 use Rattle.ws_screen.specs.declared.read_kind.ReadKind.TheVariants.{Input, Mdt, MdtAlternate}
 use Rattle.ws_screen.specs.ByHost.{layout}
 use Rattle.ws_screen.specs.Formats.{starts_at}
-use Rattle.ws_screen.specs.Shown.{AreApart, Shown}
+use Rattle.ws_screen.specs.ScreenParts.{AreApart, ScreenParts}
 use Rattle.ws_keys.proofs.AnswerLemmas.{content_short, sent_less}
 use Rattle.ws_keys.proofs.ContentLemmas.{length-with_last_digit_minus}
 use Rattle.ws_screen.proofs.Legal.{apart-le}
@@ -84,7 +84,7 @@ own_start low (f ∷ fs) (suc i) d apart small =
     from_low low (f ∷ fs) apart (suc j) d small = let later : f.start + f.length ≤ (get_or fs j d).start = from_low (f.start + f.length) fs apart.2 j d (omega arith) in omega (arith, apart.0)
 
 -- what a station sends of a field fits the same field
-fits : (kind : ReadKind) (s : Shown) (fs gs : List Field) (i : ℕ) (d : Field) → SameFields fs gs → AreApart 0 fs → i < length fs → FitsField gs (field_content kind s (get_or fs i d))
+fits : (kind : ReadKind) (s : ScreenParts) (fs gs : List Field) (i : ℕ) (d : Field) → SameFields fs gs → AreApart 0 fs → i < length fs → FitsField gs (field_content kind s (get_or fs i d))
 fits kind s fs gs i d e apart small =
     let n : length fs ≡ length gs = sym (length-map fs layout) ∙ ap length e ∙ length-map gs layout in
     let here : layout (get_or fs i d) ≡ layout (get_or gs i d) = sym (get_or-map layout fs i d (layout d) small) ∙ ap (λ l. get_or l i (layout d)) e ∙ get_or-map layout gs i d (layout d) (omega (arith, n)) in
@@ -119,7 +119,7 @@ rises_from low (f ∷ fs) g is apart = go (has_mdt f) (rises_from (f.start + f.l
     go true h = (λ some. omega (arith, is f, apart.0), cons (g f).address (places (filter has_mdt fs)) (λ some. omega (arith, is f, h.0 some, apart.1)) h.1)
     go false h = (λ some. omega (arith, h.0 some, apart.0), h.1)
 
-modified_reads : (kind : ReadKind) (s : Shown) (fields : List Field) → AreApart 0 s.fields → SameFields s.fields fields → ReadsModified fields (flat_map field_parts (modified_fields kind s)) (modified_fields kind s)
+modified_reads : (kind : ReadKind) (s : ScreenParts) (fields : List Field) → AreApart 0 s.fields → SameFields s.fields fields → ReadsModified fields (flat_map field_parts (modified_fields kind s)) (modified_fields kind s)
 modified_reads kind s fields apart e = (
   refl,
   (rises_from 0 s.fields (field_content kind s) (λ f. refl) apart).1,
@@ -131,7 +131,7 @@ modified_reads kind s fields apart e = (
 length-with_nulls_as_sent : (xs : List ℕ) → length (with_nulls_as_sent Input xs) ≡ length xs
 length-with_nulls_as_sent xs = length-map xs blank_for_null
 
-length-input : (s : Shown) (f : Field) → length s.cells ≡ 1920 → f.start + f.length ≤ 1920 → length (content Input s f) ≡ sent_length f
+length-input : (s : ScreenParts) (f : Field) → length s.cells ≡ 1920 → f.start + f.length ≤ 1920 → length (content Input s f) ≡ sent_length f
 length-input s f size ends = go (is_negative s f)
   where
     cells : length (sent_cells s f) ≡ sent_length f
@@ -141,7 +141,7 @@ length-input s f size ends = go (is_negative s f)
     go true = length-with_last_digit_minus (with_nulls_as_sent Input (sent_cells s f)) ∙ length-with_nulls_as_sent (sent_cells s f) ∙ cells
     go false = length-with_nulls_as_sent (sent_cells s f) ∙ cells
 
-length-all : (s : Shown) (low : ℕ) (fs : List Field) → length s.cells ≡ 1920 → AreApart low fs → length (flat_map (content Input s) fs) ≡ sum_by sent_length fs
+length-all : (s : ScreenParts) (low : ℕ) (fs : List Field) → length s.cells ≡ 1920 → AreApart low fs → length (flat_map (content Input s) fs) ≡ sum_by sent_length fs
 length-all s low [] size apart = refl
 length-all s low (f ∷ fs) size apart =
     let end : f.start + f.length ≤ 1920 = apart-le (f.start + f.length) fs apart.2 in
@@ -155,14 +155,14 @@ something_cut : (fs gs : List Field) (bytes : List ℕ) → SameFields fs gs →
 something_cut fs gs [] e n = inl (refl, refl)
 something_cut fs gs (b ∷ bytes) e n = inr ((λ k. absurd (cc)), n ∙ same_sum fs gs e, same_cut fs gs (b ∷ bytes) e)
 
-input_reads : (s : Shown) (fields : List Field) → length s.cells ≡ 1920 → AreApart 0 s.fields → SameFields s.fields fields → CutsInput fields (all_input s) (cut_input s.fields (all_input s))
+input_reads : (s : ScreenParts) (fields : List Field) → length s.cells ≡ 1920 → AreApart 0 s.fields → SameFields s.fields fields → CutsInput fields (all_input s) (cut_input s.fields (all_input s))
 input_reads s fields size apart e = go (list_any has_mdt s.fields)
   where
     go : (t : Bool) → CutsInput fields (if t then flat_map (content Input s) s.fields else []) (cut_input s.fields (if t then flat_map (content Input s) s.fields else []))
     go true = something_cut s.fields fields (flat_map (content Input s) s.fields) e (length-all s 0 s.fields size apart)
     go false = nothing_cut s.fields fields [] refl
 
-station_data : (kind : ReadKind) (s : Shown) (fields : List Field) → length s.cells ≡ 1920 → AreApart 0 s.fields → SameFields s.fields fields → SplitsData kind fields (data_parts kind s) (read_back kind s)
+station_data : (kind : ReadKind) (s : ScreenParts) (fields : List Field) → length s.cells ≡ 1920 → AreApart 0 s.fields → SameFields s.fields fields → SplitsData kind fields (data_parts kind s) (read_back kind s)
 station_data Input s fields size apart e = (all_input s, refl, input_reads s fields size apart e)
 station_data Mdt s fields size apart e = modified_reads Mdt s fields apart e
 station_data MdtAlternate s fields size apart e = modified_reads MdtAlternate s fields apart e
@@ -173,7 +173,7 @@ nothing_data Mdt fields = (refl, (λ k small. absurd (omega arith)), (λ k d sma
 nothing_data MdtAlternate fields = (refl, (λ k small. absurd (omega arith)), (λ k d small. absurd (omega arith)))
 
 -- the answer of a station with the same fields holds what the station sent
-pub station_split : (kind : ReadKind) (s : Shown) (aid : ℕ) (fields : List Field) → length s.cells ≡ 1920 → AreApart 0 s.fields → SameFields s.fields fields → Splits kind fields (answer_parts kind s aid) (answer_of kind s aid)
+pub station_split : (kind : ReadKind) (s : ScreenParts) (aid : ℕ) (fields : List Field) → length s.cells ≡ 1920 → AreApart 0 s.fields → SameFields s.fields fields → Splits kind fields (answer_parts kind s aid) (answer_of kind s aid)
 station_split kind s aid fields size apart e = ((if returns_data s aid then data_parts kind s else []), refl, go (returns_data s aid))
   where
     go : (t : Bool) → SplitsData kind fields (if t then data_parts kind s else []) (if t then read_back kind s else [])

@@ -2,7 +2,7 @@
 ghost use Rattle.std.specs.Prelude.{◌≡◌, ◌<◌, ◌+◌, ◌%◌, ◌∷◌, ◌&&◌, [], Some, None, find, nat_lt, if◌then◌else◌};
 ghost use Rattle.ws_screen.specs.Formats.{find_last};
 ghost use Rattle.ws_screen.specs.Keyed.{cursor_edit};
-ghost use Rattle.ws_screen.specs.Shown.{is_non_bypass};
+ghost use Rattle.ws_screen.specs.ScreenParts.{is_non_bypass};
 ghost use Rattle.ws_keys.specs.Keys as Spec;
 
 use crate::answer::Answer;

@@ -6,7 +6,7 @@ use Rattle.ws_screen.specs.declared.control_effect.ClearedFields.TheVariants as 
 use Rattle.ws_screen.specs.declared.control_effect.NulledFields.TheVariants as nulled_fields
 use Rattle.ws_screen.specs.declared.field.Field.{Field}
 use Rattle.ws_screen.specs.Controls.{cc1_code, effect_of, is_cleared, is_among, is_nulled}
-use Rattle.ws_screen.specs.Shown.{holds}
+use Rattle.ws_screen.specs.ScreenParts.{holds}
 use Rattle.ws_screen.specs.Steps.{after_cc1}
 
 -- a code that nulls no field

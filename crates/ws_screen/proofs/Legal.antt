@@ -8,7 +8,7 @@ use Rattle.ws_code.specs.FormatWord.{is_bypass, with_mdt}
 use Rattle.ws_screen.specs.Controls.{clears_mdt}
 use Rattle.ws_screen.specs.Faults.{first_of, sf_faults, shares}
 use Rattle.ws_screen.specs.Formats.{starts_at}
-use Rattle.ws_screen.specs.Shown.{AreApart, IsClean, IsLegal, Shown}
+use Rattle.ws_screen.specs.ScreenParts.{AreApart, IsClean, IsLegal, ScreenParts}
 use Rattle.ws_screen.specs.Steps.{Ends, after_cc1, after_input_field, insert_field, with_format_at}
 use Rattle.std.specs.List.{list_any, slice_index}
 use borrow.Author.Tests.{ltb-true, ltb-false, eqb-true, eqb-false}
@@ -208,5 +208,5 @@ few-after_input_field a fs f few ok = go f.format refl
     go (Some w) e = held w e (list_any (starts_at (a + 1)) fs) refl
 
 -- a new screen is legal
-pub legal-new : (s : Shown) → length s.cells ≡ 1920 → ((c : ℕ) → slice_index s.cells c ≡ 0) → s.fields ≡ [] → s.writing ≡ None → IsLegal s
+pub legal-new : (s : ScreenParts) → length s.cells ≡ 1920 → ((c : ℕ) → slice_index s.cells c ≡ 0) → s.fields ≡ [] → s.writing ≡ None → IsLegal s
 legal-new s size blank none closed = record { size = size; clean = λ c. rw (blank c) refl; apart = rw none zero-le; few = rw none zero-le; within = rw closed zero-le }

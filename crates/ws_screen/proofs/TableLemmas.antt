@@ -8,7 +8,7 @@ use Rattle.std.specs.List.Sorted.{IsPartitionPoint, IsNonDecreasingBy}
 use Rattle.ws_screen.specs.declared.field.Field.{Field}
 use Rattle.ws_screen.specs.Faults.{shares}
 use Rattle.ws_screen.specs.Formats.{starts_at}
-use Rattle.ws_screen.specs.Shown.{AreApart, holds}
+use Rattle.ws_screen.specs.ScreenParts.{AreApart, holds}
 use Rattle.ws_screen.specs.Steps.{count_before, first_from, last_before, insert_field, with_format_at}
 
 -- THE FIELDS RISE

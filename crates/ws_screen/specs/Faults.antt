@@ -13,7 +13,7 @@ use Rattle.ws_stream.specs.declared.element.Element.{Element}
 use Rattle.ws_stream.specs.declared.element.Element.TheVariants.{Ra, Ea, Sf, Put}
 use Rattle.ws_screen.specs.declared.field.Field.{Field}
 use Rattle.ws_screen.specs.Formats.{starts_at}
-use Rattle.ws_screen.specs.Shown.{Shown, address_of}
+use Rattle.ws_screen.specs.ScreenParts.{ScreenParts, address_of}
 
 -- the first reason whose test holds
 abbrev pub first_of : List (Bool × Reason) → Option Reason
@@ -43,7 +43,7 @@ faults a fields (Sf f) = sf_faults a fields f
 faults a fields _ = []
 
 -- the first reason for which a screen refuses an element
-abbrev pub fault : Shown → Element → Option Reason
+abbrev pub fault : ScreenParts → Element → Option Reason
 fault s e = first_of (faults (address_of s.writing) s.fields e)
 
 -- the reason of a refusal

@@ -8,11 +8,11 @@ use Rattle.ws_screen.specs.declared.open_write.OpenWrite.{OpenWrite}
 use Rattle.ws_screen.specs.Cells.{cell}
 use Rattle.ws_screen.specs.Events.{Event, did, ended, History}
 use Rattle.ws_screen.specs.Formats.{fields}
-use Rattle.ws_screen.specs.Shown.{Shown}
+use Rattle.ws_screen.specs.ScreenParts.{ScreenParts}
 use Rattle.ws_screen.specs.States.{switches, home_set, cursor, is_locked, message, blink, pending_read}
 use Rattle.ws_screen.specs.Writes.{open_write}
 
-pub record Gives (h : History) (s : Shown) : Type 0 where
+pub record Gives (h : History) (s : ScreenParts) : Type 0 where
   pub cells : (c : ℕ) → c < CELLS → slice_index s.cells c ≡ cell c h
   pub fields_are : s.fields ≡ fields h
   pub switches_are : s.switches ≡ switches h
@@ -25,11 +25,11 @@ pub record Gives (h : History) (s : Shown) : Type 0 where
   pub writing_is : s.writing ≡ open_write h
 
 -- one event leads from the one screen to the other, whatever events gave the one
-pub record Follows (e : Event) (old new : Shown) : Type 0 where
+pub record Follows (e : Event) (old new : ScreenParts) : Type 0 where
   pub after : (h : History) → Gives h old → Gives (e ∷ h) new
 
 -- so do several events, the newest first
-pub record FollowsAll (es : List Event) (old new : Shown) : Type 0 where
+pub record FollowsAll (es : List Event) (old new : ScreenParts) : Type 0 where
   pub after : (h : History) → Gives h old → Gives (es ++ h) new
 
 -- an order or a byte stands only within a write

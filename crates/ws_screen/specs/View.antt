@@ -1,9 +1,9 @@
 -- What a contract sees of the fields of a screen.
-use Rattle.ws_screen.specs.Shown.{Shown, IsLegal}
+use Rattle.ws_screen.specs.ScreenParts.{ScreenParts, IsLegal}
 use Rattle.ws_screen.specs.declared.screen.Screen.TheInside.{Inside}
 
-abbrev pub shown_of : Inside → Shown
-shown_of s = record {
+abbrev pub screen_parts : Inside → ScreenParts
+screen_parts s = record {
   cells = s.cells;
   fields = s.table.items;
   switches = s.switches;
@@ -17,4 +17,4 @@ shown_of s = record {
 }
 
 abbrev pub IsLegalInside : Inside → Type 0
-IsLegalInside s = IsLegal (shown_of s)
+IsLegalInside s = IsLegal (screen_parts s)

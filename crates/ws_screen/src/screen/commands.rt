@@ -4,7 +4,7 @@ ghost use Rattle.ws_stream.specs.declared.element.Element.{Element as AnElement}
 ghost use Rattle.ws_stream.specs.declared.element.Element.TheVariants.{ClearUnit, ClearFormat, Write};
 ghost use Rattle.ws_screen.specs.Events.{did};
 ghost use Rattle.ws_screen.specs.Given.{Follows, FollowsAll, ends_of, events_of};
-ghost use Rattle.ws_screen.specs.Shown.{IsLegal};
+ghost use Rattle.ws_screen.specs.ScreenParts.{IsLegal};
 ghost use Rattle.ws_screen.specs.Reads.{read_in};
 ghost use Rattle.ws_screen.specs.Steps.{IsCarried, after_cc2, without_format};
 

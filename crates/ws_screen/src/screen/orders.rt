@@ -6,7 +6,7 @@ ghost use Rattle.ws_stream.specs.declared.element.Element.TheVariants.{Soh, Ra, 
 ghost use Rattle.ws_screen.specs.Events.{did};
 ghost use Rattle.ws_screen.specs.Faults.{fault, refusal};
 ghost use Rattle.ws_screen.specs.Given.{Follows};
-ghost use Rattle.ws_screen.specs.Shown.{IsLegal, address_of};
+ghost use Rattle.ws_screen.specs.ScreenParts.{IsLegal, address_of};
 ghost use Rattle.ws_screen.specs.Steps.{IsFilled};
 
 use crate::Screen;

@@ -1,7 +1,7 @@
 //! What a screen tells of its parts.
 ghost use Rattle.std.specs.Prelude.{◌≡◌, ◌≤◌, false, length, slice_index, find, is_some};
 ghost use Rattle.ws_code.specs.DataByte.{is_order};
-ghost use Rattle.ws_screen.specs.Shown.{AreApart, IsLegal, holds, home_of};
+ghost use Rattle.ws_screen.specs.ScreenParts.{AreApart, IsLegal, holds, home_of};
 
 use crate::format_table::{MAX_FIELDS, copy_of, first_non_bypass};
 use crate::{Field, ReadKind, Screen, searches};

@@ -1,7 +1,7 @@
 use Rattle.std.proofs.Common.{◌++◌, refl, ap, ◌∙◌, subst}
 use Rattle.t5250.specs.declared.output.Output.{Output}
 use Rattle.t5250.specs.PlayLines.{AreScreenLines, events_text, no_end_refuses}
-use Rattle.ws_screen.specs.Shown.{Shown}
+use Rattle.ws_screen.specs.ScreenParts.{ScreenParts}
 use Rattle.t5250.specs.Printing.{IsOut}
 use Rattle.t5250.proofs.Prints.{prints_both, prints_same, whole_out}
 use Rattle.t5250.proofs.play.play_to.Goals as goal
@@ -12,7 +12,7 @@ returns-in-Open-clause-printed g c =
     let lines = c.put_screen_if.ensures.0 in
     let out = whole_out (prints_both events c.put_screen_if.ensures.2) in (
       events_text c.args.report.now.events ++ lines,
-      record { lines = lines; are = subst (λ (s : Shown). AreScreenLines c.args.screen s lines) c.screen.ensures c.put_screen_if.ensures.1; all = refl },
+      record { lines = lines; are = subst (λ (s : ScreenParts). AreScreenLines c.args.screen s lines) c.screen.ensures c.put_screen_if.ensures.1; all = refl },
       subst (λ (o : Output). IsOut g.S.Sink.takes g.S.Sink.failures c.args.sink.now c.put_screen_if.new.sink o (events_text c.args.report.now.events ++ lines)) c.in-Open.is out,
       c.none_refuses.ensures ∙ ap no_end_refuses c.as_slice-events.ensures,
     )
@@ -25,7 +25,7 @@ returns-in-Failed-clause-fault g c =
       refl,
       (
         events_text c.args.report.now.events ++ lines,
-        record { lines = lines; are = subst (λ (s : Shown). AreScreenLines c.args.screen s lines) c.screen.ensures c.put_screen_if.ensures.1; all = refl },
+        record { lines = lines; are = subst (λ (s : ScreenParts). AreScreenLines c.args.screen s lines) c.screen.ensures c.put_screen_if.ensures.1; all = refl },
         subst (λ (o : Output). IsOut g.S.Sink.takes g.S.Sink.failures c.args.sink.now c.put_screen_if.new.sink o (events_text c.args.report.now.events ++ lines)) c.in-Failed.is out,
       ),
     )

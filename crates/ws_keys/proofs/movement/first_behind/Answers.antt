@@ -1,7 +1,7 @@
 use Rattle.std.proofs.Common.{◌≡◌, ap, get_or, true, false, ◌&&◌, nat_lt, ◌∙◌, sym, Some, Bool}
 use Rattle.std.specs.Prelude.{find}
 use Rattle.ws_screen.specs.declared.field.Field.{Field}
-use Rattle.ws_screen.specs.Shown.{is_non_bypass}
+use Rattle.ws_screen.specs.ScreenParts.{is_non_bypass}
 use Rattle.ws_screen.proofs.FormatLemmas.{find_here, find_none_more}
 use Rattle.ws_keys.proofs.movement.first_behind.Goals as goal
 

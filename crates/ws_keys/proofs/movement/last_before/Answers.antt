@@ -1,6 +1,6 @@
 use Rattle.std.proofs.Common.{◌&&◌, nat_lt, Bool}
 use Rattle.ws_screen.specs.declared.field.Field.{Field}
-use Rattle.ws_screen.specs.Shown.{is_non_bypass}
+use Rattle.ws_screen.specs.ScreenParts.{is_non_bypass}
 use Rattle.ws_keys.proofs.SearchLemmas.{find_last-step}
 use Rattle.ws_keys.proofs.movement.last_before.Goals as goal
 

@@ -1,6 +1,6 @@
 use Rattle.std.proofs.Common.{◌≡◌, take, ◌&&◌, nat_lt}
 use Rattle.ws_screen.specs.Formats.{find_last}
-use Rattle.ws_screen.specs.Shown.{is_non_bypass}
+use Rattle.ws_screen.specs.ScreenParts.{is_non_bypass}
 use Rattle.ws_keys.proofs.movement.last_before.Given as goal
 
 abbrev pub invariant-loop-field : goal.invariant-loop-field

@@ -1,5 +1,5 @@
 use Rattle.std.proofs.Common.{ap, not}
-use Rattle.ws_screen.specs.Shown.{is_non_bypass}
+use Rattle.ws_screen.specs.ScreenParts.{is_non_bypass}
 use Rattle.ws_keys.proofs.SearchLemmas.{find_last-step}
 use Rattle.ws_keys.proofs.movement.last_non_bypass.Goals as goal
 

@@ -1,6 +1,6 @@
 use Rattle.std.proofs.Common.{◌≡◌, ap, not, get_or, true, false, ◌∙◌, sym, Some, refl}
 use Rattle.std.specs.Prelude.{find}
-use Rattle.ws_screen.specs.Shown.{is_non_bypass}
+use Rattle.ws_screen.specs.ScreenParts.{is_non_bypass}
 use Rattle.ws_screen.proofs.FormatLemmas.{find_here, find_none_more}
 use Rattle.ws_screen.proofs.format_table.first_non_bypass.Goals as goal
 

@@ -1,7 +1,7 @@
 use Rattle.std.proofs.Common.{◌≡◌, ℕ, take, slice_index, if◌then◌else◌, ◌&&◌}
 use Rattle.std.specs.List.{list_any}
 use Rattle.ws_screen.specs.Controls.{is_nulled}
-use Rattle.ws_screen.specs.Shown.{holds}
+use Rattle.ws_screen.specs.ScreenParts.{holds}
 use Rattle.ws_screen.proofs.format_table.null_fields.Given as goal
 
 abbrev pub invariant-loop-field : goal.invariant-loop-field

@@ -1,6 +1,6 @@
 use Rattle.std.proofs.Common.{◌≡◌, ◌+◌, Some, None, if◌then◌else◌, ap, sym, ◌∙◌}
 use Rattle.std.specs.Option.{option_map_or}
-use Rattle.ws_screen.specs.Shown.{holds}
+use Rattle.ws_screen.specs.ScreenParts.{holds}
 use Rattle.ws_screen.specs.Steps.{last_before}
 use Rattle.ws_screen.proofs.TableLemmas.{holder_at}
 use Rattle.ws_screen.proofs.searches.field_at.Goals as goal

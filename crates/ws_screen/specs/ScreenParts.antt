@@ -14,7 +14,7 @@ use Rattle.ws_screen.specs.declared.read_kind.ReadKind.{ReadKind}
 -- the cells in screen order, the fields by start, the key switches (bit n - 1 is key n's), where an
 -- Insert Cursor set the home, the cursor's place, the keyboard's lock, the message light, blink,
 -- the pending read, the open write
-pub record Shown : Type 0 where
+pub record ScreenParts : Type 0 where
   pub cells : List ℕ
   pub fields : List Field
   pub switches : ℕ
@@ -60,7 +60,7 @@ IsClean cells = (c : ℕ) → is_order (slice_index cells c) ≡ false
 
 -- what is true of every screen: its size, clean cells, legal fields, and an address on the screen
 -- or just past it
-pub record IsLegal (s : Shown) : Type 0 where
+pub record IsLegal (s : ScreenParts) : Type 0 where
   pub size : length s.cells ≡ CELLS
   pub clean : IsClean s.cells
   pub apart : AreApart 0 s.fields
