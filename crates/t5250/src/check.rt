@@ -92,7 +92,8 @@ fn feed_piece<B: Body>(
         → Counts B.rules receiver.new tally.new (bytes ++ piece.now)) }
     ensures fault { IfErr result (λ fault. (bytes : Seq ℕ)
         → Counts B.rules receiver.old tally.old bytes
-        → length bytes + length piece.now + 1 < 2 ^ 64 → IsFeedFault B.rules bytes piece.now fault) }
+        → length bytes + length piece.now + 1 < 2 ^ 64
+        → IsFeedFault B.rules bytes piece.now fault) }
 {
     let mut rest = piece;
     while !rest.is_empty() {

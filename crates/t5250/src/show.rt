@@ -42,8 +42,8 @@ pub fn show_to<S: Sink>(alloc: Global, bytes: &[u8], sink: &mut S) -> Result<boo
     }
 }
 
-// Writes the items, and carries them out on a new screen. `Refused` and `Truncated` where the stream isn't
-// accepted, or the screen refuses an item, at that item's last byte.
+// Writes the items, and carries them out on a new screen. `Refused` and `Truncated` where the stream
+// isn't accepted, or the screen refuses an item: at that item's last byte.
 fn show_items<S: Sink>(
     alloc: Global,
     bytes: &[u8],
