@@ -5,7 +5,6 @@ pub mod Parts
 pub mod Plays
 pub mod Prints
 pub mod Rows
-pub mod ScriptBodies
 pub mod ScriptWords
 pub mod Scripts
 pub mod Shows

@@ -6,9 +6,9 @@ use Rattle.std.specs.Str.{IsUtf8, all_scalars, encode_utf8_all}
 use Rattle.std.specs.Str.Lines.{lines}
 use Rattle.std.specs.Str.Parse.{IsNumeral, digits_value}
 use Rattle.hex.specs.Hex.{decode_of}
-use Rattle.ws_code.specs.Code.{Rules, IsWhole, spelling_of}
 use Rattle.ws_record.specs.declared.opcode.Opcode.{Opcode}
 use Rattle.ws_record.specs.declared.opcode.Opcode.TheVariants.{CancelInvite}
+use Rattle.ws_record.specs.Body.{IsBody}
 use Rattle.ws_record.specs.Grammar.{opcode_byte}
 use Rattle.ws_stream.specs.declared.element.Element.{Element}
 use Rattle.ws_stream.specs.Elements.{element_rules}
@@ -29,11 +29,6 @@ all_bytes = 2 ^ 64 - 1
 -- how many bytes arrive: a number, or `all`
 abbrev pub IsCount : List ℕ → ℕ → Type 0
 IsCount word n = IsNumber word n ⊎ ((word ≡ codes "all") × (n ≡ all_bytes))
-
--- a body of these bytes: they are its spelling
-pub record IsBody {Place U : Type 0} (rules : Rules Place U) (bytes : List ℕ) (body : List U) : Type 0 where
-  pub whole : IsWhole rules body
-  pub spelled : spelling_of rules body ≡ bytes
 
 -- a body in hex
 abbrev pub IsBodyText : List ℕ → List Element → Type 0

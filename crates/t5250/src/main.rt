@@ -30,7 +30,6 @@ mod play_rows;
 mod program;
 mod screen_lines;
 mod script;
-mod script_body;
 mod script_line;
 mod script_move;
 #[cfg(test)]

@@ -1,14 +1,15 @@
 ghost use Rattle.std.specs.Prelude.{◌≡◌, ◌++◌, true, ℕ, codes, IfOk, IfErr, MatchOption};
+ghost use Rattle.ws_record.specs.Body.{IsBody};
+ghost use Rattle.ws_stream.specs.Elements.{element_rules};
 ghost use Rattle.t5250.specs.Script as Spec;
 ghost use Rattle.t5250.specs.ScriptFaults.{IsLineFault, has_no_blank};
 
 use crate::key_name::key_named;
-use crate::script_body::read_body;
 use crate::script_line::LineFault;
 use hex::FromHexError;
 use std::alloc::Global;
 use ws_code::List;
-use ws_record::Opcode;
+use ws_record::{BodyFault, Opcode, read_body};
 use ws_session::Move;
 use ws_stream::{Commands, Element};
 
@@ -80,10 +81,21 @@ fn read_body_text(alloc: Global, hex: &str) -> Result<Vec<Element>, LineFault>
     ensures fault { IfErr result (IsLineFault (Spec.IsBodyText hex.now)) }
 {
     match hex::decode(alloc, hex) {
-        Ok(bytes) => read_body::<Commands>(alloc, bytes.as_slice()),
+        Ok(bytes) => read_elements(alloc, bytes.as_slice()),
         Err(FromHexError::OutOfMemory) => Err(LineFault::Memory),
         Err(_) => Err(LineFault::Bad),
     }
+}
+
+// The elements that the bytes spell.
+fn read_elements(alloc: Global, bytes: &[u8]) -> Result<Vec<Element>, LineFault>
+    ensures ok { IfOk result (λ body. IsBody element_rules bytes.now body.items) }
+    ensures fault { IfErr result (IsLineFault (IsBody element_rules bytes.now)) }
+{
+    read_body::<Commands>(alloc, bytes).map_err(|fault| match fault {
+        BodyFault::Bad => LineFault::Bad,
+        BodyFault::Memory => LineFault::Memory,
+    })
 }
 
 // How many bytes arrive.

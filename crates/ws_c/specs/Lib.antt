@@ -2,7 +2,6 @@ pub mod Owned
 pub mod Calls
 pub mod Decoding
 pub mod Keys
-pub mod Bodies
 pub mod Hosts
 pub mod Sends
 pub mod Answers

@@ -19,8 +19,8 @@ use Rattle.ws_session.specs.declared.send_fault.SendFault.TheVariants.{NoReadToC
 use Rattle.ws_session.specs.declared.send_fault.SendFault.TheVariants.{Screen as RefusedByScreen, TooBig as IsTooBig}
 use Rattle.ws_session.specs.declared.send_fault.SendFault.TheVariants.{Memory as SendMemory}
 use Rattle.ws_c.specs.declared.host.HeldHost.{HeldHost}
-use Rattle.ws_c.specs.declared.host_body.BodyFault.{BodyFault}
-use Rattle.ws_c.specs.declared.host_body.BodyFault.TheVariants.{Bad, Memory as BodyMemory}
+use Rattle.ws_record.specs.declared.body_reader.BodyFault.{BodyFault}
+use Rattle.ws_record.specs.declared.body_reader.BodyFault.TheVariants.{Bad, Memory as BodyMemory}
 use Rattle.ws_c.specs.declared.machine.Machine.{Machine}
 use Rattle.ws_c.specs.declared.machine.Machine.TheVariants.{Host}
 use Rattle.ws_c.specs.declared.status.Status.{Status}
@@ -28,7 +28,7 @@ use Rattle.ws_c.specs.declared.status.Status.TheVariants.{Done, Refused, Failed,
 use Rattle.ws_c.specs.declared.status.Status.TheVariants.{BadArgument, NotReady, ReadOutstanding, NoReadToCancel}
 use Rattle.ws_c.specs.declared.status.Status.TheVariants.{TooBig}
 use Rattle.ws_c.specs.declared.told.Told.{Told}
-use Rattle.ws_c.specs.Bodies.{IsBody, IsBodyFault}
+use Rattle.ws_record.specs.Body.{IsBody, IsBodyFault}
 use Rattle.ws_c.specs.Calls.{OnHeld, holds_front, told_length}
 
 -- the opcode of a byte, other than Cancel Invite, where there is one

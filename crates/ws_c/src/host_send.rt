@@ -5,17 +5,16 @@ ghost use Rattle.ws_record.specs.declared.opcode.Opcode.{Opcode as AnOpcode};
 ghost use Rattle.ws_stream.specs.Elements.{element_rules};
 ghost use Rattle.ws_stream.specs.declared.element.Element.{Element as AnElement};
 ghost use Rattle.ws_session.specs.declared.send_fault.SendFault.{SendFault as AFault};
-ghost use Rattle.ws_c.specs.declared.host_body.BodyFault.{BodyFault as ABodyFault};
+ghost use Rattle.ws_record.specs.declared.body_reader.BodyFault.{BodyFault as ABodyFault};
 ghost use Rattle.ws_c.specs.declared.status.Status.{Status as AStatus};
 ghost use Rattle.ws_c.specs.Calls.{OnHeld, number_of};
 ghost use Rattle.ws_c.specs.Sends.{HostCancelled, HostSent, IsCancel, IsCancelTold, IsFetched, IsOpcodeFrom, IsReadFrom, IsSend, IsSendFaultTold, IsSendFrom, IsSendGiven, IsSentTold, OnHost, host_held};
 
-use crate::host_body::{BodyFault, read_body};
 use crate::station::put_front;
 use crate::{Handle, HeldHost, Machine, Status, Told};
 use std::alloc::Global;
 use ws_code::{ByteList, List};
-use ws_record::Opcode;
+use ws_record::{BodyFault, Opcode, read_body};
 use ws_session::{HostEnd, SendFault};
 use ws_stream::{Commands, Element};
 

@@ -1,3 +1,4 @@
+pub mod Bodies
 pub mod BothWays
 pub mod Decodes
 pub mod Empty

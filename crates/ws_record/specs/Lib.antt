@@ -1,4 +1,5 @@
 pub mod Arrived
+pub mod Body
 pub mod DataStep
 pub mod DecodeFrom
 pub mod Encode

@@ -1,6 +1,7 @@
 //! Records of the 5250 data stream over any body (RFC 1205), and streams of them.
 #![tactic(auto)]
 
+mod body_reader;
 mod decode;
 mod encoder;
 mod item_writer;
@@ -14,6 +15,7 @@ mod record;
 mod record_writer;
 mod unit_reader;
 
+pub use body_reader::{BodyFault, read_body};
 pub use decode::{decode_all, decode_from};
 pub use encoder::{EncodeFault, encode, encode_to};
 pub use laws::{
@@ -32,6 +34,8 @@ pub use ws_code::{
 };
 pub use ws_telnet::{CommandCode, Sub, Telnet, Verb};
 
+#[cfg(test)]
+mod body_tests;
 #[cfg(test)]
 mod encode_tests;
 #[cfg(test)]

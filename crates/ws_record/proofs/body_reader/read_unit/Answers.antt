@@ -1,8 +1,8 @@
 use Rattle.std.proofs.Common.{List, ℕ, subst}
 use Rattle.std.proofs.lemmas.List.{take_all}
 use Rattle.ws_code.specs.Code.{IsUnfinished}
-use Rattle.ws_c.proofs.Bodies.{no_units_of, no_whole}
-use Rattle.ws_c.proofs.host_body.read_unit.Goals as goal
+use Rattle.ws_record.proofs.Bodies.{no_units_of, no_whole}
+use Rattle.ws_record.proofs.body_reader.read_unit.Goals as goal
 
 pub returns-in-Bad-clause-none : goal.returns-in-Bad-clause-none
 returns-in-Bad-clause-none g c =

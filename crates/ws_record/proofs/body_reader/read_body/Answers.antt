@@ -1,8 +1,8 @@
 use Rattle.std.proofs.Common.{◌-◌, length, drop, sym, ◌∙◌, arith, length-drop}
 use Rattle.std.proofs.lemmas.List.{take_all}
-use Rattle.t5250.proofs.CheckLemmas.{none_left}
-use Rattle.t5250.proofs.ScriptBodies.{nothing_yet, no_more, unit_more, ended, not_ended}
-use Rattle.t5250.proofs.script_body.read_body.Goals as goal
+use Rattle.ws_record.proofs.Bodies.{none_left}
+use Rattle.ws_record.proofs.Bodies.{nothing_yet, no_more, unit_more, ended, not_ended}
+use Rattle.ws_record.proofs.body_reader.read_body.Goals as goal
 
 pub loop-rest-init : goal.loop-rest-init
 loop-rest-init g c = nothing_yet g.B.Code.rules c.args.bytes.now _ _ c.first-place.ensures c.new-body.ensures.items
@@ -14,7 +14,7 @@ pub loop-rest-preserved : goal.loop-rest-preserved
 loop-rest-preserved g c =
     let rest = c.loop-rest.rest.now in
     let used = c.in-Some.used in
-    unit_more g.B.Code.rules g.met.B.Code.prefix_free g.met.B.Code.begins c.args.bytes.now rest _ used _ _ _ _ c.in-Some.unit c.loop-rest.invariant c.in-Some.ensures.spelled c.in_ok-add.ensures.ok c.after-place.ensures
+    unit_more g.B.Code.rules g.met.B.Code.prefix_free g.met.B.Code.begins c.args.bytes.now rest _ used _ _ _ _ c.in-Some.unit c.loop-rest.invariant c.in-Some.ensures.spelled (search (c.push.ensures.items, c.if-is_err.ensures.negation)) c.after-place.ensures
     (take_all (length rest - used) (drop used rest) (omega (arith, length-drop used rest)))
 
 pub returns-then-may_end-clause-ok : goal.returns-then-may_end-clause-ok

@@ -1,32 +1,57 @@
+// A record's body by itself, as a test or a caller in another language has it.
 ghost use Rattle.std.specs.Prelude.{◌≡◌, ◌<◌, ◌≤◌, List, length, take, IfOk, IfErr, IfSome, IfNone};
 ghost use Rattle.ws_code.specs.Code.{IsChain, IsSpelled, spelling_of};
-ghost use Rattle.t5250.specs.Script.{IsBody};
-ghost use Rattle.t5250.specs.ScriptFaults.{IsLineFault};
+ghost use Rattle.ws_record.specs.Body.{IsBody, IsBodyFault};
 
-use crate::script_line::{LineFault, add};
 use std::alloc::Global;
+use std::error::Error;
+use std::fmt;
 use ws_code::{Body, Push};
 
-/// The whole list of units whose spelling the bytes are.
-pub fn read_body<B: Body>(alloc: Global, bytes: &[u8]) -> Result<Vec<B::Unit>, LineFault>
+/// Why bytes give no body.
+#[derive(Clone, Copy, Debug, PartialEq, Eq)]
+pub enum BodyFault {
+    /// They spell none.
+    Bad,
+    /// A growth was refused.
+    Memory,
+}
+
+impl fmt::Display for BodyFault {
+    fn fmt<W: fmt::Write>(&self, f: &mut fmt::Formatter<W>) -> fmt::Result {
+        match self {
+            BodyFault::Bad => write!(f, "no body"),
+            BodyFault::Memory => write!(f, "memory"),
+        }
+    }
+}
+
+impl Error for BodyFault {}
+
+/// The units whose spelling the bytes are, and which may be a record's body (SC30-3533).
+///
+/// `Bad` comes where the bytes spell no body, `Memory` only where a growth was refused.
+pub fn read_body<B: Body>(alloc: Global, bytes: &[u8]) -> Result<Vec<B::Unit>, BodyFault>
     ensures ok { IfOk result (λ body. IsBody B.rules bytes.now body.items) }
-    ensures fault { IfErr result (IsLineFault (IsBody B.rules bytes.now)) }
+    ensures fault { IfErr result (IsBodyFault (IsBody B.rules bytes.now)) }
 {
     let mut body = Vec::new(alloc);
     let mut place = B::first();
     let mut rest = bytes;
     while !rest.is_empty() {
         let Some((unit, used)) = read_unit::<B>(place, rest) else {
-            return Err(LineFault::Bad);
+            return Err(BodyFault::Bad);
         };
         place = B::after(&unit);
         rest = &rest[used..];
-        add(&mut body, unit)?;
+        if body.push(unit).is_err() {
+            return Err(BodyFault::Memory);
+        }
     }
     if B::may_end(place) {
         Ok(body)
     } else {
-        Err(LineFault::Bad)
+        Err(BodyFault::Bad)
     }
 }
 

@@ -1,13 +1,19 @@
-use Rattle.std.proofs.Common.{true, false, ◌≡◌, ◌<◌, ◌+◌, ℕ, List, [], ◌∷◌, ◌++◌, length, take, drop, get_or, refl, sym, ap, ◌∙◌, subst, arith, append_assoc}
+use Rattle.std.proofs.Common.{true, false, ◌≡◌, ◌<◌, ◌+◌, ℕ, List, [], ◌∷◌, ◌++◌, length, take, drop, get_or, refl, sym, eqb-true, ap, ◌∙◌, subst, arith, append_assoc}
+use Rattle.std.specs.Prelude.{◌==◌}
 use Rattle.std.proofs.lemmas.Bool.{false≢true}
 use Rattle.std.proofs.lemmas.List.{append-nil, take-append-drop}
 use Rattle.std.proofs.lemmas.Grind.{flat_map-append}
 use Rattle.ws_code.specs.Code.{Rules, Stands, IsChain, IsSpelled, IsPrefix, IsPrefixFree, IsUnfinished, place_after, spelling_of}
 use Rattle.ws_code.proofs.CodeLaws.{Begins, one_cut, one_list, cut_begins, cut_bad, chain_more, place_after_more}
 use Rattle.ws_record.proofs.Decodes.{at_index}
-use Rattle.t5250.specs.Script.{IsBody}
+use Rattle.ws_record.specs.Body.{IsBody}
 
 -- Bodies, unit by unit.
+
+-- a list of no length
+pub none_left : (xs : List ℕ) → (length xs == 0) ≡ true → xs ≡ []
+none_left [] e = refl
+none_left (x ∷ xs) e = (let n : length (x ∷ xs) ≡ 0 = eqb-true (length (x ∷ xs)) 0 e in absurd (omega arith))
 
 -- the units so far are the spelling of what stands before the rest
 pub record SoFar {Place U : Type 0} (rules : Rules Place U) (bytes rest : List ℕ) (place : Place) (units : List U) : Type 0 where

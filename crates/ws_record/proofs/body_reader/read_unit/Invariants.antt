@@ -1,6 +1,6 @@
 use Rattle.std.proofs.Common.{◌≡◌, take}
 use Rattle.ws_code.specs.Code.{IsUnfinished}
-use Rattle.t5250.proofs.script_body.read_unit.Given as goal
+use Rattle.ws_record.proofs.body_reader.read_unit.Given as goal
 
 -- the bytes so far are a proper prefix of a spelling
 abbrev pub invariant-loop-at : goal.invariant-loop-at

@@ -1,9 +1,9 @@
--- Bodies as C gives them: the bytes that spell their elements (SC30-3533, commands and orders)
+-- A body by itself: the bytes that spell its units (SC30-3533, commands and orders), with no record around it.
 
 use Rattle.std.specs.Prelude.{◌≡◌, ℕ, List}
 use Rattle.ws_code.specs.Code.{Rules, IsWhole, spelling_of}
-use Rattle.ws_c.specs.declared.host_body.BodyFault.{BodyFault}
-use Rattle.ws_c.specs.declared.host_body.BodyFault.TheVariants.{Bad, Memory}
+use Rattle.ws_record.specs.declared.body_reader.BodyFault.{BodyFault}
+use Rattle.ws_record.specs.declared.body_reader.BodyFault.TheVariants.{Bad, Memory}
 
 -- a body of these bytes: they are its spelling
 pub record IsBody {Place U : Type 0} (rules : Rules Place U) (bytes : List ℕ) (body : List U) : Type 0 where
