@@ -8,7 +8,7 @@ ghost use Rattle.ws_session.specs.AnswerSpelling.{answer_spelling};
 
 use arrayvec::ArrayVec;
 use ws_keys::Answer;
-use ws_record::Opcode;
+use ws_record::{Opcode, header_bytes};
 
 // A byte, doubled if it is FF (RFC 854).
 fn push_doubled(into: &mut ArrayVec<u8, 5404>, byte: u8)
@@ -31,26 +31,6 @@ fn push_all_doubled(into: &mut ArrayVec<u8, 5404>, bytes: &[u8])
     for byte in bytes {
         push_doubled(into, *byte);
     }
-}
-
-// The ten bytes that a record of this length begins with (RFC 1205, section 3).
-fn header_bytes(length: u16, flags: u16, opcode: Opcode) -> [u8; 10]
-    ensures { result ≡ header length flags opcode }
-{
-    let [length_high, length_low] = length.to_be_bytes();
-    let [flags_high, flags_low] = flags.to_be_bytes();
-    [
-        length_high,
-        length_low,
-        0x12,
-        0xa0,
-        0,
-        0,
-        4,
-        flags_high,
-        flags_low,
-        opcode.byte(),
-    ]
 }
 
 // A record with its IAC EOR.

@@ -27,7 +27,7 @@ pub use opcode::Opcode;
 pub use raw::RawBody;
 pub use receiver::{Fed, Receiver};
 pub use record::{Head, Item, Record};
-pub use record_writer::write_record;
+pub use record_writer::{header_bytes, write_record};
 pub use ws_code::{
     Body, Code, DeviceFailed, Fault, List, Push, ReadSource, Reason, Sink, SliceSource, Source,
     VecSink, WriteSink, write_whole,

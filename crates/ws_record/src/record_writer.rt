@@ -36,7 +36,7 @@ pub fn write_record<S: Sink>(
     write_whole(sink, &[IAC, EOR])
 }
 
-/// The ten bytes that a record of this length begins with.
+/// The ten bytes that a record of this length, from 10 to 65,535, begins with (RFC 1205, section 3).
 pub fn header_bytes(length: u16, flags: u16, opcode: Opcode) -> [u8; 10]
     ensures { result ≡ header length flags opcode }
 {
