@@ -1,8 +1,9 @@
 -- Records (RFC 1205, section 3)
 
-use Rattle.std.specs.Prelude.{◌≡◌, ◌≢◌, ℕ, ◌+◌, ◌/◌, ◌%◌, ◌^◌, ◌<◌, List, [], ◌∷◌, ◌++◌, map, length}
+use Rattle.std.specs.Prelude.{◌≡◌, ◌≢◌, ℕ, ◌+◌, ◌^◌, ◌<◌, List, [], ◌∷◌, ◌++◌, map, length}
 use Rattle.std.specs.List.{flat_map, AllByRecursion}
 use Rattle.ws_code.specs.Code.{Rules, IsWhole, IsCut, spelling_of}
+pub use Rattle.ws_code.specs.TwoBytes.{two_bytes}
 use Rattle.ws_telnet.specs.Token.{token_rules}
 use Rattle.ws_telnet.specs.declared.token.Telnet.{Telnet}
 use Rattle.ws_telnet.specs.declared.token.Token.{Token}
@@ -14,10 +15,6 @@ use Rattle.ws_record.specs.declared.opcode.Opcode.TheVariants.{MessageLightOn, M
 use Rattle.ws_record.specs.declared.record.Record.{Record}
 use Rattle.ws_record.specs.declared.record.Item.{Item}
 use Rattle.ws_record.specs.declared.record.Item.TheVariants.{Record as RecordItem, Telnet as TelnetItem}
-
--- two bytes, the high one first
-abbrev pub two_bytes : ℕ → List ℕ
-two_bytes n = n / 256 ∷ n % 256 ∷ []
 
 abbrev pub opcode_byte : Opcode → ℕ
 opcode_byte NoOperation = 0x00

@@ -1,5 +1,5 @@
 use super::*;
-use crate::tests::{Row, fault_told, item_told};
+use crate::tests::{INVITE, PUT_FF, Wanted, made};
 use std::alloc::{AllocError, Global};
 use std::test::Fail;
 use ws_code::Fault;
@@ -26,118 +26,154 @@ impl Cut {
     }
 }
 
-// A receiver, how many bytes it has taken, and what it gave, as text: each item behind the place of its
-// last byte, and a fault.
+// A receiver, how many bytes it has taken, and what it gave: each item behind the place of its last byte, and a fault.
 #[derive(Drop)]
 struct Listener {
     receiver: Receiver<RawBody>,
     taken: u64,
-    text: String,
+    items: Vec<(u64, Item<u8>)>,
+    fault: Option<Fault>,
 }
 
 impl Listener {
     // Feeds the piece up to its end, at last an empty one: false after a fault.
-    fn hear(&mut self, alloc: Global, piece: &[u8]) -> Result<bool, AllocError> {
+    fn hear(&mut self, piece: &[u8]) -> Result<bool, AllocError> {
         let mut rest = piece;
         for _ in 0..20 {
             match self.receiver.feed(rest) {
                 Ok(Fed { used, item }) => {
                     self.taken = self.taken.saturating_add(used as u64);
                     rest = &rest[used..];
-                    match &item {
-                        Some(item) => {
-                            let place = self.taken.saturating_sub(1);
-                            let told = item_told(alloc, item)?;
-                            let line = format!(in alloc; "{place} {told}")?;
-                            self.text.push_str(line.as_str())?;
-                        }
+                    match item {
+                        Some(item) => self.items.push((self.taken.saturating_sub(1), item))?,
                         None => return Ok(true),
                     }
                 }
                 Err(fault) => {
-                    self.text.push_str(fault_told(alloc, fault)?.as_str())?;
+                    self.fault = Some(fault);
                     return Ok(false);
                 }
             }
         }
         Ok(true)
     }
+
+    // Asks for the end: the number of bytes, or the fault.
+    fn end(&mut self) -> Result<u64, Fault> {
+        if let Some(fault) = self.fault {
+            return Err(fault);
+        }
+        self.receiver.finish()?;
+        Ok(self.taken)
+    }
 }
 
-// What a receiver gives of the bytes, cut so.
-fn heard(alloc: Global, bytes: &[u8], cut: Cut) -> Result<String, AllocError> {
+// What a receiver has heard of the bytes, cut so.
+fn heard(alloc: Global, bytes: &[u8], cut: Cut) -> Result<Listener, AllocError> {
     let mut listener = Listener {
         receiver: Receiver::new(alloc),
         taken: 0,
-        text: String::new(alloc),
+        items: Vec::new(alloc),
+        fault: None,
     };
     let mut piece = Vec::new(alloc);
     for (at, byte) in bytes.iter().enumerate() {
         piece.push(*byte)?;
         if cut.is_behind(at) {
-            if !listener.hear(alloc, piece.as_slice())? {
-                return Ok(listener.text);
+            if !listener.hear(piece.as_slice())? {
+                return Ok(listener);
             }
             piece.clear();
         }
     }
-    if listener.hear(alloc, piece.as_slice())? {
-        let end = match listener.receiver.finish() {
-            Ok(()) => {
-                let taken = listener.taken;
-                format!(in alloc; "{taken} bytes")?
-            }
-            Err(fault) => fault_told(alloc, fault)?,
-        };
-        listener.text.push_str(end.as_str())?;
-    }
-    Ok(listener.text)
+    listener.hear(piece.as_slice())?;
+    Ok(listener)
 }
+
+// Bytes by name, the items that they give with their places, and how many bytes they are or the fault.
+type Row<'a> = (
+    &'a str,
+    &'a [u8],
+    &'a [(u64, Wanted<'a>)],
+    Result<u64, Fault>,
+);
+
+const ONE_FF: &[u8] = b"\x00\x0b\x12\xa0\x00\x00\x04\x00\x00\x03\xff\xff\xff\xef";
 
 const CUT: [Row; 6] = [
     (
         "put-ff-in-pieces",
         b"\x00\x0f\x12\xa0\x00\x00\x04\x00\x00\x03\x04\x11\x00\x08\xff\xff\xff\xef",
-        "17 0000 3 [4, 17, 0, 8, 255];18 bytes",
+        &[(17, PUT_FF)],
+        Ok(18),
     ),
     (
         "ff-in-every-cut",
-        b"\x00\x0b\x12\xa0\x00\x00\x04\x00\x00\x03\xff\xff\xff\xef",
-        "13 0000 3 [255];14 bytes",
+        ONE_FF,
+        &[(13, Wanted::Record(Opcode::PutGet, b"\xff"))],
+        Ok(14),
     ),
     (
         "sub-inside-a-record",
         b"\x00\x0b\x12\xa0\x00\x00\x04\x00\x00\x03\xff\xfa\x18\x01\xff\xf0\x41\xff\xef",
-        "15 Sub(Sub { option: 24, data_: ByteList { bytes: [1] } });18 0000 3 [65];19 bytes",
+        &[
+            (15, Wanted::Sub(0x18, b"\x01")),
+            (18, Wanted::Record(Opcode::PutGet, b"\x41")),
+        ],
+        Ok(19),
     ),
     (
         "one-byte-short",
         b"\x00\x0b\x12\xa0\x00\x00\x04\x00\x00\x03\xff\xef",
-        "refused at 11: 16",
+        &[],
+        Err(Fault::Refused {
+            place: 11,
+            reason: Reason::TooShort,
+        }),
     ),
-    ("header-too-early", b"\x00\x0a\x12", "truncated at 3"),
+    (
+        "header-too-early",
+        b"\x00\x0a\x12",
+        &[],
+        Err(Fault::Truncated { at: 3 }),
+    ),
     (
         "invite before a refusal",
         b"\x00\x0a\x12\xa0\x00\x00\x04\x00\x00\x01\xff\xef\x00\x09",
-        "11 0000 1 [];refused at 13: 10",
+        &[(11, INVITE)],
+        Err(Fault::Refused {
+            place: 13,
+            reason: Reason::LengthBelowHeader,
+        }),
     ),
 ];
+
+fn all_made(alloc: Global, wanted: &[(u64, Wanted)]) -> Result<Vec<(u64, Item<u8>)>, Fail> {
+    let mut items = Vec::new(alloc);
+    for (place, item) in wanted {
+        items.push((*place, made(alloc, *item)?))?;
+    }
+    Ok(items)
+}
 
 // The same items at the same places, and the same end, however the bytes are cut.
 #[test]
 fn every_cut(rt: HostRuntime) -> Result<(), Fail> {
-    for (row, bytes, wanted) in &CUT {
+    for (row, bytes, wanted, end) in &CUT {
+        let wanted = all_made(rt.alloc(), wanted)?;
         for size in 0..20 {
             for cut in [Cut::Pieces(size), Cut::Two(size)] {
-                let found = heard(rt.alloc(), bytes, cut)?;
-                assert_eq!(rt; found.as_str(), *wanted, "{row}, {cut:?}");
+                let mut found = heard(rt.alloc(), bytes, cut)?;
+                assert_eq!(rt; found.items, wanted, "{row}, {cut:?}");
+                assert_eq!(rt; found.end(), *end, "{row}, {cut:?}");
             }
         }
     }
-    let bytes = b"\x00\x0b\x12\xa0\x00\x00\x04\x00\x00\x03\xff\xff\xff\xef";
+    let wanted = all_made(rt.alloc(), &[(13, Wanted::Record(Opcode::PutGet, b"\xff"))])?;
     for bits in 0..0x2000 {
-        let found = heard(rt.alloc(), bytes, Cut::Bits(bits))?;
-        assert_eq!(rt; found.as_str(), "13 0000 3 [255];14 bytes", "{bits:x}");
+        let mut found = heard(rt.alloc(), ONE_FF, Cut::Bits(bits))?;
+        assert_eq!(rt; found.items, wanted, "{bits:x}");
+        assert_eq!(rt; found.end(), Ok(14), "{bits:x}");
     }
     Ok(())
 }

@@ -6,11 +6,11 @@ ghost use Rattle.ws_telnet.specs.Token.{doubled};
 ghost use Rattle.ws_record.specs.Grammar.{record_bytes};
 ghost use Rattle.ws_record.specs.Encode.{CanAllBeEncoded, record_spelling, plain_spelling};
 
-use crate::record_writer::{EOR, IAC, header_bytes, write_doubled};
+use crate::record_writer::{header_bytes, write_doubled};
 use crate::{Item, Record};
 use arrayvec::ArrayVec;
 use ws_code::{Body, Fault, Sink, write_whole};
-use ws_telnet::write_telnet;
+use ws_telnet::{EOR, IAC, write_telnet};
 
 /// Writes the plain spelling of items that can be encoded. `Write` is the only fault.
 pub fn write_items<B: Body, S: Sink>(sink: &mut S, items: &[Item<B::Unit>]) -> Result<(), Fault>

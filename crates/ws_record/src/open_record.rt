@@ -10,7 +10,7 @@ ghost use Rattle.ws_record.specs.DataStep.{IsDataStep, IsWholeRecord};
 use crate::unit_reader::UnitReader;
 use crate::{Head, Opcode};
 use std::marker::Model;
-use ws_code::{Body, Push, Reason, ShortList};
+use ws_code::{Body, Push, Reason, ShortList, word};
 
 /// What an open record makes of a byte.
 #[derive(Debug, Drop)]
@@ -217,11 +217,4 @@ fn head_of(header: &[u8], opcode: Opcode) -> Head
         opcode,
         length: word(header[0], header[1]),
     }
-}
-
-// Two bytes, the high one first.
-fn word(high: u8, low: u8) -> u16
-    ensures { result ≡ high * 256 + low }
-{
-    u16::from(high) * 256 + u16::from(low)
 }

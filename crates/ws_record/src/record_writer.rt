@@ -7,11 +7,7 @@ ghost use Rattle.ws_record.specs.Encode.{record_spelling};
 
 use crate::Opcode;
 use ws_code::{Fault, Sink, write_whole};
-
-// A command among a stream's bytes, and the end of a record (RFC 854; RFC 885).
-pub const IAC: u8 = 0xff;
-
-pub const EOR: u8 = 0xef;
+use ws_telnet::{EOR, IAC};
 
 /// Writes a whole record with its IAC EOR, each FF of it doubled (RFC 1205, section 3).
 ///

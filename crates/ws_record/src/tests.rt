@@ -1,168 +1,184 @@
 use super::*;
 use crate::escaped::Escaped;
 use std::alloc::{AllocError, Global};
+use std::process::Abort;
 use std::test::Fail;
-use ws_code::{Body, Fault, SliceSource};
+use ws_code::{Fault, SliceSource};
 
-pub type Row<'a> = (&'a str, &'a [u8], &'a str);
+// An item that a row asks for.
+#[derive(Clone, Copy, Debug)]
+pub enum Wanted<'a> {
+    // A record whose flags are all 0.
+    Record(Opcode, &'a [u8]),
+    Command(CommandCode),
+    Sub(u8, &'a [u8]),
+}
 
-// What the bytes decode to, as text.
-fn told(alloc: Global, found: Result<Vec<Item<u8>>, Fault>) -> Result<String, AllocError> {
-    match found {
-        Ok(items) => {
-            let mut text = String::new(alloc);
-            for item in &items {
-                text.push_str(item_told(alloc, item)?.as_str())?;
-            }
-            Ok(text)
-        }
-        Err(fault) => fault_told(alloc, fault),
+// Bytes by name, and the items that they give.
+type Accepted<'a> = (&'a str, &'a [u8], &'a [Wanted<'a>]);
+
+// Bytes by name, the place of the one that is refused, and why.
+type Refused<'a> = (&'a str, &'a [u8], u64, Reason);
+
+pub const INVITE: Wanted = Wanted::Record(Opcode::Invite, b"");
+
+pub const PUT_FF: Wanted = Wanted::Record(Opcode::PutGet, b"\x04\x11\x00\x08\xff");
+
+fn sub(option: u8, data: &[u8]) -> Result<Telnet, Fail> {
+    Ok(Telnet::Sub(Sub::new(option, data).ok_or("too much data")?))
+}
+
+pub fn made(alloc: Global, wanted: Wanted) -> Result<Item<u8>, Fail> {
+    match wanted {
+        Wanted::Record(opcode, body) => Ok(Item::Record(Record {
+            flags: 0,
+            opcode,
+            body: List::of(body.to_vec(alloc)?),
+        })),
+        Wanted::Command(code) => Ok(Item::Telnet(Telnet::Command(code))),
+        Wanted::Sub(option, data) => Ok(Item::Telnet(sub(option, data)?)),
     }
 }
 
-pub fn fault_told(alloc: Global, fault: Fault) -> Result<String, AllocError> {
-    match fault {
-        Fault::Refused { place, reason } => {
-            let number = reason.number();
-            format!(in alloc; "refused at {place}: {number}")
-        }
-        Fault::Truncated { at } => format!(in alloc; "truncated at {at}"),
-        other => format!(in alloc; "{other:?}"),
+fn all_made(alloc: Global, wanted: &[Wanted]) -> Result<Vec<Item<u8>>, Fail> {
+    let mut items = Vec::new(alloc);
+    for item in wanted {
+        items.push(made(alloc, *item)?)?;
     }
+    Ok(items)
 }
 
-pub fn item_told(alloc: Global, item: &Item<u8>) -> Result<String, AllocError> {
-    match item {
-        Item::Record(record) => {
-            let flags = record.flags;
-            let opcode = record.opcode.byte();
-            let body = record.body.as_slice();
-            format!(in alloc; "{flags:04x} {opcode} {body:?};")
-        }
-        Item::Telnet(telnet) => format!(in alloc; "{telnet:?};"),
-    }
-}
-
-// The steps that the bytes give one by one, but for those with which nothing is complete.
-fn steps_told<B: Body>(alloc: Global, bytes: &[u8]) -> Result<String, AllocError> {
-    let mut live = Live::<B>::new();
-    let mut text = String::new(alloc);
+// The steps that the bytes give one by one with their places, but for those with which nothing is complete.
+fn steps_of(alloc: Global, bytes: &[u8]) -> Result<Vec<(usize, Step<u8>)>, AllocError> {
+    let mut live = Live::<RawBody>::new();
+    let mut steps = Vec::new(alloc);
     for (at, byte) in bytes.iter().enumerate() {
-        let step = match live.push(*byte) {
-            Step::More => continue,
-            Step::Open(head) => {
-                let Head {
-                    flags,
-                    opcode,
-                    length,
-                } = head;
-                let opcode = opcode.byte();
-                format!(in alloc; "{at} open {flags:04x} {opcode} {length};")?
-            }
-            Step::Unit(_) => format!(in alloc; "{at} unit;")?,
-            Step::Close => format!(in alloc; "{at} close;")?,
-            Step::Telnet(_) => format!(in alloc; "{at} telnet;")?,
-            Step::Refused { place, reason } => {
-                let number = reason.number();
-                format!(in alloc; "{at} refused at {place}: {number};")?
-            }
-            Step::Failed => format!(in alloc; "{at} failed;")?,
-        };
-        text.push_str(step.as_str())?;
+        match live.push(*byte) {
+            Step::More => {}
+            step => steps.push((at, step))?,
+        }
     }
-    Ok(text)
+    Ok(steps)
 }
 
-const WHOLE: [Row; 22] = [
-    ("empty-stream", b"", ""),
-    ("empty-stream, a command", b"\xff\xf1", "Command(Nop);"),
+const ACCEPTED: [Accepted; 7] = [
+    ("empty-stream", b"", &[]),
+    (
+        "empty-stream, a command",
+        b"\xff\xf1",
+        &[Wanted::Command(CommandCode::Nop)],
+    ),
     (
         "invite",
         b"\x00\x0a\x12\xa0\x00\x00\x04\x00\x00\x01\xff\xef",
-        "0000 1 [];",
+        &[INVITE],
     ),
     (
         "put-ff",
         b"\x00\x0f\x12\xa0\x00\x00\x04\x00\x00\x03\x04\x11\x00\x08\xff\xff\xff\xef",
-        "0000 3 [4, 17, 0, 8, 255];",
-    ),
-    ("header-too-early, length", b"\x00\x09", "refused at 1: 10"),
-    ("header-too-early, end", b"\xff\xef", "refused at 1: 16"),
-    (
-        "header-too-early, three bytes",
-        b"\x00\x0a\x12",
-        "truncated at 3",
-    ),
-    ("header-too-early, half a pair", b"\xff", "truncated at 1"),
-    (
-        "one-byte-short",
-        b"\x00\x0b\x12\xa0\x00\x00\x04\x00\x00\x03\xff\xef",
-        "refused at 11: 16",
-    ),
-    (
-        "one-byte-long",
-        b"\x00\x0a\x12\xa0\x00\x00\x04\x00\x00\x00\xff\xff",
-        "refused at 11: 15",
+        &[PUT_FF],
     ),
     (
         "nop-inside-a-header",
         b"\x00\x0a\xff\xf1\x12\xa0\x00\x00\x04\x00\x00\x01\xff\xef",
-        "Command(Nop);0000 1 [];",
-    ),
-    ("bad-tokens, command", b"\xff\x00", "refused at 1: 1"),
-    ("bad-tokens, stray end", b"\xff\xf0", "refused at 1: 2"),
-    (
-        "bad-tokens, subnegotiation",
-        b"\xff\xfa\x18\xff\x01",
-        "refused at 4: 3",
-    ),
-    (
-        "data-past-the-length",
-        b"\x00\x0a\x12\xa0\x00\x00\x04\x00\x00\x00\x41",
-        "refused at 10: 15",
+        &[Wanted::Command(CommandCode::Nop), INVITE],
     ),
     (
         "invite-twice",
         b"\x00\x0a\x12\xa0\x00\x00\x04\x00\x00\x01\xff\xef\x00\x0a\x12\xa0\x00\x00\x04\x00\x00\x01\xff\xef",
-        "0000 1 [];0000 1 [];",
+        &[INVITE, INVITE],
     ),
     (
         "sub-inside-a-record",
         b"\x00\x0b\x12\xa0\x00\x00\x04\x00\x00\x03\xff\xfa\x18\x01\xff\xf0\x41\xff\xef",
-        "Sub(Sub { option: 24, data_: ByteList { bytes: [1] } });0000 3 [65];",
+        &[
+            Wanted::Sub(0x18, b"\x01"),
+            Wanted::Record(Opcode::PutGet, b"\x41"),
+        ],
     ),
-    ("a wrong type", b"\x00\x0a\x13", "refused at 2: 11"),
+];
+
+const REFUSED: [Refused; 13] = [
+    (
+        "header-too-early, length",
+        b"\x00\x09",
+        1,
+        Reason::LengthBelowHeader,
+    ),
+    ("header-too-early, end", b"\xff\xef", 1, Reason::TooShort),
+    (
+        "one-byte-short",
+        b"\x00\x0b\x12\xa0\x00\x00\x04\x00\x00\x03\xff\xef",
+        11,
+        Reason::TooShort,
+    ),
+    (
+        "one-byte-long",
+        b"\x00\x0a\x12\xa0\x00\x00\x04\x00\x00\x00\xff\xff",
+        11,
+        Reason::TooLong,
+    ),
+    ("bad-tokens, command", b"\xff\x00", 1, Reason::BadCommand),
+    ("bad-tokens, stray end", b"\xff\xf0", 1, Reason::StraySe),
+    (
+        "bad-tokens, subnegotiation",
+        b"\xff\xfa\x18\xff\x01",
+        4,
+        Reason::BadSub,
+    ),
+    (
+        "data-past-the-length",
+        b"\x00\x0a\x12\xa0\x00\x00\x04\x00\x00\x00\x41",
+        10,
+        Reason::TooLong,
+    ),
+    ("a wrong type", b"\x00\x0a\x13", 2, Reason::BadType),
     (
         "a wrong type's second byte",
         b"\x00\x0a\x12\xa1",
-        "refused at 3: 11",
+        3,
+        Reason::BadType,
     ),
     (
         "reserved bytes",
         b"\x00\x0a\x12\xa0\x00\x01",
-        "refused at 5: 12",
+        5,
+        Reason::BadReserved,
     ),
     (
         "a variable header",
         b"\x00\x0a\x12\xa0\x00\x00\x05",
-        "refused at 6: 13",
+        6,
+        Reason::BadVariableLength,
     ),
     (
         "no opcode",
         b"\x00\x0a\x12\xa0\x00\x00\x04\x00\x00\x07",
-        "refused at 9: 14",
+        9,
+        Reason::UnknownOpcode,
     ),
 ];
 
+// The bytes give these items or this fault, at once and from a source.
+fn expect_both_ways(
+    rt: &impl Abort,
+    alloc: Global,
+    row: &str,
+    bytes: &[u8],
+    wanted: Result<Vec<Item<u8>>, Fault>,
+) {
+    let found = decode_all::<RawBody>(alloc, bytes);
+    assert_eq!(rt; found, wanted, "{row}");
+    let mut source = SliceSource::new(bytes);
+    let found = decode_from::<RawBody, SliceSource>(alloc, &mut source);
+    assert_eq!(rt; found, wanted, "{row} from a source");
+}
+
 #[test]
 fn whole_lists(rt: HostRuntime) -> Result<(), Fail> {
-    for (row, bytes, wanted) in &WHOLE {
-        let found = told(rt.alloc(), decode_all::<RawBody>(rt.alloc(), bytes))?;
-        assert_eq!(rt; found.as_str(), *wanted, "{row}");
-        let mut source = SliceSource::new(bytes);
-        let found = decode_from::<RawBody, SliceSource>(rt.alloc(), &mut source);
-        let found = told(rt.alloc(), found)?;
-        assert_eq!(rt; found.as_str(), *wanted, "{row} from a source");
+    for (row, bytes, wanted) in &ACCEPTED {
+        let wanted = all_made(rt.alloc(), wanted)?;
+        expect_both_ways(&rt, rt.alloc(), row, bytes, Ok(wanted));
     }
     one_reading::<RawBody>();
     one_fault::<RawBody>();
@@ -172,33 +188,52 @@ fn whole_lists(rt: HostRuntime) -> Result<(), Fail> {
     Ok(())
 }
 
+#[test]
+fn refused_and_truncated_lists(rt: HostRuntime) {
+    for (row, bytes, place, reason) in &REFUSED {
+        let wanted = Fault::Refused {
+            place: *place,
+            reason: *reason,
+        };
+        expect_both_ways(&rt, rt.alloc(), row, bytes, Err(wanted));
+    }
+    for bytes in [b"\x00\x0a\x12".as_slice(), b"\xff"] {
+        let wanted = Fault::Truncated {
+            at: bytes.len() as u64,
+        };
+        expect_both_ways(&rt, rt.alloc(), "header-too-early", bytes, Err(wanted));
+    }
+}
+
 // `bad-tokens`: a subnegotiation with as many bytes as there may be, and with one too many.
 #[test]
 fn bad_tokens(rt: HostRuntime) -> Result<(), Fail> {
-    for (tail, wanted, step) in [
-        (
-            b"\x41".as_slice(),
-            "refused at 67: 4",
-            "67 refused at 67: 4;",
-        ),
-        (b"\xff\xff", "refused at 68: 4", "68 refused at 68: 4;"),
-        (b"\xff\xf0", "accepted", "68 telnet;"),
+    for (tail, refused_at) in [
+        (b"\x41".as_slice(), Some(67)),
+        (b"\xff\xff", Some(68)),
+        (b"\xff\xf0", None),
     ] {
         let mut bytes = vec![in rt.alloc(); 0x41; 67]?;
         bytes[0] = 0xff;
         bytes[1] = 0xfa;
         bytes[2] = 0x18;
         bytes.extend_from_slice(tail)?;
-        let found = match decode_all::<RawBody>(rt.alloc(), bytes.as_slice()) {
-            Ok(items) => {
-                assert_eq!(rt; items.len(), 1);
-                format!(in rt.alloc(); "accepted")?
+        let found = decode_all::<RawBody>(rt.alloc(), bytes.as_slice());
+        let steps = steps_of(rt.alloc(), bytes.as_slice())?;
+        match refused_at {
+            Some(place) => {
+                let reason = Reason::SubTooLong;
+                assert_eq!(rt; found, Err(Fault::Refused { place, reason }));
+                let wanted = [(place as usize, Step::Refused { place, reason })];
+                assert_eq!(rt; steps.as_slice(), wanted.as_slice());
             }
-            Err(fault) => fault_told(rt.alloc(), fault)?,
-        };
-        assert_eq!(rt; found.as_str(), wanted);
-        let steps = steps_told::<RawBody>(rt.alloc(), bytes.as_slice())?;
-        assert_eq!(rt; steps.as_str(), step);
+            None => {
+                let item = Item::Telnet(sub(0x18, &[0x41; 64])?);
+                assert_eq!(rt; found, Ok(vec![in rt.alloc(); item]?));
+                let wanted = [(68, Step::Telnet(sub(0x18, &[0x41; 64])?))];
+                assert_eq!(rt; steps.as_slice(), wanted.as_slice());
+            }
+        }
     }
     Ok(())
 }
@@ -225,88 +260,133 @@ fn length_255(rt: HostRuntime) -> Result<(), Fail> {
 // A body whose first byte must be 04, behind which it may not end.
 #[test]
 fn another_body(rt: HostRuntime) -> Result<(), Fail> {
-    let rows: [Row; 4] = [
+    let accepted: [Accepted; 2] = [
         (
             "no unit",
             b"\x00\x0a\x12\xa0\x00\x00\x04\x00\x00\x01\xff\xef",
-            "0000 1 [];",
+            &[INVITE],
         ),
         (
             "04 first",
             b"\x00\x0c\x12\xa0\x00\x00\x04\x00\x00\x03\x04\xc1\xff\xef",
-            "0000 3 [4, 193];",
+            &[Wanted::Record(Opcode::PutGet, b"\x04\xc1")],
         ),
+    ];
+    for (row, bytes, wanted) in &accepted {
+        let found = decode_all::<Escaped>(rt.alloc(), bytes);
+        assert_eq!(rt; found, Ok(all_made(rt.alloc(), wanted)?), "{row}");
+    }
+    let refused: [Refused; 2] = [
         (
             "another first",
             b"\x00\x0b\x12\xa0\x00\x00\x04\x00\x00\x03\xc1",
-            "refused at 10: 20",
+            10,
+            Reason::NoEscape,
         ),
         (
             "an end behind 04",
             b"\x00\x0b\x12\xa0\x00\x00\x04\x00\x00\x03\x04\xff\xef",
-            "refused at 12: 44",
+            12,
+            Reason::EndedInside,
         ),
     ];
-    for (row, bytes, wanted) in &rows {
-        let found = told(rt.alloc(), decode_all::<Escaped>(rt.alloc(), bytes))?;
-        assert_eq!(rt; found.as_str(), *wanted, "{row}");
+    for (row, bytes, place, reason) in &refused {
+        let wanted = Fault::Refused {
+            place: *place,
+            reason: *reason,
+        };
+        let found = decode_all::<Escaped>(rt.alloc(), bytes);
+        assert_eq!(rt; found, Err(wanted), "{row}");
     }
     Ok(())
 }
 
-const STEPS: [Row; 9] = [
-    (
-        "live-invite",
-        b"\x00\x0a\x12\xa0\x00\x00\x04\x00\x00\x01\xff\xef",
-        "9 open 0000 1 10;11 close;",
-    ),
-    (
-        "live-nop",
-        b"\x00\x0a\xff\xf1\x12\xa0\x00\x00\x04\x00\x00\x01\xff\xef",
-        "3 telnet;11 open 0000 1 10;13 close;",
-    ),
-    (
-        "put-ff",
-        b"\x00\x0f\x12\xa0\x00\x00\x04\x00\x00\x03\x04\x11\x00\x08\xff\xff\xff\xef",
-        "9 open 0000 3 15;10 unit;11 unit;12 unit;13 unit;15 unit;17 close;",
-    ),
-    (
-        "sub-inside-a-record",
-        b"\x00\x0b\x12\xa0\x00\x00\x04\x00\x00\x03\xff\xfa\x18\x01\xff\xf0\x41\xff\xef",
-        "9 open 0000 3 11;15 telnet;16 unit;18 close;",
-    ),
-    (
-        "live-refusals, length",
-        b"\x00\x09\x00",
-        "1 refused at 1: 10;2 failed;",
-    ),
-    (
-        "live-refusals, end",
-        b"\xff\xef\x00",
-        "1 refused at 1: 16;2 failed;",
-    ),
-    (
-        "live-refusals, one-byte-short",
-        b"\x00\x0b\x12\xa0\x00\x00\x04\x00\x00\x03\xff\xef\x00",
-        "9 open 0000 3 11;11 refused at 11: 16;12 failed;",
-    ),
-    (
-        "live-refusals, one-byte-long",
-        b"\x00\x0a\x12\xa0\x00\x00\x04\x00\x00\x00\xff\xff\x00",
-        "9 open 0000 0 10;11 refused at 11: 15;12 failed;",
-    ),
-    (
-        "live-refusals, bad-tokens",
-        b"\xff\x00\x00",
-        "1 refused at 1: 1;2 failed;",
-    ),
-];
+// The bytes give these steps, each at its place.
+fn expect_steps(
+    rt: &impl Abort,
+    alloc: Global,
+    bytes: &[u8],
+    wanted: &[(usize, Step<u8>)],
+) -> Result<(), AllocError> {
+    let found = steps_of(alloc, bytes)?;
+    assert_eq!(rt; found.as_slice(), wanted);
+    Ok(())
+}
+
+fn open(opcode: Opcode, length: u16) -> Step<u8> {
+    Step::Open(Head {
+        flags: 0,
+        opcode,
+        length,
+    })
+}
 
 #[test]
 fn live_steps(rt: HostRuntime) -> Result<(), Fail> {
-    for (row, bytes, wanted) in &STEPS {
-        let found = steps_told::<RawBody>(rt.alloc(), bytes)?;
-        assert_eq!(rt; found.as_str(), *wanted, "{row}");
+    let invite = b"\x00\x0a\x12\xa0\x00\x00\x04\x00\x00\x01\xff\xef";
+    let wanted = [(9, open(Opcode::Invite, 10)), (11, Step::Close)];
+    expect_steps(&rt, rt.alloc(), invite, &wanted)?;
+    let with_nop = b"\x00\x0a\xff\xf1\x12\xa0\x00\x00\x04\x00\x00\x01\xff\xef";
+    let wanted = [
+        (3, Step::Telnet(Telnet::Command(CommandCode::Nop))),
+        (11, open(Opcode::Invite, 10)),
+        (13, Step::Close),
+    ];
+    expect_steps(&rt, rt.alloc(), with_nop, &wanted)?;
+    let put_ff = b"\x00\x0f\x12\xa0\x00\x00\x04\x00\x00\x03\x04\x11\x00\x08\xff\xff\xff\xef";
+    let wanted = [
+        (9, open(Opcode::PutGet, 15)),
+        (10, Step::Unit(0x04)),
+        (11, Step::Unit(0x11)),
+        (12, Step::Unit(0x00)),
+        (13, Step::Unit(0x08)),
+        (15, Step::Unit(0xff)),
+        (17, Step::Close),
+    ];
+    expect_steps(&rt, rt.alloc(), put_ff, &wanted)?;
+    let with_sub = b"\x00\x0b\x12\xa0\x00\x00\x04\x00\x00\x03\xff\xfa\x18\x01\xff\xf0\x41\xff\xef";
+    let wanted = [
+        (9, open(Opcode::PutGet, 11)),
+        (15, Step::Telnet(sub(0x18, b"\x01")?)),
+        (16, Step::Unit(0x41)),
+        (18, Step::Close),
+    ];
+    expect_steps(&rt, rt.alloc(), with_sub, &wanted)?;
+    Ok(())
+}
+
+// `live-refusals`: a byte is refused once, and a further one fails.
+#[test]
+fn live_refusals(rt: HostRuntime) -> Result<(), Fail> {
+    let rows = [
+        (b"\x00\x09\x00".as_slice(), 1u64, Reason::LengthBelowHeader),
+        (b"\xff\xef\x00", 1, Reason::TooShort),
+        (b"\xff\x00\x00", 1, Reason::BadCommand),
+    ];
+    for (bytes, place, reason) in rows {
+        let wanted = [
+            (place as usize, Step::Refused { place, reason }),
+            (2, Step::Failed),
+        ];
+        expect_steps(&rt, rt.alloc(), bytes, &wanted)?;
+    }
+    // One byte less than the header declares, and one more.
+    let rows = [
+        (
+            b"\x00\x0b\x12\xa0\x00\x00\x04\x00\x00\x03\xff\xef\x00",
+            open(Opcode::PutGet, 11),
+            Reason::TooShort,
+        ),
+        (
+            b"\x00\x0a\x12\xa0\x00\x00\x04\x00\x00\x00\xff\xff\x00",
+            open(Opcode::NoOperation, 10),
+            Reason::TooLong,
+        ),
+    ];
+    for (bytes, opened, reason) in rows {
+        let refusal = Step::Refused { place: 11, reason };
+        let wanted = [(9, opened), (11, refusal), (12, Step::Failed)];
+        expect_steps(&rt, rt.alloc(), bytes, &wanted)?;
     }
     Ok(())
 }

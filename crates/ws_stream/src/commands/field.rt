@@ -9,7 +9,7 @@ use super::Commands;
 use super::phase::Phase;
 use crate::order_code::START_OF_FIELD;
 use crate::{Element, FieldStart};
-use ws_code::{Ffw, Push, Reason, ShortList};
+use ws_code::{Ffw, Push, Reason, ShortList, word};
 
 impl Commands {
     #[inline(always)]
@@ -39,8 +39,7 @@ impl Commands {
             self.new.place (unfinished_in self.new.phase self.new.bytes self.new.kinds self.new.controls) result }
         ensures kept { result ≢ Push.More → self.new ≡ self.old }
     {
-        let word = u16::from(high) * 256 + u16::from(byte);
-        match Ffw::new(word) {
+        match Ffw::new(word(high, byte)) {
             Some(format) => {
                 self.controls.clear();
                 self.wait_for(Phase::FieldNext(format))
@@ -82,7 +81,7 @@ impl Commands {
             self.new.place (unfinished_in self.new.phase self.new.bytes self.new.kinds self.new.controls) result }
         ensures kept { result ≢ Push.More → self.new ≡ self.old }
     {
-        self.controls.push(u16::from(high) * 256 + u16::from(byte));
+        self.controls.push(word(high, byte));
         self.wait_for(Phase::FieldNext(format))
     }
 
@@ -125,7 +124,7 @@ impl Commands {
             Some(_) => std::mem::replace(&mut self.controls, ShortList::new()),
             None => ShortList::new(),
         };
-        let length = u16::from(high) * 256 + u16::from(byte);
+        let length = word(high, byte);
         Push::Unit(Element::Sf(FieldStart::of(format, controls, attribute, length)))
     }
 }

@@ -12,7 +12,7 @@ returns g c = λ bytes items so_far l.
     subst (λ (k : Watching g.row.B-Place.Denot). Completes g.B.Code.rules k bytes items so_far k.begun c.args.byte (Data c.args.byte)) c.self.view_is (record {
       count = old.count;
       holds = old.holds;
-      spelled = plain_byte _ c.args.byte (omega arith) c.if-byte-eq255.false fresh;
+      spelled = plain_byte _ c.args.byte (omega arith) c.if-byte-eq-IAC.false fresh;
       reads = old.reads;
       opened = old.opened;
       fresh = fresh;
