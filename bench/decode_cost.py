@@ -8,7 +8,11 @@ names its options. It builds the plain decoder by `rustc -O` into a temporary fo
 - prints for each of four streams, whole and by `--cut 1`, the processor time of both (user and system, the lowest of
   runs taken in turn) and its ratio, and where `valgrind` is installed the instructions per byte of the stream and
   their ratio; the reading of the hex text is part of each, and is also measured by itself,
-- prints what a byte of small records costs from 1 KB to 100 MB, less what a run on the empty stream costs.
+- prints what a byte of small records costs from 1 KB to 100 MB, less what a run on the empty stream costs,
+- with `--keep` prints instead what `decode_all`, which keeps all items to its end, costs on the four streams beside
+  the plain decoder that keeps all of its own. For that it makes a crate of keep_all.rt in a temporary folder, over
+  copies of the four crates that it needs, with the work that checks kept in them (two gigabytes), and builds it by
+  `rt`, which proves first what that work lacks.
 """
 import argparse
 import os
@@ -21,7 +25,8 @@ import sys
 import tempfile
 
 HERE = os.path.dirname(os.path.abspath(__file__))
-PROGRAM = os.path.join(HERE, "..", "crates", "t5250", "out", "t5250")
+CRATES = os.path.join(HERE, "..", "crates")
+PROGRAM = os.path.join(CRATES, "t5250", "out", "t5250")
 CUTS = {"whole": [], "--cut 1": ["--cut", "1"]}
 END_OF_RECORD = b"\xff\xef"
 
@@ -204,23 +209,32 @@ def answer_of(words, text=None):
     return run.stdout, run.returncode
 
 
-def seconds(words):
+def run_on(path, words, **others):
+    """A run, on the file as standard input where one is named."""
+    if path is None:
+        return subprocess.run(words, **others)
+    with open(path) as text:
+        return subprocess.run(words, stdin=text, **others)
+
+
+def seconds(words, path=None):
     """The processor time of one run, user and system."""
     begun = resource.getrusage(resource.RUSAGE_CHILDREN)
-    subprocess.run(words, stdout=subprocess.DEVNULL)
+    run_on(path, words, stdout=subprocess.DEVNULL)
     ended = resource.getrusage(resource.RUSAGE_CHILDREN)
     return ended.ru_utime + ended.ru_stime - begun.ru_utime - begun.ru_stime
 
 
-def lowest_in_turn(programs, words, runs):
+def lowest_in_turn(programs, words, runs, path=None):
     """The lowest time of each program, over runs that are taken in turn."""
-    taken = [[seconds([*program, *words]) for program in programs] for _ in range(runs)]
+    taken = [[seconds([*program, *words], path) for program in programs] for _ in range(runs)]
     return [min(times) for times in zip(*taken)]
 
 
-def instructions(words):
+def instructions(words, path=None):
     """How many instructions a run takes."""
-    run = subprocess.run(
+    run = run_on(
+        path,
         ["valgrind", "--tool=callgrind", "--callgrind-out-file=/dev/null", *words],
         stdout=subprocess.DEVNULL,
         stderr=subprocess.PIPE,
@@ -317,6 +331,46 @@ def cost_by_size(programs, folder, largest, runs, counts):
             print(f"{cut}: {verdict} from 1 MB on; the dearest size costs {spread:.2f} of the cheapest")
 
 
+def build_keeper(folder):
+    """Builds keep_all.rt over the repository's crates: the program."""
+    below = ["ws_code", "ws_telnet", "ws_record", "ws_stream"]
+    crate = os.path.join(folder, "crates", "keep_all")
+    os.makedirs(os.path.join(crate, "src"))
+    shutil.copy(os.path.join(HERE, "keep_all.rt"), os.path.join(crate, "src", "main.rt"))
+    for name in below:
+        shutil.copytree(os.path.join(CRATES, name), os.path.join(folder, "crates", name))
+    with open(os.path.join(CRATES, "..", "crates.txt")) as crates:
+        lines = [line for line in crates if line.split(":")[0] in below]
+    with open(os.path.join(folder, "crates.txt"), "w") as crates:
+        crates.write("".join(lines) + "keep_all: " + " ".join(below) + " hex arrayvec\n")
+    built = subprocess.run(["rt", "run"], cwd=crate, input=b"FFF1", capture_output=True)
+    if built.returncode != 0:
+        raise Fault(f"keep_all.rt isn't built:\n{built.stdout.decode()}{built.stderr.decode()}")
+    return os.path.join(crate, "out", "keep_all")
+
+
+def compare_kept(programs, folder, size, runs, counts):
+    """What `decode_all` costs beside the plain decoder that keeps all items, on whole streams."""
+    print(f"{'all items kept':<16}{'seconds':>9}{'plain':>8}{'ratio':>7}", end="")
+    print(f"{'instructions':>15}{'plain':>8}{'ratio':>7}" if counts else "")
+    path = os.path.join(folder, "stream.hex")
+    small = os.path.join(folder, "small.hex")
+    for name, parts_of in STREAMS.items():
+        if parts_of is hex_text_alone:
+            continue
+        parts = parts_of(random.Random(1205))
+        write_stream(path, parts, size)
+        small_size = write_stream(small, parts, 1_000_000)
+        with open(small, "rb") as text:
+            expect_same(programs, [], text.read())
+        ours, plain = lowest_in_turn(programs, [], runs, path)
+        print(f"{name:<16}{ours:>9.2f}{plain:>8.2f}{ours / plain:>7.2f}", end="", flush=True)
+        if counts:
+            ours, plain = (instructions(program, small) / small_size for program in programs)
+            print(f"{ours:>15.1f}{plain:>8.1f}{ours / plain:>7.2f}", end="")
+        print(flush=True)
+
+
 def main():
     parser = argparse.ArgumentParser(description="What t5250 check costs beside a plain decoder.")
     parser.add_argument("program", nargs="?", default=PROGRAM, help="the program t5250")
@@ -324,16 +378,20 @@ def main():
     parser.add_argument("--largest", type=float, default=100, help="the largest stream of the cost by size, 100")
     parser.add_argument("--runs", type=int, default=5, help="how many runs the lowest time is taken of, 5")
     parser.add_argument("--changed", type=int, default=500, help="how many randomly changed streams, 500")
+    parser.add_argument("--keep", action="store_true", help="measure decode_all, which keeps all items, in its place")
     asked = parser.parse_args()
     with tempfile.TemporaryDirectory() as folder:
         plain = os.path.join(folder, "plain_decoder")
         source = os.path.join(HERE, "plain_decoder.rs")
         subprocess.run(["rustc", "--edition", "2021", "-O", "-C", "debuginfo=0", "-o", plain, source], check=True)
         programs = [[os.path.abspath(asked.program), "check"], [plain]]
+        size = int(asked.megabytes * 1_000_000)
+        counts = shutil.which("valgrind") is not None
         try:
+            if asked.keep:
+                kept = [[build_keeper(folder)], [plain, "--keep"]]
+                return compare_kept(kept, folder, size, asked.runs, counts)
             compare_changed(programs, asked.changed)
-            size = int(asked.megabytes * 1_000_000)
-            counts = shutil.which("valgrind") is not None
             compare_streams(programs, folder, size, asked.runs, counts)
             cost_by_size(programs, folder, int(asked.largest * 1_000_000), asked.runs, counts)
         except (Fault, OSError) as fault:
