@@ -1,6 +1,6 @@
 -- Encoding: the plain spelling of items, and which lists have one that is read back
 
-use Rattle.std.specs.Prelude.{◌≡◌, ℕ, ◌^◌, ◌<◌, ◌≤◌, List, [], ◌∷◌, ◌++◌, length}
+use Rattle.std.specs.Prelude.{◌≡◌, ◌≢◌, ℕ, ◌^◌, ◌<◌, ◌≤◌, List, [], ◌∷◌, ◌++◌, length}
 use Rattle.std.specs.List.{flat_map, AllByRecursion}
 use Rattle.ws_code.specs.Code.{Rules, IsWhole}
 use Rattle.ws_code.specs.Device.{MayTake, FailedWithin}
@@ -59,9 +59,9 @@ module _ {Place U : Type 0} where
   IsListFault rules items (BadSequence index) = IsFirst (IsBadSequence rules) rules items index
   IsListFault rules items fault = ⊥
 
-  -- An encoder into memory has the list's own fault, or, where the list has none, a growth was refused.
+  -- An encoder into memory has the list's own fault, or, where the list has none and isn't empty, a growth was refused.
   abbrev pub IsEncodeFault : Rules Place U → List (Item U) → EncodeFault → Type 0
-  IsEncodeFault rules items Memory = CanAllBeEncoded rules items
+  IsEncodeFault rules items Memory = CanAllBeEncoded rules items × (items ≢ [])
   IsEncodeFault rules items Write = ⊥
   IsEncodeFault rules items fault = IsListFault rules items fault
 
