@@ -21,7 +21,7 @@ fn is_blank(byte: u8) -> bool
     byte <= b' ' && matches!(byte, b' ' | b'\t' | b'\r' | b'\n')
 }
 
-// Whether the text is hex. It goes on behind a wrong byte, since without a way out the loop looks at many bytes at once.
+// Whether the text is hex. It goes on behind a wrong byte, since a loop with no way out looks at many bytes at once.
 fn is_hex(text: &[u8]) -> bool
     ensures yes { result ≡ true → (bytes : List ℕ) × IsHexOf bytes text.now }
     ensures no { result ≡ false → IsErr (decode_of (without_blanks text.now)) }

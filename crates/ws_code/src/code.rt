@@ -76,7 +76,8 @@ pub trait Code: Drop {
     /// Takes a byte. After `Unit` or `Bad` a new machine is started, or this one is started anew.
     fn push(&mut self, byte: u8) -> Push<Self::Unit>
         requires { IsUnfinished rules (place self.old) (unfinished self.old) }
-        ensures { IsStep rules (place self.old) (unfinished self.old) byte (place self.new) (unfinished self.new) result };
+        ensures { IsStep rules (place self.old) (unfinished self.old) byte
+            (place self.new) (unfinished self.new) result };
 
     /// Has no effect, and tells that a unit in hand is in the code's range.
     fn known(unit: &Self::Unit)
