@@ -10,7 +10,7 @@ names its options. It builds the plain decoder by `rustc -O` into a temporary fo
   their ratio; the reading of the hex text is part of each, and is also measured by itself,
 - prints what a byte of small records costs from 1 KB to 100 MB, less what a run on the empty stream costs,
 - with `--keep` prints instead what `decode_all`, which keeps all items to its end, costs on the four streams beside
-  the plain decoder that keeps all of its own. For that it makes a crate of keep_all.rt in a temporary folder, over
+  the plain decoder that keeps all of its own. For that it makes a crate of keep_all.rattle in a temporary folder, over
   copies of the four crates that it needs, with the work that checks kept in them (two gigabytes), and builds it by
   `rt`, which proves first what that work lacks.
 """
@@ -332,11 +332,11 @@ def cost_by_size(programs, folder, largest, runs, counts):
 
 
 def build_keeper(folder):
-    """Builds keep_all.rt over the repository's crates: the program."""
+    """Builds keep_all.rattle over the repository's crates: the program."""
     below = ["ws_code", "ws_telnet", "ws_record", "ws_stream"]
     crate = os.path.join(folder, "crates", "keep_all")
     os.makedirs(os.path.join(crate, "src"))
-    shutil.copy(os.path.join(HERE, "keep_all.rt"), os.path.join(crate, "src", "main.rt"))
+    shutil.copy(os.path.join(HERE, "keep_all.rattle"), os.path.join(crate, "src", "main.rt"))
     for name in below:
         shutil.copytree(os.path.join(CRATES, name), os.path.join(folder, "crates", name))
     with open(os.path.join(CRATES, "..", "crates.txt")) as crates:
@@ -345,7 +345,7 @@ def build_keeper(folder):
         crates.write("".join(lines) + "keep_all: " + " ".join(below) + " hex arrayvec\n")
     built = subprocess.run(["rt", "run"], cwd=crate, input=b"FFF1", capture_output=True)
     if built.returncode != 0:
-        raise Fault(f"keep_all.rt isn't built:\n{built.stdout.decode()}{built.stderr.decode()}")
+        raise Fault(f"keep_all.rattle isn't built:\n{built.stdout.decode()}{built.stderr.decode()}")
     return os.path.join(crate, "out", "keep_all")
 
 
