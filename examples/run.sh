@@ -3,8 +3,8 @@
 # `rt run` in crates/t5250 leaves in its out folder. A test of that crate has the same examples as text; this looks
 # whether they are the same.
 set -u
+program=$(realpath "${1:-$(dirname "$0")/../crates/t5250/out/t5250}") || exit 2
 cd "$(dirname "$0")" || exit 2
-program=${1:-../crates/t5250/out/t5250}
 failed=0
 
 compare() {
