@@ -273,9 +273,13 @@ def compare_changed(programs, count):
     print(f"{verdicts.get('accepted', 0)} accepted, {verdicts.get('truncated', 0)} truncated, {reasons} reasons met")
 
 
-def compare_streams(programs, folder, size, runs, counts):
-    print(f"\n{'':<16}{'':<9}{'seconds':>9}{'plain':>8}{'ratio':>7}", end="")
+def print_columns(title, counts):
+    print(f"{title}{'seconds':>9}{'plain':>8}{'ratio':>7}", end="")
     print(f"{'instructions':>15}{'plain':>8}{'ratio':>7}" if counts else "")
+
+
+def compare_streams(programs, folder, size, runs, counts):
+    print_columns(f"\n{'':<25}", counts)
     path = os.path.join(folder, "stream.hex")
     small = os.path.join(folder, "small.hex")
     for name, parts_of in STREAMS.items():
@@ -351,8 +355,7 @@ def build_keeper(folder):
 
 def compare_kept(programs, folder, size, runs, counts):
     """What `decode_all` costs beside the plain decoder that keeps all items, on whole streams."""
-    print(f"{'all items kept':<16}{'seconds':>9}{'plain':>8}{'ratio':>7}", end="")
-    print(f"{'instructions':>15}{'plain':>8}{'ratio':>7}" if counts else "")
+    print_columns(f"{'all items kept':<16}", counts)
     path = os.path.join(folder, "stream.hex")
     small = os.path.join(folder, "small.hex")
     for name, parts_of in STREAMS.items():

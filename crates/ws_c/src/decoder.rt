@@ -214,7 +214,8 @@ pub extern "C" fn ws_c_decoder_push(
 ) -> u32
     ensures room { length buffer.old < 133 → (result ≡ number_of Status.NoRoom)
         × (handle.new ≡ handle.old) × (buffer.new ≡ buffer.old) × (told.new ≡ told.old) }
-    ensures pushed { 133 ≤ length buffer.old → (status : AStatus) × (result ≡ number_of status)
+    ensures pushed { 133 ≤ length buffer.old → (status : AStatus)
+        × (result ≡ number_of status)
         × OnHeld handle.old.owned.value handle.new.owned.value status
         (IsDecode byte buffer.old buffer.new status told.new) }
 {

@@ -146,7 +146,8 @@ fn tell_step(
     answer: &mut Option<HostAnswer>,
 ) -> Status
     requires { 17 ≤ length buffer.old }
-    ensures { IsHostStepTold pushed result told.new event.new buffer.old buffer.new answer.old answer.new }
+    ensures { IsHostStepTold pushed result told.new event.new
+        buffer.old buffer.new answer.old answer.new }
 {
     match pushed {
         Ok(step) => {
@@ -170,7 +171,8 @@ fn push_host(
     event: &mut EventTold,
 ) -> Status
     requires { 17 ≤ length buffer.old }
-    ensures pushed { (pushed : Result AStep ARefusal) × HostPushed host.old.end host.new.end byte pushed
+    ensures pushed { (pushed : Result AStep ARefusal)
+        × HostPushed host.old.end host.new.end byte pushed
         × IsHostStepTold pushed result told.new event.new buffer.old buffer.new host.old.answer host.new.answer }
     ensures sent { host.new.sent ≡ host.old.sent }
 {
@@ -236,7 +238,8 @@ pub extern "C" fn ws_c_host_push(
     ensures room { length buffer.old < 17 → (result ≡ number_of Status.NoRoom)
         × (handle.new ≡ handle.old) × (buffer.new ≡ buffer.old) × (told.new ≡ told.old)
         × (event.new ≡ event.old) }
-    ensures pushed { 17 ≤ length buffer.old → (status : AStatus) × (result ≡ number_of status)
+    ensures pushed { 17 ≤ length buffer.old → (status : AStatus)
+        × (result ≡ number_of status)
         × OnHeld handle.old.owned.value handle.new.owned.value status
         (IsHostPush byte buffer.old buffer.new status told.new event.new) }
 {

@@ -76,7 +76,8 @@ fn tell_sent(sent: Result<List<u8>, SendFault>, kept: &mut List<u8>, told: &mut 
 // Sends a record of a host's end.
 fn send_host(host: &mut HeldHost, opcode: Opcode, body: &[Element], told: &mut Told) -> Status
     requires other { opcode ≢ Opcode.CancelInvite }
-    ensures sent { (sent : Result (Seq ℕ) AFault) × HostSent host.old.end host.new.end opcode body.now sent
+    ensures sent { (sent : Result (Seq ℕ) AFault)
+        × HostSent host.old.end host.new.end opcode body.now sent
         × IsSentTold sent result told.new host.old.sent host.new.sent }
     ensures answer { host.new.answer ≡ host.old.answer }
 {

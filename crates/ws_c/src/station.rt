@@ -103,7 +103,8 @@ fn tell_push(pushed: Result<Reply, Refusal>, buffer: &mut [u8], told: &mut Told)
 // Pushes a byte into a station.
 fn push_station(station: &mut Station, byte: u8, buffer: &mut [u8], told: &mut Told) -> Status
     requires { 17 ≤ length buffer.old }
-    ensures { (pushed : Result (List ℕ) ARefusal) × StationPushed station.old station.new byte pushed
+    ensures { (pushed : Result (List ℕ) ARefusal)
+        × StationPushed station.old station.new byte pushed
         × IsPushTold pushed result told.new buffer.old buffer.new }
 {
     let pushed = station.push(byte);
@@ -152,7 +153,8 @@ pub extern "C" fn ws_c_station_push(
 ) -> u32
     ensures room { length buffer.old < 17 → (result ≡ number_of Status.NoRoom)
         × (handle.new ≡ handle.old) × (buffer.new ≡ buffer.old) × (told.new ≡ told.old) }
-    ensures pushed { 17 ≤ length buffer.old → (status : AStatus) × (result ≡ number_of status)
+    ensures pushed { 17 ≤ length buffer.old → (status : AStatus)
+        × (result ≡ number_of status)
         × OnHeld handle.old.owned.value handle.new.owned.value status
         (IsPush byte buffer.old buffer.new status told.new) }
 {

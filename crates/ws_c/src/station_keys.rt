@@ -52,7 +52,8 @@ fn tell_key(keyed: Result<Option<Answer>, KeyFault>, buffer: &mut [u8], told: &m
 // Presses a key of a station.
 fn press_station(station: &mut Station, key: Key, buffer: &mut [u8], told: &mut Told) -> Status
     requires { 5404 ≤ length buffer.old }
-    ensures { (keyed : Result (Option AnAnswer) AFault) × StationKeyed station.old station.new key keyed
+    ensures { (keyed : Result (Option AnAnswer) AFault)
+        × StationKeyed station.old station.new key keyed
         × IsKeyTold keyed result told.new buffer.old buffer.new }
 {
     let keyed = station.key(key);
