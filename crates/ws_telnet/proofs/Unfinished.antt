@@ -5,8 +5,9 @@ use Rattle.std.proofs.lemmas.List.{append-nil}
 use Rattle.std.proofs.lemmas.Grind.{flat_map-append}
 use Rattle.ws_code.specs.Code.{IsSpelled, IsPrefix, IsUnfinished, AreBytes}
 use Rattle.ws_code.proofs.CodeLaws.{AreBytes-append, AreBytes-front}
+use Rattle.ws_telnet.specs.Machine.{sub_begun}
 use Rattle.ws_telnet.specs.Token.{token_rules, doubled, verb_byte, ends_in_iac}
-use Rattle.ws_telnet.specs.TokenLaws.{iac_or_not, doubled_plain, content_front, content_left, content_left_pair, content_end, in_sub}
+use Rattle.ws_telnet.specs.TokenLaws.{iac_or_not, doubled_plain, content_front, content_left, content_end, in_sub}
 use Rattle.ws_telnet.specs.declared.token.Verb.{Verb}
 use Rattle.ws_telnet.specs.declared.token.Token.TheVariants.{Eor, Telnet as TelnetToken}
 use Rattle.ws_telnet.specs.declared.token.Telnet.TheVariants.{Option as Negotiate, Sub as Subnegotiate}
@@ -65,17 +66,13 @@ pub bytes_more : (xs : List ℕ) (b : ℕ) → AreBytes xs → b < 256 → AreBy
 bytes_more xs b h k = AreBytes-append xs (b ∷ []) h (k, tt)
 
 -- with 64 bytes, no further one
-pub sub_full : (option : ℕ) (xs : List ℕ) (b : ℕ) → length xs ≡ 64 → b ≢ 0xff → IsPrefix token_rules tt (0xff ∷ 0xfa ∷ option ∷ flat_map doubled xs ++ b ∷ []) → ⊥
-sub_full option xs b full ne p =
-    let found : (ys : List ℕ) × (option < 256) × (length ys ≤ 64) × AreBytes ys × (flat_map doubled ys ++ 0xff ∷ 0xf0 ∷ [] ≡ flat_map doubled xs ++ b ∷ [] ++ p.rest) = in_sub p.unit option _ p.stands.is_unit p.spelled in
-    let front : (zs : List ℕ) × (found.0 ≡ xs ++ zs) × (flat_map doubled zs ++ 0xff ∷ 0xf0 ∷ [] ≡ b ∷ p.rest) = content_front found.0 xs (b ∷ p.rest) (found.4 ∙ append_assoc (flat_map doubled xs) (b ∷ []) p.rest) in
-    omega (arith, content_left front.0 p.rest b ne front.2, found.2, ap length front.1, length-append xs front.0)
-
-pub sub_full_pair : (option : ℕ) (xs : List ℕ) → length xs ≡ 64 → IsPrefix token_rules tt (0xff ∷ 0xfa ∷ option ∷ flat_map doubled xs ++ 0xff ∷ [] ++ 0xff ∷ []) → ⊥
-sub_full_pair option xs full p =
-    let found : (ys : List ℕ) × (option < 256) × (length ys ≤ 64) × AreBytes ys × (flat_map doubled ys ++ 0xff ∷ 0xf0 ∷ [] ≡ flat_map doubled xs ++ 0xff ∷ [] ++ 0xff ∷ [] ++ p.rest) = in_sub p.unit option _ p.stands.is_unit p.spelled in
-    let front : (zs : List ℕ) × (found.0 ≡ xs ++ zs) × (flat_map doubled zs ++ 0xff ∷ 0xf0 ∷ [] ≡ 0xff ∷ 0xff ∷ p.rest) = content_front found.0 xs (0xff ∷ 0xff ∷ p.rest) (found.4 ∙ simp append_assoc) in
-    omega (arith, content_left_pair front.0 p.rest front.2, found.2, ap length front.1, length-append xs front.0)
+pub sub_full : (option : ℕ) (xs : List ℕ) (b : ℕ) → length xs ≡ 64
+    → IsPrefix token_rules tt (sub_begun option xs ++ doubled b) → ⊥
+sub_full option xs b full p =
+    let found = in_sub p.unit option _ p.stands.is_unit p.spelled in
+    let rest = found.4 ∙ append_assoc (flat_map doubled xs) (doubled b) p.rest in
+    let front = content_front found.0 xs (doubled b ++ p.rest) rest in
+    omega (arith, content_left front.0 p.rest b front.2, found.2, ap length front.1, length-append xs front.0)
 
 -- FF and another byte than FF and F0
 pub sub_bad : (option : ℕ) (xs : List ℕ) (b : ℕ) → b ≢ 0xff → b ≢ 0xf0 → IsPrefix token_rules tt (0xff ∷ 0xfa ∷ option ∷ flat_map doubled xs ++ 0xff ∷ [] ++ b ∷ []) → ⊥

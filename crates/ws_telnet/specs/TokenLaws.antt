@@ -147,16 +147,11 @@ content_front (x ∷ xs) (y ∷ ys) tail e =
     × (flat_map doubled zs ++ 0xff ∷ 0xf0 ∷ [] ≡ tail) = content_front xs ys tail both.1 in
     (found.0, (let p = both.0 in let q = found.1 in cc), found.2)
 
--- what stands before a byte that is no FF, or a pair of FF, isn't the end of it
-pub content_left : (zs rest : List ℕ) (b : ℕ) → b ≢ 0xff → flat_map doubled zs ++ 0xff ∷ 0xf0 ∷ [] ≡ b ∷ rest
+-- what stands before a whole data byte isn't the end of it
+pub content_left : (zs rest : List ℕ) (b : ℕ) → flat_map doubled zs ++ 0xff ∷ 0xf0 ∷ [] ≡ doubled b ++ rest
     → 0 < length zs
-content_left [] rest b ne e = absurd (ne (sym (let f : 0xff ≡ b = cc in f)))
-content_left (z ∷ zs) rest b ne e = omega arith
-
-pub content_left_pair : (zs rest : List ℕ) → flat_map doubled zs ++ 0xff ∷ 0xf0 ∷ [] ≡ 0xff ∷ 0xff ∷ rest
-    → 0 < length zs
-content_left_pair [] rest e = let f : ◌≡◌ {A = ℕ} 0xf0 0xff = cc in absurd (omega arith)
-content_left_pair (z ∷ zs) rest e = omega arith
+content_left [] rest b e = absurd (not_data b 0xf0 rest [] (omega arith) (sym e))
+content_left (z ∷ zs) rest b e = omega arith
 
 -- an FF before another byte than FF is the end
 pub content_end : (zs rest : List ℕ) (c : ℕ) → c ≢ 0xff → flat_map doubled zs ++ 0xff ∷ 0xf0 ∷ [] ≡ 0xff ∷ c ∷ rest

@@ -101,6 +101,26 @@ fn bad_tokens(rt: HostRuntime) -> Result<(), Fail> {
 }
 
 #[test]
+fn the_byte_behind_an_ff_is_a_word(rt: HostRuntime) {
+    let rows = [
+        (0xff, Word::Data),
+        (0xef, Word::Eor),
+        (0xf1, Word::Command(CommandCode::Nop)),
+        (0xf9, Word::Command(CommandCode::GoAhead)),
+        (0xfa, Word::More),
+        (0xfb, Word::More),
+        (0xfe, Word::More),
+        (0xf0, Word::Bad(Reason::StraySe)),
+        (0xee, Word::Bad(Reason::BadCommand)),
+    ];
+    for (byte, word) in rows {
+        let mut tokens = Tokens::start(());
+        assert_eq!(rt; tokens.after_iac(byte), word);
+        assert_eq!(rt; tokens.is_inside(), word == Word::More);
+    }
+}
+
+#[test]
 fn spell_ff(rt: HostRuntime) {
     let mut spelling = ArrayVec::new();
     spell(&Token::Data(0xff), &mut spelling);

@@ -1,5 +1,5 @@
 ghost use Rattle.std.specs.Prelude.{◌≡◌, ◌≢◌, ◌++◌, ◌∷◌, ◌<◌, ◌≤◌, [], List, ℕ, true, false, length, ◌⊎◌, IfSome, IfNone};
-ghost use Rattle.ws_telnet.specs.Token.{token_rules, token_reason, IsToken, command_byte, verb_byte};
+ghost use Rattle.ws_telnet.specs.Token.{token_rules, token_reason, IsToken, command_byte, verb_byte, doubled};
 ghost use Rattle.ws_code.specs.Code.{IsSpelled, IsPrefix, IsUnfinished};
 ghost use Rattle.ws_code.specs.Step.{IsStep};
 ghost use Rattle.ws_telnet.specs.Machine.{unfinished_of, sub_begun, sub_of};
@@ -259,11 +259,7 @@ impl Tokens {
             self.phase = Phase::ContentIac;
             return Word::More;
         }
-        if self.add(byte) {
-            Word::More
-        } else {
-            Word::Bad(Reason::SubTooLong)
-        }
+        self.take_content(byte)
     }
 
     // What follows an FF in a subnegotiation: a second one, or the end.
@@ -273,35 +269,31 @@ impl Tokens {
         requires begun { IsUnfinished token_rules tt (unfinished_of self.old) }
         ensures { IsWord (unfinished_of self.old) byte self.new result }
     {
-        if byte == SE {
-            self.phase = Phase::Begin;
-            return Word::Sub;
+        if byte == IAC {
+            return self.take_content(byte);
         }
-        if byte != IAC {
+        if byte != SE {
             return Word::Bad(Reason::BadSub);
         }
-        if self.add(byte) {
-            Word::More
-        } else {
-            Word::Bad(Reason::SubTooLong)
-        }
+        self.phase = Phase::Begin;
+        Word::Sub
     }
 
-    // A byte more of a subnegotiation's data. False where there is no room for it.
+    // Takes the byte that completes one of a subnegotiation's data: another than FF, or the second FF of a pair.
     #[inline(always)]
-    fn add(&mut self, byte: u8) -> bool
-        requires { IsUnfinished token_rules tt (sub_begun self.old.option self.old.content.items) }
-        ensures added { result ≡ true
-            → (unfinished_of self.new ≡ sub_begun self.old.option (self.old.content.items ++ byte ∷ []))
-            × IsUnfinished token_rules tt (unfinished_of self.new) }
-        ensures full { result ≡ false → length self.old.content.items ≡ 64 }
+    fn take_content(&mut self, byte: u8) -> Word
+        requires begun { IsUnfinished token_rules tt (sub_begun self.old.option self.old.content.items) }
+        requires completes { unfinished_of self.old ++ byte ∷ []
+            ≡ sub_begun self.old.option self.old.content.items ++ doubled byte }
+        requires reason { token_reason (unfinished_of self.old) byte ≡ Reason.SubTooLong }
+        ensures { IsWord (unfinished_of self.old) byte self.new result }
     {
         if self.content.is_full() {
-            return false;
+            return Word::Bad(Reason::SubTooLong);
         }
         self.content.push(byte);
         self.phase = Phase::Content;
-        true
+        Word::More
     }
 }
 

@@ -1,9 +1,8 @@
-use Rattle.std.proofs.Common.{◌∷◌, ℕ, List, refl, ap, ◌∙◌}
-use Rattle.ws_telnet.proofs.Unfinished.{sub_so_far_content, sub_ends, sub_full, content_even, content_more_plain}
+use Rattle.std.proofs.Common.{◌++◌, ◌∷◌, [], ℕ, List, refl, sym, ap, ne_eqb}
+use Rattle.ws_telnet.specs.Machine.{sub_begun}
+use Rattle.ws_telnet.specs.TokenLaws.{doubled_plain}
+use Rattle.ws_telnet.proofs.Unfinished.{sub_so_far_content, sub_ends, content_even}
 use Rattle.ws_telnet.proofs.tokens.Tokens.after_content.Goals as goal
-
-pub add-requires : goal.add-requires
-add-requires c = rw c.requires.phase at c.requires.begun
 
 pub returns-then-byte-eq-IAC : goal.returns-then-byte-eq-IAC
 returns-then-byte-eq-IAC c =
@@ -13,17 +12,11 @@ returns-then-byte-eq-IAC c =
     rw (c.requires.phase, c.if-byte-eq-IAC.true)
     (refl, sub_ends option content known.option_fits known.length_fits known.bytes)
 
-pub returns-then-add : goal.returns-then-add
-returns-then-add c =
-    let option = c.args.self.now.option in
-    let added = c.add.ensures.added c.if-add.true in
-    let spelled = content_more_plain c.args.self.now.content.items c.args.byte c.if-byte-eq-IAC.false in
-    rw c.requires.phase (added.0 ∙ ap (λ (l : List ℕ). let m : List ℕ = 0xff ∷ 0xfa ∷ option ∷ l in m) spelled, added.1)
+pub take_content-requires-clause-completes : goal.take_content-requires-clause-completes
+take_content-requires-clause-completes c =
+    let content = sub_begun c.args.self.now.option c.args.self.now.content.items in
+    let plain = doubled_plain c.args.byte (ne_eqb c.args.byte 255 c.if-byte-eq-IAC.false) in
+    rw c.requires.phase (ap (λ (l : List ℕ). content ++ l) (sym plain))
 
-pub returns-else-add : goal.returns-else-add
-returns-else-add c =
-    let option = c.args.self.now.option in
-    let content = c.args.self.now.content.items in
-    let full = c.add.ensures.full c.if-add.false in
-    rw c.requires.phase
-    (sub_full option content c.args.byte full c.if-byte-eq-IAC.false, rw (content_even content) refl)
+pub take_content-requires-clause-reason : goal.take_content-requires-clause-reason
+take_content-requires-clause-reason c = rw (c.requires.phase, content_even c.args.self.now.content.items) refl
