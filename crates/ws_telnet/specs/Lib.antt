@@ -1,3 +1,4 @@
 pub mod Machine
 pub mod Token
 pub mod TokenLaws
+pub mod Words

@@ -2,10 +2,11 @@ ghost use Rattle.std.specs.Prelude.{◌≡◌, ◌≢◌, ◌++◌, ◌∷◌, �
 ghost use Rattle.ws_telnet.specs.Token.{token_rules, token_reason, IsToken, command_byte, verb_byte};
 ghost use Rattle.ws_code.specs.Code.{IsSpelled, IsPrefix, IsUnfinished};
 ghost use Rattle.ws_code.specs.Step.{IsStep};
-ghost use Rattle.ws_telnet.specs.Machine.{unfinished_of};
+ghost use Rattle.ws_telnet.specs.Machine.{unfinished_of, sub_begun, sub_of};
+ghost use Rattle.ws_telnet.specs.Words.{IsWord};
 ghost use Rattle.ws_telnet.specs.TokenLaws.{token_nonempty, token_bytes_are, token_prefix_free, token_begins};
 
-use crate::{CommandCode, EOR, IAC, SB, SE, Sub, Telnet, Token, Verb};
+use crate::{CommandCode, EOR, IAC, SB, SE, Sub, Telnet, Token, Verb, Word};
 use arrayvec::ArrayVec;
 use ws_code::{ByteList, Code, Push, Reason};
 
@@ -153,65 +154,154 @@ impl Tokens {
         true
     }
 
-    // What follows an FF outside a subnegotiation.
+    /// Whether a token has begun and isn't whole.
     #[inline(always)]
-    fn after_iac(&mut self, byte: u8) -> Push<Token>
-        ensures { IsStep token_rules tt (IAC ∷ []) byte tt (unfinished_of self.new) result }
+    pub fn is_inside(&self) -> bool
+        ensures yes { result ≡ true → unfinished_of self.now ≢ [] }
+        ensures no { result ≡ false → unfinished_of self.now ≡ [] }
     {
-        if byte == IAC {
-            return Push::Unit(Token::Data(byte));
+        !matches!(self.phase, Phase::Begin)
+    }
+
+    /// Takes an FF between tokens, which begins one (RFC 854, "TELNET COMMAND STRUCTURE").
+    #[inline(always)]
+    pub fn begin(&mut self)
+        requires { unfinished_of self.old ≡ [] }
+        ensures begun { unfinished_of self.new ≡ IAC ∷ [] }
+        ensures more { IsUnfinished token_rules tt (unfinished_of self.new) }
+    {
+        self.phase = Phase::Iac;
+    }
+
+    /// Takes the byte behind an FF outside a subnegotiation (RFC 854, "TELNET COMMAND STRUCTURE"). Whoever has both
+    /// bytes needs no `begin`.
+    #[inline(always)]
+    pub fn after_iac(&mut self, byte: u8) -> Word
+        ensures { IsWord (IAC ∷ []) byte self.new result }
+    {
+        self.phase = Phase::Begin;
+        match byte {
+            IAC => Word::Data,
+            EOR => Word::Eor,
+            SB => {
+                self.phase = Phase::SubOption;
+                Word::More
+            }
+            SE => Word::Bad(Reason::StraySe),
+            _ => self.command(byte),
         }
-        if byte == EOR {
-            return Push::Unit(Token::Eor);
+    }
+
+    /// Takes a byte of a token that has begun (RFC 854, "TELNET COMMAND STRUCTURE"; subnegotiations: RFC 855).
+    #[inline(always)]
+    pub fn go_on(&mut self, byte: u8) -> Word
+        requires inside { unfinished_of self.old ≢ [] }
+        requires begun { IsUnfinished token_rules tt (unfinished_of self.old) }
+        ensures { IsWord (unfinished_of self.old) byte self.new result }
+    {
+        match self.phase {
+            Phase::Begin | Phase::Iac => self.after_iac(byte),
+            Phase::Negotiation(verb) => {
+                self.phase = Phase::Begin;
+                Word::Option(verb, byte)
+            }
+            Phase::SubOption => {
+                self.take_option(byte);
+                Word::More
+            }
+            Phase::Content => self.after_content(byte),
+            Phase::ContentIac => self.after_content_iac(byte),
         }
+    }
+
+    /// Takes the subnegotiation that has just ended out of the machine.
+    pub fn sub(&mut self) -> Sub
+        requires { unfinished_of self.old ≡ [] }
+        ensures sub { result ≡ sub_of self.old }
+        ensures between { unfinished_of self.new ≡ [] }
+    {
+        Sub {
+            option: self.option,
+            data_: ByteList::of(self.content.take()),
+        }
+    }
+
+    // A verb, or a command that stands alone.
+    #[inline(always)]
+    fn command(&mut self, byte: u8) -> Word
+        requires between { unfinished_of self.old ≡ [] }
+        requires no_data { byte ≢ IAC }
+        requires no_eor { byte ≢ EOR }
+        requires no_sb { byte ≢ SB }
+        requires no_se { byte ≢ SE }
+        ensures { IsWord (IAC ∷ []) byte self.new result }
+    {
         if let Some(code) = command_of(byte) {
-            return Push::Unit(Token::Telnet(Telnet::Command(code)));
+            return Word::Command(code);
         }
-        if self.command_goes_on(byte) {
-            return Push::More;
-        }
-        if byte == SE {
-            Push::Bad(Reason::StraySe)
-        } else {
-            Push::Bad(Reason::BadCommand)
+        match verb_of(byte) {
+            Some(verb) => {
+                self.phase = Phase::Negotiation(verb);
+                Word::More
+            }
+            None => Word::Bad(Reason::BadCommand),
         }
     }
 
     // What follows the option or the data of a subnegotiation.
     #[inline(always)]
-    fn after_content(&mut self, byte: u8) -> Push<Token>
+    fn after_content(&mut self, byte: u8) -> Word
         requires phase { self.old.phase ≡ Phase.Content }
         requires begun { IsUnfinished token_rules tt (unfinished_of self.old) }
-        ensures { IsStep token_rules tt (unfinished_of self.old) byte tt (unfinished_of self.new) result }
+        ensures { IsWord (unfinished_of self.old) byte self.new result }
     {
-        if self.content_goes_on(byte) {
-            Push::More
+        if byte == IAC {
+            self.phase = Phase::ContentIac;
+            return Word::More;
+        }
+        if self.add(byte) {
+            Word::More
         } else {
-            Push::Bad(Reason::SubTooLong)
+            Word::Bad(Reason::SubTooLong)
         }
     }
 
-    // What follows an FF in a subnegotiation.
+    // What follows an FF in a subnegotiation: a second one, or the end.
     #[inline(always)]
-    fn after_content_iac(&mut self, byte: u8) -> Push<Token>
+    fn after_content_iac(&mut self, byte: u8) -> Word
         requires phase { self.old.phase ≡ Phase.ContentIac }
         requires begun { IsUnfinished token_rules tt (unfinished_of self.old) }
-        ensures { IsStep token_rules tt (unfinished_of self.old) byte tt (unfinished_of self.new) result }
+        ensures { IsWord (unfinished_of self.old) byte self.new result }
     {
-        if self.pair_goes_on(byte) {
-            return Push::More;
-        }
         if byte == SE {
-            let content = std::mem::replace(&mut self.content, ArrayVec::new());
-            return Push::Unit(Token::Telnet(Telnet::Sub(Sub {
-                option: self.option,
-                data_: ByteList::of(content),
-            })));
+            self.phase = Phase::Begin;
+            return Word::Sub;
         }
         if byte != IAC {
-            return Push::Bad(Reason::BadSub);
+            return Word::Bad(Reason::BadSub);
         }
-        Push::Bad(Reason::SubTooLong)
+        if self.add(byte) {
+            Word::More
+        } else {
+            Word::Bad(Reason::SubTooLong)
+        }
+    }
+
+    // A byte more of a subnegotiation's data. False where there is no room for it.
+    #[inline(always)]
+    fn add(&mut self, byte: u8) -> bool
+        requires { IsUnfinished token_rules tt (sub_begun self.old.option self.old.content.items) }
+        ensures added { result ≡ true
+            → (unfinished_of self.new ≡ sub_begun self.old.option (self.old.content.items ++ byte ∷ []))
+            × IsUnfinished token_rules tt (unfinished_of self.new) }
+        ensures full { result ≡ false → length self.old.content.items ≡ 64 }
+    {
+        if self.content.is_full() {
+            return false;
+        }
+        self.content.push(byte);
+        self.phase = Phase::Content;
+        true
     }
 }
 
@@ -287,23 +377,21 @@ impl Code for Tokens {
 
     #[inline(always)]
     fn push(&mut self, byte: u8) -> Push<Token> {
-        match self.phase {
-            Phase::Begin => {
-                if byte == IAC {
-                    self.phase = Phase::Iac;
-                    Push::More
-                } else {
-                    Push::Unit(Token::Data(byte))
-                }
+        if !self.is_inside() {
+            if byte != IAC {
+                return Push::Unit(Token::Data(byte));
             }
-            Phase::Iac => self.after_iac(byte),
-            Phase::Negotiation(verb) => Push::Unit(Token::Telnet(Telnet::Option(verb, byte))),
-            Phase::SubOption => {
-                self.take_option(byte);
-                Push::More
-            }
-            Phase::Content => self.after_content(byte),
-            Phase::ContentIac => self.after_content_iac(byte),
+            self.begin();
+            return Push::More;
+        }
+        match self.go_on(byte) {
+            Word::More => Push::More,
+            Word::Data => Push::Unit(Token::Data(IAC)),
+            Word::Eor => Push::Unit(Token::Eor),
+            Word::Command(code) => Push::Unit(Token::Telnet(Telnet::Command(code))),
+            Word::Option(verb, option) => Push::Unit(Token::Telnet(Telnet::Option(verb, option))),
+            Word::Sub => Push::Unit(Token::Telnet(Telnet::Sub(self.sub()))),
+            Word::Bad(reason) => Push::Bad(reason),
         }
     }
 
