@@ -1,8 +1,10 @@
-ghost use Rattle.std.specs.Prelude.{◌≡◌, ◌≢◌, ◌++◌, ◌∷◌, ◌<◌, [], List, ℕ, true, false, IfSome};
+ghost use Rattle.std.specs.Prelude.{◌≡◌, ◌≢◌, ◌++◌, ◌∷◌, ◌<◌, ◌≤◌, [], List, ℕ, true, false, IfSome, length, take};
 ghost use Rattle.ws_code.specs.Code.{Rules, Stands, IsSpelled, IsPrefix, IsUnfinished, IsPrefixFree, AreBytes};
+ghost use Rattle.ws_code.specs.Run.{IsAt, IsRun};
 ghost use Rattle.ws_code.specs.Step.{IsStep};
+ghost use Rattle.ws_code.specs.declared.run.End.{End as AnEnd};
 
-use crate::Reason;
+use crate::{End, Keep, Kept, Reason, Run, Standing};
 
 /// What a machine answers to a byte.
 #[derive(Debug, Drop)]
@@ -78,6 +80,62 @@ pub trait Code: Drop {
         requires { IsUnfinished rules (place self.old) (unfinished self.old) }
         ensures { IsStep rules (place self.old) (unfinished self.old) byte
             (place self.new) (unfinished self.new) result };
+
+    /// Takes values up to one that is refused, or with which the keep has enough or wants memory. It hands each unit
+    /// that is complete to the keep, and begins anew behind it.
+    fn run<K: Keep<Self::Unit>>(
+        &mut self,
+        at: &mut Standing<Self::Place>,
+        values: &[u8],
+        keep: &mut K,
+    ) -> Run
+        requires { IsAt rules (record { place = place self.old; begun = unfinished self.old }) at.old }
+        ensures used { result.used ≤ length values.now }
+        ensures whole { result.end ≡ AnEnd.More → result.used ≡ length values.now }
+        ensures run { IsRun rules K.holds K.may_answer
+            (record { place = place self.old; begun = unfinished self.old }) keep.old
+            (take result.used values.now)
+            (record { place = place self.new; begun = unfinished self.new }) at.new keep.new result.end }
+    {
+        for (index, value) in values.iter().enumerate() {
+            match self.push(*value) {
+                Push::More => at.is_inside = true,
+                Push::Unit(unit) => {
+                    let place = Self::after(&unit);
+                    *at = Standing {
+                        place,
+                        is_inside: false,
+                    };
+                    self.restart(place);
+                    match keep.keep(unit) {
+                        Kept::GoOn => {}
+                        Kept::Enough => {
+                            return Run {
+                                used: index + 1,
+                                end: End::Enough,
+                            };
+                        }
+                        Kept::NoMemory => {
+                            return Run {
+                                used: index + 1,
+                                end: End::NoMemory,
+                            };
+                        }
+                    }
+                }
+                Push::Bad(reason) => {
+                    return Run {
+                        used: index + 1,
+                        end: End::Bad(reason),
+                    };
+                }
+            }
+        }
+        Run {
+            used: values.len(),
+            end: End::More,
+        }
+    }
 
     /// Has no effect, and tells that a unit in hand is in the code's range.
     fn known(unit: &Self::Unit)

@@ -1,0 +1,80 @@
+ghost use Rattle.std.specs.Prelude.{◌≡◌, ◌++◌, ◌∷◌, [], List, ℕ};
+ghost use Rattle.ws_code.specs.declared.keep.Kept.{Kept};
+ghost use Rattle.ws_code.specs.Keep.{KeepsOne, holds_last};
+
+/// What became of a unit.
+#[derive(Clone, Copy, Debug, PartialEq, Eq)]
+pub enum Kept {
+    /// It is kept, and so will the next one be.
+    GoOn,
+    /// It is kept, and is to be fetched before the next one comes.
+    Enough,
+    /// It isn't kept: a growth was refused.
+    NoMemory,
+}
+
+/// Where the units go that a machine reads, and the values that they were read from.
+pub trait Keep<U>: Drop {
+    // It holds these units, and was told of these values.
+    ghost holds: { Self → List U → List ℕ → Type 0 };
+
+    // It may answer so.
+    ghost may_answer: { Kept → Type 0 };
+
+    /// Takes a unit. With `NoMemory` it holds what it held.
+    fn keep(&mut self, unit: U) -> Kept
+        ensures kept { KeepsOne holds self.old self.new unit result }
+        ensures answer { may_answer result };
+
+    /// Is told of the values that a body has taken, behind the units that are complete with them. A keep of units alone
+    /// has no use for them.
+    fn took(&mut self, values: &[u8])
+        ensures { (units : List U) (told : List ℕ) → holds self.old units told
+            → holds self.new units (told ++ values.now) };
+}
+
+/// A list keeps all units.
+impl<U: Drop> Keep<U> for Vec<U> {
+    ghost holds = { λ vec units told. vec.items ≡ units };
+
+    ghost may_answer = { λ kept. kept ≡ Kept.Enough → ⊥ };
+
+    fn keep(&mut self, unit: U) -> Kept {
+        if self.push(unit).is_err() {
+            return Kept::NoMemory;
+        }
+        Kept::GoOn
+    }
+
+    fn took(&mut self, _values: &[u8]) {}
+}
+
+/// A slot keeps the last unit, and has enough with each.
+impl<U: Drop> Keep<U> for Option<U> {
+    ghost holds = { λ slot units told. holds_last slot units };
+
+    ghost may_answer = { λ kept. kept ≡ Kept.Enough };
+
+    fn keep(&mut self, unit: U) -> Kept {
+        *self = Some(unit);
+        Kept::Enough
+    }
+
+    fn took(&mut self, _values: &[u8]) {}
+}
+
+/// Keeps nothing, and so takes no memory.
+#[derive(Clone, Copy, Debug, PartialEq, Eq)]
+pub struct Nothing;
+
+impl<U: Drop> Keep<U> for Nothing {
+    ghost holds = { λ nothing units told. Unit {0} };
+
+    ghost may_answer = { λ kept. kept ≡ Kept.GoOn };
+
+    fn keep(&mut self, _unit: U) -> Kept {
+        Kept::GoOn
+    }
+
+    fn took(&mut self, _values: &[u8]) {}
+}

@@ -1,0 +1,28 @@
+use crate::Reason;
+
+/// How a run of values ended.
+#[derive(Clone, Copy, Debug, PartialEq, Eq)]
+pub enum End {
+    /// All were taken, and more may come.
+    More,
+    /// The last one taken completes a unit, with which the keep has enough.
+    Enough,
+    /// The last one taken completes a unit, for which a growth was refused.
+    NoMemory,
+    /// The last one taken is refused.
+    Bad(Reason),
+}
+
+/// How many values were taken, and how the run ended.
+#[derive(Clone, Copy, Debug, PartialEq, Eq)]
+pub struct Run {
+    pub used: usize,
+    pub end: End,
+}
+
+/// Where the unit stands that is read, and whether it is unfinished.
+#[derive(Clone, Copy, Debug)]
+pub struct Standing<P> {
+    pub place: P,
+    pub is_inside: bool,
+}
