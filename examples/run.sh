@@ -1,19 +1,28 @@
 #!/usr/bin/env bash
 # Runs every example with the program, and compares what it prints. The program is the first argument, or what
 # `rt run` in crates/t5250 leaves in its out folder. A test of that crate has the same examples as text; this looks
-# whether they are the same.
+# whether they are the same. The last line counts what was compared.
 set -u
 program=$(realpath "${1:-$(dirname "$0")/../crates/t5250/out/t5250}") || exit 2
 cd "$(dirname "$0")" || exit 2
+passed=0
 failed=0
+
+# count STATUS TEXT: counts what has passed, and tells what hasn't.
+count() {
+    if [ "$1" -eq 0 ]; then
+        passed=$((passed + 1))
+    else
+        echo "$2"
+        failed=$((failed + 1))
+    fi
+}
 
 compare() {
     local wanted=$1
     shift
-    if ! "$program" "$@" | cmp -s - "$wanted"; then
-        echo "differs: $*"
-        failed=1
-    fi
+    "$program" "$@" | cmp -s - "$wanted"
+    count $? "differs: $*"
 }
 
 tested=$(<../crates/t5250/src/example_rows.rt)
@@ -21,10 +30,8 @@ tested=$(<../crates/t5250/src/example_rows.rt)
 same_as_tested() {
     local text
     text=$(cat "$1" && echo .)
-    if [[ $tested != *"\"${text%.}\""* ]]; then
-        echo "not as the test has it: $1"
-        failed=1
-    fi
+    [[ $tested == *"\"${text%.}\""* ]]
+    count $? "not as the test has it: $1"
 }
 
 for example in *.script *.out *.hex *.check *.show; do
@@ -39,4 +46,5 @@ for script in *.script; do
     compare "$name.check" check --cut 1 "$name.hex"
     compare "$name.show" show "$name.hex"
 done
-exit $failed
+echo "$passed passed, $failed failed"
+[ $failed -eq 0 ]

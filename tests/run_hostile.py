@@ -3,7 +3,7 @@
 
 Build the program first (`cd crates/t5250 && rt run -- check < stdin`), then call this script from anywhere:
 `python3 tests/run_hostile.py [SEED [STREAMS]]`. The streams of a seed are always the same. It tells of each stream of
-which something else holds, and its own status is 1 then.
+which something else holds. Its last line counts the streams, and its own status is 1 where there is such a one.
 
 `check` prints one line and ends with its status, however the stream is cut. `show` ends with that line, unless a
 screen refuses a record before (a reason from 50 to 55), and with the cursor's line where the stream is accepted.
@@ -116,13 +116,15 @@ def main():
         sys.exit(f"there is no {PROGRAM}: build it first")
     seed = int(sys.argv[1]) if len(sys.argv) > 1 else 5250
     count = int(sys.argv[2]) if len(sys.argv) > 2 else 250
-    wrong = 0
+    failed = 0
     for stream in streams(seed, count):
-        for fault in faults(stream):
-            wrong += 1
+        found = list(faults(stream))
+        for fault in found:
             print(f"{stream.hex()}: {fault}")
-    print(f"{count} streams of seed {seed}, {wrong} wrong answers")
-    sys.exit(1 if wrong else 0)
+        failed += bool(found)
+    print(f"{count} streams of seed {seed}, each whole and in pieces")
+    print(f"{count - failed} passed, {failed} failed")
+    sys.exit(1 if failed else 0)
 
 
 main()

@@ -2,13 +2,15 @@
 """Runs the built program, and looks at what it writes and at its exit status.
 
 Build the program first (`cd crates/t5250 && rt run -- check < stdin`), then call this script from anywhere:
-`python3 tests/run_program.py`. It tells of each run that went otherwise, and its own status is 1 then.
+`python3 tests/run_program.py`. It tells of each run that went otherwise. Its last line counts the runs, and its own
+status is 1 where one went otherwise.
 """
 import os
 import resource
 import subprocess
 import sys
 import tempfile
+import time
 
 PROGRAM = os.path.abspath(os.path.join(os.path.dirname(__file__), "..", "crates", "t5250", "out", "t5250"))
 
@@ -110,15 +112,30 @@ RUNS = [
     (["play", "a", "b"], BOB, 2, "", None),
 ]
 
-EXAMPLES = os.path.abspath(os.path.join(os.path.dirname(__file__), "..", "examples"))
+
+class Runs:
+    """Counts runs of the program, and tells of each that went otherwise than wanted."""
+
+    def __init__(self):
+        self.passed = self.failed = 0
+
+    def expect(self, name, done, status, out, err):
+        """Holds a run to a status and two texts. None stands for any text of some length."""
+        if (done.returncode, is_as(done.stdout, out), is_as(done.stderr, err)) == (status, True, True):
+            self.passed += 1
+        else:
+            self.failed += 1
+            print(f"{name} gave {done.returncode}, {done.stdout!r:.200}, {done.stderr!r:.200}")
 
 
-def as_wanted(found, wanted):
-    return found != "" if wanted is None else found == wanted
+def is_as(found, wanted):
+    return found not in ("", None) if wanted is None else (found or "") == wanted
 
 
-def run(words, text, **more):
-    return subprocess.run([PROGRAM, *words], input=text, stderr=subprocess.PIPE, text=True, timeout=60, **more)
+def run(words, text="", **more):
+    pipes = {} if "stdin" in more else {"input": text}
+    more = {"stdout": subprocess.PIPE, "stderr": subprocess.PIPE, "text": True, "timeout": 60, **pipes, **more}
+    return subprocess.run([PROGRAM, *words], **more)
 
 
 def files(words, folder):
@@ -132,45 +149,65 @@ def files(words, folder):
             yield word
 
 
-def plain_runs(folder):
+def plain_runs(runs, folder):
     for words, text, status, out, err in RUNS:
-        done = run(list(files(words, folder)), text, stdout=subprocess.PIPE)
-        if done.returncode != status or not as_wanted(done.stdout, out) or not as_wanted(done.stderr, err):
-            yield f"{[word[:20] for word in words]} gave {done.returncode}, {done.stdout!r:.200}, {done.stderr!r}"
+        done = run(list(files(words, folder)), text)
+        runs.expect([word[:20] for word in words], done, status, out, err)
 
 
-# Standard output takes nothing.
-def full_runs():
+def full_runs(runs):
+    """Standard output takes nothing."""
     for words in ["check"], ["show"], ["play"], ["play", "--tcp"], ["--help"]:
         with open("/dev/full", "w") as full:
             done = run(words, BOB if words[0] == "play" else INVITE, stdout=full)
-        if done.returncode != 2 or done.stderr != "cannot write\n":
-            yield f"{words} into a full device gave {done.returncode}, {done.stderr!r}"
+        runs.expect(f"{words} into a full device", done, 2, "", "cannot write\n")
 
 
-# Standard input can't be read: it is a folder.
-def closed_runs(folder):
+def folder_runs(runs, folder):
+    """Standard input can't be read: it is a folder."""
     for words in ["check"], ["show"], ["play"]:
         descriptor = os.open(folder, os.O_RDONLY)
-        done = subprocess.run([PROGRAM, *words], stdin=descriptor, capture_output=True, text=True, timeout=60)
+        done = run(words, stdin=descriptor)
         os.close(descriptor)
-        if done.returncode != 2 or done.stdout != "" or done.stderr != "cannot read\n":
-            yield f"{words} from a folder gave {done.returncode}, {done.stdout!r}, {done.stderr!r}"
+        runs.expect(f"{words} from a folder", done, 2, "", "cannot read\n")
 
 
-# Over a connection each example prints what it prints without.
-def example_runs():
-    for name in sorted(os.listdir(EXAMPLES)):
-        if name.endswith(".script"):
-            path = os.path.join(EXAMPLES, name)
-            plain = run(["play", "--screen", path], "", stdout=subprocess.PIPE)
-            carried = run(["play", "--tcp", "--screen", path], "", stdout=subprocess.PIPE)
-            if carried.returncode != 0 or carried.stdout != plain.stdout or carried.stderr != "":
-                yield f"{name} over a connection gave {carried.returncode}, {carried.stdout!r:.200}, {carried.stderr!r}"
+def named_runs(runs, folder):
+    """A file's name that isn't UTF-8 is a wrong word, also where there is such a file."""
+    path = os.path.join(os.fsencode(folder), b"\xff.hex")
+    with open(path, "w") as file:
+        file.write(INVITE)
+    for words in [b"check", path], [b"show", path], [b"play", path], [b"check", b"--cut", b"\xff"], [b"\xff"]:
+        runs.expect(words, run(words, INVITE), 2, "", None)
 
 
-# There is too little memory for the input.
-def small_runs(folder):
+def is_reading(process):
+    """Whether a program has been loaded, and sleeps."""
+    with open(f"/proc/{process.pid}/stat") as file:
+        state = file.read().rpartition(")")[2].split()[0]
+    with open(f"/proc/{process.pid}/maps") as file:
+        loaded = file.read()
+    return state == "S" and PROGRAM in loaded and "libc" in loaded
+
+
+def unconnected_runs(runs):
+    """There is no descriptor left for listening, for connecting, or for what is accepted."""
+    for descriptors in 3, 4, 5:
+        pipes = {"stdin": subprocess.PIPE, "stdout": subprocess.PIPE, "stderr": subprocess.PIPE}
+        process = subprocess.Popen([PROGRAM, "play", "--tcp"], text=True, **pipes)
+        # While it waits for its script: before that, it needs a descriptor to load the C library.
+        for _ in range(1000):
+            if is_reading(process):
+                break
+            time.sleep(0.01)
+        resource.prlimit(process.pid, resource.RLIMIT_NOFILE, (descriptors, descriptors))
+        out, err = process.communicate(BOB, timeout=60)
+        done = subprocess.CompletedProcess([], process.returncode, out, err)
+        runs.expect(f"--tcp with {descriptors} descriptors", done, 2, "", "no connection\n")
+
+
+def small_runs(runs, folder):
+    """There is too little memory for the input."""
     path = os.path.join(folder, "large.hex")
     with open(path, "w") as file:
         file.write(INVITE * 1_000_000)
@@ -179,26 +216,22 @@ def small_runs(folder):
         resource.setrlimit(resource.RLIMIT_AS, (24 << 20, 24 << 20))
 
     for words in ["check"], ["show"]:
-        done = subprocess.run([PROGRAM, *words, path], capture_output=True, text=True, timeout=60, preexec_fn=limit)
-        if done.returncode != 2 or done.stdout != "" or done.stderr != "memory\n":
-            yield f"{words} without memory gave {done.returncode}, {done.stdout!r:.200}, {done.stderr!r}"
+        runs.expect(f"{words} without memory", run([*words, path], preexec_fn=limit), 2, "", "memory\n")
 
 
 def main():
     if not os.path.exists(PROGRAM):
         sys.exit(f"there is no {PROGRAM}: build it first")
+    runs = Runs()
     with tempfile.TemporaryDirectory() as folder:
-        wrong = [
-            *plain_runs(folder),
-            *full_runs(),
-            *closed_runs(folder),
-            *example_runs(),
-            *small_runs(folder),
-        ]
-    for line in wrong:
-        print(line)
-    print(f"{len(RUNS) + 14 - len(wrong)} runs as wanted, {len(wrong)} not")
-    sys.exit(1 if wrong else 0)
+        plain_runs(runs, folder)
+        full_runs(runs)
+        folder_runs(runs, folder)
+        named_runs(runs, folder)
+        unconnected_runs(runs)
+        small_runs(runs, folder)
+    print(f"{runs.passed} passed, {runs.failed} failed")
+    sys.exit(1 if runs.failed else 0)
 
 
 main()

@@ -3,12 +3,13 @@
 
 Build both first (`cd crates/t5250 && rt test && rt run -- check < stdin`), then call this script from anywhere:
 `python3 tests/run_without_memory.py`. It needs a C compiler (`cc`, or what CC names). It tells of each run that went
-otherwise, and its own status is 1 then.
+otherwise. Its last line counts the runs, and its own status is 1 where one went otherwise.
 
 A test or the program is run with its first allocation refused, then with its second, and so on, until a run ends in
 which none was. `rt try --test --fail-alloc N` refuses the same ones, but builds anew for each N.
 """
 import os
+import shutil
 import subprocess
 import sys
 import tempfile
@@ -39,16 +40,30 @@ ANSWER = "00 13 12 A0 00 00 04 00 00 03 06 38 F1 11 06 35 C2 D6 C2 FF EF\n"
 QUERY = "00 11 12 A0 00 00 04 00 00 03 04 F3 00 05 D9 70 00 FF EF\n"
 PLAY = "settle\nsend 3 0440041100081106341D400020000A04520000\nsettle\ntype BOB\nkey Enter\nsettle\n"
 
-# The words and the standard input of runs of the program.
+# The words and the standard input of runs of the program. A word that begins with `@` stands for the file of that text.
 RUNS = [
     (["check"], BOB),
+    (["check", "@" + BOB], ""),
     (["check", "--cut", "1"], QUERY),
     (["check", "--answers"], ANSWER),
+    (["check", "no such file"], ""),
     (["show"], BOB),
+    (["show", "@" + BOB], ""),
     (["show"], QUERY),
     (["play"], PLAY),
+    (["play", "@" + PLAY], ""),
     (["play", "--screen"], PLAY),
     (["play", "--tcp"], PLAY),
+    (["play"], "settl\n"),
+    (["--help"], ""),
+    (["check", "--help"], ""),
+    (["help", "play"], ""),
+    (["--version"], ""),
+    ([], ""),
+    (["other"], ""),
+    (["check", "--cut", "0"], ""),
+    (["show", "--other"], ""),
+    (["play", "a", "b"], ""),
 ]
 
 MOST = 20_000
@@ -85,42 +100,55 @@ def test_runs(refusing, name, behind):
         yield number, done.returncode == 0, done
 
 
-# The program ends as it does with memory, or tells of its want after a part of its text.
 def program_runs(refusing, words, text):
+    """The program ends as it does with memory, or tells of its want after a part of its text."""
     plain = refusing.run([PROGRAM, *words], text, "0")
-    if plain.returncode == 2:
-        yield 0, False, plain
     for number, done in refusing.each([PROGRAM, *words], text, ""):
         same = (done.returncode, done.stdout, done.stderr) == (plain.returncode, plain.stdout, plain.stderr)
         wanting = (done.returncode, done.stderr) == (2, "memory\n") and plain.stdout.startswith(done.stdout)
         yield number, same or wanting, done
 
 
-def all_runs(refusing):
+def files(words, folder):
+    for number, word in enumerate(words):
+        if word.startswith("@"):
+            path = os.path.join(folder, f"text{number}")
+            with open(path, "w") as file:
+                file.write(word[1:])
+            yield path
+        else:
+            yield word
+
+
+def all_runs(refusing, folder):
     for name in WITHIN_MEMORY:
         yield name, test_runs(refusing, name, "")
     for name in WITHOUT_MEMORY:
         yield name, test_runs(refusing, name, "..")
     for words, text in RUNS:
-        yield " ".join(words), program_runs(refusing, words, text)
+        name = " ".join("FILE" if word.startswith("@") else word for word in ["t5250", *words])
+        yield name, program_runs(refusing, list(files(words, folder)), text)
 
 
 def main():
+    if shutil.which(os.environ.get("CC", "cc")) is None:
+        print("left out: runs without memory, since there is no C compiler\n0 passed, 0 failed")
+        return
     for program in PROGRAM, TEST_PROGRAM:
         if not os.path.exists(program):
             sys.exit(f"there is no {program}: build it first")
-    wrong = 0
+    passed = failed = 0
     with tempfile.TemporaryDirectory() as folder:
-        refusing = Refusing(folder)
-        for name, runs in all_runs(refusing):
+        for name, runs in all_runs(Refusing(folder), folder):
             count = 0
             for number, right, done in runs:
                 count += 1
+                passed, failed = passed + right, failed + (not right)
                 if not right:
-                    wrong += 1
                     print(f"{name}: with {number} refused {done.returncode}, {done.stdout!r:.200}, {done.stderr!r:.300}")
             print(f"{name}: {count} allocations refused")
-    sys.exit(1 if wrong else 0)
+    print(f"{passed} passed, {failed} failed")
+    sys.exit(1 if failed else 0)
 
 
 main()

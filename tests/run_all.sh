@@ -1,0 +1,60 @@
+#!/usr/bin/env bash
+# Runs all that is looked at beside the proofs, on the programs in the crates' out/ folders: the examples, each
+# tests/run_*.py, the documents, and the C interface. `rt ci` leaves these programs, and so do `rt run` and `rt test` in
+# crates/t5250; with --prove `rt ci` is the first part.
+#
+# A part ends with a line `N passed, N failed`; one without counts as one, by its status. What a part leaves out for want
+# of a tool, it tells on a line that begins with `left out: `; these come again at the end. The last line is the sum, and
+# the status is 1 where something failed.
+set -uo pipefail
+cd "$(dirname "$0")/.." || exit 2
+folder=$(mktemp -d) || exit 2
+trap 'rm -rf "$folder"' EXIT
+passed=0
+failed=0
+
+# part NAME MINUTES COMMAND..
+part() {
+    local name=$1 minutes=$2 status begun=$SECONDS
+    shift 2
+    echo "== $name"
+    timeout "${minutes}m" "$@" </dev/null 2>&1 | tee "$folder/text"
+    status=$?
+    grep '^left out: ' "$folder/text" >>"$folder/left_out"
+    if [[ $(tail -n 1 "$folder/text") =~ ^([0-9]+)\ passed,\ ([0-9]+)\ failed$ ]]; then
+        passed=$((passed + BASH_REMATCH[1]))
+        failed=$((failed + BASH_REMATCH[2]))
+        if [ $status -ne 0 ] && [ "${BASH_REMATCH[2]}" -eq 0 ]; then
+            echo "$name ended with status $status"
+            failed=$((failed + 1))
+        fi
+    elif [ $status -eq 0 ]; then
+        passed=$((passed + 1))
+    else
+        echo "$name ended with status $status"
+        failed=$((failed + 1))
+    fi
+    echo "== $name took $((SECONDS - begun)) seconds"
+}
+
+[ "${1:-}" != --prove ] || part "rt ci" 160 rt ci
+part examples 10 examples/run.sh
+for script in tests/run_*.py; do
+    part "${script##*/}" 20 python3 "$script"
+done
+for script in docs/*.py; do
+    part "$script" 5 python3 "$script"
+done
+if command -v cc >/dev/null; then
+    part "C library" 60 tests/build_c_library.sh
+    [ ! -e c/Makefile ] || part "C interface" 30 make -C c check
+    [ ! -e examples/c/run.sh ] || part "C examples" 30 examples/c/run.sh crates/ws_c/out/libws_c.a \
+        crates/t5250/out/t5250 "$(dirname "$(rt doc)")/c/liblibc_c.a"
+else
+    echo "left out: the C interface, since there is no cc" | tee -a "$folder/left_out"
+fi
+
+echo "== all"
+cat "$folder/left_out"
+echo "$passed passed, $failed failed"
+[ $failed -eq 0 ]
