@@ -44,19 +44,24 @@ def differences(page):
         yield name, f"{name} of {PROVED.name} isn't in {PAGE.name}"
 
 
-def copy_crates(folder, has_work):
-    """A copy of the repository's crates; with the work that checks keep where it is asked for."""
-    left = None if has_work else shutil.ignore_patterns("out", "proofs", "must-fail")
-    shutil.copytree(ROOT / "crates", folder / "crates", ignore=left)
+def copy_libraries(folder, has_work):
+    """A copy of the repository's libraries, with what has been proved of them where it is asked for: their rows."""
+    left = shutil.ignore_patterns(*(["incremental"] if has_work else ["out", "proofs"]), "must-fail")
     shutil.copy(ROOT / "HANDLES", folder)
     (folder / ".git").mkdir()
+    rows = ""
+    for row in (ROOT / "crates.txt").read_text().splitlines():
+        name = row.split(":")[0]
+        if (ROOT / "crates" / name / "src/lib.rt").exists():
+            shutil.copytree(ROOT / "crates" / name, folder / "crates" / name, ignore=left)
+            rows += f"{row}\n"
+    return rows
 
 
 def built(page, command):
     with tempfile.TemporaryDirectory() as made:
         folder = pathlib.Path(made)
-        copy_crates(folder, command == "check")
-        rows = (ROOT / "crates.txt").read_text()
+        rows = copy_libraries(folder, command == "check")
         for line, text in programs(page):
             name = line.split(":")[0]
             source = folder / "crates" / name / "src"
