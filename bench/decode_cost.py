@@ -7,7 +7,8 @@ names its options. It builds the plain decoder by `rustc -O` into a temporary fo
 - checks that both print the same line for many randomly changed streams, and for each stream that is measured,
 - prints for each of four streams, whole and by `--cut 1`, the processor time of both (user and system, the lowest of
   runs taken in turn) and its ratio, and where `valgrind` is installed the instructions per byte of the stream and
-  their ratio; the reading of the hex text is part of each, and is also measured by itself,
+  their ratio. What the reading of the hex text costs is measured on the same text behind two bytes that are refused,
+  and the columns `hex` have it; the columns `less hex` have the ratio of what is left on both sides,
 - prints what a byte of small records costs from 1 KB to 100 MB, less what a run on the empty stream costs,
 - with `--keep` prints instead what `decode_all`, which keeps all items to its end, costs on the four streams beside
   the plain decoder that keeps all of its own. For that it makes a crate of keep_all.rattle in a temporary folder, over
@@ -61,26 +62,23 @@ def many_ff(source):
     return [record(bytes.fromhex("04110008 110101") + bytes(source.choices(b"\xff\xff\xc1", k=1788))) for _ in range(20)]
 
 
-def hex_text_alone(source):
-    """A stream that is refused at its second byte, so that little more than its text is read."""
-    return [b"\0\x09" + part for part in long_data(source)]
-
-
 STREAMS = {
     "small records": small_records,
     "long data": long_data,
     "Telnet commands": telnet_commands,
     "many FF": many_ff,
-    "hex text alone": hex_text_alone,
 }
+# A length below a header's: the second byte is refused, so that of what follows little more than the text is read.
+REFUSED = "0009\n"
 
 
-def write_stream(path, parts, size):
-    """Writes so many bytes, or some more, as hex text, a line for each part: their number."""
+def write_stream(path, parts, size, before=""):
+    """Writes so many bytes, or some more, as hex text behind another, a line for each part: their number."""
     lines = [part.hex().upper() + "\n" for part in parts]
     round_size = sum(map(len, parts))
     rounds = max(1, -(-size // round_size))
     with open(path, "w") as text:
+        text.write(before)
         for done in range(0, rounds, 1000):
             text.write("".join(lines) * min(1000, rounds - done))
     return rounds * round_size
@@ -274,29 +272,52 @@ def compare_changed(programs, count):
 
 
 def print_columns(title, counts):
-    print(f"{title}{'seconds':>9}{'plain':>8}{'ratio':>7}", end="")
-    print(f"{'instructions':>15}{'plain':>8}{'ratio':>7}" if counts else "")
+    columns = f"{'plain':>8}{'ratio':>7}{'hex':>7}{'plain':>7}{'less hex':>10}"
+    print(f"\n{title:<25}{'seconds':>9}{columns}", end="")
+    print(f"{'instructions':>15}{columns}" if counts else "")
+
+
+def print_costs(width, precision, costs, of_hex):
+    """Prints what a stream costs both programs, what of it the hex text does, and the ratios."""
+    (ours, plain), (our_hex, plain_hex) = costs, of_hex
+    print(f"{ours:>{width}.{precision}f}{plain:>8.{precision}f}{ours / plain:>7.2f}", end="")
+    less = (ours - our_hex) / (plain - plain_hex)
+    print(f"{our_hex:>7.{precision}f}{plain_hex:>7.{precision}f}{less:>10.2f}", end="", flush=True)
+
+
+class Stream:
+    """A stream of so many bytes and a small one, and the same two where little more than their text is read."""
+
+    def __init__(self, folder, parts, size):
+        names = ["stream", "hex", "small", "small_hex"]
+        self.whole, self.hex, self.small, self.small_hex = (os.path.join(folder, f"{name}.hex") for name in names)
+        write_stream(self.whole, parts, size)
+        write_stream(self.hex, parts, size, REFUSED)
+        self.small_size = write_stream(self.small, parts, 1_000_000)
+        write_stream(self.small_hex, parts, 1_000_000, REFUSED)
+
+    def print_costs(self, programs, words, runs, counts):
+        """Prints the costs of a run on the stream as standard input."""
+        times = [lowest_in_turn(programs, words, runs, path) for path in (self.whole, self.hex)]
+        print_costs(9, 2, *times)
+        if counts:
+            numbers = [[instructions([*program, *words], path) / self.small_size for program in programs]
+                       for path in (self.small, self.small_hex)]
+            print_costs(15, 1, *numbers)
+        print(flush=True)
 
 
 def compare_streams(programs, folder, size, runs, counts):
-    print_columns(f"\n{'':<25}", counts)
-    path = os.path.join(folder, "stream.hex")
-    small = os.path.join(folder, "small.hex")
+    print_columns("", counts)
     for name, parts_of in STREAMS.items():
-        parts = parts_of(random.Random(1205))
-        write_stream(path, parts, size)
-        small_size = write_stream(small, parts, 1_000_000)
-        is_read = parts_of is not hex_text_alone
-        for cut, words in CUTS.items() if is_read else [("whole", [])]:
-            line = expect_same(programs, [*words, path])
-            if not line.startswith("accepted" if is_read else "refused at 1:"):
-                raise Fault(f"{name}: {line}")
-            ours, plain = lowest_in_turn(programs, [*words, path], runs)
-            print(f"{name:<16}{cut:<9}{ours:>9.2f}{plain:>8.2f}{ours / plain:>7.2f}", end="", flush=True)
-            if counts:
-                ours, plain = (instructions([*program, *words, small]) / small_size for program in programs)
-                print(f"{ours:>15.1f}{plain:>8.1f}{ours / plain:>7.2f}", end="")
-            print(flush=True)
+        stream = Stream(folder, parts_of(random.Random(1205)), size)
+        for cut, words in CUTS.items():
+            for path, begin in (stream.whole, "accepted"), (stream.hex, "refused at 1:"):
+                line = expect_same(programs, [*words, path])
+                if not line.startswith(begin):
+                    raise Fault(f"{name}: {line}")
+            print(f"{name:<16}{cut:<9}", end="", flush=True)
+            stream.print_costs(programs, words, runs, counts)
 
 
 def cost_by_size(programs, folder, largest, runs, counts):
@@ -355,23 +376,13 @@ def build_keeper(folder):
 
 def compare_kept(programs, folder, size, runs, counts):
     """What `decode_all` costs beside the plain decoder that keeps all items, on whole streams."""
-    print_columns(f"{'all items kept':<16}", counts)
-    path = os.path.join(folder, "stream.hex")
-    small = os.path.join(folder, "small.hex")
+    print_columns("all items kept", counts)
     for name, parts_of in STREAMS.items():
-        if parts_of is hex_text_alone:
-            continue
-        parts = parts_of(random.Random(1205))
-        write_stream(path, parts, size)
-        small_size = write_stream(small, parts, 1_000_000)
-        with open(small, "rb") as text:
+        stream = Stream(folder, parts_of(random.Random(1205)), size)
+        with open(stream.small, "rb") as text:
             expect_same(programs, [], text.read())
-        ours, plain = lowest_in_turn(programs, [], runs, path)
-        print(f"{name:<16}{ours:>9.2f}{plain:>8.2f}{ours / plain:>7.2f}", end="", flush=True)
-        if counts:
-            ours, plain = (instructions(program, small) / small_size for program in programs)
-            print(f"{ours:>15.1f}{plain:>8.1f}{ours / plain:>7.2f}", end="")
-        print(flush=True)
+        print(f"{name:<25}", end="", flush=True)
+        stream.print_costs(programs, [], runs, counts)
 
 
 def main():

@@ -1,7 +1,8 @@
 #!/usr/bin/env python3
-"""Checks that docs/DEFINITIONS.md lists each definition that a public contract cites, and names none that isn't there.
+"""Checks that docs/DEFINITIONS.md lists each definition that a public contract cites, and names each where it stands.
 
-Run it from anywhere; it prints what is missing, and exits with 1 where something is.
+Run it from anywhere. It prints what is missing, what is named and stands nowhere, and what stands in another file than
+its row says. Its last line counts the citations and the rows, and its status is 1 where one is wrong.
 """
 import pathlib
 import re
@@ -67,8 +68,62 @@ def public_clauses(text, handed_out):
     return clauses
 
 
+def declared_in(path, name):
+    """Whether a file declares a definition, a constructor of one, or a type."""
+    text = path.read_text()
+    if path.suffix == ".rt":
+        return re.search(rf"\b(?:enum|struct|trait|const|static|type|fn) {name}\b", text) is not None
+    lines = (line for line in text.splitlines() if not re.match(r"\s*(?:--|(?:pub )?use\b)", line))
+    return any(re.match(rf"\s*(?:[a-z]+ )*{name}\b[^=]* ?:(?: |$)", line) for line in lines)
+
+
+def files_named(cell, crates):
+    """The files that a row names, as `specs/Code.antt`, `Controls` or `ws_code/specs/Aid`; None for one that isn't there."""
+    for part in filter(None, re.split(r",\s*", cell.strip())):
+        crate, _, rest = part.partition("/")
+        homes, rest = ([crate], rest) if (ROOT / "crates" / crate).is_dir() else (crates, part)
+        rest = rest if "/" in rest else f"specs/{rest}"
+        rest = rest if "." in rest else f"{rest}.antt"
+        found = [path for home in homes if (path := ROOT / "crates" / home / rest).exists()]
+        yield found[0] if found else None
+
+
+def rows(text):
+    """Each row of a table of definitions: its names but for those in brackets, and the files where it says they stand."""
+    crates, of_heading, has_files = [], "", False
+    for line in text.splitlines():
+        if line.startswith("#"):
+            crates = re.findall(r"`((?:ws_|t5250)\w*)`", line) or (crates if line.startswith("###") else [])
+            of_heading = "".join(re.findall(r"\((specs/\w+\.antt)\)", line))
+        cells = [cell.strip() for cell in line.strip().strip("|").split("|")]
+        if not line.startswith("|") or set(line) <= set("|-"):
+            continue
+        if cells[0] in ("Definition", "Name"):
+            has_files = cells[1] == "File"
+            continue
+        cell = cells[1] if has_files else of_heading
+        names = re.findall(r"`([A-Za-z_0-9]+)`", re.sub(r"\([^)]*\)", "", cells[0]))
+        if names and cell:
+            yield names, cell, list(files_named(cell, crates))
+
+
+def misplaced(text):
+    """How many rows there are, and what is wrong with their files."""
+    count, wrong = 0, []
+    for names, cell, files in rows(text):
+        count += 1
+        if None in files:
+            wrong.append(f"DEFINITIONS.md names a file that isn't there: {cell} ({names[0]})")
+            continue
+        for name in names:
+            if not any(declared_in(path, name) for path in files):
+                wrong.append(f"DEFINITIONS.md puts {name} into {cell}, where it isn't declared")
+    return count, wrong
+
+
 def main():
-    listed = set(re.findall(r"`([A-Za-z_0-9]+)`", (ROOT / "docs/DEFINITIONS.md").read_text()))
+    text = (ROOT / "docs/DEFINITIONS.md").read_text()
+    listed = set(re.findall(r"`([A-Za-z_0-9]+)`", text))
     defined = set()
     for path in ROOT.glob("crates/*/specs/**/*.antt"):
         defined.update(WORD.findall(path.read_text()))
@@ -78,25 +133,27 @@ def main():
     for path in sorted(ROOT.glob("crates/*/src/**/*.rt")):
         if path.stem.endswith(("tests", "rows")) or path.stem in ("calling", "vectors", "escaped"):
             continue
-        text = path.read_text()
-        names, modules = imported(text)
+        source = path.read_text()
+        names, modules = imported(source)
         handed_out = exported(ROOT / "crates" / path.relative_to(ROOT / "crates").parts[0])
         if handed_out is not None and path.stem in handed_out:
             handed_out = None
-        for function, clause in public_clauses(text, handed_out):
+        for function, clause in public_clauses(source, handed_out):
             cited = {names[word] for word in WORD.findall(clause) if word in names}
             for module in modules:
                 cited.update(re.findall(rf"\b{module}\.([A-Za-z_]\w*)", clause))
             count += len(cited)
             for name in cited - listed:
                 missing.setdefault(name, []).append(f"{path.relative_to(ROOT)}: {function}")
-    for name, places in sorted(missing.items()):
-        print(f"not in DEFINITIONS.md: {name} ({places[0]})")
-    unknown = sorted(name for name in listed if name not in defined)
-    for name in unknown:
-        print(f"DEFINITIONS.md names what is nowhere: {name}")
-    print(f"{count} citations, {len(missing)} missing, {len(unknown)} unknown")
-    return 1 if missing or unknown or not count else 0
+    wrong = [f"not in DEFINITIONS.md: {name} ({places[0]})" for name, places in sorted(missing.items())]
+    wrong += [f"DEFINITIONS.md names what is nowhere: {name}" for name in sorted(listed - defined)]
+    of_rows, of_files = misplaced(text)
+    wrong += of_files
+    for line in wrong:
+        print(line)
+    print(f"{count} citations, {of_rows} rows")
+    print(f"{max(count + of_rows - len(wrong), 0)} passed, {len(wrong)} failed")
+    return 1 if wrong or not count or not of_rows else 0
 
 
 if __name__ == "__main__":

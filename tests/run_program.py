@@ -119,13 +119,16 @@ class Runs:
     def __init__(self):
         self.passed = self.failed = 0
 
+    def count(self, text, right):
+        """Counts a run, and tells of it where it went otherwise."""
+        self.passed, self.failed = self.passed + right, self.failed + (not right)
+        if not right:
+            print(text)
+
     def expect(self, name, done, status, out, err):
         """Holds a run to a status and two texts. None stands for any text of some length."""
-        if (done.returncode, is_as(done.stdout, out), is_as(done.stderr, err)) == (status, True, True):
-            self.passed += 1
-        else:
-            self.failed += 1
-            print(f"{name} gave {done.returncode}, {done.stdout!r:.200}, {done.stderr!r:.200}")
+        right = (done.returncode, is_as(done.stdout, out), is_as(done.stderr, err)) == (status, True, True)
+        self.count(f"{name} gave {done.returncode}, {done.stdout!r:.200}, {done.stderr!r:.200}", right)
 
 
 def is_as(found, wanted):

@@ -1,0 +1,93 @@
+#!/usr/bin/env python3
+"""Checks that the programs of docs/CALLING.md call what stands in crates/ws_session/src/calling.rt, word for word.
+
+Run it from anywhere. With --try it also makes a crate of each program, as the page says, in a copy of the repository, and
+builds it by `rt try` without proving it; with --check it proves it. Its last line counts what was looked at, and its
+status is 1 where something differs.
+"""
+import pathlib
+import re
+import shutil
+import subprocess
+import sys
+import tempfile
+
+ROOT = pathlib.Path(__file__).resolve().parent.parent
+PAGE = ROOT / "docs/CALLING.md"
+PROVED = ROOT / "crates/ws_session/src/calling.rt"
+# An example has to stand before the programs can run on it.
+INPUT = ROOT / "examples/inquiry.hex"
+
+
+def programs(page):
+    """Each program's line of crates.txt, and its text."""
+    return re.findall(r"```\n(\w+: [^\n]*)\n```\n\n```rust\n(.*?)```", page, re.S)
+
+
+def items(text):
+    """The functions and types of a file: the name of each, and its text, however it is laid out and whoever sees it."""
+    text = re.sub(r"pub\(crate\) ", "", text)
+    for found in re.finditer(r"^(?:fn|struct|enum) (\w+).*?^\}\n", text, re.S | re.M):
+        words = " ".join(found.group(0).split())
+        yield found.group(1), words.replace("( ", "(").replace(", )", ")")
+
+
+def differences(page):
+    proved = dict(items(PROVED.read_text()))
+    printed = set()
+    for line, text in programs(page):
+        for name, item in items(text):
+            printed.add(name)
+            if name != "main":
+                yield name, None if proved.get(name) == item else f"{name} of {line.split(':')[0]} isn't what {PROVED.name} has"
+    for name in proved.keys() - printed:
+        yield name, f"{name} of {PROVED.name} isn't in {PAGE.name}"
+
+
+def copy_libraries(folder, has_work):
+    """A copy of the repository's libraries, with what has been proved of them where it is asked for: their rows."""
+    left = shutil.ignore_patterns(*(["incremental"] if has_work else ["out", "proofs"]), "must-fail")
+    shutil.copy(ROOT / "HANDLES", folder)
+    (folder / ".git").mkdir()
+    rows = ""
+    for row in (ROOT / "crates.txt").read_text().splitlines():
+        name = row.split(":")[0]
+        if (ROOT / "crates" / name / "src/lib.rt").exists():
+            shutil.copytree(ROOT / "crates" / name, folder / "crates" / name, ignore=left)
+            rows += f"{row}\n"
+    return rows
+
+
+def built(page, command):
+    with tempfile.TemporaryDirectory() as made:
+        folder = pathlib.Path(made)
+        rows = copy_libraries(folder, command == "check")
+        for line, text in programs(page):
+            name = line.split(":")[0]
+            source = folder / "crates" / name / "src"
+            source.mkdir(parents=True)
+            (source / "main.rt").write_text(text)
+            (folder / "crates.txt").write_text(f"{rows}{line}\n")
+            done = subprocess.run(
+                ["rt", command], cwd=source.parent, input=bytes.fromhex(INPUT.read_text()), capture_output=True
+            )
+            said = (done.stdout + done.stderr).decode(errors="replace")
+            right = "run=ended status=" in said if command == "try" else "\nlogic=proved " in said
+            yield name, None if right else f"{name} isn't built:\n{said}"
+
+
+def main():
+    page = PAGE.read_text()
+    found = list(differences(page))
+    for command in "try", "check":
+        if f"--{command}" in sys.argv[1:]:
+            found += built(page, command)
+    wrong = [text for _, text in found if text]
+    for text in wrong:
+        print(text)
+    print(f"{len(found) - len(wrong)} passed, {len(wrong)} failed")
+    return 1 if wrong or not found else 0
+
+
+if __name__ == "__main__":
+    sys.exit(main())

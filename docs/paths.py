@@ -1,0 +1,43 @@
+#!/usr/bin/env python3
+"""Checks that the files which the documents name are there.
+
+Run it from anywhere. A name in backquotes that ends like a source file's, as `specs/Code.antt`, has to end the path of some
+file of the repository; so has each file of a list `{first,second}.rt`. Its last line counts the names, and its status is 1
+where one is of no file.
+"""
+import pathlib
+import re
+import subprocess
+import sys
+
+ROOT = pathlib.Path(__file__).resolve().parent.parent
+SOURCE = re.compile(r"[\w./{},-]+\.(?:antt|rt|py|sh|md|h|c|rs|rattle|script|edit|txt)")
+
+
+def names(text):
+    for quoted in re.findall(r"`([^`\n]+)`", text) + re.findall(r"\b(?:docs|tests|bench|examples)/[\w.]+\.\w+", text):
+        for word in quoted.split():
+            if SOURCE.fullmatch(word) and "NAME" not in word:
+                found = re.fullmatch(r"(.*)\{(.*)\}(.*)", word)
+                yield from (found[1] + part + found[3] for part in found[2].split(",")) if found else [word]
+
+
+def main():
+    listed = ["git", "ls-files", "--cached", "--others", "--exclude-standard"]
+    files = subprocess.run(listed, cwd=ROOT, capture_output=True, text=True, check=True).stdout.split("\n")
+    paths = [f"/{file}" for file in files if file]
+    passed, wrong = 0, []
+    for page in sorted([*ROOT.glob("*.md"), *ROOT.glob("docs/*.md")]):
+        for name in sorted(set(names(page.read_text()))):
+            if any(path.endswith(f"/{name.removeprefix('/')}") for path in paths):
+                passed += 1
+            else:
+                wrong.append(f"{page.name} names a file that isn't there: {name}")
+    for line in wrong:
+        print(line)
+    print(f"{passed} passed, {len(wrong)} failed")
+    return 1 if wrong else 0
+
+
+if __name__ == "__main__":
+    sys.exit(main())
