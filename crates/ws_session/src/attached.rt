@@ -4,6 +4,8 @@ ghost use Rattle.ws_session.specs.Acts.{Act, Came, Did, all_came, as_list};
 ghost use Rattle.ws_session.specs.Attachments.{HaveLed, HaveLedUnwritten, HasTaken, IsByteFault, IsTakeFault, HasHeard, IsHearFault, breaks};
 ghost use Rattle.ws_session.specs.Attachments as spec;
 ghost use Rattle.ws_session.specs.Attachments.{IsSendFailure};
+ghost use Rattle.ws_session.specs.HostSide.{host_send, host_cancel};
+ghost use Rattle.ws_session.specs.Manners.{IsKeyRefusal, IsSendRefusal};
 ghost use Rattle.ws_session.specs.Manners.{StationGoes, StationRefuses, HostGoes, HostRefuses};
 ghost use Rattle.ws_session.specs.declared.end_step.Order.TheVariants.{Cancel, Send};
 
@@ -66,6 +68,13 @@ impl<E: End, S: Source, K: Sink> Attached<E, S, K> {
         ensures { result.now ≡ self.now.source }
     {
         &self.source
+    }
+
+    /// The sink.
+    pub fn sink(&self) -> &K
+        ensures { result.now ≡ self.now.sink }
+    {
+        &self.sink
     }
 
     /// Takes bytes, and writes what the end answers, up to the first byte at which the end tells something: the bytes
@@ -195,6 +204,8 @@ impl<S: Source, K: Sink> Attached<Station, S, K> {
         ensures pressed { IfOk result (λ refused. HaveLed StationGoes StationRefuses
             K.takes K.failures S.gives S.failures self.old self.new (Did key ∷ []) []) }
         ensures refused { IfOk result (λ refused. IfSome refused (λ fault. self.new ≡ self.old)) }
+        ensures told { IfOk result (λ refused. IfSome refused
+            (IsKeyRefusal self.old.end key)) }
         ensures fault { self.old.broken ≡ false → IfErr result (λ fault. (fault ≡ Fault.Write)
             × HaveLedUnwritten StationGoes StationRefuses
             K.takes K.failures S.gives S.failures self.old self.new (Did key ∷ [])) }
@@ -236,6 +247,8 @@ impl<S: Source, K: Sink> Attached<HostEnd, S, K> {
             K.takes K.failures S.gives S.failures
             self.old self.new (Did (Send opcode body.now) ∷ []) []) }
         ensures refused { IfOk result (λ refused. IfSome refused (λ fault. self.new ≡ self.old)) }
+        ensures told { IfOk result (λ refused. IfSome refused
+            (IsSendRefusal self.old.end (λ side. host_send side opcode body.now))) }
         ensures fault { self.old.broken ≡ false → IfErr result
             (IsSendFailure HostGoes HostRefuses K.takes K.failures S.gives S.failures
             self.old self.new (Did (Send opcode body.now) ∷ [])) }
@@ -275,6 +288,8 @@ impl<S: Source, K: Sink> Attached<HostEnd, S, K> {
         ensures sent { IfOk result (λ refused. HaveLed HostGoes HostRefuses
             K.takes K.failures S.gives S.failures self.old self.new (Did Cancel ∷ []) []) }
         ensures refused { IfOk result (λ refused. IfSome refused (λ fault. self.new ≡ self.old)) }
+        ensures told { IfOk result (λ refused. IfSome refused
+            (IsSendRefusal self.old.end host_cancel)) }
         ensures fault { self.old.broken ≡ false → IfErr result (λ fault. (fault ≡ Fault.Write)
             × HaveLedUnwritten HostGoes HostRefuses
             K.takes K.failures S.gives S.failures self.old self.new (Did Cancel ∷ [])) }

@@ -1,4 +1,8 @@
-use Rattle.std.proofs.Common.{[]}
+use Rattle.std.proofs.Common.{[], subst}
+use Rattle.ws_session.specs.Attachments.{AttachedParts}
+use Rattle.ws_session.specs.HostLeads.{HostParts}
+use Rattle.ws_session.specs.HostSide.{host_cancel}
+use Rattle.ws_session.specs.Manners.{IsSendRefusal}
 use Rattle.ws_code.proofs.DeviceLaws.{went_out_none}
 use Rattle.ws_session.specs.declared.end_step.Order.TheVariants.{Cancel}
 use Rattle.ws_session.specs.Manners.{HostGoes, HostRefuses}
@@ -27,3 +31,8 @@ returns-in-Err-clause-sent g c =
     c.args.self.now _ _ c.self.view_is Cancel []
     (cancel_refused_goes c.self.inside.end c.cancel.new.self c.in-Err.fault c.in-Err.ensures.same c.in-Err.ensures.sent)
     (went_out_none g.K.Sink.takes g.K.Sink.failures c.self.inside.sink)
+
+pub returns-in-Err-clause-told : goal.returns-in-Err-clause-told
+returns-in-Err-clause-told g c =
+    subst (λ (z : AttachedParts HostParts _ _). IsSendRefusal z.end host_cancel c.in-Err.fault) c.self.view_is
+    (λ bytes items side l few. c.in-Err.ensures.sent bytes items side l)

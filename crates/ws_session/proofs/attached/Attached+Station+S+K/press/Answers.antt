@@ -1,4 +1,7 @@
-use Rattle.std.proofs.Common.{[]}
+use Rattle.std.proofs.Common.{[], subst}
+use Rattle.ws_session.specs.Attachments.{AttachedParts}
+use Rattle.ws_session.specs.StationLeads.{StationParts}
+use Rattle.ws_session.specs.Manners.{IsKeyRefusal}
 use Rattle.ws_code.proofs.DeviceLaws.{went_out_none}
 use Rattle.ws_session.specs.AnswerSpelling.{answer_spelling}
 use Rattle.ws_session.specs.Manners.{StationGoes, StationRefuses}
@@ -36,3 +39,8 @@ returns-in-Err-clause-pressed g c =
     c.args.self.now _ _ c.self.view_is c.args.key []
     (key_refused_goes c.self.inside.end c.key.new.self c.args.key _ c.in-Err.ensures.keyed)
     (went_out_none g.K.Sink.takes g.K.Sink.failures c.self.inside.sink)
+
+pub returns-in-Err-clause-told : goal.returns-in-Err-clause-told
+returns-in-Err-clause-told g c =
+    subst (λ (z : AttachedParts StationParts _ _). IsKeyRefusal z.end c.args.key c.in-Err.fault) c.self.view_is
+    (λ bytes items side l few. (c.in-Err.ensures.keyed bytes items side l).0)
