@@ -1,4 +1,4 @@
-use Rattle.std.proofs.Common.{true, false, ℕ, ◌+◌, ◌<◌, List, Result, Ok, inl, ap, sym, ◌∙◌, subst}
+use Rattle.std.proofs.Common.{false, ℕ, ◌+◌, ◌<◌, List, Result, Ok, inl, ap, sym, ◌∙◌, subst}
 use Rattle.std.specs.Prelude.{length}
 use Rattle.ws_record.specs.declared.record.Item.{Item}
 use Rattle.ws_stream.specs.declared.element.Element.{Element}
