@@ -5,6 +5,7 @@
 //! order: the command line, reading, hex text or script, the connection, and then those met in running.
 #![tactic(auto)]
 
+mod buffered_sink;
 mod check;
 mod command_line;
 #[cfg(test)]
@@ -44,15 +45,15 @@ mod tcp;
 mod tcp_rows;
 #[cfg(test)]
 mod tests;
-mod text;
 #[cfg(test)]
 mod vectors;
 mod verdict;
 
+use crate::buffered_sink::BufferedSink;
 use crate::command_line::{given_words, read_words};
 use crate::fault::{CommandFault, RunFault};
 use crate::input::read_input;
-use crate::program::{answer, status};
+use crate::program::{answer_buffered, status};
 use std::io;
 use std::net::{Net, TcpListener, TcpStream};
 use std::process::ExitCode;
@@ -66,8 +67,8 @@ fn run<R: Runtime + AllocGlobal + Net<Listener = TcpListener, Stream = TcpStream
     let words = given_words(rt)?;
     let asked = read_words(rt.alloc(), words.as_slice())?;
     let text = read_input(rt, asked.file())?;
-    let mut sink = WriteSink::new(io::writer(rt));
-    Ok(answer(rt, rt.alloc(), asked, text.as_slice(), &mut sink)?)
+    let mut sink = BufferedSink::new(WriteSink::new(io::writer(rt)));
+    Ok(answer_buffered(rt, rt.alloc(), asked, text.as_slice(), &mut sink)?)
 }
 
 // Tells of a fault in its line, of a wrong command line in the text of `clap`, both on standard error. Help
