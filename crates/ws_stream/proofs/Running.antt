@@ -1,5 +1,5 @@
 use Rattle.std.specs.Prelude.{◌≡◌, ◌≢◌, ◌⊎◌, ℕ, List, [], ◌∷◌, ◌++◌, true, false, Option, Some, None, refl}
-use Rattle.std.proofs.Common.{inl, inr, sym, ap, ◌∙◌, subst}
+use Rattle.std.proofs.Common.{inl, inr, sym, ap, subst}
 use Rattle.ws_code.specs.Code.{IsSpelled, IsUnfinished}
 use Rattle.ws_code.specs.Keep.{holds_last}
 use Rattle.ws_code.specs.Run.{Reading, IsAt, RunsOn, IsRun}

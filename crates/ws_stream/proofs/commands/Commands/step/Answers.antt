@@ -1,4 +1,3 @@
-use Rattle.std.proofs.Common.{refl}
 use Rattle.ws_stream.proofs.commands.Commands.step.Goals as goal
 
 pub returns-in-RepeatByte : goal.returns-in-RepeatByte
