@@ -24,6 +24,11 @@ def programs(page):
     return re.findall(r"```\n(\w+: [^\n]*)\n```\n\n```rust\n(.*?)```", page, re.S)
 
 
+def proof_files(page):
+    """What the page gives of proofs, each with its file."""
+    return re.findall(r"`(crates/[\w/.]+\.antt)`:\n\n```\n(.*?)```", page, re.S)
+
+
 def items(text):
     """The functions and types of a file: the name of each, and its text, however it is laid out and whoever sees it."""
     text = re.sub(r"pub\(crate\) ", "", text)
@@ -62,6 +67,9 @@ def built(page, command):
     with tempfile.TemporaryDirectory() as made:
         folder = pathlib.Path(made)
         rows = copy_libraries(folder, command == "check")
+        for path, text in proof_files(page):
+            (folder / path).parent.mkdir(parents=True)
+            (folder / path).write_text(text)
         for line, text in programs(page):
             name = line.split(":")[0]
             source = folder / "crates" / name / "src"

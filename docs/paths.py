@@ -2,8 +2,8 @@
 """Checks that the files which the documents name are there.
 
 Run it from anywhere. A name in backquotes that ends like a source file's, as `specs/Code.antt`, has to end the path of some
-file of the repository; so has each file of a list `{first,second}.rt`. Its last line counts the names, and its status is 1
-where one is of no file.
+file of the repository; so has each file of a list `{first,second}.rt`. A name right before a text is that of a file which
+the reader is to make of it. Its last line counts the names, and its status is 1 where one is of no file.
 """
 import pathlib
 import re
@@ -15,6 +15,7 @@ SOURCE = re.compile(r"[\w./{},-]+\.(?:antt|rt|py|sh|md|h|c|rs|rattle|script|edit
 
 
 def names(text):
+    text = re.sub(r"`[^`\n]+`:\n\n```", "```", text)
     for quoted in re.findall(r"`([^`\n]+)`", text) + re.findall(r"\b(?:docs|tests|bench|examples)/[\w.]+\.\w+", text):
         for word in quoted.split():
             if SOURCE.fullmatch(word) and "NAME" not in word:

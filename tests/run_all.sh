@@ -42,9 +42,9 @@ part examples 10 examples/run.sh
 for script in tests/run_*.py; do
     part "${script##*/}" 20 python3 "$script"
 done
-for script in docs/*.py; do
-    part "$script" 5 python3 "$script"
-done
+part definitions 5 python3 docs/definitions.py
+part paths 5 python3 docs/paths.py
+part callers 20 python3 docs/calling.py --try
 if command -v cc >/dev/null; then
     part "C library" 60 tests/build_c_library.sh
     [ ! -e c/Makefile ] || part "C interface" 30 make -C c check

@@ -6,7 +6,9 @@ Build the program first (`cd crates/t5250 && rt run -- check < stdin`), then cal
 status is 1 where one went otherwise.
 """
 import os
+import re
 import resource
+import shutil
 import subprocess
 import sys
 import tempfile
@@ -209,6 +211,28 @@ def unconnected_runs(runs):
         runs.expect(f"--tcp with {descriptors} descriptors", done, 2, "", "no connection\n")
 
 
+def writes_of(words, text, path):
+    """How many writes to standard output a run makes, and how many bytes; None where strace can't tell."""
+    traced = ["strace", "-f", "-qq", "-e", "trace=write,writev", "-o", path, PROGRAM, *words]
+    done = subprocess.run(traced, input=text.encode(), capture_output=True, timeout=300)
+    with open(path) as file:
+        return sum(re.search(r"\bwritev?\(1,", line) is not None for line in file), len(done.stdout)
+
+
+def write_runs(runs, folder):
+    """There is at most one write for 4 KiB of output, and one for the rest."""
+    path = os.path.join(folder, "writes")
+    known = subprocess.run(["strace", "-o", path, "true"], capture_output=True) if shutil.which("strace") else None
+    if known is None or known.returncode != 0:
+        print("left out: counts of writes, since strace isn't there or may not look")
+        return
+    session = "settle\n" + (BOB.partition("\n")[2] * 500)
+    texts = (["show"], HELLO * 1000), (["play"], session), (["play", "--screen"], session), (["check"], MANY)
+    for words, text in texts:
+        count, length = writes_of(words, text, path)
+        runs.count(f"{words}: {count} writes of {length} bytes", 0 < count <= length // 4096 + 1)
+
+
 def small_runs(runs, folder):
     """There is too little memory for the input."""
     path = os.path.join(folder, "large.hex")
@@ -233,6 +257,7 @@ def main():
         named_runs(runs, folder)
         unconnected_runs(runs)
         small_runs(runs, folder)
+        write_runs(runs, folder)
     print(f"{runs.passed} passed, {runs.failed} failed")
     sys.exit(1 if runs.failed else 0)
 
