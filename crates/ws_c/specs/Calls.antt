@@ -91,6 +91,7 @@ IsStationNew name None now status = ⊥
 pub record StationPushed (old new : StationParts) (byte : ℕ) (result : Result (List ℕ) Refusal) : Type 0 where
   pub pushed : (bytes : List ℕ) (items : List (Item Element)) (side : StationSide) → StationLeads old bytes items side
       → length bytes + 1 < 2 ^ 64 → IsPushed old new bytes items side byte result
+  pub full : old.live.taken + 1 ≡ 2 ^ 64 → result ≡ Err HasFailed
   pub failed : old.failed ≡ true → result ≡ Err HasFailed
   pub after : OnErr result (new.failed ≡ true)
 

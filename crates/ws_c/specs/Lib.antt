@@ -1,5 +1,7 @@
 pub mod Owned
 pub mod Calls
+pub mod Held
+pub mod Pushes
 pub mod Decoding
 pub mod Keys
 pub mod Hosts

@@ -4,6 +4,7 @@
 
 mod decoder;
 mod handle;
+mod held;
 mod host;
 mod host_answer;
 mod host_send;
@@ -25,4 +26,4 @@ pub use host_answer::{AnswerTold, ReadFieldTold};
 pub use machine::Machine;
 pub use station_screen::{FieldState, ScreenState};
 pub use status::Status;
-pub use told::Told;
+pub use told::{PushedTold, REPLY_ROOM, Told};
