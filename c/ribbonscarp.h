@@ -407,7 +407,8 @@ typedef struct {
 RIBBON_API const char *ribbon_version(void);
 
 /* What a status, a reason of RIBBON_REASON_... or a key's refusal of RIBBON_KEY_... means, in a sentence for a person
- * without its full stop. A number that stands for nothing is told so. The text is the library's, and lasts. */
+ * without its full stop; that of a reason begins with its number, as `30: structured fields ..`. A number that stands for
+ * nothing is told so. The text is the library's, and lasts. */
 RIBBON_API const char *ribbon_status_text(ribbon_status status);
 RIBBON_API const char *ribbon_reason_text(uint8_t reason);
 RIBBON_API const char *ribbon_refusal_text(uint8_t refusal);

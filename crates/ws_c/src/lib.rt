@@ -2,7 +2,9 @@
 //! exports.
 #![tactic(auto)]
 
+mod code_page;
 mod decoder;
+mod field_told;
 mod handle;
 mod held;
 mod host;
@@ -12,6 +14,7 @@ mod key_kind;
 mod loose;
 mod machine;
 mod owned;
+mod state_told;
 mod station;
 mod station_keys;
 mod station_screen;
@@ -20,10 +23,11 @@ mod told;
 mod wire;
 
 pub use decoder::StepTold;
+pub use field_told::FieldTold;
 pub use handle::Handle;
 pub use host::{EventTold, HeldHost};
 pub use host_answer::{AnswerTold, ReadFieldTold};
 pub use machine::Machine;
-pub use station_screen::{FieldState, ScreenState};
+pub use state_told::{NO_FIELD, StateTold};
 pub use status::Status;
 pub use told::{PushedTold, REPLY_ROOM, Told};

@@ -4,11 +4,11 @@ ghost use Rattle.ws_nego.specs.Terminal.{terminal_named};
 ghost use Rattle.ws_session.specs.StationLeads.{StationParts, StationLeads};
 ghost use Rattle.ws_session.specs.StationSide.{new_station_side};
 ghost use Rattle.ws_c.specs.declared.status.Status.{Status as AStatus};
-ghost use Rattle.ws_c.specs.Calls.{IsRefusalTold, IsStationNew, holds_front, number_of};
-ghost use Rattle.ws_c.specs.Held.{OnStation};
+ghost use Rattle.ws_c.specs.Calls.{IsStationNew, holds_front, number_of};
+ghost use Rattle.ws_c.specs.Held.{IsStationFreed, OnStation};
 ghost use Rattle.ws_c.specs.Pushes.{IsPushRefused, IsStationPush, nothing_pushed, pushed_told};
 
-use crate::held::on_station;
+use crate::held::{on_held, on_station};
 use crate::{Handle, Machine, PushedTold, REPLY_ROOM, Status, Told};
 use std::alloc::Global;
 use ws_nego::TerminalType;
@@ -46,12 +46,17 @@ pub extern "C" fn ws_c_station_new(alloc: Global, handle: &mut Handle, name: &[u
     make_station(alloc, handle, name).number()
 }
 
-/// Frees what the handle holds. It then holds nothing.
+/// Frees the station that the handle holds. It then holds nothing. Another handle stays as it is.
 #[unsafe(no_mangle)]
-pub extern "C" fn ws_c_free(alloc: Global, handle: &mut Handle)
-    ensures { handle.new.owned.value ≡ None }
+pub extern "C" fn ws_c_station_free(alloc: Global, handle: &mut Handle)
+    ensures { IsStationFreed handle.old.owned.value handle.new.owned.value }
 {
-    let _held = handle.take(alloc);
+    if let Some(owned) = handle.take(alloc) {
+        match &*owned {
+            Machine::Station(_) => drop(owned),
+            Machine::Decoder(_) | Machine::Host(_) => handle.put(owned),
+        }
+    }
 }
 
 // Puts bytes at a buffer's front, and gives how many.
@@ -64,32 +69,8 @@ pub(crate) fn put_front(buffer: &mut [u8], bytes: &[u8]) -> usize
     bytes.len()
 }
 
-// The status of a refusal, and what is told of it.
-pub(crate) fn tell_refusal(refusal: Refusal, told: &mut Told) -> Status
-    ensures { IsRefusalTold refusal result told.new }
-{
-    match refusal {
-        Refusal::At { place, reason } => {
-            *told = Told {
-                length: 0,
-                place,
-                reason: reason.number(),
-            };
-            Status::Refused
-        }
-        Refusal::Failed => {
-            *told = Told::length(0);
-            Status::Failed
-        }
-        Refusal::Memory => {
-            *told = Told::length(0);
-            Status::NoMemory
-        }
-    }
-}
-
 // Puts bytes into a buffer behind those that stand at its front.
-fn put_behind(buffer: &mut [u8], at: usize, bytes: &[u8])
+pub(crate) fn put_behind(buffer: &mut [u8], at: usize, bytes: &[u8])
     requires { at + length bytes.now ≤ length buffer.old }
     ensures { (front before : List ℕ) → length front ≡ at
         → buffer.old ≡ holds_front front before
@@ -99,7 +80,7 @@ fn put_behind(buffer: &mut [u8], at: usize, bytes: &[u8])
 }
 
 // The status of a refusal, and what is told of it beside the counts.
-fn tell_push_refusal(refusal: Refusal, told: &mut PushedTold) -> Status
+pub(crate) fn tell_push_refusal(refusal: Refusal, told: &mut PushedTold) -> Status
     requires { told.old ≡ pushed_told told.old.taken told.old.replied }
     ensures taken { told.new.taken ≡ told.old.taken }
     ensures replied { told.new.replied ≡ told.old.replied }
@@ -117,12 +98,7 @@ fn tell_push_refusal(refusal: Refusal, told: &mut PushedTold) -> Status
 }
 
 // Pushes bytes into a station.
-fn push_all(
-    station: &mut Station,
-    bytes: &[u8],
-    buffer: &mut [u8],
-    told: &mut PushedTold,
-) -> Status
+fn push_all(station: &mut Station, bytes: &[u8], buffer: &mut [u8], told: &mut PushedTold) -> Status
     requires { told.old ≡ nothing_pushed }
     ensures { IsStationPush bytes.now buffer.old buffer.new result told.new station.old station.new }
 {
@@ -156,7 +132,11 @@ fn push(
         ((told.new ≡ nothing_pushed) × (buffer.new ≡ buffer.old)) }
 {
     *told = PushedTold::nothing();
-    on_station!(alloc, handle, |station| push_all(station, bytes, buffer, told))
+    on_station!(
+        alloc,
+        handle,
+        |station| push_all(station, bytes, buffer, told)
+    )
 }
 
 /// Pushes bytes into a station, one after another: `buffer` gets what the station writes, and `told` how many bytes were

@@ -13,8 +13,8 @@ loop-byte-preserved c =
     let text = c.as_slice-text.result.now in
     let same : text ≡ c.in-Ok.reply = c.as_slice-text.ensures.value in
     let one : StationPushed now.station c.push.new.self byte (Ok text) =
-        subst (λ (r : List ℕ). StationPushed now.station c.push.new.self byte (Ok r)) (sym same)
-        (record { pushed = c.in-Ok.ensures.pushed; full = c.in-Ok.ensures.full; failed = c.in-Ok.ensures.failed; after = c.in-Ok.ensures.after }) in
+    subst (λ (r : List ℕ). StationPushed now.station c.push.new.self byte (Ok r)) (sym same)
+    (record { pushed = c.in-Ok.ensures.pushed; full = c.in-Ok.ensures.full; failed = c.in-Ok.ensures.failed; after = c.in-Ok.ensures.after; seen = c.in-Ok.ensures.seen }) in
     record {
       pushing = pushing_more StationTakes c.args.bytes.now c.args.buffer.now now.buffer c.put_behind.new.buffer now.byte-index now.told.replied
           c.args.station.now now.station c.push.new.self text c.loop-byte-test.true
@@ -49,7 +49,7 @@ returns-in-Err c =
     let replied : told.replied ≡ now.told.replied = c.tell_push_refusal.ensures.replied in
     let byte = get_or c.args.bytes.now now.byte-index 0 in
     let one : StationPushed now.station c.push.new.self byte (Err c.in-Err.refusal) =
-        record { pushed = c.in-Err.ensures.pushed; full = c.in-Err.ensures.full; failed = c.in-Err.ensures.failed; after = c.in-Err.ensures.after } in
+    record { pushed = c.in-Err.ensures.pushed; full = c.in-Err.ensures.full; failed = c.in-Err.ensures.failed; after = c.in-Err.ensures.after; seen = c.in-Err.ensures.seen } in
     record {
       counted = omega arith;
       written = now.invariant.pushing.written;

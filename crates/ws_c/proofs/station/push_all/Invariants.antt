@@ -6,5 +6,5 @@ use Rattle.ws_c.proofs.station.push_all.Given as goal
 abbrev pub invariant-loop-byte : goal.invariant-loop-byte
 invariant-loop-byte l = record {
   pushing : Pushing StationTakes l.bytes l.fn.buffer l.buffer l.byte-index l.told.replied l.fn.station l.station;
-  told : l.told ≡ pushed_told l.byte-index l.told.replied
+  told : l.told ≡ pushed_told l.byte-index l.told.replied;
 }
