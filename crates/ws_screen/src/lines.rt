@@ -1,55 +1,46 @@
-//! What a row of cells shows.
-ghost use Rattle.std.specs.Prelude.{◌≡◌, ◌≤◌, ◌<◌, ◌+◌, length, map, find, reverse, if◌then◌else◌};
+//! What cells show.
+ghost use Rattle.std.specs.Prelude.{◌≡◌, ◌≤◌, ◌<◌, ◌+◌, length, map, find, reverse, if◌then◌else◌, All, true};
 ghost use Rattle.std.specs.List.{range_with_len};
 ghost use Rattle.std.specs.Str.{encode_utf8_all};
-ghost use Rattle.ws_stream.specs.FieldOrder as Attribute;
+ghost use Rattle.ws_stream.specs.FieldOrder.{is_attribute};
 ghost use Rattle.ws_screen.specs.Lines as Spec;
 
+use crate::{Attribute, Shown};
 use arrayvec::ArrayString;
 use ws_code::ebcdic;
 
 /// What the key Dup leaves in a cell (SC30-3533, Dup key); it shows as an asterisk.
 pub const DUP: u8 = 0x1c;
 
-fn is_attribute(byte: u8) -> bool
-    ensures { result ≡ Attribute.is_attribute byte }
+// The attribute in force behind a byte, if the one before it is given.
+fn behind(byte: u8, before: Attribute) -> Attribute
+    ensures { result ≡ (if is_attribute byte then byte else before) }
 {
-    byte >= 0x20 && byte < 0x40
-}
-
-// Whether what stands behind an attribute isn't displayed.
-fn hides(attribute: u8) -> bool
-    ensures { result ≡ Spec.hides attribute }
-{
-    attribute % 8 == 7
-}
-
-// Whether the cells behind a byte are hidden, if the byte itself is or isn't.
-fn hides_after(byte: u8, hidden: bool) -> bool
-    ensures { result ≡ (if Attribute.is_attribute byte then Spec.hides byte else hidden) }
-{
-    if is_attribute(byte) {
-        hides(byte)
-    } else {
-        hidden
+    match Attribute::from_byte(byte) {
+        Some(attribute) => attribute,
+        None => before,
     }
 }
 
-// The last attribute of a list.
+// The last byte of a list that is an attribute.
 fn last_attribute(cells: &[u8]) -> Option<u8>
-    ensures { result ≡ find Attribute.is_attribute (reverse cells.now) }
+    ensures { result ≡ find is_attribute (reverse cells.now) }
 {
-    cells.iter().rev().copied().find(|byte| is_attribute(*byte))
+    cells
+        .iter()
+        .rev()
+        .copied()
+        .find(|byte| *byte >= 0x20 && *byte < 0x40)
 }
 
-// Whether a cell is hidden: by the attribute nearest before it.
-fn is_hidden(cells: &[u8], at: usize) -> bool
+/// The attribute in force at a cell.
+pub fn attribute_at(cells: &[u8], at: usize) -> Attribute
     requires { at ≤ length cells.now }
-    ensures { result ≡ Spec.is_hidden cells.now at }
+    ensures { result ≡ Spec.attribute_at cells.now at }
 {
     match last_attribute(&cells[..at]) {
-        Some(attribute) => hides(attribute),
-        None => false,
+        Some(byte) => behind(byte, Attribute::default()),
+        None => Attribute::default(),
     }
 }
 
@@ -68,26 +59,57 @@ fn shown_char(byte: u8) -> char
     }
 }
 
-fn shown_unless(hidden: bool, byte: u8) -> char
-    ensures value { result ≡ (if hidden then 0x20 else Spec.shown_char byte) }
+fn character_under(attribute: Attribute, byte: u8) -> char
+    ensures value { result ≡ (Spec.shown_under attribute byte).character }
     ensures latin { result < 256 }
 {
-    if hidden { ' ' } else { shown_char(byte) }
+    if attribute.is_hidden() {
+        ' '
+    } else {
+        shown_char(byte)
+    }
 }
 
-/// The characters of at most 80 cells from one on.
-pub fn row_text(cells: &[u8], first: usize, width: usize) -> ArrayString<160>
-    requires short { width ≤ 80 }
-    requires within { first + width ≤ length cells.now }
-    ensures { result.bytes
-        ≡ encode_utf8_all (map (Spec.char_at cells.now) (range_with_len first width)) }
+/// What a byte shows under an attribute.
+pub fn shown_under(attribute: Attribute, byte: u8) -> Shown
+    ensures value { result ≡ Spec.shown_under attribute byte }
+    ensures latin { result.character < 256 }
+{
+    let character = character_under(attribute, byte);
+    let attribute = match Attribute::from_byte(byte) {
+        Some(_) => Attribute::default(),
+        None => attribute,
+    };
+    Shown {
+        character,
+        attribute,
+    }
+}
+
+/// What the cells from one on show, each looked at once.
+pub fn show(cells: &[u8], first: usize, shown: &mut [Shown])
+    requires { first + length shown.old ≤ length cells.now }
+    ensures value { shown.new
+        ≡ map (Spec.shown_at cells.now) (range_with_len first (length shown.old)) }
+    ensures latin { All (λ s. s.character < 256) shown.new }
+{
+    let mut attribute = attribute_at(cells, first);
+    for (index, cell) in shown.iter_mut().enumerate() {
+        let byte = cells[first + index];
+        *cell = shown_under(attribute, byte);
+        attribute = behind(byte, attribute);
+    }
+}
+
+/// The text of at most 80 cells.
+pub fn text_of(shown: &[Shown]) -> ArrayString<160>
+    requires short { length shown.now ≤ 80 }
+    requires latin { All (λ s. s.character < 256) shown.now }
+    ensures { result.bytes ≡ encode_utf8_all (map (λ s. s.character) shown.now) }
 {
     let mut text = ArrayString::new();
-    let mut hidden = is_hidden(cells, first);
-    for at in first..first + width {
-        let byte = cells[at];
-        text.push(shown_unless(hidden, byte));
-        hidden = hides_after(byte, hidden);
+    for cell in shown {
+        text.push(cell.character);
     }
     text
 }
