@@ -18,14 +18,22 @@ answer_told a = record {
   aid = a.aid;
 }
 
+-- nothing of an answer
+abbrev pub no_answer : AnswerTold
+no_answer = record { field_count = 0; cursor_row = 0; cursor_column = 0; aid = 0 }
+
 -- what is told of the last answer
-abbrev pub IsAnswerTold : Option HostAnswer → Status → AnswerTold → AnswerTold → Type 0
-IsAnswerTold None status old told = (status ≡ NoAnswer) × (told ≡ old)
-IsAnswerTold (Some answer) status old told = (status ≡ Done) × (told ≡ answer_told answer)
+abbrev pub IsAnswerTold : Option HostAnswer → Status → AnswerTold → Type 0
+IsAnswerTold None status told = (status ≡ NoAnswer) × (told ≡ no_answer)
+IsAnswerTold (Some answer) status told = (status ≡ Done) × (told ≡ answer_told answer)
 
 -- a field without its content
 abbrev pub read_field_told : ReadField → ReadFieldTold
 read_field_told f = record { length = length f.content; row = f.address / 80 + 1; column = f.address % 80 + 1 }
+
+-- nothing of a field
+abbrev pub no_read_field : ReadFieldTold
+no_read_field = record { length = 0; row = 0; column = 0 }
 
 -- what is told of a field; a buffer with room for its content gets it
 pub record IsContentTold (field : ReadField) (status : Status) (told : ReadFieldTold)
@@ -35,12 +43,12 @@ pub record IsContentTold (field : ReadField) (status : Status) (told : ReadField
   pub put : length field.content ≤ length buffer → (status ≡ Done) × (after ≡ holds_front field.content buffer)
 
 -- what is told of a field, where there is one
-abbrev pub IsReadFieldTold : Option ReadField → Status → ReadFieldTold → ReadFieldTold → List ℕ → List ℕ → Type 0
-IsReadFieldTold None status old told buffer after = (status ≡ BadArgument) × (told ≡ old) × (after ≡ buffer)
-IsReadFieldTold (Some field) status old told buffer after = IsContentTold field status told buffer after
+abbrev pub IsReadFieldTold : Option ReadField → Status → ReadFieldTold → List ℕ → List ℕ → Type 0
+IsReadFieldTold None status told buffer after = (status ≡ BadArgument) × (told ≡ no_read_field) × (after ≡ buffer)
+IsReadFieldTold (Some field) status told buffer after = IsContentTold field status told buffer after
 
 -- what is told of a field of the last answer, by its index
-abbrev pub IsFieldRead : Option HostAnswer → ℕ → Status → ReadFieldTold → ReadFieldTold → List ℕ → List ℕ → Type 0
-IsFieldRead None index status old told buffer after = (status ≡ NoAnswer) × (told ≡ old) × (after ≡ buffer)
-IsFieldRead (Some answer) index status old told buffer after =
-    IsReadFieldTold (slice_get answer.fields index) status old told buffer after
+abbrev pub IsFieldRead : Option HostAnswer → ℕ → Status → ReadFieldTold → List ℕ → List ℕ → Type 0
+IsFieldRead None index status told buffer after = (status ≡ NoAnswer) × (told ≡ no_read_field) × (after ≡ buffer)
+IsFieldRead (Some answer) index status told buffer after =
+    IsReadFieldTold (slice_get answer.fields index) status told buffer after

@@ -1,7 +1,7 @@
 -- The decoder of a host's stream, as C sees it
 
-use Rattle.std.specs.Prelude.{◌≡◌, ℕ, ◌+◌, ◌^◌, ◌<◌, true, List, [], length, Option, Some, None, Result, Ok, Err, OnErr}
-use Rattle.std.specs.Prelude.{IfErr, OnOk}
+use Rattle.std.specs.Prelude.{◌≡◌, ℕ, ◌+◌, ◌^◌, ◌<◌, ◌≤◌, Bool, true, false, List, [], ◌∷◌, length, take, drop, Option}
+use Rattle.std.specs.Prelude.{Some, None, Result, Ok, Err, OnErr, IfErr, OnOk}
 use Rattle.ws_code.specs.Reason.{number_of as reason_number}
 use Rattle.ws_code.specs.declared.fault.Fault.{Fault}
 use Rattle.ws_code.specs.declared.fault.Fault.TheVariants.{Truncated as IsTruncatedAt, Failed as FaultFailed}
@@ -20,10 +20,11 @@ use Rattle.ws_stream.specs.Elements.{element_rules}
 use Rattle.ws_c.specs.declared.machine.Machine.{Machine}
 use Rattle.ws_c.specs.declared.machine.Machine.TheVariants.{Decoder}
 use Rattle.ws_c.specs.declared.status.Status.{Status}
-use Rattle.ws_c.specs.declared.status.Status.TheVariants.{Done, Refused, Failed, NoMemory, NothingHeld, InUse}
+use Rattle.ws_c.specs.declared.status.Status.TheVariants.{Done, Refused, Failed, NoMemory, InUse}
 use Rattle.ws_c.specs.declared.status.Status.TheVariants.{Truncated}
 use Rattle.ws_c.specs.declared.decoder.StepTold.{StepTold}
 use Rattle.ws_c.specs.Calls.{holds_front}
+use Rattle.ws_c.specs.Pushes.{TakesAll}
 
 -- a decoder is made, or the handle stays as it is
 abbrev pub IsDecoderNew : Option Machine → Option Machine → Status → Type 0
@@ -42,37 +43,65 @@ pub record DecoderPushed (old new : Watching Place) (byte : ℕ) (step : Step El
   pub failed : old.failed ≡ true → step ≡ StepFailed
   pub after : OnEnd step (new.failed ≡ true)
 
--- a step of this kind, and nothing else
-abbrev pub plain_step : ℕ → StepTold
-plain_step kind = record { length = 0; place = 0; kind = kind; flags = 0; record_length = 0; opcode = 0; reason = 0 }
+-- so many bytes were taken, and this kind is complete; nothing else is told
+abbrev pub plain_step : ℕ → ℕ → StepTold
+plain_step taken kind = record {
+  taken = taken;
+  length = 0;
+  place = 0;
+  kind = kind;
+  flags = 0;
+  record_length = 0;
+  opcode = 0;
+  reason = 0;
+}
 
--- what a step crosses as: 0 nothing, 1 a header, 2 an element, 3 a record's end, 4 a Telnet command
-abbrev pub IsStepTold : Step Element → Status → StepTold → List ℕ → List ℕ → Type 0
-IsStepTold More status told old new = (status ≡ Done) × (told ≡ plain_step 0) × (new ≡ old)
-IsStepTold (Open head) status told old new = (status ≡ Done)
-    × (told ≡ record {
-      length = 0;
-      place = 0;
-      kind = 1;
+-- what a step crosses as, with the number of bytes before its byte: 0 nothing, 1 a header, 2 an element, 3 a record's
+-- end, 4 a Telnet command
+abbrev pub IsStepTold : Step Element → ℕ → Status → StepTold → List ℕ → List ℕ → Type 0
+IsStepTold More before status told old new = (status ≡ Done) × (told ≡ plain_step (before + 1) 0) × (new ≡ old)
+IsStepTold (Open head) before status told old new = (status ≡ Done)
+    × (told ≡ record (plain_step (before + 1) 1) {
       flags = head.flags;
       record_length = head.length;
       opcode = opcode_byte head.opcode;
-      reason = 0;
     }) × (new ≡ old)
-IsStepTold (Whole unit) status told old new = let spelling = element_rules.spelling unit in
-    (status ≡ Done) × (told ≡ record (plain_step 2) { length = length spelling }) × (new ≡ holds_front spelling old)
-IsStepTold Close status told old new = (status ≡ Done) × (told ≡ plain_step 3) × (new ≡ old)
-IsStepTold (Command telnet) status told old new = let spelling = telnet_spelling telnet in
-    (status ≡ Done) × (told ≡ record (plain_step 4) { length = length spelling }) × (new ≡ holds_front spelling old)
-IsStepTold (StepRefused place reason) status told old new =
-    (status ≡ Refused) × (told ≡ record (plain_step 0) { place = place; reason = reason_number reason }) × (new ≡ old)
-IsStepTold StepFailed status told old new = (status ≡ Failed) × (told ≡ plain_step 0) × (new ≡ old)
+IsStepTold (Whole unit) before status told old new = let spelling = element_rules.spelling unit in
+    (status ≡ Done) × (told ≡ record (plain_step (before + 1) 2) { length = length spelling })
+    × (new ≡ holds_front spelling old)
+IsStepTold Close before status told old new = (status ≡ Done) × (told ≡ plain_step (before + 1) 3) × (new ≡ old)
+IsStepTold (Command telnet) before status told old new = let spelling = telnet_spelling telnet in
+    (status ≡ Done) × (told ≡ record (plain_step (before + 1) 4) { length = length spelling })
+    × (new ≡ holds_front spelling old)
+IsStepTold (StepRefused place reason) before status told old new =
+    (status ≡ Refused) × (told ≡ record (plain_step before 0) { place = place; reason = reason_number reason })
+    × (new ≡ old)
+IsStepTold StepFailed before status told old new = (status ≡ Failed) × (told ≡ plain_step before 0) × (new ≡ old)
 
--- a push of a byte into what the handle holds
-abbrev pub IsDecode : ℕ → List ℕ → List ℕ → Status → StepTold → Machine → Machine → Type 0
-IsDecode byte buffer after status told (Decoder old) now = (new : Watching Place) × (step : Step Element)
-    × (now ≡ Decoder new) × DecoderPushed old new byte step × IsStepTold step status told buffer after
-IsDecode byte buffer after status told old now = (status ≡ NothingHeld) × (now ≡ old) × (after ≡ buffer)
+-- a decoder takes a byte with which nothing is complete
+abbrev pub DecoderTakes : Watching Place → ℕ → List ℕ → Watching Place → Type 0
+DecoderTakes old byte brought new = DecoderPushed old new byte More × (brought ≡ [])
+
+-- whether something is complete with a step, or its byte is refused
+abbrev pub tells : Step Element → Bool
+tells More = false
+tells step = true
+
+-- where a push of bytes ends: with the last, or at the first with which something is complete, or which is refused
+abbrev pub IsDecoderEnd : List ℕ → ℕ → Status → StepTold → List ℕ → List ℕ → Watching Place → Watching Place → Type 0
+IsDecoderEnd [] before status told buffer after old new = (status ≡ Done) × (told ≡ plain_step before 0)
+    × (after ≡ buffer) × (new ≡ old)
+IsDecoderEnd (byte ∷ left) before status told buffer after old new = (step : Step Element)
+    × DecoderPushed old new byte step × (tells step ≡ true) × IsStepTold step before status told buffer after
+
+-- a decoder at a push of bytes: with some nothing is complete, and it ends there or with the one behind them
+pub record IsDecode (bytes buffer after : List ℕ) (status : Status) (told : StepTold) (old new : Watching Place)
+    : Type 0 where
+  pub quiet : ℕ
+  pub counted : quiet ≤ length bytes
+  pub before : Watching Place
+  pub takes : TakesAll DecoderTakes old (take quiet bytes) [] before
+  pub ends : IsDecoderEnd (drop quiet bytes) quiet status told buffer after before new
 
 -- whether a decoder's stream may end
 pub record DecoderFinished (old new : Watching Place) (result : Result (Unit {0}) Fault) : Type 0 where
@@ -91,8 +120,7 @@ IsEndTold (Ok done) status place = (status ≡ Done) × (place ≡ 0)
 IsEndTold (Err (IsTruncatedAt at)) status place = (status ≡ Truncated) × (place ≡ at)
 IsEndTold (Err fault) status place = (status ≡ Failed) × (place ≡ 0)
 
--- the end of what the handle holds
-abbrev pub IsEnd : Status → ℕ → Machine → Machine → Type 0
-IsEnd status place (Decoder old) now = (new : Watching Place) × (result : Result (Unit {0}) Fault) × (now ≡ Decoder new)
-    × DecoderFinished old new result × IsEndTold result status place
-IsEnd status place old now = (status ≡ NothingHeld) × (now ≡ old)
+-- the end of a decoder's stream
+abbrev pub IsEnd : Status → ℕ → Watching Place → Watching Place → Type 0
+IsEnd status place old new = (result : Result (Unit {0}) Fault) × DecoderFinished old new result
+    × IsEndTold result status place

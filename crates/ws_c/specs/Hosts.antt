@@ -1,7 +1,7 @@
 -- A host's end, as C sees it (RFC 1205, sections 3 and 4)
 
-use Rattle.std.specs.Prelude.{◌≡◌, ℕ, ◌+◌, ◌^◌, ◌<◌, true, List, [], ◌∷◌, length, Option, Some, None, Result, Ok, Err}
-use Rattle.std.specs.Prelude.{OnErr}
+use Rattle.std.specs.Prelude.{◌≡◌, ℕ, ◌+◌, ◌-◌, ◌^◌, ◌<◌, ◌≤◌, List, [], ◌∷◌, ◌++◌, length, take, drop, Option, Some, None}
+use Rattle.std.specs.Prelude.{Result, Ok, Err, IsSome, IfErr, OnErr}
 use Rattle.ws_nego.specs.Host.{opening}
 use Rattle.ws_nego.specs.declared.terminal.TerminalType.{TerminalType}
 use Rattle.ws_nego.specs.declared.terminal.TerminalType.TheVariants.{Ibm5251Model11, Ibm5291Model1, Ibm5292Model2}
@@ -25,9 +25,12 @@ use Rattle.ws_c.specs.declared.host.HeldHost.{HeldHost}
 use Rattle.ws_c.specs.declared.machine.Machine.{Machine}
 use Rattle.ws_c.specs.declared.machine.Machine.TheVariants.{Host}
 use Rattle.ws_c.specs.declared.status.Status.{Status}
-use Rattle.ws_c.specs.declared.status.Status.TheVariants.{Done, NoMemory, NothingHeld, InUse}
+use Rattle.ws_c.specs.declared.status.Status.TheVariants.{Done, NoMemory, NoRoom, InUse}
 use Rattle.ws_c.specs.declared.told.Told.{Told}
-use Rattle.ws_c.specs.Calls.{IsRefusalTold, holds_front, told_length}
+use Rattle.ws_c.specs.declared.told.PushedTold.{PushedTold}
+use Rattle.ws_c.specs.declared.told.TheConstants.{REPLY_ROOM}
+use Rattle.ws_c.specs.Calls.{holds_front, told_length}
+use Rattle.ws_c.specs.Pushes.{IsPushRefused, TakesAll, pushed_told}
 
 -- the bytes by which a host asks the station for its terminal type
 abbrev pub opening_bytes : List ℕ
@@ -39,22 +42,22 @@ pub record IsNewHost (host : HeldHost) : Type 0 where
   pub unsent : host.sent ≡ []
   pub unanswered : host.answer ≡ None
 
--- a host's end is made, and the bytes are given, or all stays as it is
-abbrev pub IsHostNew : List ℕ → List ℕ → Told → Told → Option Machine → Option Machine → Status → Type 0
-IsHostNew buffer after old told (Some held) now status = (status ≡ InUse) × (now ≡ Some held) × (after ≡ buffer)
-    × (told ≡ old)
-IsHostNew buffer after old told None now Done = (host : HeldHost) × (now ≡ Some (Host host)) × IsNewHost host
+-- a host's end is made, and the bytes are given, or the handle and the buffer stay as they are, and nothing is told
+abbrev pub IsHostNew : List ℕ → List ℕ → Told → Option Machine → Option Machine → Status → Type 0
+IsHostNew buffer after told (Some held) now status = (status ≡ InUse) × (now ≡ Some held) × (after ≡ buffer)
+    × (told ≡ told_length 0)
+IsHostNew buffer after told None now Done = (host : HeldHost) × (now ≡ Some (Host host)) × IsNewHost host
     × (after ≡ holds_front opening_bytes buffer) × (told ≡ told_length (length opening_bytes))
-IsHostNew buffer after old told None now NoMemory = (now ≡ None) × (after ≡ buffer) × (told ≡ old)
-IsHostNew buffer after old told None now status = ⊥
+IsHostNew buffer after told None now NoMemory = (now ≡ None) × (after ≡ buffer) × (told ≡ told_length 0)
+IsHostNew buffer after told None now status = ⊥
 
 -- a host's end at a byte
 pub record HostPushed (old new : HostParts) (byte : ℕ) (result : Result HostStep Refusal) : Type 0 where
   pub pushed : (bytes : List ℕ) (items : List (Item AnswerPart)) (side : HostSide) → HostLeads old bytes items side
       → length bytes + 1 < 2 ^ 64 → IsHostPushed old new bytes items side byte result
   pub full : old.receiver.live.taken + 1 ≡ 2 ^ 64 → result ≡ Err HasFailed
-  pub failed : old.failed ≡ true → result ≡ Err HasFailed
-  pub after : OnErr result (new.failed ≡ true)
+  pub failed : IsSome old.ended → (result ≡ Err HasFailed) × (new ≡ old)
+  pub after : IfErr result (λ why. old.ended ≡ None → new.ended ≡ Some why)
   pub seen : OnErr result (new.screen ≡ old.screen)
 
 -- the number of a terminal
@@ -80,18 +83,44 @@ abbrev pub answer_after : Option HostEvent → Option HostAnswer → Option Host
 answer_after (Some (Answer answer)) last = Some answer
 answer_after event last = last
 
--- what a push of a byte crosses as, and the last answer before and after it
-abbrev pub IsHostStepTold : Result HostStep Refusal → Status → Told → EventTold → List ℕ → List ℕ → Option HostAnswer
-    → Option HostAnswer → Type 0
-IsHostStepTold (Ok step) status told event buffer after last answer = (status ≡ Done)
-    × (told ≡ told_length (length step.reply)) × (event ≡ event_told step.event)
-    × (after ≡ holds_front step.reply buffer) × (answer ≡ answer_after step.event last)
-IsHostStepTold (Err refusal) status told event buffer after last answer = IsRefusalTold refusal status told
-    × (event ≡ event_told None) × (after ≡ buffer) × (answer ≡ last)
+-- a host takes a byte that tells nothing, and writes this
+abbrev pub HostTakes : HeldHost → ℕ → List ℕ → HeldHost → Type 0
+HostTakes old byte reply new = HostPushed old.end new.end byte (Ok (record { reply = reply; event = None }))
+    × (new.sent ≡ old.sent) × (new.answer ≡ old.answer)
 
--- a push of a byte into what the handle holds
-abbrev pub IsHostPush : ℕ → List ℕ → List ℕ → Status → Told → EventTold → Machine → Machine → Type 0
-IsHostPush byte buffer after status told event (Host old) now = (new : HeldHost) × (result : Result HostStep Refusal)
-    × (now ≡ Host new) × HostPushed old.end new.end byte result
-    × IsHostStepTold result status told event buffer after old.answer new.answer × (new.sent ≡ old.sent)
-IsHostPush byte buffer after status told event old now = (status ≡ NothingHeld) × (now ≡ old) × (after ≡ buffer)
+-- what a byte crosses as that tells something or is refused, behind so many that told nothing
+abbrev pub IsHostLast : Result HostStep Refusal → ℕ → Status → PushedTold → EventTold → List ℕ → HeldHost → HeldHost
+    → Type 0
+IsHostLast (Ok step) quiet status told event last old new = (status ≡ Done)
+    × (told ≡ pushed_told (quiet + 1) told.replied) × IsSome step.event × (event ≡ event_told step.event)
+    × (last ≡ step.reply) × (new.answer ≡ answer_after step.event old.answer)
+IsHostLast (Err refusal) quiet status told event last old new = IsPushRefused refusal quiet told.replied status told
+    × (event ≡ event_told None) × (last ≡ []) × (new.answer ≡ old.answer)
+
+-- that nothing is told but the counts
+abbrev pub IsHostSilent : ℕ → PushedTold → EventTold → List ℕ → HeldHost → HeldHost → Type 0
+IsHostSilent quiet told event last old new = (told ≡ pushed_told quiet told.replied) × (event ≡ event_told None)
+    × (last ≡ []) × (new ≡ old)
+
+-- where a push of bytes ends: with the last, before one without room for what it may bring, or at one that tells
+-- something or is refused
+abbrev pub IsHostEnd : List ℕ → ℕ → ℕ → Status → PushedTold → EventTold → List ℕ → HeldHost → HeldHost → Type 0
+IsHostEnd [] quiet room status told event last old new = (status ≡ Done) × IsHostSilent quiet told event last old new
+IsHostEnd (byte ∷ left) quiet room status told event last old new =
+    (room < REPLY_ROOM → (status ≡ NoRoom) × IsHostSilent quiet told event last old new)
+    × (REPLY_ROOM ≤ room → (result : Result HostStep Refusal) × HostPushed old.end new.end byte result
+    × (new.sent ≡ old.sent) × IsHostLast result quiet status told event last old new)
+
+-- a host's end at a push of bytes: some tell nothing, and it ends there or with the one behind them
+pub record IsHostPush (bytes buffer after : List ℕ) (status : Status) (told : PushedTold) (event : EventTold)
+    (old new : HeldHost) : Type 0 where
+  pub quiet : ℕ
+  pub counted : quiet ≤ length bytes
+  pub written : List ℕ
+  pub before : HeldHost
+  pub takes : TakesAll HostTakes old (take quiet bytes) written before
+  pub last : List ℕ
+  pub replied : told.replied ≡ length written + length last
+  pub fits : told.replied ≤ length buffer
+  pub put : after ≡ holds_front (written ++ last) buffer
+  pub ends : IsHostEnd (drop quiet bytes) quiet (length buffer - length written) status told event last before new

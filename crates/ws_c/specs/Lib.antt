@@ -1,6 +1,9 @@
 pub mod Owned
 pub mod Calls
+pub mod Held
+pub mod Pushes
 pub mod Decoding
+pub mod CodePage
 pub mod Keys
 pub mod Hosts
 pub mod Sends

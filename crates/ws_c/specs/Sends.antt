@@ -1,6 +1,6 @@
 -- What a host's end sends, as C sees it (RFC 1205, sections 3 and 4; SC30-3533, commands and orders)
 
-use Rattle.std.specs.Prelude.{◌≡◌, ◌≢◌, ℕ, ◌<◌, ◌≤◌, true, List, length, Option, Some, None, Result, Ok, Err, OnErr}
+use Rattle.std.specs.Prelude.{◌≡◌, ◌≢◌, ℕ, ◌<◌, ◌≤◌, List, length, Option, Some, None, Result, Ok, Err, OnErr, IsSome}
 use Rattle.std.specs.Prelude.{IfSome, IfNone, MatchResult}
 use Rattle.ws_code.specs.Code.{Rules}
 use Rattle.ws_code.specs.Reason.{number_of as reason_number}
@@ -22,14 +22,14 @@ use Rattle.ws_c.specs.declared.host.HeldHost.{HeldHost}
 use Rattle.ws_record.specs.declared.body_reader.BodyFault.{BodyFault}
 use Rattle.ws_record.specs.declared.body_reader.BodyFault.TheVariants.{Bad, Memory as BodyMemory}
 use Rattle.ws_c.specs.declared.machine.Machine.{Machine}
-use Rattle.ws_c.specs.declared.machine.Machine.TheVariants.{Host}
 use Rattle.ws_c.specs.declared.status.Status.{Status}
-use Rattle.ws_c.specs.declared.status.Status.TheVariants.{Done, Refused, Failed, NoMemory, NothingHeld, NoRoom}
+use Rattle.ws_c.specs.declared.status.Status.TheVariants.{Done, Refused, Failed, NoMemory, NoRoom}
 use Rattle.ws_c.specs.declared.status.Status.TheVariants.{BadArgument, NotReady, ReadOutstanding, NoReadToCancel}
 use Rattle.ws_c.specs.declared.status.Status.TheVariants.{TooBig}
 use Rattle.ws_c.specs.declared.told.Told.{Told}
 use Rattle.ws_record.specs.Body.{IsBody, IsBodyFault}
-use Rattle.ws_c.specs.Calls.{OnHeld, holds_front, told_length}
+use Rattle.ws_c.specs.Calls.{holds_front, told_length}
+use Rattle.ws_c.specs.Held.{OnHost}
 
 -- the opcode of a byte, other than Cancel Invite, where there is one
 pub record IsOpcodeFrom (byte : ℕ) (opcode : Option Opcode) : Type 0 where
@@ -48,7 +48,7 @@ pub record HostSent (old new : HostParts) (opcode : Opcode) (body : List Element
       → MatchResult result (λ spelled. IsSent new bytes items (host_send side opcode body) spelled)
       (IsSendFault (host_send side opcode body))
   pub same : OnErr result (new ≡ old)
-  pub failed : old.failed ≡ true → result ≡ Err SendFailed
+  pub failed : IsSome old.ended → result ≡ Err SendFailed
 
 -- a host's end at a cancel
 pub record HostCancelled (old new : HostParts) (result : Result (List ℕ) SendFault) : Type 0 where
@@ -56,7 +56,7 @@ pub record HostCancelled (old new : HostParts) (result : Result (List ℕ) SendF
       → MatchResult result (λ spelled. IsSent new bytes items (host_cancel side) spelled)
       (λ fault. host_cancel side ≡ RefusesSend fault)
   pub same : OnErr result (new ≡ old)
-  pub failed : old.failed ≡ true → result ≡ Err SendFailed
+  pub failed : IsSome old.ended → result ≡ Err SendFailed
 
 -- the status of a fault
 abbrev pub send_status : SendFault → Status
@@ -85,24 +85,24 @@ IsSentTold (Ok spelled) status told last sent = (status ≡ Done) × (told ≡ t
     × (sent ≡ spelled)
 IsSentTold (Err fault) status told last sent = IsSendFaultTold fault status told × (sent ≡ last)
 
--- a send of what the handle holds
-abbrev pub IsSend : Opcode → List Element → Status → Told → Machine → Machine → Type 0
-IsSend opcode body status told (Host old) now = (new : HeldHost) × (result : Result (List ℕ) SendFault)
-    × (now ≡ Host new) × HostSent old.end new.end opcode body result
+-- a send of a host's end
+abbrev pub IsSend : Opcode → List Element → Status → Told → HeldHost → HeldHost → Type 0
+IsSend opcode body status told old new = (result : Result (List ℕ) SendFault)
+    × HostSent old.end new.end opcode body result
     × IsSentTold result status told old.sent new.sent × (new.answer ≡ old.answer)
-IsSend opcode body status told old now = (status ≡ NothingHeld) × (now ≡ old)
 
 -- a send of the body that was read, where one was
 abbrev pub IsSendFrom : Opcode → Result (List Element) BodyFault → Option Machine → Option Machine → Told → Status
     → Type 0
-IsSendFrom opcode (Ok body) held now told status = OnHeld held now status (IsSend opcode body status told)
-IsSendFrom opcode (Err Bad) held now told status = (status ≡ BadArgument) × (now ≡ held)
-IsSendFrom opcode (Err BodyMemory) held now told status = (status ≡ NoMemory) × (now ≡ held)
+IsSendFrom opcode (Ok body) held now told status = OnHost held now status (IsSend opcode body status told)
+    (told ≡ told_length 0)
+IsSendFrom opcode (Err Bad) held now told status = (status ≡ BadArgument) × (now ≡ held) × (told ≡ told_length 0)
+IsSendFrom opcode (Err BodyMemory) held now told status = (status ≡ NoMemory) × (now ≡ held) × (told ≡ told_length 0)
 
 -- a send by an opcode, where there is one
 abbrev pub IsSendGiven : Option Opcode → Result (List Element) BodyFault → Option Machine → Option Machine → Told
     → Status → Type 0
-IsSendGiven None body held now told status = (status ≡ BadArgument) × (now ≡ held)
+IsSendGiven None body held now told status = (status ≡ BadArgument) × (now ≡ held) × (told ≡ told_length 0)
 IsSendGiven (Some opcode) body held now told status = IsSendFrom opcode body held now told status
 
 -- what a cancel crosses as
@@ -111,26 +111,14 @@ IsCancelTold (Ok spelled) status told buffer after = (status ≡ Done) × (told 
     × (after ≡ holds_front spelled buffer)
 IsCancelTold (Err fault) status told buffer after = IsSendFaultTold fault status told × (after ≡ buffer)
 
--- a cancel of what the handle holds
-abbrev pub IsCancel : List ℕ → List ℕ → Status → Told → Machine → Machine → Type 0
-IsCancel buffer after status told (Host old) now = (new : HeldHost) × (result : Result (List ℕ) SendFault)
-    × (now ≡ Host new) × HostCancelled old.end new.end result × IsCancelTold result status told buffer after
+-- a cancel of a host's end
+abbrev pub IsCancel : List ℕ → List ℕ → Status → Told → HeldHost → HeldHost → Type 0
+IsCancel buffer after status told old new = (result : Result (List ℕ) SendFault)
+    × HostCancelled old.end new.end result × IsCancelTold result status told buffer after
     × (new.sent ≡ old.sent) × (new.answer ≡ old.answer)
-IsCancel buffer after status told old now = (status ≡ NothingHeld) × (now ≡ old) × (after ≡ buffer)
-
--- the host's end that a handle holds
-abbrev pub host_held : Option Machine → Option HeldHost
-host_held None = None
-host_held (Some (Host host)) = Some host
-host_held (Some held) = None
-
--- a look at a host's end, where there is one
-abbrev pub OnHost : Option HeldHost → Status → (HeldHost → Type 0) → Type 0
-OnHost None status seen = status ≡ NothingHeld
-OnHost (Some host) status seen = seen host
 
 -- bytes are put into a buffer that has room for them
-pub record IsFetched (bytes : List ℕ) (status : Status) (old told : Told) (buffer after : List ℕ) : Type 0 where
-  pub room : length buffer < length bytes → (status ≡ NoRoom) × (told ≡ old) × (after ≡ buffer)
+pub record IsFetched (bytes : List ℕ) (status : Status) (told : Told) (buffer after : List ℕ) : Type 0 where
+  pub room : length buffer < length bytes → (status ≡ NoRoom) × (told ≡ told_length 0) × (after ≡ buffer)
   pub fetched : length bytes ≤ length buffer → (status ≡ Done) × (told ≡ told_length (length bytes))
       × (after ≡ holds_front bytes buffer)

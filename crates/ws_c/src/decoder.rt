@@ -3,11 +3,12 @@ ghost use Rattle.std.specs.Prelude.{◌≡◌, ◌≤◌, ◌<◌, length, Resul
 ghost use Rattle.ws_code.specs.declared.fault.Fault.{Fault as AFault};
 ghost use Rattle.ws_record.specs.Grammar.{opcode_byte};
 ghost use Rattle.ws_record.specs.declared.live.Step.{Step as AStep};
-ghost use Rattle.ws_stream.specs.declared.element.Element.{Element as AnElement};
 ghost use Rattle.ws_c.specs.declared.status.Status.{Status as AStatus};
-ghost use Rattle.ws_c.specs.Calls.{OnHeld, number_of};
-ghost use Rattle.ws_c.specs.Decoding.{DecoderFinished, DecoderPushed, IsDecode, IsDecoderNew, IsEnd, IsEndTold, IsStepTold, plain_step};
+ghost use Rattle.ws_c.specs.Calls.{number_of};
+ghost use Rattle.ws_c.specs.Held.{IsDecoderFreed, OnDecoder};
+ghost use Rattle.ws_c.specs.Decoding.{DecoderFinished, IsDecode, IsDecoderNew, IsEnd, IsEndTold, IsStepTold, plain_step};
 
+use crate::held::{on_decoder, on_held};
 use crate::station::put_front;
 use crate::{Handle, Machine, Status};
 use arrayvec::ArrayVec;
@@ -17,10 +18,12 @@ use ws_record::{Head, Live, Step};
 use ws_stream::{Commands, Element};
 use ws_telnet::{Telnet, Token, spell};
 
-/// What a byte completes.
+/// What bytes complete.
 #[repr(C)]
 #[derive(Clone, Copy)]
 pub struct StepTold {
+    /// How many bytes were taken.
+    pub taken: usize,
     /// How many bytes of the buffer were set: the spelling of an element or of a Telnet command.
     pub length: usize,
     /// Where a byte is refused; places count from 0.
@@ -38,11 +41,12 @@ pub struct StepTold {
 }
 
 impl StepTold {
-    // A step of this kind, and nothing else.
-    fn plain(kind: u32) -> Self
-        ensures { result ≡ plain_step kind }
+    // That so many bytes were taken, and this kind is complete.
+    fn plain(taken: usize, kind: u32) -> Self
+        ensures { result ≡ plain_step taken kind }
     {
         StepTold {
+            taken,
             length: 0,
             place: 0,
             kind,
@@ -53,14 +57,16 @@ impl StepTold {
         }
     }
 
-    fn header(head: Head) -> Self
-        ensures { result ≡ record (plain_step 1) {
+    // A header, with which so many bytes were taken.
+    fn header(taken: usize, head: Head) -> Self
+        ensures { result ≡ record (plain_step taken 1) {
           flags = head.flags;
           record_length = head.length;
           opcode = opcode_byte head.opcode;
         } }
     {
         StepTold {
+            taken,
             length: 0,
             place: 0,
             kind: 1,
@@ -100,129 +106,147 @@ pub extern "C" fn ws_c_decoder_new(alloc: Global, handle: &mut Handle) -> u32
     make_decoder(alloc, handle).number()
 }
 
+/// Frees the decoder that the handle holds. It then holds nothing. Another handle stays as it is.
+#[unsafe(no_mangle)]
+pub extern "C" fn ws_c_decoder_free(alloc: Global, handle: &mut Handle)
+    ensures { IsDecoderFreed handle.old.owned.value handle.new.owned.value }
+{
+    if let Some(owned) = handle.take(alloc) {
+        match &*owned {
+            Machine::Decoder(_) => drop(owned),
+            Machine::Station(_) | Machine::Host(_) => handle.put(owned),
+        }
+    }
+}
+
 // Puts an element's spelling into the buffer, and tells it.
-fn tell_element(element: &Element, buffer: &mut [u8], told: &mut StepTold) -> Status
-    requires { 133 ≤ length buffer.old }
-    ensures { IsStepTold (AStep.Unit element.now) result told.new buffer.old buffer.new }
+fn tell_element(element: &Element, before: usize, buffer: &mut [u8], told: &mut StepTold) -> Status
+    requires room { 133 ≤ length buffer.old }
+    requires count { before < usize.MAX }
+    ensures { IsStepTold (AStep.Unit element.now) before result told.new buffer.old buffer.new }
 {
     let mut spelling = ArrayVec::new();
     Commands::spell(element, &mut spelling);
-    *told = StepTold::plain(2);
+    *told = StepTold::plain(before + 1, 2);
     told.length = put_front(buffer, spelling.as_slice());
     Status::Done
 }
 
 // Puts a command's spelling into the buffer, and tells it.
-fn tell_telnet(telnet: Telnet, buffer: &mut [u8], told: &mut StepTold) -> Status
-    requires { 133 ≤ length buffer.old }
-    ensures { IsStepTold (AStep.Telnet telnet) result told.new buffer.old buffer.new }
+fn tell_telnet(telnet: Telnet, before: usize, buffer: &mut [u8], told: &mut StepTold) -> Status
+    requires room { 133 ≤ length buffer.old }
+    requires count { before < usize.MAX }
+    ensures { IsStepTold (AStep.Telnet telnet) before result told.new buffer.old buffer.new }
 {
     let mut spelling = ArrayVec::new();
     spell(&Token::Telnet(telnet), &mut spelling);
-    *told = StepTold::plain(4);
+    *told = StepTold::plain(before + 1, 4);
     told.length = put_front(buffer, spelling.as_slice());
     Status::Done
 }
 
 // What a step crosses as.
-fn tell_step(step: Step<Element>, buffer: &mut [u8], told: &mut StepTold) -> Status
-    requires { 133 ≤ length buffer.old }
-    ensures { IsStepTold step result told.new buffer.old buffer.new }
+fn tell_step(step: Step<Element>, before: usize, buffer: &mut [u8], told: &mut StepTold) -> Status
+    requires room { 133 ≤ length buffer.old }
+    requires count { before < usize.MAX }
+    ensures { IsStepTold step before result told.new buffer.old buffer.new }
 {
-    *told = StepTold::plain(0);
     match step {
-        Step::More => Status::Done,
+        Step::More => {
+            *told = StepTold::plain(before + 1, 0);
+            Status::Done
+        }
         Step::Open(head) => {
-            *told = StepTold::header(head);
+            *told = StepTold::header(before + 1, head);
             Status::Done
         }
-        Step::Unit(element) => tell_element(&element, buffer, told),
+        Step::Unit(element) => tell_element(&element, before, buffer, told),
         Step::Close => {
-            *told = StepTold::plain(3);
+            *told = StepTold::plain(before + 1, 3);
             Status::Done
         }
-        Step::Telnet(telnet) => tell_telnet(telnet, buffer, told),
+        Step::Telnet(telnet) => tell_telnet(telnet, before, buffer, told),
         Step::Refused { place, reason } => {
+            *told = StepTold::plain(before, 0);
             told.place = place;
             told.reason = reason.number();
             Status::Refused
         }
-        Step::Failed => Status::Failed,
+        Step::Failed => {
+            *told = StepTold::plain(before, 0);
+            Status::Failed
+        }
     }
 }
 
-// Pushes a byte into what a handle holds.
-fn push_held(held: &mut Machine, byte: u8, buffer: &mut [u8], told: &mut StepTold) -> Status
-    requires { 133 ≤ length buffer.old }
-    ensures { IsDecode byte buffer.old buffer.new result told.new held.old held.new }
-{
-    match held {
-        Machine::Decoder(decoder) => push_decoder(decoder, byte, buffer, told),
-        Machine::Station(_) | Machine::Host(_) => Status::NothingHeld,
-    }
-}
-
-// Pushes a byte into a decoder.
-fn push_decoder(
+// Pushes bytes into a decoder, up to the first with which something is complete.
+fn push_all(
     decoder: &mut Live<Commands>,
-    byte: u8,
+    bytes: &[u8],
     buffer: &mut [u8],
     told: &mut StepTold,
 ) -> Status
     requires { 133 ≤ length buffer.old }
-    ensures { (step : AStep AnElement) × DecoderPushed decoder.old decoder.new byte step
-        × IsStepTold step result told.new buffer.old buffer.new }
+    ensures { IsDecode bytes.now buffer.old buffer.new result told.new decoder.old decoder.new }
 {
-    let step = decoder.push(byte);
-    tell_step(step, buffer, told)
+    for (at, byte) in bytes.iter().enumerate() {
+        match decoder.push(*byte) {
+            Step::More => {}
+            step => return tell_step(step, at, buffer, told),
+        }
+    }
+    *told = StepTold::plain(bytes.len(), 0);
+    Status::Done
 }
 
-// Pushes a byte into the decoder that a handle holds.
+// Pushes bytes into the decoder that a handle holds.
 fn push(
     alloc: Global,
     handle: &mut Handle,
-    byte: u8,
+    bytes: &[u8],
     buffer: &mut [u8],
     told: &mut StepTold,
 ) -> Status
-    requires { 133 ≤ length buffer.old }
-    ensures { OnHeld handle.old.owned.value handle.new.owned.value result
-        (IsDecode byte buffer.old buffer.new result told.new) }
+    requires room { 133 ≤ length buffer.old }
+    requires untold { told.old ≡ plain_step 0 0 }
+    ensures { OnDecoder handle.old.owned.value handle.new.owned.value result
+        (IsDecode bytes.now buffer.old buffer.new result told.new)
+        ((told.new ≡ plain_step 0 0) × (buffer.new ≡ buffer.old)) }
 {
-    match handle.take(alloc) {
-        Some(mut held) => {
-            let status = push_held(&mut *held, byte, buffer, told);
-            handle.put(held);
-            status
-        }
-        None => Status::NothingHeld,
-    }
+    on_decoder!(
+        alloc,
+        handle,
+        |decoder| push_all(decoder, bytes, buffer, told)
+    )
 }
 
-/// Pushes a byte into a decoder: `told` says what the byte completes, and `buffer` gets the spelling of an element or of
-/// a Telnet command.
+/// Pushes bytes into a decoder, up to the first with which something is complete: `told` says what, and how many bytes
+/// were taken; `buffer` gets the spelling of an element or of a Telnet command.
 ///
 /// `Refused` at the first byte after which the bytes begin no stream, `Failed` from then on; `NothingHeld` where the
-/// handle holds no decoder; `NoRoom` where the buffer has fewer than 133 bytes, and then nothing is changed.
+/// handle holds no decoder; `NoRoom` where the buffer has fewer than 133 bytes: no byte is then taken. Where nothing is
+/// told, `told` is zero.
 #[unsafe(no_mangle)]
 pub extern "C" fn ws_c_decoder_push(
     alloc: Global,
     handle: &mut Handle,
-    byte: u8,
+    bytes: &[u8],
     buffer: &mut [u8],
     told: &mut StepTold,
 ) -> u32
     ensures room { length buffer.old < 133 → (result ≡ number_of Status.NoRoom)
-        × (handle.new ≡ handle.old) × (buffer.new ≡ buffer.old) × (told.new ≡ told.old) }
+        × (handle.new ≡ handle.old) × (buffer.new ≡ buffer.old) × (told.new ≡ plain_step 0 0) }
     ensures pushed { 133 ≤ length buffer.old → (status : AStatus)
         × (result ≡ number_of status)
-        × OnHeld handle.old.owned.value handle.new.owned.value status
-        (IsDecode byte buffer.old buffer.new status told.new) }
+        × OnDecoder handle.old.owned.value handle.new.owned.value status
+        (IsDecode bytes.now buffer.old buffer.new status told.new)
+        ((told.new ≡ plain_step 0 0) × (buffer.new ≡ buffer.old)) }
 {
+    *told = StepTold::plain(0, 0);
     if buffer.len() < 133 {
         return Status::NoRoom.number();
     }
-    push(alloc, handle, byte, buffer, told).number()
+    push(alloc, handle, bytes, buffer, told).number()
 }
 
 // What an end crosses as.
@@ -249,38 +273,24 @@ fn finish_decoder(decoder: &mut Live<Commands>, place: &mut u64) -> Status
     tell_end(ended, place)
 }
 
-// Ends the stream of what a handle holds.
-fn finish_held(held: &mut Machine, place: &mut u64) -> Status
-    ensures { IsEnd result place.new held.old held.new }
-{
-    match held {
-        Machine::Decoder(decoder) => finish_decoder(decoder, place),
-        Machine::Station(_) | Machine::Host(_) => Status::NothingHeld,
-    }
-}
-
 // Ends the stream of the decoder that a handle holds.
 fn finish(alloc: Global, handle: &mut Handle, place: &mut u64) -> Status
-    ensures { OnHeld handle.old.owned.value handle.new.owned.value result (IsEnd result place.new) }
+    ensures { OnDecoder handle.old.owned.value handle.new.owned.value result (IsEnd result place.new)
+        (place.new ≡ 0) }
 {
-    match handle.take(alloc) {
-        Some(mut held) => {
-            let status = finish_held(&mut *held, place);
-            handle.put(held);
-            status
-        }
-        None => Status::NothingHeld,
-    }
+    *place = 0;
+    on_decoder!(alloc, handle, |decoder| finish_decoder(decoder, place))
 }
 
 /// Asks a decoder whether its stream may end here: `Truncated` where it ends inside a token or a record, with the number
 /// of its bytes as the place, and then it answers `Failed`, as after a refusal.
 ///
-/// `NothingHeld` where the handle holds no decoder.
+/// `NothingHeld` where the handle holds no decoder; `place` is then 0.
 #[unsafe(no_mangle)]
 pub extern "C" fn ws_c_decoder_finish(alloc: Global, handle: &mut Handle, place: &mut u64) -> u32
-    ensures ended { (status : AStatus) × (result ≡ number_of status)
-        × OnHeld handle.old.owned.value handle.new.owned.value status (IsEnd status place.new) }
+    ensures { (status : AStatus) × (result ≡ number_of status)
+        × OnDecoder handle.old.owned.value handle.new.owned.value status (IsEnd status place.new)
+        (place.new ≡ 0) }
 {
     finish(alloc, handle, place).number()
 }

@@ -1,17 +1,18 @@
 //! Hosts' ends of sessions.
-ghost use Rattle.std.specs.Prelude.{◌≡◌, ◌≤◌, ◌<◌, length, Result};
-ghost use Rattle.ws_session.specs.declared.host_event.HostStep.{HostStep as AStep};
-ghost use Rattle.ws_session.specs.declared.refusal.Refusal.{Refusal as ARefusal};
+ghost use Rattle.std.specs.Prelude.{◌≡◌, ◌≤◌, ◌<◌, None, length};
 ghost use Rattle.ws_c.specs.declared.status.Status.{Status as AStatus};
-ghost use Rattle.ws_c.specs.Calls.{OnHeld, number_of};
-ghost use Rattle.ws_c.specs.Hosts.{HostPushed, IsHostNew, IsHostPush, IsNewHost, IsHostStepTold, answer_after, event_told, number_of_terminal, opening_bytes};
+ghost use Rattle.ws_c.specs.Calls.{number_of, told_length};
+ghost use Rattle.ws_c.specs.Held.{IsHostFreed, OnHost};
+ghost use Rattle.ws_c.specs.Hosts.{IsHostNew, IsHostPush, IsNewHost, answer_after, event_told, number_of_terminal, opening_bytes};
+ghost use Rattle.ws_c.specs.Pushes.{nothing_pushed};
 
-use crate::station::{put_front, tell_refusal};
-use crate::{Handle, Machine, Status, Told};
+use crate::held::{on_held, on_host};
+use crate::station::{put_behind, put_front, tell_push_refusal};
+use crate::{Handle, Machine, PushedTold, REPLY_ROOM, Status, Told};
 use std::alloc::Global;
 use ws_code::List;
 use ws_nego::{Reply, TerminalType};
-use ws_session::{HostAnswer, HostEnd, HostEvent, HostStep, Refusal};
+use ws_session::{HostAnswer, HostEnd, HostEvent};
 
 /// A host's end, with what C fetches by calls of their own.
 #[derive(Drop)]
@@ -51,8 +52,9 @@ fn opened_host(alloc: Global) -> (HeldHost, Reply)
 
 // Makes a host's end and opens its session, unless the handle holds something.
 fn make_host(alloc: Global, handle: &mut Handle, buffer: &mut [u8], told: &mut Told) -> Status
-    requires { 17 ≤ length buffer.old }
-    ensures { IsHostNew buffer.old buffer.new told.old told.new handle.old.owned.value
+    requires room { 17 ≤ length buffer.old }
+    requires untold { told.old ≡ told_length 0 }
+    ensures { IsHostNew buffer.old buffer.new told.new handle.old.owned.value
         handle.new.owned.value result }
 {
     if let Some(held) = handle.take(alloc) {
@@ -73,8 +75,8 @@ fn make_host(alloc: Global, handle: &mut Handle, buffer: &mut [u8], told: &mut T
 /// Makes a host's end and opens its session: `buffer` gets the bytes that ask the station for its terminal type, and
 /// `told` how many they are.
 ///
-/// `InUse` where the handle holds something, `NoMemory`, and `NoRoom` where the buffer has fewer than 17 bytes. Nothing
-/// is then changed.
+/// `InUse` where the handle holds something, `NoMemory`, and `NoRoom` where the buffer has fewer than 17 bytes. The
+/// handle and the buffer then stay as they are, and `told` is zero.
 #[unsafe(no_mangle)]
 pub extern "C" fn ws_c_host_new(
     alloc: Global,
@@ -83,15 +85,29 @@ pub extern "C" fn ws_c_host_new(
     told: &mut Told,
 ) -> u32
     ensures room { length buffer.old < 17 → (result ≡ number_of Status.NoRoom)
-        × (handle.new ≡ handle.old) × (buffer.new ≡ buffer.old) × (told.new ≡ told.old) }
+        × (handle.new ≡ handle.old) × (buffer.new ≡ buffer.old) × (told.new ≡ told_length 0) }
     ensures made { 17 ≤ length buffer.old → (status : AStatus) × (result ≡ number_of status)
-        × IsHostNew buffer.old buffer.new told.old told.new handle.old.owned.value
+        × IsHostNew buffer.old buffer.new told.new handle.old.owned.value
         handle.new.owned.value status }
 {
+    *told = Told::length(0);
     if buffer.len() < 17 {
         return Status::NoRoom.number();
     }
     make_host(alloc, handle, buffer, told).number()
+}
+
+/// Frees the host's end that the handle holds. It then holds nothing. Another handle stays as it is.
+#[unsafe(no_mangle)]
+pub extern "C" fn ws_c_host_free(alloc: Global, handle: &mut Handle)
+    ensures { IsHostFreed handle.old.owned.value handle.new.owned.value }
+{
+    if let Some(owned) = handle.take(alloc) {
+        match &*owned {
+            Machine::Host(_) => drop(owned),
+            Machine::Station(_) | Machine::Decoder(_) => handle.put(owned),
+        }
+    }
 }
 
 // The number of a terminal.
@@ -137,114 +153,81 @@ fn tell_event(event: Option<HostEvent>, answer: &mut Option<HostAnswer>) -> Even
     }
 }
 
-// What a push crosses as.
-fn tell_step(
-    pushed: Result<HostStep, Refusal>,
-    buffer: &mut [u8],
-    told: &mut Told,
-    event: &mut EventTold,
-    answer: &mut Option<HostAnswer>,
-) -> Status
-    requires { 17 ≤ length buffer.old }
-    ensures { IsHostStepTold pushed result told.new event.new
-        buffer.old buffer.new answer.old answer.new }
-{
-    match pushed {
-        Ok(step) => {
-            *told = Told::length(put_front(buffer, step.reply.as_slice()));
-            *event = tell_event(step.event, answer);
-            Status::Done
-        }
-        Err(refusal) => {
-            *event = EventTold::plain(0);
-            tell_refusal(refusal, told)
-        }
-    }
-}
-
-// Pushes a byte into a host's end.
-fn push_host(
+// Pushes bytes into a host's end, up to the first that tells something.
+fn push_all(
     host: &mut HeldHost,
-    byte: u8,
+    bytes: &[u8],
     buffer: &mut [u8],
-    told: &mut Told,
+    told: &mut PushedTold,
     event: &mut EventTold,
 ) -> Status
-    requires { 17 ≤ length buffer.old }
-    ensures pushed { (pushed : Result AStep ARefusal)
-        × HostPushed host.old.end host.new.end byte pushed
-        × IsHostStepTold pushed result told.new event.new buffer.old buffer.new host.old.answer host.new.answer }
-    ensures sent { host.new.sent ≡ host.old.sent }
+    requires told { told.old ≡ nothing_pushed }
+    requires event { event.old ≡ event_told None }
+    ensures { IsHostPush bytes.now buffer.old buffer.new result told.new event.new host.old host.new }
 {
-    let pushed = host.end.push(byte);
-    tell_step(pushed, buffer, told, event, &mut host.answer)
-}
-
-// Pushes a byte into what a handle holds.
-fn push_held(
-    held: &mut Machine,
-    byte: u8,
-    buffer: &mut [u8],
-    told: &mut Told,
-    event: &mut EventTold,
-) -> Status
-    requires { 17 ≤ length buffer.old }
-    ensures { IsHostPush byte buffer.old buffer.new result told.new event.new held.old held.new }
-{
-    match held {
-        Machine::Host(host) => push_host(host, byte, buffer, told, event),
-        Machine::Station(_) | Machine::Decoder(_) => Status::NothingHeld,
+    for byte in bytes {
+        if buffer.len() - told.replied < REPLY_ROOM {
+            return Status::NoRoom;
+        }
+        match host.end.push(*byte) {
+            Ok(step) => {
+                let text = step.reply.as_slice();
+                put_behind(buffer, told.replied, text);
+                told.taken += 1;
+                told.replied += text.len();
+                if step.event.is_some() {
+                    *event = tell_event(step.event, &mut host.answer);
+                    return Status::Done;
+                }
+            }
+            Err(refusal) => return tell_push_refusal(refusal, told),
+        }
     }
+    Status::Done
 }
 
-// Pushes a byte into the host's end that a handle holds.
+// Pushes bytes into the host's end that a handle holds.
 fn push(
     alloc: Global,
     handle: &mut Handle,
-    byte: u8,
+    bytes: &[u8],
     buffer: &mut [u8],
-    told: &mut Told,
+    told: &mut PushedTold,
     event: &mut EventTold,
 ) -> Status
-    requires { 17 ≤ length buffer.old }
-    ensures { OnHeld handle.old.owned.value handle.new.owned.value result
-        (IsHostPush byte buffer.old buffer.new result told.new event.new) }
+    ensures { OnHost handle.old.owned.value handle.new.owned.value result
+        (IsHostPush bytes.now buffer.old buffer.new result told.new event.new)
+        ((told.new ≡ nothing_pushed) × (event.new ≡ event_told None) × (buffer.new ≡ buffer.old)) }
 {
-    match handle.take(alloc) {
-        Some(mut held) => {
-            let status = push_held(&mut *held, byte, buffer, told, event);
-            handle.put(held);
-            status
-        }
-        None => Status::NothingHeld,
-    }
+    *told = PushedTold::nothing();
+    *event = EventTold::plain(0);
+    on_host!(
+        alloc,
+        handle,
+        |host| push_all(host, bytes, buffer, told, event)
+    )
 }
 
-/// Pushes a byte into a host's end: `buffer` gets what the host writes, `told` how many bytes that is, or why the byte
-/// is refused, and `event` what the byte tells. An answer is kept until the next comes.
+/// Pushes bytes into a host's end, one after another up to the first that tells something: `buffer` gets what the host
+/// writes, `told` says how many bytes were taken and written, and why one is refused, and `event` what the last taken
+/// byte tells. An answer is kept until the next comes.
 ///
 /// `Refused` at a byte that the host's end refuses, `NoMemory` where a growth was refused, `Failed` from then on;
-/// `NothingHeld` where the handle holds no host; `NoRoom` where the buffer has fewer than 17 bytes, and then nothing is
-/// changed.
+/// `NothingHeld` where the handle holds no host; `NoRoom` where fewer than 17 bytes of the buffer are left before a
+/// byte: what was taken was taken.
 #[unsafe(no_mangle)]
 pub extern "C" fn ws_c_host_push(
     alloc: Global,
     handle: &mut Handle,
-    byte: u8,
+    bytes: &[u8],
     buffer: &mut [u8],
-    told: &mut Told,
+    told: &mut PushedTold,
     event: &mut EventTold,
 ) -> u32
-    ensures room { length buffer.old < 17 → (result ≡ number_of Status.NoRoom)
-        × (handle.new ≡ handle.old) × (buffer.new ≡ buffer.old) × (told.new ≡ told.old)
-        × (event.new ≡ event.old) }
-    ensures pushed { 17 ≤ length buffer.old → (status : AStatus)
-        × (result ≡ number_of status)
-        × OnHeld handle.old.owned.value handle.new.owned.value status
-        (IsHostPush byte buffer.old buffer.new status told.new event.new) }
+    ensures { (status : AStatus) × (result ≡ number_of status)
+        × OnHost handle.old.owned.value handle.new.owned.value status
+        (IsHostPush bytes.now buffer.old buffer.new status told.new event.new)
+        ((told.new ≡ nothing_pushed) × (event.new ≡ event_told None) × (buffer.new ≡ buffer.old)) }
 {
-    if buffer.len() < 17 {
-        return Status::NoRoom.number();
-    }
-    push(alloc, handle, byte, buffer, told, event).number()
+    push(alloc, handle, bytes, buffer, told, event).number()
 }

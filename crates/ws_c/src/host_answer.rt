@@ -1,12 +1,13 @@
 //! The answer that a host's end has taken.
-ghost use Rattle.std.specs.Prelude.{◌≡◌, Some};
+ghost use Rattle.std.specs.Prelude.{◌≡◌};
 ghost use Rattle.ws_c.specs.declared.status.Status.{Status as AStatus};
 ghost use Rattle.ws_c.specs.Calls.{number_of};
-ghost use Rattle.ws_c.specs.Sends.{OnHost, host_held};
-ghost use Rattle.ws_c.specs.Answers.{IsAnswerTold, IsContentTold, IsFieldRead};
+ghost use Rattle.ws_c.specs.Held.{OnHost};
+ghost use Rattle.ws_c.specs.Answers.{IsAnswerTold, IsContentTold, IsFieldRead, no_answer, no_read_field};
 
+use crate::held::{on_held, on_host};
 use crate::station::put_front;
-use crate::{Handle, HeldHost, Machine, Status};
+use crate::{Handle, Machine, Status};
 use std::alloc::Global;
 use ws_session::{HostAnswer, ReadField};
 
@@ -36,9 +37,37 @@ pub struct ReadFieldTold {
     pub column: u8,
 }
 
+impl AnswerTold {
+    // Nothing of an answer.
+    fn nothing() -> Self
+        ensures { result ≡ no_answer }
+    {
+        AnswerTold {
+            field_count: 0,
+            cursor_row: 0,
+            cursor_column: 0,
+            aid: 0,
+        }
+    }
+}
+
+impl ReadFieldTold {
+    // Nothing of a field.
+    fn nothing() -> Self
+        ensures { result ≡ no_read_field }
+    {
+        ReadFieldTold {
+            length: 0,
+            row: 0,
+            column: 0,
+        }
+    }
+}
+
 // Tells an answer.
 fn tell_answer(answer: &Option<HostAnswer>, told: &mut AnswerTold) -> Status
-    ensures { IsAnswerTold answer.now result told.old told.new }
+    requires { told.old ≡ no_answer }
+    ensures { IsAnswerTold answer.now result told.new }
 {
     match answer {
         None => Status::NoAnswer,
@@ -54,43 +83,26 @@ fn tell_answer(answer: &Option<HostAnswer>, told: &mut AnswerTold) -> Status
     }
 }
 
-// Tells the answer of what is held.
-fn answer_in(held: &Machine, told: &mut AnswerTold) -> Status
-    ensures { OnHost (host_held (Some held.now)) result
-        (λ host. IsAnswerTold host.answer result told.old told.new) }
-{
-    match held {
-        Machine::Host(host) => tell_answer(&host.answer, told),
-        Machine::Station(_) | Machine::Decoder(_) => Status::NothingHeld,
-    }
-}
-
 // Tells the answer of what a handle holds.
 fn answer_of(alloc: Global, handle: &mut Handle, told: &mut AnswerTold) -> Status
-    ensures told { OnHost (host_held handle.old.owned.value) result
-        (λ host. IsAnswerTold host.answer result told.old told.new) }
-    ensures same { handle.new.owned.value ≡ handle.old.owned.value }
+    ensures { OnHost handle.old.owned.value handle.new.owned.value result
+        (λ old new. (new ≡ old) × IsAnswerTold old.answer result told.new)
+        (told.new ≡ no_answer) }
 {
-    match handle.take(alloc) {
-        Some(held) => {
-            let status = answer_in(&*held, told);
-            handle.put(held);
-            status
-        }
-        None => Status::NothingHeld,
-    }
+    *told = AnswerTold::nothing();
+    on_host!(alloc, handle, |host| tell_answer(&host.answer, told))
 }
 
 /// Tells the answer that came last: the cursor, the key and the number of fields (SC30-3533, responses to read
 /// commands).
 ///
-/// `NoAnswer` where none has come yet, `NothingHeld` where the handle holds no host; `told` is then as it was.
+/// `NoAnswer` where none has come yet, `NothingHeld` where the handle holds no host; `told` is then zero.
 #[unsafe(no_mangle)]
 pub extern "C" fn ws_c_host_answer(alloc: Global, handle: &mut Handle, told: &mut AnswerTold) -> u32
-    ensures told { (status : AStatus) × (result ≡ number_of status)
-        × OnHost (host_held handle.old.owned.value) status
-        (λ host. IsAnswerTold host.answer status told.old told.new) }
-    ensures same { handle.new.owned.value ≡ handle.old.owned.value }
+    ensures { (status : AStatus) × (result ≡ number_of status)
+        × OnHost handle.old.owned.value handle.new.owned.value status
+        (λ old new. (new ≡ old) × IsAnswerTold old.answer status told.new)
+        (told.new ≡ no_answer) }
 {
     answer_of(alloc, handle, told).number()
 }
@@ -119,7 +131,8 @@ fn field_at(
     buffer: &mut [u8],
     told: &mut ReadFieldTold,
 ) -> Status
-    ensures { IsFieldRead answer.now index result told.old told.new buffer.old buffer.new }
+    requires { told.old ≡ no_read_field }
+    ensures { IsFieldRead answer.now index result told.new buffer.old buffer.new }
 {
     let Some(came) = answer else {
         return Status::NoAnswer;
@@ -131,17 +144,6 @@ fn field_at(
     tell_field(&fields[index], buffer, told)
 }
 
-// Tells a field of the answer of what is held.
-fn field_in(held: &Machine, index: usize, buffer: &mut [u8], told: &mut ReadFieldTold) -> Status
-    ensures { OnHost (host_held (Some held.now)) result
-        (λ host. IsFieldRead host.answer index result told.old told.new buffer.old buffer.new) }
-{
-    match held {
-        Machine::Host(host) => field_at(&host.answer, index, buffer, told),
-        Machine::Station(_) | Machine::Decoder(_) => Status::NothingHeld,
-    }
-}
-
 // Tells a field of the answer of what a handle holds.
 fn field_of(
     alloc: Global,
@@ -150,26 +152,24 @@ fn field_of(
     buffer: &mut [u8],
     told: &mut ReadFieldTold,
 ) -> Status
-    ensures told { OnHost (host_held handle.old.owned.value) result
-        (λ host. IsFieldRead host.answer index result told.old told.new buffer.old buffer.new) }
-    ensures same { handle.new.owned.value ≡ handle.old.owned.value }
+    ensures { OnHost handle.old.owned.value handle.new.owned.value result
+        (λ old new. (new ≡ old) × IsFieldRead old.answer index result told.new buffer.old buffer.new)
+        ((told.new ≡ no_read_field) × (buffer.new ≡ buffer.old)) }
 {
-    match handle.take(alloc) {
-        Some(held) => {
-            let status = field_in(&*held, index, buffer, told);
-            handle.put(held);
-            status
-        }
-        None => Status::NothingHeld,
-    }
+    *told = ReadFieldTold::nothing();
+    on_host!(
+        alloc,
+        handle,
+        |host| field_at(&host.answer, index, buffer, told)
+    )
 }
 
 /// Tells a field of the answer that came last, by its index in the order of the fields' starts, from 0, and puts its
 /// content into `buffer`.
 ///
-/// `NoRoom` where the buffer has fewer bytes than the content: `told` says how many it has. `BadArgument` where there
-/// is no such field, `NoAnswer` where no answer has come yet, `NothingHeld` where the handle holds no host; then `told`
-/// is as it was.
+/// `NoRoom` where the buffer has fewer bytes than the content: `told` says how many it has, and the buffer is as it was.
+/// `BadArgument` where there is no such field, `NoAnswer` where no answer has come yet, `NothingHeld` where the handle
+/// holds no host; then `told` is zero.
 #[unsafe(no_mangle)]
 pub extern "C" fn ws_c_host_answer_field(
     alloc: Global,
@@ -178,10 +178,10 @@ pub extern "C" fn ws_c_host_answer_field(
     buffer: &mut [u8],
     told: &mut ReadFieldTold,
 ) -> u32
-    ensures told { (status : AStatus) × (result ≡ number_of status)
-        × OnHost (host_held handle.old.owned.value) status
-        (λ host. IsFieldRead host.answer index status told.old told.new buffer.old buffer.new) }
-    ensures same { handle.new.owned.value ≡ handle.old.owned.value }
+    ensures { (status : AStatus) × (result ≡ number_of status)
+        × OnHost handle.old.owned.value handle.new.owned.value status
+        (λ old new. (new ≡ old) × IsFieldRead old.answer index status told.new buffer.old buffer.new)
+        ((told.new ≡ no_read_field) × (buffer.new ≡ buffer.old)) }
 {
     field_of(alloc, handle, index, buffer, told).number()
 }

@@ -7,9 +7,11 @@ ghost use Rattle.ws_stream.specs.declared.element.Element.{Element as AnElement}
 ghost use Rattle.ws_session.specs.declared.send_fault.SendFault.{SendFault as AFault};
 ghost use Rattle.ws_record.specs.declared.body_reader.BodyFault.{BodyFault as ABodyFault};
 ghost use Rattle.ws_c.specs.declared.status.Status.{Status as AStatus};
-ghost use Rattle.ws_c.specs.Calls.{OnHeld, number_of};
-ghost use Rattle.ws_c.specs.Sends.{HostCancelled, HostSent, IsCancel, IsCancelTold, IsFetched, IsOpcodeFrom, IsReadFrom, IsSend, IsSendFaultTold, IsSendFrom, IsSendGiven, IsSentTold, OnHost, host_held};
+ghost use Rattle.ws_c.specs.Calls.{number_of, told_length};
+ghost use Rattle.ws_c.specs.Held.{OnHost};
+ghost use Rattle.ws_c.specs.Sends.{HostCancelled, HostSent, IsCancel, IsCancelTold, IsFetched, IsOpcodeFrom, IsReadFrom, IsSend, IsSendFaultTold, IsSendFrom, IsSendGiven, IsSentTold};
 
+use crate::held::{on_held, on_host};
 use crate::station::put_front;
 use crate::{Handle, HeldHost, Machine, Status, Told};
 use std::alloc::Global;
@@ -85,17 +87,6 @@ fn send_host(host: &mut HeldHost, opcode: Opcode, body: &[Element], told: &mut T
     tell_sent(sent, &mut host.sent, told)
 }
 
-// Sends a record of what a handle holds.
-fn send_held(held: &mut Machine, opcode: Opcode, body: &[Element], told: &mut Told) -> Status
-    requires other { opcode ≢ Opcode.CancelInvite }
-    ensures { IsSend opcode body.now result told.new held.old held.new }
-{
-    match held {
-        Machine::Host(host) => send_host(host, opcode, body, told),
-        Machine::Station(_) | Machine::Decoder(_) => Status::NothingHeld,
-    }
-}
-
 // Sends a record of the host's end that a handle holds.
 fn send(
     alloc: Global,
@@ -105,17 +96,11 @@ fn send(
     told: &mut Told,
 ) -> Status
     requires other { opcode ≢ Opcode.CancelInvite }
-    ensures { OnHeld handle.old.owned.value handle.new.owned.value result
-        (IsSend opcode body.now result told.new) }
+    requires untold { told.old ≡ told_length 0 }
+    ensures { OnHost handle.old.owned.value handle.new.owned.value result
+        (IsSend opcode body.now result told.new) (told.new ≡ told_length 0) }
 {
-    match handle.take(alloc) {
-        Some(mut held) => {
-            let status = send_held(&mut *held, opcode, body, told);
-            handle.put(held);
-            status
-        }
-        None => Status::NothingHeld,
-    }
+    on_host!(alloc, handle, |host| send_host(host, opcode, body, told))
 }
 
 // The elements that the bytes spell.
@@ -137,6 +122,7 @@ fn send_read(
     told: &mut Told,
 ) -> Status
     requires other { opcode ≢ Opcode.CancelInvite }
+    requires untold { told.old ≡ told_length 0 }
     ensures { IsSendFrom opcode body handle.old.owned.value handle.new.owned.value told.new result }
 {
     match body {
@@ -155,6 +141,7 @@ fn send_given(
     told: &mut Told,
 ) -> Status
     requires other { IfSome opcode (λ given. given ≢ Opcode.CancelInvite) }
+    requires untold { told.old ≡ told_length 0 }
     ensures { (body : Result (Seq AnElement) ABodyFault) × IsReadFrom element_rules bytes.now body
         × IsSendGiven opcode body handle.old.owned.value handle.new.owned.value told.new result }
 {
@@ -171,7 +158,8 @@ fn send_given(
 /// `BadArgument` where no opcode but that of Cancel Invite has the byte, or the bytes spell no body; `NotReady` while
 /// records aren't allowed; `ReadOutstanding` where a read is asked or a cancel is unanswered, and the body isn't empty;
 /// `Refused` where the screen refuses an element, by the reason; `TooBig` at more than 65,535 bytes; `NoMemory`;
-/// `Failed` after a refused byte; `NothingHeld` where the handle holds no host. Nothing is then changed.
+/// `Failed` after a refused byte; `NothingHeld` where the handle holds no host. The handle then stays as it is, and `told`
+/// is zero but for a reason.
 #[unsafe(no_mangle)]
 pub extern "C" fn ws_c_host_send(
     alloc: Global,
@@ -185,13 +173,15 @@ pub extern "C" fn ws_c_host_send(
         × (status : AStatus) × (result ≡ number_of status)
         × IsSendGiven given read handle.old.owned.value handle.new.owned.value told.new status }
 {
+    *told = Told::length(0);
     let given = opcode_from(opcode);
     send_given(alloc, handle, given, body, told).number()
 }
 
 // Puts the bytes that were sent last into a buffer.
 fn fetch_host(host: &HeldHost, buffer: &mut [u8], told: &mut Told) -> Status
-    ensures { IsFetched host.now.sent result told.old told.new buffer.old buffer.new }
+    requires { told.old ≡ told_length 0 }
+    ensures { IsFetched host.now.sent result told.new buffer.old buffer.new }
 {
     let bytes = host.sent.as_slice();
     if buffer.len() < bytes.len() {
@@ -201,37 +191,20 @@ fn fetch_host(host: &HeldHost, buffer: &mut [u8], told: &mut Told) -> Status
     Status::Done
 }
 
-// Puts the bytes that were sent last into a buffer, from what is held.
-fn fetch_held(held: &Machine, buffer: &mut [u8], told: &mut Told) -> Status
-    ensures { OnHost (host_held (Some held.now)) result
-        (λ host. IsFetched host.sent result told.old told.new buffer.old buffer.new) }
-{
-    match held {
-        Machine::Host(host) => fetch_host(host, buffer, told),
-        Machine::Station(_) | Machine::Decoder(_) => Status::NothingHeld,
-    }
-}
-
 // Puts the bytes that were sent last into a buffer, from what a handle holds.
 fn fetch(alloc: Global, handle: &mut Handle, buffer: &mut [u8], told: &mut Told) -> Status
-    ensures fetched { OnHost (host_held handle.old.owned.value) result
-        (λ host. IsFetched host.sent result told.old told.new buffer.old buffer.new) }
-    ensures same { handle.new.owned.value ≡ handle.old.owned.value }
+    ensures { OnHost handle.old.owned.value handle.new.owned.value result
+        (λ old new. (new ≡ old) × IsFetched old.sent result told.new buffer.old buffer.new)
+        ((told.new ≡ told_length 0) × (buffer.new ≡ buffer.old)) }
 {
-    match handle.take(alloc) {
-        Some(held) => {
-            let status = fetch_held(&*held, buffer, told);
-            handle.put(held);
-            status
-        }
-        None => Status::NothingHeld,
-    }
+    *told = Told::length(0);
+    on_host!(alloc, handle, |host| fetch_host(host, buffer, told))
 }
 
 /// Puts the bytes of the record that was sent last into a buffer: none before the first. `told` says how many.
 ///
-/// `NoRoom` where the buffer has fewer bytes, and then nothing is changed; `NothingHeld` where the handle holds no
-/// host.
+/// `NoRoom` where the buffer has fewer bytes, `NothingHeld` where the handle holds no host; the buffer is then as it was,
+/// and `told` zero.
 #[unsafe(no_mangle)]
 pub extern "C" fn ws_c_host_sent(
     alloc: Global,
@@ -239,10 +212,10 @@ pub extern "C" fn ws_c_host_sent(
     buffer: &mut [u8],
     told: &mut Told,
 ) -> u32
-    ensures fetched { (status : AStatus) × (result ≡ number_of status)
-        × OnHost (host_held handle.old.owned.value) status
-        (λ host. IsFetched host.sent status told.old told.new buffer.old buffer.new) }
-    ensures same { handle.new.owned.value ≡ handle.old.owned.value }
+    ensures { (status : AStatus) × (result ≡ number_of status)
+        × OnHost handle.old.owned.value handle.new.owned.value status
+        (λ old new. (new ≡ old) × IsFetched old.sent status told.new buffer.old buffer.new)
+        ((told.new ≡ told_length 0) × (buffer.new ≡ buffer.old)) }
 {
     fetch(alloc, handle, buffer, told).number()
 }
@@ -283,31 +256,15 @@ fn cancel_host(host: &mut HeldHost, buffer: &mut [u8], told: &mut Told) -> Statu
     tell_cancel(sent, buffer, told)
 }
 
-// Cancels the asked read of what a handle holds.
-fn cancel_held(held: &mut Machine, buffer: &mut [u8], told: &mut Told) -> Status
-    requires { 12 ≤ length buffer.old }
-    ensures { IsCancel buffer.old buffer.new result told.new held.old held.new }
-{
-    match held {
-        Machine::Host(host) => cancel_host(host, buffer, told),
-        Machine::Station(_) | Machine::Decoder(_) => Status::NothingHeld,
-    }
-}
-
 // Cancels the asked read of the host's end that a handle holds.
 fn cancel(alloc: Global, handle: &mut Handle, buffer: &mut [u8], told: &mut Told) -> Status
-    requires { 12 ≤ length buffer.old }
-    ensures { OnHeld handle.old.owned.value handle.new.owned.value result
-        (IsCancel buffer.old buffer.new result told.new) }
+    requires room { 12 ≤ length buffer.old }
+    requires untold { told.old ≡ told_length 0 }
+    ensures { OnHost handle.old.owned.value handle.new.owned.value result
+        (IsCancel buffer.old buffer.new result told.new)
+        ((told.new ≡ told_length 0) × (buffer.new ≡ buffer.old)) }
 {
-    match handle.take(alloc) {
-        Some(mut held) => {
-            let status = cancel_held(&mut *held, buffer, told);
-            handle.put(held);
-            status
-        }
-        None => Status::NothingHeld,
-    }
+    on_host!(alloc, handle, |host| cancel_host(host, buffer, told))
 }
 
 /// Cancels the asked read: `buffer` gets the record, and `told` its number of bytes. The read stays asked until an
@@ -315,7 +272,7 @@ fn cancel(alloc: Global, handle: &mut Handle, buffer: &mut [u8], told: &mut Told
 ///
 /// `NoReadToCancel` where no read is asked or a cancel is unanswered, `NotReady` while records aren't allowed, `Failed`
 /// after a refused byte; `NothingHeld` where the handle holds no host; `NoRoom` where the buffer has fewer than 12
-/// bytes. Nothing is then changed.
+/// bytes. The host and the buffer are then as they were, and `told` is zero.
 #[unsafe(no_mangle)]
 pub extern "C" fn ws_c_host_cancel(
     alloc: Global,
@@ -324,11 +281,13 @@ pub extern "C" fn ws_c_host_cancel(
     told: &mut Told,
 ) -> u32
     ensures room { length buffer.old < 12 → (result ≡ number_of Status.NoRoom)
-        × (handle.new ≡ handle.old) × (buffer.new ≡ buffer.old) × (told.new ≡ told.old) }
+        × (handle.new ≡ handle.old) × (buffer.new ≡ buffer.old) × (told.new ≡ told_length 0) }
     ensures sent { 12 ≤ length buffer.old → (status : AStatus) × (result ≡ number_of status)
-        × OnHeld handle.old.owned.value handle.new.owned.value status
-        (IsCancel buffer.old buffer.new status told.new) }
+        × OnHost handle.old.owned.value handle.new.owned.value status
+        (IsCancel buffer.old buffer.new status told.new)
+        ((told.new ≡ told_length 0) × (buffer.new ≡ buffer.old)) }
 {
+    *told = Told::length(0);
     if buffer.len() < 12 {
         return Status::NoRoom.number();
     }

@@ -2,8 +2,11 @@
 //! exports.
 #![tactic(auto)]
 
+mod code_page;
 mod decoder;
+mod field_told;
 mod handle;
+mod held;
 mod host;
 mod host_answer;
 mod host_send;
@@ -11,6 +14,7 @@ mod key_kind;
 mod loose;
 mod machine;
 mod owned;
+mod state_told;
 mod station;
 mod station_keys;
 mod station_screen;
@@ -19,10 +23,11 @@ mod told;
 mod wire;
 
 pub use decoder::StepTold;
+pub use field_told::FieldTold;
 pub use handle::Handle;
 pub use host::{EventTold, HeldHost};
 pub use host_answer::{AnswerTold, ReadFieldTold};
 pub use machine::Machine;
-pub use station_screen::{FieldState, ScreenState};
+pub use state_told::{NO_FIELD, StateTold};
 pub use status::Status;
-pub use told::Told;
+pub use told::{PushedTold, REPLY_ROOM, Told};

@@ -1,15 +1,17 @@
 //! Display stations.
-ghost use Rattle.std.specs.Prelude.{◌≡◌, ◌≤◌, ◌<◌, [], List, ℕ, Option, Some, None, Result, Ok, Err, true, length};
+ghost use Rattle.std.specs.Prelude.{◌≡◌, ◌≤◌, ◌<◌, ◌+◌, ◌++◌, List, ℕ, None, length};
 ghost use Rattle.ws_nego.specs.Terminal.{terminal_named};
 ghost use Rattle.ws_session.specs.StationLeads.{StationParts, StationLeads};
 ghost use Rattle.ws_session.specs.StationSide.{new_station_side};
-ghost use Rattle.ws_session.specs.declared.refusal.Refusal.{Refusal as ARefusal};
 ghost use Rattle.ws_c.specs.declared.status.Status.{Status as AStatus};
-ghost use Rattle.ws_c.specs.Calls.{OnHeld, IsPush, IsPushTold, IsRefusalTold, IsStationNew, StationPushed, holds_front, number_of};
+ghost use Rattle.ws_c.specs.Calls.{IsStationNew, holds_front, number_of};
+ghost use Rattle.ws_c.specs.Held.{IsStationFreed, OnStation};
+ghost use Rattle.ws_c.specs.Pushes.{IsPushRefused, IsStationPush, nothing_pushed, pushed_told};
 
-use crate::{Handle, Machine, Status, Told};
+use crate::held::{on_held, on_station};
+use crate::{Handle, Machine, PushedTold, REPLY_ROOM, Status, Told};
 use std::alloc::Global;
-use ws_nego::{Reply, TerminalType};
+use ws_nego::TerminalType;
 use ws_session::{Refusal, Station};
 
 // Makes a station of the terminal, unless the handle holds something.
@@ -44,12 +46,17 @@ pub extern "C" fn ws_c_station_new(alloc: Global, handle: &mut Handle, name: &[u
     make_station(alloc, handle, name).number()
 }
 
-/// Frees what the handle holds. It then holds nothing.
+/// Frees the station that the handle holds. It then holds nothing. Another handle stays as it is.
 #[unsafe(no_mangle)]
-pub extern "C" fn ws_c_free(alloc: Global, handle: &mut Handle)
-    ensures { handle.new.owned.value ≡ None }
+pub extern "C" fn ws_c_station_free(alloc: Global, handle: &mut Handle)
+    ensures { IsStationFreed handle.old.owned.value handle.new.owned.value }
 {
-    let _held = handle.take(alloc);
+    if let Some(owned) = handle.take(alloc) {
+        match &*owned {
+            Machine::Station(_) => drop(owned),
+            Machine::Decoder(_) | Machine::Host(_) => handle.put(owned),
+        }
+    }
 }
 
 // Puts bytes at a buffer's front, and gives how many.
@@ -62,104 +69,93 @@ pub(crate) fn put_front(buffer: &mut [u8], bytes: &[u8]) -> usize
     bytes.len()
 }
 
-// The status of a refusal, and what is told of it.
-pub(crate) fn tell_refusal(refusal: Refusal, told: &mut Told) -> Status
-    ensures { IsRefusalTold refusal result told.new }
+// Puts bytes into a buffer behind those that stand at its front.
+pub(crate) fn put_behind(buffer: &mut [u8], at: usize, bytes: &[u8])
+    requires { at + length bytes.now ≤ length buffer.old }
+    ensures { (front before : List ℕ) → length front ≡ at
+        → buffer.old ≡ holds_front front before
+        → buffer.new ≡ holds_front (front ++ bytes.now) before }
+{
+    buffer[at..at + bytes.len()].copy_from_slice(bytes);
+}
+
+// The status of a refusal, and what is told of it beside the counts.
+pub(crate) fn tell_push_refusal(refusal: Refusal, told: &mut PushedTold) -> Status
+    requires { told.old ≡ pushed_told told.old.taken told.old.replied }
+    ensures taken { told.new.taken ≡ told.old.taken }
+    ensures replied { told.new.replied ≡ told.old.replied }
+    ensures refused { IsPushRefused refusal told.new.taken told.new.replied result told.new }
 {
     match refusal {
         Refusal::At { place, reason } => {
-            *told = Told {
-                length: 0,
-                place,
-                reason: reason.number(),
-            };
+            told.place = place;
+            told.reason = reason.number();
             Status::Refused
         }
-        Refusal::Failed => {
-            *told = Told::length(0);
-            Status::Failed
-        }
-        Refusal::Memory => {
-            *told = Told::length(0);
-            Status::NoMemory
-        }
+        Refusal::Failed => Status::Failed,
+        Refusal::Memory => Status::NoMemory,
     }
 }
 
-// What a push crosses as.
-fn tell_push(pushed: Result<Reply, Refusal>, buffer: &mut [u8], told: &mut Told) -> Status
-    requires { 17 ≤ length buffer.old }
-    ensures { IsPushTold pushed result told.new buffer.old buffer.new }
+// Pushes bytes into a station.
+fn push_all(station: &mut Station, bytes: &[u8], buffer: &mut [u8], told: &mut PushedTold) -> Status
+    requires { told.old ≡ nothing_pushed }
+    ensures { IsStationPush bytes.now buffer.old buffer.new result told.new station.old station.new }
 {
-    match pushed {
-        Ok(reply) => {
-            *told = Told::length(put_front(buffer, reply.as_slice()));
-            Status::Done
+    for byte in bytes {
+        if buffer.len() - told.replied < REPLY_ROOM {
+            return Status::NoRoom;
         }
-        Err(refusal) => tell_refusal(refusal, told),
-    }
-}
-
-// Pushes a byte into a station.
-fn push_station(station: &mut Station, byte: u8, buffer: &mut [u8], told: &mut Told) -> Status
-    requires { 17 ≤ length buffer.old }
-    ensures { (pushed : Result (List ℕ) ARefusal)
-        × StationPushed station.old station.new byte pushed
-        × IsPushTold pushed result told.new buffer.old buffer.new }
-{
-    let pushed = station.push(byte);
-    tell_push(pushed, buffer, told)
-}
-
-// Pushes a byte into what a handle holds.
-fn push_held(held: &mut Machine, byte: u8, buffer: &mut [u8], told: &mut Told) -> Status
-    requires { 17 ≤ length buffer.old }
-    ensures { IsPush byte buffer.old buffer.new result told.new held.old held.new }
-{
-    match held {
-        Machine::Station(station) => push_station(station, byte, buffer, told),
-        Machine::Decoder(_) | Machine::Host(_) => Status::NothingHeld,
-    }
-}
-
-// Pushes a byte into the station that a handle holds.
-fn push(alloc: Global, handle: &mut Handle, byte: u8, buffer: &mut [u8], told: &mut Told) -> Status
-    requires { 17 ≤ length buffer.old }
-    ensures { OnHeld handle.old.owned.value handle.new.owned.value result
-        (IsPush byte buffer.old buffer.new result told.new) }
-{
-    match handle.take(alloc) {
-        Some(mut held) => {
-            let status = push_held(&mut *held, byte, buffer, told);
-            handle.put(held);
-            status
+        match station.push(*byte) {
+            Ok(reply) => {
+                let text = reply.as_slice();
+                put_behind(buffer, told.replied, text);
+                told.taken += 1;
+                told.replied += text.len();
+            }
+            Err(refusal) => return tell_push_refusal(refusal, told),
         }
-        None => Status::NothingHeld,
     }
+    Status::Done
 }
 
-/// Pushes a byte into a station: `buffer` gets what the station writes, and `told` how many bytes that is, or why the
-/// byte is refused.
+// Pushes bytes into the station that a handle holds.
+fn push(
+    alloc: Global,
+    handle: &mut Handle,
+    bytes: &[u8],
+    buffer: &mut [u8],
+    told: &mut PushedTold,
+) -> Status
+    ensures { OnStation handle.old.owned.value handle.new.owned.value result
+        (IsStationPush bytes.now buffer.old buffer.new result told.new)
+        ((told.new ≡ nothing_pushed) × (buffer.new ≡ buffer.old)) }
+{
+    *told = PushedTold::nothing();
+    on_station!(
+        alloc,
+        handle,
+        |station| push_all(station, bytes, buffer, told)
+    )
+}
+
+/// Pushes bytes into a station, one after another: `buffer` gets what the station writes, and `told` how many bytes were
+/// taken and written, and why one is refused.
 ///
 /// `Refused` at a byte that the station refuses, `Failed` from then on; `NothingHeld` where the handle holds no
-/// station; `NoRoom` where the buffer has fewer than 17 bytes, and then nothing is changed.
+/// station; `NoRoom` where fewer than 17 bytes of the buffer are left before a byte: what was taken was taken.
 #[unsafe(no_mangle)]
 pub extern "C" fn ws_c_station_push(
     alloc: Global,
     handle: &mut Handle,
-    byte: u8,
+    bytes: &[u8],
     buffer: &mut [u8],
-    told: &mut Told,
+    told: &mut PushedTold,
 ) -> u32
-    ensures room { length buffer.old < 17 → (result ≡ number_of Status.NoRoom)
-        × (handle.new ≡ handle.old) × (buffer.new ≡ buffer.old) × (told.new ≡ told.old) }
-    ensures pushed { 17 ≤ length buffer.old → (status : AStatus)
-        × (result ≡ number_of status)
-        × OnHeld handle.old.owned.value handle.new.owned.value status
-        (IsPush byte buffer.old buffer.new status told.new) }
+    ensures { (status : AStatus) × (result ≡ number_of status)
+        × OnStation handle.old.owned.value handle.new.owned.value status
+        (IsStationPush bytes.now buffer.old buffer.new status told.new)
+        ((told.new ≡ nothing_pushed) × (buffer.new ≡ buffer.old)) }
 {
-    if buffer.len() < 17 {
-        return Status::NoRoom.number();
-    }
-    push(alloc, handle, byte, buffer, told).number()
+    push(alloc, handle, bytes, buffer, told).number()
 }

@@ -4,9 +4,11 @@ ghost use Rattle.ws_keys.specs.declared.answer.Answer.{Answer as AnAnswer};
 ghost use Rattle.ws_keys.specs.declared.key.Key.{Key as AKey};
 ghost use Rattle.ws_session.specs.declared.key_fault.KeyFault.{KeyFault as AFault};
 ghost use Rattle.ws_c.specs.declared.status.Status.{Status as AStatus};
-ghost use Rattle.ws_c.specs.Calls.{OnHeld, IsPress, IsPressFrom, IsKeyFaultTold, IsKeyTold, StationKeyed, number_of};
+ghost use Rattle.ws_c.specs.Calls.{IsKeyFaultTold, IsKeyTold, IsPress, IsPressFrom, StationKeyed, number_of, told_length};
+ghost use Rattle.ws_c.specs.Held.{OnStation};
 ghost use Rattle.ws_c.specs.Keys.{IsKeyFrom, IsKeyOfKind};
 
+use crate::held::{on_held, on_station};
 use crate::key_kind::{KeyKind, refusal_number};
 use crate::station::put_front;
 use crate::wire::answer_bytes;
@@ -60,17 +62,6 @@ fn press_station(station: &mut Station, key: Key, buffer: &mut [u8], told: &mut 
     tell_key(keyed, buffer, told)
 }
 
-// Presses a key of what a handle holds.
-fn press_held(held: &mut Machine, key: Key, buffer: &mut [u8], told: &mut Told) -> Status
-    requires { 5404 ≤ length buffer.old }
-    ensures { IsPress key buffer.old buffer.new result told.new held.old held.new }
-{
-    match held {
-        Machine::Station(station) => press_station(station, key, buffer, told),
-        Machine::Decoder(_) | Machine::Host(_) => Status::NothingHeld,
-    }
-}
-
 // The key of a kind, where there is one, and a value.
 fn key_of(named: Option<KeyKind>, value: u32) -> Option<Key>
     ensures { IsKeyOfKind named value result }
@@ -91,18 +82,17 @@ fn key_from(kind: u32, value: u32) -> Option<Key>
 
 // Presses a key of the station that a handle holds.
 fn press(alloc: Global, handle: &mut Handle, key: Key, buffer: &mut [u8], told: &mut Told) -> Status
-    requires { 5404 ≤ length buffer.old }
-    ensures { OnHeld handle.old.owned.value handle.new.owned.value result
-        (IsPress key buffer.old buffer.new result told.new) }
+    requires room { 5404 ≤ length buffer.old }
+    requires untold { told.old ≡ told_length 0 }
+    ensures { OnStation handle.old.owned.value handle.new.owned.value result
+        (IsPress key buffer.old buffer.new result told.new)
+        ((told.new ≡ told_length 0) × (buffer.new ≡ buffer.old)) }
 {
-    match handle.take(alloc) {
-        Some(mut held) => {
-            let status = press_held(&mut *held, key, buffer, told);
-            handle.put(held);
-            status
-        }
-        None => Status::NothingHeld,
-    }
+    on_station!(
+        alloc,
+        handle,
+        |station| press_station(station, key, buffer, told)
+    )
 }
 
 // Presses the key of a kind's number and a value, where there is one.
@@ -113,7 +103,8 @@ fn press_from(
     buffer: &mut [u8],
     told: &mut Told,
 ) -> Status
-    requires { 5404 ≤ length buffer.old }
+    requires room { 5404 ≤ length buffer.old }
+    requires untold { told.old ≡ told_length 0 }
     ensures { IsPressFrom key handle.old.owned.value handle.new.owned.value buffer.old buffer.new
         told.new result }
 {
@@ -129,7 +120,7 @@ fn press_from(
 /// `KeyRefused` where the keyboard or the field refuses the key, `NotReady` at a key that sends while records aren't
 /// allowed, `Failed` after a refused byte; the station is then unchanged. `NothingHeld` where the handle holds no
 /// station. `NoRoom` where the buffer has fewer than 5,404 bytes, and `BadArgument` where no key has the kind and the
-/// value: then nothing is changed.
+/// value. Where nothing is told, `told` is zero.
 #[unsafe(no_mangle)]
 pub extern "C" fn ws_c_station_key(
     alloc: Global,
@@ -140,12 +131,13 @@ pub extern "C" fn ws_c_station_key(
     told: &mut Told,
 ) -> u32
     ensures room { length buffer.old < 5404 → (result ≡ number_of Status.NoRoom)
-        × (handle.new ≡ handle.old) × (buffer.new ≡ buffer.old) × (told.new ≡ told.old) }
+        × (handle.new ≡ handle.old) × (buffer.new ≡ buffer.old) × (told.new ≡ told_length 0) }
     ensures pressed { 5404 ≤ length buffer.old → (key : Option AKey) × IsKeyFrom kind value key
         × (status : AStatus) × (result ≡ number_of status)
         × IsPressFrom key handle.old.owned.value handle.new.owned.value buffer.old buffer.new
         told.new status }
 {
+    *told = Told::length(0);
     if buffer.len() < 5404 {
         return Status::NoRoom.number();
     }

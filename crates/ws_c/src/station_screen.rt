@@ -1,71 +1,18 @@
 //! The screen of a station.
-ghost use Rattle.std.specs.Prelude.{◌≡◌, ◌≤◌, ◌<◌, Some, None, length, slice_get, slice_index, IfSome};
-ghost use Rattle.std.specs.Str.{encode_utf8_all};
-ghost use Rattle.ws_screen.specs.Lines.{row_chars};
+ghost use Rattle.std.specs.Prelude.{◌≡◌, ◌≤◌, ◌<◌, length, slice_get, slice_index};
 ghost use Rattle.ws_code.specs.Address.{IsRowAndColumn, place_of};
-ghost use Rattle.ws_c.specs.Calls.{IsFieldTold, IsRow, OnScreen, field_state as state_of_field, holds_front, number_of, read_number as pending_number, screen_held, state_of as screen_state, told_length};
+ghost use Rattle.ws_screen.specs.ScreenParts.{holds as holds_cell};
+ghost use Rattle.ws_c.specs.declared.status.Status.{Status as AStatus};
+ghost use Rattle.ws_c.specs.Calls.{IsFieldTold, IsRow, field_index as index_of, holds_front, no_field, no_state, number_of, place_refused, read_number as pending_number, reason_refused, row_text, state_told, told_length};
+ghost use Rattle.ws_c.specs.Held.{OnStation};
 
+use crate::held::{on_held, on_station};
 use crate::station::put_front;
-use crate::{Handle, Machine, Status, Told};
+use crate::{FieldTold, Handle, Machine, NO_FIELD, StateTold, Status, Told};
 use std::alloc::Global;
-use ws_code::Address;
+use ws_code::{Address, Reason};
 use ws_screen::{Field, ReadKind, Screen};
-
-/// What of a screen is no cell and no field.
-#[repr(C)]
-#[derive(Clone, Copy)]
-pub struct ScreenState {
-    /// 1 to 24.
-    pub cursor_row: u8,
-    /// 1 to 80.
-    pub cursor_column: u8,
-    /// 1 Read Input Fields, 2 Read MDT Fields, 3 Read MDT Fields Alternate; 0 where no read waits for a key.
-    pub pending_read: u8,
-    pub is_locked: bool,
-    pub is_message_lit: bool,
-    pub is_blinking: bool,
-    /// At most 256.
-    pub field_count: u16,
-}
-
-/// A field of a screen.
-#[repr(C)]
-#[derive(Clone, Copy)]
-pub struct FieldState {
-    /// Of its first cell, 1 to 24.
-    pub row: u8,
-    /// Of its first cell, 1 to 80.
-    pub column: u8,
-    /// Its number of cells.
-    pub length: u16,
-    /// Its format word, with its MDT.
-    pub format: u16,
-}
-
-// The screen of the station that is held.
-fn screen_in(held: &Machine) -> Option<Screen>
-    ensures { result ≡ screen_held (Some held.now) }
-{
-    match held {
-        Machine::Station(station) => {
-            let mut copy = Screen::new();
-            copy.assign(station.screen());
-            Some(copy)
-        }
-        Machine::Decoder(_) | Machine::Host(_) => None,
-    }
-}
-
-// The screen of the station that a handle holds.
-fn screen_of(alloc: Global, handle: &mut Handle) -> Option<Screen>
-    ensures value { result ≡ screen_held handle.old.owned.value }
-    ensures same { handle.new.owned.value ≡ handle.old.owned.value }
-{
-    let held = handle.take(alloc)?;
-    let screen = screen_in(&*held);
-    handle.put(held);
-    screen
-}
+use ws_session::Station;
 
 // The number of a pending read.
 fn read_number(pending: Option<ReadKind>) -> u8
@@ -79,58 +26,120 @@ fn read_number(pending: Option<ReadKind>) -> u8
     }
 }
 
-// What of a screen is no cell and no field.
-fn state_of(screen: &Screen) -> ScreenState
-    ensures { result ≡ screen_state screen.now }
+// The place and the reason's number of a refused byte.
+fn refused_at(refused: Option<(u64, Reason)>) -> (u64, u8)
+    ensures place { result.0 ≡ place_refused refused }
+    ensures reason { result.1 ≡ reason_refused refused }
 {
+    match refused {
+        Some((place, reason)) => (place, reason.number()),
+        None => (0, 0),
+    }
+}
+
+// Whether a field holds a cell.
+fn holds(field: &Field, at: Address) -> bool
+    ensures { result ≡ holds_cell field.now at }
+{
+    let place = at.place() as u32;
+    let start = field.start.place() as u32;
+    start <= place && place < start + field.length as u32
+}
+
+// The index of the field that holds a cell.
+fn field_index(fields: &[Field], at: Address) -> u16
+    requires { length fields.now ≤ 256 }
+    ensures { result ≡ index_of fields.now at }
+{
+    for (index, field) in fields.iter().enumerate() {
+        if holds(field, at) {
+            return index as u16;
+        }
+    }
+    NO_FIELD
+}
+
+// What of a station is no cell and no field.
+fn state_of(station: &Station) -> StateTold
+    ensures { result ≡ state_told station.now }
+{
+    let screen = station.screen();
     screen.known();
     let cursor = screen.cursor();
     let fields = screen.fields();
-    ScreenState {
+    let (refused_place, refused_reason) = refused_at(station.refused());
+    StateTold {
+        records: station.records(),
+        refused_place,
+        field_count: fields.len() as u16,
+        cursor_field: field_index(fields.as_slice(), cursor),
         cursor_row: cursor.row(),
         cursor_column: cursor.col(),
         pending_read: read_number(screen.pending()),
+        refused_reason,
+        is_ready: station.is_ready(),
         is_locked: screen.locked(),
         is_message_lit: screen.message(),
         is_blinking: screen.blink(),
-        field_count: fields.len() as u16,
     }
 }
 
-fn field_state(field: &Field) -> FieldState
-    ensures { result ≡ state_of_field field.now }
+fn tell_state(station: &Station, state: &mut StateTold) -> Status
+    ensures status { result ≡ Status.Done }
+    ensures state { state.new ≡ state_told station.now }
 {
-    FieldState {
-        row: field.start.row(),
-        column: field.start.col(),
-        length: field.length,
-        format: field.format.value(),
-    }
+    *state = state_of(station);
+    Status::Done
 }
 
-/// Tells the cursor, the keyboard's lock, the lights, the pending read and the number of fields.
+fn look_at_state(alloc: Global, handle: &mut Handle, state: &mut StateTold) -> Status
+    ensures { OnStation handle.old.owned.value handle.new.owned.value result
+        (λ old new. (new ≡ old) × (result ≡ Status.Done) × (state.new ≡ state_told old))
+        (state.new ≡ no_state) }
+{
+    *state = StateTold::nothing();
+    on_station!(alloc, handle, |station| tell_state(station, state))
+}
+
+/// Tells whether records are allowed, a refused byte, the records that were carried out, the cursor and its field, the
+/// keyboard's lock, the lights, the pending read and the number of fields.
 ///
-/// `NothingHeld` where the handle holds no station; `state` is then as it was.
+/// `NothingHeld` where the handle holds no station; `state` is then zero.
 #[unsafe(no_mangle)]
 pub extern "C" fn ws_c_station_state(
     alloc: Global,
     handle: &mut Handle,
-    state: &mut ScreenState,
+    state: &mut StateTold,
 ) -> u32
-    ensures state { OnScreen (screen_held handle.old.owned.value) result
-        (λ screen. state.new ≡ screen_state screen) }
-    ensures same { handle.new.owned.value ≡ handle.old.owned.value }
+    ensures { (status : AStatus) × (result ≡ number_of status)
+        × OnStation handle.old.owned.value handle.new.owned.value status
+        (λ old new. (new ≡ old) × (status ≡ Status.Done) × (state.new ≡ state_told old))
+        (state.new ≡ no_state) }
 {
-    let Some(screen) = screen_of(alloc, handle) else {
-        return Status::NothingHeld.number();
-    };
-    *state = state_of(&screen);
-    Status::Done.number()
+    look_at_state(alloc, handle, state).number()
+}
+
+fn tell_cell(station: &Station, at: Address, byte: &mut u8) -> Status
+    ensures status { result ≡ Status.Done }
+    ensures byte { byte.new ≡ slice_index station.now.screen.cells at }
+{
+    *byte = station.screen().cell(at);
+    Status::Done
+}
+
+fn look_at_cell(alloc: Global, handle: &mut Handle, at: Address, byte: &mut u8) -> Status
+    requires { byte.old ≡ 0 }
+    ensures { OnStation handle.old.owned.value handle.new.owned.value result
+        (λ old new. (new ≡ old) × (result ≡ Status.Done)
+        × (byte.new ≡ slice_index old.screen.cells at))
+        (byte.new ≡ 0) }
+{
+    on_station!(alloc, handle, |station| tell_cell(station, at, byte))
 }
 
 /// Tells a cell's byte, in code page 037 or an attribute; rows and columns count from 1.
 ///
-/// `BadArgument` at a cell off the screen, `NothingHeld` where the handle holds no station.
+/// `BadArgument` at a cell off the screen, `NothingHeld` where the handle holds no station; `byte` is then 0.
 #[unsafe(no_mangle)]
 pub extern "C" fn ws_c_station_cell(
     alloc: Global,
@@ -139,25 +148,65 @@ pub extern "C" fn ws_c_station_cell(
     column: u8,
     byte: &mut u8,
 ) -> u32
-    ensures cell { IsRowAndColumn row column → OnScreen (screen_held handle.old.owned.value) result
-        (λ screen. byte.new ≡ slice_index screen.cells (place_of row column)) }
-    ensures off { ¬ IsRowAndColumn row column → result ≡ number_of Status.BadArgument }
-    ensures same { handle.new.owned.value ≡ handle.old.owned.value }
+    ensures cell { IsRowAndColumn row column → (status : AStatus) × (result ≡ number_of status)
+        × OnStation handle.old.owned.value handle.new.owned.value status
+        (λ old new. (new ≡ old) × (status ≡ Status.Done)
+        × (byte.new ≡ slice_index old.screen.cells (place_of row column)))
+        (byte.new ≡ 0) }
+    ensures off { ¬ IsRowAndColumn row column → (result ≡ number_of Status.BadArgument)
+        × (handle.new ≡ handle.old) × (byte.new ≡ 0) }
 {
+    *byte = 0;
     let Some(at) = Address::new(row, column) else {
         return Status::BadArgument.number();
     };
-    let Some(screen) = screen_of(alloc, handle) else {
-        return Status::NothingHeld.number();
-    };
-    *byte = screen.cell(at);
-    Status::Done.number()
+    look_at_cell(alloc, handle, at, byte).number()
+}
+
+fn put_row(screen: &Screen, row: u8, text: &mut [u8]) -> usize
+    requires row { IsRow row }
+    requires room { 160 ≤ length text.old }
+    ensures length { result ≡ length (row_text screen.now row) }
+    ensures text { text.new ≡ holds_front (row_text screen.now row) text.old }
+{
+    let line = screen.line(row);
+    put_front(text, line.as_str().as_bytes())
+}
+
+fn tell_row(station: &Station, row: u8, text: &mut [u8], told: &mut Told) -> Status
+    requires row { IsRow row }
+    requires room { 160 ≤ length text.old }
+    ensures status { result ≡ Status.Done }
+    ensures told { told.new ≡ told_length (length (row_text station.now.screen row)) }
+    ensures text { text.new ≡ holds_front (row_text station.now.screen row) text.old }
+{
+    *told = Told::length(put_row(station.screen(), row, text));
+    Status::Done
+}
+
+fn look_at_row(
+    alloc: Global,
+    handle: &mut Handle,
+    row: u8,
+    text: &mut [u8],
+    told: &mut Told,
+) -> Status
+    requires row { IsRow row }
+    requires room { 160 ≤ length text.old }
+    requires untold { told.old ≡ told_length 0 }
+    ensures { OnStation handle.old.owned.value handle.new.owned.value result
+        (λ old new. (new ≡ old) × (result ≡ Status.Done)
+        × (text.new ≡ holds_front (row_text old.screen row) text.old)
+        × (told.new ≡ told_length (length (row_text old.screen row))))
+        ((text.new ≡ text.old) × (told.new ≡ told_length 0)) }
+{
+    on_station!(alloc, handle, |station| tell_row(station, row, text, told))
 }
 
 /// Puts a row, 1 to 24, into a buffer as UTF-8: 80 characters, at most 160 bytes. `told` says how many bytes.
 ///
 /// `BadArgument` at another row, `NoRoom` where the buffer has fewer than 160 bytes, `NothingHeld` where the handle
-/// holds no station; the buffer is then as it was.
+/// holds no station; the buffer is then as it was, and `told` zero.
 #[unsafe(no_mangle)]
 pub extern "C" fn ws_c_station_row(
     alloc: Global,
@@ -167,49 +216,62 @@ pub extern "C" fn ws_c_station_row(
     told: &mut Told,
 ) -> u32
     ensures row { IsRow row → 160 ≤ length text.old
-        → OnScreen (screen_held handle.old.owned.value) result
-        (λ screen. (text.new ≡ holds_front (encode_utf8_all (row_chars screen.cells row)) text.old)
-        × (told.new ≡ told_length (length (encode_utf8_all (row_chars screen.cells row))))) }
-    ensures off { ¬ IsRow row → result ≡ number_of Status.BadArgument }
-    ensures room { IsRow row → length text.old < 160 → result ≡ number_of Status.NoRoom }
-    ensures same { handle.new.owned.value ≡ handle.old.owned.value }
+        → (status : AStatus) × (result ≡ number_of status)
+        × OnStation handle.old.owned.value handle.new.owned.value status
+        (λ old new. (new ≡ old) × (status ≡ Status.Done)
+        × (text.new ≡ holds_front (row_text old.screen row) text.old)
+        × (told.new ≡ told_length (length (row_text old.screen row))))
+        ((text.new ≡ text.old) × (told.new ≡ told_length 0)) }
+    ensures off { ¬ IsRow row → (result ≡ number_of Status.BadArgument)
+        × (handle.new ≡ handle.old) × (text.new ≡ text.old) × (told.new ≡ told_length 0) }
+    ensures room { IsRow row → length text.old < 160 → (result ≡ number_of Status.NoRoom)
+        × (handle.new ≡ handle.old) × (text.new ≡ text.old) × (told.new ≡ told_length 0) }
 {
+    *told = Told::length(0);
     if row < 1 || row > 24 {
         return Status::BadArgument.number();
     }
     if text.len() < 160 {
         return Status::NoRoom.number();
     }
-    let Some(screen) = screen_of(alloc, handle) else {
-        return Status::NothingHeld.number();
-    };
-    let line = screen.line(row);
-    *told = Told::length(put_front(text, line.as_str().as_bytes()));
-    Status::Done.number()
+    look_at_row(alloc, handle, row, text, told).number()
+}
+
+fn tell_field(station: &Station, index: usize, field: &mut FieldTold) -> Status
+    requires { field.old ≡ no_field }
+    ensures { IsFieldTold (slice_get station.now.screen.fields index) result field.new }
+{
+    let fields = station.screen().fields();
+    if index >= fields.len() {
+        return Status::BadArgument;
+    }
+    *field = FieldTold::of(&fields.as_slice()[index]);
+    Status::Done
+}
+
+fn look_at_field(alloc: Global, handle: &mut Handle, index: usize, field: &mut FieldTold) -> Status
+    ensures { OnStation handle.old.owned.value handle.new.owned.value result
+        (λ old new. (new ≡ old) × IsFieldTold (slice_get old.screen.fields index) result field.new)
+        (field.new ≡ no_field) }
+{
+    *field = FieldTold::nothing();
+    on_station!(alloc, handle, |station| tell_field(station, index, field))
 }
 
 /// Tells a field, by its index in the order of the fields' starts, from 0.
 ///
-/// `BadArgument` where there is no such field, `NothingHeld` where the handle holds no station.
+/// `BadArgument` where there is no such field, `NothingHeld` where the handle holds no station; `field` is then zero.
 #[unsafe(no_mangle)]
 pub extern "C" fn ws_c_station_field(
     alloc: Global,
     handle: &mut Handle,
     index: usize,
-    field: &mut FieldState,
+    field: &mut FieldTold,
 ) -> u32
-    ensures none { screen_held handle.old.owned.value ≡ None → result ≡ number_of Status.NothingHeld }
-    ensures field { IfSome (screen_held handle.old.owned.value) (λ screen.
-        IsFieldTold (slice_get screen.fields index) result field.old field.new) }
-    ensures same { handle.new.owned.value ≡ handle.old.owned.value }
+    ensures { (status : AStatus) × (result ≡ number_of status)
+        × OnStation handle.old.owned.value handle.new.owned.value status
+        (λ old new. (new ≡ old) × IsFieldTold (slice_get old.screen.fields index) status field.new)
+        (field.new ≡ no_field) }
 {
-    let Some(screen) = screen_of(alloc, handle) else {
-        return Status::NothingHeld.number();
-    };
-    let fields = screen.fields();
-    if index >= fields.len() {
-        return Status::BadArgument.number();
-    }
-    *field = field_state(&fields.as_slice()[index]);
-    Status::Done.number()
+    look_at_field(alloc, handle, index, field).number()
 }

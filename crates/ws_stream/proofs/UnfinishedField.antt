@@ -10,7 +10,7 @@ use Rattle.ws_stream.specs.FieldOrder.{FieldOrder, IsFieldOrder, HasFormat, is_c
 use Rattle.ws_code.specs.TwoBytes.{two_bytes}
 use Rattle.ws_stream.specs.Elements.{element_rules, spelling, IsElement, allows_orders, format_bytes}
 use Rattle.ws_stream.specs.ElementLaws.{first, no_code, format_front, controls_front, control_low}
-use Rattle.ws_stream.specs.Machine.{front_bytes, is_front}
+use Rattle.ws_stream.specs.Machine.{front_bytes, is_front, are_words, words_bytes}
 use Rattle.ws_stream.specs.Reasons.{element_reason}
 use Rattle.ws_code.specs.declared.reason.Reason.TheVariants.{TooManyFcws, BadFormatByte}
 use Rattle.ws_stream.specs.declared.place.Place.{Place}
@@ -173,6 +173,17 @@ many_reason place w controls b h = rw (le-leb 0x80 b h) refl
 
 pub byte_reason : (place : Place) (w : ℕ) (controls : List ℕ) (b : ℕ) → b < 0x80 → BadFormatByte ≡ element_reason place (0x1D ∷ (two_bytes w ++ flat_map two_bytes controls)) b
 byte_reason place w controls b h = rw (lt-leb 0x80 b h) refl
+
+-- a byte that begins neither an attribute nor a control word
+pub bad_next : (place : Place) (w : ℕ) (controls : List ℕ) (b : ℕ) → are_words w controls ≡ true
+    → ((0x20 ≤ b) × (b < 0x40) → ⊥) → b < 0x80
+    → (IsPrefix element_rules place (0x1D ∷ words_bytes w controls ++ b ∷ []) → ⊥)
+    × (BadFormatByte ≡ element_reason place (0x1D ∷ words_bytes w controls) b)
+bad_next place w controls b words no_attribute low =
+    let parts = and_parts (nat_le 0x4000 w) (list_all is_control controls) words in (
+      bad_part place w controls b (leb-true 0x4000 w parts.0) parts.1 no_attribute (λ h. omega (arith, h.0, low)),
+      byte_reason place w controls b low,
+    )
 
 pub follows_here : (place : Place) (w : ℕ) (controls : List ℕ) → 0x4000 ≤ w → list_all is_control controls ≡ true → (u : IsUnfinished element_rules place (0x1D ∷ (two_bytes w ++ flat_map two_bytes controls))) → FollowsWords w controls (u.next ∷ u.rest)
 follows_here place w controls format words u = words_so_far place u.unit w controls (u.next ∷ u.rest) u.stands format words u.spelled

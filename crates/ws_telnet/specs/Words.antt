@@ -17,7 +17,7 @@ abbrev pub IsWhole : List ℕ → Tokens → Token → Type 0
 IsWhole bytes machine token = IsSpelled token_rules tt bytes token × (unfinished_of machine ≡ [])
 
 -- Behind the bytes of a begun token the byte makes this word, and leaves this machine: with it the token is still
--- unfinished, or is whole, or it is refused.
+-- unfinished, or is whole, or it is refused. Behind a whole token and a refused byte the machine stands between tokens.
 abbrev pub IsWord : List ℕ → ℕ → Tokens → Word → Type 0
 IsWord begun b machine More =
     (unfinished_of machine ≡ begun ++ b ∷ []) × IsUnfinished token_rules tt (unfinished_of machine)
@@ -28,4 +28,4 @@ IsWord begun b machine (Option verb option) =
     IsWhole (begun ++ b ∷ []) machine (token.Telnet (telnet.Option verb option))
 IsWord begun b machine Sub = IsWhole (begun ++ b ∷ []) machine (token.Telnet (telnet.Sub (sub_of machine)))
 IsWord begun b machine (Bad reason) =
-    (IsPrefix token_rules tt (begun ++ b ∷ []) → ⊥) × (reason ≡ token_reason begun b)
+    (IsPrefix token_rules tt (begun ++ b ∷ []) → ⊥) × (reason ≡ token_reason begun b) × (unfinished_of machine ≡ [])

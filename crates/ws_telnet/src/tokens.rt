@@ -272,11 +272,12 @@ impl Tokens {
         if byte == IAC {
             return self.take_content(byte);
         }
-        if byte != SE {
-            return Word::Bad(Reason::BadSub);
-        }
         self.phase = Phase::Begin;
-        Word::Sub
+        if byte == SE {
+            Word::Sub
+        } else {
+            Word::Bad(Reason::BadSub)
+        }
     }
 
     // Takes the byte that completes one of a subnegotiation's data: another than FF, or the second FF of a pair.
@@ -289,6 +290,7 @@ impl Tokens {
         ensures { IsWord (unfinished_of self.old) byte self.new result }
     {
         if self.content.is_full() {
+            self.phase = Phase::Begin;
             return Word::Bad(Reason::SubTooLong);
         }
         self.content.push(byte);

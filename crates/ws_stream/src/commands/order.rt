@@ -1,134 +1,140 @@
-ghost use Rattle.std.specs.Prelude.{◌≡◌, ◌≢◌, ◌∷◌, ◌++◌, ◌+◌, [], ℕ, length};
+ghost use Rattle.std.specs.Prelude.{◌≡◌, ◌∷◌, ◌++◌, ◌+◌, [], ℕ, length};
 ghost use Rattle.ws_code.specs.Code.{IsUnfinished};
-ghost use Rattle.ws_code.specs.Step.{IsStep};
 ghost use Rattle.ws_stream.specs.Elements.{element_rules, row_and_column};
-ghost use Rattle.ws_stream.specs.Machine.{order_byte, unfinished_in};
+ghost use Rattle.ws_stream.specs.Machine.{order_byte};
+ghost use Rattle.ws_stream.specs.Taking.{GoesOn, Takes};
 
 use super::Commands;
 use super::phase::{Order, Phase};
 use crate::order_code::{ERASE_TO_ADDRESS, REPEAT_TO_ADDRESS, START_OF_HEADER};
 use crate::{Element, EraseList, SohBytes};
-use ws_code::{Address, DataByte, Push, ROWS, Reason, ShortList};
+use ws_code::{Address, DataByte, End, Keep, ROWS, Reason, ShortList};
 
 impl Commands {
     #[inline(always)]
-    pub(super) fn soh_length(&mut self, byte: u8) -> Push<Element>
+    pub(super) fn soh_length<K: Keep<Element>>(&mut self, keep: &mut K, byte: u8) -> End
         requires { IsUnfinished element_rules self.old.place (START_OF_HEADER ∷ []) }
-        ensures step { IsStep element_rules self.old.place (START_OF_HEADER ∷ []) byte
-            self.new.place (unfinished_in self.new.phase self.new.bytes self.new.kinds self.new.controls) result }
-        ensures kept { result ≢ Push.More → self.new ≡ self.old }
+        ensures { Takes K.holds K.may_answer self.old.place (START_OF_HEADER ∷ []) keep.old byte
+            self.new keep.new result }
     {
         if byte > 7 {
-            return Push::Bad(Reason::BadSohLength);
+            return End::Bad(Reason::BadSohLength);
         }
         if byte == 0 {
-            return Push::Unit(Element::Soh(SohBytes::of(ShortList::new())));
+            return self.complete(keep, Element::Soh(SohBytes::of(ShortList::new())));
         }
         self.bytes.clear();
         self.wait_for(Phase::SohByte(byte))
     }
 
     #[inline(always)]
-    pub(super) fn soh_byte(&mut self, count: u8, byte: u8) -> Push<Element>
+    pub(super) fn soh_byte<K: Keep<Element>>(&mut self, keep: &mut K, count: u8, byte: u8) -> End
         requires phase { self.old.phase ≡ Phase.SohByte count }
         requires begun { IsUnfinished element_rules self.old.place
             (START_OF_HEADER ∷ count ∷ self.old.bytes) }
-        ensures step { IsStep element_rules self.old.place (START_OF_HEADER ∷ count ∷ self.old.bytes) byte
-            self.new.place (unfinished_in self.new.phase self.new.bytes self.new.kinds self.new.controls) result }
-        ensures kept { length self.old.bytes + 1 ≢ count → result ≢ Push.More → self.new ≡ self.old }
+        ensures { Takes K.holds K.may_answer self.old.place (START_OF_HEADER ∷ count ∷ self.old.bytes) keep.old byte
+            self.new keep.new result }
     {
         if self.bytes.len() == 2 && byte != 0 {
-            return Push::Bad(Reason::Resequencing);
+            return End::Bad(Reason::Resequencing);
         }
         self.bytes.push(byte);
         if self.bytes.len() == count as usize {
             let bytes = std::mem::replace(&mut self.bytes, ShortList::new());
-            return Push::Unit(Element::Soh(SohBytes::of(bytes)));
+            return self.complete(keep, Element::Soh(SohBytes::of(bytes)));
         }
-        Push::More
+        End::More
     }
 
     #[inline(always)]
-    pub(super) fn row(&mut self, order: Order, byte: u8) -> Push<Element>
+    pub(super) fn row(&mut self, order: Order, byte: u8) -> End
         requires { IsUnfinished element_rules self.old.place (order_byte order ∷ []) }
-        ensures step { IsStep element_rules self.old.place (order_byte order ∷ []) byte
-            self.new.place (unfinished_in self.new.phase self.new.bytes self.new.kinds self.new.controls) result }
-        ensures kept { result ≢ Push.More → self.new ≡ self.old }
+        ensures { GoesOn self.old.place (order_byte order ∷ []) byte self.new result }
     {
         if byte < 1 || byte > ROWS {
-            return Push::Bad(Reason::BadAddress);
+            return End::Bad(Reason::BadAddress);
         }
         self.wait_for(Phase::Column(order, byte))
     }
 
     #[inline(always)]
-    pub(super) fn column(&mut self, order: Order, row: u8, byte: u8) -> Push<Element>
+    pub(super) fn column<K: Keep<Element>>(
+        &mut self,
+        keep: &mut K,
+        order: Order,
+        row: u8,
+        byte: u8,
+    ) -> End
         requires { IsUnfinished element_rules self.old.place (order_byte order ∷ row ∷ []) }
-        ensures step { IsStep element_rules self.old.place (order_byte order ∷ row ∷ []) byte
-            self.new.place (unfinished_in self.new.phase self.new.bytes self.new.kinds self.new.controls) result }
-        ensures kept { result ≢ Push.More → self.new ≡ self.old }
+        ensures { Takes K.holds K.may_answer self.old.place (order_byte order ∷ row ∷ []) keep.old byte
+            self.new keep.new result }
     {
         let to = match Address::new(row, byte) {
             Some(to) => to,
-            None => return Push::Bad(Reason::BadAddress),
+            None => return End::Bad(Reason::BadAddress),
         };
         match order {
             Order::Ra => self.wait_for(Phase::RepeatByte(to)),
             Order::Ea => self.wait_for(Phase::EraseLength(to)),
-            Order::Sba => Push::Unit(Element::Sba(to)),
-            Order::Ic => Push::Unit(Element::Ic(to)),
-            Order::Mc => Push::Unit(Element::Mc(to)),
+            Order::Sba => self.complete(keep, Element::Sba(to)),
+            Order::Ic => self.complete(keep, Element::Ic(to)),
+            Order::Mc => self.complete(keep, Element::Mc(to)),
         }
     }
 
     #[inline(always)]
-    pub(super) fn repeat_byte(&mut self, to: Address, byte: u8) -> Push<Element>
+    pub(super) fn repeat_byte<K: Keep<Element>>(
+        &mut self,
+        keep: &mut K,
+        to: Address,
+        byte: u8,
+    ) -> End
         requires { IsUnfinished element_rules self.old.place (REPEAT_TO_ADDRESS ∷ row_and_column to) }
-        ensures step { IsStep element_rules self.old.place (REPEAT_TO_ADDRESS ∷ row_and_column to) byte
-            self.new.place (unfinished_in self.new.phase self.new.bytes self.new.kinds self.new.controls) result }
-        ensures kept { result ≢ Push.More → self.new ≡ self.old }
+        ensures { Takes K.holds K.may_answer self.old.place (REPEAT_TO_ADDRESS ∷ row_and_column to) keep.old byte
+            self.new keep.new result }
     {
         match DataByte::new(byte) {
-            Some(byte) => Push::Unit(Element::Ra { to, byte }),
-            None => Push::Bad(Reason::BadRepeat),
+            Some(byte) => self.complete(keep, Element::Ra { to, byte }),
+            None => End::Bad(Reason::BadRepeat),
         }
     }
 
     #[inline(always)]
-    pub(super) fn erase_length(&mut self, to: Address, byte: u8) -> Push<Element>
+    pub(super) fn erase_length(&mut self, to: Address, byte: u8) -> End
         requires { IsUnfinished element_rules self.old.place (ERASE_TO_ADDRESS ∷ row_and_column to) }
-        ensures step { IsStep element_rules self.old.place (ERASE_TO_ADDRESS ∷ row_and_column to) byte
-            self.new.place (unfinished_in self.new.phase self.new.bytes self.new.kinds self.new.controls) result }
-        ensures kept { result ≢ Push.More → self.new ≡ self.old }
+        ensures { GoesOn self.old.place (ERASE_TO_ADDRESS ∷ row_and_column to) byte self.new result }
     {
         if byte < 2 || byte > 5 {
-            return Push::Bad(Reason::BadEraseList);
+            return End::Bad(Reason::BadEraseList);
         }
         self.kinds.clear();
         self.wait_for(Phase::EraseKind(to, byte - 1))
     }
 
     #[inline(always)]
-    pub(super) fn erase_kind(&mut self, to: Address, count: u8, byte: u8) -> Push<Element>
+    pub(super) fn erase_kind<K: Keep<Element>>(
+        &mut self,
+        keep: &mut K,
+        to: Address,
+        count: u8,
+        byte: u8,
+    ) -> End
         requires phase { self.old.phase ≡ Phase.EraseKind to count }
         requires begun { IsUnfinished element_rules self.old.place
             (ERASE_TO_ADDRESS ∷ row_and_column to ++ (count + 1) ∷ self.old.kinds) }
-        ensures step { IsStep element_rules self.old.place
-            (ERASE_TO_ADDRESS ∷ row_and_column to ++ (count + 1) ∷ self.old.kinds) byte
-            self.new.place (unfinished_in self.new.phase self.new.bytes self.new.kinds self.new.controls) result }
-        ensures kept { length self.old.kinds + 1 ≢ count → result ≢ Push.More → self.new ≡ self.old }
+        ensures { Takes K.holds K.may_answer self.old.place
+            (ERASE_TO_ADDRESS ∷ row_and_column to ++ (count + 1) ∷ self.old.kinds) keep.old byte
+            self.new keep.new result }
     {
         if byte != 0 && byte != 0xff {
-            return Push::Bad(Reason::BadEraseList);
+            return End::Bad(Reason::BadEraseList);
         }
         self.kinds.push(byte);
         if self.kinds.len() == count as usize {
             let kinds = std::mem::replace(&mut self.kinds, ShortList::new());
-            return Push::Unit(Element::Ea {
-                to,
-                kinds: EraseList::of(kinds),
-            });
+            let kinds = EraseList::of(kinds);
+            return self.complete(keep, Element::Ea { to, kinds });
         }
-        Push::More
+        End::More
     }
 }

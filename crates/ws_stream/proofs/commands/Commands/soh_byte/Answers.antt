@@ -1,23 +1,34 @@
-use Rattle.std.proofs.Common.{◌≡◌, length, refl, sym, ap, ◌∙◌, arith}
+use Rattle.std.proofs.Common.{◌≡◌, length, refl, sym, ap, ◌∙◌, arith, inl, inr}
 use Rattle.ws_stream.specs.Machine.{unfinished_in}
+use Rattle.ws_stream.specs.declared.element.Element.TheVariants.{Soh}
 use Rattle.ws_stream.specs.declared.commands.phase.Phase.{Phase}
 use Rattle.ws_stream.proofs.UnfinishedHeader.{soh_more, soh_whole}
 use Rattle.ws_stream.proofs.commands.Commands.soh_byte.Goals as goal
-use Rattle.ws_stream.proofs.commands.Commands.soh_byte.Goals.{else-len-eq2-via-then-len-eq2+else-byte-ne0, else-len-eq2-via-else-len-eq2}
+use Rattle.ws_stream.proofs.commands.Commands.soh_byte.Goals.{else-len-eq2-via-then-len-eq2+else-byte-ne0}
+use Rattle.ws_stream.proofs.commands.Commands.soh_byte.Goals.{else-len-eq2-via-else-len-eq2}
 
-pub returns-then-len-count-clause-step : goal.returns-then-len-count-clause-step
-returns-then-len-count-clause-step c =
-    let third : length c.args.self.now.bytes ≡ 2 → c.args.byte ≡ 0 = elim c.else-len-eq2.branch [
+pub returns-then-len-count : goal.returns-then-len-count
+returns-then-len-count g c =
+    let old = c.args.self.now in
+    let third : length old.bytes ≡ 2 → c.args.byte ≡ 0 = elim c.else-len-eq2.branch [
       | else-len-eq2-via-then-len-eq2+else-byte-ne0 w ↦ λ _. w.if-byte-ne0.false
       | else-len-eq2-via-else-len-eq2 w ↦ λ e. absurd (w.if-len-eq2.false (c.len.ensures.value ∙ e))
     ] in
-    soh_whole c.args.self.now.place c.args.count c.args.self.now.bytes c.push.new.self c.of.result c.args.byte c.requires.begun third (omega arith) c.push.ensures (sym c.len-2.ensures.value ∙ c.if-len-count.true) (cc)
+    let counted = sym c.len-2.ensures.value ∙ c.if-len-count.true in
+    let spelled = soh_whole old.place c.args.count old.bytes c.push.new.self c.of.result c.args.byte c.requires.begun
+    third (omega arith) c.push.ensures counted (cc) in
+    inr (Soh c.of.result, spelled, c.complete.ensures)
 
-pub returns-clause-step : goal.returns-clause-step
-returns-clause-step c =
-    let third : length c.args.self.now.bytes ≡ 2 → c.args.byte ≡ 0 = elim c.else-len-eq2.branch [
+pub returns : goal.returns
+returns g c =
+    let old = c.args.self.now in
+    let bytes = c.push.new.self in
+    let third : length old.bytes ≡ 2 → c.args.byte ≡ 0 = elim c.else-len-eq2.branch [
       | else-len-eq2-via-then-len-eq2+else-byte-ne0 w ↦ λ _. w.if-byte-ne0.false
       | else-len-eq2-via-else-len-eq2 w ↦ λ e. absurd (w.if-len-eq2.false (c.len.ensures.value ∙ e))
     ] in
-    let found = soh_more c.args.self.now.place c.args.count c.args.self.now.bytes c.push.new.self c.args.byte c.requires.begun third (omega arith) c.push.ensures (λ e. c.if-len-count.false (c.len-2.ensures.value ∙ e)) in
-    (refl, ap (λ (p : Phase). unfinished_in p c.push.new.self c.args.self.now.kinds c.args.self.now.controls) c.requires.phase ∙ found.0, found.1)
+    let few = λ (e : length bytes ≡ c.args.count). c.if-len-count.false (c.len-2.ensures.value ∙ e) in
+    let found = soh_more old.place c.args.count old.bytes bytes c.args.byte c.requires.begun third (omega arith)
+    c.push.ensures few in
+    let begun = ap (λ (p : Phase). unfinished_in p bytes old.kinds old.controls) c.requires.phase in
+    inl ((refl, begun ∙ found.0, found.1), refl)

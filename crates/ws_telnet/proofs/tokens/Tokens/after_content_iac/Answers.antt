@@ -19,17 +19,18 @@ pub take_content-requires-clause-reason : goal.take_content-requires-clause-reas
 take_content-requires-clause-reason c =
     rw (c.requires.phase, c.if-byte-eq-IAC.true, content_odd c.args.self.now.content.items) refl
 
-pub returns-then-byte-ne-SE : goal.returns-then-byte-ne-SE
-returns-then-byte-ne-SE c =
-    let content = c.args.self.now.content.items in
-    rw c.requires.phase (
-      sub_bad c.args.self.now.option content c.args.byte c.if-byte-eq-IAC.false c.if-byte-ne-SE.true,
-      rw (content_odd content, ne_eqb c.args.byte 255 c.if-byte-eq-IAC.false) refl,
-    )
-
-pub returns : goal.returns
-returns c =
+pub returns-then-byte-eq-SE : goal.returns-then-byte-eq-SE
+returns-then-byte-eq-SE c =
     let option = c.args.self.now.option in
     let content = c.args.self.now.content.items in
     let known = sub_so_far option content (0xff ∷ []) (rw c.requires.phase at c.requires.begun) in
-    rw (c.requires.phase, c.if-byte-ne-SE.false) (sub_whole option content known, refl)
+    rw (c.requires.phase, c.if-byte-eq-SE.true) (sub_whole option content known, refl)
+
+pub returns-else-byte-eq-SE : goal.returns-else-byte-eq-SE
+returns-else-byte-eq-SE c =
+    let content = c.args.self.now.content.items in
+    rw c.requires.phase (
+      sub_bad c.args.self.now.option content c.args.byte c.if-byte-eq-IAC.false c.if-byte-eq-SE.false,
+      rw (content_odd content, ne_eqb c.args.byte 255 c.if-byte-eq-IAC.false) refl,
+      refl,
+    )

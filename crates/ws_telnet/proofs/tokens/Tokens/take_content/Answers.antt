@@ -1,4 +1,4 @@
-use Rattle.std.proofs.Common.{◌≡◌, ◌≢◌, ◌++◌, ◌∷◌, [], ℕ, List, ◌≤◌, length, sym, ap, ◌∙◌, arith, eqb-true, length-append}
+use Rattle.std.proofs.Common.{◌≡◌, ◌≢◌, ◌++◌, ◌∷◌, [], ℕ, List, ◌≤◌, length, refl, sym, ap, ◌∙◌, arith, eqb-true, length-append}
 use Rattle.std.proofs.lemmas.Bool.{eqb-false}
 use Rattle.ws_code.specs.Code.{AreBytes, IsUnfinished}
 use Rattle.ws_telnet.specs.Machine.{sub_begun}
@@ -11,7 +11,7 @@ returns-then-is_full c =
     let option = c.args.self.now.option in
     let content = c.args.self.now.content.items in
     let full = eqb-true (length content) 64 (sym c.is_full.ensures.value ∙ c.if-is_full.true) in
-    (rw c.requires.completes (sub_full option content c.args.byte full), sym c.requires.reason)
+    (rw c.requires.completes (sub_full option content c.args.byte full), sym c.requires.reason, refl)
 
 pub returns : goal.returns
 returns c =

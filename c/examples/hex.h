@@ -2,7 +2,9 @@
 #ifndef HEX_H
 #define HEX_H
 
+#include <stdint.h>
 #include <stdio.h>
+#include <stdlib.h>
 
 static inline int hex_digit(int text)
 {
@@ -31,6 +33,32 @@ static inline int hex_byte(FILE *file)
         digits += 1;
     }
     return value;
+}
+
+/* All bytes of a file of hex text, to be freed; a null pointer where it can't be read or is no hex text. */
+static inline uint8_t *hex_file(const char *name, size_t *count)
+{
+    FILE *file = fopen(name, "rb");
+    size_t room = 4096;
+    uint8_t *bytes = file == NULL ? NULL : malloc(room);
+    int byte = EOF;
+    *count = 0;
+    while (bytes != NULL && (byte = hex_byte(file)) >= 0) {
+        if (*count == room) {
+            uint8_t *more = realloc(bytes, room *= 2);
+            if (more == NULL)
+                break;
+            bytes = more;
+        }
+        bytes[(*count)++] = (uint8_t)byte;
+    }
+    if (file != NULL)
+        fclose(file);
+    if (bytes != NULL && byte != EOF) {
+        free(bytes);
+        bytes = NULL;
+    }
+    return bytes;
 }
 
 #endif

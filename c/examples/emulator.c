@@ -10,17 +10,19 @@
 #include "hex.h"
 #include "ribbonscarp.h"
 
-#include <stdio.h>
-
 /* DO TERMINAL-TYPE, its SEND, and DO and WILL of END-OF-RECORD and TRANSMIT-BINARY (RFC 1205, section 2). */
 static const uint8_t opening[] = {0xff, 0xfd, 0x18, 0xff, 0xfa, 0x18, 0x01, 0xff, 0xf0, 0xff, 0xfd,
                                   0x19, 0xff, 0xfb, 0x19, 0xff, 0xfd, 0x00, 0xff, 0xfb, 0x00};
 
-/* Gives the station a byte; what it writes in answer is for the host, and there is none here. */
-static rs_status push(rs_station *station, uint8_t byte, rs_pushed *pushed)
+/* Gives the station bytes; what it writes in answer is for the host, and there is none here. `pushed->place` tells
+ * which byte is refused. */
+static ribbon_status push(ribbon_station *station, const uint8_t *bytes, size_t count, ribbon_pushed *pushed)
 {
-    uint8_t reply[RS_REPLY_ROOM];
-    return rs_station_push(station, &byte, 1, reply, sizeof reply, pushed);
+    uint8_t reply[4096];
+    ribbon_status status = RIBBON_NO_ROOM;
+    for (size_t at = 0; status == RIBBON_NO_ROOM; at += pushed->taken)
+        status = ribbon_station_push(station, bytes + at, count - at, reply, sizeof reply, pushed);
+    return status;
 }
 
 static const char *on_or_off(bool is_on)
@@ -28,21 +30,21 @@ static const char *on_or_off(bool is_on)
     return is_on ? "on" : "off";
 }
 
-static int print_screen(rs_station *station)
+static int print_screen(ribbon_station *station)
 {
-    rs_screen_state screen;
+    ribbon_state screen;
     puts("screen");
     for (uint8_t row = 1; row <= 24; row++) {
-        char text[RS_ROW_ROOM];
-        rs_told told;
-        if (rs_station_row(station, row, text, sizeof text, &told) != RS_DONE)
+        char text[RIBBON_ROW_ROOM];
+        ribbon_told told;
+        if (ribbon_station_row(station, row, text, sizeof text, &told) != RIBBON_DONE)
             return 2;
         while (told.length > 0 && text[told.length - 1] == ' ')
             told.length -= 1;
         if (told.length > 0)
             printf("%2d %.*s\n", row, (int)told.length, text);
     }
-    if (rs_station_state(station, &screen) != RS_DONE)
+    if (ribbon_station_state(station, &screen) != RIBBON_DONE)
         return 2;
     printf("cursor %d %d, %s, message %s, blink %s, fields %d\n", screen.cursor_row, screen.cursor_column,
            screen.is_locked ? "locked" : "unlocked", on_or_off(screen.is_message_lit), on_or_off(screen.is_blinking),
@@ -51,44 +53,36 @@ static int print_screen(rs_station *station)
 }
 
 /* Gives the station the opening and then the capture. */
-static int run(rs_station *station, FILE *file)
+static int run(ribbon_station *station, const uint8_t *bytes, size_t count)
 {
-    rs_pushed pushed;
-    for (size_t at = 0; at < sizeof opening; at++)
-        if (push(station, opening[at], &pushed) != RS_DONE)
-            return 2;
-    for (int byte = hex_byte(file); byte != EOF; byte = hex_byte(file)) {
-        if (byte < 0) {
-            fputs("not hex\n", stderr);
-            return 2;
-        }
-        rs_status status = push(station, (uint8_t)byte, &pushed);
-        if (status == RS_REFUSED) {
-            printf("refused at %llu: reason %d\n", (unsigned long long)(pushed.place - sizeof opening), pushed.reason);
-            return 1;
-        }
-        if (status != RS_DONE)
-            return 2;
+    ribbon_pushed pushed;
+    if (push(station, opening, sizeof opening, &pushed) != RIBBON_DONE)
+        return 2;
+    ribbon_status status = push(station, bytes, count, &pushed);
+    if (status == RIBBON_REFUSED) {
+        printf("refused at %llu: reason %d\n", (unsigned long long)(pushed.place - sizeof opening), pushed.reason);
+        return 1;
     }
-    return print_screen(station);
+    return status == RIBBON_DONE ? print_screen(station) : 2;
 }
 
 /* Shows one capture. */
 static int show(const char *name)
 {
-    rs_station station = RS_STATION_NONE;
-    FILE *file = fopen(name, "rb");
-    if (file == NULL) {
+    ribbon_station station = RIBBON_STATION_NONE;
+    size_t count;
+    uint8_t *bytes = hex_file(name, &count);
+    if (bytes == NULL) {
         fprintf(stderr, "%s: not read\n", name);
         return 2;
     }
     int result = 2;
-    if (rs_station_new(&station, "IBM-3179-2", 10) == RS_DONE)
-        result = run(&station, file);
+    if (ribbon_station_new(&station, "IBM-3179-2") == RIBBON_DONE)
+        result = run(&station, bytes, count);
     else
         fputs("memory\n", stderr);
-    rs_station_free(&station);
-    fclose(file);
+    ribbon_station_free(&station);
+    free(bytes);
     return result;
 }
 

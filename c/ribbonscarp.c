@@ -1,0 +1,262 @@
+/* What a program calls: null pointers are told here, and all else by the proved function behind each. */
+#include "ribbonscarp.h"
+
+#include "exports.h"
+
+#include <string.h>
+
+/* An output that isn't null is zero where a pointer beside it is null. */
+#define CLEAR(output)                                                                                                  \
+    do {                                                                                                               \
+        if ((output) != NULL)                                                                                          \
+            memset((output), 0, sizeof *(output));                                                                     \
+    } while (0)
+
+/* A slice's pointer isn't null, not even that of an empty one. */
+static const uint8_t *slice(const uint8_t *bytes)
+{
+    static const uint8_t empty[1] = {0};
+    return bytes != NULL ? bytes : empty;
+}
+
+ribbon_status ribbon_station_new(ribbon_station *station, const char *terminal)
+{
+    if (station == NULL || terminal == NULL)
+        return RIBBON_NULL;
+    return ws_c_station_new(&station->handle, (const uint8_t *)terminal, strlen(terminal));
+}
+
+void ribbon_station_free(ribbon_station *station)
+{
+    if (station != NULL)
+        ws_c_station_free(&station->handle);
+}
+
+ribbon_status ribbon_station_push(ribbon_station *station, const uint8_t *bytes, size_t count, uint8_t *reply,
+                                  size_t room, ribbon_pushed *pushed)
+{
+    CLEAR(pushed);
+    if (station == NULL || reply == NULL || pushed == NULL || (bytes == NULL && count > 0))
+        return RIBBON_NULL;
+    return ws_c_station_push(&station->handle, slice(bytes), count, reply, room, pushed);
+}
+
+ribbon_status ribbon_station_key(ribbon_station *station, uint32_t kind, uint32_t value, uint8_t *answer, size_t room,
+                                 ribbon_told *told)
+{
+    CLEAR(told);
+    if (station == NULL || answer == NULL || told == NULL)
+        return RIBBON_NULL;
+    return ws_c_station_key(&station->handle, kind, value, answer, room, told);
+}
+
+ribbon_status ribbon_station_state(ribbon_station *station, ribbon_state *state)
+{
+    CLEAR(state);
+    if (station == NULL || state == NULL)
+        return RIBBON_NULL;
+    return ws_c_station_state(&station->handle, state);
+}
+
+ribbon_status ribbon_station_cell(ribbon_station *station, uint8_t row, uint8_t column, uint8_t *byte)
+{
+    CLEAR(byte);
+    if (station == NULL || byte == NULL)
+        return RIBBON_NULL;
+    return ws_c_station_cell(&station->handle, row, column, byte);
+}
+
+/* WORK IN PROGRESS: until the proved export is there. */
+ribbon_status ribbon_station_cells(ribbon_station *station, uint8_t first_row, uint8_t last_row, ribbon_cell *cells,
+                                   size_t room)
+{
+    ribbon_state state;
+    uint8_t attribute = 0x20;
+    if (station == NULL || cells == NULL)
+        return RIBBON_NULL;
+    ribbon_status status = ws_c_station_state(&station->handle, &state);
+    if (status != RIBBON_DONE)
+        return status;
+    if (first_row < 1 || first_row > last_row || last_row > 24)
+        return RIBBON_BAD_ARGUMENT;
+    if (room < (size_t)(last_row - first_row + 1) * 80)
+        return RIBBON_NO_ROOM;
+    for (uint8_t row = 1; row <= last_row; row++) {
+        uint8_t text[RIBBON_ROW_ROOM];
+        ribbon_told told;
+        size_t at = 0;
+        ws_c_station_row(&station->handle, row, text, sizeof text, &told);
+        for (uint8_t column = 1; column <= 80; column++) {
+            ribbon_cell cell = {text[at], RIBBON_NO_FIELD, 0, 0x20};
+            if (text[at] >= 0xc0) {
+                cell.character = (uint32_t)(text[at] & 0x1f) << 6 | (text[at + 1] & 0x3f);
+                at += 1;
+            }
+            at += 1;
+            ws_c_station_cell(&station->handle, row, column, &cell.byte);
+            if (cell.byte >= 0x20 && cell.byte <= 0x3f)
+                attribute = cell.byte;
+            else
+                cell.attribute = attribute;
+            for (size_t index = 0; index < state.field_count; index++) {
+                ribbon_field field;
+                unsigned place = (row - 1u) * 80 + column - 1;
+                ws_c_station_field(&station->handle, index, &field);
+                unsigned start = (field.row - 1u) * 80 + field.column - 1;
+                if (start <= place && place < start + field.length)
+                    cell.field = (uint16_t)index;
+            }
+            if (row >= first_row)
+                cells[(row - first_row) * 80 + column - 1] = cell;
+        }
+    }
+    return RIBBON_DONE;
+}
+
+ribbon_status ribbon_station_changed(ribbon_station *station, uint32_t *rows)
+{
+    CLEAR(rows);
+    if (station == NULL || rows == NULL)
+        return RIBBON_NULL;
+    *rows = 0xffffff;
+    return RIBBON_DONE;
+}
+
+ribbon_status ribbon_station_row(ribbon_station *station, uint8_t row, char *text, size_t room, ribbon_told *told)
+{
+    CLEAR(told);
+    if (station == NULL || text == NULL || told == NULL)
+        return RIBBON_NULL;
+    return ws_c_station_row(&station->handle, row, (uint8_t *)text, room, told);
+}
+
+ribbon_status ribbon_station_field(ribbon_station *station, size_t index, ribbon_field *field)
+{
+    CLEAR(field);
+    if (station == NULL || field == NULL)
+        return RIBBON_NULL;
+    return ws_c_station_field(&station->handle, index, field);
+}
+
+ribbon_status ribbon_host_new(ribbon_host *host, uint8_t *opening, size_t room, ribbon_told *told)
+{
+    CLEAR(told);
+    if (host == NULL || opening == NULL || told == NULL)
+        return RIBBON_NULL;
+    return ws_c_host_new(&host->handle, opening, room, told);
+}
+
+void ribbon_host_free(ribbon_host *host)
+{
+    if (host != NULL)
+        ws_c_host_free(&host->handle);
+}
+
+ribbon_status ribbon_host_push(ribbon_host *host, const uint8_t *bytes, size_t count, uint8_t *reply, size_t room,
+                               ribbon_pushed *pushed, ribbon_event *event)
+{
+    CLEAR(pushed);
+    CLEAR(event);
+    if (host == NULL || reply == NULL || pushed == NULL || event == NULL || (bytes == NULL && count > 0))
+        return RIBBON_NULL;
+    return ws_c_host_push(&host->handle, slice(bytes), count, reply, room, pushed, event);
+}
+
+ribbon_status ribbon_host_send(ribbon_host *host, uint8_t opcode, const uint8_t *body, size_t size, ribbon_told *told)
+{
+    CLEAR(told);
+    if (host == NULL || told == NULL || (body == NULL && size > 0))
+        return RIBBON_NULL;
+    return ws_c_host_send(&host->handle, opcode, slice(body), size, told);
+}
+
+ribbon_status ribbon_host_sent(ribbon_host *host, uint8_t *record, size_t room, ribbon_told *told)
+{
+    CLEAR(told);
+    if (host == NULL || record == NULL || told == NULL)
+        return RIBBON_NULL;
+    return ws_c_host_sent(&host->handle, record, room, told);
+}
+
+ribbon_status ribbon_host_cancel(ribbon_host *host, uint8_t *record, size_t room, ribbon_told *told)
+{
+    CLEAR(told);
+    if (host == NULL || record == NULL || told == NULL)
+        return RIBBON_NULL;
+    return ws_c_host_cancel(&host->handle, record, room, told);
+}
+
+ribbon_status ribbon_host_answer(ribbon_host *host, ribbon_answer *answer)
+{
+    CLEAR(answer);
+    if (host == NULL || answer == NULL)
+        return RIBBON_NULL;
+    return ws_c_host_answer(&host->handle, answer);
+}
+
+ribbon_status ribbon_host_answer_field(ribbon_host *host, size_t index, uint8_t *content, size_t room,
+                                       ribbon_read_field *field)
+{
+    CLEAR(field);
+    if (host == NULL || content == NULL || field == NULL)
+        return RIBBON_NULL;
+    return ws_c_host_answer_field(&host->handle, index, content, room, field);
+}
+
+ribbon_status ribbon_decoder_new(ribbon_decoder *decoder)
+{
+    if (decoder == NULL)
+        return RIBBON_NULL;
+    return ws_c_decoder_new(&decoder->handle);
+}
+
+void ribbon_decoder_free(ribbon_decoder *decoder)
+{
+    if (decoder != NULL)
+        ws_c_decoder_free(&decoder->handle);
+}
+
+ribbon_status ribbon_decoder_push(ribbon_decoder *decoder, const uint8_t *bytes, size_t count, uint8_t *unit,
+                                  size_t room, ribbon_step *step)
+{
+    CLEAR(step);
+    if (decoder == NULL || unit == NULL || step == NULL || (bytes == NULL && count > 0))
+        return RIBBON_NULL;
+    return ws_c_decoder_push(&decoder->handle, slice(bytes), count, unit, room, step);
+}
+
+ribbon_status ribbon_decoder_finish(ribbon_decoder *decoder, uint64_t *place)
+{
+    CLEAR(place);
+    if (decoder == NULL || place == NULL)
+        return RIBBON_NULL;
+    return ws_c_decoder_finish(&decoder->handle, place);
+}
+
+ribbon_status ribbon_from_037(uint8_t byte, uint32_t *character)
+{
+    CLEAR(character);
+    if (character == NULL)
+        return RIBBON_NULL;
+    return ws_c_from_037(byte, character);
+}
+
+ribbon_status ribbon_to_037(uint32_t character, uint8_t *byte)
+{
+    CLEAR(byte);
+    if (byte == NULL)
+        return RIBBON_NULL;
+    return ws_c_to_037(character, byte);
+}
+
+/* A byte brings at most RIBBON_REPLY_ROOM bytes, and so many are to be left before each. A command of 3 bytes or more
+ * brings at most three for each of its own, so the first of `count` bytes, which may end a command that began before,
+ * brings 17, and each further at most 3. */
+size_t ribbon_reply_room(size_t count)
+{
+    if (count == 0)
+        return 0;
+    if (count > (SIZE_MAX - 2 * RIBBON_REPLY_ROOM) / 3)
+        return SIZE_MAX;
+    return 3 * count + 2 * RIBBON_REPLY_ROOM;
+}

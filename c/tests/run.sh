@@ -1,0 +1,137 @@
+#!/usr/bin/env bash
+# All tests of the C interface and of the terminal: `make check` calls this with BUILD, T5250, CC, CXX and MAKE. The last
+# line is 'N passed, N failed'; what the machine lacks is told by lines that begin with 'left out:'.
+set -uo pipefail
+tests=$(cd "$(dirname "$0")" && pwd) || exit 2
+here=$(dirname "$tests")
+top=$(dirname "$here")
+folder=$(mktemp -d) || exit 2
+trap 'rm -rf "$folder"' EXIT
+passed=0
+failed=0
+warnings=(-std=c11 -Wall -Wextra -Wpedantic -Werror)
+careful=(valgrind -q --error-exitcode=9 --leak-check=full --show-leak-kinds=all)
+
+# One test by its name: passed where the command succeeds.
+try() {
+    local name=$1
+    shift
+    if "$@" >"$folder/said" 2>&1; then
+        passed=$((passed + 1))
+    else
+        failed=$((failed + 1))
+        echo "failed: $name"
+        tail -n 12 "$folder/said"
+    fi
+}
+
+# A program whose last line is 'N passed, N failed', of which both count.
+try_counted() {
+    local name=$1 status
+    shift
+    "$@" >"$folder/said" 2>&1
+    status=$?
+    local last
+    last=$(tail -n 1 "$folder/said")
+    grep '^left out:' "$folder/said"
+    if [[ $last =~ ^([0-9]+)\ passed,\ ([0-9]+)\ failed$ ]]; then
+        passed=$((passed + BASH_REMATCH[1]))
+        failed=$((failed + BASH_REMATCH[2]))
+        if [ "${BASH_REMATCH[2]}" -gt 0 ]; then
+            echo "failed: $name"
+            head -n 20 "$folder/said"
+        elif [ $status -ne 0 ]; then
+            failed=$((failed + 1))
+            echo "failed: $name ends with status $status"
+            tail -n 20 "$folder/said"
+        fi
+    else
+        failed=$((failed + 1))
+        echo "failed: $name (status $status)"
+        tail -n 20 "$folder/said"
+    fi
+}
+
+has() {
+    command -v "$1" >/dev/null || { echo "left out: $2, since $1 isn't here"; return 1; }
+}
+
+# Both libraries give the same, and show the names of the interface alone.
+try "calls.c is built" "$CC" "${warnings[@]}" -g -I "$here" -o "$folder/calls" "$tests/calls.c" "$BUILD/libribbonscarp.a"
+try_counted "each call, static" "$folder/calls"
+try "calls.c is built, shared" "$CC" "${warnings[@]}" -I "$here" -o "$folder/calls_shared" "$tests/calls.c" \
+    -L "$BUILD" -lribbonscarp -Wl,-rpath,"$BUILD"
+try_counted "each call, shared" "$folder/calls_shared"
+visible() {
+    nm -D --defined-only "$BUILD/libribbonscarp.so" | awk '{print $3}' | sort >"$folder/shared_names"
+    nm -g --defined-only "$BUILD/libribbonscarp.a" | awk 'NF == 3 {print $3}' | sort >"$folder/static_names"
+    grep -oE '\bribbon_[a-z0-9_]+\(' "$here/ribbonscarp.h" | tr -d '(' | sort -u >"$folder/header_names"
+    ! grep -v '^ribbon_' "$folder/shared_names" && ! grep -v '^ribbon_' "$folder/static_names" \
+        && diff "$folder/shared_names" "$folder/static_names" && diff "$folder/shared_names" "$folder/header_names"
+}
+try "nm shows ribbon_ alone" visible
+
+try "memory.c is built" "$CC" "${warnings[@]}" -g -I "$here" -Wl,--wrap=malloc -Wl,--wrap=realloc -o "$folder/memory" \
+    "$tests/memory.c" "$BUILD/libribbonscarp.a"
+try_counted "every allocation refused" "$folder/memory"
+
+# The C side with sanitizers: its objects are built again, and linked to the proved library.
+sanitized=(-fsanitize=address,undefined -fno-sanitize-recover=all -g -O1)
+if echo 'int main(void){return 0;}' | "$CC" -x c "${sanitized[@]}" -o "$folder/probe" - 2>/dev/null; then
+    try "the C side is built with sanitizers" "$CC" "${warnings[@]}" "${sanitized[@]}" -I "$here" -o "$folder/sanitized" \
+        "$tests/calls.c" "$here/ribbonscarp.c" "$here/texts.c" "$LIB" "$GLUE"
+    try_counted "each call with sanitizers" "$folder/sanitized" few
+else
+    echo "left out: the address and undefined-behaviour sanitizers, which $CC lacks"
+fi
+if has valgrind "each call under valgrind"; then
+    try_counted "each call under valgrind" "${careful[@]}" "$folder/calls" few
+    try_counted "every allocation refused, under valgrind" "${careful[@]}" "$folder/memory"
+fi
+if has python3 "the client in Python and the examples"; then
+    try_counted "a client in Python" python3 "$tests/client.py" "$BUILD/libribbonscarp.so" "$top/crates/ws_code/src/reason.rt"
+    try_counted "the examples" "$tests/examples.sh" "$BUILD" "$T5250"
+fi
+if has "$CXX" "the header in C++"; then
+    try "the header in C++" "$CXX" -std=c++11 -Wall -Wextra -Wpedantic -Werror -I "$here" -x c++ -o "$folder/cxx" \
+        "$tests/installed.c" -x none "$BUILD/libribbonscarp.a"
+    try_counted "a program in C++" "$folder/cxx"
+fi
+
+# What is installed serves a program of someone else, by pkg-config.
+stage=$folder/stage
+try "make install" "$MAKE" -C "$here" install PREFIX=/usr DESTDIR="$stage" BUILD="$BUILD" LIB="$LIB" GLUE="$GLUE"
+if has pkg-config "programs on what was installed"; then
+    export PKG_CONFIG_PATH=$stage/usr/lib/pkgconfig PKG_CONFIG_SYSROOT_DIR=$stage
+    read -r -a flags <<<"$(pkg-config --define-variable=prefix=/usr --cflags --libs ribbonscarp)"
+    # pkg-config leaves out folders of the system, which this one is under the stage alone.
+    flags+=(-I "$stage/usr/include" -L "$stage/usr/lib")
+    try "a C program on what was installed" "$CC" "${warnings[@]}" -o "$folder/theirs" "$tests/installed.c" "${flags[@]}"
+    try_counted "it runs" env LD_LIBRARY_PATH="$stage/usr/lib" "$folder/theirs"
+    if has "$CXX" "a C++ program on what was installed"; then
+        try "a C++ program on what was installed" "$CXX" -std=c++11 -Wall -Werror -x c++ -o "$folder/theirs" \
+            "$tests/installed.c" -x none "${flags[@]}"
+        try_counted "it runs" env LD_LIBRARY_PATH="$stage/usr/lib" "$folder/theirs"
+    fi
+    try "the version of pkg-config" test "$(pkg-config --modversion ribbonscarp)" = \
+        "$(sed -n 's/^#define RIBBON_VERSION "\(.*\)"/\1/p' "$here/ribbonscarp.h")"
+    unset PKG_CONFIG_PATH PKG_CONFIG_SYSROOT_DIR
+    if has python3 "a client in Python on what was installed"; then
+        try_counted "a client in Python on what was installed" python3 "$tests/client.py" \
+            "$stage/usr/lib/libribbonscarp.so" "$top/crates/ws_code/src/reason.rt"
+    fi
+fi
+
+# The terminal, typed into.
+if has python3 "the terminal"; then
+    if echo '#include <curses.h>' | "$CC" -D_XOPEN_SOURCE_EXTENDED=1 -E -x c - >/dev/null 2>&1; then
+        try "make terminal" "$MAKE" -C "$here" terminal BUILD="$BUILD" LIB="$LIB" GLUE="$GLUE" T5250="$T5250"
+        try "host5250.c is built" "$CC" "${warnings[@]}" -g -I "$here" -o "$folder/host5250" "$top/terminal/host5250.c" \
+            "$BUILD/libribbonscarp.a"
+        try_counted "the terminal" python3 "$top/terminal/run_terminal.py" "$BUILD/term5250" "$folder/host5250" "$T5250"
+    else
+        echo "left out: the terminal, since the headers of ncurses aren't here (libncurses-dev)"
+    fi
+fi
+echo "$passed passed, $failed failed"
+[ $failed -eq 0 ]

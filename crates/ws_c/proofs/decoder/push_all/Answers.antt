@@ -1,0 +1,64 @@
+use Rattle.std.proofs.Common.{◌≡◌, ◌+◌, ℕ, List, ◌∷◌, [], length, take, drop, get_or, refl, sym, subst, ap, ◌∙◌, arith, true}
+use Rattle.std.proofs.lemmas.List.{take_more}
+use Rattle.ws_record.specs.declared.live.Step.{Step}
+use Rattle.ws_record.specs.declared.live.Step.TheVariants.{More, Open, Unit as Whole, Close, Telnet as Command}
+use Rattle.ws_record.specs.declared.live.Step.TheVariants.{Refused as StepRefused, Failed as StepFailed}
+use Rattle.ws_stream.specs.declared.element.Element.{Element}
+use Rattle.ws_c.specs.declared.status.Status.TheVariants.{Done}
+use Rattle.ws_c.specs.Decoding.{DecoderPushed, DecoderTakes, IsDecoderEnd, IsStepTold, plain_step, tells}
+use Rattle.ws_c.specs.Pushes.{TakesAll}
+use Rattle.ws_c.proofs.PushLaws.{takes_more, none_left, one_left}
+use Rattle.ws_c.proofs.decoder.push_all.Goals as goal
+
+tells_else : (step : Step Element) → (step ≡ More → ⊥) → tells step ≡ true
+tells_else More not = absurd (not refl)
+tells_else (Open head) not = refl
+tells_else (Whole unit) not = refl
+tells_else Close not = refl
+tells_else (Command telnet) not = refl
+tells_else (StepRefused place reason) not = refl
+tells_else StepFailed not = refl
+
+pub loop-at-preserved : goal.loop-at-preserved
+loop-at-preserved c =
+    let now = c.loop-at in
+    let bytes = c.args.bytes.now in
+    let one : DecoderPushed now.decoder c.push.new.self (get_or bytes now.at 0) More =
+        record { pushed = c.in-More.ensures.step; full = c.in-More.ensures.full; failed = c.in-More.ensures.failed; after = c.in-More.ensures.after } in
+    record {
+      takes = subst (λ (l : List ℕ). TakesAll DecoderTakes c.args.decoder.now l [] c.push.new.self) (sym (take_more bytes now.at 0 c.loop-at-test.true))
+          (takes_more DecoderTakes c.args.decoder.now now.decoder c.push.new.self (take now.at bytes) [] (get_or bytes now.at 0) [] now.invariant.takes (one, refl));
+      same = now.invariant.same;
+    }
+
+pub returns : goal.returns
+returns c =
+    let now = c.loop-at in
+    let bytes = c.args.bytes.now in
+    let all : length bytes ≡ now.at = omega arith in
+    let told : c.plain.result ≡ plain_step now.at 0 = c.plain.ensures ∙ ap (λ n. plain_step n 0) all in
+    record {
+      quiet = now.at;
+      counted = omega arith;
+      before = now.decoder;
+      takes = now.invariant.takes;
+      ends = subst (λ (l : List ℕ). IsDecoderEnd l now.at Done c.plain.result c.args.buffer.now now.buffer now.decoder now.decoder)
+          (sym (none_left bytes now.at now.at c.loop-at-test.false refl)) (refl, told, now.invariant.same, refl);
+    }
+
+pub returns-in_default : goal.returns-in_default
+returns-in_default c =
+    let now = c.loop-at in
+    let bytes = c.args.bytes.now in
+    let one : DecoderPushed now.decoder c.push.new.self (get_or bytes now.at 0) c.push.result =
+        record { pushed = c.push.ensures.step; full = c.push.ensures.full; failed = c.push.ensures.failed; after = c.push.ensures.after } in
+    record {
+      quiet = now.at;
+      counted = omega arith;
+      before = now.decoder;
+      takes = now.invariant.takes;
+      ends = subst (λ (l : List ℕ). IsDecoderEnd l now.at c.tell_step.result c.tell_step.new.told c.args.buffer.now c.tell_step.new.buffer now.decoder c.push.new.self)
+          (sym (one_left bytes now.at now.at c.loop-at-test.true refl))
+          (c.push.result, one, tells_else c.push.result c.in_default.not-More,
+          subst (λ (b : List ℕ). IsStepTold c.push.result now.at c.tell_step.result c.tell_step.new.told b c.tell_step.new.buffer) now.invariant.same c.tell_step.ensures);
+    }

@@ -1,0 +1,54 @@
+ghost use Rattle.std.specs.Prelude.{◌≡◌};
+ghost use Rattle.ws_c.specs.Calls.{no_state as nothing_told};
+
+/// In place of a field's index, where there is no field.
+pub const NO_FIELD: u16 = 0xffff;
+
+/// What of a station is no cell and no field.
+#[repr(C)]
+#[derive(Clone, Copy)]
+pub struct StateTold {
+    /// How many records were carried out.
+    pub records: u64,
+    /// Where a byte was refused; 0 where none was.
+    pub refused_place: u64,
+    /// At most 256.
+    pub field_count: u16,
+    /// The index of the field that holds the cursor, or `NO_FIELD`.
+    pub cursor_field: u16,
+    /// 1 to 24.
+    pub cursor_row: u8,
+    /// 1 to 80.
+    pub cursor_column: u8,
+    /// 1 Read Input Fields, 2 Read MDT Fields, 3 Read MDT Fields Alternate; 0 where no read waits for a key.
+    pub pending_read: u8,
+    /// The number of the reason of a refused byte; 0 where none was.
+    pub refused_reason: u8,
+    /// Whether records are allowed.
+    pub is_ready: bool,
+    pub is_locked: bool,
+    pub is_message_lit: bool,
+    pub is_blinking: bool,
+}
+
+impl StateTold {
+    /// Nothing of a station.
+    pub fn nothing() -> Self
+        ensures { result ≡ nothing_told }
+    {
+        StateTold {
+            records: 0,
+            refused_place: 0,
+            field_count: 0,
+            cursor_field: 0,
+            cursor_row: 0,
+            cursor_column: 0,
+            pending_read: 0,
+            refused_reason: 0,
+            is_ready: false,
+            is_locked: false,
+            is_message_lit: false,
+            is_blinking: false,
+        }
+    }
+}

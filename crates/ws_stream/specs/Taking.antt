@@ -1,0 +1,69 @@
+-- What a byte makes of the machine of `Commands`, and of what keeps the elements.
+
+use Rattle.std.specs.Prelude.{◌≡◌, ℕ, List, [], ◌∷◌, ◌++◌, ◌⊎◌, Bool, true, false}
+use Rattle.ws_code.specs.Code.{IsSpelled}
+use Rattle.ws_code.specs.Keep.{KeepsOne}
+use Rattle.ws_code.specs.Run.{Reading}
+use Rattle.ws_code.specs.Step.{IsStep}
+use Rattle.ws_code.specs.declared.code.Push.TheVariants as answer
+use Rattle.ws_code.specs.declared.keep.Kept.{Kept}
+use Rattle.ws_code.specs.declared.keep.Kept.TheVariants as kept
+use Rattle.ws_code.specs.declared.run.End.{End}
+use Rattle.ws_code.specs.declared.run.End.TheVariants.{More, Enough, NoMemory, Bad}
+use Rattle.ws_code.specs.declared.run.Standing.{Standing}
+use Rattle.ws_stream.specs.Elements.{element_rules}
+use Rattle.ws_stream.specs.Machine.{unfinished_in}
+use Rattle.ws_stream.specs.UnfinishedElement.{unfinished_of}
+use Rattle.ws_stream.specs.declared.commands.Commands.{Commands}
+use Rattle.ws_stream.specs.declared.commands.phase.Phase.{Phase}
+use Rattle.ws_stream.specs.declared.commands.phase.Phase.TheVariants.{Begin}
+use Rattle.ws_stream.specs.declared.element.Element.{Element}
+use Rattle.ws_stream.specs.declared.place.Place.{Place}
+
+-- where the element stands that is read, and its bytes so far
+abbrev pub reading_of : Commands → Reading Place
+reading_of m = record { place = m.place; begun = unfinished_of m }
+
+abbrev pub is_inside : Phase → Bool
+is_inside Begin = false
+is_inside _ = true
+
+abbrev pub standing_of : Commands → Standing Place
+standing_of m = record { place = m.place; is_inside = is_inside m.phase }
+
+-- the machine waits for this now
+pub record IsWaiting (old : Commands) (phase : Phase) (new : Commands) (end : End) : Type 0 where
+  pub more : end ≡ More
+  pub place : new.place ≡ old.place
+  pub begun : unfinished_of new ≡ unfinished_in phase old.bytes old.kinds old.controls
+
+-- Behind the bytes of an element that has begun at the place, the byte goes on with it, or is refused.
+abbrev pub GoesOn : Place → List ℕ → ℕ → Commands → End → Type 0
+GoesOn place begun b machine More = IsStep element_rules place begun b machine.place (unfinished_of machine) answer.More
+GoesOn place begun b machine (Bad reason) =
+    IsStep element_rules place begun b machine.place (unfinished_of machine) (answer.Bad reason)
+GoesOn place begun b machine _ = ⊥
+
+module _ {K : Type 0} where
+  -- the keep has answered so to the element, and the machine stands behind it
+  pub record HasKept (holds : K → List Element → List ℕ → Type 0) (may_answer : Kept → Type 0) (old : K)
+      (element : Element) (machine : Commands) (new : K) (kept : Kept) : Type 0 where
+    pub keeps : KeepsOne holds old new element kept
+    pub answer : may_answer kept
+    pub behind : reading_of machine ≡ record { place = element_rules.after element; begun = [] }
+
+  abbrev pub IsKept : (K → List Element → List ℕ → Type 0) → (Kept → Type 0) → K → Element → Commands → K → End
+      → Type 0
+  IsKept holds may_answer old element machine new More = HasKept holds may_answer old element machine new kept.GoOn
+  IsKept holds may_answer old element machine new Enough = HasKept holds may_answer old element machine new kept.Enough
+  IsKept holds may_answer old element machine new NoMemory =
+      HasKept holds may_answer old element machine new kept.NoMemory
+  IsKept holds may_answer old element machine new (Bad reason) = ⊥
+
+  -- The byte goes on with the element or is refused, and the keep is as it was; or it completes one, for the keep.
+  abbrev pub Takes : (K → List Element → List ℕ → Type 0) → (Kept → Type 0) → Place → List ℕ → K → ℕ → Commands → K
+      → End → Type 0
+  Takes holds may_answer place begun old b machine new end =
+      (GoesOn place begun b machine end × (new ≡ old))
+      ⊎ ((element : Element) × IsSpelled element_rules place (begun ++ b ∷ []) element
+      × IsKept holds may_answer old element machine new end)

@@ -1,0 +1,132 @@
+ghost use Rattle.std.specs.Prelude.{◌≡◌, ◌≤◌, [], true, length, take};
+ghost use Rattle.ws_code.specs.Code.{IsUnfinished};
+ghost use Rattle.ws_code.specs.Run.{IsRun};
+ghost use Rattle.ws_code.specs.declared.run.End.{End as AnEnd};
+ghost use Rattle.ws_stream.specs.Elements.{element_rules};
+ghost use Rattle.ws_stream.specs.Machine.{is_sound};
+ghost use Rattle.ws_stream.specs.Taking.{IsWaiting, IsKept, Takes, reading_of, standing_of};
+ghost use Rattle.ws_stream.specs.UnfinishedElement.{unfinished_of};
+
+use super::Commands;
+use super::phase::Phase;
+use crate::order_code::START_OF_FIELD;
+use crate::{Element, Place};
+use ws_code::{Code, DataByte, End, Keep, Kept, Run, Standing};
+
+impl Commands {
+    // The byte begins or continues an element.
+    #[inline(always)]
+    pub(super) fn wait_for(&mut self, phase: Phase) -> End
+        requires { is_sound phase self.old.controls ≡ true }
+        ensures { IsWaiting self.old phase self.new result }
+    {
+        self.phase = phase;
+        End::More
+    }
+
+    // The element is complete, and the machine begins anew behind it.
+    #[inline(always)]
+    pub(super) fn complete<K: Keep<Element>>(&mut self, keep: &mut K, element: Element) -> End
+        ensures { IsKept K.holds K.may_answer keep.old element self.new keep.new result }
+    {
+        self.phase = Phase::Begin;
+        self.place = Commands::after(&element);
+        match keep.keep(element) {
+            Kept::GoOn => End::More,
+            Kept::Enough => End::Enough,
+            Kept::NoMemory => End::NoMemory,
+        }
+    }
+
+    // What the byte makes of what was waited for.
+    #[inline(always)]
+    pub(super) fn step<K: Keep<Element>>(&mut self, keep: &mut K, byte: u8) -> End
+        requires { IsUnfinished element_rules self.old.place (unfinished_of self.old) }
+        ensures { Takes K.holds K.may_answer self.old.place (unfinished_of self.old) keep.old byte
+            self.new keep.new result }
+    {
+        let phase = self.phase;
+        match phase {
+            Phase::Begin => self.begin(keep, byte),
+            Phase::Escape => self.command(keep, byte),
+            Phase::FirstControl(control) => self.first_control(control, byte),
+            Phase::SecondControl(control, cc1) => self.second_control(keep, control, cc1, byte),
+            Phase::SohLength => self.soh_length(keep, byte),
+            Phase::SohByte(count) => self.soh_byte(keep, count, byte),
+            Phase::Row(order) => self.row(order, byte),
+            Phase::Column(order, row) => self.column(keep, order, row, byte),
+            Phase::RepeatByte(to) => self.repeat_byte(keep, to, byte),
+            Phase::EraseLength(to) => self.erase_length(to, byte),
+            Phase::EraseKind(to, count) => self.erase_kind(keep, to, count, byte),
+            Phase::FieldFirst => self.field_first(byte),
+            Phase::FormatLow(high) => self.format_low(high, byte),
+            Phase::FieldNext(format) => self.field_next(format, byte),
+            Phase::ControlLow(format, high) => self.control_low(format, high, byte),
+            Phase::LengthHigh(format, attribute) => self.length_high(format, attribute, byte),
+            Phase::LengthLow(format, attribute, high) => {
+                self.length_low(keep, format, attribute, high, byte)
+            }
+        }
+    }
+
+    // Most bytes of a long body are data, and are told before what is waited for is looked at.
+    #[inline(always)]
+    fn take<K: Keep<Element>>(&mut self, keep: &mut K, byte: u8) -> End
+        requires { IsUnfinished element_rules self.old.place (unfinished_of self.old) }
+        ensures { Takes K.holds K.may_answer self.old.place (unfinished_of self.old) keep.old byte
+            self.new keep.new result }
+    {
+        if byte > START_OF_FIELD && self.takes_data() {
+            if let Some(byte) = DataByte::new(byte) {
+                return self.complete(keep, Element::Put(byte));
+            }
+        }
+        self.step(keep, byte)
+    }
+
+    // Whether an order or data may begin with the next byte.
+    #[inline(always)]
+    fn takes_data(&self) -> bool
+        ensures { result ≡ true
+            → (self.now.place ≡ Place.Anything) × (unfinished_of self.now ≡ []) }
+    {
+        self.place == Place::Anything && matches!(self.phase, Phase::Begin)
+    }
+
+    // Where the element stands that is read, and whether some of it was.
+    #[inline(always)]
+    pub(super) fn standing(&self) -> Standing<Place>
+        ensures { result ≡ standing_of self.now }
+    {
+        Standing {
+            place: self.place,
+            is_inside: !matches!(self.phase, Phase::Begin),
+        }
+    }
+
+    // Takes values up to one with which the machine doesn't go on.
+    #[inline(always)]
+    pub(super) fn take_all<K: Keep<Element>>(&mut self, values: &[u8], keep: &mut K) -> Run
+        requires { IsUnfinished element_rules self.old.place (unfinished_of self.old) }
+        ensures used { result.used ≤ length values.now }
+        ensures whole { result.end ≡ AnEnd.More → result.used ≡ length values.now }
+        ensures run { IsRun element_rules K.holds K.may_answer (reading_of self.old) keep.old
+            (take result.used values.now) (reading_of self.new) (standing_of self.new) keep.new result.end }
+    {
+        for (index, value) in values.iter().enumerate() {
+            match self.take(keep, *value) {
+                End::More => {}
+                end => {
+                    return Run {
+                        used: index + 1,
+                        end,
+                    };
+                }
+            }
+        }
+        Run {
+            used: values.len(),
+            end: End::More,
+        }
+    }
+}
