@@ -39,4 +39,10 @@ for script in *.script; do
     compare "$name.check" check --cut 1 "$name.hex"
     compare "$name.show" show "$name.hex"
 done
+
+for hex in *-answers.hex; do
+    name=${hex%.hex}
+    compare "$name.check" check --answers "$hex"
+    compare "$name.show" show --answers "$hex"
+done
 exit $failed
