@@ -46,5 +46,11 @@ for script in *.script; do
     compare "$name.check" check --cut 1 "$name.hex"
     compare "$name.show" show "$name.hex"
 done
+
+for hex in *-answers.hex; do
+    name=${hex%.hex}
+    compare "$name.check" check --answers "$hex"
+    compare "$name.show" show --answers "$hex"
+done
 echo "$passed passed, $failed failed"
 [ $failed -eq 0 ]

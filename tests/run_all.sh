@@ -45,13 +45,11 @@ done
 part definitions 5 python3 docs/definitions.py
 part paths 5 python3 docs/paths.py
 part callers 20 python3 docs/calling.py --try
-if command -v cc >/dev/null; then
+if command -v cc >/dev/null && command -v make >/dev/null; then
     part "C library" 60 tests/build_c_library.sh
-    [ ! -e c/Makefile ] || part "C interface" 30 make -C c check
-    [ ! -e examples/c/run.sh ] || part "C examples" 30 examples/c/run.sh crates/ws_c/out/libws_c.a \
-        crates/t5250/out/t5250 "$(dirname "$(rt doc)")/c/liblibc_c.a"
+    part "C interface" 30 make -C c check
 else
-    echo "left out: the C interface, since there is no cc" | tee -a "$folder/left_out"
+    echo "left out: the C interface, since cc or make isn't there" | tee -a "$folder/left_out"
 fi
 
 echo "== all"

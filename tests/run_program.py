@@ -34,6 +34,11 @@ cursor 1 1, unlocked, message off, blink off, fields 0
 """
 ANSWER = "00 13 12 A0 00 00 04 00 00 03 06 38 F1 11 06 35 C2 D6 C2 FF EF\n"
 ANSWER_LINE = "accepted: 1 records, 0 commands, 21 bytes\n"
+ANSWER_LINES = """at 20 record flags 0000 opcode 3
+  HEAD 6 56 F1
+  AT 6 53
+  BYTES C2D6C2
+"""
 # A text of more than 65,536 bytes, and a stream of more.
 MANY = INVITE * 6000
 MANY_LINE = "accepted: 6000 records, 0 commands, 72000 bytes\n"
@@ -90,6 +95,9 @@ RUNS = [
     (["check", "--answers", "--cut", "1", "@" + ANSWER], "", 0, ANSWER_LINE, ""),
     (["check"], ANSWER, 1, "refused at 10: reason 20 NoEscape\n", ""),
     (["check", "--answers"], HELLO, 1, "refused at 12: reason 43 BadAid\n", ""),
+    (["show", "--answers"], ANSWER, 0, ANSWER_LINES, ""),
+    (["show", "--answers"], HELLO, 1, "refused at 12: reason 43 BadAid\n", ""),
+    (["show", "--answers"], "", 0, "", ""),
     (["play", "--screen"], BOB, 0, BOB_LINES + BOB_SCREEN, ""),
     (["play", "--screen"], "", 0, EMPTY_SCREEN, ""),
     (["play", "--tcp"], BOB, 0, BOB_LINES, ""),
@@ -109,8 +117,8 @@ RUNS = [
     (["check", "--cut"], INVITE, 2, "", None),
     (["check", "--other"], INVITE, 2, "", None),
     (["check", "a", "b"], INVITE, 2, "", None),
-    (["show", "--answers"], INVITE, 2, "", None),
     (["play", "--cut", "1"], BOB, 2, "", None),
+    (["play", "--answers"], BOB, 2, "", None),
     (["play", "a", "b"], BOB, 2, "", None),
 ]
 
@@ -227,8 +235,8 @@ def write_runs(runs, folder):
         print("left out: counts of writes, since strace isn't there or may not look")
         return
     session = "settle\n" + (BOB.partition("\n")[2] * 500)
-    texts = (["show"], HELLO * 1000), (["play"], session), (["play", "--screen"], session), (["check"], MANY)
-    for words, text in texts:
+    shown = (["show"], HELLO * 1000), (["show", "--answers"], ANSWER * 1000)
+    for words, text in (*shown, (["play"], session), (["play", "--screen"], session), (["check"], MANY)):
         count, length = writes_of(words, text, path)
         runs.count(f"{words}: {count} writes of {length} bytes", 0 < count <= length // 4096 + 1)
 

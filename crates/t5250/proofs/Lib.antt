@@ -1,3 +1,4 @@
+pub mod AnswerTexts
 pub mod Buffers
 pub mod CheckLemmas
 pub mod FrontItems
@@ -10,3 +11,4 @@ pub mod ScriptWords
 pub mod Scripts
 pub mod Shows
 pub mod Texts
+pub mod ViewLaws

@@ -11,7 +11,8 @@ use Rattle.ws_stream.specs.AnswerParts.{answer_rules}
 use Rattle.t5250.specs.HexText.{IsHexOf, without_blanks}
 use Rattle.t5250.specs.CheckLine.{IsVerdict, is_accepted, line_of}
 use Rattle.t5250.specs.Checking.{IsCheckFault}
-use Rattle.t5250.specs.StreamText.{IsShown, IsShowFault}
+use Rattle.t5250.specs.StreamText.{View, IsShown, IsShowFault}
+use Rattle.t5250.specs.Views.{host_view, answer_view}
 use Rattle.t5250.specs.declared.command_line.Asked.{Asked}
 use Rattle.t5250.specs.declared.command_line.Asked.TheVariants.{Check, Show, Play}
 use Rattle.t5250.specs.declared.fault.RunFault.{RunFault}
@@ -50,8 +51,9 @@ module _ {S : Type 0} (takes : MayTake S) (failures : S → ℕ) (from to : S) w
       × (accepted ≡ is_accepted verdict) × WentOut takes failures from to (line_of verdict (length bytes))
 
   -- what is shown of a stream went out
-  abbrev pub HasShown : List ℕ → Bool → Type 0
-  HasShown bytes accepted = (text : List ℕ) × IsShown bytes accepted text × WentOut takes failures from to text
+  abbrev pub HasShown : {Place U : Type 0} → Rules Place U → View U → List ℕ → Bool → Type 0
+  HasShown rules view bytes accepted = (text : List ℕ) × IsShown rules view bytes accepted text
+      × WentOut takes failures from to text
 
   -- what a session tells after a script's moves went out; its terminal is the default one
   abbrev pub HasPlayed : Bool → List ℕ → Bool → Type 0
@@ -71,7 +73,10 @@ module _ {S : Type 0} (takes : MayTake S) (failures : S → ℕ) (from to : S) w
       × HasChecked element_rules bytes accepted
   HasAnswered (Check file cut true) input accepted = (bytes : List ℕ) × IsHexOf bytes input
       × HasChecked answer_rules bytes accepted
-  HasAnswered (Show file) input accepted = (bytes : List ℕ) × IsHexOf bytes input × HasShown bytes accepted
+  HasAnswered (Show file false) input accepted = (bytes : List ℕ) × IsHexOf bytes input
+      × HasShown element_rules host_view bytes accepted
+  HasAnswered (Show file true) input accepted = (bytes : List ℕ) × IsHexOf bytes input
+      × HasShown answer_rules answer_view bytes accepted
   HasAnswered (Play file screen false) input accepted = HasPlayed screen input accepted
   HasAnswered (Play file screen true) input accepted = HasPlayedByTcp screen input accepted
 
@@ -123,7 +128,10 @@ module _ {S : Type 0} (takes : MayTake S) (failures : S → ℕ) (from to : S) w
       (IsCheckFault element_rules takes failures from to) input fault
   IsAnswerFault (Check file cut true) input fault = IsHexFault
       (IsCheckFault answer_rules takes failures from to) input fault
-  IsAnswerFault (Show file) input fault = IsHexFault (IsShowFault takes failures from to) input fault
+  IsAnswerFault (Show file false) input fault = IsHexFault
+      (IsShowFault takes failures from to element_rules host_view) input fault
+  IsAnswerFault (Show file true) input fault = IsHexFault
+      (IsShowFault takes failures from to answer_rules answer_view) input fault
   IsAnswerFault (Play file screen false) input fault = IsPlayFault screen input fault
   IsAnswerFault (Play file screen true) input fault = IsTcpPlayFault screen input fault
 

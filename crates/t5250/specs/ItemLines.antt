@@ -102,10 +102,14 @@ abbrev pub element_line : Bool → Element → List ℕ
 element_line true (Put byte) = encode_upper (byte ∷ [])
 element_line is_behind_put e = 10 ∷ codes "  " ++ element_text e
 
--- a record whose last byte is at the place: a line for its header, and those of its elements
+-- the header of a record whose last byte is at the place
+abbrev pub head_text : {U : Type 0} → ℕ → Record U → List ℕ
+head_text place r = codes "at " ++ decimal place ++ codes " record flags " ++ encode_upper (two_bytes r.flags)
+    ++ codes " opcode " ++ decimal (opcode_byte r.opcode)
+
+-- a record: a line for its header, and those of its elements
 abbrev pub record_text : ℕ → Record Element → List ℕ
-record_text place r = codes "at " ++ decimal place ++ codes " record flags " ++ encode_upper (two_bytes r.flags)
-    ++ codes " opcode " ++ decimal (opcode_byte r.opcode) ++ element_lines r.body ++ 10 ∷ []
+record_text place r = head_text place r ++ element_lines r.body ++ 10 ∷ []
 
 -- the name of a command (RFC 854)
 abbrev pub command_name : CommandCode → List ℕ

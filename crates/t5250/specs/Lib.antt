@@ -1,3 +1,4 @@
+pub mod AnswerLines
 pub mod Answering
 pub mod Buffering
 pub mod CheckLine
@@ -12,3 +13,4 @@ pub mod ScreenLines
 pub mod Script
 pub mod ScriptFaults
 pub mod StreamText
+pub mod Views

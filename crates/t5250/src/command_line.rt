@@ -19,9 +19,11 @@ pub enum Asked<'a> {
         cut: u16,
         answers: bool,
     },
-    /// To show the items of a hex text, and the screen that they make.
+    /// To show the items of a hex text: as a host's commands, with the screen that they make, or as a station's
+    /// answers.
     Show {
         file: Option<&'a str>,
+        answers: bool,
     },
     /// To play a script with both ends, and to tell what happens; with `screen` also the station's screen at the end.
     /// With `tcp` their bytes go over a connection.
@@ -36,7 +38,7 @@ impl<'a> Asked<'a> {
     /// The file that is to be read; without it, standard input is.
     pub fn file(self) -> Option<&'a str> {
         match self {
-            Asked::Check { file, .. } | Asked::Show { file } | Asked::Play { file, .. } => file,
+            Asked::Check { file, .. } | Asked::Show { file, .. } | Asked::Play { file, .. } => file,
         }
     }
 }
@@ -67,8 +69,11 @@ const SHOW_EXAMPLES: &str = "\
 Each item is printed with the place of its last byte, counted from 0.
 Where the stream isn't accepted, the line of `check` is the last.
 
+A station's answers (--answers) have no screen.
+
 Examples:
   t5250 show capture.hex
+  t5250 show --answers answers.hex
   echo 000A12A0000004000001FFEF | t5250 show";
 
 const PLAY_EXAMPLES: &str = "\
@@ -94,19 +99,16 @@ fn program<'a>(alloc: Global) -> Result<Command<'a>, clap::Error> {
         .help("Reads the bytes in pieces of N, from 1 to 65535; the line stays the same")
         .value_parser(value_parser!(u16).range(1..=65535))
         .action(ArgAction::Set);
-    let answers = Arg::new(alloc, "answers")
-        .long("answers")
-        .help("Reads what a station sends, and not what a host sends")
-        .action(ArgAction::SetTrue);
     let check = Command::new(alloc, "check")
         .about("Tells whether a stream is accepted, refused or truncated")
         .after_help(CHECK_EXAMPLES)
-        .arg(answers)?
+        .arg(answers_flag(alloc))?
         .arg(cut)?
         .arg(hex_file(alloc))?;
     let show = Command::new(alloc, "show")
         .about("Prints a stream's records and Telnet commands, and the screen that they make")
         .after_help(SHOW_EXAMPLES)
+        .arg(answers_flag(alloc))?
         .arg(hex_file(alloc))?;
     let screen = Arg::new(alloc, "screen")
         .long("screen")
@@ -136,6 +138,13 @@ fn program<'a>(alloc: Global) -> Result<Command<'a>, clap::Error> {
         .subcommand(show)?
         .subcommand(play)?;
     Ok(program)
+}
+
+fn answers_flag<'a>(alloc: Global) -> Arg<'a> {
+    Arg::new(alloc, "answers")
+        .long("answers")
+        .help("Reads what a station sends, and not what a host sends")
+        .action(ArgAction::SetTrue)
 }
 
 // A hex text; without it, standard input is read.
@@ -181,6 +190,7 @@ pub fn read_words<'a, S: AsStr>(alloc: Global, words: &'a [S]) -> Result<Asked<'
         }),
         Some(("show", show)) => Ok(Asked::Show {
             file: show.get_str("FILE"),
+            answers: show.get_flag("answers"),
         }),
         Some(("play", play)) => Ok(Asked::Play {
             file: play.get_str("SCRIPT"),

@@ -50,8 +50,8 @@ fn put_command<S: Sink>(sink: &mut S, output: Output, name: &str, cc1: u8, cc2: 
     put_hex(sink, output, &[cc2])
 }
 
-// An order's name and the cell that it names.
-fn put_place<S: Sink>(sink: &mut S, output: Output, name: &str, to: Address) -> Output
+/// Writes a name and the cell behind it.
+pub fn put_place<S: Sink>(sink: &mut S, output: Output, name: &str, to: Address) -> Output
     ensures { Prints S.takes S.failures sink.old sink.new output result
         (name.now ++ Shown.cell_text to) }
 {
@@ -59,8 +59,14 @@ fn put_place<S: Sink>(sink: &mut S, output: Output, name: &str, to: Address) -> 
     put_cell(sink, output, to)
 }
 
-// An order's name, the cell that it goes to, and its bytes.
-fn put_fill<S: Sink>(sink: &mut S, output: Output, name: &str, to: Address, bytes: &[u8]) -> Output
+/// Writes a name, the cell behind it, and bytes.
+pub fn put_fill<S: Sink>(
+    sink: &mut S,
+    output: Output,
+    name: &str,
+    to: Address,
+    bytes: &[u8],
+) -> Output
     ensures { Prints S.takes S.failures sink.old sink.new output result
         (name.now ++ Shown.fill_text to bytes.now) }
 {

@@ -202,6 +202,47 @@ cursor 6 53, unlocked, message off, blink off, fields 1
     },
 ];
 
+// What the station sends in the inquiry: that it has a terminal name, the name, and its two answers.
+const ANSWERS: &str = "FF FB 18
+FF FA 18 00 49 42 4D 2D 33 31 37 39 2D 32 FF F0
+00 14 12 A0 00 00 04 00 00 03 03 18 35 11 03 14 F4 F7 F1 F1 FF EF
+00 0D 12 A0 00 00 04 00 00 03 03 14 33 FF EF
+";
+
+const ANSWERS_CHECKED: &str = "accepted: 2 records, 2 commands, 56 bytes
+";
+
+const ANSWERS_SHOWN: &str = "at 2 telnet WILL 24
+at 18 telnet SB 24 0049424D2D333137392D32
+at 40 record flags 0000 opcode 3
+  HEAD 3 24 35
+  AT 3 20
+  BYTES F4F7F1F1
+at 55 record flags 0000 opcode 3
+  HEAD 3 20 33
+";
+
+#[test]
+fn answers_print_their_lines(rt: HostRuntime) -> Result<(), Fail> {
+    let runs: [(&[&str], &str); 3] = [
+        (&["t5250", "check", "--answers"], ANSWERS_CHECKED),
+        (
+            &["t5250", "check", "--answers", "--cut", "1"],
+            ANSWERS_CHECKED,
+        ),
+        (&["t5250", "show", "--answers"], ANSWERS_SHOWN),
+    ];
+    for (words, wanted) in runs {
+        let asked = read_words(rt.alloc(), words)?;
+        let mut sink = BufferedSink::new(VecSink::new(rt.alloc()));
+        let outcome = answer_buffered(&rt, rt.alloc(), asked, ANSWERS.as_bytes(), &mut sink);
+        assert_eq!(rt; outcome, Ok(true), "{words:?}");
+        let sink = sink.into_inner();
+        assert_eq!(rt; sink.as_slice(), wanted.as_bytes(), "{words:?}");
+    }
+    Ok(())
+}
+
 #[test]
 fn examples_print_their_lines(rt: HostRuntime) -> Result<(), Fail> {
     for example in &EXAMPLES {

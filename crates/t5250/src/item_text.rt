@@ -22,8 +22,8 @@ pub fn put_item<S: Sink>(sink: &mut S, output: Output, place: u64, item: &Item<E
     }
 }
 
-// Writes the line of a Telnet command.
-fn put_telnet<S: Sink>(sink: &mut S, output: Output, place: u64, telnet: &Telnet) -> Output
+/// Writes the line of a Telnet command whose last byte is at the place.
+pub fn put_telnet<S: Sink>(sink: &mut S, output: Output, place: u64, telnet: &Telnet) -> Output
     ensures { Prints S.takes S.failures sink.old sink.new output result
         (Shown.telnet_text place telnet.now) }
 {
@@ -87,14 +87,22 @@ fn put_record<S: Sink>(sink: &mut S, output: Output, place: u64, record: &Record
     ensures { Prints S.takes S.failures sink.old sink.new output result
         (Shown.record_text place «record».now) }
 {
+    let output = put_head(sink, output, place, record);
+    let output = put_elements(sink, output, record.body.as_slice());
+    put_text(sink, output, "\n")
+}
+
+/// Writes the header of a record whose last byte is at the place.
+pub fn put_head<S: Sink, U>(sink: &mut S, output: Output, place: u64, record: &Record<U>) -> Output
+    ensures { Prints S.takes S.failures sink.old sink.new output result
+        (Shown.head_text place «record».now) }
+{
     let output = put_text(sink, output, "at ");
     let output = put_number(sink, output, place);
     let output = put_text(sink, output, " record flags ");
     let output = put_flags(sink, output, record.flags);
     let output = put_text(sink, output, " opcode ");
-    let output = put_number(sink, output, record.opcode.byte() as u64);
-    let output = put_elements(sink, output, record.body.as_slice());
-    put_text(sink, output, "\n")
+    put_number(sink, output, record.opcode.byte() as u64)
 }
 
 fn put_flags<S: Sink>(sink: &mut S, output: Output, flags: u16) -> Output

@@ -5,6 +5,7 @@
 //! order: the command line, reading, hex text or script, the connection, and then those met in running.
 #![tactic(auto)]
 
+mod answer_text;
 mod buffered_sink;
 mod check;
 mod command_line;
@@ -38,6 +39,7 @@ mod script_rows;
 mod show;
 #[cfg(test)]
 mod show_rows;
+mod shown;
 #[cfg(test)]
 mod size_rows;
 mod tcp;

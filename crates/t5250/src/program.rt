@@ -14,6 +14,7 @@ use crate::hex_text::hex_bytes;
 use crate::play::play_to;
 use crate::script::read_script;
 use crate::show::show_to;
+use crate::shown::Shown;
 use crate::tcp::play_tcp;
 use std::alloc::Global;
 use std::net::{Net, TcpListener, TcpStream};
@@ -50,7 +51,13 @@ pub fn answer<R: Net<Listener = TcpListener, Stream = TcpStream>, S: Sink>(
                 check_text::<Commands, S>(alloc, text, cut, sink)
             }
         }
-        Asked::Show { .. } => show_text(alloc, text, sink),
+        Asked::Show { answers, .. } => {
+            if answers {
+                show_text::<Answers, S>(alloc, text, sink)
+            } else {
+                show_text::<Commands, S>(alloc, text, sink)
+            }
+        }
         Asked::Play { screen, tcp, .. } => {
             if tcp {
                 play_script_by_tcp(rt, alloc, text, screen, sink)
@@ -103,14 +110,14 @@ fn check_text<B: Body, S: Sink>(
 }
 
 // Writes what is shown of the bytes that a hex text tells.
-fn show_text<S: Sink>(alloc: Global, text: &[u8], sink: &mut S) -> Result<bool, RunFault>
+fn show_text<B: Shown, S: Sink>(alloc: Global, text: &[u8], sink: &mut S) -> Result<bool, RunFault>
     ensures done { IfOk result (λ accepted. (bytes : Seq ℕ) × IsHexOf bytes text.now
-        × HasShown S.takes S.failures sink.old sink.new bytes accepted) }
+        × HasShown S.takes S.failures sink.old sink.new B.rules B.view bytes accepted) }
     ensures fault { IfErr result (IsHexFault S.takes S.failures sink.old sink.new
-        (IsShowFault S.takes S.failures sink.old sink.new) text.now) }
+        (IsShowFault S.takes S.failures sink.old sink.new B.rules B.view) text.now) }
 {
     let bytes = hex_bytes(alloc, text)?;
-    Ok(show_to(alloc, bytes.as_slice(), sink)?)
+    Ok(show_to::<B, S>(alloc, bytes.as_slice(), sink)?)
 }
 
 // Plays a script, and writes what its session tells.

@@ -91,8 +91,20 @@ fn command_lines(rt: HostRuntime) -> Result<(), Fail> {
                 answers: false,
             },
         ),
-        (&["t5250", "show"], Asked::Show { file: None }),
-        (&["t5250", "show", "a.hex"], Asked::Show { file }),
+        (
+            &["t5250", "show"],
+            Asked::Show {
+                file: None,
+                answers: false,
+            },
+        ),
+        (
+            &["t5250", "show", "--answers", "a.hex"],
+            Asked::Show {
+                file,
+                answers: true,
+            },
+        ),
         (
             &["t5250", "play"],
             Asked::Play {
@@ -129,7 +141,14 @@ fn command_lines(rt: HostRuntime) -> Result<(), Fail> {
     for (words, asked) in rows {
         assert_eq!(rt; read_words(rt.alloc(), words)?, asked);
     }
-    assert_eq!(rt; Asked::Show { file }.file(), file);
+    assert_eq!(rt;
+        Asked::Show {
+            file,
+            answers: false
+        }
+        .file(),
+        file
+    );
     assert_eq!(rt; check().file(), None);
     Ok(())
 }
@@ -149,7 +168,7 @@ fn wrong_command_lines(rt: HostRuntime) -> Result<(), Fail> {
         ["t5250", "check", "--answers", "--answers"].as_slice(),
         ["t5250", "check", "--answers=1"].as_slice(),
         ["t5250", "show", "--cut", "1"].as_slice(),
-        ["t5250", "show", "--answers"].as_slice(),
+        ["t5250", "play", "--answers"].as_slice(),
         ["t5250", "show", "a.hex", "b.hex"].as_slice(),
         ["t5250", "play", "a.hex", "b.hex"].as_slice(),
         ["t5250", "play", "--screen", "--screen"].as_slice(),
@@ -211,9 +230,31 @@ fn answered(rt: HostRuntime) -> Result<(), Fail> {
     let bob = "00 13 12 A0 00 00 04 00 00 03 06 38 F1 11 06 35 C2 D6 C2 FF EF";
     let refused = "refused at 10: reason 20 NoEscape\n";
     let answers: &[&str] = &["t5250", "check", "--answers", "--cut", "1"];
+    let whole: &[&str] = &["t5250", "check", "--answers"];
     let check: &[&str] = &["t5250", "check"];
     let show: &[&str] = &["t5250", "show"];
+    let show_answers: &[&str] = &["t5250", "show", "--answers"];
     let rows = [
+        (whole, bob, "accepted: 1 records, 0 commands, 21 bytes\n", 0),
+        (
+            show_answers,
+            bob,
+            "at 20 record flags 0000 opcode 3\n  HEAD 6 56 F1\n  AT 6 53\n  BYTES C2D6C2\n",
+            0,
+        ),
+        (
+            show_answers,
+            "FFF1 000A12A0000004000001FFEF FFEF",
+            "at 1 telnet NOP\nat 13 record flags 0000 opcode 1\nrefused at 15: reason 16 TooShort\n",
+            1,
+        ),
+        (
+            show_answers,
+            "FFF1FF",
+            "at 1 telnet NOP\ntruncated at 3\n",
+            1,
+        ),
+        (show_answers, "", "", 0),
         (
             answers,
             bob,
