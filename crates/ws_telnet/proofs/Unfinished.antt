@@ -15,7 +15,8 @@ use Rattle.ws_telnet.specs.declared.token.Telnet.TheVariants.{Option as Negotiat
 -- What a machine between the bytes of a token needs.
 
 -- a subnegotiation so far can end with FF F0
-pub sub_goes_on : (option : ℕ) (xs : List ℕ) → option < 256 → length xs ≤ 64 → AreBytes xs → IsUnfinished token_rules tt (0xff ∷ 0xfa ∷ option ∷ flat_map doubled xs)
+pub sub_goes_on : (option : ℕ) (xs : List ℕ) → option < 256 → length xs ≤ 64 → AreBytes xs
+    → IsUnfinished token_rules tt (0xff ∷ 0xfa ∷ option ∷ flat_map doubled xs)
 sub_goes_on option xs h k l = record {
   unit = TelnetToken (Subnegotiate (record { option = option; data_ = xs }));
   next = 0xff;
@@ -24,7 +25,8 @@ sub_goes_on option xs h k l = record {
   spelled = refl;
 }
 
-pub sub_ends : (option : ℕ) (xs : List ℕ) → option < 256 → length xs ≤ 64 → AreBytes xs → IsUnfinished token_rules tt (0xff ∷ 0xfa ∷ option ∷ flat_map doubled xs ++ 0xff ∷ [])
+pub sub_ends : (option : ℕ) (xs : List ℕ) → option < 256 → length xs ≤ 64 → AreBytes xs
+    → IsUnfinished token_rules tt (0xff ∷ 0xfa ∷ option ∷ flat_map doubled xs ++ 0xff ∷ [])
 sub_ends option xs h k l = record {
   unit = TelnetToken (Subnegotiate (record { option = option; data_ = xs }));
   next = 0xf0;
@@ -39,10 +41,15 @@ pub record IsSubSoFar (option : ℕ) (xs : List ℕ) : Type 0 where
   pub length_fits : length xs ≤ 64
   pub bytes : AreBytes xs
 
-pub sub_so_far : (option : ℕ) (xs tail : List ℕ) → IsUnfinished token_rules tt (0xff ∷ 0xfa ∷ option ∷ flat_map doubled xs ++ tail) → IsSubSoFar option xs
+pub sub_so_far : (option : ℕ) (xs tail : List ℕ)
+    → IsUnfinished token_rules tt (0xff ∷ 0xfa ∷ option ∷ flat_map doubled xs ++ tail) → IsSubSoFar option xs
 sub_so_far option xs tail u =
-    let found : (ys : List ℕ) × (option < 256) × (length ys ≤ 64) × AreBytes ys × (flat_map doubled ys ++ 0xff ∷ 0xf0 ∷ [] ≡ flat_map doubled xs ++ tail ++ u.next ∷ u.rest) = in_sub u.unit option _ u.stands.is_unit u.spelled in
-    let front : (zs : List ℕ) × (found.0 ≡ xs ++ zs) × (flat_map doubled zs ++ 0xff ∷ 0xf0 ∷ [] ≡ tail ++ u.next ∷ u.rest) = content_front found.0 xs (tail ++ u.next ∷ u.rest) (found.4 ∙ append_assoc (flat_map doubled xs) tail (u.next ∷ u.rest)) in
+    let found : (ys : List ℕ) × (option < 256) × (length ys ≤ 64) × AreBytes
+    ys × (flat_map doubled ys ++ 0xff ∷ 0xf0 ∷ [] ≡ flat_map doubled xs ++ tail ++ u.next ∷ u.rest) =
+    in_sub u.unit option _ u.stands.is_unit u.spelled in
+    let front : (zs : List ℕ) × (found.0 ≡ xs ++ zs) × (flat_map doubled
+    zs ++ 0xff ∷ 0xf0 ∷ [] ≡ tail ++ u.next ∷ u.rest) = content_front found.0 xs (tail ++ u.next ∷ u.rest)
+    (found.4 ∙ append_assoc (flat_map doubled xs) tail (u.next ∷ u.rest)) in
     record {
       option_fits = found.1;
       length_fits = omega (arith, found.2, ap length front.1, length-append xs front.0);
@@ -53,13 +60,15 @@ sub_so_far option xs tail u =
 pub content_more : (xs : List ℕ) (b : ℕ) → flat_map doubled (xs ++ b ∷ []) ≡ flat_map doubled xs ++ doubled b
 content_more xs b = flat_map-append doubled xs (b ∷ []) ∙ ap (λ x. flat_map doubled xs ++ x) (append-nil (doubled b))
 
-pub content_more_plain : (xs : List ℕ) (b : ℕ) → b ≢ 0xff → flat_map doubled (xs ++ b ∷ []) ≡ flat_map doubled xs ++ b ∷ []
+pub content_more_plain : (xs : List ℕ) (b : ℕ) → b ≢ 0xff
+    → flat_map doubled (xs ++ b ∷ []) ≡ flat_map doubled xs ++ b ∷ []
 content_more_plain xs b ne = elim (iac_or_not b) [
   | inl h ↦ absurd (ne h)
   | inr h ↦ content_more xs b ∙ ap (λ x. flat_map doubled xs ++ x) (doubled_plain b h.1)
 ]
 
-pub content_more_iac : (xs : List ℕ) → flat_map doubled (xs ++ 0xff ∷ []) ≡ flat_map doubled xs ++ 0xff ∷ [] ++ 0xff ∷ []
+pub content_more_iac : (xs : List ℕ)
+    → flat_map doubled (xs ++ 0xff ∷ []) ≡ flat_map doubled xs ++ 0xff ∷ [] ++ 0xff ∷ []
 content_more_iac xs = content_more xs 0xff ∙ sym (append_assoc (flat_map doubled xs) (0xff ∷ []) (0xff ∷ []))
 
 pub bytes_more : (xs : List ℕ) (b : ℕ) → AreBytes xs → b < 256 → AreBytes (xs ++ b ∷ [])
@@ -75,10 +84,14 @@ sub_full option xs b full p =
     omega (arith, content_left front.0 p.rest b front.2, found.2, ap length front.1, length-append xs front.0)
 
 -- FF and another byte than FF and F0
-pub sub_bad : (option : ℕ) (xs : List ℕ) (b : ℕ) → b ≢ 0xff → b ≢ 0xf0 → IsPrefix token_rules tt (0xff ∷ 0xfa ∷ option ∷ flat_map doubled xs ++ 0xff ∷ [] ++ b ∷ []) → ⊥
+pub sub_bad : (option : ℕ) (xs : List ℕ) (b : ℕ) → b ≢ 0xff → b ≢ 0xf0
+    → IsPrefix token_rules tt (0xff ∷ 0xfa ∷ option ∷ flat_map doubled xs ++ 0xff ∷ [] ++ b ∷ []) → ⊥
 sub_bad option xs b ne ne' p =
-    let found : (ys : List ℕ) × (option < 256) × (length ys ≤ 64) × AreBytes ys × (flat_map doubled ys ++ 0xff ∷ 0xf0 ∷ [] ≡ flat_map doubled xs ++ 0xff ∷ [] ++ b ∷ [] ++ p.rest) = in_sub p.unit option _ p.stands.is_unit p.spelled in
-    let front : (zs : List ℕ) × (found.0 ≡ xs ++ zs) × (flat_map doubled zs ++ 0xff ∷ 0xf0 ∷ [] ≡ 0xff ∷ b ∷ p.rest) = content_front found.0 xs (0xff ∷ b ∷ p.rest) (found.4 ∙ simp append_assoc) in
+    let found : (ys : List ℕ) × (option < 256) × (length ys ≤ 64) × AreBytes
+    ys × (flat_map doubled ys ++ 0xff ∷ 0xf0 ∷ [] ≡ flat_map doubled xs ++ 0xff ∷ [] ++ b ∷ [] ++ p.rest) =
+    in_sub p.unit option _ p.stands.is_unit p.spelled in
+    let front : (zs : List ℕ) × (found.0 ≡ xs ++ zs) × (flat_map doubled zs ++ 0xff ∷ 0xf0 ∷ [] ≡ 0xff ∷ b ∷ p.rest) =
+    content_front found.0 xs (0xff ∷ b ∷ p.rest) (found.4 ∙ simp append_assoc) in
     ne' (content_end front.0 p.rest b ne front.2).1
 
 -- content leaves no FF open
@@ -90,7 +103,8 @@ ends_after : (xs rest : List ℕ) → ends_in_iac (flat_map doubled xs ++ rest) 
 ends_after [] rest = refl
 ends_after (x ∷ xs) rest = ap ends_in_iac (append_assoc (doubled x) (flat_map doubled xs) rest) ∙ elim (iac_or_not x) [
   | inl h ↦ ap (λ n. ends_in_iac (doubled n ++ (flat_map doubled xs ++ rest))) h ∙ ends_after xs rest
-  | inr h ↦ ap (λ l. ends_in_iac (l ++ (flat_map doubled xs ++ rest))) (doubled_plain x h.1) ∙ ends_plain x (flat_map doubled xs ++ rest) h.1 ∙ ends_after xs rest
+  | inr h ↦ ap (λ l. ends_in_iac (l ++ (flat_map doubled xs ++ rest))) (doubled_plain x h.1)
+      ∙ ends_plain x (flat_map doubled xs ++ rest) h.1 ∙ ends_after xs rest
 ]
 
 pub content_even : (xs : List ℕ) → ends_in_iac (flat_map doubled xs) ≡ false
@@ -101,7 +115,8 @@ content_odd xs = ends_after xs (0xff ∷ [])
 
 -- what may follow FF
 pub iac_goes_on : IsUnfinished token_rules tt (0xff ∷ [])
-iac_goes_on = record { unit = Eor; next = 0xef; rest = []; stands = record { is_unit = tt; may_follow = refl }; spelled = refl }
+iac_goes_on = record
+    { unit = Eor; next = 0xef; rest = []; stands = record { is_unit = tt; may_follow = refl }; spelled = refl }
 
 pub sub_begins : IsUnfinished token_rules tt (0xff ∷ 0xfa ∷ [])
 sub_begins = record {
@@ -121,14 +136,21 @@ negotiation_begins verb b h = record {
   spelled = ap (λ n. 0xff ∷ n ∷ 0 ∷ []) h;
 }
 
-pub sub_so_far_content : (option : ℕ) (xs : List ℕ) → IsUnfinished token_rules tt (0xff ∷ 0xfa ∷ option ∷ flat_map doubled xs) → IsSubSoFar option xs
-sub_so_far_content option xs u = sub_so_far option xs [] (subst (λ (l : List ℕ). IsUnfinished token_rules tt (0xff ∷ 0xfa ∷ option ∷ l)) (sym (append-nil (flat_map doubled xs))) u)
+pub sub_so_far_content : (option : ℕ) (xs : List ℕ)
+    → IsUnfinished token_rules tt (0xff ∷ 0xfa ∷ option ∷ flat_map doubled xs) → IsSubSoFar option xs
+sub_so_far_content option xs u =
+    sub_so_far option xs []
+    (subst (λ (l : List ℕ). IsUnfinished token_rules tt (0xff ∷ 0xfa ∷ option ∷ l))
+    (sym (append-nil (flat_map doubled xs))) u)
 
 pub sub_option : (option : ℕ) → option < 256 → IsUnfinished token_rules tt (0xff ∷ 0xfa ∷ option ∷ [])
 sub_option option h = sub_goes_on option [] h (omega arith) tt
 
-pub sub_whole : (option : ℕ) (xs : List ℕ) → IsSubSoFar option xs → IsSpelled token_rules tt (0xff ∷ 0xfa ∷ option ∷ flat_map doubled xs ++ 0xff ∷ [] ++ 0xf0 ∷ []) (TelnetToken (Subnegotiate (record { option = option; data_ = xs })))
+pub sub_whole : (option : ℕ) (xs : List ℕ) → IsSubSoFar option xs
+    → IsSpelled token_rules tt (0xff ∷ 0xfa ∷ option ∷ flat_map doubled xs ++ 0xff ∷ [] ++ 0xf0 ∷ [])
+    (TelnetToken (Subnegotiate (record { option = option; data_ = xs })))
 sub_whole option xs known = record {
   stands = record { is_unit = (known.option_fits, known.length_fits, known.bytes); may_follow = refl };
-  spelled = ap (λ (l : List ℕ). let m : List ℕ = 0xff ∷ 0xfa ∷ option ∷ l in m) (sym (append_assoc (flat_map doubled xs) (0xff ∷ []) (0xf0 ∷ [])));
+  spelled = ap (λ (l : List ℕ). let m : List ℕ = 0xff ∷ 0xfa ∷ option ∷ l in m)
+      (sym (append_assoc (flat_map doubled xs) (0xff ∷ []) (0xf0 ∷ [])));
 }

@@ -5,4 +5,5 @@ use Rattle.ws_stream.specs.ElementLaws.{element_begins}
 use Rattle.ws_stream.proofs.tests.spelled_again.Goals as goal
 
 pub loop-byte-init : goal.loop-byte-init
-loop-byte-init c = subst (λ (l : List ℕ). IsUnfinished element_rules c.start-machine.result.place l) (sym c.start-machine.ensures.fresh) (element_begins c.start-machine.result.place)
+loop-byte-init c = subst (λ (l : List ℕ). IsUnfinished element_rules c.start-machine.result.place l)
+    (sym c.start-machine.ensures.fresh) (element_begins c.start-machine.result.place)

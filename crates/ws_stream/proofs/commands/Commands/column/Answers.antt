@@ -24,7 +24,9 @@ pub returns-in-Sba : goal.returns-in-Sba
 returns-in-Sba g c = inr (Sba c.in-Some.to, first_of (search rules, grind (arith, common_steps)), c.complete.ensures)
 
 pub returns-in-Ic : goal.returns-in-Ic
-returns-in-Ic g c = inr (Ic c.in-Some.to, first_of (search rules, grind (arith, common_steps)), c.complete-in-Ic.ensures)
+returns-in-Ic g c = inr
+    (Ic c.in-Some.to, first_of (search rules, grind (arith, common_steps)), c.complete-in-Ic.ensures)
 
 pub returns-in-Mc : goal.returns-in-Mc
-returns-in-Mc g c = inr (Mc c.in-Some.to, first_of (search rules, grind (arith, common_steps)), c.complete-in-Mc.ensures)
+returns-in-Mc g c = inr
+    (Mc c.in-Some.to, first_of (search rules, grind (arith, common_steps)), c.complete-in-Mc.ensures)

@@ -23,5 +23,8 @@ returns c =
     let controls = c.args.self.now.controls in
     let parts = and_parts (nat_le 0x4000 w) (list_all is_control controls) c.requires.words in
     let format = leb-true 0x4000 w parts.0 in
-    let found = control_whole c.args.self.now.place w controls c.push.new.self c.args.high c.args.byte c.word.result format parts.1 (leb-true 0x80 c.args.high c.requires.control) (omega arith) (omega arith) (omega (arith, c.word.ensures)) c.push.ensures c.requires.begun in
-    waits (0x1D ∷ words_bytes c.args.format c.args.self.now.controls ++ c.args.high ∷ []) c.args.byte c.wait_for.ensures found.0 found.1
+    let found = control_whole c.args.self.now.place w controls c.push.new.self c.args.high c.args.byte c.word.result
+    format parts.1 (leb-true 0x80 c.args.high c.requires.control) (omega arith) (omega arith)
+    (omega (arith, c.word.ensures)) c.push.ensures c.requires.begun in
+    waits (0x1D ∷ words_bytes c.args.format c.args.self.now.controls ++ c.args.high ∷ []) c.args.byte c.wait_for.ensures
+    found.0 found.1

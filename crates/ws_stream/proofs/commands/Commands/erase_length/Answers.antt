@@ -6,5 +6,6 @@ use Rattle.ws_stream.proofs.commands.Commands.erase_length.Goals as goal
 
 pub returns : goal.returns
 returns c =
-    let found = erase_counted c.args.self.now.place c.args.to c.args.byte c.clear.new.self c.requires (omega arith) (omega arith) c.clear.ensures in
+    let found = erase_counted c.args.self.now.place c.args.to c.args.byte c.clear.new.self c.requires (omega arith)
+    (omega arith) c.clear.ensures in
     waits (0x03 ∷ row_and_column c.args.to) c.args.byte c.wait_for.ensures found.0 found.1

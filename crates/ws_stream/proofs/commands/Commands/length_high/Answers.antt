@@ -6,5 +6,7 @@ use Rattle.ws_stream.proofs.commands.Commands.length_high.Goals as goal
 
 pub returns : goal.returns
 returns c =
-    let found = length_begins c.args.self.now.place c.args.format c.args.self.now.controls c.args.attribute c.args.byte c.requires.front c.requires.attribute (omega arith) c.requires.begun in
-    waits (0x1D ∷ front_bytes c.args.format c.args.self.now.controls ++ c.args.attribute ∷ []) c.args.byte c.wait_for.ensures found.0 found.1
+    let found = length_begins c.args.self.now.place c.args.format c.args.self.now.controls c.args.attribute c.args.byte
+    c.requires.front c.requires.attribute (omega arith) c.requires.begun in
+    waits (0x1D ∷ front_bytes c.args.format c.args.self.now.controls ++ c.args.attribute ∷ []) c.args.byte
+    c.wait_for.ensures found.0 found.1

@@ -8,4 +8,5 @@ pub returns : goal.returns
 returns c =
     let o = c.args.order in
     let allowed = order_allowed c.args.self.now.place (order_byte o) [] (address_code o).no_command c.requires in
-    waits (order_byte o ∷ []) c.args.byte c.wait_for.ensures refl (row_goes_on _ o c.args.byte allowed (omega arith) (omega arith))
+    waits (order_byte o ∷ []) c.args.byte c.wait_for.ensures refl
+    (row_goes_on _ o c.args.byte allowed (omega arith) (omega arith))

@@ -12,4 +12,5 @@ returns g c =
     inl (waits (0x01 ∷ []) c.args.byte c.wait_for.ensures found.0 found.1, refl)
 
 pub returns-then-byte-eq0 : goal.returns-then-byte-eq0
-returns-then-byte-eq0 g c = inr (Soh c.of.result, first_of (search rules, grind (arith, common_steps)), c.complete.ensures)
+returns-then-byte-eq0 g c =
+    inr (Soh c.of.result, first_of (search rules, grind (arith, common_steps)), c.complete.ensures)

@@ -4,4 +4,5 @@ use Rattle.ws_stream.specs.FieldOrder.{is_control}
 use Rattle.ws_stream.proofs.field_start.FieldStart.new.Given as goal
 
 abbrev pub invariant-loop-control : goal.invariant-loop-control
-invariant-loop-control l = (l.all ≡ take l.control-index l.controls) × (list_all is_control (take l.control-index l.controls) ≡ true)
+invariant-loop-control l =
+    (l.all ≡ take l.control-index l.controls) × (list_all is_control (take l.control-index l.controls) ≡ true)

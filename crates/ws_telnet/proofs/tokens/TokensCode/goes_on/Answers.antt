@@ -6,4 +6,5 @@ pub returns-else-byte-ne-IAC-clause-taken : goal.returns-else-byte-ne-IAC-clause
 returns-else-byte-ne-IAC-clause-taken c = λ _. rw (c.in-Begin.is, c.if-byte-ne-IAC.false) (iac_goes_on, refl)
 
 pub returns-in-SubOption-clause-taken : goal.returns-in-SubOption-clause-taken
-returns-in-SubOption-clause-taken c = λ _. rw (c.in-SubOption.is, c.take_option.ensures) (sub_option c.args.byte (omega arith), refl)
+returns-in-SubOption-clause-taken c =
+    λ _. rw (c.in-SubOption.is, c.take_option.ensures) (sub_option c.args.byte (omega arith), refl)
