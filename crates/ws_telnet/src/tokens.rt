@@ -283,7 +283,8 @@ impl Tokens {
     // Takes the byte that completes one of a subnegotiation's data: another than FF, or the second FF of a pair.
     #[inline(always)]
     fn take_content(&mut self, byte: u8) -> Word
-        requires begun { IsUnfinished token_rules tt (sub_begun self.old.option self.old.content.items) }
+        requires begun { IsUnfinished token_rules tt
+            (sub_begun self.old.option self.old.content.items) }
         requires completes { unfinished_of self.old ++ byte ∷ []
             ≡ sub_begun self.old.option self.old.content.items ++ doubled byte }
         requires reason { token_reason (unfinished_of self.old) byte ≡ Reason.SubTooLong }

@@ -49,7 +49,8 @@ impl Commands {
         requires words { are_words format self.old.controls ≡ true }
         requires begun { IsUnfinished element_rules self.old.place
             (START_OF_FIELD ∷ words_bytes format self.old.controls) }
-        ensures { GoesOn self.old.place (START_OF_FIELD ∷ words_bytes format self.old.controls) byte self.new result }
+        ensures { GoesOn self.old.place
+            (START_OF_FIELD ∷ words_bytes format self.old.controls) byte self.new result }
     {
         match byte {
             0x20..=0x3f => self.wait_for(Phase::LengthHigh(Some(format), byte)),

@@ -32,7 +32,8 @@ impl Commands {
         requires phase { self.old.phase ≡ Phase.SohByte count }
         requires begun { IsUnfinished element_rules self.old.place
             (START_OF_HEADER ∷ count ∷ self.old.bytes) }
-        ensures { Takes K.holds K.may_answer self.old.place (START_OF_HEADER ∷ count ∷ self.old.bytes) keep.old byte
+        ensures { Takes K.holds K.may_answer self.old.place
+            (START_OF_HEADER ∷ count ∷ self.old.bytes) keep.old byte
             self.new keep.new result }
     {
         if self.bytes.len() == 2 && byte != 0 {
@@ -66,7 +67,8 @@ impl Commands {
         byte: u8,
     ) -> End
         requires { IsUnfinished element_rules self.old.place (order_byte order ∷ row ∷ []) }
-        ensures { Takes K.holds K.may_answer self.old.place (order_byte order ∷ row ∷ []) keep.old byte
+        ensures { Takes K.holds K.may_answer self.old.place
+            (order_byte order ∷ row ∷ []) keep.old byte
             self.new keep.new result }
     {
         let to = match Address::new(row, byte) {
@@ -89,8 +91,10 @@ impl Commands {
         to: Address,
         byte: u8,
     ) -> End
-        requires { IsUnfinished element_rules self.old.place (REPEAT_TO_ADDRESS ∷ row_and_column to) }
-        ensures { Takes K.holds K.may_answer self.old.place (REPEAT_TO_ADDRESS ∷ row_and_column to) keep.old byte
+        requires { IsUnfinished element_rules self.old.place
+            (REPEAT_TO_ADDRESS ∷ row_and_column to) }
+        ensures { Takes K.holds K.may_answer self.old.place
+            (REPEAT_TO_ADDRESS ∷ row_and_column to) keep.old byte
             self.new keep.new result }
     {
         match DataByte::new(byte) {
@@ -101,8 +105,10 @@ impl Commands {
 
     #[inline(always)]
     pub(super) fn erase_length(&mut self, to: Address, byte: u8) -> End
-        requires { IsUnfinished element_rules self.old.place (ERASE_TO_ADDRESS ∷ row_and_column to) }
-        ensures { GoesOn self.old.place (ERASE_TO_ADDRESS ∷ row_and_column to) byte self.new result }
+        requires { IsUnfinished element_rules self.old.place
+            (ERASE_TO_ADDRESS ∷ row_and_column to) }
+        ensures { GoesOn self.old.place
+            (ERASE_TO_ADDRESS ∷ row_and_column to) byte self.new result }
     {
         if byte < 2 || byte > 5 {
             return End::Bad(Reason::BadEraseList);

@@ -9,9 +9,22 @@ ghost use Rattle.ws_stream.specs.UnfinishedElement.{unfinished_of};
 
 use super::Commands;
 use super::phase::Phase;
-use crate::order_code::START_OF_FIELD;
 use crate::{Element, Place};
-use ws_code::{Code, DataByte, End, Keep, Kept, Run, Standing};
+use ws_code::{Code, End, Keep, Kept, Run, Standing};
+
+// Hands over an element behind which the machine stands.
+#[inline(always)]
+pub(super) fn hand_over<K: Keep<Element>>(keep: &mut K, element: Element) -> End
+    ensures { (machine : Commands)
+        → reading_of machine ≡ record { place = element_rules.after element; begun = [] }
+        → IsKept K.holds K.may_answer keep.old element machine keep.new result }
+{
+    match keep.keep(element) {
+        Kept::GoOn => End::More,
+        Kept::Enough => End::Enough,
+        Kept::NoMemory => End::NoMemory,
+    }
+}
 
 impl Commands {
     // The byte begins or continues an element.
@@ -31,11 +44,7 @@ impl Commands {
     {
         self.phase = Phase::Begin;
         self.place = Commands::after(&element);
-        match keep.keep(element) {
-            Kept::GoOn => End::More,
-            Kept::Enough => End::Enough,
-            Kept::NoMemory => End::NoMemory,
-        }
+        hand_over(keep, element)
     }
 
     // What the byte makes of what was waited for.
@@ -69,28 +78,17 @@ impl Commands {
         }
     }
 
-    // Most bytes of a long body are data, and are told before what is waited for is looked at.
+    // Most bytes of a long body are data, so a byte between elements is looked at first.
     #[inline(always)]
     fn take<K: Keep<Element>>(&mut self, keep: &mut K, byte: u8) -> End
         requires { IsUnfinished element_rules self.old.place (unfinished_of self.old) }
         ensures { Takes K.holds K.may_answer self.old.place (unfinished_of self.old) keep.old byte
             self.new keep.new result }
     {
-        if byte > START_OF_FIELD && self.takes_data() {
-            if let Some(byte) = DataByte::new(byte) {
-                return self.complete(keep, Element::Put(byte));
-            }
+        if let Phase::Begin = self.phase {
+            return self.begin(keep, byte);
         }
         self.step(keep, byte)
-    }
-
-    // Whether an order or data may begin with the next byte.
-    #[inline(always)]
-    fn takes_data(&self) -> bool
-        ensures { result ≡ true
-            → (self.now.place ≡ Place.Anything) × (unfinished_of self.now ≡ []) }
-    {
-        self.place == Place::Anything && matches!(self.phase, Phase::Begin)
     }
 
     // Where the element stands that is read, and whether some of it was.
