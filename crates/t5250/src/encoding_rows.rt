@@ -2,10 +2,10 @@ use crate::command_rows::{PUT_FF_SHOWN, told};
 use crate::vectors::{LENGTH_255, PUT_FF};
 use std::alloc::{AllocError, Global};
 use std::test::Fail;
-use ws_code::{DataByte, List, VecSink};
+use ws_code::{DataByte, FailingSink, FailingSource, Fault, List, VecSink};
 use ws_record::{
-    EncodeFault, Item, Opcode, Record, decode_all, encode, encode_and_decode, encode_to,
-    encoding_spells_its_items, one_reading, one_refusal, one_truncation,
+    EncodeFault, Item, Opcode, Record, decode_all, decode_from, encode, encode_and_decode,
+    encode_to, encoding_spells_its_items, one_reading, one_refusal, one_truncation,
 };
 use ws_stream::{Commands, Element};
 
@@ -83,5 +83,35 @@ fn length_255(rt: HostRuntime) -> Result<(), Fail> {
     let items = puts(alloc, 0, DataByte::new(0x40).ok_or("40")?, 241)?;
     let wanted = told(alloc, Ok(items), &[257])?;
     assert_eq!(rt; found.as_str(), wanted.as_str());
+    Ok(())
+}
+
+// `decode-source-fails` and `encode-sink-fails` with a host's commands: a read or a write that fails is a fault, wherever
+// it comes.
+#[test]
+fn commands_over_failing_devices(rt: HostRuntime) -> Result<(), Fail> {
+    for reads in 0..19u64 {
+        let mut source = FailingSource::new(PUT_FF, reads);
+        let found = decode_from::<Commands, FailingSource>(rt.alloc(), &mut source);
+        assert_eq!(rt; found.err(), Some(Fault::Read), "after {reads} reads");
+        assert_eq!(rt; source.failures(), 1, "after {reads} reads");
+    }
+    let mut source = FailingSource::new(PUT_FF, 19);
+    let items = decode_from::<Commands, FailingSource>(rt.alloc(), &mut source).or(Err("put-ff"))?;
+    for writes in 0..19u64 {
+        let mut sink = FailingSink::new(rt.alloc(), writes);
+        let written = encode_to::<Commands, FailingSink>(items.as_slice(), &mut sink);
+        let wanted = if writes < 18 {
+            Err(EncodeFault::Write)
+        } else {
+            Ok(())
+        };
+        assert_eq!(rt; written, wanted, "after {writes} writes");
+        assert_eq!(rt;
+            sink.as_slice(),
+            &PUT_FF[..writes as usize],
+            "after {writes} writes"
+        );
+    }
     Ok(())
 }
