@@ -1,9 +1,10 @@
-use Rattle.std.proofs.Common.{true, false, ◌≡◌, ◌≢◌, ℕ, List, [], ◌∷◌, ◌++◌, ◌⊎◌, inl, inr, refl, sym, ap, ◌∙◌, subst, append_assoc}
+use Rattle.std.proofs.Common.{true, false, ◌≡◌, ◌≢◌, ℕ, List, [], ◌∷◌, ◌++◌, inl, inr, refl, sym, ap, ◌∙◌, subst}
+use Rattle.std.proofs.Common.{append_assoc}
 use Rattle.std.proofs.lemmas.List.{append-nil}
 use Rattle.std.proofs.lemmas.Grind.{flat_map-append}
-use Rattle.ws_code.specs.Code.{Rules, Stands, IsSpelled, IsUnfinished, IsChain, place_after, spelling_of}
+use Rattle.ws_code.specs.Code.{Rules, Stands, IsSpelled, IsUnfinished, place_after, spelling_of}
 use Rattle.ws_code.specs.Keep.{Keeps}
-use Rattle.ws_code.specs.Run.{Reading, IsAt, HasRun, RunsOn, StopsAtLast}
+use Rattle.ws_code.specs.Run.{Reading, IsAt, RunsOn, StopsAtLast}
 use Rattle.ws_code.specs.declared.keep.Kept.{Kept}
 use Rattle.ws_code.specs.declared.keep.Kept.TheVariants.{GoOn}
 use Rattle.ws_code.specs.declared.run.Standing.{Standing}
@@ -11,7 +12,9 @@ use Rattle.ws_code.proofs.CodeLaws.{chain_more, place_after_more}
 
 module _ {Place U K : Type 0} where
   -- no value
-  pub runs_none : (rules : Rules Place U) (holds : K → List U → List ℕ → Type 0) (may_answer : Kept → Type 0) (from : Reading Place) (keep : K) → IsUnfinished rules from.place from.begun → RunsOn rules holds may_answer from keep [] from keep
+  pub runs_none : (rules : Rules Place U) (holds : K → List U → List ℕ → Type 0) (may_answer : Kept → Type 0)
+      (from : Reading Place) (keep : K) → IsUnfinished rules from.place from.begun
+      → RunsOn rules holds may_answer from keep [] from keep
   runs_none rules holds may_answer from keep u = record {
     run = record { units = []; chain = tt; behind = refl; unfinished = u; spelled = sym (append-nil from.begun) };
     kept = λ units told h. subst (λ us. holds keep us told) (sym (append-nil units)) h;
@@ -19,52 +22,94 @@ module _ {Place U K : Type 0} where
   }
 
   -- a value more with which the unit is still unfinished
-  pub runs_more : (rules : Rules Place U) (holds : K → List U → List ℕ → Type 0) (may_answer : Kept → Type 0) (from : Reading Place) (old : K) (values values' : List ℕ) (to to' : Reading Place) (new new' : K) (b : ℕ) → RunsOn rules holds may_answer from old values to new → IsUnfinished rules to.place (to.begun ++ b ∷ []) → values' ≡ values ++ b ∷ [] → to' ≡ record { place = to.place; begun = to.begun ++ b ∷ [] } → new' ≡ new → RunsOn rules holds may_answer from old values' to' new'
+  pub runs_more : (rules : Rules Place U) (holds : K → List U → List ℕ → Type 0) (may_answer : Kept → Type 0)
+      (from : Reading Place) (old : K) (values values' : List ℕ) (to to' : Reading Place) (new new' : K) (b : ℕ)
+      → RunsOn rules holds may_answer from old values to new → IsUnfinished rules to.place (to.begun ++ b ∷ [])
+      → values' ≡ values ++ b ∷ [] → to' ≡ record { place = to.place; begun = to.begun ++ b ∷ [] } → new' ≡ new
+      → RunsOn rules holds may_answer from old values' to' new'
   runs_more rules holds may_answer from old values values' to to' new new' b on u ev et ek =
-      let base : RunsOn rules holds may_answer from old (values ++ b ∷ []) (record { place = to.place; begun = to.begun ++ b ∷ [] }) new = record {
-        run = record { units = on.run.units; chain = on.run.chain; behind = on.run.behind; unfinished = u; spelled = sym (append_assoc (spelling_of rules on.run.units) to.begun (b ∷ [])) ∙ ap (λ x. x ++ b ∷ []) on.run.spelled ∙ append_assoc from.begun values (b ∷ []) };
+      let base : RunsOn rules holds may_answer from old (values ++ b ∷ [])
+      (record { place = to.place; begun = to.begun ++ b ∷ [] }) new = record {
+        run = record {
+          units = on.run.units;
+          chain = on.run.chain;
+          behind = on.run.behind;
+          unfinished = u;
+          spelled = sym (append_assoc (spelling_of rules on.run.units) to.begun (b ∷ []))
+              ∙ ap (λ x. x ++ b ∷ []) on.run.spelled ∙ append_assoc from.begun values (b ∷ []);
+        };
         kept = on.kept;
         on = on.on;
       } in
-      let at_new = subst (λ (k : K). RunsOn rules holds may_answer from old (values ++ b ∷ []) (record { place = to.place; begun = to.begun ++ b ∷ [] }) k) (sym ek) base in
-      let at_to = subst (λ (t : Reading Place). RunsOn rules holds may_answer from old (values ++ b ∷ []) t new') (sym et) at_new in
+      let at_new = subst (λ (k : K). RunsOn rules holds may_answer from old (values ++ b ∷ [])
+      (record { place = to.place; begun = to.begun ++ b ∷ [] }) k) (sym ek) base in
+      let at_to = subst (λ (t : Reading Place). RunsOn rules holds may_answer from old (values ++ b ∷ []) t new')
+      (sym et) at_new in
       subst (λ (v : List ℕ). RunsOn rules holds may_answer from old v to' new') (sym ev) at_to
 
   -- a value more, which completes a unit that is kept
-  pub runs_unit : (rules : Rules Place U) (holds : K → List U → List ℕ → Type 0) (may_answer : Kept → Type 0) (from : Reading Place) (old : K) (values values' : List ℕ) (to to' : Reading Place) (new new' : K) (b : ℕ) (unit : U) → RunsOn rules holds may_answer from old values to new → IsSpelled rules to.place (to.begun ++ b ∷ []) unit → Keeps holds new new' (unit ∷ []) → may_answer GoOn → ((place : Place) → IsUnfinished rules place []) → values' ≡ values ++ b ∷ [] → to' ≡ record { place = rules.after unit; begun = [] } → RunsOn rules holds may_answer from old values' to' new'
+  pub runs_unit : (rules : Rules Place U) (holds : K → List U → List ℕ → Type 0) (may_answer : Kept → Type 0)
+      (from : Reading Place) (old : K) (values values' : List ℕ) (to to' : Reading Place) (new new' : K) (b : ℕ)
+      (unit : U) → RunsOn rules holds may_answer from old values to new
+      → IsSpelled rules to.place (to.begun ++ b ∷ []) unit → Keeps holds new new' (unit ∷ []) → may_answer GoOn
+      → ((place : Place) → IsUnfinished rules place []) → values' ≡ values ++ b ∷ []
+      → to' ≡ record { place = rules.after unit; begun = [] } → RunsOn rules holds may_answer from old values' to' new'
   runs_unit rules holds may_answer from old values values' to to' new new' b unit on spelled keeps may begins ev et =
-      let stands : Stands rules (place_after rules from.place on.run.units) unit = subst (λ p. Stands rules p unit) on.run.behind spelled.stands in
-      let one : spelling_of rules (unit ∷ []) ≡ to.begun ++ b ∷ [] = append-nil (rules.spelling unit) ∙ spelled.spelled in
+      let stands : Stands rules (place_after rules from.place on.run.units) unit =
+      subst (λ p. Stands rules p unit) on.run.behind spelled.stands in
+      let one : spelling_of rules (unit ∷ []) ≡ to.begun ++ b ∷ [] = append-nil (rules.spelling unit)
+      ∙ spelled.spelled in
       let all : spelling_of rules (on.run.units ++ unit ∷ []) ≡ from.begun ++ (values ++ b ∷ []) =
-      flat_map-append rules.spelling on.run.units (unit ∷ []) ∙ ap (λ x. spelling_of rules on.run.units ++ x) one ∙ sym (append_assoc (spelling_of rules on.run.units) to.begun (b ∷ [])) ∙ ap (λ x. x ++ b ∷ []) on.run.spelled ∙ append_assoc from.begun values (b ∷ []) in
-      let base : RunsOn rules holds may_answer from old (values ++ b ∷ []) (record { place = rules.after unit; begun = [] }) new' = record {
-        run = record { units = on.run.units ++ unit ∷ []; chain = chain_more rules from.place on.run.units unit on.run.chain stands; behind = sym (place_after_more rules from.place on.run.units unit); unfinished = begins (rules.after unit); spelled = append-nil (spelling_of rules (on.run.units ++ unit ∷ [])) ∙ all };
-        kept = λ units told h. subst (λ us. holds new' us told) (append_assoc units on.run.units (unit ∷ [])) (keeps (units ++ on.run.units) told (on.kept units told h));
+      flat_map-append rules.spelling on.run.units (unit ∷ []) ∙ ap (λ x. spelling_of rules on.run.units ++ x) one
+      ∙ sym (append_assoc (spelling_of rules on.run.units) to.begun (b ∷ [])) ∙ ap (λ x. x ++ b ∷ []) on.run.spelled
+      ∙ append_assoc from.begun values (b ∷ []) in
+      let base : RunsOn rules holds may_answer from old (values ++ b ∷ [])
+      (record { place = rules.after unit; begun = [] }) new' = record {
+        run = record {
+          units = on.run.units ++ unit ∷ [];
+          chain = chain_more rules from.place on.run.units unit on.run.chain stands;
+          behind =
+              sym (place_after_more rules from.place on.run.units unit);
+          unfinished = begins (rules.after unit);
+          spelled =
+              append-nil (spelling_of rules (on.run.units ++ unit ∷ [])) ∙ all;
+        };
+        kept = λ units told h. subst (λ us. holds new' us told) (append_assoc units on.run.units (unit ∷ []))
+            (keeps (units ++ on.run.units) told (on.kept units told h));
         on = inr may;
       } in
-      let at_to = subst (λ (t : Reading Place). RunsOn rules holds may_answer from old (values ++ b ∷ []) t new') (sym et) base in
+      let at_to = subst (λ (t : Reading Place). RunsOn rules holds may_answer from old (values ++ b ∷ []) t new')
+      (sym et) base in
       subst (λ (v : List ℕ). RunsOn rules holds may_answer from old v to' new') (sym ev) at_to
 
   -- a value more, at which the run stops
-  abbrev pub stops : (rules : Rules Place U) (holds : K → List U → List ℕ → Type 0) (may_answer : Kept → Type 0) (from : Reading Place) (old : K) (values values' : List ℕ) (to : Reading Place) (new : K) (b : ℕ) → RunsOn rules holds may_answer from old values to new → values' ≡ values ++ b ∷ [] → StopsAtLast rules holds may_answer from old values'
-  stops rules holds may_answer from old values values' to new b on ev = record { front = values; last = b; split = ev; before = to; keep = new; on = on }
+  abbrev pub stops : (rules : Rules Place U) (holds : K → List U → List ℕ → Type 0) (may_answer : Kept → Type 0)
+      (from : Reading Place) (old : K) (values values' : List ℕ) (to : Reading Place) (new : K) (b : ℕ)
+      → RunsOn rules holds may_answer from old values to new → values' ≡ values ++ b ∷ []
+      → StopsAtLast rules holds may_answer from old values'
+  stops rules holds may_answer from old values values' to new b on ev =
+      record { front = values; last = b; split = ev; before = to; keep = new; on = on }
 
 module _ {U K : Type 0} where
   -- a keep that is as it was holds what it held
   pub keeps_none : (holds : K → List U → List ℕ → Type 0) (old new : K) → new ≡ old → Keeps holds old new []
-  keeps_none holds old new e units told h = subst (λ us. holds new us told) (sym (append-nil units)) (subst (λ k. holds k units told) (sym e) h)
+  keeps_none holds old new e units told h =
+      subst (λ us. holds new us told) (sym (append-nil units)) (subst (λ k. holds k units told) (sym e) h)
 
 -- a list with a value behind it isn't empty
 pub has_last : (xs : List ℕ) (b : ℕ) → xs ++ b ∷ [] ≢ []
 has_last [] b e = cc
 has_last (x ∷ xs) b e = cc
 
-pub same_reading : {Place : Type 0} (place place' : Place) (begun begun' : List ℕ) → place ≡ place' → begun ≡ begun' → ◌≡◌ {A = Reading Place} (record { place = place; begun = begun }) (record { place = place'; begun = begun' })
+pub same_reading : {Place : Type 0} (place place' : Place) (begun begun' : List ℕ) → place ≡ place' → begun ≡ begun'
+    → ◌≡◌ {A = Reading Place} (record { place = place; begun = begun }) (record { place = place'; begun = begun' })
 same_reading place place' begun begun' e f = cc
 
 module _ {Place U : Type 0} where
   -- the standing inside a unit, and at the beginning of one
-  pub is_inside : (rules : Rules Place U) (to : Reading Place) (standing : Standing Place) (begun : List ℕ) (b : ℕ) → IsUnfinished rules to.place to.begun → standing.place ≡ to.place → standing.is_inside ≡ true → to.begun ≡ begun ++ b ∷ [] → IsAt rules to standing
+  pub is_inside : (rules : Rules Place U) (to : Reading Place) (standing : Standing Place) (begun : List ℕ) (b : ℕ)
+      → IsUnfinished rules to.place to.begun → standing.place ≡ to.place → standing.is_inside ≡ true
+      → to.begun ≡ begun ++ b ∷ [] → IsAt rules to standing
   is_inside rules to standing begun b u ep ei eb = record {
     unfinished = u;
     at_place = ep;
@@ -72,7 +117,9 @@ module _ {Place U : Type 0} where
     between = λ e. let f : true ≡ false = sym ei ∙ e in cc;
   }
 
-  pub is_between : (rules : Rules Place U) (to : Reading Place) (standing : Standing Place) → IsUnfinished rules to.place to.begun → standing.place ≡ to.place → standing.is_inside ≡ false → to.begun ≡ [] → IsAt rules to standing
+  pub is_between : (rules : Rules Place U) (to : Reading Place) (standing : Standing Place)
+      → IsUnfinished rules to.place to.begun → standing.place ≡ to.place → standing.is_inside ≡ false → to.begun ≡ []
+      → IsAt rules to standing
   is_between rules to standing u ep ei eb = record {
     unfinished = u;
     at_place = ep;

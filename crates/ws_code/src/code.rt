@@ -89,13 +89,15 @@ pub trait Code: Drop {
         values: &[u8],
         keep: &mut K,
     ) -> Run
-        requires { IsAt rules (record { place = place self.old; begun = unfinished self.old }) at.old }
+        requires { IsAt rules
+            (record { place = place self.old; begun = unfinished self.old }) at.old }
         ensures used { result.used ≤ length values.now }
         ensures whole { result.end ≡ AnEnd.More → result.used ≡ length values.now }
         ensures run { IsRun rules K.holds K.may_answer
             (record { place = place self.old; begun = unfinished self.old }) keep.old
             (take result.used values.now)
-            (record { place = place self.new; begun = unfinished self.new }) at.new keep.new result.end }
+            (record { place = place self.new; begun = unfinished self.new }) at.new keep.new
+            result.end }
     {
         for (index, value) in values.iter().enumerate() {
             match self.push(*value) {

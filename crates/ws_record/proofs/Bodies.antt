@@ -1,78 +1,57 @@
-use Rattle.std.proofs.Common.{true, false, ◌≡◌, ◌<◌, ◌+◌, ℕ, List, [], ◌∷◌, ◌++◌, length, take, drop, get_or, refl, sym, eqb-true, ap, ◌∙◌, subst, arith, append_assoc}
-use Rattle.std.specs.Prelude.{◌==◌}
-use Rattle.std.proofs.lemmas.Bool.{false≢true}
+use Rattle.std.proofs.Common.{true, false, ◌≡◌, ℕ, List, [], ◌∷◌, ◌++◌, take, drop, refl, sym, ap, ◌∙◌, subst, append_assoc}
 use Rattle.std.proofs.lemmas.List.{append-nil, take-append-drop}
-use Rattle.std.proofs.lemmas.Grind.{flat_map-append}
-use Rattle.ws_code.specs.Code.{Rules, Stands, IsChain, IsSpelled, IsPrefix, IsPrefixFree, IsUnfinished, place_after, spelling_of}
-use Rattle.ws_code.proofs.CodeLaws.{Begins, one_cut, one_list, cut_begins, cut_bad, chain_more, place_after_more}
-use Rattle.ws_record.proofs.Decodes.{at_index}
-use Rattle.ws_record.specs.Body.{IsBody}
+use Rattle.ws_code.specs.Code.{Rules, IsSpelled, IsPrefix, IsPrefixFree, IsChain, IsUnfinished, place_after, spelling_of}
+use Rattle.ws_code.specs.Run.{Reading, HasRun}
+use Rattle.ws_code.proofs.CodeLaws.{Begins, one_cut, cut_bad, cut_unit}
+use Rattle.ws_record.specs.Body.{IsBody, HasUnitSoFar}
 
--- Bodies, unit by unit.
+-- a run from where a body begins
+pub from_first : {Place U : Type 0} (rules : Rules Place U) (from to : Reading Place) (values : List ℕ) → (run : HasRun rules from values to) → from.place ≡ rules.first → from.begun ≡ [] → (first : HasRun rules (record { place = rules.first; begun = [] }) values to) × (first.units ≡ run.units)
+from_first {Place} {U} rules from to values run ep eb = (
+  record {
+    units = run.units;
+    chain = subst (λ (p : Place). IsChain rules p run.units) ep run.chain;
+    behind = run.behind ∙ ap (λ (p : Place). place_after rules p run.units) ep;
+    unfinished = run.unfinished;
+    spelled = run.spelled ∙ ap (λ x. x ++ values) eb;
+  },
+  refl,
+)
 
--- a list of no length
-pub none_left : (xs : List ℕ) → (length xs == 0) ≡ true → xs ≡ []
-none_left [] e = refl
-none_left (x ∷ xs) e = (let n : length (x ∷ xs) ≡ 0 = eqb-true (length (x ∷ xs)) 0 e in absurd (omega arith))
-
--- the units so far are the spelling of what stands before the rest
-pub record SoFar {Place U : Type 0} (rules : Rules Place U) (bytes rest : List ℕ) (place : Place) (units : List U) : Type 0 where
-  pub chain : IsChain rules rules.first units
-  pub stands : place ≡ place_after rules rules.first units
-  pub spelled : spelling_of rules units ++ rest ≡ bytes
-
-pub nothing_yet : {Place U : Type 0} (rules : Rules Place U) (bytes : List ℕ) (place : Place) (units : List U) → place ≡ rules.first → units ≡ [] → SoFar rules bytes bytes place units
-nothing_yet {Place} {U} rules bytes place units e none =
-    let start : SoFar rules bytes bytes rules.first [] = record { chain = tt; stands = refl; spelled = refl } in
-    let P : Place → Type 0 = λ p. SoFar rules bytes bytes p units in
-    subst P (sym e) (subst (λ (us : List U). SoFar rules bytes bytes rules.first us) (sym none) start)
-
-module _ {Place U : Type 0} (rules : Rules Place U) (free : IsPrefixFree rules) (begins : Begins rules) where
-  -- no body goes on where no unit does
-  pub no_more : (bytes rest : List ℕ) (place : Place) (units : List U) → SoFar rules bytes rest place units
-      → ((more : List U) → IsChain rules place more → spelling_of rules more ≡ rest → ⊥) → (body : List U) → IsBody rules bytes body → ⊥
-  no_more bytes rest place units s none_is body b =
-      let found = cut_begins rules free begins rules.first units body rest s.chain b.whole.chain (b.spelled ∙ sym s.spelled) in
-      let P : Place → Type 0 = λ p. IsChain rules p found.0 in
-      none_is found.0 (subst P (sym s.stands) found.2) found.3
-
+-- Bodies by themselves, read from where a body begins.
+module _ {Place U : Type 0} (rules : Rules Place U) (bytes : List ℕ) (to : Reading Place) where
   -- at the end the units are the body, if one may end there
-  pub ended : (bytes rest : List ℕ) (place : Place) (units : List U) → SoFar rules bytes rest place units → rest ≡ [] → rules.may_end place ≡ true → IsBody rules bytes units
-  ended bytes rest place units s e ends = record {
-    whole = record { chain = s.chain; ends = ap rules.may_end (sym s.stands) ∙ ends };
-    spelled = sym (append-nil (spelling_of rules units)) ∙ ap (λ z. spelling_of rules units ++ z) (sym e) ∙ s.spelled;
+  pub ended : (run : HasRun rules (record { place = rules.first; begun = [] }) bytes to) → to.begun ≡ [] → rules.may_end to.place ≡ true → (units : List U) → units ≡ run.units → IsBody rules bytes units
+  ended run fresh ends units same = subst (λ (us : List U). IsBody rules bytes us) (sym same) (record {
+    whole = record { chain = run.chain; ends = ap rules.may_end (sym run.behind) ∙ ends };
+    spelled = sym (append-nil (spelling_of rules run.units)) ∙ ap (λ x. spelling_of rules run.units ++ x) (sym fresh) ∙ run.spelled;
+  })
+
+  -- inside a unit, or where none may, they are not
+  pub not_ended : IsPrefixFree rules → Begins rules → HasRun rules (record { place = rules.first; begun = [] }) bytes to → (to.begun ≡ [] → rules.may_end to.place ≡ true → ⊥) → (body : List U) → IsBody rules bytes body → ⊥
+  not_ended free begins run other body is =
+      let same : (run.units ≡ body) × (to.begun ≡ []) = one_cut rules free rules.first run.units body to.begun [] run.chain is.whole.chain (subst (λ (p : Place). IsUnfinished rules p to.begun) run.behind run.unfinished) (begins (place_after rules rules.first body)) (run.spelled ∙ sym is.spelled ∙ sym (append-nil (spelling_of rules body))) in
+      other same.1 (ap rules.may_end (run.behind ∙ ap (place_after rules rules.first) same.0) ∙ is.whole.ends)
+
+module _ {Place U : Type 0} (rules : Rules Place U) (bytes : List ℕ) (used : ℕ) (front : List ℕ) (last : ℕ) (before : Reading Place) (split : take used bytes ≡ front ++ last ∷ []) (run : HasRun rules (record { place = rules.first; begun = [] }) front before) where
+  -- no body goes on where no unit does
+  pub no_body : IsPrefixFree rules → Begins rules → (IsPrefix rules before.place (before.begun ++ last ∷ []) → ⊥) → (body : List U) → IsBody rules bytes body → ⊥
+  no_body free begins bad body is =
+      let all : spelling_of rules body ≡ spelling_of rules run.units ++ (before.begun ++ last ∷ drop used bytes) =
+      is.spelled ∙ sym (take-append-drop used bytes) ∙ ap (λ x. x ++ drop used bytes) split ∙ append_assoc front (last ∷ []) (drop used bytes)
+      ∙ ap (λ x. x ++ last ∷ drop used bytes) (sym run.spelled) ∙ append_assoc (spelling_of rules run.units) before.begun (last ∷ drop used bytes) in
+      cut_bad rules free begins rules.first run.units body before.begun last (drop used bytes) run.chain is.whole.chain
+      (subst (λ (p : Place). IsUnfinished rules p before.begun) run.behind run.unfinished) (subst (λ (p : Place). IsPrefix rules p (before.begun ++ last ∷ []) → ⊥) run.behind bad) all
+
+  -- a unit is complete in a front
+  pub unit_so_far : Begins rules → (unit : U) → IsSpelled rules before.place (before.begun ++ last ∷ []) unit → HasUnitSoFar rules bytes
+  unit_so_far begins unit spelled = record {
+    front = front ++ last ∷ [];
+    rest = drop used bytes;
+    split = sym (take-append-drop used bytes) ∙ ap (λ x. x ++ drop used bytes) split;
+    before = run.units;
+    unit = unit;
+    cut = cut_unit rules begins front run.units before.begun last unit
+        (record { chain = run.chain; more = subst (λ (p : Place). IsUnfinished rules p before.begun) run.behind run.unfinished; spelled = run.spelled })
+        (subst (λ (p : Place). IsSpelled rules p (before.begun ++ last ∷ []) unit) run.behind spelled);
   }
-
-  pub not_ended : (bytes rest : List ℕ) (place : Place) (units : List U) → SoFar rules bytes rest place units → rest ≡ [] → rules.may_end place ≡ false → (body : List U) → IsBody rules bytes body → ⊥
-  not_ended bytes rest place units s e ends body b =
-      let spelled : spelling_of rules units ≡ bytes = sym (append-nil (spelling_of rules units)) ∙ ap (λ z. spelling_of rules units ++ z) (sym e) ∙ s.spelled in
-      let same : units ≡ body = one_list rules free begins units body s.chain b.whole.chain (spelled ∙ sym b.spelled) in
-      false≢true (sym ends ∙ ap rules.may_end s.stands ∙ ap (λ (us : List U). rules.may_end (place_after rules rules.first us)) same ∙ b.whole.ends)
-
-  -- a unit more
-  pub unit_more : (bytes rest next : List ℕ) (used : ℕ) (place after : Place) (units more : List U) (unit : U) → SoFar rules bytes rest place units → IsSpelled rules place (take used rest) unit → more ≡ units ++ unit ∷ [] → after ≡ rules.after unit → next ≡ drop used rest → SoFar rules bytes next after more
-  unit_more bytes rest next used place after units more unit s u is e f =
-      let P : Place → Type 0 = λ p. Stands rules p unit in
-      let grown : List U = units ++ unit ∷ [] in
-      let chain : IsChain rules rules.first grown = chain_more rules rules.first units unit s.chain (subst P s.stands u.stands) in
-      let spelled : spelling_of rules grown ++ next ≡ bytes =
-      ap (λ z. spelling_of rules grown ++ z) f ∙ ap (λ z. z ++ drop used rest) (flat_map-append rules.spelling units (unit ∷ []) ∙ ap (λ z. spelling_of rules units ++ z) (append-nil (rules.spelling unit) ∙ u.spelled))
-      ∙ append_assoc (spelling_of rules units) (take used rest) (drop used rest) ∙ ap (λ z. spelling_of rules units ++ z) (take-append-drop used rest) ∙ s.spelled in
-      let all : SoFar rules bytes next after grown = record { chain = chain; stands = e ∙ sym (place_after_more rules rules.first units unit); spelled = spelled } in
-      subst (λ (us : List U). SoFar rules bytes next after us) (sym is) all
-
-  -- no list of units begins with bytes that begin no unit
-  pub no_units : (place : Place) (bytes : List ℕ) (at : ℕ) → at < length bytes → IsUnfinished rules place (take at bytes) → (IsPrefix rules place (take at bytes ++ get_or bytes at 0 ∷ []) → ⊥) → (units : List U) → IsChain rules place units → spelling_of rules units ≡ bytes → ⊥
-  no_units place bytes at k more bad units chain e =
-      cut_bad rules free begins place [] units (take at bytes) (get_or bytes at 0) (drop (at + 1) bytes) tt chain more bad (e ∙ sym (at_index bytes at k))
-
-  pub no_units_of : (place stood : Place) (begun bytes : List ℕ) (at : ℕ) → stood ≡ place → begun ≡ take at bytes → at < length bytes → IsUnfinished rules place (take at bytes) → (IsPrefix rules stood (begun ++ get_or bytes at 0 ∷ []) → ⊥) → (units : List U) → IsChain rules place units → spelling_of rules units ≡ bytes → ⊥
-  no_units_of place stood begun bytes at e f k more bad =
-      let P : Place → Type 0 = λ p. IsPrefix rules p (take at bytes ++ get_or bytes at 0 ∷ []) in
-      no_units place bytes at k more (λ (h : IsPrefix rules place (take at bytes ++ get_or bytes at 0 ∷ [])). bad (subst (λ (z : List ℕ). IsPrefix rules stood (z ++ get_or bytes at 0 ∷ [])) (sym f) (subst P (sym e) h)))
-
-  -- nor with a proper prefix of a unit
-  pub no_whole : (place : Place) (bytes : List ℕ) → 0 < length bytes → IsUnfinished rules place bytes → (units : List U) → IsChain rules place units → spelling_of rules units ≡ bytes → ⊥
-  no_whole place bytes some more units chain e =
-      let one = one_cut rules free place [] units bytes [] tt chain more (begins (place_after rules place units)) (sym e ∙ sym (append-nil (spelling_of rules units))) in
-      absurd (omega (arith, ap length one.1, some))
