@@ -1,4 +1,4 @@
-use Rattle.std.proofs.Common.{◌≡◌, Option, ℕ, ◌+◌, ◌<◌, ◌^◌, Bool, true, List, [], ◌∷◌, ◌++◌, inl, inr, Ok, length, refl, ap, ◌∙◌, sym, subst, arith}
+use Rattle.std.proofs.Common.{◌≡◌, Option, ℕ, ◌+◌, ◌<◌, ◌^◌, Bool, true, List, [], ◌∷◌, ◌++◌, ◌⊎◌, inl, inr, Ok, length, refl, ap, ◌∙◌, sym, subst, arith}
 use Rattle.std.proofs.lemmas.List.{append-nil}
 use Rattle.ws_record.specs.declared.record.Item.{Item}
 use Rattle.ws_record.specs.declared.record.Item.TheVariants.{Record as RecordItem, Telnet as TelnetItem}
@@ -11,7 +11,8 @@ use Rattle.ws_session.specs.declared.end_step.Applied.{Applied}
 use Rattle.ws_session.specs.declared.host_event.HostEvent.{HostEvent}
 use Rattle.ws_session.specs.declared.host_event.HostStep.{HostStep}
 use Rattle.ws_session.specs.declared.station.StationStep.{StationStep}
-use Rattle.ws_session.specs.Acts.{Came, Arrives, idle, one_then, as_list, HoldsItems, HasGone}
+use Rattle.ws_code.specs.Code.{Rules}
+use Rattle.ws_session.specs.Acts.{Came, Happening, Arrives, idle, one_then, as_list, Manner, doing, items_of, AllTaken, Happen, HoldsItems, HasGone}
 use Rattle.ws_session.specs.Manners.{goes_on, told_by, applied_by, station_at_item, station_manner, StationGoes, host_at_item, host_manner, HostGoes}
 use Rattle.ws_session.specs.Reaction.{Reaction}
 use Rattle.ws_session.specs.StationSide.{StationSide}
@@ -96,3 +97,34 @@ host_came old new byte step p = λ bytes items side l few. came bytes items side
           tells = r.2;
           leads = r.3;
         }
+
+-- What one byte has led to: nothing is complete with it, or an item is, at which the end goes on.
+module _ {Place PlaceV Side U V Deed Event : Type 0} (rules : Rules Place U) (out : Rules PlaceV V) (manner : Manner Side U V Deed Event) (leads : List ℕ → List (Item U) → Side → Type 0) (bytes : List ℕ) (items : List (Item U)) (side : Side) (byte : ℕ) (written : List ℕ) (told : List Event) where
+  abbrev pub NoneWhole : Type 0
+  NoneWhole = (written ≡ []) × (told ≡ []) × leads (bytes ++ byte ∷ []) items side
+
+  abbrev pub OneWhole : Type 0
+  OneWhole = (item : Item U) × (manner.takes side item ≡ true) × (written ≡ plain_spelling out (manner.at side (Arrives item)).written)
+      × (told ≡ (manner.at side (Arrives item)).told) × leads (bytes ++ byte ∷ []) (items ++ item ∷ []) (manner.at side (Arrives item)).side
+
+  abbrev Facts : List (Happening U Deed) → Type 0
+  Facts hs = AllTaken manner side hs × (written ≡ plain_spelling out (doing manner side hs).written) × (told ≡ (doing manner side hs).told)
+      × leads (bytes ++ byte ∷ []) (items ++ items_of hs) (doing manner side hs).side
+
+  pub gone_one : HasGone rules out manner leads bytes items side (Came byte ∷ []) written told → NoneWhole ⊎ OneWhole
+  gone_one g = by g.happened g.happen (g.taken, g.wrote, g.tells, g.leads) where
+    by : (hs : List (Happening U Deed)) → Happen rules bytes items (Came byte ∷ []) hs → Facts hs → NoneWhole ⊎ OneWhole
+    by hs (inl h) f =
+        let n = subst Facts h.1 f in
+        inl (n.1, n.2, subst (λ (z : List (Item U)). leads (bytes ++ byte ∷ []) z side) (append-nil items) n.3)
+    by hs (inr h) f =
+        let d = manner.at side (Arrives h.0) in
+        let n = subst Facts (h.3 ∙ ap (λ z. Arrives h.0 ∷ z) h.4) f in
+        inr (h.0, n.0.0, n.1 ∙ ap (plain_spelling out) (append-nil d.written), n.2 ∙ append-nil d.told, n.3)
+
+-- no act leads nowhere
+module _ {Place PlaceV Side U V Deed Event : Type 0} (rules : Rules Place U) (out : Rules PlaceV V) (manner : Manner Side U V Deed Event) (leads : List ℕ → List (Item U) → Side → Type 0) (bytes : List ℕ) (items : List (Item U)) (side : Side) (written : List ℕ) (told : List Event) where
+  pub gone_none : HasGone rules out manner leads bytes items side [] written told → leads bytes items side
+  gone_none g =
+      let l = subst (λ (hs : List (Happening U Deed)). leads (bytes ++ []) (items ++ items_of hs) (doing manner side hs).side) g.happen g.leads in
+      subst (λ (z : List ℕ). leads z items side) (append-nil bytes) (subst (λ (z : List (Item U)). leads (bytes ++ []) z side) (append-nil items) l)

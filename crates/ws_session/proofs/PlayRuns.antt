@@ -140,6 +140,7 @@ module _ {R S : Type 0} (gives : MayGive R) (misses : R → ℕ) (takes : MayTak
         before = now;
         room = room;
         gave = r.gave;
+        one_left = one_left;
         gave_last = made;
         uncounted = same ∙ r.gave.uncounted;
         refuses = f;

@@ -1,10 +1,10 @@
 -- A station that reads a source to its end and answers into a sink
 
-use Rattle.std.specs.Prelude.{◌≡◌, ℕ, ◌-◌, ◌^◌, ◌≤◌, min, List, [], ◌∷◌, ◌++◌, ◌⊎◌, Some, Result, Ok, Err, length}
+use Rattle.std.specs.Prelude.{◌≡◌, ℕ, ◌-◌, ◌^◌, ◌≤◌, ◌<◌, min, List, [], ◌∷◌, ◌++◌, ◌⊎◌, Some, Result, Ok, Err, length}
 use Rattle.ws_code.specs.declared.fault.Fault.{Fault}
 use Rattle.ws_code.specs.declared.fault.Fault.TheVariants.{Refused, Truncated, Read, Write}
 use Rattle.ws_code.specs.declared.reason.Reason.{Reason}
-use Rattle.ws_code.specs.Device.{MayTake, MayGive, WentOut, FailedWithin, Gave, GaveAll, ReadFault}
+use Rattle.ws_code.specs.Device.{MayTake, MayGive, WentOut, FailedWithin, Gave, GaveAll, ReadFault, most_reads}
 use Rattle.ws_nego.specs.declared.terminal.TerminalType.{TerminalType}
 use Rattle.ws_record.specs.declared.record.Item.{Item}
 use Rattle.ws_record.specs.Encode.{plain_spelling}
@@ -111,6 +111,7 @@ module _ (terminal : TerminalType) (keys : List (ℕ × Key)) where
       pub before : R
       pub room : ℕ
       pub gave : Gave gives misses source before reads first
+      pub one_left : reads < most_reads
       pub gave_last : gives before room (Some last) source'
       pub uncounted : misses source' ≡ misses source
       pub refuses : RunRefuses takes failures sink sink' (length first) (first ++ last) place reason

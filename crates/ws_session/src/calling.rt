@@ -115,13 +115,21 @@ pub(crate) fn ask<S: Sink>(
     }
 }
 
-// A test harness: what has come from the station is taken, up to the first thing that it tells; the replies are written.
+// What a harness has heard: how many bytes it took, and what the last of them told.
+#[derive(Debug, Drop)]
+pub(crate) struct Heard {
+    pub(crate) used: usize,
+    pub(crate) event: Option<HostEvent>,
+}
+
+// A test harness: what has come from the station is taken, up to the first thing that it tells; the replies are
+// written. The bytes behind those that were used come again with the next call.
 pub(crate) fn await_event<S: Sink>(
     host: &mut HostEnd,
     bytes: &[u8],
     line: &mut S,
-) -> Result<Option<HostEvent>, Ended> {
-    for byte in bytes {
+) -> Result<Heard, Ended> {
+    for (at, byte) in bytes.iter().enumerate() {
         let HostStep { reply, event } = match host.push(*byte) {
             Ok(step) => step,
             Err(refusal) => return Err(Ended::Refused(refusal)),
@@ -130,8 +138,12 @@ pub(crate) fn await_event<S: Sink>(
             return Err(Ended::Line(fault));
         }
         if event.is_some() {
-            return Ok(event);
+            let used = at + 1;
+            return Ok(Heard { used, event });
         }
     }
-    Ok(None)
+    Ok(Heard {
+        used: bytes.len(),
+        event: None,
+    })
 }

@@ -51,8 +51,14 @@ fn an_emulator_and_a_harness(rt: HostRuntime) -> Result<(), Fail> {
     let mut host = HostEnd::new(alloc);
     host.open();
     let mut down = VecSink::new(alloc);
-    let told = await_event(&mut host, OPENED, &mut down).expect(&rt, "told");
-    assert!(rt; matches!(told, Some(HostEvent::Ready(TerminalType::Ibm3179Model2))));
+    let heard = await_event(&mut host, OPENED, &mut down).expect(&rt, "told");
+    assert!(rt;
+        matches!(
+            heard.event,
+            Some(HostEvent::Ready(TerminalType::Ibm3179Model2))
+        )
+    );
+    assert_eq!(rt; heard.used, OPENED.len());
 
     let bob = record(&rt, alloc, BOB);
     let items = decode_all::<Commands>(alloc, bob.as_slice()).expect(&rt, "a stream");
@@ -80,8 +86,19 @@ fn an_emulator_and_a_harness(rt: HostRuntime) -> Result<(), Fail> {
     let locked = Some(KeyFault::Key(KeyRefusal::Locked));
     assert_eq!(rt; strike(&mut station, enter, &mut up), Ok(locked));
 
-    let told = await_event(&mut host, BOB_ANSWER, &mut down).expect(&rt, "told");
-    let Some(HostEvent::Answer(answer)) = told else {
+    // Two events in what came, and a record that ends with a later piece.
+    let mut came = Vec::new(alloc);
+    came.extend_from_slice(BOB_ANSWER)?;
+    came.extend_from_slice(b"\x00\x0a\x12\xa0\x00\x00\x04\x40\x00\x00\xff\xef")?;
+    let (first, rest) = came.as_slice().split_at(10);
+    let heard = await_event(&mut host, first, &mut down).expect(&rt, "told");
+    assert!(rt; heard.used == 10 && heard.event.is_none());
+    let heard = await_event(&mut host, rest, &mut down).expect(&rt, "told");
+    assert_eq!(rt; heard.used, BOB_ANSWER.len() - 10);
+    let (_, rest) = rest.split_at(heard.used);
+    let behind = await_event(&mut host, rest, &mut down).expect(&rt, "told");
+    assert!(rt; behind.used == 12 && matches!(behind.event, Some(HostEvent::Attention)));
+    let Some(HostEvent::Answer(answer)) = heard.event else {
         panic!(rt; "an answer")
     };
     let [field] = answer.fields.as_slice() else {

@@ -93,3 +93,27 @@ fn lines_that_fail(rt: HostRuntime) -> Result<(), Fail> {
     assert_eq!(rt; outcome.err(), Some(Fault::Write));
     Ok(())
 }
+
+// The same of the line up: the host end refuses FF 00, and takes nothing behind it.
+#[test]
+fn a_line_up_that_brings_other_bytes(rt: HostRuntime) -> Result<(), Fail> {
+    let mut down = Line {
+        sink: VecSink::new(rt.alloc()),
+        source: SliceSource::new(DO_TERMINAL),
+    };
+    let report = opening_report(rt.alloc(), &mut down, b"\xff\x00\xff").expect(&rt, "an opening");
+    assert!(rt; report.to_station.as_slice().is_empty() && report.to_host.as_slice().is_empty());
+    let (place, reason) = (1, Reason::BadCommand);
+    assert_eq!(rt; report.host.refused(), Some((place, reason)));
+    assert_eq!(rt; report.events.as_slice().len(), 1);
+    assert!(rt;
+        matches!(
+            report.events.as_slice().first(),
+            Some(Event::HostRefused {
+                place: 1,
+                reason: Reason::BadCommand
+            })
+        )
+    );
+    Ok(())
+}

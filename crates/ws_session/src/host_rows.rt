@@ -1,6 +1,7 @@
 // A host end by itself, and what it reads from a station's answers.
 use crate::end_rows::{
-    BOB, BOB_ANSWER, CANCEL, OPENING, key, last_event, ready_host, record, send,
+    BOB, BOB_ANSWER, CANCEL, OPENING, key, last_event, push_all, ready_host, ready_station, record,
+    send,
 };
 use crate::{HostEnd, HostEvent, Refusal, SendFault, Station, run_station};
 use std::alloc::{AllocError, Global};
@@ -45,7 +46,10 @@ fn host_refusals(rt: HostRuntime) -> Result<(), Fail> {
     );
     let cancelled = host.cancel().expect(&rt, "a cancel");
     assert_eq!(rt; cancelled.as_slice(), CANCEL);
-    let told = last_event(&rt, &mut host, CANCEL);
+    let mut station = ready_station(&rt, alloc, BOB)?;
+    let ended = push_all(&rt, alloc, &mut station, cancelled.as_slice())?;
+    assert_eq!(rt; ended.as_slice(), CANCEL);
+    let told = last_event(&rt, &mut host, ended.as_slice());
     assert!(rt; matches!(&told, Some(HostEvent::Cancelled)));
     assert!(rt; host.asked().is_none());
     host_refuses(&rt, &mut host, BOB_ANSWER, 20, Reason::UnaskedAnswer);
@@ -255,6 +259,43 @@ fn answers_are_written_and_read(rt: HostRuntime) -> Result<(), Fail> {
         ),
     ] {
         answer_of(&rt, alloc, body, letters, refused, answer, read)?;
+    }
+    Ok(())
+}
+
+// A body of so many bytes, four at least: Write to Display, letters, and as many addresses with a letter as there is
+// room for.
+fn body_of(alloc: Global, size: usize) -> Result<Vec<u8>, AllocError> {
+    let mut body = Vec::new(alloc);
+    body.extend_from_slice(b"\x04\x11\x00\x00")?;
+    for _ in 0..size % 4 {
+        body.push(0xc1)?;
+    }
+    while body.len() < size {
+        body.extend_from_slice(b"\x11\x01\x01\xc2")?;
+    }
+    Ok(body)
+}
+
+// With memory enough no length of a body is refused for want of it, from none to the most that a record has room for.
+#[test]
+fn bodies_of_all_lengths(rt: HostRuntime) -> Result<(), Fail> {
+    let alloc = rt.alloc();
+    let mut host = ready_host(&rt, alloc);
+    assert!(rt; host.send(Opcode::OutputOnly, &[]).is_ok());
+    let larger = [4095usize, 4096, 4097, 32767, 32768, 65525];
+    for size in (4..=300usize).chain(larger.iter().copied()) {
+        let body = body_of(alloc, size)?;
+        assert_eq!(rt; body.len(), size);
+        let sent = record(&rt, alloc, body.as_slice());
+        send(&rt, alloc, &mut host, sent.as_slice());
+        // As an answer these bytes are refused, and never for want of memory.
+        let mut other = ready_host(&rt, alloc);
+        let refused = sent
+            .as_slice()
+            .iter()
+            .find_map(|byte| other.push(*byte).err());
+        assert!(rt; matches!(refused, Some(Refusal::At { .. })), "{size}");
     }
     Ok(())
 }

@@ -8,6 +8,7 @@ use std::test::Fail;
 use ws_code::{Address, Fault, Reason, StuckSink, VecSink};
 use ws_keys::{Key, KeyRefusal};
 use ws_nego::TerminalType;
+use ws_screen::Screen;
 
 // What keys do, each by a letter: nothing told, an answer, or why it is refused.
 fn press_all(rt: &impl Abort, station: &mut Station, letters: &[u8], outcomes: &[u8]) {
@@ -94,6 +95,24 @@ fn floods_are_answered(rt: HostRuntime) -> Result<(), Fail> {
     Ok(())
 }
 
+// All cells, fields, cursor, lock and lights of two screens are the same.
+fn same_screen(rt: &impl Abort, one: &Screen, other: &Screen) {
+    for row in 1..=24u8 {
+        for column in 1..=80u8 {
+            let at = Address::new(row, column).expect(rt, "a cell");
+            assert_eq!(rt; one.cell(at), other.cell(at), "{row} {column}");
+        }
+    }
+    assert!(rt; one.fields().as_slice() == other.fields().as_slice());
+    assert_eq!(rt; (one.cursor(), one.home()), (other.cursor(), other.home()));
+    let lights = (one.message(), one.blink());
+    assert_eq!(rt; lights, (other.message(), other.blink()));
+    assert_eq!(rt;
+        (one.locked(), one.pending()),
+        (other.locked(), other.pending())
+    );
+}
+
 #[test]
 fn stations_refuse_records(rt: HostRuntime) -> Result<(), Fail> {
     let alloc = rt.alloc();
@@ -111,10 +130,13 @@ fn stations_refuse_records(rt: HostRuntime) -> Result<(), Fail> {
     let mut station = ready_station(&rt, alloc, BOB)?;
     push_all(&rt, alloc, &mut station, &past_end[..10])?;
     press_all(&rt, &mut station, b"B", b".");
+    let mut before = Screen::new();
+    before.assign(station.screen());
     assert_eq!(rt;
         refused_at(&rt, &mut station, &past_end[10..]),
         (10, Reason::PastEnd)
     );
+    same_screen(&rt, &before, station.screen());
     assert_eq!(rt; station.push(0).err(), Some(Refusal::Failed));
     let first = Address::new(6, 53).expect(&rt, "a cell");
     assert_eq!(rt; station.screen().cell(first), 0xc2);

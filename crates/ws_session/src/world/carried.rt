@@ -1,7 +1,7 @@
 //! A session whose bytes go over a connection.
 ghost use Rattle.std.specs.Prelude.{◌≡◌, ◌≤◌, ◌+◌, ◌⊎◌, ◌∷◌, [], List as Seq, length, vec_len, IfOk, IfErr, OnOk};
 ghost use Rattle.ws_nego.specs.declared.terminal.TerminalType.{TerminalType as ATerminal};
-ghost use Rattle.ws_session.specs.Crossings.{Crossing, AreFaithful, HaveCrossed, IsStopped, with_piece_at};
+ghost use Rattle.ws_session.specs.Crossings.{Crossing, AreFaithful, HaveCrossed, IsStopped};
 ghost use Rattle.ws_session.specs.Reports.{IsReport};
 ghost use Rattle.ws_session.specs.Runs.{Runs};
 ghost use Rattle.ws_session.specs.World as spec;
@@ -85,7 +85,7 @@ impl World {
     {
         let mut left = count;
         while left > 0 {
-            let piece = left.min(PIECE).min(self.down.len() - self.at_station);
+            let piece = left.min(PIECE).min(self.down.in_flight());
             if piece == 0 {
                 return Ok(());
             }
@@ -112,9 +112,13 @@ impl World {
     {
         let mut taken = [0u8; PIECE];
         let read = &mut taken[..piece];
-        let waiting = &self.down[self.at_station..self.at_station + piece];
-        carry(waiting, &mut line.sink, &mut line.source, read)?;
-        write_over(&mut self.down, self.at_station, read);
+        carry(
+            &self.down.waiting()[..piece],
+            &mut line.sink,
+            &mut line.source,
+            read,
+        )?;
+        self.down.write_over(read);
         self.bytes_to_station(piece)
     }
 
@@ -132,7 +136,7 @@ impl World {
     {
         let mut left = count;
         while left > 0 {
-            let piece = left.min(PIECE).min(self.up.len() - self.at_host);
+            let piece = left.min(PIECE).min(self.up.in_flight());
             if piece == 0 {
                 return Ok(());
             }
@@ -159,17 +163,13 @@ impl World {
     {
         let mut taken = [0u8; PIECE];
         let read = &mut taken[..piece];
-        let waiting = &self.up[self.at_host..self.at_host + piece];
-        carry(waiting, &mut line.sink, &mut line.source, read)?;
-        write_over(&mut self.up, self.at_host, read);
+        carry(
+            &self.up.waiting()[..piece],
+            &mut line.sink,
+            &mut line.source,
+            read,
+        )?;
+        self.up.write_over(read);
         self.bytes_to_host(piece)
     }
-}
-
-// Puts a piece in the place of as many bytes.
-fn write_over(bytes: &mut Vec<u8>, at: usize, piece: &[u8])
-    requires { at + length piece.now ≤ vec_len bytes.old }
-    ensures { bytes.new.items ≡ with_piece_at bytes.old.items at piece.now }
-{
-    bytes[at..at + piece.len()].copy_from_slice(piece);
 }

@@ -31,7 +31,7 @@ loop-left-preserved g c =
 pub returns-then-piece-eq0-clause-came : goal.returns-then-piece-eq0-clause-came
 returns-then-piece-eq0-clause-came g c =
     let i = c.loop-left.invariant in
-    let all : length c.loop-left.self.down ≤ c.loop-left.self.at_station = subst (λ (k : WorldParts). length k.down ≤ k.at_station) c.self.view_is (omega (arith, c.if-piece-eq0.true, c.min-piece.ensures, c.min.ensures, c.len.ensures, c.loop-left-test.true)) in (
+    let all : length c.loop-left.self.down ≤ c.loop-left.self.at_station = subst (λ (k : WorldParts). length k.down ≤ k.at_station) c.self.view_is (omega (arith, c.if-piece-eq0.true, c.min-piece.ensures, c.min.ensures, c.in_flight.ensures.left, c.loop-left-test.true)) in (
       i.crossings,
       i.crossed,
       (λ f t w r.

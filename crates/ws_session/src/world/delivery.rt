@@ -1,0 +1,120 @@
+//! Bytes in flight that arrive at an end of a session.
+ghost use Rattle.std.specs.Prelude.{◌≡◌, ◌++◌, ◌∷◌, [], ℕ, List as Seq, flat_map, IfErr, OnOk};
+ghost use Rattle.ws_code.specs.declared.reason.Reason.{Reason as AReason};
+ghost use Rattle.ws_session.specs.Acts.{as_list};
+ghost use Rattle.ws_session.specs.Wires.{HasCome, AreDelivered};
+ghost use Rattle.ws_session.specs.declared.world.Event.{Event as AnEvent};
+ghost use Rattle.ws_session.specs.declared.world.Event.TheVariants.{Host as HostEventOf, StationRefused, HostRefused};
+
+use super::Event;
+use crate::end::End;
+use crate::end_step::Applied;
+use crate::wire::Wire;
+use crate::{HostEnd, HostEvent, Refusal, Station};
+use ws_code::{Fault, Reason};
+
+// An end of a session, and what a report tells of it.
+pub(crate) trait Reported: End {
+    ghost tells: { Self.Event → Seq AnEvent };
+
+    ghost refusal: { ℕ → AReason → AnEvent };
+
+    // What the end tells.
+    fn event(event: Option<Self::Event>) -> Option<Event>
+        ensures told { as_list result ≡ flat_map tells (as_list event) };
+
+    // That it has refused a byte.
+    fn refused(place: u64, reason: Reason) -> Event
+        ensures refused { result ≡ refusal place reason };
+}
+
+impl Reported for Station {
+    ghost tells = { λ applied. [] };
+
+    ghost refusal = { λ place reason. StationRefused place reason };
+
+    fn event(_event: Option<Applied>) -> Option<Event>
+        ensures told { as_list result ≡ flat_map (λ applied. []) (as_list _event) }
+    {
+        None
+    }
+
+    fn refused(place: u64, reason: Reason) -> Event {
+        Event::StationRefused { place, reason }
+    }
+}
+
+impl Reported for HostEnd {
+    ghost tells = { λ event. HostEventOf event ∷ [] };
+
+    ghost refusal = { λ place reason. HostRefused place reason };
+
+    fn event(event: Option<HostEvent>) -> Option<Event>
+        ensures told { as_list result ≡ flat_map (λ told. HostEventOf told ∷ []) (as_list event) }
+    {
+        match event {
+            Some(event) => Some(Event::Host(event)),
+            None => None,
+        }
+    }
+
+    fn refused(place: u64, reason: Reason) -> Event {
+        Event::HostRefused { place, reason }
+    }
+}
+
+// So many of the bytes in flight come to the end, or all where there are fewer. What it writes goes on its way.
+pub(crate) fn deliver<E: Reported>(
+    end: &mut E,
+    from: &mut Wire,
+    to: &mut Wire,
+    events: &mut Vec<Event>,
+    count: usize,
+) -> Result<(), Fault>
+    ensures come { OnOk result (AreDelivered E.goes E.refuses E.over E.tells E.refusal
+        end.old end.new from.old from.new to.old to.new events.old.items events.new.items count) }
+    ensures fault { IfErr result (λ fault. fault ≡ Fault.Memory) }
+{
+    let left = count.min(from.in_flight());
+    for _i in 0..left {
+        let byte = from.next();
+        come(end, byte, to, events)?;
+    }
+    Ok(())
+}
+
+// A byte comes to the end.
+fn come<E: Reported>(
+    end: &mut E,
+    byte: u8,
+    to: &mut Wire,
+    events: &mut Vec<Event>,
+) -> Result<(), Fault>
+    ensures come { OnOk result (HasCome E.goes E.refuses E.over E.tells E.refusal
+        end.old byte end.new to.old to.new events.old.items events.new.items) }
+    ensures fault { IfErr result (λ fault. fault ≡ Fault.Memory) }
+{
+    match end.take(byte) {
+        Ok(step) => {
+            to.write(step.reply.as_slice())?;
+            tell(events, E::event(step.event))
+        }
+        Err(Refusal::At { place, reason }) => tell(events, Some(E::refused(place, reason))),
+        Err(Refusal::Failed) => Ok(()),
+        Err(Refusal::Memory) => Err(Fault::Memory),
+    }
+}
+
+// What a report tells, if anything.
+pub(crate) fn tell(events: &mut Vec<Event>, event: Option<Event>) -> Result<(), Fault>
+    ensures told { OnOk result (events.new.items ≡ events.old.items ++ as_list event) }
+    ensures fault { IfErr result (λ fault. fault ≡ Fault.Memory) }
+{
+    let Some(event) = event else {
+        return Ok(());
+    };
+    match events.push(event) {
+        Ok(()) => Ok(()),
+        Err(_) => Err(Fault::Memory),
+    }
+}
