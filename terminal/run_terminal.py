@@ -241,20 +241,20 @@ def sign_on_and_form():
         check(t.window.text(19).endswith("yellow") or "hidden" not in t.window.text(19), "hidden text isn't shown", t.window.text(19))
         t.type("qsecu\x7fser")  # backspace takes the u
         t.until(lambda: t.window.text(5)[52:62] == "QSECSER", "the field is monocase")
-        t.type("\x1b[D\x1b[D\x1b[D\x1b[3~\x1b[3~\x1b[3~")
+        t.type("\x1bOD\x1bOD\x1bOD\x1b[3~\x1b[3~\x1b[3~")
         t.until(lambda: t.window.text(5)[52:62] == "QSEC", "left and delete")
         t.type("\x1b[2~")
         t.until(lambda: "INS" in t.status(), "insert mode is told")
-        t.type("\x1b[HX")
+        t.type("\x1bOHX")
         t.until(lambda: t.window.text(5)[52:62] == "XQSEC", "home and insert")
         t.type("\x0f\t")
         t.until(lambda: "07/053" in t.status() and "INS" not in t.status(), "the next field")
         t.type("geheim")
         t.until(lambda: "07/059" in t.status(), "the password is typed")
         check("geheim" not in t.window.text(6).lower(), "the password isn't shown")
-        t.type("\x1b[A")
+        t.type("\x1bOA")
         t.until(lambda: "06/059" in t.status(), "up")
-        t.type("\x1b[B\x1b[B")
+        t.type("\x1bOB\x1bOB")
         t.until(lambda: "08/059" in t.status(), "down")
         t.type("y")
         t.until(lambda: "isn't in an input field" in t.status(), "a refused key is told in words")
@@ -286,7 +286,7 @@ def sign_on_and_form():
         t.type("\x1bOR")  # F3
         t.ended(0, "The host has closed the line.")
         printed = stop(host)
-        for text in ("ready, terminal 5", "answer key F1 at 8 53", "field 6 53 [XQSEC]", "field 7 53 [geheim]", "attention",
+        for text in ("ready, terminal 5", "answer key F1 at 7 53", "field 6 53 [XQSEC]", "field 7 53 [geheim]", "attention",
                      "system request", "answer key 32", "answer key 33"):
             check(text in printed, f"the host is told {text!r}", printed)
         shown = subprocess.run([T5250, "show", record], capture_output=True, text=True)

@@ -145,7 +145,7 @@ def texts(library, source):
     crate = open(source, encoding="utf-8").read()
     numbers = {name: int(number) for name, number in re.findall(r"Reason::(\w+) => (\d+),", crate)}
     sentences = dict(re.findall(r'Reason::(\w+) =>\s*"(\d+: [^"]*)"', crate))
-    check(len(numbers) == 44, "the crate's reasons are found", len(numbers))
+    check(len(numbers) == 44, "the crate's reasons are found")
     for name, number in numbers.items():
         given = library.ribbon_reason_text(number).decode()
         check(given == sentences.get(name), f"the sentence for {name}: {given!r}, {sentences.get(name)!r}")
