@@ -297,6 +297,7 @@ def mono_and_names():
     host, port = start_host()
     t = Terminal("--terminal", "ibm-5251-11", f"localhost:{port}", term="vt100")
     t.shows(0, "Sign On")
+    t.until(lambda: "06/053" in t.status(), "all is drawn")
     look = lambda row, column: t.window.cells[row][column][1]
     check(look(0, 36) == {"bold": True}, "high intensity without colours", look(0, 36))
     check(look(19, 2) == {"reverse": True}, "reverse without colours", look(19, 2))
@@ -392,7 +393,7 @@ def against_serve():
         print("left out: the terminal against `t5250 serve`, which this t5250 lacks")
         return
     body = ("04400411000811012426E2968540D695400B11061424E4A28599" "11061B1D400024000A" "0452 0000").replace(" ", "")
-    script = f"await\nsend put-get {body}\nawait\n"
+    script = f"await\nsend 3 {body}\nawait\n"
     with tempfile.TemporaryDirectory() as folder:
         name = os.path.join(folder, "serve.script")
         with open(name, "w") as file:
@@ -403,7 +404,7 @@ def against_serve():
             address = server.stdout.readline().split()[1]
             if kind == "term5250":
                 t = Terminal(address)
-                t.until(lambda: not t.status().startswith(" X") and t.window.text(0) != "", "the screen of serve")
+                t.until(lambda: "06/028" in t.status() and t.status()[1:2] != "X", "the screen of serve")
                 t.type("bob")
                 t.until(lambda: "bob" in t.window.text(5), "typed")
                 screens.append([t.window.text(row) for row in range(24)])
