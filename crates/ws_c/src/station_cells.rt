@@ -69,7 +69,12 @@ fn tell_cells(screen: &Screen, first: usize, cells: &mut [CellTold])
     let shown = &mut all[..cells.len()];
     screen.show_cells(address(first), shown);
     for (index, cell) in cells.iter_mut().enumerate() {
-        *cell = cell_told(screen, fields.as_slice(), address(first + index), shown[index]);
+        *cell = cell_told(
+            screen,
+            fields.as_slice(),
+            address(first + index),
+            shown[index],
+        );
     }
 }
 
@@ -102,7 +107,11 @@ fn look_at_cells(
         ++ drop (cells_in first_row last_row) cells.old))
         (cells.new ≡ cells.old) }
 {
-    on_station!(alloc, handle, |station| tell_rows(station, first_row, last_row, cells))
+    on_station!(
+        alloc,
+        handle,
+        |station| tell_rows(station, first_row, last_row, cells)
+    )
 }
 
 /// Tells the cells of rows, 80 of each, in screen order: what each shows and holds, the attribute in force, and its

@@ -1,4 +1,4 @@
-use Rattle.std.proofs.Common.{◌≡◌, ◌+◌, ℕ, List, [], ◌∷◌, ◌++◌, get_or, map, arith, sym, ◌∙◌, ap, refl}
+use Rattle.std.proofs.Common.{◌≡◌, ◌+◌, List, [], ◌∷◌, ◌++◌, get_or, map, arith, sym, ◌∙◌, ap, refl}
 use Rattle.std.specs.List.{range_with_len}
 use Rattle.std.proofs.lemmas.List.{take_more_set}
 use Rattle.std.proofs.lemmas.List.FromFn.{get_or-map-range_with_len, map-range_with_len_more}
@@ -13,8 +13,9 @@ cell_told-requires-clause-shown c =
     let index = c.loop-index.index in
     let shown = c.index-shown-index.result in
     c.index-shown-index.is ∙ ap (λ (l : List Shown). get_or l index shown) c.show_cells.ensures
-    ∙ get_or-map-range_with_len (shown_at c.args.screen.now.cells) c.address.result _ index c.address-in-loop-index.result shown
-        (omega (arith, c.show_cells.auto.shown)) (omega (arith, c.address.ensures, c.address-in-loop-index.ensures))
+    ∙ get_or-map-range_with_len (shown_at c.args.screen.now.cells) c.address.result _ index
+    c.address-in-loop-index.result shown
+    (omega (arith, c.show_cells.auto.shown)) (omega (arith, c.address.ensures, c.address-in-loop-index.ensures))
 
 pub loop-index-preserved : goal.loop-index-preserved
 loop-index-preserved c =
@@ -22,7 +23,8 @@ loop-index-preserved c =
     let index = c.loop-index.index in
     let first = c.args.first in
     let new = c.cell_told.result in
-    let is : new ≡ cell_told screen (first + index) = c.cell_told.ensures ∙ ap (cell_told screen) c.address-in-loop-index.ensures in
+    let is : new ≡ cell_told screen (first + index) = c.cell_told.ensures ∙ ap (cell_told screen)
+    c.address-in-loop-index.ensures in
     take_more_set c.loop-index.cells index new (omega arith)
     ∙ ap (λ (front : List CellTold). front ++ new ∷ []) c.loop-index.invariant
     ∙ ap (λ (s : CellTold). map (cell_told screen) (range_with_len first index) ++ s ∷ []) is
