@@ -93,16 +93,19 @@ static bool sees_another(uint8_t seen[RIBBON_COLUMNS][2], const ribbon_cell *cel
 
 ribbon_status ribbon_station_changed(ribbon_station *station, uint32_t *rows)
 {
-    ribbon_cell cells[RIBBON_COLUMNS];
+    enum { SOME = 8 }; /* rows at a time, for the stack's sake */
+    ribbon_cell cells[SOME][RIBBON_COLUMNS];
     CLEAR(rows);
     if (station == NULL || rows == NULL)
         return RIBBON_NULL;
-    for (uint8_t row = 1; row <= RIBBON_ROWS; row++) {
-        ribbon_status status = ws_c_station_cells(&station->handle, row, row, cells, RIBBON_COLUMNS);
+    for (uint8_t first = 0; first < RIBBON_ROWS; first += SOME) {
+        ribbon_status status = ws_c_station_cells(&station->handle, (uint8_t)(first + 1), (uint8_t)(first + SOME), cells[0],
+                                                  SOME * RIBBON_COLUMNS);
         if (status != RIBBON_DONE)
             return status;
-        if (sees_another(station->seen[row - 1], cells))
-            *rows |= 1u << (row - 1);
+        for (uint8_t row = 0; row < SOME; row++)
+            if (sees_another(station->seen[first + row], cells[row]))
+                *rows |= 1u << (first + row);
     }
     return RIBBON_DONE;
 }

@@ -78,9 +78,9 @@
  * ask for no more. A host does in ribbon_host_push for what an answer holds, and in ribbon_host_send for the elements
  * that it reads and the record that it keeps.
  *
- * Stack, in bytes, as measured on x86-64 (`make bench`): ribbon_station_new 11,800, _push 16,600, _key 29,600, _cells and
- * _changed 20,000, _state and _field 3,200, _row 900; ribbon_host_new 12,500, _push 6,300, _send 141,100; all others
- * less than 1,400. */
+ * Stack, in bytes, as measured on x86-64 (`make bench`): ribbon_station_new 11,900, _push 16,600, _key 29,600, _cells
+ * 18,600, _changed 24,000, _state and _field 3,200; ribbon_host_new 12,500, _push 6,300, _send 141,100;
+ * ribbon_decoder_new 3,800; all others less than 1,500. */
 #ifndef RIBBONSCARP_H
 #define RIBBONSCARP_H
 
