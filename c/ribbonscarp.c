@@ -23,7 +23,10 @@ ribbon_status ribbon_station_new(ribbon_station *station, const char *terminal)
 {
     if (station == NULL || terminal == NULL)
         return RIBBON_NULL;
-    return ws_c_station_new(&station->handle, (const uint8_t *)terminal, strlen(terminal));
+    ribbon_status status = ws_c_station_new(&station->handle, (const uint8_t *)terminal, strlen(terminal));
+    if (status == RIBBON_DONE)
+        memset(station->seen, 0, sizeof station->seen);
+    return status;
 }
 
 void ribbon_station_free(ribbon_station *station)
@@ -66,59 +69,44 @@ ribbon_status ribbon_station_cell(ribbon_station *station, uint8_t row, uint8_t 
     return ws_c_station_cell(&station->handle, row, column, byte);
 }
 
-/* WORK IN PROGRESS: until the proved export is there. */
 ribbon_status ribbon_station_cells(ribbon_station *station, uint8_t first_row, uint8_t last_row, ribbon_cell *cells,
                                    size_t room)
 {
-    ribbon_state state;
-    uint8_t attribute = 0x20;
     if (station == NULL || cells == NULL)
         return RIBBON_NULL;
-    ribbon_status status = ws_c_station_state(&station->handle, &state);
-    if (status != RIBBON_DONE)
-        return status;
-    if (first_row < 1 || first_row > last_row || last_row > 24)
-        return RIBBON_BAD_ARGUMENT;
-    if (room < (size_t)(last_row - first_row + 1) * 80)
-        return RIBBON_NO_ROOM;
-    for (uint8_t row = 1; row <= last_row; row++) {
-        uint8_t text[RIBBON_ROW_ROOM];
-        ribbon_told told;
-        size_t at = 0;
-        ws_c_station_row(&station->handle, row, text, sizeof text, &told);
-        for (uint8_t column = 1; column <= 80; column++) {
-            ribbon_cell cell = {text[at], RIBBON_NO_FIELD, 0, 0x20};
-            if (text[at] >= 0xc0) {
-                cell.character = (uint32_t)(text[at] & 0x1f) << 6 | (text[at + 1] & 0x3f);
-                at += 1;
-            }
-            at += 1;
-            ws_c_station_cell(&station->handle, row, column, &cell.byte);
-            if (cell.byte >= 0x20 && cell.byte <= 0x3f)
-                attribute = cell.byte;
-            else
-                cell.attribute = attribute;
-            for (size_t index = 0; index < state.field_count; index++) {
-                ribbon_field field;
-                unsigned place = (row - 1u) * 80 + column - 1;
-                ws_c_station_field(&station->handle, index, &field);
-                unsigned start = (field.row - 1u) * 80 + field.column - 1;
-                if (start <= place && place < start + field.length)
-                    cell.field = (uint16_t)index;
-            }
-            if (row >= first_row)
-                cells[(row - first_row) * 80 + column - 1] = cell;
-        }
+    return ws_c_station_cells(&station->handle, first_row, last_row, cells, room);
+}
+
+/* Whether a row shows something else than when it was seen last; it is seen now. An attribute is kept without its 20, so
+ * that an empty screen is of zero bytes. */
+static bool sees_another(uint8_t seen[RIBBON_COLUMNS][2], const ribbon_cell *cells)
+{
+    bool is_another = false;
+    for (size_t column = 0; column < RIBBON_COLUMNS; column++) {
+        uint8_t attribute = cells[column].attribute ^ 0x20;
+        is_another |= seen[column][0] != cells[column].byte || seen[column][1] != attribute;
+        seen[column][0] = cells[column].byte;
+        seen[column][1] = attribute;
     }
-    return RIBBON_DONE;
+    return is_another;
 }
 
 ribbon_status ribbon_station_changed(ribbon_station *station, uint32_t *rows)
 {
+    enum { SOME = 8 }; /* rows at a time, for the stack's sake */
+    ribbon_cell cells[SOME][RIBBON_COLUMNS];
     CLEAR(rows);
     if (station == NULL || rows == NULL)
         return RIBBON_NULL;
-    *rows = 0xffffff;
+    for (uint8_t first = 0; first < RIBBON_ROWS; first += SOME) {
+        ribbon_status status = ws_c_station_cells(&station->handle, (uint8_t)(first + 1), (uint8_t)(first + SOME), cells[0],
+                                                  SOME * RIBBON_COLUMNS);
+        if (status != RIBBON_DONE)
+            return status;
+        for (uint8_t row = 0; row < SOME; row++)
+            if (sees_another(station->seen[first + row], cells[row]))
+                *rows |= 1u << (first + row);
+    }
     return RIBBON_DONE;
 }
 

@@ -241,20 +241,20 @@ def sign_on_and_form():
         check(t.window.text(19).endswith("yellow") or "hidden" not in t.window.text(19), "hidden text isn't shown", t.window.text(19))
         t.type("qsecu\x7fser")  # backspace takes the u
         t.until(lambda: t.window.text(5)[52:62] == "QSECSER", "the field is monocase")
-        t.type("\x1b[D\x1b[D\x1b[D\x1b[3~\x1b[3~\x1b[3~")
+        t.type("\x1bOD\x1bOD\x1bOD\x1b[3~\x1b[3~\x1b[3~")
         t.until(lambda: t.window.text(5)[52:62] == "QSEC", "left and delete")
         t.type("\x1b[2~")
         t.until(lambda: "INS" in t.status(), "insert mode is told")
-        t.type("\x1b[HX")
+        t.type("\x1bOHX")
         t.until(lambda: t.window.text(5)[52:62] == "XQSEC", "home and insert")
         t.type("\x0f\t")
         t.until(lambda: "07/053" in t.status() and "INS" not in t.status(), "the next field")
         t.type("geheim")
         t.until(lambda: "07/059" in t.status(), "the password is typed")
         check("geheim" not in t.window.text(6).lower(), "the password isn't shown")
-        t.type("\x1b[A")
+        t.type("\x1bOA")
         t.until(lambda: "06/059" in t.status(), "up")
-        t.type("\x1b[B\x1b[B")
+        t.type("\x1bOB\x1bOB")
         t.until(lambda: "08/059" in t.status(), "down")
         t.type("y")
         t.until(lambda: "isn't in an input field" in t.status(), "a refused key is told in words")
@@ -286,7 +286,7 @@ def sign_on_and_form():
         t.type("\x1bOR")  # F3
         t.ended(0, "The host has closed the line.")
         printed = stop(host)
-        for text in ("ready, terminal 5", "answer key F1 at 8 53", "field 6 53 [XQSEC]", "field 7 53 [geheim]", "attention",
+        for text in ("ready, terminal 5", "answer key F1 at 7 53", "field 6 53 [XQSEC]", "field 7 53 [geheim]", "attention",
                      "system request", "answer key 32", "answer key 33"):
             check(text in printed, f"the host is told {text!r}", printed)
         shown = subprocess.run([T5250, "show", record], capture_output=True, text=True)
@@ -297,6 +297,7 @@ def mono_and_names():
     host, port = start_host()
     t = Terminal("--terminal", "ibm-5251-11", f"localhost:{port}", term="vt100")
     t.shows(0, "Sign On")
+    t.until(lambda: "06/053" in t.status(), "all is drawn")
     look = lambda row, column: t.window.cells[row][column][1]
     check(look(0, 36) == {"bold": True}, "high intensity without colours", look(0, 36))
     check(look(19, 2) == {"reverse": True}, "reverse without colours", look(19, 2))
@@ -392,7 +393,7 @@ def against_serve():
         print("left out: the terminal against `t5250 serve`, which this t5250 lacks")
         return
     body = ("04400411000811012426E2968540D695400B11061424E4A28599" "11061B1D400024000A" "0452 0000").replace(" ", "")
-    script = f"await\nsend put-get {body}\nawait\n"
+    script = f"await\nsend 3 {body}\nawait\n"
     with tempfile.TemporaryDirectory() as folder:
         name = os.path.join(folder, "serve.script")
         with open(name, "w") as file:
@@ -403,7 +404,7 @@ def against_serve():
             address = server.stdout.readline().split()[1]
             if kind == "term5250":
                 t = Terminal(address)
-                t.until(lambda: not t.status().startswith(" X") and t.window.text(0) != "", "the screen of serve")
+                t.until(lambda: "06/028" in t.status() and t.status()[1:2] != "X", "the screen of serve")
                 t.type("bob")
                 t.until(lambda: "bob" in t.window.text(5), "typed")
                 screens.append([t.window.text(row) for row in range(24)])

@@ -503,7 +503,7 @@ static void begin_curses(void)
     nonl();
     keypad(stdscr, TRUE);
     nodelay(stdscr, TRUE);
-    set_escdelay(50);
+    set_escdelay(100);
     if (has_colors()) {
         static const short colors[] = {COLOR_GREEN, COLOR_WHITE, COLOR_RED, COLOR_CYAN,
                                        COLOR_YELLOW, COLOR_MAGENTA, COLOR_BLUE};

@@ -105,9 +105,9 @@ int main(void)
     tell("host_new", host_new);
     tell("decoder_new", decoder_new);
     carry(opening, sizeof opening);
-    tell("station_push, options", station_push);
     tell("decoder_push", decoder_push);
     tell("decoder_finish", decoder_finish);
+    tell("station_push, options", station_push);
     carry(reply, pushed.replied);
     for (size_t at = 0; at < count; at += pushed.taken) { /* up to `ready` */
         memmove(bytes, bytes + at, count - at);

@@ -23,6 +23,10 @@ class Handle(Structure):
     _fields_ = [("at", c_void_p), ("is_open", c_bool)]
 
 
+class Station(Structure):
+    _fields_ = [("handle", Handle), ("seen", c_uint8 * (24 * 80 * 2))]
+
+
 class Told(Structure):
     _fields_ = [("length", c_size_t), ("place", c_uint64), ("reason", c_uint8)]
 
@@ -60,11 +64,11 @@ def load(path):
         getattr(library, f"ribbon_{name}_text").restype = c_char_p
     library.ribbon_reply_room.restype = c_size_t
     library.ribbon_reply_room.argtypes = [c_size_t]
-    library.ribbon_station_new.argtypes = [POINTER(Handle), c_char_p]
-    library.ribbon_station_push.argtypes = [POINTER(Handle), c_char_p, c_size_t, c_char_p, c_size_t, POINTER(Pushed)]
+    library.ribbon_station_new.argtypes = [POINTER(Station), c_char_p]
+    library.ribbon_station_push.argtypes = [POINTER(Station), c_char_p, c_size_t, c_char_p, c_size_t, POINTER(Pushed)]
     library.ribbon_host_push.argtypes = [POINTER(Handle), c_char_p, c_size_t, c_char_p, c_size_t, POINTER(Pushed), POINTER(Event)]
-    library.ribbon_station_key.argtypes = [POINTER(Handle), c_uint32, c_uint32, c_char_p, c_size_t, POINTER(Told)]
-    library.ribbon_station_cells.argtypes = [POINTER(Handle), c_uint8, c_uint8, POINTER(Cell), c_size_t]
+    library.ribbon_station_key.argtypes = [POINTER(Station), c_uint32, c_uint32, c_char_p, c_size_t, POINTER(Told)]
+    library.ribbon_station_cells.argtypes = [POINTER(Station), c_uint8, c_uint8, POINTER(Cell), c_size_t]
     library.ribbon_host_new.argtypes = [POINTER(Handle), c_char_p, c_size_t, POINTER(Told)]
     library.ribbon_host_send.argtypes = [POINTER(Handle), c_uint8, c_char_p, c_size_t, POINTER(Told)]
     library.ribbon_host_sent.argtypes = [POINTER(Handle), c_char_p, c_size_t, POINTER(Told)]
@@ -77,7 +81,7 @@ class Session:
     """A station and a host, and the bytes on their way."""
 
     def __init__(self, library):
-        self.library, self.station, self.host = library, Handle(), Handle()
+        self.library, self.station, self.host = library, Station(), Handle()
         told, buffer = Told(), ctypes.create_string_buffer(64)
         check(library.ribbon_station_new(byref(self.station), b"IBM-3179-2") == DONE, "a station")
         check(library.ribbon_host_new(byref(self.host), buffer, 64, byref(told)) == DONE, "a host")
@@ -145,7 +149,7 @@ def texts(library, source):
     crate = open(source, encoding="utf-8").read()
     numbers = {name: int(number) for name, number in re.findall(r"Reason::(\w+) => (\d+),", crate)}
     sentences = dict(re.findall(r'Reason::(\w+) =>\s*"(\d+: [^"]*)"', crate))
-    check(len(numbers) == 44, "the crate's reasons are found", len(numbers))
+    check(len(numbers) == 44, "the crate's reasons are found")
     for name, number in numbers.items():
         given = library.ribbon_reason_text(number).decode()
         check(given == sentences.get(name), f"the sentence for {name}: {given!r}, {sentences.get(name)!r}")

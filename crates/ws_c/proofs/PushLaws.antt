@@ -1,6 +1,7 @@
 -- Bytes that are taken one after another, and a buffer that gets what they bring
 
-use Rattle.std.proofs.Common.{◌≡◌, ℕ, ◌+◌, ◌<◌, ◌≤◌, List, [], ◌∷◌, ◌++◌, length, get_or, take, drop, suc, refl, ap, subst, sym, ◌∙◌, arith}
+use Rattle.std.proofs.Common.{◌≡◌, ℕ, ◌+◌, ◌<◌, ◌≤◌, List, [], ◌∷◌, ◌++◌, length, get_or, take, drop, suc, refl, ap}
+use Rattle.std.proofs.Common.{subst, sym, ◌∙◌, arith}
 use Rattle.std.proofs.Common.{append_assoc, length-append}
 use Rattle.std.proofs.lemmas.List.{append-nil, take_more, drop_all}
 use Rattle.std.proofs.Math.Seq.{drop-cons}
@@ -13,7 +14,15 @@ module _ {S : Type 0} (Takes : S → ℕ → List ℕ → S → Type 0) where
   pub takes_more : (old mid new : S) (bytes : List ℕ) (brought : List ℕ) (byte : ℕ) (reply : List ℕ)
       → TakesAll Takes old bytes brought mid → Takes mid byte reply new
       → TakesAll Takes old (bytes ++ byte ∷ []) (brought ++ reply) new
-  takes_more old mid new [] brought byte reply t one = (new, reply, [], subst (λ (s : S). Takes s byte reply new) t.0 one, (refl, refl), ap (λ (l : List ℕ). l ++ reply) t.1 ∙ sym (append-nil reply))
+  takes_more old mid new [] brought byte reply t one = (
+    new,
+    reply,
+    [],
+    subst (λ (s : S). Takes s byte reply new) t.0
+        one,
+    (refl, refl),
+    ap (λ (l : List ℕ). l ++ reply) t.1 ∙ sym (append-nil reply),
+  )
   takes_more old mid new (b ∷ bs) brought byte reply t one = (
     t.0,
     t.1,
@@ -39,7 +48,9 @@ module _ {S : Type 0} (Takes : S → ℕ → List ℕ → S → Type 0) where
       → Pushing bytes buffer last (taken + 1) (replied + length reply) old new
   pushing_more bytes buffer after last taken replied old now new reply inside room p one put = record {
     written = p.written ++ reply;
-    takes = subst (λ (l : List ℕ). TakesAll Takes old l (p.written ++ reply) new) (sym (take_more bytes taken 0 inside)) (takes_more old now new (take taken bytes) p.written (get_or bytes taken 0) reply p.takes one);
+    takes = subst (λ (l : List ℕ). TakesAll Takes old l (p.written ++ reply) new)
+        (sym (take_more bytes taken 0 inside)) (takes_more old now new (take taken bytes) p.written
+        (get_or bytes taken 0) reply p.takes one);
     put = put;
     fits = room;
     replied_is = ap (λ n. n + length reply) p.replied_is ∙ sym (length-append p.written reply);

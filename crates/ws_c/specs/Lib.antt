@@ -1,6 +1,7 @@
 pub mod Owned
 pub mod Calls
 pub mod Held
+pub mod Cells
 pub mod Pushes
 pub mod Decoding
 pub mod CodePage

@@ -33,7 +33,8 @@ pub extern "C" fn ws_c_from_037(byte: u8, character: &mut u32) -> u32
 #[unsafe(no_mangle)]
 pub extern "C" fn ws_c_to_037(character: u32, byte: &mut u8) -> u32
     ensures scalar { IsScalar character → IsByteTold (byte_of character) result byte.new }
-    ensures other { ¬ IsScalar character → (result ≡ number_of Status.BadArgument) × (byte.new ≡ 0) }
+    ensures other { ¬ IsScalar character
+        → (result ≡ number_of Status.BadArgument) × (byte.new ≡ 0) }
 {
     *byte = 0;
     let Some(given) = char::from_u32(character) else {

@@ -275,8 +275,8 @@ fn finish_decoder(decoder: &mut Live<Commands>, place: &mut u64) -> Status
 
 // Ends the stream of the decoder that a handle holds.
 fn finish(alloc: Global, handle: &mut Handle, place: &mut u64) -> Status
-    ensures { OnDecoder handle.old.owned.value handle.new.owned.value result (IsEnd result place.new)
-        (place.new ≡ 0) }
+    ensures { OnDecoder handle.old.owned.value handle.new.owned.value result
+        (IsEnd result place.new) (place.new ≡ 0) }
 {
     *place = 0;
     on_decoder!(alloc, handle, |decoder| finish_decoder(decoder, place))

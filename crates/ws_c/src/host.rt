@@ -163,7 +163,8 @@ fn push_all(
 ) -> Status
     requires told { told.old ≡ nothing_pushed }
     requires event { event.old ≡ event_told None }
-    ensures { IsHostPush bytes.now buffer.old buffer.new result told.new event.new host.old host.new }
+    ensures { IsHostPush bytes.now buffer.old buffer.new result told.new event.new
+        host.old host.new }
 {
     for byte in bytes {
         if buffer.len() - told.replied < REPLY_ROOM {

@@ -100,7 +100,8 @@ pub(crate) fn tell_push_refusal(refusal: Refusal, told: &mut PushedTold) -> Stat
 // Pushes bytes into a station.
 fn push_all(station: &mut Station, bytes: &[u8], buffer: &mut [u8], told: &mut PushedTold) -> Status
     requires { told.old ≡ nothing_pushed }
-    ensures { IsStationPush bytes.now buffer.old buffer.new result told.new station.old station.new }
+    ensures { IsStationPush bytes.now buffer.old buffer.new result told.new
+        station.old station.new }
 {
     for byte in bytes {
         if buffer.len() - told.replied < REPLY_ROOM {

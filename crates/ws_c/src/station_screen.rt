@@ -47,7 +47,7 @@ fn holds(field: &Field, at: Address) -> bool
 }
 
 // The index of the field that holds a cell.
-fn field_index(fields: &[Field], at: Address) -> u16
+pub(crate) fn field_index(fields: &[Field], at: Address) -> u16
     requires { length fields.now ≤ 256 }
     ensures { result ≡ index_of fields.now at }
 {

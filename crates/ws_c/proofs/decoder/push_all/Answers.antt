@@ -1,4 +1,5 @@
-use Rattle.std.proofs.Common.{◌≡◌, ◌+◌, ℕ, List, ◌∷◌, [], length, take, drop, get_or, refl, sym, subst, ap, ◌∙◌, arith, true}
+use Rattle.std.proofs.Common.{◌≡◌, ◌+◌, ℕ, List, ◌∷◌, [], length, take, drop, get_or, refl, sym, subst, ap, ◌∙◌}
+use Rattle.std.proofs.Common.{arith, true}
 use Rattle.std.proofs.lemmas.List.{take_more}
 use Rattle.ws_record.specs.declared.live.Step.{Step}
 use Rattle.ws_record.specs.declared.live.Step.TheVariants.{More, Open, Unit as Whole, Close, Telnet as Command}
@@ -24,10 +25,18 @@ loop-at-preserved c =
     let now = c.loop-at in
     let bytes = c.args.bytes.now in
     let one : DecoderPushed now.decoder c.push.new.self (get_or bytes now.at 0) More =
-        record { pushed = c.in-More.ensures.step; full = c.in-More.ensures.full; failed = c.in-More.ensures.failed; after = c.in-More.ensures.after } in
     record {
-      takes = subst (λ (l : List ℕ). TakesAll DecoderTakes c.args.decoder.now l [] c.push.new.self) (sym (take_more bytes now.at 0 c.loop-at-test.true))
-          (takes_more DecoderTakes c.args.decoder.now now.decoder c.push.new.self (take now.at bytes) [] (get_or bytes now.at 0) [] now.invariant.takes (one, refl));
+      pushed = c.in-More.ensures.step;
+      full = c.in-More.ensures.full;
+      failed = c.in-More.ensures.failed;
+      after
+          = c.in-More.ensures.after;
+    } in
+    record {
+      takes = subst (λ (l : List ℕ). TakesAll DecoderTakes c.args.decoder.now l [] c.push.new.self)
+          (sym (take_more bytes now.at 0 c.loop-at-test.true))
+          (takes_more DecoderTakes c.args.decoder.now now.decoder c.push.new.self (take now.at bytes) []
+          (get_or bytes now.at 0) [] now.invariant.takes (one, refl));
       same = now.invariant.same;
     }
 
@@ -42,7 +51,8 @@ returns c =
       counted = omega arith;
       before = now.decoder;
       takes = now.invariant.takes;
-      ends = subst (λ (l : List ℕ). IsDecoderEnd l now.at Done c.plain.result c.args.buffer.now now.buffer now.decoder now.decoder)
+      ends = subst (λ (l : List ℕ). IsDecoderEnd l now.at Done c.plain.result c.args.buffer.now now.buffer now.decoder
+          now.decoder)
           (sym (none_left bytes now.at now.at c.loop-at-test.false refl)) (refl, told, now.invariant.same, refl);
     }
 
@@ -51,14 +61,25 @@ returns-in_default c =
     let now = c.loop-at in
     let bytes = c.args.bytes.now in
     let one : DecoderPushed now.decoder c.push.new.self (get_or bytes now.at 0) c.push.result =
-        record { pushed = c.push.ensures.step; full = c.push.ensures.full; failed = c.push.ensures.failed; after = c.push.ensures.after } in
+    record {
+      pushed = c.push.ensures.step;
+      full = c.push.ensures.full;
+      failed = c.push.ensures.failed;
+      after =
+          c.push.ensures.after;
+    } in
     record {
       quiet = now.at;
       counted = omega arith;
       before = now.decoder;
       takes = now.invariant.takes;
-      ends = subst (λ (l : List ℕ). IsDecoderEnd l now.at c.tell_step.result c.tell_step.new.told c.args.buffer.now c.tell_step.new.buffer now.decoder c.push.new.self)
-          (sym (one_left bytes now.at now.at c.loop-at-test.true refl))
-          (c.push.result, one, tells_else c.push.result c.in_default.not-More,
-          subst (λ (b : List ℕ). IsStepTold c.push.result now.at c.tell_step.result c.tell_step.new.told b c.tell_step.new.buffer) now.invariant.same c.tell_step.ensures);
+      ends = subst (λ (l : List ℕ). IsDecoderEnd l now.at c.tell_step.result c.tell_step.new.told c.args.buffer.now
+          c.tell_step.new.buffer now.decoder c.push.new.self)
+          (sym (one_left bytes now.at now.at c.loop-at-test.true refl)) (
+            c.push.result,
+            one,
+            tells_else c.push.result c.in_default.not-More,
+            subst (λ (b : List ℕ). IsStepTold c.push.result now.at c.tell_step.result c.tell_step.new.told b
+                c.tell_step.new.buffer) now.invariant.same c.tell_step.ensures,
+          );
     }

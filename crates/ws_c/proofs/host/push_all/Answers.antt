@@ -1,4 +1,5 @@
-use Rattle.std.proofs.Common.{◌≡◌, ◌+◌, ◌-◌, ℕ, List, ◌∷◌, [], length, take, drop, get_or, refl, sym, subst, ap, ◌∙◌, arith, Ok, Err, Option, Some, None, is_some, false, add-zero}
+use Rattle.std.proofs.Common.{◌≡◌, ◌+◌, ◌-◌, ℕ, List, ◌∷◌, [], length, take, drop, get_or, refl, sym, subst, ap, ◌∙◌}
+use Rattle.std.proofs.Common.{arith, Ok, Err, Option, Some, None, is_some, false, add-zero}
 use Rattle.ws_session.specs.declared.host_event.HostEvent.{HostEvent}
 use Rattle.ws_session.specs.declared.host_event.HostStep.{HostStep}
 use Rattle.ws_c.specs.declared.host.HeldHost.{HeldHost}
@@ -29,14 +30,18 @@ loop-byte-preserved c =
       seen = c.in-Ok.ensures.seen;
     } in
     let one : HostPushed now.host.end c.push.new.self byte (Ok (record { reply = text; event = None })) =
-        subst (λ (s : HostStep). HostPushed now.host.end c.push.new.self byte (Ok s)) (cc) push in
+    subst (λ (s : HostStep). HostPushed now.host.end c.push.new.self byte (Ok s)) (cc) push in
     record {
-      pushing = pushing_more HostTakes c.args.bytes.now c.args.buffer.now now.buffer c.put_behind.new.buffer now.byte-index now.told.replied
-          c.args.host.now now.host (record { end = c.push.new.self; sent = now.host.sent; answer = now.host.answer }) text c.loop-byte-test.true
+      pushing = pushing_more HostTakes c.args.bytes.now c.args.buffer.now now.buffer c.put_behind.new.buffer
+          now.byte-index now.told.replied
+          c.args.host.now now.host (record { end = c.push.new.self; sent = now.host.sent; answer = now.host.answer })
+          text c.loop-byte-test.true
           (omega (arith, c.as_slice-text.ensures.fits, ap length same))
           now.invariant.pushing (one, refl, refl)
-          (c.put_behind.ensures now.invariant.pushing.written c.args.buffer.now (sym now.invariant.pushing.replied_is) now.invariant.pushing.put);
-      told = ap (λ (t : PushedTold). record t { taken = t.taken + 1; replied = t.replied + length text }) now.invariant.told;
+          (c.put_behind.ensures now.invariant.pushing.written c.args.buffer.now (sym now.invariant.pushing.replied_is)
+          now.invariant.pushing.put);
+      told = ap (λ (t : PushedTold). record t { taken = t.taken + 1; replied = t.replied + length text })
+          now.invariant.told;
       event = now.invariant.event;
     }
 
@@ -53,7 +58,9 @@ returns c =
       replied = now.invariant.pushing.replied_is ∙ sym (add-zero _);
       fits = now.invariant.pushing.fits;
       put = put_no_more now.buffer now.invariant.pushing.written c.args.buffer.now now.invariant.pushing.put;
-      ends = subst (λ (l : List ℕ). IsHostEnd l now.byte-index (length c.args.buffer.now - length now.invariant.pushing.written) Done now.told now.event [] now.host now.host)
+      ends = subst (λ (l : List ℕ). IsHostEnd l now.byte-index
+          (length c.args.buffer.now - length now.invariant.pushing.written) Done now.told now.event [] now.host
+          now.host)
           (sym (none_left c.args.bytes.now now.byte-index now.byte-index c.loop-byte-test.false refl))
           (refl, (now.invariant.told, now.invariant.event, refl, refl));
     }
@@ -62,7 +69,8 @@ pub returns-in-Err : goal.returns-in-Err
 returns-in-Err c =
     let now = c.loop-byte in
     let told = c.tell_push_refusal.new.told in
-    let taken : told.taken ≡ now.byte-index = c.tell_push_refusal.ensures.taken ∙ ap (λ (t : PushedTold). t.taken) now.invariant.told in
+    let taken : told.taken ≡ now.byte-index = c.tell_push_refusal.ensures.taken ∙ ap (λ (t : PushedTold). t.taken)
+    now.invariant.told in
     let replied : told.replied ≡ now.told.replied = c.tell_push_refusal.ensures.replied in
     let byte = get_or c.args.bytes.now now.byte-index 0 in
     let new : HeldHost = record { end = c.push.new.self; sent = now.host.sent; answer = now.host.answer } in
@@ -74,7 +82,8 @@ returns-in-Err c =
       seen = c.in-Err.ensures.seen;
     } in
     let refused : IsPushRefused c.in-Err.refusal now.byte-index told.replied c.tell_push_refusal.result told =
-        subst (λ n. IsPushRefused c.in-Err.refusal n told.replied c.tell_push_refusal.result told) taken c.tell_push_refusal.ensures.refused in
+    subst (λ n. IsPushRefused c.in-Err.refusal n told.replied c.tell_push_refusal.result told) taken
+    c.tell_push_refusal.ensures.refused in
     record {
       quiet = now.byte-index;
       counted = omega arith;
@@ -85,9 +94,13 @@ returns-in-Err c =
       replied = replied ∙ now.invariant.pushing.replied_is ∙ sym (add-zero _);
       fits = omega arith;
       put = put_no_more now.buffer now.invariant.pushing.written c.args.buffer.now now.invariant.pushing.put;
-      ends = subst (λ (l : List ℕ). IsHostEnd l now.byte-index (length c.args.buffer.now - length now.invariant.pushing.written) c.tell_push_refusal.result told now.event [] now.host new)
-          (sym (one_left c.args.bytes.now now.byte-index now.byte-index c.loop-byte-test.true refl))
-          ((λ small. absurd (omega (arith, now.invariant.pushing.replied_is))), (λ _. (Err c.in-Err.refusal, one, refl, (refused, now.invariant.event, refl, refl))));
+      ends = subst (λ (l : List ℕ). IsHostEnd l now.byte-index
+          (length c.args.buffer.now - length now.invariant.pushing.written) c.tell_push_refusal.result told now.event
+          [] now.host new)
+          (sym (one_left c.args.bytes.now now.byte-index now.byte-index c.loop-byte-test.true refl)) (
+            (λ small. absurd (omega (arith, now.invariant.pushing.replied_is))),
+            (λ _. (Err c.in-Err.refusal, one, refl, (refused, now.invariant.event, refl, refl))),
+          );
     }
 
 pub returns-then-buffer-told-lt-REPLY_ROOM : goal.returns-then-buffer-told-lt-REPLY_ROOM
@@ -103,7 +116,11 @@ returns-then-buffer-told-lt-REPLY_ROOM c =
       replied = now.invariant.pushing.replied_is ∙ sym (add-zero _);
       fits = now.invariant.pushing.fits;
       put = put_no_more now.buffer now.invariant.pushing.written c.args.buffer.now now.invariant.pushing.put;
-      ends = subst (λ (l : List ℕ). IsHostEnd l now.byte-index (length c.args.buffer.now - length now.invariant.pushing.written) NoRoom now.told now.event [] now.host now.host)
-          (sym (one_left c.args.bytes.now now.byte-index now.byte-index c.loop-byte-test.true refl))
-          ((λ _. (refl, (now.invariant.told, now.invariant.event, refl, refl))), (λ enough. absurd (omega (arith, now.invariant.pushing.replied_is))));
+      ends = subst (λ (l : List ℕ). IsHostEnd l now.byte-index
+          (length c.args.buffer.now - length now.invariant.pushing.written) NoRoom now.told now.event [] now.host
+          now.host)
+          (sym (one_left c.args.bytes.now now.byte-index now.byte-index c.loop-byte-test.true refl)) (
+            (λ _. (refl, (now.invariant.told, now.invariant.event, refl, refl))),
+            (λ enough. absurd (omega (arith, now.invariant.pushing.replied_is))),
+          );
     }

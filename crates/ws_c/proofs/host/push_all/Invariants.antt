@@ -8,5 +8,5 @@ abbrev pub invariant-loop-byte : goal.invariant-loop-byte
 invariant-loop-byte l = record {
   pushing : Pushing HostTakes l.bytes l.fn.buffer l.buffer l.byte-index l.told.replied l.fn.host l.host;
   told : l.told ≡ pushed_told l.byte-index l.told.replied;
-  event : l.event ≡ event_told None
+  event : l.event ≡ event_told None;
 }

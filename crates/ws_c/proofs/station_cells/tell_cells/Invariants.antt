@@ -1,0 +1,7 @@
+use Rattle.std.proofs.Common.{◌≡◌, take, map}
+use Rattle.std.specs.List.{range_with_len}
+use Rattle.ws_c.specs.Cells.{cell_told}
+use Rattle.ws_c.proofs.station_cells.tell_cells.Given as goal
+
+abbrev pub invariant-loop-index : goal.invariant-loop-index
+invariant-loop-index l = take l.index l.cells ≡ map (cell_told l.screen) (range_with_len l.first l.index)

@@ -1,0 +1,150 @@
+//! The cells of a station's screen.
+ghost use Rattle.std.specs.Prelude.{◌≡◌, ◌≤◌, ◌<◌, ◌+◌, ◌*◌, ◌-◌, ◌++◌, drop, length, map};
+ghost use Rattle.std.specs.List.{range_with_len};
+ghost use Rattle.ws_code.specs.declared.address.TheConstants.{CELLS as ALL_CELLS};
+ghost use Rattle.ws_screen.specs.Lines.{shown_at};
+ghost use Rattle.ws_c.specs.declared.status.Status.{Status as AStatus};
+ghost use Rattle.ws_c.specs.Calls.{number_of};
+ghost use Rattle.ws_c.specs.Cells.{AreRows, cell_told as told_of, cells_in, rows_told};
+ghost use Rattle.ws_c.specs.Held.{OnStation};
+
+use crate::held::{on_held, on_station};
+use crate::station_screen::field_index;
+use crate::{Handle, Machine, Status};
+use std::alloc::Global;
+use ws_code::{Address, CELLS, COLUMNS};
+use ws_screen::{Field, Screen, Shown};
+use ws_session::Station;
+
+/// A cell of a screen.
+#[repr(C)]
+#[derive(Clone, Copy)]
+pub struct CellTold {
+    /// What it shows, as a Unicode scalar value.
+    pub character: u32,
+    /// The index of the field that holds it, or `NO_FIELD`.
+    pub field: u16,
+    /// What it holds.
+    pub byte: u8,
+    /// The attribute in force; 20 at an attribute's own cell.
+    pub attribute: u8,
+}
+
+// What is told of a cell.
+fn cell_told(screen: &Screen, fields: &[Field], at: Address, shown: Shown) -> CellTold
+    requires few { length fields.now ≤ 256 }
+    requires fields { fields.now ≡ screen.now.fields }
+    requires shown { shown ≡ shown_at screen.now.cells at }
+    ensures { result ≡ told_of screen.now at }
+{
+    CellTold {
+        character: shown.character as u32,
+        field: field_index(fields, at),
+        byte: screen.cell(at),
+        attribute: shown.attribute.byte(),
+    }
+}
+
+// The cell at a place of the screen.
+fn address(place: usize) -> Address
+    requires { place < ALL_CELLS }
+    ensures { result ≡ place }
+{
+    match Address::at(place as u16) {
+        Some(at) => at,
+        None => Address::default(),
+    }
+}
+
+// Tells the cells from one on.
+fn tell_cells(screen: &Screen, first: usize, cells: &mut [CellTold])
+    requires within { first + length cells.old ≤ ALL_CELLS }
+    requires begun { first < ALL_CELLS }
+    ensures { cells.new
+        ≡ map (told_of screen.now) (range_with_len first (length cells.old)) }
+{
+    screen.known();
+    let fields = screen.fields();
+    let mut all = [Shown::default(); CELLS as usize];
+    let shown = &mut all[..cells.len()];
+    screen.show_cells(address(first), shown);
+    for (index, cell) in cells.iter_mut().enumerate() {
+        *cell = cell_told(
+            screen,
+            fields.as_slice(),
+            address(first + index),
+            shown[index],
+        );
+    }
+}
+
+// Tells the cells of rows.
+fn tell_rows(station: &Station, first_row: u8, last_row: u8, cells: &mut [CellTold]) -> Status
+    requires rows { AreRows first_row last_row }
+    requires room { cells_in first_row last_row ≤ length cells.old }
+    ensures status { result ≡ Status.Done }
+    ensures cells { cells.new ≡ rows_told station.now.screen first_row last_row
+        ++ drop (cells_in first_row last_row) cells.old }
+{
+    let count = (last_row as usize + 1 - first_row as usize) * COLUMNS as usize;
+    let first = (first_row as usize - 1) * COLUMNS as usize;
+    tell_cells(station.screen(), first, &mut cells[..count]);
+    Status::Done
+}
+
+fn look_at_cells(
+    alloc: Global,
+    handle: &mut Handle,
+    first_row: u8,
+    last_row: u8,
+    cells: &mut [CellTold],
+) -> Status
+    requires rows { AreRows first_row last_row }
+    requires room { cells_in first_row last_row ≤ length cells.old }
+    ensures { OnStation handle.old.owned.value handle.new.owned.value result
+        (λ old new. (new ≡ old) × (result ≡ Status.Done)
+        × (cells.new ≡ rows_told old.screen first_row last_row
+        ++ drop (cells_in first_row last_row) cells.old))
+        (cells.new ≡ cells.old) }
+{
+    on_station!(
+        alloc,
+        handle,
+        |station| tell_rows(station, first_row, last_row, cells)
+    )
+}
+
+/// Tells the cells of rows, 80 of each, in screen order: what each shows and holds, the attribute in force, and its
+/// field.
+///
+/// `BadArgument` where the rows aren't 1 to 24 in order, `NoRoom` where there are fewer than 80 cells for each row,
+/// `NothingHeld` where the handle holds no station; no cell is then set.
+#[unsafe(no_mangle)]
+pub extern "C" fn ws_c_station_cells(
+    alloc: Global,
+    handle: &mut Handle,
+    first_row: u8,
+    last_row: u8,
+    cells: &mut [CellTold],
+) -> u32
+    ensures cells { AreRows first_row last_row → cells_in first_row last_row ≤ length cells.old
+        → (status : AStatus) × (result ≡ number_of status)
+        × OnStation handle.old.owned.value handle.new.owned.value status
+        (λ old new. (new ≡ old) × (status ≡ Status.Done)
+        × (cells.new ≡ rows_told old.screen first_row last_row
+        ++ drop (cells_in first_row last_row) cells.old))
+        (cells.new ≡ cells.old) }
+    ensures off { ¬ AreRows first_row last_row → (result ≡ number_of Status.BadArgument)
+        × (handle.new ≡ handle.old) × (cells.new ≡ cells.old) }
+    ensures room { AreRows first_row last_row
+        → length cells.old < cells_in first_row last_row → (result ≡ number_of Status.NoRoom)
+        × (handle.new ≡ handle.old) × (cells.new ≡ cells.old) }
+{
+    if first_row < 1 || last_row < first_row || last_row > 24 {
+        return Status::BadArgument.number();
+    }
+    if cells.len() < (last_row as usize + 1 - first_row as usize) * COLUMNS as usize {
+        return Status::NoRoom.number();
+    }
+    look_at_cells(alloc, handle, first_row, last_row, cells).number()
+}
