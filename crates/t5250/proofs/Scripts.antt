@@ -1,5 +1,5 @@
 use Rattle.std.proofs.Common.{◌≡◌, ◌≢◌, ℕ, ◌+◌, ◌<◌, ◌≤◌, ◌==◌, List, [], ◌∷◌, ◌++◌, Bool, true, false, cond, not, ◌-◌, length, take, drop, inl, inr, refl, sym, ap, ◌∙◌, subst, arith, append_assoc, length-append, length-drop}
-use Rattle.std.specs.Prelude.{codes, Some, None, if◌then◌else◌}
+use Rattle.std.specs.Prelude.{codes, map, Some, None, if◌then◌else◌}
 use Rattle.std.specs.List.{position_or_len, before_first, after_first, slice_split, onto_first}
 use Rattle.std.specs.Str.Lines.{lines, lines_of_parts, strip_carriage_return}
 use Rattle.std.proofs.lemmas.Bool.{false≢true, cases_lt}
@@ -13,17 +13,23 @@ use Rattle.ws_stream.specs.declared.element.Element.{Element}
 use Rattle.ws_session.specs.declared.world.Move.{Move}
 use Rattle.ws_session.specs.declared.world.Move.TheVariants.{Send, Cancel, ToStation, ToHost, Key as Press}
 use Rattle.t5250.specs.KeyNames.{key_named}
-use Rattle.t5250.specs.Script.{IsCount, IsOpcodeText, IsBodyText, IsRecordText, IsMove, Means, IsLine, IsBad, AreLines, IsScript, IsFirstBad}
+use Rattle.t5250.specs.Script.{AreTyped, typed_key, IsCount, IsOpcodeText, IsBodyText, IsRecordText, IsMove, Means, IsLine, IsBad, AreLines, IsScript, IsFirstBad}
 use Rattle.t5250.specs.Script.Means.{empty, comment, one, settle, typed, inserted}
-use Rattle.t5250.specs.ScriptFaults.{IsNoComment, IsLineFault, has_no_blank}
+use Rattle.std.specs.Str.{IsUtf8, chars}
+use Rattle.std.proofs.lemmas.Str.{scalars-chars, encodes-chars}
+use Rattle.t5250.specs.ScriptFaults.{IsNoComment, IsLineFault, IsGoodSoFar, IsReadSoFar, has_no_blank}
 use Rattle.t5250.specs.declared.script_line.LineFault.{LineFault}
 use Rattle.t5250.specs.declared.script_line.LineFault.TheVariants.{Bad, Memory}
 use Rattle.t5250.proofs.ScriptWords.{differ, blank_inside, split_unique, digits_have_no_blank}
 
 -- a fault of a part, as one of what holds the part
-pub fault_on : {X Y : Type 0} (P : X → Type 0) (Q : Y → Type 0) (fault : LineFault) → (((x : X) → P x → ⊥) → (y : Y) → Q y → ⊥) → IsLineFault P fault → IsLineFault Q fault
-fault_on P Q Bad f h = f h
-fault_on P Q Memory f h = tt
+pub fault_on : {X Y A B : Type 0} (P : X → Type 0) (Q : Y → Type 0) (fault : LineFault) → (((x : X) → P x → ⊥) → (y : Y) → Q y → ⊥) → (A → B) → IsLineFault P A fault → IsLineFault Q B fault
+fault_on P Q Bad f good h = f h
+fault_on P Q Memory f good h = good h
+
+-- a growth was refused, where what was read is good
+pub only_memory : {X A : Type 0} (P : X → Type 0) (fault : LineFault) → fault ≡ Memory → A → IsLineFault P A fault
+only_memory P fault e good = rw e good
 
 -- LINES
 
@@ -119,6 +125,26 @@ reads_bad text rest behind line moves number r e bad = record {
   bad = bad;
   counted = ap (λ z. z + 1) r.counted;
 }
+
+-- a growth was refused within a line
+pub reads_begun : (text rest behind line : List ℕ) (moves : List Move) (number : ℕ) → Reads text rest moves number → lines rest ≡ line ∷ lines behind → IsUtf8 line × IsGoodSoFar line → IsReadSoFar text
+reads_begun text rest behind line moves number r e good = record {
+  before = r.before;
+  line = line;
+  after = lines behind;
+  split = r.split ∙ ap (λ z. r.before ++ z) e;
+  moves = moves;
+  good = r.good;
+  is_text = good.0;
+  begun = good.1;
+}
+
+-- keys for any text
+pub typed_any : (inserts : Bool) (text : List ℕ) → IsUtf8 text → (moves : List Move) × AreTyped inserts text moves
+typed_any inserts text is = (
+  map (λ x. Press (typed_key inserts x)) (chars text),
+  record { characters = chars text; are = scalars-chars text is; spelled = encodes-chars text is; typed = refl },
+)
 
 -- WHAT NO LINE MEANS
 

@@ -259,7 +259,7 @@ fn program_within_memory(rt: HostRuntime) {
     let found = check_to::<Commands, VecSink>(alloc, BOB, 7, &mut sink);
     assert!(rt; is_printed_within(found, &sink, BOB_LINE), "check_to");
     let mut sink = VecSink::new(alloc);
-    let found = show_to::<Commands, _>(alloc, BOB, &mut sink);
+    let found = show_to(alloc, BOB, &mut sink);
     assert!(rt; is_printed_within(found, &sink, BOB_SHOWN), "show_to");
     let script = b"settle\nsend 3 0440041100081106341D400020000A04520000\ntype BOB\nkey Enter\n";
     match read_script(alloc, script) {

@@ -1,9 +1,11 @@
 ghost use Rattle.std.specs.Prelude.{◌≡◌, ◌≢◌, [], IfOk, IfErr};
+ghost use Rattle.ws_stream.specs.AnswerParts.{answer_rules};
 ghost use Rattle.ws_stream.specs.Elements.{element_rules};
 ghost use Rattle.t5250.specs.Answering.{HasPieces, HasAnswered, HasChecked, HasShown, HasPlayed, HasPlayedByTcp, IsAnswerFault, IsHexFault, IsPlayFault, IsTcpPlayFault, status_of};
 ghost use Rattle.t5250.specs.HexText.{IsHexOf};
 ghost use Rattle.t5250.specs.Checking.{IsCheckFault};
 ghost use Rattle.t5250.specs.StreamText.{IsShowFault};
+ghost use Rattle.t5250.specs.Views.{host_view, answer_view};
 ghost use Rattle.std.specs.Prelude.{List as Seq, ℕ};
 
 use crate::buffered_sink::BufferedSink;
@@ -13,8 +15,7 @@ use crate::fault::RunFault;
 use crate::hex_text::hex_bytes;
 use crate::play::play_to;
 use crate::script::read_script;
-use crate::show::show_to;
-use crate::shown::Shown;
+use crate::show::{show_answers_to, show_to};
 use crate::tcp::play_tcp;
 use std::alloc::Global;
 use std::net::{Net, TcpListener, TcpStream};
@@ -53,9 +54,9 @@ pub fn answer<R: Net<Listener = TcpListener, Stream = TcpStream>, S: Sink>(
         }
         Asked::Show { answers, .. } => {
             if answers {
-                show_text::<Answers, S>(alloc, text, sink)
+                show_answers_text(alloc, text, sink)
             } else {
-                show_text::<Commands, S>(alloc, text, sink)
+                show_text(alloc, text, sink)
             }
         }
         Asked::Play { screen, tcp, .. } => {
@@ -109,15 +110,26 @@ fn check_text<B: Body, S: Sink>(
     Ok(check_to::<B, S>(alloc, bytes.as_slice(), cut, sink)?)
 }
 
-// Writes what is shown of the bytes that a hex text tells.
-fn show_text<B: Shown, S: Sink>(alloc: Global, text: &[u8], sink: &mut S) -> Result<bool, RunFault>
+// Writes what is shown of the bytes that a hex text tells, as a host's.
+fn show_text<S: Sink>(alloc: Global, text: &[u8], sink: &mut S) -> Result<bool, RunFault>
     ensures done { IfOk result (λ accepted. (bytes : Seq ℕ) × IsHexOf bytes text.now
-        × HasShown S.takes S.failures sink.old sink.new B.rules B.view bytes accepted) }
+        × HasShown S.takes S.failures sink.old sink.new element_rules host_view bytes accepted) }
     ensures fault { IfErr result (IsHexFault S.takes S.failures sink.old sink.new
-        (IsShowFault S.takes S.failures sink.old sink.new B.rules B.view) text.now) }
+        (IsShowFault S.takes S.failures sink.old sink.new element_rules host_view) text.now) }
 {
     let bytes = hex_bytes(alloc, text)?;
-    Ok(show_to::<B, S>(alloc, bytes.as_slice(), sink)?)
+    Ok(show_to(alloc, bytes.as_slice(), sink)?)
+}
+
+// The same as a station's.
+fn show_answers_text<S: Sink>(alloc: Global, text: &[u8], sink: &mut S) -> Result<bool, RunFault>
+    ensures done { IfOk result (λ accepted. (bytes : Seq ℕ) × IsHexOf bytes text.now
+        × HasShown S.takes S.failures sink.old sink.new answer_rules answer_view bytes accepted) }
+    ensures fault { IfErr result (IsHexFault S.takes S.failures sink.old sink.new
+        (IsShowFault S.takes S.failures sink.old sink.new answer_rules answer_view) text.now) }
+{
+    let bytes = hex_bytes(alloc, text)?;
+    Ok(show_answers_to(alloc, bytes.as_slice(), sink)?)
 }
 
 // Plays a script, and writes what its session tells.

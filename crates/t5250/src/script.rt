@@ -23,7 +23,8 @@ pub enum ScriptFault {
 
 /// The moves of a script's lines, in order.
 ///
-/// `Line` where a line is bad, with the number of the first one. `Memory` where a growth was refused.
+/// `Line` where a line is bad, with the number of the first one. `Memory` where a growth was refused, and the script is
+/// good as far as it was read.
 pub fn read_script(alloc: Global, text: &[u8]) -> Result<Vec<Move>, ScriptFault>
     ensures moves { IfOk result (λ moves. IsScript text.now moves.items) }
     ensures fault { IfErr result (λ fault. IsScriptFault text.now fault) }

@@ -1,7 +1,8 @@
 ghost use Rattle.std.specs.Prelude.{◌≡◌, ◌++◌, ◌∷◌, ◌<◌, [], List as Seq, true, length, codes, IfErr, OnOk};
+ghost use Rattle.std.specs.Str.{IsUtf8};
 ghost use Rattle.ws_session.specs.declared.world.Move.{Move as AMove};
 ghost use Rattle.t5250.specs.Script as Spec;
-ghost use Rattle.t5250.specs.ScriptFaults.{IsLineFault, IsNoComment, has_no_blank};
+ghost use Rattle.t5250.specs.ScriptFaults.{IsLineFault, IsGoodSoFar, IsNoComment, has_no_blank};
 
 use crate::script_move::{read_move, split_word};
 use std::alloc::Global;
@@ -22,7 +23,8 @@ pub enum LineFault {
 pub fn read_line(alloc: Global, line: &[u8], moves: &mut Vec<Move>) -> Result<(), LineFault>
     ensures ok { OnOk result ((given : Seq AMove) × Spec.IsLine line.now given
         × (moves.new.items ≡ moves.old.items ++ given)) }
-    ensures fault { IfErr result (IsLineFault (Spec.IsLine line.now)) }
+    ensures fault { IfErr result (IsLineFault (Spec.IsLine line.now)
+        (IsUtf8 line.now × IsGoodSoFar line.now)) }
 {
     let Ok(text) = str::from_utf8(line) else {
         return Err(LineFault::Bad);
@@ -46,7 +48,8 @@ fn read_word(word: &str, moves: &mut Vec<Move>) -> Result<(), LineFault>
     requires no_comment { IsNoComment word.now }
     ensures ok { OnOk result ((given : Seq AMove) × Spec.Means word.now given
         × (moves.new.items ≡ moves.old.items ++ given)) }
-    ensures fault { IfErr result (IsLineFault (Spec.Means word.now)) }
+    ensures fault { IfErr result (IsLineFault (Spec.Means word.now)
+        ((given : Seq AMove) × Spec.Means word.now given)) }
 {
     match word {
         "cancel" => add(moves, Move::Cancel),
@@ -68,7 +71,8 @@ fn read_command(
         × Spec.Means (command.now ++ codes " " ++ words.now) given
         × (moves.new.items ≡ moves.old.items ++ given)) }
     ensures fault { IfErr result
-        (IsLineFault (Spec.Means (command.now ++ codes " " ++ words.now))) }
+        (IsLineFault (Spec.Means (command.now ++ codes " " ++ words.now))
+        (IsGoodSoFar (command.now ++ codes " " ++ words.now))) }
 {
     match command {
         "type" => type_text(words, false, moves),

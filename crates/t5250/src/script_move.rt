@@ -2,7 +2,7 @@ ghost use Rattle.std.specs.Prelude.{◌≡◌, ◌++◌, true, ℕ, codes, IfOk,
 ghost use Rattle.ws_record.specs.Body.{IsBody};
 ghost use Rattle.ws_stream.specs.Elements.{element_rules};
 ghost use Rattle.t5250.specs.Script as Spec;
-ghost use Rattle.t5250.specs.ScriptFaults.{IsLineFault, has_no_blank};
+ghost use Rattle.t5250.specs.ScriptFaults.{IsLineFault, IsSendBegun, IsSendLine, has_no_blank};
 
 use crate::key_name::key_named;
 use crate::script_line::LineFault;
@@ -27,7 +27,8 @@ pub fn read_move(alloc: Global, command: &str, words: &str) -> Result<Move, Line
     requires { has_no_blank command.now ≡ true }
     ensures ok { IfOk result (Spec.IsMove (command.now ++ codes " " ++ words.now)) }
     ensures fault { IfErr result
-        (IsLineFault (Spec.IsMove (command.now ++ codes " " ++ words.now))) }
+        (IsLineFault (Spec.IsMove (command.now ++ codes " " ++ words.now))
+        (IsSendLine (command.now ++ codes " " ++ words.now))) }
 {
     match command {
         "send" => read_send(alloc, words),
@@ -44,7 +45,8 @@ pub fn read_move(alloc: Global, command: &str, words: &str) -> Result<Move, Line
 // A record to be sent: its opcode, and its body in hex where it has one.
 fn read_send(alloc: Global, words: &str) -> Result<Move, LineFault>
     ensures ok { IfOk result (Spec.IsMove (codes "send " ++ words.now)) }
-    ensures fault { IfErr result (IsLineFault (Spec.IsMove (codes "send " ++ words.now))) }
+    ensures fault { IfErr result
+        (IsLineFault (Spec.IsMove (codes "send " ++ words.now)) (IsSendBegun words.now)) }
 {
     let Some((number, hex)) = split_word(words) else {
         let opcode = read_opcode(words)?;
@@ -61,7 +63,7 @@ fn read_send(alloc: Global, words: &str) -> Result<Move, LineFault>
 // An opcode in decimal; that of Cancel Invite is none.
 fn read_opcode(word: &str) -> Result<Opcode, LineFault>
     ensures ok { IfOk result (Spec.IsOpcodeText word.now) }
-    ensures fault { IfErr result (IsLineFault (Spec.IsOpcodeText word.now)) }
+    ensures fault { IfErr result (IsLineFault (Spec.IsOpcodeText word.now) ⊥) }
 {
     let Some(number) = read_number(word) else {
         return Err(LineFault::Bad);
@@ -78,7 +80,7 @@ fn read_opcode(word: &str) -> Result<Opcode, LineFault>
 // A body in hex.
 fn read_body_text(alloc: Global, hex: &str) -> Result<Vec<Element>, LineFault>
     ensures ok { IfOk result (λ body. Spec.IsBodyText hex.now body.items) }
-    ensures fault { IfErr result (IsLineFault (Spec.IsBodyText hex.now)) }
+    ensures fault { IfErr result (IsLineFault (Spec.IsBodyText hex.now) (Unit {0})) }
 {
     match hex::decode(alloc, hex) {
         Ok(bytes) => read_elements(alloc, bytes.as_slice()),
@@ -90,7 +92,7 @@ fn read_body_text(alloc: Global, hex: &str) -> Result<Vec<Element>, LineFault>
 // The elements that the bytes spell.
 fn read_elements(alloc: Global, bytes: &[u8]) -> Result<Vec<Element>, LineFault>
     ensures ok { IfOk result (λ body. IsBody element_rules bytes.now body.items) }
-    ensures fault { IfErr result (IsLineFault (IsBody element_rules bytes.now)) }
+    ensures fault { IfErr result (IsLineFault (IsBody element_rules bytes.now) (Unit {0})) }
 {
     read_body::<Commands>(alloc, bytes).map_err(|fault| match fault {
         BodyFault::Bad => LineFault::Bad,
@@ -101,7 +103,7 @@ fn read_elements(alloc: Global, bytes: &[u8]) -> Result<Vec<Element>, LineFault>
 // How many bytes arrive.
 fn read_count(word: &str) -> Result<usize, LineFault>
     ensures ok { IfOk result (Spec.IsCount word.now) }
-    ensures fault { IfErr result (IsLineFault (Spec.IsCount word.now)) }
+    ensures fault { IfErr result (IsLineFault (Spec.IsCount word.now) ⊥) }
 {
     if word == "all" {
         return Ok(usize::MAX);

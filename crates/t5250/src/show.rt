@@ -1,8 +1,11 @@
 ghost use Rattle.std.specs.Prelude.{◌≡◌, ◌++◌, [], Bool, List, ℕ, true, IfOk, IfErr, OnOk};
 ghost use Rattle.ws_code.specs.Device.{WentOut, FailedWithin};
 ghost use Rattle.ws_record.specs.declared.record.Item.{Item as AnItem};
+ghost use Rattle.ws_stream.specs.AnswerParts.{answer_rules};
+ghost use Rattle.ws_stream.specs.Elements.{element_rules};
 ghost use Rattle.t5250.specs.CheckLine.{verdict_by};
 ghost use Rattle.t5250.specs.StreamText.{IsShown, IsPart, IsShowFault, IsStop, HasBegun, IsNext, IsNextFault};
+ghost use Rattle.t5250.specs.Views.{host_view, answer_view};
 
 use crate::output::Output;
 use crate::shown::Shown;
@@ -10,6 +13,41 @@ use crate::verdict::verdict_by_fault;
 use std::alloc::Global;
 use ws_code::{Body, Fault, Sink};
 use ws_record::{Item, Receiver};
+use ws_stream::{Answers, Commands};
+
+/// Writes the items of a host's stream, and the screen that its records make: true where the stream is accepted.
+///
+/// A record is written and then applied. The rest is said at `show_body_to`.
+pub fn show_to<S: Sink>(alloc: Global, bytes: &[u8], sink: &mut S) -> Result<bool, Fault>
+    ensures printed { IfOk result (λ accepted. (text : List ℕ)
+        × IsShown element_rules host_view bytes.now accepted text
+        × WentOut S.takes S.failures sink.old sink.new text) }
+    ensures fault { IfErr result (λ fault. IsShowFault
+        S.takes S.failures sink.old sink.new element_rules host_view bytes.now fault) }
+    ensures parts_begin { (accepted : Bool) (whole part : List ℕ)
+        → IsShown element_rules host_view bytes.now accepted whole
+        → IsPart element_rules host_view bytes.now part
+        → (rest : List ℕ) × (whole ≡ part ++ rest) }
+{
+    show_body_to::<Commands, S>(alloc, bytes, sink)
+}
+
+/// Writes the items of a station's stream: true where it is accepted. No screen stands behind them.
+///
+/// The rest is said at `show_body_to`.
+pub fn show_answers_to<S: Sink>(alloc: Global, bytes: &[u8], sink: &mut S) -> Result<bool, Fault>
+    ensures printed { IfOk result (λ accepted. (text : List ℕ)
+        × IsShown answer_rules answer_view bytes.now accepted text
+        × WentOut S.takes S.failures sink.old sink.new text) }
+    ensures fault { IfErr result (λ fault. IsShowFault
+        S.takes S.failures sink.old sink.new answer_rules answer_view bytes.now fault) }
+    ensures parts_begin { (accepted : Bool) (whole part : List ℕ)
+        → IsShown answer_rules answer_view bytes.now accepted whole
+        → IsPart answer_rules answer_view bytes.now part
+        → (rest : List ℕ) × (whole ≡ part ++ rest) }
+{
+    show_body_to::<Answers, S>(alloc, bytes, sink)
+}
 
 /// Writes the items of a stream, and what stands behind them: true where the stream is accepted.
 ///
@@ -17,7 +55,11 @@ use ws_record::{Item, Receiver};
 /// carried out. Where the stream is refused or ends too early, or an item can't be carried out, the line of a check is
 /// the last. `Memory` where a growth was refused, and then the lines before went out; `Write` where the sink failed,
 /// and then a proper prefix of the lines. The lines that went out begin all of them.
-pub fn show_to<B: Shown, S: Sink>(alloc: Global, bytes: &[u8], sink: &mut S) -> Result<bool, Fault>
+pub fn show_body_to<B: Shown, S: Sink>(
+    alloc: Global,
+    bytes: &[u8],
+    sink: &mut S,
+) -> Result<bool, Fault>
     ensures printed { IfOk result (λ accepted. (text : List ℕ)
         × IsShown B.rules B.view bytes.now accepted text
         × WentOut S.takes S.failures sink.old sink.new text) }

@@ -1,7 +1,6 @@
 use crate::show::show_to;
 use std::test::Fail;
 use ws_code::VecSink;
-use ws_stream::Commands;
 
 type Row<'a> = (&'a str, &'a [u8], &'a str, bool);
 
@@ -67,7 +66,7 @@ const SHOWN: [Row; 9] = [
 fn show_lines(rt: HostRuntime) -> Result<(), Fail> {
     for (row, bytes, wanted, accepted) in &SHOWN {
         let mut sink = VecSink::new(rt.alloc());
-        let found = show_to::<Commands, _>(rt.alloc(), bytes, &mut sink);
+        let found = show_to(rt.alloc(), bytes, &mut sink);
         assert_eq!(rt; found, Ok(*accepted), "{row}");
         let text = String::from_utf8(sink.into_inner()).or(Err("no text"))?;
         assert_eq!(rt; text.as_str(), *wanted, "{row}");

@@ -57,7 +57,7 @@ fn streams_of_each_size(rt: HostRuntime) -> Result<(), Fail> {
             assert_eq!(rt; found, Ok(whole));
             assert_eq!(rt; sink.as_slice(), wanted.as_bytes());
             let mut sink = VecSink::new(alloc);
-            let found = show_to::<Commands, _>(alloc, bytes.as_slice(), &mut sink);
+            let found = show_to(alloc, bytes.as_slice(), &mut sink);
             assert_eq!(rt; found, Ok(whole));
             let lines = sink
                 .as_slice()

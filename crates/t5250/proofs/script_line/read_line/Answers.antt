@@ -1,10 +1,12 @@
-use Rattle.std.proofs.Common.{◌++◌, List, ℕ, [], refl, sym, ◌∙◌, subst}
+use Rattle.std.proofs.Common.{◌++◌, List, ℕ, [], refl, sym, ◌∙◌, subst, inl}
 use Rattle.std.specs.Prelude.{codes}
+use Rattle.std.specs.Str.{IsUtf8}
+use Rattle.ws_session.specs.declared.world.Move.{Move}
 use Rattle.std.proofs.lemmas.List.{append-nil}
 use Rattle.std.proofs.lemmas.Result.{on_ok_weaker, IfErr-weaker}
 use Rattle.t5250.specs.Script.{Means, IsLine}
 use Rattle.t5250.specs.Script.Means.{comment}
-use Rattle.t5250.specs.ScriptFaults.{IsLineFault}
+use Rattle.t5250.specs.ScriptFaults.{IsLineFault, IsGoodSoFar}
 use Rattle.t5250.proofs.Scripts.{fault_on}
 use Rattle.t5250.proofs.ScriptWords.{comment_text, is_no_comment}
 use Rattle.t5250.proofs.script_line.read_line.Goals as goal
@@ -25,8 +27,9 @@ pub returns-in-None-clause-fault : goal.returns-in-None-clause-fault
 returns-in-None-clause-fault c =
     let text = c.in-Ok.text.now in
     let line = c.args.line.now in
-    IfErr-weaker c.read_word.result (IsLineFault (Means text)) (IsLineFault (IsLine line))
-    (λ fault h. fault_on (Means text) (IsLine line) fault (λ refused moves l. refused moves (subst (λ (z : List ℕ). Means z moves) (sym c.in-Ok.ensures.cases.0) l.1)) h) c.read_word.ensures.fault
+    IfErr-weaker c.read_word.result (IsLineFault (Means text) ((given : List Move) × Means text given)) (IsLineFault (IsLine line) (IsUtf8 line × IsGoodSoFar line))
+    (λ fault h. fault_on (Means text) (IsLine line) fault (λ refused moves l. refused moves (subst (λ (z : List ℕ). Means z moves) (sym c.in-Ok.ensures.cases.0) l.1))
+    (λ good. (c.in-Ok.ensures.cases.1, inl (good.0, subst (λ (z : List ℕ). Means z good.0) c.in-Ok.ensures.cases.0 good.1))) h) c.read_word.ensures.fault
 
 pub read_command-requires-clause-no_comment : goal.read_command-requires-clause-no_comment
 read_command-requires-clause-no_comment c = λ rest e.
@@ -42,5 +45,6 @@ returns-in-Some-clause-fault c =
     let text : List ℕ = (c.in-Some.command.now ++ codes " ") ++ c.in-Some.words.now in
     let line = c.args.line.now in
     let same = sym c.in-Some.ensures.0 ∙ c.in-Ok.ensures.cases.0 in
-    IfErr-weaker c.read_command.result (IsLineFault (Means text)) (IsLineFault (IsLine line))
-    (λ fault h. fault_on (Means text) (IsLine line) fault (λ refused moves l. refused moves (subst (λ (z : List ℕ). Means z moves) (sym same) l.1)) h) c.read_command.ensures.fault
+    IfErr-weaker c.read_command.result (IsLineFault (Means text) (IsGoodSoFar text)) (IsLineFault (IsLine line) (IsUtf8 line × IsGoodSoFar line))
+    (λ fault h. fault_on (Means text) (IsLine line) fault (λ refused moves l. refused moves (subst (λ (z : List ℕ). Means z moves) (sym same) l.1))
+    (λ good. (c.in-Ok.ensures.cases.1, subst IsGoodSoFar same good)) h) c.read_command.ensures.fault

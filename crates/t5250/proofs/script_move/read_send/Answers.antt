@@ -11,7 +11,7 @@ returns-in_err-opcode-2-clause-fault c =
     let words = c.args.words.now in
     let number = c.in-Some.number.now in
     rw (p.1, p.2) (fault_on (IsOpcodeText number) (IsMove (codes "send " ++ words)) _
-    (λ refused. no_send words number c.in-Some.hex.now c.in-Some.ensures.0 c.in-Some.ensures.1 (λ opcode body sent some text. refused opcode sent)) c.in_err-opcode-2.ensures.fault)
+    (λ refused. no_send words number c.in-Some.hex.now c.in-Some.ensures.0 c.in-Some.ensures.1 (λ opcode body sent some text. refused opcode sent)) (λ (h : ⊥). absurd h) c.in_err-opcode-2.ensures.fault)
 
 pub returns-then-is_empty-clause-fault : goal.returns-then-is_empty-clause-fault
 returns-then-is_empty-clause-fault c =
@@ -24,4 +24,4 @@ returns-in_err-body-clause-fault c =
     let words = c.args.words.now in
     let hex = c.in-Some.hex.now in
     rw (p.1, p.2) (fault_on (IsBodyText hex) (IsMove (codes "send " ++ words)) _
-    (λ refused. no_send words c.in-Some.number.now hex c.in-Some.ensures.0 c.in-Some.ensures.1 (λ opcode body sent some text. refused body text)) c.in_err-body.ensures.fault)
+    (λ refused. no_send words c.in-Some.number.now hex c.in-Some.ensures.0 c.in-Some.ensures.1 (λ opcode body sent some text. refused body text)) (λ (h : Unit {0}). (c.in-Some.number.now, hex, c.in_ok-opcode-2.opcode, c.in-Some.ensures.0, c.in_ok-opcode-2.ensures.ok)) c.in_err-body.ensures.fault)

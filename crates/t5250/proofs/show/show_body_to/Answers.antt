@@ -8,7 +8,7 @@ use Rattle.t5250.specs.CheckLine.{line_of}
 use Rattle.t5250.specs.StreamText.{IsShown, IsStop}
 use Rattle.t5250.proofs.Parts.{part_begins}
 use Rattle.t5250.proofs.Shows.{text_fails}
-use Rattle.t5250.proofs.show.show_to.Goals as goal
+use Rattle.t5250.proofs.show.show_body_to.Goals as goal
 
 pub returns-in_err-verdict_by_fault-in-Err-clause-fault : goal.returns-in_err-verdict_by_fault-in-Err-clause-fault
 returns-in_err-verdict_by_fault-in-Err-clause-fault g c =
