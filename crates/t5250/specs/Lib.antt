@@ -11,3 +11,11 @@ pub mod ScreenLines
 pub mod Script
 pub mod ScriptFaults
 pub mod StreamText
+pub mod Tasks
+pub mod LiveScript
+pub mod ConnectLines
+pub mod ServeLines
+pub mod LiveText
+pub mod ConnectText
+pub mod ServeText
+pub mod FieldLines

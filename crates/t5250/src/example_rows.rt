@@ -1,6 +1,6 @@
 // The scripts and captures of examples/, letter for letter, and what the program prints of each. `examples/run.sh` looks
 // whether they still are the same.
-use crate::command_line::read_words;
+use crate::command_line::{Task, read_words};
 use crate::program::{answer, status};
 use std::test::Fail;
 use ws_code::VecSink;
@@ -223,7 +223,9 @@ fn examples_print_their_lines(rt: HostRuntime) -> Result<(), Fail> {
             (&["t5250", "show"], example.capture, example.shown),
         ];
         for (words, text, wanted) in runs {
-            let asked = read_words(rt.alloc(), words)?;
+            let Task::Input(asked) = read_words(rt.alloc(), words)? else {
+                return Err("a live session".into());
+            };
             let mut sink = VecSink::new(rt.alloc());
             let outcome = answer(&rt, rt.alloc(), asked, text.as_bytes(), &mut sink);
             assert_eq!(rt; status(&outcome), 0, "{words:?} {text}");

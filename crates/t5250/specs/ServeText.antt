@@ -1,0 +1,66 @@
+-- What a line of a script for a host does there, and what it prints, by what the host end is told.
+
+use Rattle.std.specs.Prelude.{◌≡◌, ℕ, List, [], ◌∷◌, ◌++◌, ◌⊎◌, Bool, true, false, Option, None, Some, IfSome}
+use Rattle.std.specs.Prelude.{Result, Ok, Err, length}
+use Rattle.ws_code.specs.Device.{MayTake, MayGive, most_reads}
+use Rattle.ws_code.specs.declared.fault.Fault.{Fault}
+use Rattle.ws_code.specs.declared.reason.Reason.{Reason}
+use Rattle.ws_code.specs.declared.fault.Fault.TheVariants as fault
+use Rattle.ws_session.specs.Acts.{Did}
+use Rattle.ws_session.specs.Attachments.{AttachedParts, HaveLed, HaveLedUnwritten, HasHeard, IsHearFault}
+use Rattle.ws_session.specs.HostLeads.{HostParts}
+use Rattle.ws_session.specs.Manners.{HostGoes, HostRefuses}
+use Rattle.ws_session.specs.declared.end_step.Order.{Order}
+use Rattle.ws_session.specs.declared.host_event.HostEvent.{HostEvent}
+use Rattle.ws_session.specs.declared.send_fault.SendFault.{SendFault}
+use Rattle.ws_session.specs.declared.world.Event.TheVariants.{Host, SendRefused, HostRefused}
+use Rattle.t5250.specs.PlayLines.{event_text}
+use Rattle.t5250.specs.declared.serve_line.HostLine.{HostLine}
+use Rattle.t5250.specs.declared.serve_line.HostLine.TheVariants.{Nothing as NoLine, Give, Await}
+use Rattle.t5250.specs.declared.live.Closing.{Closing}
+use Rattle.t5250.specs.declared.live.Closing.TheVariants.{Nothing, Done, Declined, Late, Ended, Stopped}
+
+-- how a send or a cancel closes, and what it prints
+abbrev pub given_outcome : Result (Option SendFault) Fault → Result Closing Fault
+given_outcome (Ok None) = Ok Done
+given_outcome (Ok (Some why)) = Ok Declined
+given_outcome (Err why) = Err why
+
+abbrev pub given_text : Result (Option SendFault) Fault → List ℕ
+given_text (Ok (Some why)) = event_text (SendRefused why)
+given_text given = []
+
+module _ {S K : Type 0} (takes : MayTake K) (failures : K → ℕ) (gives : MayGive S) (misses : S → ℕ) where
+  abbrev pub Parts : Type 0
+  Parts = AttachedParts HostParts S K
+
+  -- what the host end was told to do: it was written, or refused, and nothing is changed, or a write failed
+  abbrev pub IsGiven : Order → Parts → Result (Option SendFault) Fault → Parts → Type 0
+  IsGiven order from (Ok refused) to = HaveLed HostGoes HostRefuses takes failures gives misses from to (Did order ∷ []) []
+      × IfSome refused (λ why. to ≡ from)
+  IsGiven order from (Err why) to = (why ≡ fault.Write)
+      × HaveLedUnwritten HostGoes HostRefuses takes failures gives misses from to (Did order ∷ [])
+
+  -- the host end heard the station up to the first thing that it tells, which is printed
+  abbrev pub HearsOne : Parts → Result Closing Fault → List ℕ → Parts → Type 0
+  HearsOne from (Ok Done) text to = (event : HostEvent)
+      × HasHeard HostGoes HostRefuses takes failures gives misses from to (Some event)
+      × (text ≡ event_text (Host event))
+  HearsOne from (Ok Ended) text to = HasHeard HostGoes HostRefuses takes failures gives misses from to None
+      × (text ≡ [])
+  HearsOne from (Ok Late) text to = IsHearFault HostGoes HostRefuses takes failures gives misses from to fault.Read
+      × (text ≡ [])
+  HearsOne from (Ok Stopped) text to = (place : ℕ) × (reason : Reason)
+      × IsHearFault HostGoes HostRefuses takes failures gives misses from to (fault.Refused place reason)
+      × (text ≡ event_text (HostRefused place reason))
+  HearsOne from (Err why) text to = IsHearFault HostGoes HostRefuses takes failures gives misses from to why
+      × (text ≡ [])
+  HearsOne from (Ok Nothing) text to = ⊥
+  HearsOne from (Ok Declined) text to = ⊥
+
+  -- a line at a host, how it closed, and what it printed
+  abbrev pub HostRuns : HostLine → Parts → Result Closing Fault → List ℕ → Parts → Type 0
+  HostRuns NoLine from outcome text to = (to ≡ from) × (outcome ≡ Ok Nothing) × (text ≡ [])
+  HostRuns (Give order) from outcome text to = (given : Result (Option SendFault) Fault) × IsGiven order from given to
+      × (outcome ≡ given_outcome given) × (text ≡ given_text given)
+  HostRuns Await from outcome text to = HearsOne from outcome text to

@@ -1,0 +1,171 @@
+ghost use Rattle.std.specs.Prelude.{◌≡◌, List, ℕ, Result, IfOk, IfErr};
+ghost use Rattle.ws_code.specs.declared.fault.Fault.{Fault as AFault};
+ghost use Rattle.ws_session.specs.Attachments.{AttachedParts};
+ghost use Rattle.t5250.specs.Printing.{Prints};
+ghost use Rattle.t5250.specs.LiveText as Spec;
+ghost use Rattle.t5250.specs.declared.live.Closing.{Closing as AClosing};
+
+use crate::fault::RunFault;
+use crate::live_line::LiveLine;
+use crate::output::{Output, put_text};
+use ws_code::{Fault, Sink};
+use ws_session::Attached;
+
+/// How a line of a live session closed.
+#[derive(Clone, Copy, Debug, PartialEq, Eq)]
+pub enum Closing {
+    /// It was an empty line or a comment.
+    Nothing,
+    /// It was carried out.
+    Done,
+    /// It was carried out, and a key or a send of it was refused.
+    Declined,
+    /// Its time was over.
+    Late,
+    /// The other side closed the connection.
+    Ended,
+    /// The end refused a byte. No line is carried out behind it.
+    Stopped,
+}
+
+/// What the lines of a live session came to.
+#[derive(Clone, Copy, Debug, PartialEq, Eq)]
+pub struct Ran {
+    /// None closed late or ended, and nothing was refused.
+    pub all_well: bool,
+    /// The end refused a byte.
+    pub is_over: bool,
+}
+
+impl Ran {
+    /// No line was carried out.
+    pub fn none() -> Self
+        ensures { result ≡ Spec.ran_none }
+    {
+        Ran {
+            all_well: true,
+            is_over: false,
+        }
+    }
+
+    /// What these lines came to, and those behind them.
+    pub fn and(self, behind: Ran) -> Self
+        ensures { result ≡ Spec.ran_and self behind }
+    {
+        Ran {
+            all_well: self.all_well && behind.all_well,
+            is_over: behind.is_over,
+        }
+    }
+}
+
+impl Closing {
+    fn ran(self) -> Ran
+        ensures { result ≡ Spec.ran_by self }
+    {
+        Ran {
+            all_well: matches!(self, Closing::Nothing | Closing::Done),
+            is_over: self == Closing::Stopped,
+        }
+    }
+}
+
+/// What was made of a line: whether all of its text so far went out, and how it closed.
+#[derive(Clone, Copy, Debug, PartialEq, Eq)]
+pub struct Carried {
+    pub output: Output,
+    pub outcome: Result<Closing, Fault>,
+}
+
+/// What tells the time of a wait.
+pub trait Watch {
+    /// A wait begins.
+    fn begin(&self);
+
+    /// Whether the last read failed for want of time.
+    fn is_late(&self) -> bool;
+}
+
+/// A line that is carried out at an end with these devices.
+pub trait LiveMove<E, S, K>: LiveLine {
+    // At the one state it came to this, printed this text, and left the other state.
+    ghost runs: { Self → AttachedParts E S K → Result AClosing AFault → List ℕ → AttachedParts E S K → Type 0 };
+
+    /// Carries the line out, and prints what it tells.
+    fn carry_out<W: Watch, O: Sink>(
+        &self,
+        attached: &mut Attached<E, S, K>,
+        watch: &W,
+        out: &mut O,
+        output: Output,
+    ) -> Carried
+        ensures { (text : List ℕ) × runs self.now attached.old result.outcome text attached.new
+            × Prints O.takes O.failures out.old out.new output result.output text };
+}
+
+/// Carries lines out one after another, up to the first at which the end refuses a byte. What each prints is out before
+/// the next; behind it comes a line `late` or `ended` where it closed so, and `ok` with `ready`.
+///
+/// `Write` where the sink or the connection failed, `Read` where a read failed, though not for want of time, `Memory`
+/// where a growth was refused.
+pub fn carry_lines<E, S, K, L: LiveMove<E, S, K>, W: Watch, O: Sink>(
+    attached: &mut Attached<E, S, K>,
+    watch: &W,
+    lines: &[L],
+    ready: bool,
+    out: &mut O,
+) -> Result<Ran, RunFault>
+    ensures ran { IfOk result (Spec.HasRun L.runs O.takes O.failures ready
+        attached.old attached.new out.old out.new lines.now) }
+    ensures fault { IfErr result (Spec.IsLiveFault L.runs O.takes O.failures ready
+        attached.old attached.new out.old out.new lines.now) }
+{
+    let mut ran = Ran::none();
+    for line in lines {
+        let carried = line.carry_out(attached, watch, out, Output::Open);
+        let closing = match carried.outcome {
+            Ok(closing) => closing,
+            Err(fault) => return Err(RunFault::from(fault)),
+        };
+        match put_closing(out, carried.output, ready, closing) {
+            Output::Open => {}
+            Output::Failed => return Err(RunFault::Write),
+        }
+        ran = ran.and(closing.ran());
+        if ran.is_over {
+            return Ok(ran);
+        }
+    }
+    Ok(ran)
+}
+
+// Writes what stands behind a line's text.
+fn put_closing<O: Sink>(out: &mut O, output: Output, ready: bool, closing: Closing) -> Output
+    ensures { Prints O.takes O.failures out.old out.new output result
+        (Spec.closing_text ready closing) }
+{
+    let output = put_text(out, output, closing_word(closing));
+    put_text(out, output, ready_word(ready, closing))
+}
+
+fn closing_word(closing: Closing) -> &'static str
+    ensures { result.now ≡ Spec.closing_word closing }
+{
+    match closing {
+        Closing::Late => "late\n",
+        Closing::Ended => "ended\n",
+        _ => "",
+    }
+}
+
+fn ready_word(ready: bool, closing: Closing) -> &'static str
+    ensures { result.now ≡ Spec.ready_word ready closing }
+{
+    if !ready {
+        return "";
+    }
+    match closing {
+        Closing::Nothing | Closing::Stopped => "",
+        _ => "ok\n",
+    }
+}
