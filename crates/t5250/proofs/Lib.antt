@@ -9,3 +9,6 @@ pub mod ScriptWords
 pub mod Scripts
 pub mod Shows
 pub mod Texts
+pub mod LiveScripts
+pub mod LiveLines
+pub mod LiveRuns

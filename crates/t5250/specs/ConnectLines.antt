@@ -21,18 +21,26 @@ pub record AreKeysOf (inserts : Bool) (text : List ℕ) (keys : List Key) : Type
   pub spelled : encode_utf8_all characters ≡ text
   pub typed : keys ≡ map (typed_key inserts) characters
 
+-- the one key of a name
+abbrev pub AreNamed : List ℕ → List Key → Type 0
+AreNamed name keys = (key : Key) × (key_named name ≡ Some key) × (keys ≡ key ∷ [])
+
 -- the lines that press keys
 pub data MeansKeys (line : List ℕ) (keys : List Key) : Type 0 where
   typed : (text : List ℕ) → line ≡ codes "type " ++ text → AreKeysOf false text keys → MeansKeys line keys
   inserted : (text : List ℕ) → line ≡ codes "insert " ++ text → AreKeysOf true text keys → MeansKeys line keys
-  named : (name : List ℕ) → line ≡ codes "key " ++ name → (key : Key) → key_named name ≡ Some key
-      → keys ≡ key ∷ [] → MeansKeys line keys
+  named : (name : List ℕ) → line ≡ codes "key " ++ name → AreNamed name keys → MeansKeys line keys
+
+-- what is awaited by the words behind `await`
+abbrev pub IsAwaited : List ℕ → Awaited → Type 0
+IsAwaited words Unlocked = ⊥
+IsAwaited words Record = words ≡ codes "record"
+IsAwaited words (Text text) = (words ≡ codes "text " ++ string_bytes text) × (string_bytes text ≢ [])
 
 -- the lines that wait
 abbrev pub MeansWait : List ℕ → Awaited → Type 0
-MeansWait line Unlocked = line ≡ codes "await"
-MeansWait line Record = line ≡ codes "await record"
-MeansWait line (Text text) = (line ≡ codes "await text " ++ string_bytes text) × (string_bytes text ≢ [])
+MeansWait line awaited = ((line ≡ codes "await") × (awaited ≡ Unlocked))
+    ⊎ ((words : List ℕ) × (line ≡ codes "await " ++ words) × IsAwaited words awaited)
 
 -- what a line means
 abbrev pub Means : List ℕ → StationLine → Type 0

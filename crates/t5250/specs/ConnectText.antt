@@ -123,8 +123,7 @@ module _ {S K : Type 0} (takes : MayTake K) (failures : K → ℕ) (gives : MayG
 
   abbrev pub IsWaited : Awaited → Parts → Waited → Parts → Type 0
   IsWaited Record from waited to = HearsOne from waited to
-  IsWaited Unlocked from waited to = WaitsFor (IsMet Unlocked) from waited to
-  IsWaited (Text text) from waited to = WaitsFor (IsMet (Text text)) from waited to
+  IsWaited awaited from waited to = WaitsFor (IsMet awaited) from waited to
 
   -- a line at a station, how it closed, and what it printed
   abbrev pub StationRuns : StationLine → Parts → Result Closing Fault → List ℕ → Parts → Type 0

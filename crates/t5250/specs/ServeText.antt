@@ -1,8 +1,8 @@
 -- What a line of a script for a host does there, and what it prints, by what the host end is told.
 
-use Rattle.std.specs.Prelude.{◌≡◌, ℕ, List, [], ◌∷◌, ◌++◌, ◌⊎◌, Bool, true, false, Option, None, Some, IfSome}
-use Rattle.std.specs.Prelude.{Result, Ok, Err, length}
-use Rattle.ws_code.specs.Device.{MayTake, MayGive, most_reads}
+use Rattle.std.specs.Prelude.{◌≡◌, ℕ, List, [], ◌∷◌, ◌++◌, ◌⊎◌, Bool, true, false, Option, None, Some, IfSome, not, ◌≢◌, replicate}
+use Rattle.std.specs.Prelude.{Result, Ok, Err}
+use Rattle.ws_code.specs.Device.{MayTake, MayGive, WentOut, FailedWithin, most_reads}
 use Rattle.ws_code.specs.declared.fault.Fault.{Fault}
 use Rattle.ws_code.specs.declared.reason.Reason.{Reason}
 use Rattle.ws_code.specs.declared.fault.Fault.TheVariants as fault
@@ -10,13 +10,18 @@ use Rattle.ws_session.specs.Acts.{Did}
 use Rattle.ws_session.specs.Attachments.{AttachedParts, HaveLed, HaveLedUnwritten, HasHeard, IsHearFault}
 use Rattle.ws_session.specs.HostLeads.{HostParts}
 use Rattle.ws_session.specs.Manners.{HostGoes, HostRefuses}
+use Rattle.ws_record.specs.declared.opcode.Opcode.TheVariants.{CancelInvite}
 use Rattle.ws_session.specs.declared.end_step.Order.{Order}
+use Rattle.ws_session.specs.declared.end_step.Order.TheVariants.{Send, Cancel}
 use Rattle.ws_session.specs.declared.host_event.HostEvent.{HostEvent}
 use Rattle.ws_session.specs.declared.send_fault.SendFault.{SendFault}
 use Rattle.ws_session.specs.declared.world.Event.TheVariants.{Host, SendRefused, HostRefused}
+use Rattle.t5250.specs.LiveText.{HaveRun, stops}
 use Rattle.t5250.specs.PlayLines.{event_text}
+use Rattle.t5250.specs.Printing.{IsOut}
 use Rattle.t5250.specs.declared.serve_line.HostLine.{HostLine}
 use Rattle.t5250.specs.declared.serve_line.HostLine.TheVariants.{Nothing as NoLine, Give, Await}
+use Rattle.t5250.specs.declared.output.Output.{Output}
 use Rattle.t5250.specs.declared.live.Closing.{Closing}
 use Rattle.t5250.specs.declared.live.Closing.TheVariants.{Nothing, Done, Declined, Late, Ended, Stopped}
 
@@ -30,16 +35,21 @@ abbrev pub given_text : Result (Option SendFault) Fault → List ℕ
 given_text (Ok (Some why)) = event_text (SendRefused why)
 given_text given = []
 
+-- what it does: a send of Cancel Invite is a cancel
+abbrev pub deed_of : Order → Order
+deed_of (Send CancelInvite body) = Cancel
+deed_of order = order
+
 module _ {S K : Type 0} (takes : MayTake K) (failures : K → ℕ) (gives : MayGive S) (misses : S → ℕ) where
   abbrev pub Parts : Type 0
   Parts = AttachedParts HostParts S K
 
   -- what the host end was told to do: it was written, or refused, and nothing is changed, or a write failed
   abbrev pub IsGiven : Order → Parts → Result (Option SendFault) Fault → Parts → Type 0
-  IsGiven order from (Ok refused) to = HaveLed HostGoes HostRefuses takes failures gives misses from to (Did order ∷ []) []
+  IsGiven order from (Ok refused) to = HaveLed HostGoes HostRefuses takes failures gives misses from to (Did (deed_of order) ∷ []) []
       × IfSome refused (λ why. to ≡ from)
   IsGiven order from (Err why) to = (why ≡ fault.Write)
-      × HaveLedUnwritten HostGoes HostRefuses takes failures gives misses from to (Did order ∷ [])
+      × HaveLedUnwritten HostGoes HostRefuses takes failures gives misses from to (Did (deed_of order) ∷ [])
 
   -- the host end heard the station up to the first thing that it tells, which is printed
   abbrev pub HearsOne : Parts → Result Closing Fault → List ℕ → Parts → Type 0
@@ -64,3 +74,32 @@ module _ {S K : Type 0} (takes : MayTake K) (failures : K → ℕ) (gives : MayG
   HostRuns (Give order) from outcome text to = (given : Result (Option SendFault) Fault) × IsGiven order from given to
       × (outcome ≡ given_outcome given) × (text ≡ given_text given)
   HostRuns Await from outcome text to = HearsOne from outcome text to
+
+  module _ {O : Type 0} (prints : MayTake O) (misprints : O → ℕ) (from to : Parts) (old new : O) where
+    -- behind a script: things were told and printed, and then this came
+    pub record AnswersOn (outcome : Result Closing Fault) (text : List ℕ) : Type 0 where
+      pub count : ℕ
+      pub printed : List ℕ
+      pub mid : Parts
+      pub ran : HaveRun HostRuns false from (replicate count Await) true printed mid
+      pub last : List ℕ
+      pub came : HearsOne mid outcome last to
+      pub all : text ≡ printed ++ last
+
+    -- the station closed, the wait was over, or a byte was refused; what was told is printed
+    pub record HasAnsweredOn (all_well : Bool) : Type 0 where
+      pub closing : Closing
+      pub text : List ℕ
+      pub answers : AnswersOn (Ok closing) text
+      pub out : WentOut prints misprints old new text
+      pub over : closing ≢ Done
+      pub well : all_well ≡ not (stops closing)
+
+    -- a device or memory failed, or what was told didn't go out, or too much was told
+    abbrev pub IsAnswerOnFault : Fault → Type 0
+    IsAnswerOnFault why = ((text : List ℕ) × (output : Output) × AnswersOn (Err why) text
+        × IsOut prints misprints old new output text)
+        ⊎ (((why ≡ fault.Write) × ((closing : Closing) × (text : List ℕ) × AnswersOn (Ok closing) text
+        × FailedWithin prints misprints old new text))
+        ⊎ ((why ≡ fault.Read) × ((text : List ℕ) × HaveRun HostRuns false from (replicate most_reads Await) true text to
+        × WentOut prints misprints old new text)))

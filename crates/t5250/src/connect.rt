@@ -1,4 +1,6 @@
-ghost use Rattle.t5250.specs.ConnectText.{StationRuns};
+ghost use Rattle.std.specs.Prelude.{◌≡◌, List, ℕ, true, false};
+ghost use Rattle.t5250.specs.ConnectText as Spec;
+ghost use Rattle.t5250.specs.Printing.{Prints};
 
 use crate::connect_line::{Awaited, StationLine};
 use crate::field_lines::put_field_lines;
@@ -21,7 +23,7 @@ enum Waited {
 }
 
 impl<S: Source, K: Sink> LiveMove<Station, S, K> for StationLine {
-    ghost runs = { StationRuns K.takes K.failures S.gives S.failures };
+    ghost runs = { Spec.StationRuns K.takes K.failures S.gives S.failures };
 
     fn carry_out<W: Watch, O: Sink>(
         &self,
@@ -55,7 +57,11 @@ fn press_keys<S: Source, K: Sink, O: Sink>(
     keys: &[Key],
     out: &mut O,
     output: Output,
-) -> Carried {
+) -> Carried
+    ensures { (text : List ℕ) × Spec.KeysRun K.takes K.failures S.gives S.failures keys.now
+        attached.old result.outcome text attached.new
+        × Prints O.takes O.failures out.old out.new output result.output text }
+{
     let mut output = output;
     let mut closing = Closing::Done;
     for key in keys {
@@ -76,23 +82,28 @@ fn wait<S: Source, K: Sink, W: Watch>(
     attached: &mut Attached<Station, S, K>,
     watch: &W,
     awaited: &Awaited,
-) -> Waited {
+) -> Waited
+    ensures { Spec.IsWaited K.takes K.failures S.gives S.failures awaited.now
+        attached.old result attached.new }
+{
     watch.begin();
     match awaited {
         Awaited::Record => hear_record(attached, watch),
-        Awaited::Unlocked => wait_for(attached, watch, None),
-        Awaited::Text(text) => wait_for(attached, watch, Some(text.as_str())),
+        _ => wait_for(attached, watch, awaited),
     }
 }
 
-// Takes records, until the keyboard is unlocked, or some row shows the text.
+// Takes records, until what is awaited holds.
 fn wait_for<S: Source, K: Sink, W: Watch>(
     attached: &mut Attached<Station, S, K>,
     watch: &W,
-    text: Option<&str>,
-) -> Waited {
+    awaited: &Awaited,
+) -> Waited
+    ensures { Spec.WaitsFor K.takes K.failures S.gives S.failures (Spec.IsMet awaited.now)
+        attached.old result attached.new }
+{
     for _ in 0..4_294_967_296u64 {
-        if is_met(attached.end().screen(), text) {
+        if is_met(attached.end().screen(), awaited) {
             return Waited::Met;
         }
         match hear_record(attached, watch) {
@@ -103,16 +114,23 @@ fn wait_for<S: Source, K: Sink, W: Watch>(
     Waited::Failed(Fault::Read)
 }
 
-// Whether the keyboard is unlocked, or some row shows the text.
-fn is_met(screen: &Screen, text: Option<&str>) -> bool {
-    match text {
-        None => !screen.locked(),
-        Some(text) => shows(screen, text),
+// Whether what is awaited holds; a record is awaited by itself.
+fn is_met(screen: &Screen, awaited: &Awaited) -> bool
+    ensures met { result ≡ true → Spec.IsMet awaited.now screen.now }
+    ensures unmet { result ≡ false → Spec.IsMet awaited.now screen.now → ⊥ }
+{
+    match awaited {
+        Awaited::Unlocked => !screen.locked(),
+        Awaited::Text(text) => shows(screen, text.as_str()),
+        Awaited::Record => true,
     }
 }
 
 // Whether some row shows the text.
-fn shows(screen: &Screen, text: &str) -> bool {
+fn shows(screen: &Screen, text: &str) -> bool
+    ensures shown { result ≡ true → Spec.ShowsText screen.now.cells text.now }
+    ensures unshown { result ≡ false → Spec.ShowsText screen.now.cells text.now → ⊥ }
+{
     for row in 1..=ROWS {
         if screen.line(row).as_str().contains(text) {
             return true;
@@ -125,7 +143,10 @@ fn shows(screen: &Screen, text: &str) -> bool {
 fn hear_record<S: Source, K: Sink, W: Watch>(
     attached: &mut Attached<Station, S, K>,
     watch: &W,
-) -> Waited {
+) -> Waited
+    ensures { Spec.HearsOne K.takes K.failures S.gives S.failures
+        attached.old result attached.new }
+{
     match attached.hear() {
         Ok(Some(_)) => Waited::Met,
         Ok(None) => Waited::Ended,
@@ -134,7 +155,11 @@ fn hear_record<S: Source, K: Sink, W: Watch>(
     }
 }
 
-fn put_waited<O: Sink>(out: &mut O, output: Output, waited: Waited) -> Carried {
+fn put_waited<O: Sink>(out: &mut O, output: Output, waited: Waited) -> Carried
+    ensures outcome { result.outcome ≡ Spec.waited_outcome waited }
+    ensures text { Prints O.takes O.failures out.old out.new output result.output
+        (Spec.waited_text waited) }
+{
     match waited {
         Waited::Met => Carried { output, outcome: Ok(Closing::Done) },
         Waited::Late => Carried { output, outcome: Ok(Closing::Late) },

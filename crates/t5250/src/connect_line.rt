@@ -1,4 +1,4 @@
-ghost use Rattle.std.specs.Prelude.{◌≡◌, ◌++◌, ◌<◌, List as Seq, true, length, codes, IfOk, IfErr};
+ghost use Rattle.std.specs.Prelude.{◌≡◌, ◌++◌, ◌<◌, true, length, codes, IfOk, IfErr};
 ghost use Rattle.t5250.specs.ConnectLines as Spec;
 ghost use Rattle.t5250.specs.ConnectLines.{IsStationLine};
 ghost use Rattle.t5250.specs.ScriptFaults.{IsLineFault, IsNoComment, has_no_blank};
@@ -59,7 +59,13 @@ impl LiveLine for StationLine {
 }
 
 // A line that is one word.
-fn read_word(word: &str) -> Result<StationLine, LineFault> {
+fn read_word(word: &str) -> Result<StationLine, LineFault>
+    requires some { 0 < length word.now }
+    requires no_blank { has_no_blank word.now ≡ true }
+    requires no_comment { IsNoComment word.now }
+    ensures line { IfOk result (Spec.Means word.now) }
+    ensures fault { IfErr result (IsLineFault (Spec.Means word.now)) }
+{
     match word {
         "await" => Ok(StationLine::Await(Awaited::Unlocked)),
         "fields" => Ok(StationLine::Fields),
@@ -69,7 +75,13 @@ fn read_word(word: &str) -> Result<StationLine, LineFault> {
 }
 
 // A command with words behind its blank.
-fn read_command(alloc: Global, command: &str, words: &str) -> Result<StationLine, LineFault> {
+fn read_command(alloc: Global, command: &str, words: &str) -> Result<StationLine, LineFault>
+    requires no_blank { has_no_blank command.now ≡ true }
+    requires no_comment { IsNoComment (command.now ++ codes " " ++ words.now) }
+    ensures line { IfOk result (Spec.Means (command.now ++ codes " " ++ words.now)) }
+    ensures fault { IfErr result
+        (IsLineFault (Spec.Means (command.now ++ codes " " ++ words.now))) }
+{
     match command {
         "type" => Ok(StationLine::Press(typed_keys(alloc, words, false)?)),
         "insert" => Ok(StationLine::Press(typed_keys(alloc, words, true)?)),
@@ -80,7 +92,10 @@ fn read_command(alloc: Global, command: &str, words: &str) -> Result<StationLine
 }
 
 // A key for each character of a text.
-fn typed_keys(alloc: Global, text: &str, inserts: bool) -> Result<List<Key>, LineFault> {
+fn typed_keys(alloc: Global, text: &str, inserts: bool) -> Result<List<Key>, LineFault>
+    ensures keys { IfOk result (Spec.AreKeysOf inserts text.now) }
+    ensures fault { IfErr result (λ fault. fault ≡ LineFault.Memory) }
+{
     let mut keys = Vec::new(alloc);
     for character in text.chars() {
         add(&mut keys, typed_key(inserts, character))?;
@@ -89,7 +104,10 @@ fn typed_keys(alloc: Global, text: &str, inserts: bool) -> Result<List<Key>, Lin
 }
 
 // The key of this name.
-fn named_key(alloc: Global, name: &str) -> Result<List<Key>, LineFault> {
+fn named_key(alloc: Global, name: &str) -> Result<List<Key>, LineFault>
+    ensures keys { IfOk result (Spec.AreNamed name.now) }
+    ensures fault { IfErr result (IsLineFault (Spec.AreNamed name.now)) }
+{
     let Some(key) = key_named(name) else {
         return Err(LineFault::Bad);
     };
@@ -99,15 +117,21 @@ fn named_key(alloc: Global, name: &str) -> Result<List<Key>, LineFault> {
 }
 
 // What is waited for: a record, or a text of one character at least.
-fn read_awaited(alloc: Global, words: &str) -> Result<Awaited, LineFault> {
+fn read_awaited(alloc: Global, words: &str) -> Result<Awaited, LineFault>
+    ensures awaited { IfOk result (Spec.IsAwaited words.now) }
+    ensures fault { IfErr result (IsLineFault (Spec.IsAwaited words.now)) }
+{
     if words == "record" {
         return Ok(Awaited::Record);
     }
-    match split_word(words) {
-        Some(("text", text)) if !text.is_empty() => match String::from_str(alloc, text) {
-            Ok(text) => Ok(Awaited::Text(text)),
-            Err(_) => Err(LineFault::Memory),
-        },
-        _ => Err(LineFault::Bad),
+    let Some(text) = words.strip_prefix("text ") else {
+        return Err(LineFault::Bad);
+    };
+    if text.is_empty() {
+        return Err(LineFault::Bad);
+    }
+    match String::from_str(alloc, text) {
+        Ok(text) => Ok(Awaited::Text(text)),
+        Err(_) => Err(LineFault::Memory),
     }
 }

@@ -1,14 +1,24 @@
+ghost use Rattle.std.specs.Prelude.{◌≡◌, ◌≤◌, ◌<◌, ◌+◌, List, ℕ, slice_index, if◌then◌else◌};
+ghost use Rattle.ws_screen.specs.Lines as Shown;
+ghost use Rattle.ws_stream.specs.FieldOrder as Attribute;
+ghost use Rattle.t5250.specs.FieldLines as Spec;
+ghost use Rattle.t5250.specs.Printing.{Prints};
+ghost use Rattle.t5250.specs.ScreenLines.{IsWithoutLastBlanks};
+
 use crate::output::{Output, put_cell, put_hex, put_number, put_text};
 use arrayvec::ArrayString;
 use ws_code::{Address, CELLS, Sink, ebcdic};
 use ws_screen::{Field, Screen};
 
-// The most bytes of a field's text: two for each cell.
+// The most bytes of a field's text: two for each cell of a screen.
 const MAX_TEXT: usize = 3840;
 
 /// Writes a line for each field: its first cell, its length and its format word, and the text that it shows, where it
 /// shows any, without the blanks at its end.
-pub fn put_field_lines<O: Sink>(out: &mut O, output: Output, screen: &Screen) -> Output {
+pub fn put_field_lines<O: Sink>(out: &mut O, output: Output, screen: &Screen) -> Output
+    ensures { (lines : List ℕ) × Spec.AreFieldLines screen.now lines
+        × Prints O.takes O.failures out.old out.new output result lines }
+{
     let fields = screen.fields();
     let mut output = output;
     for field in fields.as_slice() {
@@ -17,7 +27,11 @@ pub fn put_field_lines<O: Sink>(out: &mut O, output: Output, screen: &Screen) ->
     output
 }
 
-fn put_field_line<O: Sink>(out: &mut O, output: Output, screen: &Screen, field: &Field) -> Output {
+fn put_field_line<O: Sink>(out: &mut O, output: Output, screen: &Screen, field: &Field) -> Output
+    requires { field.now.start + field.now.length ≤ CELLS }
+    ensures { (shown : List ℕ) × IsWithoutLastBlanks (Spec.shown_of screen.now.cells field.now) shown
+        × Prints O.takes O.failures out.old out.new output result (Spec.field_line field.now shown) }
+{
     let output = put_text(out, output, "field ");
     let output = put_cell(out, output, field.start);
     let output = put_text(out, output, " ");
@@ -30,7 +44,9 @@ fn put_field_line<O: Sink>(out: &mut O, output: Output, screen: &Screen, field: 
 }
 
 // Writes a blank and the text, where there is any.
-fn put_behind_blank<O: Sink>(out: &mut O, output: Output, text: &str) -> Output {
+fn put_behind_blank<O: Sink>(out: &mut O, output: Output, text: &str) -> Output
+    ensures { Prints O.takes O.failures out.old out.new output result (Spec.behind_blank text.now) }
+{
     if text.is_empty() {
         return put_text(out, output, "");
     }
@@ -38,28 +54,55 @@ fn put_behind_blank<O: Sink>(out: &mut O, output: Output, text: &str) -> Output 
     put_text(out, output, text)
 }
 
-// The characters that a field's cells show.
-fn field_text(screen: &Screen, field: &Field) -> ArrayString<MAX_TEXT> {
+// What a field's cells show.
+fn field_text(screen: &Screen, field: &Field) -> ArrayString<MAX_TEXT>
+    requires { field.now.start + field.now.length ≤ CELLS }
+    ensures { result.bytes ≡ Spec.shown_of screen.now.cells field.now }
+{
+    let start = field.start.place();
     let mut text = ArrayString::new();
-    let mut hidden = false;
-    for place in 0..CELLS {
-        let Some(at) = Address::at(place) else {
-            return text;
-        };
-        let byte = screen.cell(at);
-        if place >= field.start.place() && place - field.start.place() < field.length {
-            text.push(shown_unless(hidden, byte));
-        }
+    let mut hidden = is_hidden(screen, start);
+    for place in start..start + field.length {
+        let byte = byte_at(screen, place);
+        text.push(shown_unless(hidden, byte));
         hidden = hides_after(byte, hidden);
     }
     text
 }
 
-fn is_attribute(byte: u8) -> bool {
+// Whether a cell is hidden: by the attribute nearest before it.
+fn is_hidden(screen: &Screen, end: u16) -> bool
+    requires { end ≤ CELLS }
+    ensures { result ≡ Shown.is_hidden screen.now.cells end }
+{
+    let mut hidden = false;
+    for place in 0..end {
+        hidden = hides_after(byte_at(screen, place), hidden);
+    }
+    hidden
+}
+
+// The byte of the cell at a place.
+fn byte_at(screen: &Screen, place: u16) -> u8
+    requires { place < CELLS }
+    ensures { result ≡ slice_index screen.now.cells place }
+{
+    match Address::at(place) {
+        Some(at) => screen.cell(at),
+        None => 0,
+    }
+}
+
+fn is_attribute(byte: u8) -> bool
+    ensures { result ≡ Attribute.is_attribute byte }
+{
     byte >= 0x20 && byte < 0x40
 }
 
-fn hides_after(byte: u8, hidden: bool) -> bool {
+// Whether the cells behind a byte are hidden, if the byte itself is or isn't.
+fn hides_after(byte: u8, hidden: bool) -> bool
+    ensures { result ≡ (if Attribute.is_attribute byte then Shown.hides byte else hidden) }
+{
     if is_attribute(byte) {
         byte % 8 == 7
     } else {
@@ -67,15 +110,24 @@ fn hides_after(byte: u8, hidden: bool) -> bool {
     }
 }
 
-fn shown_unless(hidden: bool, byte: u8) -> char {
-    if hidden { ' ' } else { shown_char(byte) }
-}
-
 // The character that a byte shows.
-fn shown_char(byte: u8) -> char {
+fn shown_char(byte: u8) -> char
+    ensures value { result ≡ Shown.shown_char byte }
+    ensures latin { result < 256 }
+{
     match byte {
         0x00 | 0x20..=0x3F => ' ',
-        0x1c => '*',
-        _ => ebcdic::to_char(byte).unwrap_or('.'),
+        0x1C => '*',
+        _ => match ebcdic::to_char(byte) {
+            Some(character) => character,
+            None => '.',
+        },
     }
+}
+
+fn shown_unless(hidden: bool, byte: u8) -> char
+    ensures value { result ≡ (if hidden then 0x20 else Shown.shown_char byte) }
+    ensures latin { result < 256 }
+{
+    if hidden { ' ' } else { shown_char(byte) }
 }

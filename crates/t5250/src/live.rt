@@ -115,9 +115,9 @@ pub fn carry_lines<E, S, K, L: LiveMove<E, S, K>, W: Watch, O: Sink>(
     ready: bool,
     out: &mut O,
 ) -> Result<Ran, RunFault>
-    ensures ran { IfOk result (Spec.HasRun L.runs O.takes O.failures ready
+    ensures ran { IfOk result (Spec.HasRun L.runs ready O.takes O.failures
         attached.old attached.new out.old out.new lines.now) }
-    ensures fault { IfErr result (Spec.IsLiveFault L.runs O.takes O.failures ready
+    ensures fault { IfErr result (Spec.IsLiveFault L.runs ready O.takes O.failures
         attached.old attached.new out.old out.new lines.now) }
 {
     let mut ran = Ran::none();

@@ -1,4 +1,6 @@
 //! The two directions of a connection, each with a time.
+ghost use Rattle.std.specs.Io.{ReadsAtMost, WritesAtMost};
+
 use crate::live::Watch;
 use std::cell::Cell;
 use std::io;
@@ -82,7 +84,9 @@ impl<'a, C: Clock> TimedReader<'a, C> {
         TimedReader { stream, timer }
     }
 
-    fn read_in_time(&self, into: &mut [u8]) -> io::Result<usize> {
+    fn read_in_time(&self, into: &mut [u8]) -> io::Result<usize>
+        ensures { ReadsAtMost result into.new }
+    {
         let Some(left) = self.timer.left() else {
             return Err(no_time());
         };
@@ -129,7 +133,9 @@ impl<'a, C: Clock> TimedWriter<'a, C> {
         }
     }
 
-    fn write_in_time(&self, bytes: &[u8]) -> io::Result<usize> {
+    fn write_in_time(&self, bytes: &[u8]) -> io::Result<usize>
+        ensures { WritesAtMost result bytes.now }
+    {
         let Some(left) = time_left(self.timer.clock, self.until) else {
             return Err(no_time());
         };

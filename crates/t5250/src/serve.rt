@@ -1,4 +1,6 @@
-ghost use Rattle.t5250.specs.ServeText.{HostRuns};
+ghost use Rattle.std.specs.Prelude.{◌≡◌, List, ℕ, IfOk, IfErr};
+ghost use Rattle.t5250.specs.ServeText as Spec;
+ghost use Rattle.t5250.specs.Printing.{Prints};
 
 use crate::live::{Carried, Closing, LiveMove, Ran, Watch};
 use crate::output::Output;
@@ -9,7 +11,7 @@ use ws_record::Opcode;
 use ws_session::{Attached, Event, HostEnd, Order, SendFault};
 
 impl<S: Source, K: Sink> LiveMove<HostEnd, S, K> for HostLine {
-    ghost runs = { HostRuns K.takes K.failures S.gives S.failures };
+    ghost runs = { Spec.HostRuns K.takes K.failures S.gives S.failures };
 
     fn carry_out<W: Watch, O: Sink>(
         &self,
@@ -33,14 +35,25 @@ impl<S: Source, K: Sink> LiveMove<HostEnd, S, K> for HostLine {
 fn give<S: Source, K: Sink>(
     attached: &mut Attached<HostEnd, S, K>,
     order: &Order,
-) -> Result<Option<SendFault>, Fault> {
+) -> Result<Option<SendFault>, Fault>
+    ensures { Spec.IsGiven K.takes K.failures S.gives S.failures order.now
+        attached.old result attached.new }
+{
     match order {
         Order::Cancel | Order::Send(Opcode::CancelInvite, _) => attached.cancel(),
         Order::Send(opcode, body) => attached.send(*opcode, body.as_slice()),
     }
 }
 
-fn put_given<O: Sink>(out: &mut O, output: Output, given: Result<Option<SendFault>, Fault>) -> Carried {
+fn put_given<O: Sink>(
+    out: &mut O,
+    output: Output,
+    given: Result<Option<SendFault>, Fault>,
+) -> Carried
+    ensures outcome { result.outcome ≡ Spec.given_outcome given }
+    ensures text { Prints O.takes O.failures out.old out.new output result.output
+        (Spec.given_text given) }
+{
     match given {
         Ok(None) => Carried { output, outcome: Ok(Closing::Done) },
         Ok(Some(fault)) => Carried {
@@ -57,7 +70,11 @@ fn hear_event<S: Source, K: Sink, W: Watch, O: Sink>(
     watch: &W,
     out: &mut O,
     output: Output,
-) -> Carried {
+) -> Carried
+    ensures { (text : List ℕ) × Spec.HearsOne K.takes K.failures S.gives S.failures
+        attached.old result.outcome text attached.new
+        × Prints O.takes O.failures out.old out.new output result.output text }
+{
     match attached.hear() {
         Ok(Some(event)) => Carried {
             output: put_event(out, output, &Event::Host(event)),
@@ -75,11 +92,19 @@ fn hear_event<S: Source, K: Sink, W: Watch, O: Sink>(
 
 /// Answers a station on, and prints what the host end tells, until the station closes the connection, the wait is over,
 /// or a byte is refused: true where none is.
+///
+/// `Write` where the sink or the connection failed, `Read` where a read failed, though not for want of time, or
+/// 4,294,967,296 things were told; `Memory` where a growth was refused.
 pub fn answer_on<S: Source, K: Sink, W: Watch, O: Sink>(
     attached: &mut Attached<HostEnd, S, K>,
     watch: &W,
     out: &mut O,
-) -> Result<bool, Fault> {
+) -> Result<bool, Fault>
+    ensures answered { IfOk result (Spec.HasAnsweredOn K.takes K.failures S.gives S.failures
+        O.takes O.failures attached.old attached.new out.old out.new) }
+    ensures fault { IfErr result (Spec.IsAnswerOnFault K.takes K.failures S.gives S.failures
+        O.takes O.failures attached.old attached.new out.old out.new) }
+{
     watch.begin();
     for _ in 0..4_294_967_296u64 {
         let carried = hear_event(attached, watch, out, Output::Open);

@@ -1,6 +1,7 @@
-ghost use Rattle.std.specs.Prelude.{◌≡◌, ◌++◌, List as Seq, codes, IfOk, IfErr};
+ghost use Rattle.std.specs.Prelude.{◌≡◌, ◌++◌, ◌<◌, true, length, codes, IfOk, IfErr};
 ghost use Rattle.t5250.specs.ServeLines.{IsHostLine};
-ghost use Rattle.t5250.specs.ScriptFaults.{IsLineFault, has_no_blank};
+ghost use Rattle.t5250.specs.ServeLines as Spec;
+ghost use Rattle.t5250.specs.ScriptFaults.{IsLineFault, IsNoComment, has_no_blank};
 
 use crate::live_line::LiveLine;
 use crate::script_line::LineFault;
@@ -35,14 +36,19 @@ impl LiveLine for HostLine {
         }
         match split_word(text) {
             None => read_word(text),
-            Some(("send", words)) => read_send(alloc, words),
-            Some(_) => Err(LineFault::Bad),
+            Some((command, words)) => read_command(alloc, command, words),
         }
     }
 }
 
 // A line that is one word.
-fn read_word(word: &str) -> Result<HostLine, LineFault> {
+fn read_word(word: &str) -> Result<HostLine, LineFault>
+    requires some { 0 < length word.now }
+    requires no_blank { has_no_blank word.now ≡ true }
+    requires no_comment { IsNoComment word.now }
+    ensures line { IfOk result (Spec.Means word.now) }
+    ensures fault { IfErr result (IsLineFault (Spec.Means word.now)) }
+{
     match word {
         "await" => Ok(HostLine::Await),
         "cancel" => Ok(HostLine::Give(Order::Cancel)),
@@ -50,8 +56,24 @@ fn read_word(word: &str) -> Result<HostLine, LineFault> {
     }
 }
 
-// A record to be sent, as in a script of both ends.
-fn read_send(alloc: Global, words: &str) -> Result<HostLine, LineFault> {
+// A command with words behind its blank: a record to be sent, as in a script of both ends.
+fn read_command(alloc: Global, command: &str, words: &str) -> Result<HostLine, LineFault>
+    requires no_blank { has_no_blank command.now ≡ true }
+    requires no_comment { IsNoComment (command.now ++ codes " " ++ words.now) }
+    ensures line { IfOk result (Spec.Means (command.now ++ codes " " ++ words.now)) }
+    ensures fault { IfErr result
+        (IsLineFault (Spec.Means (command.now ++ codes " " ++ words.now))) }
+{
+    match command {
+        "send" => read_send(alloc, words),
+        _ => Err(LineFault::Bad),
+    }
+}
+
+fn read_send(alloc: Global, words: &str) -> Result<HostLine, LineFault>
+    ensures line { IfOk result (Spec.Means (codes "send " ++ words.now)) }
+    ensures fault { IfErr result (IsLineFault (Spec.Means (codes "send " ++ words.now))) }
+{
     match read_move(alloc, "send", words) {
         Ok(Move::Send(opcode, body)) => Ok(HostLine::Give(Order::Send(opcode, body))),
         Ok(_) => Err(LineFault::Bad),
