@@ -6,6 +6,7 @@ Build the program first (`cd crates/t5250 && rt run -- check < stdin`), then cal
 """
 import os
 import resource
+import shutil
 import subprocess
 import sys
 import tempfile
@@ -148,6 +149,24 @@ def full_runs():
             yield f"{words} into a full device gave {done.returncode}, {done.stderr!r}"
 
 
+# Standard output is written in pieces of 4 KiB or more, as `strace` counts them, where it is there and may trace.
+def counted_runs(folder):
+    if shutil.which("strace") is None:
+        print("left out: writes aren't counted without strace")
+        return
+    log = os.path.join(folder, "writes")
+    for words, text in (["show"], HELLO * 500), (["play"], BOB + "key Tab\n" * 2000), (["check"], MANY):
+        traced = ["strace", "-o", log, "-e", "trace=write", PROGRAM, *words]
+        done = subprocess.run(traced, input=text, capture_output=True, text=True, timeout=60)
+        if not os.path.exists(log):
+            print("left out: strace can't trace here")
+            return
+        with open(log) as file:
+            writes = sum(line.startswith("write(1,") for line in file)
+        if done.stdout == "" or writes > len(done.stdout.encode()) // 4096 + 1:
+            yield f"{words} made {writes} writes for {len(done.stdout)} characters"
+
+
 # Standard input can't be read: it is a folder.
 def closed_runs(folder):
     for words in ["check"], ["show"], ["play"]:
@@ -191,13 +210,14 @@ def main():
         wrong = [
             *plain_runs(folder),
             *full_runs(),
+            *counted_runs(folder),
             *closed_runs(folder),
             *example_runs(),
             *small_runs(folder),
         ]
     for line in wrong:
         print(line)
-    print(f"{len(RUNS) + 14 - len(wrong)} runs as wanted, {len(wrong)} not")
+    print(f"{len(RUNS) + 17 - len(wrong)} runs as wanted, {len(wrong)} not")
     sys.exit(1 if wrong else 0)
 
 

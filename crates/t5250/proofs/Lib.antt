@@ -1,3 +1,4 @@
+pub mod Buffers
 pub mod CheckLemmas
 pub mod FrontItems
 pub mod HexDigits

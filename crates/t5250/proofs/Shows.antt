@@ -4,7 +4,7 @@ use Rattle.std.specs.List.{flat_map, AllByRecursion}
 use Rattle.std.proofs.Math.Seq.{take-append-add}
 use Rattle.std.proofs.lemmas.List.{append-nil, take_all}
 use Rattle.std.proofs.lemmas.Grind.{flat_map-append}
-use Rattle.ws_code.specs.Device.{MayTake, WentOut}
+use Rattle.ws_code.specs.Device.{MayTake, WentOut, FailedWithin}
 use Rattle.ws_code.proofs.DeviceLaws.{went_out_both}
 use Rattle.ws_code.specs.declared.fault.Fault.{Fault}
 use Rattle.ws_code.specs.declared.fault.Fault.TheVariants as faults
@@ -29,7 +29,6 @@ use Rattle.t5250.specs.declared.verdict.Verdict.TheVariants.{Refused, Truncated}
 use Rattle.t5250.specs.CheckLine.{line_of, verdict_by}
 use Rattle.t5250.specs.ItemLines.{item_text}
 use Rattle.t5250.specs.ScreenLines.{IsScreenText}
-use Rattle.t5250.specs.Printing.{IsTextFault}
 use Rattle.t5250.specs.StreamText.{Placed, items_of, lines_of, after_item, item_fault, after_items, HoldsItems, IsComplete, AreShown, IsShown, IsPart, IsShowFault, IsStop, IsWholeItem, HasTaken, HasBegun, IsNextItem, IsNext, IsNextFault}
 
 -- Items that are shown one after another.
@@ -224,14 +223,9 @@ module _ {bytes lines : List ℕ} {receiver : Receiving Place Element} {screen :
 
 module _ {S : Type 0} (takes : MayTake S) (failures : S → ℕ) (from : S) where
   -- what comes behind lines that went out doesn't go out whole
-  pub text_fails : (bytes lines : List ℕ) (mid to : S) (IsText : List ℕ → Type 0) → IsPart bytes lines → WentOut takes failures from mid lines → ((text : List ℕ) → IsText text → IsPart bytes (lines ++ text) ⊎ ((accepted : Bool) × IsShown bytes accepted (lines ++ text)))
-      → (fault : Fault) → IsTextFault takes failures mid to IsText fault → IsShowFault takes failures from to bytes fault
-  text_fails bytes lines mid to IsText p w shown faults.Memory f = (lines, p, subst (λ (z : S). WentOut takes failures from z lines) (sym f) w)
-  text_fails bytes lines mid to IsText p w shown faults.Write f = (lines ++ f.0, shown f.0 f.1, fails_last takes failures from mid to lines f.0 w f.2)
-  text_fails bytes lines mid to IsText p w shown (faults.Refused place reason) f = absurd f
-  text_fails bytes lines mid to IsText p w shown (faults.Truncated n) f = absurd f
-  text_fails bytes lines mid to IsText p w shown faults.Read f = absurd f
-  text_fails bytes lines mid to IsText p w shown faults.Failed f = absurd f
+  pub text_fails : (bytes lines text : List ℕ) (mid to : S) → WentOut takes failures from mid lines → IsPart bytes (lines ++ text) ⊎ ((accepted : Bool) × IsShown bytes accepted (lines ++ text))
+      → (fault : Fault) → (fault ≡ faults.Write) × FailedWithin takes failures mid to text → IsShowFault takes failures from to bytes fault
+  text_fails bytes lines text mid to w shown fault f = rw f.0 (lines ++ text, shown, fails_last takes failures from mid to lines text w f.1)
 
   module _ {bytes lines : List ℕ} {receiver : Receiving Place Element} {screen : ScreenParts} (w : Shows bytes receiver screen lines) (to : S) where
     -- nothing comes next
@@ -257,10 +251,5 @@ module _ {S : Type 0} (takes : MayTake S) (failures : S → ℕ) (from : S) wher
     stops_unapplied mid x reason went c more found = (refl, (lines ++ item_text x.0 x.1, part_more w x c, went_out_both takes failures from mid to lines (item_text x.0 x.1) went more, unapplied w x reason c found))
 
     -- the next item's lines don't go out whole
-    pub stops_at_item : (mid : S) (x : Placed) → WentOut takes failures from mid lines → IsComplete bytes (items_of w.placed) x → (fault : Fault) → IsTextFault takes failures mid to (λ text. text ≡ item_text x.0 x.1) fault → IsStop takes failures from to bytes (verdict_by fault)
-    stops_at_item mid x went c faults.Memory f = text_fails bytes lines mid to (λ text. text ≡ item_text x.0 x.1) (part w) went (λ text is. inl (subst (λ (z : List ℕ). IsPart bytes (lines ++ z)) (sym is) (part_more w x c))) faults.Memory f
-    stops_at_item mid x went c faults.Write f = text_fails bytes lines mid to (λ text. text ≡ item_text x.0 x.1) (part w) went (λ text is. inl (subst (λ (z : List ℕ). IsPart bytes (lines ++ z)) (sym is) (part_more w x c))) faults.Write f
-    stops_at_item mid x went c (faults.Refused place reason) f = absurd f
-    stops_at_item mid x went c (faults.Truncated n) f = absurd f
-    stops_at_item mid x went c faults.Read f = absurd f
-    stops_at_item mid x went c faults.Failed f = absurd f
+    pub stops_at_item : (mid : S) (x : Placed) → WentOut takes failures from mid lines → IsComplete bytes (items_of w.placed) x → (fault : Fault) → (fault ≡ faults.Write) × FailedWithin takes failures mid to (item_text x.0 x.1) → IsStop takes failures from to bytes (verdict_by fault)
+    stops_at_item mid x went c fault f = rw f.0 (text_fails bytes lines (item_text x.0 x.1) mid to went (inl (part_more w x c)) faults.Write (refl, f.1))

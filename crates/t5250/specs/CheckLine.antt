@@ -5,6 +5,7 @@ use Rattle.std.specs.Fmt.{decimal}
 use Rattle.ws_code.specs.Code.{Rules}
 use Rattle.ws_code.specs.declared.fault.Fault.{Fault}
 use Rattle.ws_code.specs.declared.fault.Fault.TheVariants as faults
+use Rattle.ws_code.specs.declared.reason.Reason.{Reason}
 use Rattle.ws_code.specs.Reason.{number_of, name_of}
 use Rattle.ws_record.specs.declared.record.Item.{Item}
 use Rattle.ws_record.specs.declared.record.Item.TheVariants.{Record, Telnet}
@@ -36,12 +37,16 @@ is_accepted (Accepted records commands) = true
 is_accepted (Refused place reason) = false
 is_accepted (Truncated n) = false
 
+-- a byte's place, and for what reason it is refused, up to the line's end
+abbrev pub place_and_reason : ℕ → Reason → List ℕ
+place_and_reason place reason = decimal place ++ codes ": reason " ++ decimal (number_of reason) ++ codes " "
+    ++ name_of reason ++ 10 ∷ []
+
 -- the line that says it, of so many bytes
 abbrev pub line_of : Verdict → ℕ → List ℕ
 line_of (Accepted records commands) size = codes "accepted: " ++ decimal records ++ codes " records, "
     ++ decimal commands ++ codes " commands, " ++ decimal size ++ (codes " bytes" ++ 10 ∷ [])
-line_of (Refused place reason) size = codes "refused at " ++ decimal place ++ codes ": reason "
-    ++ decimal (number_of reason) ++ codes " " ++ name_of reason ++ 10 ∷ []
+line_of (Refused place reason) size = codes "refused at " ++ place_and_reason place reason
 line_of (Truncated n) size = codes "truncated at " ++ decimal n ++ 10 ∷ []
 
 -- the verdict that a receiver's fault is, where it is one

@@ -1,4 +1,5 @@
 pub mod Answering
+pub mod Buffering
 pub mod CheckLine
 pub mod Checking
 pub mod HexText

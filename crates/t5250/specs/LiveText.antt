@@ -81,6 +81,19 @@ module _ {L P : Type 0} (runs : L → P → Result Closing Fault → List ℕ �
       ⊎ (IsStoppedAt from lines (Ok Stopped) text to × (ran ≡ ran_by Stopped))
 
   module _ {O : Type 0} (takes : MayTake O) (failures : O → ℕ) (from to : P) (old new : O) where
+    -- a line was carried out, and what it printed went out
+    abbrev pub HasCarried : L → Closing → Type 0
+    HasCarried line closing = (text : List ℕ) × runs line from (Ok closing) text to
+        × WentOut takes failures old new (text ++ closing_text ready closing)
+
+    -- a line's text didn't go out whole, or an end's device failed, or memory: the text so far went out then, or a
+    -- prefix of it
+    abbrev pub IsCarryFault : L → RunFault → Type 0
+    IsCarryFault line fault = ((fault ≡ Write) × ((closing : Closing) × (text : List ℕ) × runs line from (Ok closing) text to
+        × FailedWithin takes failures old new (text ++ closing_text ready closing)))
+        ⊎ ((why : Fault) × (text : List ℕ) × (output : Output) × runs line from (Err why) text to
+        × IsOut takes failures old new output text × (fault ≡ run_fault why))
+
     -- the lines were carried out, and what they printed went out
     abbrev pub HasRun : List L → Ran → Type 0
     HasRun lines ran = (text : List ℕ) × IsLiveText from lines ran text to × WentOut takes failures old new text

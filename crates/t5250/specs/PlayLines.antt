@@ -5,7 +5,7 @@ use Rattle.std.specs.List.{flat_map, list_all}
 use Rattle.std.specs.Fmt.{decimal}
 use Rattle.hex.specs.Hex.{encode_upper}
 use Rattle.ws_code.specs.declared.reason.Reason.{Reason}
-use Rattle.ws_code.specs.Reason.{number_of, name_of as reason_name}
+use Rattle.ws_code.specs.Reason.{number_of}
 use Rattle.ws_nego.specs.Terminal.{name_of as terminal_name}
 use Rattle.ws_screen.specs.ScreenParts.{ScreenParts}
 use Rattle.ws_keys.specs.declared.key.KeyRefusal.{KeyRefusal}
@@ -24,6 +24,7 @@ use Rattle.ws_session.specs.declared.send_fault.SendFault.TheVariants.{Memory}
 use Rattle.ws_session.specs.declared.world.Event.{Event}
 use Rattle.ws_session.specs.declared.world.Event.TheVariants.{Host, KeyRefused, SendRefused, StationRefused}
 use Rattle.ws_session.specs.declared.world.Event.TheVariants.{HostRefused}
+use Rattle.t5250.specs.CheckLine.{place_and_reason}
 use Rattle.t5250.specs.ItemLines.{cell_text, hex_behind_blank}
 use Rattle.t5250.specs.ScreenLines.{IsScreenText}
 
@@ -67,8 +68,7 @@ send_fault_name Memory = codes "Memory"
 
 -- an end refuses a byte
 abbrev pub refused_text : ℕ → Reason → List ℕ
-refused_text place reason = codes " refused at " ++ decimal place ++ codes ": reason " ++ decimal (number_of reason)
-    ++ codes " " ++ reason_name reason ++ codes "\n"
+refused_text place reason = codes " refused at " ++ place_and_reason place reason
 
 -- an event
 abbrev pub event_text : Event → List ℕ

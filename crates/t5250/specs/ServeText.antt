@@ -19,6 +19,9 @@ use Rattle.ws_session.specs.declared.world.Event.TheVariants.{Host, SendRefused,
 use Rattle.t5250.specs.LiveText.{HaveRun, stops}
 use Rattle.t5250.specs.PlayLines.{event_text}
 use Rattle.t5250.specs.Printing.{IsOut}
+use Rattle.t5250.specs.RunFaults.{run_fault}
+use Rattle.t5250.specs.declared.fault.RunFault.{RunFault}
+use Rattle.t5250.specs.declared.fault.RunFault.TheVariants as run
 use Rattle.t5250.specs.declared.serve_line.HostLine.{HostLine}
 use Rattle.t5250.specs.declared.serve_line.HostLine.TheVariants.{Nothing as NoLine, Give, Await}
 use Rattle.t5250.specs.declared.output.Output.{Output}
@@ -96,10 +99,10 @@ module _ {S K : Type 0} (takes : MayTake K) (failures : K → ℕ) (gives : MayG
       pub well : all_well ≡ not (stops closing)
 
     -- a device or memory failed, or what was told didn't go out, or too much was told
-    abbrev pub IsAnswerOnFault : Fault → Type 0
-    IsAnswerOnFault why = ((text : List ℕ) × (output : Output) × AnswersOn (Err why) text
-        × IsOut prints misprints old new output text)
-        ⊎ (((why ≡ fault.Write) × ((closing : Closing) × (text : List ℕ) × AnswersOn (Ok closing) text
+    abbrev pub IsAnswerOnFault : RunFault → Type 0
+    IsAnswerOnFault told = ((why : Fault) × (text : List ℕ) × (output : Output) × AnswersOn (Err why) text
+        × IsOut prints misprints old new output text × (told ≡ run_fault why))
+        ⊎ (((told ≡ run.Write) × ((closing : Closing) × (text : List ℕ) × AnswersOn (Ok closing) text
         × FailedWithin prints misprints old new text))
-        ⊎ ((why ≡ fault.Read) × ((text : List ℕ) × HaveRun HostRuns false from (replicate most_reads Await) true text to
+        ⊎ ((told ≡ run.Read) × ((text : List ℕ) × HaveRun HostRuns false from (replicate most_reads Await) true text to
         × WentOut prints misprints old new text)))

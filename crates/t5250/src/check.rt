@@ -50,7 +50,7 @@ pub fn check_to<B: Body, S: Sink>(
     ensures fault { IfErr result
         (λ fault. IsCheckFault B.rules S.takes S.failures sink.old sink.new bytes.now fault) }
 {
-    verdict_of::<B>(alloc, bytes, cut)?.write_to(alloc, bytes.len(), sink)
+    verdict_of::<B>(alloc, bytes, cut)?.write_to(bytes.len(), sink)
 }
 
 // What holds of the bytes, read in pieces of a size.

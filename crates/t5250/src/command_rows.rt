@@ -1,8 +1,10 @@
-use crate::item_text::item_text;
+use crate::item_text::put_item;
+use crate::output::Output;
 use crate::vectors::{INVITE, PUT_FF, REFUSED_BODIES, Side, VECTORS};
 use std::alloc::{AllocError, Global};
+use std::str;
 use std::test::Fail;
-use ws_code::{Fault, SliceSource};
+use ws_code::{Fault, SliceSource, VecSink};
 use ws_record::{Fed, Item, Live, Receiver, Step, decode_all, decode_from};
 use ws_stream::{Commands, Element};
 
@@ -57,6 +59,15 @@ const ACCEPTED: [Accepted; 9] = [
         "at 11 record flags 0000 opcode 1\nat 23 record flags 0000 opcode 1\n",
     ),
 ];
+
+// The lines of an item.
+fn item_text(alloc: Global, place: u64, item: &Item<Element>) -> Result<String, AllocError> {
+    let mut sink = VecSink::new(alloc);
+    match put_item(&mut sink, Output::Open, place, item) {
+        Output::Open => String::from_str(alloc, str::from_utf8(sink.as_slice()).unwrap_or("?")),
+        Output::Failed => Err(AllocError),
+    }
+}
 
 // What the bytes decode to, as text: the items as they are shown with their places, or the fault.
 pub fn told(

@@ -1,99 +1,94 @@
-ghost use Rattle.std.specs.Prelude.{◌≡◌, ◌++◌, codes, OnOk, string_bytes};
+ghost use Rattle.std.specs.Prelude.{◌≡◌, ◌++◌, codes};
 ghost use Rattle.t5250.specs.ItemLines as Shown;
+ghost use Rattle.t5250.specs.Printing.{Prints};
 
-use crate::text::{push_cell, push_hex, push_hex_behind_blank, push_number, push_words};
-use std::alloc::{AllocError, Global};
-use ws_code::Address;
+use crate::output::{
+    Output, put_cell, put_hex, put_hex_behind_blank, put_number, put_text, put_words,
+};
+use ws_code::{Address, Sink};
 use ws_stream::{Element, FieldStart};
 
-/// Adds the text of an element, without blanks before it and a line's end.
-pub fn push_element(alloc: Global, text: &mut String, element: &Element) -> Result<(), AllocError>
-    ensures { OnOk result
-        (string_bytes text.new ≡ string_bytes text.old ++ Shown.element_text element.now) }
+/// Writes the text of an element, without blanks before it and a line's end.
+pub fn put_element<S: Sink>(sink: &mut S, output: Output, element: &Element) -> Output
+    ensures { Prints S.takes S.failures sink.old sink.new output result
+        (Shown.element_text element.now) }
 {
     match element {
-        Element::ClearUnit => text.push_str("CLEAR-UNIT"),
-        Element::ClearFormat => text.push_str("CLEAR-FORMAT"),
-        Element::Write { cc1, cc2 } => push_command(alloc, text, "WRITE ", *cc1, *cc2),
-        Element::ReadInput { cc1, cc2 } => push_command(alloc, text, "READ-INPUT ", *cc1, *cc2),
-        Element::ReadMdt { cc1, cc2 } => push_command(alloc, text, "READ-MDT ", *cc1, *cc2),
-        Element::ReadMdtAlternate { cc1, cc2 } => push_command(
-            alloc,
-            text,
-            "READ-MDT-ALTERNATE ",
-            *cc1,
-            *cc2,
-        ),
-        Element::Soh(bytes) => {
-            text.push_str("SOH")?;
-            push_hex_behind_blank(alloc, text, bytes.as_slice())
+        Element::ClearUnit => put_text(sink, output, "CLEAR-UNIT"),
+        Element::ClearFormat => put_text(sink, output, "CLEAR-FORMAT"),
+        Element::Write { cc1, cc2 } => put_command(sink, output, "WRITE ", *cc1, *cc2),
+        Element::ReadInput { cc1, cc2 } => put_command(sink, output, "READ-INPUT ", *cc1, *cc2),
+        Element::ReadMdt { cc1, cc2 } => put_command(sink, output, "READ-MDT ", *cc1, *cc2),
+        Element::ReadMdtAlternate { cc1, cc2 } => {
+            put_command(sink, output, "READ-MDT-ALTERNATE ", *cc1, *cc2)
         }
-        Element::Ra { to, byte } => push_fill(alloc, text, "RA ", *to, &[byte.value()]),
-        Element::Ea { to, kinds } => push_fill(alloc, text, "EA ", *to, kinds.as_slice()),
-        Element::Sba(to) => push_place(alloc, text, "SBA ", *to),
-        Element::Ic(to) => push_place(alloc, text, "IC ", *to),
-        Element::Mc(to) => push_place(alloc, text, "MC ", *to),
-        Element::Sf(field) => push_field(alloc, text, field),
+        Element::Soh(bytes) => {
+            let output = put_text(sink, output, "SOH");
+            put_hex_behind_blank(sink, output, bytes.as_slice())
+        }
+        Element::Ra { to, byte } => put_fill(sink, output, "RA ", *to, &[byte.value()]),
+        Element::Ea { to, kinds } => put_fill(sink, output, "EA ", *to, kinds.as_slice()),
+        Element::Sba(to) => put_place(sink, output, "SBA ", *to),
+        Element::Ic(to) => put_place(sink, output, "IC ", *to),
+        Element::Mc(to) => put_place(sink, output, "MC ", *to),
+        Element::Sf(field) => put_field(sink, output, field),
         Element::Put(byte) => {
-            text.push_str("PUT ")?;
-            push_hex(alloc, text, &[byte.value()])
+            let output = put_text(sink, output, "PUT ");
+            put_hex(sink, output, &[byte.value()])
         }
     }
 }
 
 // A command's name and its two control characters.
-fn push_command(
-    alloc: Global,
-    text: &mut String,
-    name: &str,
-    cc1: u8,
-    cc2: u8,
-) -> Result<(), AllocError>
-    ensures { OnOk result (string_bytes text.new
-        ≡ string_bytes text.old ++ (name.now ++ Shown.controls_text cc1 cc2)) }
+fn put_command<S: Sink>(sink: &mut S, output: Output, name: &str, cc1: u8, cc2: u8) -> Output
+    ensures { Prints S.takes S.failures sink.old sink.new output result
+        (name.now ++ Shown.controls_text cc1 cc2) }
 {
-    text.push_str(name)?;
-    push_hex(alloc, text, &[cc1])?;
-    text.push_str(" ")?;
-    push_hex(alloc, text, &[cc2])
+    let output = put_text(sink, output, name);
+    let output = put_hex(sink, output, &[cc1]);
+    let output = put_text(sink, output, " ");
+    put_hex(sink, output, &[cc2])
 }
 
 // An order's name and the cell that it names.
-fn push_place(alloc: Global, text: &mut String, name: &str, to: Address) -> Result<(), AllocError>
-    ensures { OnOk result (string_bytes text.new
-        ≡ string_bytes text.old ++ (name.now ++ Shown.cell_text to)) }
+fn put_place<S: Sink>(sink: &mut S, output: Output, name: &str, to: Address) -> Output
+    ensures { Prints S.takes S.failures sink.old sink.new output result
+        (name.now ++ Shown.cell_text to) }
 {
-    text.push_str(name)?;
-    push_cell(alloc, text, to)
+    let output = put_text(sink, output, name);
+    put_cell(sink, output, to)
 }
 
 // An order's name, the cell that it goes to, and its bytes.
-fn push_fill(
-    alloc: Global,
-    text: &mut String,
-    name: &str,
-    to: Address,
-    bytes: &[u8],
-) -> Result<(), AllocError>
-    ensures { OnOk result (string_bytes text.new
-        ≡ string_bytes text.old ++ (name.now ++ Shown.fill_text to bytes.now)) }
+fn put_fill<S: Sink>(sink: &mut S, output: Output, name: &str, to: Address, bytes: &[u8]) -> Output
+    ensures { Prints S.takes S.failures sink.old sink.new output result
+        (name.now ++ Shown.fill_text to bytes.now) }
 {
-    push_place(alloc, text, name, to)?;
-    text.push_str(" ")?;
-    push_hex(alloc, text, bytes)
+    let output = put_place(sink, output, name, to);
+    let output = put_text(sink, output, " ");
+    put_hex(sink, output, bytes)
 }
 
 // Format and control words where there are any, the attribute, and the length.
-fn push_field(alloc: Global, text: &mut String, field: &FieldStart) -> Result<(), AllocError>
-    ensures { OnOk result (string_bytes text.new
-        ≡ string_bytes text.old ++ (codes "SF " ++ Shown.field_text field.now)) }
+fn put_field<S: Sink>(sink: &mut S, output: Output, field: &FieldStart) -> Output
+    ensures { Prints S.takes S.failures sink.old sink.new output result
+        (codes "SF " ++ Shown.field_text field.now) }
 {
-    text.push_str("SF ")?;
-    if let Some(format) = field.format() {
-        push_words(alloc, text, &[format.value()])?;
+    let output = put_text(sink, output, "SF ");
+    let output = put_format(sink, output, field);
+    let output = put_words(sink, output, field.controls());
+    let output = put_hex(sink, output, &[field.attribute()]);
+    let output = put_text(sink, output, " ");
+    put_number(sink, output, field.length() as u64)
+}
+
+// The format word and a blank, where there is one.
+fn put_format<S: Sink>(sink: &mut S, output: Output, field: &FieldStart) -> Output
+    ensures { Prints S.takes S.failures sink.old sink.new output result
+        (Shown.format_text field.now.format) }
+{
+    match field.format() {
+        Some(format) => put_words(sink, output, &[format.value()]),
+        None => put_text(sink, output, ""),
     }
-    push_words(alloc, text, field.controls())?;
-    push_hex(alloc, text, &[field.attribute()])?;
-    text.push_str(" ")?;
-    push_number(alloc, text, u64::from(field.length()))
 }

@@ -1,9 +1,11 @@
 // The scripts and captures of examples/, letter for letter, and what the program prints of each. `examples/run.sh` looks
 // whether they still are the same.
+use crate::buffered_sink::BufferedSink;
 use crate::command_line::{Task, read_words};
-use crate::program::{answer, status};
+use crate::fault::RunFault;
+use crate::program::{answer_buffered, status};
 use std::test::Fail;
-use ws_code::VecSink;
+use ws_code::{FailingSink, VecSink};
 
 // A script and its lines with the screen; a capture of what its host sends, and what `check` and `show` print of it.
 struct Example<'a> {
@@ -226,11 +228,35 @@ fn examples_print_their_lines(rt: HostRuntime) -> Result<(), Fail> {
             let Task::Input(asked) = read_words(rt.alloc(), words)? else {
                 return Err("a live session".into());
             };
-            let mut sink = VecSink::new(rt.alloc());
-            let outcome = answer(&rt, rt.alloc(), asked, text.as_bytes(), &mut sink);
+            let mut sink = BufferedSink::new(VecSink::new(rt.alloc()));
+            let outcome = answer_buffered(&rt, rt.alloc(), asked, text.as_bytes(), &mut sink);
             assert_eq!(rt; status(&outcome), 0, "{words:?} {text}");
+            let sink = sink.into_inner();
             assert_eq!(rt; sink.as_slice(), wanted.as_bytes(), "{words:?} {text}");
         }
+    }
+    Ok(())
+}
+
+// A sink behind the buffer takes one byte a write, and fails after so many: what went out is the line's front.
+#[test]
+fn buffered_line_fails(rt: HostRuntime) -> Result<(), Fail> {
+    let line = b"accepted: 0 records, 0 commands, 0 bytes\n";
+    for calls in 0..=41u64 {
+        let Task::Input(asked) = read_words(rt.alloc(), &["t5250", "check"])? else {
+            return Err("a live session".into());
+        };
+        let mut sink = BufferedSink::new(FailingSink::new(rt.alloc(), calls));
+        let outcome = answer_buffered(&rt, rt.alloc(), asked, b"", &mut sink);
+        let wanted = if calls < 41 {
+            Err(RunFault::Write)
+        } else {
+            Ok(true)
+        };
+        assert_eq!(rt; outcome, wanted, "{calls}");
+        assert_eq!(rt; sink.flush(), Ok(()), "{calls}");
+        let sink = sink.into_inner();
+        assert_eq!(rt; sink.as_slice(), &line[..calls as usize], "{calls}");
     }
     Ok(())
 }

@@ -1,45 +1,57 @@
-ghost use Rattle.std.specs.Prelude.{◌≡◌, ◌++◌, IfOk, OnOk, string_bytes};
+ghost use Rattle.std.specs.Prelude.{◌≡◌};
+ghost use Rattle.hex.specs.Hex.{encode_upper};
+ghost use Rattle.ws_record.specs.Grammar.{two_bytes};
 ghost use Rattle.t5250.specs.ItemLines as Shown;
+ghost use Rattle.t5250.specs.Printing.{Prints};
 
-use crate::element_text::push_element;
-use crate::text::{push_hex, push_hex_behind_blank, push_number};
-use std::alloc::{AllocError, Global};
+use crate::element_text::put_element;
+use crate::output::{Output, put_hex, put_hex_behind_blank, put_number, put_text};
+use ws_code::Sink;
 use ws_record::{Item, Record};
 use ws_stream::Element;
 use ws_telnet::{CommandCode, Telnet, Verb};
 
-/// The lines of an item whose last byte is at the place.
-pub fn item_text(alloc: Global, place: u64, item: &Item<Element>) -> Result<String, AllocError>
-    ensures { IfOk result (λ text. string_bytes text ≡ Shown.item_text place item.now) }
+/// Writes the lines of an item whose last byte is at the place.
+pub fn put_item<S: Sink>(sink: &mut S, output: Output, place: u64, item: &Item<Element>) -> Output
+    ensures { Prints S.takes S.failures sink.old sink.new output result
+        (Shown.item_text place item.now) }
 {
     match item {
-        Item::Record(record) => record_text(alloc, place, record),
-        Item::Telnet(telnet) => telnet_text(alloc, place, telnet),
+        Item::Record(record) => put_record(sink, output, place, record),
+        Item::Telnet(telnet) => put_telnet(sink, output, place, telnet),
     }
 }
 
-// The line of a Telnet command.
-fn telnet_text(alloc: Global, place: u64, telnet: &Telnet) -> Result<String, AllocError>
-    ensures { IfOk result (λ text. string_bytes text ≡ Shown.telnet_text place telnet.now) }
+// Writes the line of a Telnet command.
+fn put_telnet<S: Sink>(sink: &mut S, output: Output, place: u64, telnet: &Telnet) -> Output
+    ensures { Prints S.takes S.failures sink.old sink.new output result
+        (Shown.telnet_text place telnet.now) }
 {
-    let mut text = String::from_str(alloc, "at ")?;
-    push_number(alloc, &mut text, place)?;
-    text.push_str(" telnet ")?;
+    let output = put_text(sink, output, "at ");
+    let output = put_number(sink, output, place);
+    let output = put_text(sink, output, " telnet ");
+    let output = put_name(sink, output, telnet);
+    put_text(sink, output, "\n")
+}
+
+// Writes the name of a Telnet command, and what it is about.
+fn put_name<S: Sink>(sink: &mut S, output: Output, telnet: &Telnet) -> Output
+    ensures { Prints S.takes S.failures sink.old sink.new output result
+        (Shown.telnet_name telnet.now) }
+{
     match telnet {
-        Telnet::Command(code) => text.push_str(command_name(*code))?,
+        Telnet::Command(code) => put_text(sink, output, command_name(*code)),
         Telnet::Option(verb, option) => {
-            text.push_str(verb_name(*verb))?;
-            text.push_str(" ")?;
-            push_number(alloc, &mut text, u64::from(*option))?;
+            let output = put_text(sink, output, verb_name(*verb));
+            let output = put_text(sink, output, " ");
+            put_number(sink, output, *option as u64)
         }
         Telnet::Sub(sub) => {
-            text.push_str("SB ")?;
-            push_number(alloc, &mut text, u64::from(sub.option))?;
-            push_hex_behind_blank(alloc, &mut text, sub.data_.as_slice())?;
+            let output = put_text(sink, output, "SB ");
+            let output = put_number(sink, output, sub.option as u64);
+            put_hex_behind_blank(sink, output, sub.data_.as_slice())
         }
     }
-    text.push_str("\n")?;
-    Ok(text)
 }
 
 fn command_name(code: CommandCode) -> &'static str
@@ -69,33 +81,41 @@ fn verb_name(verb: Verb) -> &'static str
     }
 }
 
-// The lines of a record: one for its header and one for each element, with a line for each longest run of
+// Writes the lines of a record: one for its header and one for each element, with a line for each longest run of
 // bytes for cells.
-fn record_text(alloc: Global, place: u64, record: &Record<Element>) -> Result<String, AllocError>
-    ensures { IfOk result (λ text. string_bytes text ≡ Shown.record_text place «record».now) }
+fn put_record<S: Sink>(sink: &mut S, output: Output, place: u64, record: &Record<Element>) -> Output
+    ensures { Prints S.takes S.failures sink.old sink.new output result
+        (Shown.record_text place «record».now) }
 {
-    let mut text = String::from_str(alloc, "at ")?;
-    push_number(alloc, &mut text, place)?;
-    text.push_str(" record flags ")?;
-    push_hex(alloc, &mut text, &record.flags.to_be_bytes())?;
-    text.push_str(" opcode ")?;
-    push_number(alloc, &mut text, u64::from(record.opcode.byte()))?;
-    push_elements(alloc, &mut text, record.body.as_slice())?;
-    text.push_str("\n")?;
-    Ok(text)
+    let output = put_text(sink, output, "at ");
+    let output = put_number(sink, output, place);
+    let output = put_text(sink, output, " record flags ");
+    let output = put_flags(sink, output, record.flags);
+    let output = put_text(sink, output, " opcode ");
+    let output = put_number(sink, output, record.opcode.byte() as u64);
+    let output = put_elements(sink, output, record.body.as_slice());
+    put_text(sink, output, "\n")
 }
 
-// The lines of a record's elements, each with the line's end before it.
-fn push_elements(alloc: Global, text: &mut String, elements: &[Element]) -> Result<(), AllocError>
-    ensures { OnOk result (string_bytes text.new
-        ≡ string_bytes text.old ++ Shown.element_lines elements.now) }
+fn put_flags<S: Sink>(sink: &mut S, output: Output, flags: u16) -> Output
+    ensures { Prints S.takes S.failures sink.old sink.new output result
+        (encode_upper (two_bytes flags)) }
 {
+    put_hex(sink, output, &flags.to_be_bytes())
+}
+
+// Writes the lines of a record's elements, each with the line's end before it.
+fn put_elements<S: Sink>(sink: &mut S, output: Output, elements: &[Element]) -> Output
+    ensures { Prints S.takes S.failures sink.old sink.new output result
+        (Shown.element_lines elements.now) }
+{
+    let mut output = output;
     let mut is_behind_put = false;
     for element in elements {
-        push_line(alloc, text, is_behind_put, element)?;
+        output = put_line(sink, output, is_behind_put, element);
         is_behind_put = is_put(element);
     }
-    Ok(())
+    output
 }
 
 fn is_put(element: &Element) -> bool
@@ -104,21 +124,16 @@ fn is_put(element: &Element) -> bool
     matches!(element, Element::Put(_))
 }
 
-// A line's end, two blanks and the element; a byte behind a byte goes on with that one's line.
-fn push_line(
-    alloc: Global,
-    text: &mut String,
-    is_behind_put: bool,
-    element: &Element,
-) -> Result<(), AllocError>
-    ensures { OnOk result (string_bytes text.new
-        ≡ string_bytes text.old ++ Shown.element_line is_behind_put element.now) }
+// Writes a line's end, two blanks and the element; a byte behind a byte goes on with that one's line.
+fn put_line<S: Sink>(sink: &mut S, output: Output, is_behind_put: bool, element: &Element) -> Output
+    ensures { Prints S.takes S.failures sink.old sink.new output result
+        (Shown.element_line is_behind_put element.now) }
 {
     match element {
-        Element::Put(byte) if is_behind_put => push_hex(alloc, text, &[byte.value()]),
+        Element::Put(byte) if is_behind_put => put_hex(sink, output, &[byte.value()]),
         other => {
-            text.push_str("\n  ")?;
-            push_element(alloc, text, other)
+            let output = put_text(sink, output, "\n  ");
+            put_element(sink, output, other)
         }
     }
 }

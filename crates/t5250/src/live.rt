@@ -1,10 +1,12 @@
-ghost use Rattle.std.specs.Prelude.{◌≡◌, List, ℕ, Result, IfOk, IfErr};
+ghost use Rattle.std.specs.Prelude.{◌≡◌, [], List, ℕ, Result, IfOk, IfErr};
 ghost use Rattle.ws_code.specs.declared.fault.Fault.{Fault as AFault};
 ghost use Rattle.ws_session.specs.Attachments.{AttachedParts};
-ghost use Rattle.t5250.specs.Printing.{Prints};
+ghost use Rattle.t5250.specs.Buffering.{Buffering, buffered_takes};
+ghost use Rattle.t5250.specs.Printing.{IsOut, Prints};
 ghost use Rattle.t5250.specs.LiveText as Spec;
 ghost use Rattle.t5250.specs.declared.live.Closing.{Closing as AClosing};
 
+use crate::buffered_sink::BufferedSink;
 use crate::fault::RunFault;
 use crate::live_line::LiveLine;
 use crate::output::{Output, put_text};
@@ -113,30 +115,71 @@ pub fn carry_lines<E, S, K, L: LiveMove<E, S, K>, W: Watch, O: Sink>(
     watch: &W,
     lines: &[L],
     ready: bool,
-    out: &mut O,
+    out: &mut BufferedSink<O>,
 ) -> Result<Ran, RunFault>
+    requires empty { out.old.held ≡ [] }
     ensures ran { IfOk result (Spec.HasRun L.runs ready O.takes O.failures
-        attached.old attached.new out.old out.new lines.now) }
+        attached.old attached.new out.old.sink out.new.sink lines.now) }
     ensures fault { IfErr result (Spec.IsLiveFault L.runs ready O.takes O.failures
-        attached.old attached.new out.old out.new lines.now) }
+        attached.old attached.new out.old.sink out.new.sink lines.now) }
+    ensures held { out.new.held ≡ [] }
 {
     let mut ran = Ran::none();
     for line in lines {
-        let carried = line.carry_out(attached, watch, out, Output::Open);
-        let closing = match carried.outcome {
+        let closing = match carry_line(attached, watch, line, ready, out) {
             Ok(closing) => closing,
-            Err(fault) => return Err(RunFault::from(fault)),
+            Err(fault) => return Err(fault),
         };
-        match put_closing(out, carried.output, ready, closing) {
-            Output::Open => {}
-            Output::Failed => return Err(RunFault::Write),
-        }
         ran = ran.and(closing.ran());
         if ran.is_over {
             return Ok(ran);
         }
     }
     Ok(ran)
+}
+
+// Carries a line out, and hands on what it prints.
+fn carry_line<E, S, K, L: LiveMove<E, S, K>, W: Watch, O: Sink>(
+    attached: &mut Attached<E, S, K>,
+    watch: &W,
+    line: &L,
+    ready: bool,
+    out: &mut BufferedSink<O>,
+) -> Result<Closing, RunFault>
+    requires empty { out.old.held ≡ [] }
+    ensures done { IfOk result (Spec.HasCarried L.runs ready O.takes O.failures
+        attached.old attached.new out.old.sink out.new.sink line.now) }
+    ensures fault { IfErr result (Spec.IsCarryFault L.runs ready O.takes O.failures
+        attached.old attached.new out.old.sink out.new.sink line.now) }
+    ensures held { out.new.held ≡ [] }
+{
+    let carried = line.carry_out(attached, watch, out, Output::Open);
+    match carried.outcome {
+        Ok(closing) => {
+            let output = put_closing(out, carried.output, ready, closing);
+            match hand_on(out, output) {
+                Output::Open => Ok(closing),
+                Output::Failed => Err(RunFault::Write),
+            }
+        }
+        Err(fault) => {
+            hand_on(out, carried.output);
+            Err(RunFault::from(fault))
+        }
+    }
+}
+
+/// Hands on what the buffer holds of a text.
+pub fn hand_on<O: Sink>(out: &mut BufferedSink<O>, output: Output) -> Output
+    ensures out { (from : Buffering O) (text : List ℕ) → from.held ≡ []
+        → IsOut (buffered_takes O.takes O.failures) (λ b. b.failures) from out.old output text
+        → IsOut O.takes O.failures from.sink out.new.sink result text }
+    ensures held { out.new.held ≡ [] }
+{
+    match out.flush() {
+        Ok(()) => output,
+        Err(_) => Output::Failed,
+    }
 }
 
 // Writes what stands behind a line's text.

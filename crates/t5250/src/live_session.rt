@@ -1,8 +1,9 @@
 //! Live sessions over a connection: the sockets, the script or standard input, and standard output. What a line does
 //! at an end, and what it prints, is said where it is carried out.
+use crate::buffered_sink::BufferedSink;
 use crate::connect_line::StationLine;
 use crate::fault::RunFault;
-use crate::live::{LiveMove, Ran, Watch, carry_lines};
+use crate::live::{LiveMove, Ran, Watch, carry_lines, hand_on};
 use crate::live_address::HostPort;
 use crate::live_command::{ConnectAsked, Live, ServeAsked};
 use crate::live_line::{LiveLine, read_lines};
@@ -24,7 +25,7 @@ use ws_session::{Attached, HostEnd, Station};
 const LINGER: u64 = 1;
 
 /// Carries a live session out: true where all went well.
-pub fn run_live<R, O>(rt: &R, asked: Live<'_>, out: &mut O) -> Result<bool, RunFault>
+pub fn run_live<R, O>(rt: &R, asked: Live<'_>, out: &mut BufferedSink<O>) -> Result<bool, RunFault>
 where
     R: Runtime + AllocGlobal + Net<Listener = TcpListener, Stream = TcpStream>,
     O: Sink,
@@ -36,7 +37,7 @@ where
 }
 
 // A station at a host.
-fn connect<R, O>(rt: &R, asked: &ConnectAsked<'_>, out: &mut O) -> Result<bool, RunFault>
+fn connect<R, O>(rt: &R, asked: &ConnectAsked<'_>, out: &mut BufferedSink<O>) -> Result<bool, RunFault>
 where
     R: Runtime + AllocGlobal + Net<Listener = TcpListener, Stream = TcpStream>,
     O: Sink,
@@ -58,7 +59,7 @@ where
 }
 
 // A host for one station.
-fn serve<R, O>(rt: &R, asked: &ServeAsked<'_>, out: &mut O) -> Result<bool, RunFault>
+fn serve<R, O>(rt: &R, asked: &ServeAsked<'_>, out: &mut BufferedSink<O>) -> Result<bool, RunFault>
 where
     R: Runtime + AllocGlobal + Net<Listener = TcpListener, Stream = TcpStream>,
     O: Sink,
@@ -127,7 +128,7 @@ fn accept(listener: &TcpListener) -> io::Result<TcpStream> {
 fn put_listening<R: AllocGlobal, O: Sink>(
     rt: &R,
     listener: &TcpListener,
-    out: &mut O,
+    out: &mut BufferedSink<O>,
 ) -> Result<(), RunFault> {
     let Ok(address) = listener.local_addr() else {
         return Err(RunFault::NoConnection);
@@ -135,7 +136,8 @@ fn put_listening<R: AllocGlobal, O: Sink>(
     let Ok(line) = format!(in rt.alloc(); "listening {address}\n") else {
         return Err(RunFault::Memory);
     };
-    match put_text(out, Output::Open, line.as_str()) {
+    let output = put_text(out, Output::Open, line.as_str());
+    match hand_on(out, output) {
         Output::Open => Ok(()),
         Output::Failed => Err(RunFault::Write),
     }
@@ -148,7 +150,7 @@ fn carry_session<R, E, S, K, L, W, O>(
     watch: &W,
     script: Option<Vec<L>>,
     ready: bool,
-    out: &mut O,
+    out: &mut BufferedSink<O>,
 ) -> Result<Ran, RunFault>
 where
     R: Runtime + AllocGlobal,
@@ -168,7 +170,7 @@ fn carry_input<R, E, S, K, L, W, O>(
     attached: &mut Attached<E, S, K>,
     watch: &W,
     ready: bool,
-    out: &mut O,
+    out: &mut BufferedSink<O>,
 ) -> Result<Ran, RunFault>
 where
     R: Runtime + AllocGlobal,

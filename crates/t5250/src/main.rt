@@ -5,6 +5,7 @@
 //! order: the command line, reading, hex text or script, the connection, and then those met in running.
 #![tactic(auto)]
 
+mod buffered_sink;
 mod check;
 mod command_line;
 #[cfg(test)]
@@ -55,16 +56,16 @@ mod tcp;
 mod tcp_rows;
 #[cfg(test)]
 mod tests;
-mod text;
 #[cfg(test)]
 mod vectors;
 mod verdict;
 
+use crate::buffered_sink::BufferedSink;
 use crate::command_line::{Task, given_words, read_words};
 use crate::fault::{CommandFault, RunFault};
 use crate::input::read_input;
 use crate::live_session::run_live;
-use crate::program::{answer, status};
+use crate::program::{answer_buffered, status};
 use std::io;
 use std::net::{Net, TcpListener, TcpStream};
 use std::process::ExitCode;
@@ -77,13 +78,13 @@ fn run<R: Runtime + AllocGlobal + Net<Listener = TcpListener, Stream = TcpStream
 ) -> Result<bool, CommandFault> {
     let words = given_words(rt)?;
     let asked = read_words(rt.alloc(), words.as_slice())?;
-    let mut sink = WriteSink::new(io::writer(rt));
+    let mut sink = BufferedSink::new(WriteSink::new(io::writer(rt)));
     let asked = match asked {
         Task::Live(asked) => return Ok(run_live(rt, asked, &mut sink)?),
         Task::Input(asked) => asked,
     };
     let text = read_input(rt, asked.file())?;
-    Ok(answer(rt, rt.alloc(), asked, text.as_slice(), &mut sink)?)
+    Ok(answer_buffered(rt, rt.alloc(), asked, text.as_slice(), &mut sink)?)
 }
 
 // Tells of a fault in its line, of a wrong command line in the text of `clap`, both on standard error. Help

@@ -1,7 +1,7 @@
 ghost use Rattle.std.specs.Prelude.{◌≡◌, ◌<◌, ◌∷◌, [], slice_index};
 ghost use Rattle.std.specs.Fmt.{decimal};
 ghost use Rattle.hex.specs.Hex.{encode_upper, upper_digits};
-ghost use Rattle.t5250.specs.ItemLines.{cell_text, hex_behind_blank};
+ghost use Rattle.t5250.specs.ItemLines.{cell_text, hex_behind_blank, words_text};
 ghost use Rattle.t5250.specs.Printing.{Prints};
 
 use ws_code::{Address, Sink, write_whole};
@@ -83,4 +83,16 @@ pub fn put_cell<S: Sink>(sink: &mut S, output: Output, cell: Address) -> Output
     let output = put_number(sink, output, cell.row() as u64);
     let output = put_text(sink, output, " ");
     put_number(sink, output, cell.col() as u64)
+}
+
+/// Writes words of 16 bits in upper case hex, a blank behind each.
+pub fn put_words<S: Sink>(sink: &mut S, output: Output, words: &[u16]) -> Output
+    ensures { Prints S.takes S.failures sink.old sink.new output result (words_text words.now) }
+{
+    let mut output = output;
+    for word in words {
+        output = put_hex(sink, output, &word.to_be_bytes());
+        output = put_text(sink, output, " ");
+    }
+    output
 }

@@ -6,6 +6,7 @@ ghost use Rattle.t5250.specs.PlayLines as Spec;
 
 use crate::output::{Output, put, put_cell, put_hex, put_hex_behind_blank, put_number, put_text};
 use crate::screen_lines::put_screen_if;
+use crate::verdict::put_place_and_reason;
 use ws_code::{Fault, Reason, Sink};
 use ws_keys::{HostAnswer, KeyRefusal, ReadField};
 use ws_session::{Event, HostEvent, KeyFault, Report, SendFault};
@@ -194,10 +195,5 @@ fn put_refused<S: Sink>(sink: &mut S, output: Output, place: u64, reason: Reason
         (Spec.refused_text place reason) }
 {
     let output = put_text(sink, output, " refused at ");
-    let output = put_number(sink, output, place);
-    let output = put_text(sink, output, ": reason ");
-    let output = put_number(sink, output, reason.number() as u64);
-    let output = put_text(sink, output, " ");
-    let output = put_text(sink, output, reason.name());
-    put_text(sink, output, "\n")
+    put_place_and_reason(sink, output, place, reason)
 }

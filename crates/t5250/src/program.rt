@@ -1,4 +1,4 @@
-ghost use Rattle.std.specs.Prelude.{◌≡◌, ◌≢◌, IfOk, IfErr};
+ghost use Rattle.std.specs.Prelude.{◌≡◌, ◌≢◌, [], IfOk, IfErr};
 ghost use Rattle.ws_stream.specs.Elements.{element_rules};
 ghost use Rattle.t5250.specs.Answering.{HasPieces, HasAnswered, HasChecked, HasShown, HasPlayed, HasPlayedByTcp, IsAnswerFault, IsHexFault, IsPlayFault, IsTcpPlayFault, status_of};
 ghost use Rattle.t5250.specs.HexText.{IsHexOf};
@@ -6,6 +6,7 @@ ghost use Rattle.t5250.specs.Checking.{IsCheckFault};
 ghost use Rattle.t5250.specs.StreamText.{IsShowFault};
 ghost use Rattle.std.specs.Prelude.{List as Seq, ℕ};
 
+use crate::buffered_sink::BufferedSink;
 use crate::check::check_to;
 use crate::command_line::Asked;
 use crate::fault::RunFault;
@@ -57,6 +58,30 @@ pub fn answer<R: Net<Listener = TcpListener, Stream = TcpStream>, S: Sink>(
                 play_script(alloc, text, screen, sink)
             }
         }
+    }
+}
+
+/// Does the same, and hands on what the buffer before the sink holds at the end, also behind a fault.
+///
+/// `Write` comes where the sink failed, at the end too.
+pub fn answer_buffered<R: Net<Listener = TcpListener, Stream = TcpStream>, S: Sink>(
+    rt: &R,
+    alloc: Global,
+    asked: Asked<'_>,
+    text: &[u8],
+    sink: &mut BufferedSink<S>,
+) -> Result<bool, RunFault>
+    requires pieces { HasPieces asked }
+    requires empty { sink.old.held ≡ [] }
+    ensures done { IfOk result (λ accepted. HasAnswered
+        S.takes S.failures sink.old.sink sink.new.sink asked.entry text.now accepted) }
+    ensures fault { IfErr result (λ fault. IsAnswerFault
+        S.takes S.failures sink.old.sink sink.new.sink asked.entry text.now fault) }
+{
+    let outcome = answer(rt, alloc, asked, text, sink);
+    match sink.flush() {
+        Ok(()) => outcome,
+        Err(_) => Err(RunFault::Write),
     }
 }
 

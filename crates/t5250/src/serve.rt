@@ -1,8 +1,10 @@
-ghost use Rattle.std.specs.Prelude.{◌≡◌, List, ℕ, IfOk, IfErr};
+ghost use Rattle.std.specs.Prelude.{◌≡◌, [], List, ℕ, IfOk, IfErr};
 ghost use Rattle.t5250.specs.ServeText as Spec;
 ghost use Rattle.t5250.specs.Printing.{Prints};
 
-use crate::live::{Carried, Closing, LiveMove, Ran, Watch};
+use crate::buffered_sink::BufferedSink;
+use crate::fault::RunFault;
+use crate::live::{Carried, Closing, LiveMove, Watch, hand_on};
 use crate::output::Output;
 use crate::play::put_event;
 use crate::serve_line::HostLine;
@@ -90,33 +92,31 @@ fn hear_event<S: Source, K: Sink, W: Watch, O: Sink>(
     }
 }
 
-/// Answers a station on, and prints what the host end tells, until the station closes the connection, the wait is over,
-/// or a byte is refused: true where none is.
+/// Answers a station on, and prints what the host end tells, until the station closes the connection, a wait for the
+/// next thing is over, or a byte is refused: true where none is.
 ///
 /// `Write` where the sink or the connection failed, `Read` where a read failed, though not for want of time, or
 /// 4,294,967,296 things were told; `Memory` where a growth was refused.
 pub fn answer_on<S: Source, K: Sink, W: Watch, O: Sink>(
     attached: &mut Attached<HostEnd, S, K>,
     watch: &W,
-    out: &mut O,
-) -> Result<bool, Fault>
+    out: &mut BufferedSink<O>,
+) -> Result<bool, RunFault>
+    requires empty { out.old.held ≡ [] }
     ensures answered { IfOk result (Spec.HasAnsweredOn K.takes K.failures S.gives S.failures
-        O.takes O.failures attached.old attached.new out.old out.new) }
+        O.takes O.failures attached.old attached.new out.old.sink out.new.sink) }
     ensures fault { IfErr result (Spec.IsAnswerOnFault K.takes K.failures S.gives S.failures
-        O.takes O.failures attached.old attached.new out.old out.new) }
+        O.takes O.failures attached.old attached.new out.old.sink out.new.sink) }
 {
-    watch.begin();
     for _ in 0..4_294_967_296u64 {
-        let carried = hear_event(attached, watch, out, Output::Open);
-        if carried.output == Output::Failed {
-            return Err(Fault::Write);
-        }
+        let carried = HostLine::Await.carry_out(attached, watch, out, Output::Open);
+        let output = hand_on(out, carried.output);
         match carried.outcome {
+            Ok(_) if output == Output::Failed => return Err(RunFault::Write),
             Ok(Closing::Done) => {}
-            Ok(Closing::Stopped) => return Ok(false),
-            Ok(_) => return Ok(true),
-            Err(fault) => return Err(fault),
+            Ok(closing) => return Ok(closing != Closing::Stopped),
+            Err(fault) => return Err(RunFault::from(fault)),
         }
     }
-    Err(Fault::Read)
+    Err(RunFault::Read)
 }

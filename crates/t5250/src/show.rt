@@ -2,19 +2,18 @@ ghost use Rattle.std.specs.Prelude.{◌≡◌, ◌++◌, Bool, List, [], ℕ, tr
 ghost use Rattle.ws_screen.specs.Events.{History};
 ghost use Rattle.ws_screen.specs.Faults.{refusal};
 ghost use Rattle.ws_screen.specs.Given.{Gives};
-ghost use Rattle.ws_code.specs.Device.{WentOut};
+ghost use Rattle.ws_code.specs.Device.{WentOut, FailedWithin};
 ghost use Rattle.t5250.specs.CheckLine.{verdict_by};
 ghost use Rattle.t5250.specs.ItemLines as Lines;
-ghost use Rattle.t5250.specs.Printing.{IsTextFault};
 ghost use Rattle.t5250.specs.ScreenLines.{IsScreenText};
 ghost use Rattle.t5250.specs.StreamText.{IsShown, IsPart, IsShowFault, IsStop, IsWholeItem, HasBegun, IsNext, IsNextFault, item_fault, after_item};
 
-use crate::item_text::item_text;
+use crate::item_text::put_item;
 use crate::output::Output;
 use crate::screen_lines::put_screen;
 use crate::verdict::verdict_by_fault;
 use std::alloc::Global;
-use ws_code::{Fault, Reason, Sink, write_whole};
+use ws_code::{Fault, Reason, Sink};
 use ws_record::{Item, Receiver};
 use ws_screen::Screen;
 use ws_session::apply_record;
@@ -38,7 +37,7 @@ pub fn show_to<S: Sink>(alloc: Global, bytes: &[u8], sink: &mut S) -> Result<boo
     let mut screen = Screen::new();
     match show_items(alloc, bytes, &mut screen, sink) {
         Ok(()) => write_screen(&screen, sink),
-        Err(fault) => verdict_by_fault(fault)?.write_to(alloc, bytes.len(), sink),
+        Err(fault) => verdict_by_fault(fault)?.write_to(bytes.len(), sink),
     }
 }
 
@@ -60,7 +59,7 @@ fn show_items<S: Sink>(
 {
     let mut receiver = Receiver::<Commands>::new(alloc);
     while let Some((place, item)) = next_item(&mut receiver, bytes)? {
-        write_item(alloc, place, &item, sink)?;
+        write_item(place, &item, sink)?;
         if let Err(reason) = apply_item(screen, &item) {
             return Err(Fault::Refused { place, reason });
         }
@@ -101,21 +100,16 @@ fn apply_item(screen: &mut Screen, item: &Item<Element>) -> Result<(), Reason>
 }
 
 // Writes an item's lines.
-fn write_item<S: Sink>(
-    alloc: Global,
-    place: u64,
-    item: &Item<Element>,
-    sink: &mut S,
-) -> Result<(), Fault>
+fn write_item<S: Sink>(place: u64, item: &Item<Element>, sink: &mut S) -> Result<(), Fault>
     ensures ok { OnOk result (WentOut S.takes S.failures sink.old sink.new
         (Lines.item_text place item.now)) }
-    ensures err { IfErr result (IsTextFault S.takes S.failures sink.old sink.new
-        (λ text. text ≡ Lines.item_text place item.now)) }
+    ensures err { IfErr result (λ fault. (fault ≡ Fault.Write)
+        × FailedWithin S.takes S.failures sink.old sink.new (Lines.item_text place item.now)) }
 {
-    let Ok(text) = item_text(alloc, place, item) else {
-        return Err(Fault::Memory);
-    };
-    write_whole(sink, text.as_str().as_bytes())
+    match put_item(sink, Output::Open, place, item) {
+        Output::Open => Ok(()),
+        Output::Failed => Err(Fault::Write),
+    }
 }
 
 // Writes a screen's lines.
@@ -123,8 +117,9 @@ fn write_screen<S: Sink>(screen: &Screen, sink: &mut S) -> Result<bool, Fault>
     ensures ok { IfOk result (λ accepted. (accepted ≡ true) × ((text : List ℕ)
         × IsScreenText screen.now text
         × WentOut S.takes S.failures sink.old sink.new text)) }
-    ensures err { IfErr result
-        (IsTextFault S.takes S.failures sink.old sink.new (IsScreenText screen.now)) }
+    ensures err { IfErr result (λ fault. (fault ≡ Fault.Write) × ((text : List ℕ)
+        × IsScreenText screen.now text
+        × FailedWithin S.takes S.failures sink.old sink.new text)) }
 {
     match put_screen(sink, Output::Open, screen) {
         Output::Open => Ok(true),

@@ -1,10 +1,10 @@
-ghost use Rattle.std.specs.Prelude.{◌≡◌, ◌<◌, ◌≢◌, List, ℕ, length, IfOk, IfErr, string_bytes};
-ghost use Rattle.ws_code.specs.Device.{WentOut};
-ghost use Rattle.t5250.specs.CheckLine.{verdict_by};
-ghost use Rattle.t5250.specs.Printing.{IsTextFault};
+ghost use Rattle.std.specs.Prelude.{◌≡◌, ◌<◌, ◌≢◌, List, ℕ, length, IfOk, IfErr};
+ghost use Rattle.ws_code.specs.Device.{WentOut, FailedWithin};
+ghost use Rattle.t5250.specs.CheckLine.{verdict_by, place_and_reason};
+ghost use Rattle.t5250.specs.Printing.{Prints};
 
-use std::alloc::{AllocError, Global};
-use ws_code::{Fault, Reason, Sink, write_whole};
+use crate::output::{Output, put_number, put_text};
+use ws_code::{Fault, Reason, Sink};
 
 /// What holds of a stream.
 #[derive(Clone, Copy, Debug, PartialEq, Eq)]
@@ -29,38 +29,62 @@ impl Verdict {
 
     /// Writes the line that says it, of a stream of so many bytes: true where they are accepted.
     ///
-    /// `Memory` where a growth was refused, and then nothing was written; `Write` where the sink failed.
-    pub fn write_to<S: Sink>(self, alloc: Global, size: usize, sink: &mut S) -> Result<bool, Fault>
+    /// It takes no memory. `Write` is the only fault: the sink failed.
+    pub fn write_to<S: Sink>(self, size: usize, sink: &mut S) -> Result<bool, Fault>
         ensures printed { IfOk result (λ accepted. (accepted ≡ is_accepted self)
             × WentOut S.takes S.failures sink.old sink.new (line_of self size)) }
-        ensures fault { IfErr result (IsTextFault S.takes S.failures sink.old sink.new
-            (λ text. text ≡ line_of self size)) }
+        ensures fault { IfErr result (λ fault. (fault ≡ Fault.Write)
+            × FailedWithin S.takes S.failures sink.old sink.new (line_of self size)) }
     {
-        let Ok(line) = self.line(alloc, size) else {
-            return Err(Fault::Memory);
-        };
-        write_whole(sink, line.as_str().as_bytes())?;
-        Ok(self.is_accepted())
+        match self.put_line(size, sink) {
+            Output::Open => Ok(self.is_accepted()),
+            Output::Failed => Err(Fault::Write),
+        }
     }
 
-    // The line that says it, of a stream of so many bytes.
-    fn line(self, alloc: Global, size: usize) -> Result<String, AllocError>
-        ensures { IfOk result (λ line. string_bytes line ≡ line_of self size) }
+    fn put_line<S: Sink>(self, size: usize, sink: &mut S) -> Output
+        ensures { Prints S.takes S.failures sink.old sink.new Output.Open result
+            (line_of self size) }
     {
         match self {
             Verdict::Accepted { records, commands } => {
-                format!(in alloc;
-                    "accepted: {records} records, {commands} commands, {size} bytes\n"
-                )
+                let output = put_text(sink, Output::Open, "accepted: ");
+                let output = put_number(sink, output, records);
+                let output = put_text(sink, output, " records, ");
+                let output = put_number(sink, output, commands);
+                let output = put_text(sink, output, " commands, ");
+                let output = put_number(sink, output, size as u64);
+                put_text(sink, output, " bytes\n")
             }
             Verdict::Refused { place, reason } => {
-                let number = reason.number();
-                let name = reason.name();
-                format!(in alloc; "refused at {place}: reason {number} {name}\n")
+                let output = put_text(sink, Output::Open, "refused at ");
+                put_place_and_reason(sink, output, place, reason)
             }
-            Verdict::Truncated { at } => format!(in alloc; "truncated at {at}\n"),
+            Verdict::Truncated { at } => {
+                let output = put_text(sink, Output::Open, "truncated at ");
+                let output = put_number(sink, output, at);
+                put_text(sink, output, "\n")
+            }
         }
     }
+}
+
+/// Writes the place of a byte, and for what reason it is refused, up to the line's end.
+pub fn put_place_and_reason<S: Sink>(
+    sink: &mut S,
+    output: Output,
+    place: u64,
+    reason: Reason,
+) -> Output
+    ensures { Prints S.takes S.failures sink.old sink.new output result
+        (place_and_reason place reason) }
+{
+    let output = put_number(sink, output, place);
+    let output = put_text(sink, output, ": reason ");
+    let output = put_number(sink, output, reason.number() as u64);
+    let output = put_text(sink, output, " ");
+    let output = put_text(sink, output, reason.name());
+    put_text(sink, output, "\n")
 }
 
 /// The verdict that a fault of a receiver is; the fault itself, where it says nothing of the stream.

@@ -1,10 +1,5 @@
-use Rattle.std.proofs.Common.{ap}
-use Rattle.std.specs.Fmt.{decimal}
-use Rattle.t5250.proofs.Prints.{prints_both, prints_same}
+use Rattle.t5250.proofs.Prints.{prints_both}
 use Rattle.t5250.proofs.play.put_refused.Goals as goal
 
 pub returns : goal.returns
-returns g c =
-    let place = prints_both c.put_text-output.ensures c.put_number-output.ensures in
-    let number = prints_both (prints_both place c.put_text-output-2.ensures) (prints_same (ap decimal c.number.ensures) c.put_number-output-2.ensures) in
-    prints_both (prints_both (prints_both number c.put_text-output-3.ensures) (prints_same c.name.ensures c.put_text-output-4.ensures)) c.put_text.ensures
+returns g c = prints_both c.put_text-output.ensures c.put_place_and_reason.ensures

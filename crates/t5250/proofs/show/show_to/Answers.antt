@@ -5,7 +5,6 @@ use Rattle.ws_code.proofs.DeviceLaws.{went_out_both}
 use Rattle.ws_code.specs.declared.fault.Fault.{Fault}
 use Rattle.t5250.specs.declared.verdict.Verdict.{Verdict}
 use Rattle.t5250.specs.CheckLine.{line_of}
-use Rattle.t5250.specs.ScreenLines.{IsScreenText}
 use Rattle.t5250.specs.StreamText.{IsShown, IsStop}
 use Rattle.t5250.proofs.Parts.{part_begins}
 use Rattle.t5250.proofs.Shows.{text_fails}
@@ -30,7 +29,7 @@ pub returns-in-Ok-clause-fault : goal.returns-in-Ok-clause-fault
 returns-in-Ok-clause-fault g c =
     let so_far = c.in-Ok.ensures.ok in
     IfErr-weaker c.write_screen.result _ _ (λ fault f.
-    text_fails g.S.Sink.takes g.S.Sink.failures c.args.sink.now c.args.bytes.now so_far.0 c.show_items.new.sink c.write_screen.new.sink (IsScreenText c.show_items.new.screen) so_far.1 so_far.2 (λ text is. inr (true, so_far.3 text is)) fault f) c.write_screen.ensures.err
+    text_fails g.S.Sink.takes g.S.Sink.failures c.args.sink.now c.args.bytes.now so_far.0 f.1.0 c.show_items.new.sink c.write_screen.new.sink so_far.2 (inr (true, so_far.3 f.1.0 f.1.1)) fault (f.0, f.1.2)) c.write_screen.ensures.err
 
 pub returns-in_ok-verdict_by_fault-in-Err-clause-printed : goal.returns-in_ok-verdict_by_fault-in-Err-clause-printed
 returns-in_ok-verdict_by_fault-in-Err-clause-printed g c =
@@ -49,8 +48,7 @@ returns-in_ok-verdict_by_fault-in-Err-clause-fault g c =
     let lines = stop.1.0 in
     let line = line_of c.in_ok-verdict_by_fault-in-Err.field-0 (length c.args.bytes.now) in
     IfErr-weaker c.write_to.result _ _ (λ fault f.
-    text_fails g.S.Sink.takes g.S.Sink.failures c.args.sink.now c.args.bytes.now lines c.show_items.new.sink c.write_to.new.sink (λ text. text ≡ line) stop.1.1 stop.1.2
-    (λ text is. inr (false, subst (λ (z : List ℕ). IsShown c.args.bytes.now false (lines ++ z)) (sym is) stop.1.3)) fault f) c.write_to.ensures.fault
+    text_fails g.S.Sink.takes g.S.Sink.failures c.args.sink.now c.args.bytes.now lines line c.show_items.new.sink c.write_to.new.sink stop.1.2 (inr (false, stop.1.3)) fault f) c.write_to.ensures.fault
 
 pub returns-in_err-verdict_by_fault-in-Err-clause-parts_begin : goal.returns-in_err-verdict_by_fault-in-Err-clause-parts_begin
 returns-in_err-verdict_by_fault-in-Err-clause-parts_begin g c = part_begins c.args.bytes.now

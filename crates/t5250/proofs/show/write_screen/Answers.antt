@@ -12,4 +12,4 @@ returns-in-Open-clause-ok g c =
 pub returns-in-Failed-clause-err : goal.returns-in-Failed-clause-err
 returns-in-Failed-clause-err g c =
     let put = c.put_screen.ensures in
-    (put.0, put.1, subst (λ (o : Output). IsOut g.S.Sink.takes g.S.Sink.failures c.args.sink.now c.put_screen.new.sink o put.0) c.in-Failed.is (whole_out put.2))
+    (refl, (put.0, put.1, subst (λ (o : Output). IsOut g.S.Sink.takes g.S.Sink.failures c.args.sink.now c.put_screen.new.sink o put.0) c.in-Failed.is (whole_out put.2)))

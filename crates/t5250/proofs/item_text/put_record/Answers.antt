@@ -1,0 +1,12 @@
+use Rattle.std.proofs.Common.{ap}
+use Rattle.std.specs.Fmt.{decimal}
+use Rattle.t5250.specs.ItemLines.{element_lines}
+use Rattle.t5250.proofs.Prints.{prints_both, prints_same}
+use Rattle.t5250.proofs.item_text.put_record.Goals as goal
+
+pub returns : goal.returns
+returns g c =
+    let place = prints_both c.put_text-output.ensures c.put_number-output.ensures in
+    let flags = prints_both (prints_both place c.put_text-output-2.ensures) c.put_flags-output.ensures in
+    let opcode = prints_both (prints_both flags c.put_text-output-3.ensures) (prints_same (ap decimal c.byte.ensures) c.put_number-output-2.ensures) in
+    prints_both (prints_both opcode (prints_same (ap element_lines c.as_slice.ensures) c.put_elements-output.ensures)) c.put_text.ensures

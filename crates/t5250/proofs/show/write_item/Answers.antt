@@ -1,0 +1,13 @@
+use Rattle.std.proofs.Common.{refl, subst}
+use Rattle.t5250.specs.declared.output.Output.{Output}
+use Rattle.t5250.specs.Printing.{IsOut}
+use Rattle.t5250.specs.ItemLines.{item_text}
+use Rattle.t5250.proofs.Prints.{whole_out}
+use Rattle.t5250.proofs.show.write_item.Goals as goal
+
+pub returns-in-Open-clause-ok : goal.returns-in-Open-clause-ok
+returns-in-Open-clause-ok g c = subst (λ (o : Output). IsOut g.S.Sink.takes g.S.Sink.failures c.args.sink.now c.put_item.new.sink o (item_text c.args.place c.args.item.now)) c.in-Open.is (whole_out c.put_item.ensures)
+
+pub returns-in-Failed-clause-err : goal.returns-in-Failed-clause-err
+returns-in-Failed-clause-err g c =
+    (refl, subst (λ (o : Output). IsOut g.S.Sink.takes g.S.Sink.failures c.args.sink.now c.put_item.new.sink o (item_text c.args.place c.args.item.now)) c.in-Failed.is (whole_out c.put_item.ensures))
