@@ -13,3 +13,5 @@ pub mod Texts
 pub mod LiveScripts
 pub mod LiveLines
 pub mod LiveRuns
+pub mod LiveOutput
+pub mod ConnectRuns

@@ -1,5 +1,7 @@
 //! Live sessions over a connection: the sockets, the script or standard input, and standard output. What a line does
 //! at an end, and what it prints, is said where it is carried out.
+ghost use Rattle.std.specs.Prelude.{◌≡◌, []};
+
 use crate::buffered_sink::BufferedSink;
 use crate::connect_line::StationLine;
 use crate::fault::RunFault;
@@ -17,6 +19,7 @@ use std::io;
 use std::io::{ErrorKind, Read};
 use std::net::{Net, Shutdown, TcpListener, TcpStream, ToSocketAddrs};
 use std::rt::{Files, Runtime};
+use std::slice;
 use std::time::{Clock, Duration};
 use ws_code::{ReadSource, Sink, WriteSink, write_whole};
 use ws_session::{Attached, HostEnd, Station};
@@ -29,6 +32,7 @@ pub fn run_live<R, O>(rt: &R, asked: Live<'_>, out: &mut BufferedSink<O>) -> Res
 where
     R: Runtime + AllocGlobal + Net<Listener = TcpListener, Stream = TcpStream>,
     O: Sink,
+    requires { out.old.held ≡ [] }
 {
     match asked {
         Live::Connect(asked) => connect(rt, &asked, out),
@@ -37,10 +41,15 @@ where
 }
 
 // A station at a host.
-fn connect<R, O>(rt: &R, asked: &ConnectAsked<'_>, out: &mut BufferedSink<O>) -> Result<bool, RunFault>
+fn connect<R, O>(
+    rt: &R,
+    asked: &ConnectAsked<'_>,
+    out: &mut BufferedSink<O>,
+) -> Result<bool, RunFault>
 where
     R: Runtime + AllocGlobal + Net<Listener = TcpListener, Stream = TcpStream>,
     O: Sink,
+    requires { out.old.held ≡ [] }
 {
     let script = read_script_file::<R, StationLine>(rt, asked.script)?;
     let limit = Duration::from_secs(u64::from(asked.wait));
@@ -59,10 +68,15 @@ where
 }
 
 // A host for one station.
-fn serve<R, O>(rt: &R, asked: &ServeAsked<'_>, out: &mut BufferedSink<O>) -> Result<bool, RunFault>
+fn serve<R, O>(
+    rt: &R,
+    asked: &ServeAsked<'_>,
+    out: &mut BufferedSink<O>,
+) -> Result<bool, RunFault>
 where
     R: Runtime + AllocGlobal + Net<Listener = TcpListener, Stream = TcpStream>,
     O: Sink,
+    requires { out.old.held ≡ [] }
 {
     let script = read_script_file::<R, HostLine>(rt, asked.script)?;
     let limit = Duration::from_secs(u64::from(asked.wait));
@@ -129,7 +143,10 @@ fn put_listening<R: AllocGlobal, O: Sink>(
     rt: &R,
     listener: &TcpListener,
     out: &mut BufferedSink<O>,
-) -> Result<(), RunFault> {
+) -> Result<(), RunFault>
+    requires { out.old.held ≡ [] }
+    ensures { out.new.held ≡ [] }
+{
     let Ok(address) = listener.local_addr() else {
         return Err(RunFault::NoConnection);
     };
@@ -157,6 +174,8 @@ where
     L: LiveMove<E, S, K>,
     W: Watch,
     O: Sink,
+    requires { out.old.held ≡ [] }
+    ensures { out.new.held ≡ [] }
 {
     match script {
         Some(lines) => carry_lines(attached, watch, lines.as_slice(), ready, out),
@@ -177,13 +196,15 @@ where
     L: LiveMove<E, S, K>,
     W: Watch,
     O: Sink,
+    requires { out.old.held ≡ [] }
+    ensures { out.new.held ≡ [] }
 {
     let mut ran = Ran::none();
     let mut number = 0u64;
     for line in rt.lines(rt.alloc()) {
         number = number.saturating_add(1);
-        let line = [read_input_line::<R, L>(rt, line, number)?];
-        ran = ran.and(carry_lines(attached, watch, line.as_slice(), ready, out)?);
+        let line = read_input_line::<R, L>(rt, line, number)?;
+        ran = ran.and(carry_lines(attached, watch, slice::from_ref(&line), ready, out)?);
         if ran.is_over {
             return Ok(ran);
         }

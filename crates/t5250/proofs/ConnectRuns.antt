@@ -1,0 +1,82 @@
+use Rattle.std.proofs.Common.{◌≡◌, ℕ, suc, ◌+◌, ◌<◌, List, [], ◌∷◌, ◌++◌, Bool, true, false, ◌&&◌, length, get_or, take, drop, take-append-drop, inl, inr, refl, sym, ap, ◌∙◌, subst, arith, append_assoc, length-append}
+use Rattle.std.specs.Prelude.{Result, Ok, Err, Option, None, Some, is_none}
+use Rattle.std.proofs.Math.Seq.{drop-cons}
+use Rattle.std.proofs.lemmas.List.{append-nil, take_more}
+use Rattle.ws_code.specs.Device.{MayTake, MayGive}
+use Rattle.ws_code.specs.declared.fault.Fault.{Fault}
+use Rattle.ws_code.specs.declared.fault.Fault.TheVariants as fault
+use Rattle.ws_screen.specs.ScreenParts.{ScreenParts}
+use Rattle.ws_keys.specs.declared.key.Key.{Key}
+use Rattle.ws_session.specs.Acts.{Did}
+use Rattle.ws_session.specs.Attachments.{AttachedParts, HaveLedUnwritten}
+use Rattle.ws_session.specs.Manners.{StationGoes, StationRefuses}
+use Rattle.ws_session.specs.StationLeads.{StationParts}
+use Rattle.ws_session.specs.declared.end_step.Applied.{Applied}
+use Rattle.ws_session.specs.declared.key_fault.KeyFault.{KeyFault}
+use Rattle.t5250.specs.declared.live.Closing.{Closing}
+use Rattle.t5250.specs.ConnectText.{refused_text, IsPressed, ArePressed, KeysRun, Hears, HasWaited}
+
+-- Keys and records at a station, one more at a time.
+
+and_true : (b : Bool) → (b && true) ≡ b
+and_true true = refl
+and_true false = refl
+
+and_assoc : (a b c : Bool) → ((a && b) && c) ≡ (a && (b && c))
+and_assoc true b c = refl
+and_assoc false b c = refl
+
+module _ {S K : Type 0} (takes : MayTake K) (failures : K → ℕ) (gives : MayGive S) (misses : S → ℕ) where
+  abbrev Parts : Type 0
+  Parts = AttachedParts StationParts S K
+
+  pub pressed_more : (from mid to : Parts) (keys : List Key) (key : Key) (refused : Option KeyFault) (well : Bool) (text : List ℕ) → ArePressed takes failures gives misses from keys well text mid → IsPressed takes failures gives misses key mid refused to
+      → ArePressed takes failures gives misses from (keys ++ key ∷ []) (well && is_none refused) (text ++ refused_text refused) to
+  pressed_more from mid to [] key refused well text h p = (
+    refused,
+    to,
+    true,
+    [],
+    subst (λ (z : Parts). IsPressed takes failures gives misses key z refused to) h.0 p,
+    (refl, refl, refl),
+    ap (λ b. b && is_none refused) h.1 ∙ sym (and_true (is_none refused)),
+    ap (λ z. z ++ refused_text refused) h.2 ∙ sym (append-nil (refused_text refused)),
+  )
+  pressed_more from mid to (first ∷ keys) key refused well text h p = (
+    h.0,
+    h.1,
+    h.2 && is_none refused,
+    h.3 ++ refused_text refused,
+    h.4,
+    pressed_more h.1 mid to keys key refused h.2 h.3 h.5 p,
+    ap (λ b. b && is_none refused) h.6 ∙ and_assoc (is_none h.0) h.2 (is_none refused),
+    ap (λ z. z ++ refused_text refused) h.7 ∙ append_assoc (refused_text h.0) h.3 (refused_text refused),
+  )
+
+  -- the keys of a list, of which so many are pressed
+  module _ (from mid to : Parts) (keys : List Key) (i : ℕ) (key : Key) (inside : i < length keys) (is : key ≡ get_or keys i key) where
+    pub pressed_on : (refused : Option KeyFault) (well : Bool) (text : List ℕ) → ArePressed takes failures gives misses from (take i keys) well text mid → IsPressed takes failures gives misses key mid refused to
+        → ArePressed takes failures gives misses from (take (i + 1) keys) (well && is_none refused) (text ++ refused_text refused) to
+    pressed_on refused well text h p =
+        let next : take i keys ++ key ∷ [] ≡ take (i + 1) keys = ap (λ z. take i keys ++ z ∷ []) is ∙ sym (take_more keys i key inside) in
+        subst (λ (z : List Key). ArePressed takes failures gives misses from z (well && is_none refused) (text ++ refused_text refused) to) next (pressed_more from mid to (take i keys) key refused well text h p)
+
+    pub unwritten_at : (well : Bool) (text : List ℕ) (outcome : Result Closing Fault) → ArePressed takes failures gives misses from (take i keys) well text mid
+        → HaveLedUnwritten StationGoes StationRefuses takes failures gives misses mid to (Did key ∷ []) → outcome ≡ Err fault.Write → KeysRun takes failures gives misses keys from outcome text to
+    unwritten_at well text outcome h led e = inr (
+      take i keys,
+      key,
+      drop (i + 1) keys,
+      well,
+      mid,
+      sym (take-append-drop i keys) ∙ ap (λ z. take i keys ++ z) (drop-cons keys i key inside) ∙ ap (λ z. take i keys ++ z ∷ drop (suc i) keys) (sym is) ∙ ap (λ n. take i keys ++ key ∷ drop n keys) (omega arith),
+      h,
+      led,
+      e,
+    )
+
+  module _ (Met : ScreenParts → Type 0) where
+    pub waited_more : (from mid to : Parts) (told : List Applied) (one : Applied) → HasWaited takes failures gives misses Met from told mid → (Met mid.end.screen → ⊥) → Hears takes failures gives misses mid (Some one) to
+        → HasWaited takes failures gives misses Met from (told ++ one ∷ []) to
+    waited_more from mid to [] one h unmet heard = (to, subst (λ (z : Parts). Met z.end.screen → ⊥) h unmet, subst (λ (z : Parts). Hears takes failures gives misses z (Some one) to) h heard, refl)
+    waited_more from mid to (first ∷ told) one h unmet heard = (h.0, h.1, h.2, waited_more h.0 mid to told one h.3 unmet heard)
