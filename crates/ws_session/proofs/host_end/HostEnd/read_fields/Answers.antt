@@ -21,7 +21,7 @@ by_asked_read asked fields parts kind result is split k e =
 pub returns : goal.returns
 returns c =
     let s = c.self.inside in
-    let old : HostParts = record { receiver = s.receiver; options = s.options; screen = s.kept; cancelling = s.cancelling; failed = s.has_failed } in
+    let old : HostParts = record { receiver = s.receiver; options = s.options; screen = s.kept; cancelling = s.cancelling; ended = s.ended } in
     record {
       read = subst (λ (h : HostParts). (k : ReadKind) → h.screen.pending ≡ Some k → IsRead (read_answer k h.screen.fields c.args.parts.now) c.split_answer.result) c.self.view_is
           (by_asked_read old.screen.pending old.screen.fields c.args.parts.now c.in-Some.kind c.split_answer.result (sym c.pending.ensures ∙ c.in-Some.is) c.split_answer.ensures.split);

@@ -26,7 +26,7 @@ Breaks old fault = (bytes : List ℕ) (items : List (Item Element)) (side : Stat
 pub returns-clause-ok : goal.returns-clause-ok
 returns-clause-ok c =
     let s = c.self.inside in
-    let old : StationParts = record { live = s.live; head = s.head; kept = s.kept.items; options = s.options; screen = s.screen; failed = s.has_failed } in
+    let old : StationParts = record { live = s.live; head = s.head; kept = s.kept.items; options = s.options; screen = s.screen; records = s.records; ended = s.ended } in
     subst (λ (k : StationParts). OnOk c.finish.result (Ends k (record old { live = c.finish.new.self }))) c.self.view_is
     (on_ok_weaker c.finish.result (λ p. (
       ap (λ (l : Watching Place). let k : StationParts = record old { live = l } in k) p.0,
@@ -36,6 +36,6 @@ returns-clause-ok c =
 pub returns-clause-truncated : goal.returns-clause-truncated
 returns-clause-truncated c =
     let s = c.self.inside in
-    let old : StationParts = record { live = s.live; head = s.head; kept = s.kept.items; options = s.options; screen = s.screen; failed = s.has_failed } in
+    let old : StationParts = record { live = s.live; head = s.head; kept = s.kept.items; options = s.options; screen = s.screen; records = s.records; ended = s.ended } in
     subst (λ (k : StationParts). IfErr c.finish.result (Breaks k)) c.self.view_is
     (IfErr-weaker c.finish.result _ (Breaks old) (λ fault p bytes items side l few. p bytes items (so_far old bytes items side 0 l) (is_led old bytes items side 0 l) few) c.finish.ensures.truncated)

@@ -1,9 +1,8 @@
-use Rattle.std.proofs.Common.{true, false, ℕ, ◌+◌, ◌<◌, List, Result, Ok, Err, inl, refl, ◌∙◌, subst}
+use Rattle.std.proofs.Common.{false, ℕ, ◌+◌, ◌<◌, List, Result, Ok, inl, ap, sym, ◌∙◌, subst}
 use Rattle.std.specs.Prelude.{length}
 use Rattle.ws_record.specs.declared.record.Item.{Item}
 use Rattle.ws_stream.specs.declared.element.Element.{Element}
 use Rattle.ws_session.specs.declared.refusal.Refusal.{Refusal}
-use Rattle.ws_session.specs.declared.refusal.Refusal.TheVariants.{At, Failed}
 use Rattle.ws_session.specs.declared.station.StationStep.{StationStep}
 use Rattle.ws_session.specs.StationLeads.{StationParts, StationLeads, IsStepped}
 use Rattle.ws_session.specs.StationSide.{StationSide}
@@ -17,7 +16,7 @@ Steps old new byte result = (bytes : List ℕ) (items : List (Item Element)) (si
 pub returns-in-More-clause-stepped : goal.returns-in-More-clause-stepped
 returns-in-More-clause-stepped c =
     let s = c.self.inside in
-    let old : StationParts = record { live = s.live; head = s.head; kept = s.kept.items; options = s.options; screen = s.screen; failed = s.has_failed } in
+    let old : StationParts = record { live = s.live; head = s.head; kept = s.kept.items; options = s.options; screen = s.screen; records = s.records; ended = s.ended } in
     subst (λ (k : StationParts). Steps k (record old { live = c.push.new.self }) c.args.byte (Ok c.silence.result)) c.self.view_is
     (λ bytes items side l few.
     step_more old bytes items side c.args.byte l c.push.new.self (c.in-More.ensures.step bytes items (so_far old bytes items side c.args.byte l) (is_led old bytes items side c.args.byte l) few) c.silence.result c.silence.ensures)
@@ -25,7 +24,7 @@ returns-in-More-clause-stepped c =
 pub returns-in-Open-clause-stepped : goal.returns-in-Open-clause-stepped
 returns-in-Open-clause-stepped c =
     let s = c.self.inside in
-    let old : StationParts = record { live = s.live; head = s.head; kept = s.kept.items; options = s.options; screen = s.screen; failed = s.has_failed } in
+    let old : StationParts = record { live = s.live; head = s.head; kept = s.kept.items; options = s.options; screen = s.screen; records = s.records; ended = s.ended } in
     subst (λ (k : StationParts). Steps k (record old { live = c.push.new.self; head = c.in-Open.head }) c.args.byte (Ok c.silence-in-Open.result)) c.self.view_is
     (λ bytes items side l few.
     step_open old bytes items side c.args.byte l c.push.new.self c.in-Open.head (c.in-Open.ensures.step bytes items (so_far old bytes items side c.args.byte l) (is_led old bytes items side c.args.byte l) few).1 c.silence-in-Open.result c.silence-in-Open.ensures)
@@ -33,7 +32,7 @@ returns-in-Open-clause-stepped c =
 pub returns-in-Unit-clause-stepped : goal.returns-in-Unit-clause-stepped
 returns-in-Unit-clause-stepped c =
     let s = c.self.inside in
-    let old : StationParts = record { live = s.live; head = s.head; kept = s.kept.items; options = s.options; screen = s.screen; failed = s.has_failed } in
+    let old : StationParts = record { live = s.live; head = s.head; kept = s.kept.items; options = s.options; screen = s.screen; records = s.records; ended = s.ended } in
     subst (λ (k : StationParts). Steps k c.keep.new.self c.args.byte c.keep.result) c.self.view_is
     (λ bytes items side l few.
     let n = c.in-Unit.ensures.step bytes items (so_far old bytes items side c.args.byte l) (is_led old bytes items side c.args.byte l) few in
@@ -43,7 +42,7 @@ returns-in-Unit-clause-stepped c =
 pub returns-in-Telnet-clause-stepped : goal.returns-in-Telnet-clause-stepped
 returns-in-Telnet-clause-stepped c =
     let s = c.self.inside in
-    let old : StationParts = record { live = s.live; head = s.head; kept = s.kept.items; options = s.options; screen = s.screen; failed = s.has_failed } in
+    let old : StationParts = record { live = s.live; head = s.head; kept = s.kept.items; options = s.options; screen = s.screen; records = s.records; ended = s.ended } in
     subst (λ (k : StationParts). Steps k (record old { live = c.push.new.self; options = c.answer.new.self }) c.args.byte (Ok (record { reply = c.answer.result; ends_record = false }))) c.self.view_is
     (λ bytes items side l few.
     step_telnet old bytes items side c.args.byte l c.push.new.self c.in-Telnet.token (c.in-Telnet.ensures.step bytes items (so_far old bytes items side c.args.byte l) (is_led old bytes items side c.args.byte l) few)
@@ -52,26 +51,26 @@ returns-in-Telnet-clause-stepped c =
 pub returns-in-Close-clause-stepped : goal.returns-in-Close-clause-stepped
 returns-in-Close-clause-stepped c =
     let s = c.self.inside in
-    let old : StationParts = record { live = s.live; head = s.head; kept = s.kept.items; options = s.options; screen = s.screen; failed = s.has_failed } in
+    let old : StationParts = record { live = s.live; head = s.head; kept = s.kept.items; options = s.options; screen = s.screen; records = s.records; ended = s.ended } in
     subst (λ (k : StationParts). Steps k c.close.new.self c.args.byte c.close.result) c.self.view_is
     (λ bytes items side l few.
     let led = is_led old bytes items side c.args.byte l in
     let n = c.in-Close.ensures.step bytes items (so_far old bytes items side c.args.byte l) led few in
-    step_close old bytes items side c.args.byte l c.push.new.self n.0 n.1 n.2 c.taken-place.result (c.taken-place.ensures ∙ led.count) c.close.new.self c.close.result
+    step_close old bytes items side c.args.byte l c.push.new.self few n.0 n.1 n.2 c.taken-place.result (c.taken-place.ensures ∙ led.count) c.close.new.self c.close.result
     (c.close.ensures.closed side l.units led.reads.cut.chain l.spelled l.options l.given))
 
 pub returns-in-Refused-clause-stepped : goal.returns-in-Refused-clause-stepped
 returns-in-Refused-clause-stepped c =
     let s = c.self.inside in
-    let old : StationParts = record { live = s.live; head = s.head; kept = s.kept.items; options = s.options; screen = s.screen; failed = s.has_failed } in
-    subst (λ (k : StationParts). Steps k (record old { live = c.push.new.self; failed = true }) c.args.byte (Err (At c.in-Refused.place c.in-Refused.reason))) c.self.view_is
+    let old : StationParts = record { live = s.live; head = s.head; kept = s.kept.items; options = s.options; screen = s.screen; records = s.records; ended = s.ended } in
+    subst (λ (k : StationParts). Steps k c.end.new.self c.args.byte c.end.result) c.self.view_is
     (λ bytes items side l few.
     let n = c.in-Refused.ensures.step bytes items (so_far old bytes items side c.args.byte l) (is_led old bytes items side c.args.byte l) few in
-    (n.0, refl, inl n.1))
+    subst (IsStepped old c.end.new.self bytes items side c.args.byte) (sym c.end.ensures.result) (n.0, ap (λ (z : StationParts). z.screen) c.end.ensures.end, inl n.1))
 
 pub returns-in-Failed-clause-stepped : goal.returns-in-Failed-clause-stepped
 returns-in-Failed-clause-stepped c =
     let s = c.self.inside in
-    let old : StationParts = record { live = s.live; head = s.head; kept = s.kept.items; options = s.options; screen = s.screen; failed = s.has_failed } in
-    subst (λ (k : StationParts). Steps k (record old { live = c.push.new.self; failed = true }) c.args.byte (Err Failed)) c.self.view_is
-    (λ bytes items side l few. c.in-Failed.ensures.step bytes items (so_far old bytes items side c.args.byte l) (is_led old bytes items side c.args.byte l) few)
+    let old : StationParts = record { live = s.live; head = s.head; kept = s.kept.items; options = s.options; screen = s.screen; records = s.records; ended = s.ended } in
+    subst (λ (k : StationParts). Steps k c.end-in-Failed.new.self c.args.byte c.end-in-Failed.result) c.self.view_is
+    (λ bytes items side l few. absurd (c.in-Failed.ensures.step bytes items (so_far old bytes items side c.args.byte l) (is_led old bytes items side c.args.byte l) few))
