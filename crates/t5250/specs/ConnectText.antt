@@ -13,7 +13,7 @@ use Rattle.ws_screen.specs.ScreenParts.{ScreenParts}
 use Rattle.ws_keys.specs.declared.key.Key.{Key}
 use Rattle.ws_session.specs.Acts.{Did}
 use Rattle.ws_session.specs.Attachments.{AttachedParts, HaveLed, HaveLedUnwritten, HasHeard, IsHearFault}
-use Rattle.ws_session.specs.Manners.{StationGoes, StationRefuses}
+use Rattle.ws_session.specs.Manners.{StationGoes, StationRefuses, IsKeyRefusal}
 use Rattle.ws_session.specs.StationLeads.{StationParts}
 use Rattle.ws_session.specs.declared.end_step.Applied.{Applied}
 use Rattle.ws_session.specs.declared.key_fault.KeyFault.{KeyFault}
@@ -57,6 +57,11 @@ abbrev pub waited_text : Waited → List ℕ
 waited_text (Failed (fault.Refused place reason)) = event_text (StationRefused place reason)
 waited_text waited = []
 
+-- after a wait that no fault ended the end goes on
+abbrev pub IsWorking : Waited → Bool → Type 0
+IsWorking (Failed why) broken = Unit {0}
+IsWorking waited broken = broken ≡ false
+
 -- a key that is refused has its line
 abbrev pub refused_text : Option KeyFault → List ℕ
 refused_text None = []
@@ -73,10 +78,13 @@ module _ {S K : Type 0} (takes : MayTake K) (failures : K → ℕ) (gives : MayG
   abbrev pub Hears : Parts → Option Applied → Parts → Type 0
   Hears from heard to = HasHeard StationGoes StationRefuses takes failures gives misses from to heard
 
-  -- a key was pressed: what it sends went out, or it was refused, and nothing is changed
+  -- a key was pressed: what it sends went out, or it was refused, and nothing is changed; no byte was read or taken
   pub record IsPressed (key : Key) (from : Parts) (refused : Option KeyFault) (to : Parts) : Type 0 where
     pub led : HaveLed StationGoes StationRefuses takes failures gives misses from to (Did key ∷ []) []
     pub same : IfSome refused (λ why. to ≡ from)
+    pub why : IfSome refused (IsKeyRefusal from.end key)
+    pub waiting : to.waiting ≡ from.waiting
+    pub unread : to.source ≡ from.source
 
   -- keys one after another
   abbrev pub ArePressed : Parts → List Key → Bool → List ℕ → Parts → Type 0

@@ -7,9 +7,10 @@ use Rattle.ws_code.specs.declared.fault.Fault.{Fault}
 use Rattle.ws_code.specs.declared.reason.Reason.{Reason}
 use Rattle.ws_code.specs.declared.fault.Fault.TheVariants as fault
 use Rattle.ws_session.specs.Acts.{Did}
-use Rattle.ws_session.specs.Attachments.{AttachedParts, HaveLed, HaveLedUnwritten, HasHeard, IsHearFault}
+use Rattle.ws_session.specs.Attachments.{AttachedParts, HaveLed, IsSendFailure, HasHeard, IsHearFault}
 use Rattle.ws_session.specs.HostLeads.{HostParts}
-use Rattle.ws_session.specs.Manners.{HostGoes, HostRefuses}
+use Rattle.ws_session.specs.HostSide.{HostSide, SendReaction, host_send, host_cancel}
+use Rattle.ws_session.specs.Manners.{HostGoes, HostRefuses, IsSendRefusal}
 use Rattle.ws_record.specs.declared.opcode.Opcode.TheVariants.{CancelInvite}
 use Rattle.ws_session.specs.declared.end_step.Order.{Order}
 use Rattle.ws_session.specs.declared.end_step.Order.TheVariants.{Send, Cancel}
@@ -43,16 +44,26 @@ abbrev pub deed_of : Order → Order
 deed_of (Send CancelInvite body) = Cancel
 deed_of order = order
 
+abbrev pub reaction_to : Order → HostSide → SendReaction
+reaction_to (Send opcode body) side = host_send side opcode body
+reaction_to Cancel side = host_cancel side
+
 module _ {S K : Type 0} (takes : MayTake K) (failures : K → ℕ) (gives : MayGive S) (misses : S → ℕ) where
   abbrev pub Parts : Type 0
   Parts = AttachedParts HostParts S K
 
-  -- what the host end was told to do: it was written, or refused, and nothing is changed, or a write failed
+  -- the host end did this: it was written, or refused, and nothing is changed; no byte was read or taken
+  pub record IsDone (order : Order) (from : Parts) (refused : Option SendFault) (to : Parts) : Type 0 where
+    pub led : HaveLed HostGoes HostRefuses takes failures gives misses from to (Did order ∷ []) []
+    pub same : IfSome refused (λ why. to ≡ from)
+    pub why : IfSome refused (IsSendRefusal from.end (reaction_to order))
+    pub waiting : to.waiting ≡ from.waiting
+    pub unread : to.source ≡ from.source
+
+  -- what it was told to do is done, or a write failed, or for want of memory nothing is
   abbrev pub IsGiven : Order → Parts → Result (Option SendFault) Fault → Parts → Type 0
-  IsGiven order from (Ok refused) to = HaveLed HostGoes HostRefuses takes failures gives misses from to (Did (deed_of order) ∷ []) []
-      × IfSome refused (λ why. to ≡ from)
-  IsGiven order from (Err why) to = (why ≡ fault.Write)
-      × HaveLedUnwritten HostGoes HostRefuses takes failures gives misses from to (Did (deed_of order) ∷ [])
+  IsGiven order from (Ok refused) to = IsDone (deed_of order) from refused to
+  IsGiven order from (Err why) to = IsSendFailure HostGoes HostRefuses takes failures gives misses from to (Did (deed_of order) ∷ []) why
 
   -- the host end heard the station up to the first thing that it tells, which is printed
   abbrev pub HearsOne : Parts → Result Closing Fault → List ℕ → Parts → Type 0

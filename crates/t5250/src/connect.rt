@@ -1,4 +1,4 @@
-ghost use Rattle.std.specs.Prelude.{◌≡◌, List, ℕ, true, false};
+ghost use Rattle.std.specs.Prelude.{◌≡◌, List, ℕ, true, false, IfOk};
 ghost use Rattle.t5250.specs.ConnectText as Spec;
 ghost use Rattle.t5250.specs.Printing.{Prints};
 
@@ -58,9 +58,11 @@ fn press_keys<S: Source, K: Sink, O: Sink>(
     out: &mut O,
     output: Output,
 ) -> Carried
-    ensures { (text : List ℕ) × Spec.KeysRun K.takes K.failures S.gives S.failures keys.now
+    requires works { attached.old.broken ≡ false }
+    ensures runs { (text : List ℕ) × Spec.KeysRun K.takes K.failures S.gives S.failures keys.now
         attached.old result.outcome text attached.new
         × Prints O.takes O.failures out.old out.new output result.output text }
+    ensures works { IfOk result.outcome (λ closing. attached.new.broken ≡ false) }
 {
     let mut output = output;
     let mut closing = Closing::Done;
@@ -83,8 +85,10 @@ fn wait<S: Source, K: Sink, W: Watch>(
     watch: &W,
     awaited: &Awaited,
 ) -> Waited
-    ensures { Spec.IsWaited K.takes K.failures S.gives S.failures awaited.now
+    requires works { attached.old.broken ≡ false }
+    ensures waited { Spec.IsWaited K.takes K.failures S.gives S.failures awaited.now
         attached.old result attached.new }
+    ensures works { Spec.IsWorking result attached.new.broken }
 {
     watch.begin();
     match awaited {
@@ -99,8 +103,10 @@ fn wait_for<S: Source, K: Sink, W: Watch>(
     watch: &W,
     awaited: &Awaited,
 ) -> Waited
-    ensures { Spec.WaitsFor K.takes K.failures S.gives S.failures (Spec.IsMet awaited.now)
-        attached.old result attached.new }
+    requires works { attached.old.broken ≡ false }
+    ensures waited { Spec.WaitsFor K.takes K.failures S.gives S.failures
+        (Spec.IsMet awaited.now) attached.old result attached.new }
+    ensures works { Spec.IsWorking result attached.new.broken }
 {
     for _ in 0..4_294_967_296u64 {
         if is_met(attached.end().screen(), awaited) {
@@ -144,8 +150,10 @@ fn hear_record<S: Source, K: Sink, W: Watch>(
     attached: &mut Attached<Station, S, K>,
     watch: &W,
 ) -> Waited
-    ensures { Spec.HearsOne K.takes K.failures S.gives S.failures
+    requires works { attached.old.broken ≡ false }
+    ensures heard { Spec.HearsOne K.takes K.failures S.gives S.failures
         attached.old result attached.new }
+    ensures works { Spec.IsWorking result attached.new.broken }
 {
     match attached.hear() {
         Ok(Some(_)) => Waited::Met,

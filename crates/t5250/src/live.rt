@@ -1,4 +1,4 @@
-ghost use Rattle.std.specs.Prelude.{◌≡◌, [], List, ℕ, Result, IfOk, IfErr};
+ghost use Rattle.std.specs.Prelude.{◌≡◌, [], false, List, ℕ, Result, IfOk, IfErr};
 ghost use Rattle.ws_code.specs.declared.fault.Fault.{Fault as AFault};
 ghost use Rattle.ws_session.specs.Attachments.{AttachedParts};
 ghost use Rattle.t5250.specs.Buffering.{Buffering, buffered_takes};
@@ -101,8 +101,12 @@ pub trait LiveMove<E, S, K>: LiveLine {
         out: &mut O,
         output: Output,
     ) -> Carried
-        ensures { (text : List ℕ) × runs self.now attached.old result.outcome text attached.new
-            × Prints O.takes O.failures out.old out.new output result.output text };
+        requires works { attached.old.broken ≡ false }
+        ensures runs { (text : List ℕ)
+            × runs self.now attached.old result.outcome text attached.new
+            × Prints O.takes O.failures out.old out.new output result.output text }
+        ensures works { IfOk result.outcome (λ closing.
+            Spec.stops closing ≡ false → attached.new.broken ≡ false) };
 }
 
 /// Carries lines out one after another, up to the first at which the end refuses a byte. What each prints is out before
@@ -117,11 +121,13 @@ pub fn carry_lines<E, S, K, L: LiveMove<E, S, K>, W: Watch, O: Sink>(
     ready: bool,
     out: &mut BufferedSink<O>,
 ) -> Result<Ran, RunFault>
+    requires works { attached.old.broken ≡ false }
     requires empty { out.old.held ≡ [] }
     ensures ran { IfOk result (Spec.HasRun L.runs ready O.takes O.failures
         attached.old attached.new out.old.sink out.new.sink lines.now) }
     ensures fault { IfErr result (Spec.IsLiveFault L.runs ready O.takes O.failures
         attached.old attached.new out.old.sink out.new.sink lines.now) }
+    ensures works { IfOk result (λ ran. ran.is_over ≡ false → attached.new.broken ≡ false) }
     ensures held { out.new.held ≡ [] }
 {
     let mut ran = Ran::none();
@@ -146,11 +152,14 @@ fn carry_line<E, S, K, L: LiveMove<E, S, K>, W: Watch, O: Sink>(
     ready: bool,
     out: &mut BufferedSink<O>,
 ) -> Result<Closing, RunFault>
+    requires works { attached.old.broken ≡ false }
     requires empty { out.old.held ≡ [] }
     ensures done { IfOk result (Spec.HasCarried L.runs ready O.takes O.failures
         attached.old attached.new out.old.sink out.new.sink line.now) }
     ensures fault { IfErr result (Spec.IsCarryFault L.runs ready O.takes O.failures
         attached.old attached.new out.old.sink out.new.sink line.now) }
+    ensures works { IfOk result (λ closing.
+        Spec.stops closing ≡ false → attached.new.broken ≡ false) }
     ensures held { out.new.held ≡ [] }
 {
     let carried = line.carry_out(attached, watch, out, Output::Open);

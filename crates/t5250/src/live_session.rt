@@ -1,6 +1,6 @@
 //! Live sessions over a connection: the sockets, the script or standard input, and standard output. What a line does
 //! at an end, and what it prints, is said where it is carried out.
-ghost use Rattle.std.specs.Prelude.{◌≡◌, []};
+ghost use Rattle.std.specs.Prelude.{◌≡◌, [], false, IfOk};
 
 use crate::buffered_sink::BufferedSink;
 use crate::connect_line::StationLine;
@@ -174,8 +174,10 @@ where
     L: LiveMove<E, S, K>,
     W: Watch,
     O: Sink,
-    requires { out.old.held ≡ [] }
-    ensures { out.new.held ≡ [] }
+    requires works { attached.old.broken ≡ false }
+    requires empty { out.old.held ≡ [] }
+    ensures works { IfOk result (λ ran. ran.is_over ≡ false → attached.new.broken ≡ false) }
+    ensures held { out.new.held ≡ [] }
 {
     match script {
         Some(lines) => carry_lines(attached, watch, lines.as_slice(), ready, out),
@@ -196,8 +198,10 @@ where
     L: LiveMove<E, S, K>,
     W: Watch,
     O: Sink,
-    requires { out.old.held ≡ [] }
-    ensures { out.new.held ≡ [] }
+    requires works { attached.old.broken ≡ false }
+    requires empty { out.old.held ≡ [] }
+    ensures works { IfOk result (λ ran. ran.is_over ≡ false → attached.new.broken ≡ false) }
+    ensures held { out.new.held ≡ [] }
 {
     let mut ran = Ran::none();
     let mut number = 0u64;

@@ -1,5 +1,6 @@
-ghost use Rattle.std.specs.Prelude.{◌≡◌, [], List, ℕ, IfOk, IfErr};
+ghost use Rattle.std.specs.Prelude.{◌≡◌, [], false, List, ℕ, IfOk, IfErr};
 ghost use Rattle.t5250.specs.ServeText as Spec;
+ghost use Rattle.t5250.specs.LiveText.{stops};
 ghost use Rattle.t5250.specs.Printing.{Prints};
 
 use crate::buffered_sink::BufferedSink;
@@ -38,8 +39,10 @@ fn give<S: Source, K: Sink>(
     attached: &mut Attached<HostEnd, S, K>,
     order: &Order,
 ) -> Result<Option<SendFault>, Fault>
-    ensures { Spec.IsGiven K.takes K.failures S.gives S.failures order.now
+    requires works { attached.old.broken ≡ false }
+    ensures given { Spec.IsGiven K.takes K.failures S.gives S.failures order.now
         attached.old result attached.new }
+    ensures works { IfOk result (λ refused. attached.new.broken ≡ false) }
 {
     match order {
         Order::Cancel | Order::Send(Opcode::CancelInvite, _) => attached.cancel(),
@@ -73,9 +76,12 @@ fn hear_event<S: Source, K: Sink, W: Watch, O: Sink>(
     out: &mut O,
     output: Output,
 ) -> Carried
-    ensures { (text : List ℕ) × Spec.HearsOne K.takes K.failures S.gives S.failures
+    requires works { attached.old.broken ≡ false }
+    ensures heard { (text : List ℕ) × Spec.HearsOne K.takes K.failures S.gives S.failures
         attached.old result.outcome text attached.new
         × Prints O.takes O.failures out.old out.new output result.output text }
+    ensures works { IfOk result.outcome (λ closing.
+        stops closing ≡ false → attached.new.broken ≡ false) }
 {
     match attached.hear() {
         Ok(Some(event)) => Carried {
@@ -102,6 +108,7 @@ pub fn answer_on<S: Source, K: Sink, W: Watch, O: Sink>(
     watch: &W,
     out: &mut BufferedSink<O>,
 ) -> Result<bool, RunFault>
+    requires works { attached.old.broken ≡ false }
     requires empty { out.old.held ≡ [] }
     ensures answered { IfOk result (Spec.HasAnsweredOn K.takes K.failures S.gives S.failures
         O.takes O.failures attached.old attached.new out.old.sink out.new.sink) }
