@@ -1,6 +1,7 @@
-use Rattle.std.proofs.Common.{◌≡◌, ℕ, suc, ◌+◌, ◌<◌, List, [], ◌∷◌, ◌++◌, Bool, true, false, ◌&&◌, length, get_or, take, drop, take-append-drop, inl, inr, refl, sym, ap, ◌∙◌, subst, arith, append_assoc, length-append}
+use Rattle.std.proofs.Common.{◌≡◌, ℕ, suc, ◌+◌, ◌<◌, ◌≤◌, List, [], ◌∷◌, ◌++◌, Bool, true, false, ◌&&◌, length, get_or, take, drop, take-append-drop, inl, inr, refl, sym, ap, ◌∙◌, subst, arith, append_assoc, length-append}
 use Rattle.std.specs.Prelude.{Result, Ok, Err, Option, None, Some, is_none}
 use Rattle.std.proofs.Math.Seq.{drop-cons}
+use Rattle.std.proofs.lemmas.Bool.{cases_lt}
 use Rattle.std.proofs.lemmas.List.{append-nil, take_more}
 use Rattle.ws_code.specs.Device.{MayTake, MayGive}
 use Rattle.ws_code.specs.declared.fault.Fault.{Fault}
@@ -14,7 +15,9 @@ use Rattle.ws_session.specs.StationLeads.{StationParts}
 use Rattle.ws_session.specs.declared.end_step.Applied.{Applied}
 use Rattle.ws_session.specs.declared.key_fault.KeyFault.{KeyFault}
 use Rattle.t5250.specs.declared.live.Closing.{Closing}
-use Rattle.t5250.specs.ConnectText.{refused_text, IsPressed, ArePressed, KeysRun, Hears, HasWaited}
+use Rattle.t5250.specs.declared.connect.Waited.{Waited}
+use Rattle.t5250.specs.declared.connect.Waited.TheVariants as waits
+use Rattle.t5250.specs.ConnectText.{refused_text, IsPressed, ArePressed, KeysRun, Hears, HasWaited, HearsOne, HearsNone}
 
 -- Keys and records at a station, one more at a time.
 
@@ -80,3 +83,17 @@ module _ {S K : Type 0} (takes : MayTake K) (failures : K → ℕ) (gives : MayG
         → HasWaited takes failures gives misses Met from (told ++ one ∷ []) to
     waited_more from mid to [] one h unmet heard = (to, subst (λ (z : Parts). Met z.end.screen → ⊥) h unmet, subst (λ (z : Parts). Hears takes failures gives misses z (Some one) to) h heard, refl)
     waited_more from mid to (first ∷ told) one h unmet heard = (h.0, h.1, h.2, waited_more h.0 mid to told one h.3 unmet heard)
+
+    pub waits_on : (from to : Parts) (told : List Applied) (one : Applied) (count : ℕ) → length told ≡ count → length (told ++ one ∷ []) ≡ count + 1
+    waits_on from to told one count e = omega (arith, e, length-append told (one ∷ []))
+
+  -- what isn't a record
+  pub hears_none : (from to : Parts) (waited : Waited) → HearsOne takes failures gives misses from waited to → (waited ≡ waits.Met → ⊥) → HearsNone takes failures gives misses from waited to
+  hears_none from to waits.Met h other = absurd (other refl)
+  hears_none from to waits.Late h other = h
+  hears_none from to waits.Ended h other = h
+  hears_none from to (waits.Failed why) h other = h
+
+-- what no row up to one has, and that one neither
+pub below_next : (P : ℕ → Type 0) (at : ℕ) → ((row : ℕ) → 1 ≤ row → row < at → P row → ⊥) → (P at → ⊥) → (row : ℕ) → 1 ≤ row → row < at + 1 → P row → ⊥
+below_next P at below here row low high p = elim (cases_lt row at) [ inl less ↦ below row low less p | inr more ↦ here (subst P (let e : row ≡ at = omega (arith, high, more) in e) p) ]

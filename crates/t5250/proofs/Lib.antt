@@ -15,3 +15,4 @@ pub mod LiveLines
 pub mod LiveRuns
 pub mod LiveOutput
 pub mod ConnectRuns
+pub mod FieldTexts

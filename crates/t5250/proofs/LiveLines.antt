@@ -1,6 +1,8 @@
 use Rattle.std.proofs.Common.{◌≡◌, ◌≢◌, ℕ, ◌<◌, List, [], ◌∷◌, ◌++◌, true, false, length, inl, inr, refl, sym, ap, ◌∙◌, subst, arith}
-use Rattle.std.specs.Prelude.{codes, string_bytes}
+use Rattle.std.specs.Prelude.{codes, string_bytes, ◌⊎◌}
 use Rattle.std.proofs.lemmas.Bool.{false≢true}
+use Rattle.ws_record.specs.declared.opcode.Opcode.{Opcode}
+use Rattle.ws_stream.specs.declared.element.Element.{Element}
 use Rattle.ws_keys.specs.declared.key.Key.{Key}
 use Rattle.ws_session.specs.declared.end_step.Order.TheVariants.{Send, Cancel}
 use Rattle.ws_session.specs.declared.world.Move.{Move}
@@ -141,9 +143,17 @@ no_host_command command words free plain ns (host.Give Cancel) m = blank_inside 
 no_host_command command words free plain ns host.Await m = blank_inside command words (ap has_no_blank m)
 
 -- a line that sends is a move that sends
-pub no_send_line : (words : List ℕ) → ((step : Move) → IsMove (codes "send " ++ words) step → ⊥) → (line : HostLine) → HostMeans (codes "send " ++ words) line → ⊥
-no_send_line words none_is host.Nothing (inl e) = absurd (omega (arith, ap length e))
-no_send_line words none_is host.Nothing (inr c) = cc
-no_send_line words none_is (host.Give (Send opcode body)) m = none_is (moves.Send opcode body) m
-no_send_line words none_is (host.Give Cancel) m = blank_inside (codes "send") words (ap has_no_blank m)
-no_send_line words none_is host.Await m = blank_inside (codes "send") words (ap has_no_blank m)
+pub no_send_line : (command words : List ℕ) → has_no_blank command ≡ true → IsNoComment ((command ++ codes " ") ++ words) → ((step : Move) → IsMove ((command ++ codes " ") ++ words) step → ⊥) → (line : HostLine) → HostMeans ((command ++ codes " ") ++ words) line → ⊥
+no_send_line command words free plain none_is host.Nothing (inl e) = blank_inside command words (ap has_no_blank e)
+no_send_line command words free plain none_is host.Nothing (inr c) = plain c.0 c.1
+no_send_line command words free plain none_is (host.Give (Send opcode body)) m = none_is (moves.Send opcode body) m
+no_send_line command words free plain none_is (host.Give Cancel) m = blank_inside command words (ap has_no_blank m)
+no_send_line command words free plain none_is host.Await m = blank_inside command words (ap has_no_blank m)
+
+-- no other move is a line that sends
+pub sends_only : (command words : List ℕ) → has_no_blank command ≡ true → command ≡ codes "send" → (step : Move) → IsMove ((command ++ codes " ") ++ words) step → ((opcode : Opcode) (body : List Element) → step ≡ moves.Send opcode body → ⊥) → ⊥
+sends_only command words free e (moves.Send opcode body) m other = other opcode body refl
+sends_only command words free e moves.Cancel m other = blank_inside command words (ap has_no_blank m)
+sends_only command words free e (moves.ToStation n) m other = differ (codes "send") (codes "down") refl (sym e ∙ (split_unique command (codes "down") words m.0 free refl m.1).0)
+sends_only command words free e (moves.ToHost n) m other = differ (codes "send") (codes "up") refl (sym e ∙ (split_unique command (codes "up") words m.0 free refl m.1).0)
+sends_only command words free e (moves.Key key) m other = differ (codes "send") (codes "key") refl (sym e ∙ (split_unique command (codes "key") words m.0 free refl m.1).0)

@@ -120,9 +120,9 @@ module _ {S K : Type 0} (takes : MayTake K) (failures : K → ℕ) (gives : MayG
   abbrev pub WaitsFor : (ScreenParts → Type 0) → Parts → Waited → Parts → Type 0
   WaitsFor Met' from waited to =
       ((told : List Applied) × HasWaited Met' from told to × Met' to.end.screen × (waited ≡ Met))
-      ⊎ ((told : List Applied) × (mid : Parts) × HasWaited Met' from told mid × (Met' mid.end.screen → ⊥)
+      ⊎ (((told : List Applied) × (mid : Parts) × HasWaited Met' from told mid × (Met' mid.end.screen → ⊥)
       × HearsNone mid waited to)
-      ⊎ ((told : List Applied) × HasWaited Met' from told to × (length told ≡ most_reads) × (waited ≡ Failed fault.Read))
+      ⊎ ((told : List Applied) × HasWaited Met' from told to × (length told ≡ most_reads) × (waited ≡ Failed fault.Read)))
 
   -- the next record, whatever it is
   abbrev pub HearsOne : Parts → Waited → Parts → Type 0

@@ -59,6 +59,7 @@ fn field_text(screen: &Screen, field: &Field) -> ArrayString<MAX_TEXT>
     requires { field.now.start + field.now.length ≤ CELLS }
     ensures { result.bytes ≡ Spec.shown_of screen.now.cells field.now }
 {
+    screen.known();
     let start = field.start.place();
     let mut text = ArrayString::new();
     let mut hidden = is_hidden(screen, start);
@@ -75,6 +76,7 @@ fn is_hidden(screen: &Screen, end: u16) -> bool
     requires { end ≤ CELLS }
     ensures { result ≡ Shown.is_hidden screen.now.cells end }
 {
+    screen.known();
     let mut hidden = false;
     for place in 0..end {
         hidden = hides_after(byte_at(screen, place), hidden);

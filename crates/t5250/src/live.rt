@@ -62,7 +62,8 @@ impl Ran {
 }
 
 impl Closing {
-    fn ran(self) -> Ran
+    /// What a line came to that closed so.
+    pub fn ran(self) -> Ran
         ensures { result ≡ Spec.ran_by self }
     {
         Ran {
@@ -144,8 +145,8 @@ pub fn carry_lines<E, S, K, L: LiveMove<E, S, K>, W: Watch, O: Sink>(
     Ok(ran)
 }
 
-// Carries a line out, and hands on what it prints.
-fn carry_line<E, S, K, L: LiveMove<E, S, K>, W: Watch, O: Sink>(
+/// Carries a line out, as `carry_lines` does.
+pub fn carry_line<E, S, K, L: LiveMove<E, S, K>, W: Watch, O: Sink>(
     attached: &mut Attached<E, S, K>,
     watch: &W,
     line: &L,

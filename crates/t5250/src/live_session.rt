@@ -5,7 +5,7 @@ ghost use Rattle.std.specs.Prelude.{◌≡◌, [], false, IfOk};
 use crate::buffered_sink::BufferedSink;
 use crate::connect_line::StationLine;
 use crate::fault::RunFault;
-use crate::live::{LiveMove, Ran, Watch, carry_lines, hand_on};
+use crate::live::{LiveMove, Ran, Watch, carry_line, carry_lines, hand_on};
 use crate::live_address::HostPort;
 use crate::live_command::{ConnectAsked, Live, ServeAsked};
 use crate::live_line::{LiveLine, read_lines};
@@ -19,7 +19,6 @@ use std::io;
 use std::io::{ErrorKind, Read};
 use std::net::{Net, Shutdown, TcpListener, TcpStream, ToSocketAddrs};
 use std::rt::{Files, Runtime};
-use std::slice;
 use std::time::{Clock, Duration};
 use ws_code::{ReadSource, Sink, WriteSink, write_whole};
 use ws_session::{Attached, HostEnd, Station};
@@ -208,7 +207,7 @@ where
     for line in rt.lines(rt.alloc()) {
         number = number.saturating_add(1);
         let line = read_input_line::<R, L>(rt, line, number)?;
-        ran = ran.and(carry_lines(attached, watch, slice::from_ref(&line), ready, out)?);
+        ran = ran.and(carry_line(attached, watch, &line, ready, out)?.ran());
         if ran.is_over {
             return Ok(ran);
         }

@@ -65,18 +65,11 @@ fn read_command(alloc: Global, command: &str, words: &str) -> Result<HostLine, L
         (IsLineFault (Spec.Means (command.now ++ codes " " ++ words.now))) }
 {
     match command {
-        "send" => read_send(alloc, words),
+        "send" => match read_move(alloc, command, words) {
+            Ok(Move::Send(opcode, body)) => Ok(HostLine::Give(Order::Send(opcode, body))),
+            Ok(_) => Err(LineFault::Bad),
+            Err(fault) => Err(fault),
+        },
         _ => Err(LineFault::Bad),
-    }
-}
-
-fn read_send(alloc: Global, words: &str) -> Result<HostLine, LineFault>
-    ensures line { IfOk result (Spec.Means (codes "send " ++ words.now)) }
-    ensures fault { IfErr result (IsLineFault (Spec.Means (codes "send " ++ words.now))) }
-{
-    match read_move(alloc, "send", words) {
-        Ok(Move::Send(opcode, body)) => Ok(HostLine::Give(Order::Send(opcode, body))),
-        Ok(_) => Err(LineFault::Bad),
-        Err(fault) => Err(fault),
     }
 }

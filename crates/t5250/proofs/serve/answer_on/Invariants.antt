@@ -1,0 +1,13 @@
+use Rattle.std.proofs.Common.{◌≡◌, ℕ, List, [], true, false}
+use Rattle.std.specs.Prelude.{replicate}
+use Rattle.ws_code.specs.Device.{WentOut}
+use Rattle.t5250.specs.LiveText.{HaveRun}
+use Rattle.t5250.specs.ServeText.{HostRuns}
+use Rattle.t5250.specs.declared.serve_line.HostLine.TheVariants.{Await}
+use Rattle.t5250.proofs.serve.answer_on.Given as goal
+
+-- so many things were told and printed
+abbrev pub invariant-loop : goal.invariant-loop
+invariant-loop g l = (text : List ℕ)
+    × HaveRun (HostRuns g.K.Sink.takes g.K.Sink.failures g.S.Source.gives g.S.Source.failures) false l.fn.attached (replicate l.counter Await) true text l.attached
+    × WentOut g.O.Sink.takes g.O.Sink.failures l.fn.out.sink l.out.sink text × (l.attached.broken ≡ false) × (l.out.held ≡ [])
