@@ -2,7 +2,8 @@
 """Drives `t5250 connect` and `t5250 serve` through pipes, as a program would, and looks at what they print.
 
 Build the program first (`cd crates/t5250 && rt run -- check < stdin`), then call `python3 tests/run_live.py` from
-anywhere; another program than that of `crates/t5250/out` may be named behind it. The two meet one another, and each
+anywhere; another program than that of
+`crates/t5250/out` may be named behind it, and `-v` tells the time of each test. The two meet one another, and each
 meets a socket of Python that plays the other side, also one that is silent, slow, mad or gone. The last line tells how
 many passed and how many failed, and the status is 1 where one failed.
 """
@@ -18,7 +19,8 @@ import time
 import traceback
 
 HERE = os.path.dirname(os.path.abspath(__file__))
-PROGRAM = os.path.abspath(sys.argv[1] if len(sys.argv) > 1 else os.path.join(HERE, "..", "crates", "t5250", "out", "t5250"))
+NAMED = [word for word in sys.argv[1:] if word != "-v"]
+PROGRAM = os.path.abspath(NAMED[0] if NAMED else os.path.join(HERE, "..", "crates", "t5250", "out", "t5250"))
 EXAMPLES = os.path.join(HERE, "..", "examples")
 
 IAC, EOR, SB, SE = 0xFF, 0xEF, 0xFA, 0xF0
@@ -82,11 +84,15 @@ class Run:
         self.lines = queue.Queue()
         self.reader = threading.Thread(target=self.read, daemon=True)
         self.reader.start()
-        if text is not None:
-            self.process.stdin.write(text.encode())
-            self.process.stdin.flush()
-        if text is not None and not keep_open:
-            self.process.stdin.close()
+        try:
+            if text is not None:
+                self.process.stdin.write(text.encode())
+                self.process.stdin.flush()
+            if text is not None and not keep_open:
+                self.process.stdin.close()
+        except BrokenPipeError:
+            # It has ended before it read its input.
+            pass
 
     def read(self):
         for line in self.process.stdout:
@@ -342,7 +348,7 @@ def serve_prints_what_it_is_told_behind_its_script():
     side = station_at(serve)
     negotiate_as_station(side)
     side.take(record(3, hexed(SIGN_ON)))
-    side.send(record(0, hexed("0634F1") + hexed("110635C2D6C2")))
+    side.send(record(3, hexed("0634F1" "110635C2D6C2")))
     time.sleep(0.2)
     side.close()
     serve.end(0, "host ready IBM-3179-2\nanswer 6 52 F1\n  field 6 53 C2D6C2\n")
@@ -354,15 +360,15 @@ def serve_prints_what_it_is_told_behind_its_script():
 def inquiry_as_host(side, pieces=0):
     negotiate_as_host(side, pieces)
     side.send(record(3, hexed(SIGN_ON)), pieces)
-    side.take(record(0, hexed("073BF1" "110635D8E4E2C5D9" "110735E2C5C3D9C5E3")))
+    side.take(record(3, hexed("073BF1" "110635D8E4E2C5D9" "110735E2C5C3D9C5E3")))
     side.send(record(3, hexed(INQUIRY)), pieces)
-    side.take(record(0, hexed("031835" "110314F4F7F1F1")))
+    side.take(record(3, hexed("031835" "110314F4F7F1F1")))
     side.send(record(3, hexed(PRICE)), pieces)
     side.take(record(0, b"", 0x4000))
     side.send(record(10), pieces)
     side.take(record(10))
     side.send(record(3, hexed(PRICE)), pieces)
-    side.take(record(0, hexed("031433")))
+    side.take(record(3, hexed("031433")))
     if not side.closed():
         raise Failure("the station goes on")
 
@@ -450,7 +456,7 @@ def a_refused_record():
 @test
 def garbage_from_a_host():
     at_host(lambda side: side.send(b"HTTP/1.1 400 Bad Request\r\n"), ["--wait", "5"], "await\nshow\n", 1,
-            "station refused at 1: reason 11 BadType\n" if False else "station refused at 2: reason 11 BadType\n",
+            "station refused at 2: reason 11 BadType\n",
             host_ends=False)
 
 
@@ -514,15 +520,19 @@ def a_host_that_closes_inside_a_record():
 @test
 def a_host_that_never_reads():
     def play(side):
-        # An answer to each SEND would fill the line.
+        # An answer to each SEND fills the line.
+        side.send(OPENING)
         flood = SEND_NAME * 2000
-        side.stream.settimeout(8)
+        side.stream.settimeout(90)
         try:
             while True:
                 side.stream.sendall(flood)
         except OSError:
             pass
-    at_host(play, ["--wait", "1"], "await\n", 2, "", "cannot write\n", host_ends=False, buffer=4096)
+    # The line takes many answers before it is full.
+    host = Host(play, buffer=4096)
+    run = Run(["connect", "--wait", "1", "127.0.0.1:%d" % host.port], "await\n" * 30)
+    run.end(2, None, "cannot write\n", 40)
 
 
 @test
@@ -643,20 +653,21 @@ def a_time_out_while_connecting():
 
 
 @test
-def a_closed_output():
+def a_full_output():
+    if not os.path.exists("/dev/full"):
+        print("left out: a full output, for want of /dev/full")
+        return
+
     def play(side):
         negotiate_as_host(side)
         side.send(record(3, hexed(SIGN_ON)))
         side.closed()
     host = Host(play)
-    run = Run(["connect", "--wait", "5", "127.0.0.1:%d" % host.port])
-    run.process.stdout.close()
-    run.tell("await")
-    run.tell("show")
-    run.process.stdin.close()
-    run.process.wait(timeout=10)
-    expect(run.process.stderr.read(), b"cannot write\n", "standard error")
-    expect(run.process.returncode, 2, "status")
+    with open("/dev/full", "w") as full:
+        run = subprocess.run([PROGRAM, "connect", "--wait", "5", "127.0.0.1:%d" % host.port], input=b"await\nshow\n",
+                             stdout=full, stderr=subprocess.PIPE, timeout=20)
+    expect(run.stderr, b"cannot write\n", "standard error")
+    expect(run.returncode, 2, "status")
 
 
 # A host at a station of Python.
@@ -671,9 +682,9 @@ def a_station_at_a_served_script():
         side = station_at(serve)
         negotiate_as_station(side, pieces=pieces)
         side.take(record(3, hexed(SIGN_ON)))
-        side.send(record(0, hexed("073BF1" "110635D8E4E2C5D9" "110735E2C5C3D9C5E3")), pieces)
+        side.send(record(3, hexed("073BF1" "110635D8E4E2C5D9" "110735E2C5C3D9C5E3")), pieces)
         side.take(record(3, hexed(INQUIRY)))
-        side.send(record(0, hexed("031835" "110314F4F7F1F1")), pieces)
+        side.send(record(3, hexed("031835" "110314F4F7F1F1")), pieces)
         side.take(record(3, hexed(PRICE)))
         side.send(record(0, b"", 0x4000), pieces)
         side.take(record(10))
@@ -701,8 +712,8 @@ def an_answer_that_nobody_asked():
     serve = Run(["serve", "--wait", "10", "127.0.0.1:0"], "await\nawait\nawait\n")
     side = station_at(serve)
     negotiate_as_station(side)
-    side.send(record(0, hexed("0634F1")))
-    place = 3 + len(IS_NAME) + 4 * 3 + len(record(0, hexed("0634F1"))) - 1
+    side.send(record(3, hexed("0634F1")))
+    place = 3 + len(IS_NAME) + 4 * 3 + len(record(3, hexed("0634F1"))) - 1
     serve.end(1, "host ready IBM-3179-2\nhost refused at %d: reason 62 UnaskedAnswer\n" % place)
     side.close()
 
@@ -758,7 +769,7 @@ def a_station_that_closes_inside_an_answer():
     side = station_at(serve)
     negotiate_as_station(side)
     side.take(record(3, hexed(SIGN_ON)))
-    side.send(record(0, hexed("0634F1"))[:9])
+    side.send(record(3, hexed("0634F1"))[:9])
     side.stream.shutdown(socket.SHUT_WR)
     serve.end(1, "host ready IBM-3179-2\nended\nended\n")
     side.close()
@@ -792,12 +803,15 @@ def a_reset_is_a_fault():
 def main():
     passed = failed = 0
     for function in TESTS:
+        began = time.monotonic()
         try:
             function()
             passed += 1
         except Exception as error:
             failed += 1
             print("%s: %s" % (function.__name__, error if isinstance(error, Failure) else traceback.format_exc()))
+        if "-v" in sys.argv:
+            print("%5.1f s  %s" % (time.monotonic() - began, function.__name__), flush=True)
     print("%d passed, %d failed" % (passed, failed))
     return 1 if failed else 0
 
