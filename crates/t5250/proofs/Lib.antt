@@ -10,9 +10,5 @@ pub mod ScriptWords
 pub mod Scripts
 pub mod Shows
 pub mod Texts
-pub mod LiveScripts
-pub mod LiveLines
-pub mod LiveRuns
 pub mod LiveOutput
 pub mod ConnectRuns
-pub mod FieldTexts

@@ -13,10 +13,7 @@ pub mod Script
 pub mod ScriptFaults
 pub mod StreamText
 pub mod Tasks
-pub mod LiveScript
 pub mod ConnectLines
-pub mod ServeLines
 pub mod LiveText
 pub mod ConnectText
 pub mod ServeText
-pub mod FieldLines

@@ -1,4 +1,4 @@
-ghost use Rattle.std.specs.Prelude.{◌≡◌, List, ℕ, true, false, IfOk};
+ghost use Rattle.std.specs.Prelude.{◌≡◌, true, false};
 ghost use Rattle.t5250.specs.ConnectText as Spec;
 ghost use Rattle.t5250.specs.Printing.{Prints};
 
@@ -23,8 +23,6 @@ enum Waited {
 }
 
 impl<S: Source, K: Sink> LiveMove<Station, S, K> for StationLine {
-    ghost runs = { Spec.StationRuns K.takes K.failures S.gives S.failures };
-
     fn carry_out<W: Watch, O: Sink>(
         &self,
         attached: &mut Attached<Station, S, K>,
@@ -33,7 +31,10 @@ impl<S: Source, K: Sink> LiveMove<Station, S, K> for StationLine {
         output: Output,
     ) -> Carried {
         match self {
-            StationLine::Nothing => Carried { output, outcome: Ok(Closing::Nothing) },
+            StationLine::Nothing => Carried {
+                output,
+                outcome: Ok(Closing::Nothing),
+            },
             StationLine::Press(keys) => press_keys(attached, keys.as_slice(), out, output),
             StationLine::Await(awaited) => {
                 let waited = wait(attached, watch, awaited);
@@ -57,13 +58,7 @@ fn press_keys<S: Source, K: Sink, O: Sink>(
     keys: &[Key],
     out: &mut O,
     output: Output,
-) -> Carried
-    requires works { attached.old.broken ≡ false }
-    ensures runs { (text : List ℕ) × Spec.KeysRun K.takes K.failures S.gives S.failures keys.now
-        attached.old result.outcome text attached.new
-        × Prints O.takes O.failures out.old out.new output result.output text }
-    ensures works { IfOk result.outcome (λ closing. attached.new.broken ≡ false) }
-{
+) -> Carried {
     let mut output = output;
     let mut closing = Closing::Done;
     for key in keys {
@@ -73,10 +68,16 @@ fn press_keys<S: Source, K: Sink, O: Sink>(
                 output = put_event(out, output, &Event::KeyRefused(fault));
                 closing = Closing::Declined;
             }
-            Err(fault) => return Carried { output, outcome: Err(fault) },
+            Err(fault) => return Carried {
+                output,
+                outcome: Err(fault),
+            },
         }
     }
-    Carried { output, outcome: Ok(closing) }
+    Carried {
+        output,
+        outcome: Ok(closing),
+    }
 }
 
 // Takes what the host sends, until what is awaited holds.
@@ -84,12 +85,7 @@ fn wait<S: Source, K: Sink, W: Watch>(
     attached: &mut Attached<Station, S, K>,
     watch: &W,
     awaited: &Awaited,
-) -> Waited
-    requires works { attached.old.broken ≡ false }
-    ensures waited { Spec.IsWaited K.takes K.failures S.gives S.failures awaited.now
-        attached.old result attached.new }
-    ensures works { Spec.IsWorking result attached.new.broken }
-{
+) -> Waited {
     watch.begin();
     match awaited {
         Awaited::Record => hear_record(attached, watch),
@@ -102,12 +98,7 @@ fn wait_for<S: Source, K: Sink, W: Watch>(
     attached: &mut Attached<Station, S, K>,
     watch: &W,
     awaited: &Awaited,
-) -> Waited
-    requires works { attached.old.broken ≡ false }
-    ensures waited { Spec.WaitsFor K.takes K.failures S.gives S.failures
-        (Spec.IsMet awaited.now) attached.old result attached.new }
-    ensures works { Spec.IsWorking result attached.new.broken }
-{
+) -> Waited {
     for _ in 0..4_294_967_296u64 {
         if is_met(attached.end().screen(), awaited) {
             return Waited::Met;
@@ -149,12 +140,7 @@ fn shows(screen: &Screen, text: &str) -> bool
 fn hear_record<S: Source, K: Sink, W: Watch>(
     attached: &mut Attached<Station, S, K>,
     watch: &W,
-) -> Waited
-    requires works { attached.old.broken ≡ false }
-    ensures heard { Spec.HearsOne K.takes K.failures S.gives S.failures
-        attached.old result attached.new }
-    ensures works { Spec.IsWorking result attached.new.broken }
-{
+) -> Waited {
     match attached.hear() {
         Ok(Some(_)) => Waited::Met,
         Ok(None) => Waited::Ended,
@@ -169,13 +155,25 @@ fn put_waited<O: Sink>(out: &mut O, output: Output, waited: Waited) -> Carried
         (Spec.waited_text waited) }
 {
     match waited {
-        Waited::Met => Carried { output, outcome: Ok(Closing::Done) },
-        Waited::Late => Carried { output, outcome: Ok(Closing::Late) },
-        Waited::Ended => Carried { output, outcome: Ok(Closing::Ended) },
+        Waited::Met => Carried {
+            output,
+            outcome: Ok(Closing::Done),
+        },
+        Waited::Late => Carried {
+            output,
+            outcome: Ok(Closing::Late),
+        },
+        Waited::Ended => Carried {
+            output,
+            outcome: Ok(Closing::Ended),
+        },
         Waited::Failed(Fault::Refused { place, reason }) => Carried {
             output: put_event(out, output, &Event::StationRefused { place, reason }),
             outcome: Ok(Closing::Stopped),
         },
-        Waited::Failed(fault) => Carried { output, outcome: Err(fault) },
+        Waited::Failed(fault) => Carried {
+            output,
+            outcome: Err(fault),
+        },
     }
 }

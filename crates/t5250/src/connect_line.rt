@@ -1,7 +1,6 @@
-ghost use Rattle.std.specs.Prelude.{◌≡◌, ◌++◌, ◌<◌, true, length, codes, IfOk, IfErr};
+ghost use Rattle.std.specs.Prelude.{◌≡◌, IfOk, IfErr};
 ghost use Rattle.t5250.specs.ConnectLines as Spec;
-ghost use Rattle.t5250.specs.ConnectLines.{IsStationLine};
-ghost use Rattle.t5250.specs.ScriptFaults.{IsLineFault, IsNoComment, has_no_blank};
+ghost use Rattle.t5250.specs.ScriptFaults.{IsLineFault};
 
 use crate::key_name::key_named;
 use crate::live_line::LiveLine;
@@ -39,8 +38,6 @@ pub enum Awaited {
 }
 
 impl LiveLine for StationLine {
-    ghost means = { IsStationLine };
-
     fn read(alloc: Global, line: &[u8]) -> Result<Self, LineFault> {
         let Ok(text) = str::from_utf8(line) else {
             return Err(LineFault::Bad);
@@ -59,13 +56,7 @@ impl LiveLine for StationLine {
 }
 
 // A line that is one word.
-fn read_word(word: &str) -> Result<StationLine, LineFault>
-    requires some { 0 < length word.now }
-    requires no_blank { has_no_blank word.now ≡ true }
-    requires no_comment { IsNoComment word.now }
-    ensures line { IfOk result (Spec.Means word.now) }
-    ensures fault { IfErr result (IsLineFault (Spec.Means word.now)) }
-{
+fn read_word(word: &str) -> Result<StationLine, LineFault> {
     match word {
         "await" => Ok(StationLine::Await(Awaited::Unlocked)),
         "fields" => Ok(StationLine::Fields),
@@ -75,13 +66,7 @@ fn read_word(word: &str) -> Result<StationLine, LineFault>
 }
 
 // A command with words behind its blank.
-fn read_command(alloc: Global, command: &str, words: &str) -> Result<StationLine, LineFault>
-    requires no_blank { has_no_blank command.now ≡ true }
-    requires no_comment { IsNoComment (command.now ++ codes " " ++ words.now) }
-    ensures line { IfOk result (Spec.Means (command.now ++ codes " " ++ words.now)) }
-    ensures fault { IfErr result
-        (IsLineFault (Spec.Means (command.now ++ codes " " ++ words.now))) }
-{
+fn read_command(alloc: Global, command: &str, words: &str) -> Result<StationLine, LineFault> {
     match command {
         "type" => Ok(StationLine::Press(typed_keys(alloc, words, false)?)),
         "insert" => Ok(StationLine::Press(typed_keys(alloc, words, true)?)),

