@@ -12,3 +12,5 @@ pub mod Scripts
 pub mod Shows
 pub mod Texts
 pub mod ViewLaws
+pub mod LiveOutput
+pub mod ConnectRuns

@@ -14,3 +14,8 @@ pub mod Script
 pub mod ScriptFaults
 pub mod StreamText
 pub mod Views
+pub mod Tasks
+pub mod ConnectLines
+pub mod LiveText
+pub mod ConnectText
+pub mod ServeText

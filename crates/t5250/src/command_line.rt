@@ -1,7 +1,8 @@
 ghost use Rattle.std.specs.Prelude.{IfOk};
-ghost use Rattle.t5250.specs.Answering.{HasPieces};
+ghost use Rattle.t5250.specs.Tasks.{IsTask};
 
 use crate::fault::{CommandFault, RunFault};
+use crate::live_command::{Live, connect_asked, connect_command, serve_asked, serve_command};
 use clap::error::ErrorKind;
 use clap::{Arg, ArgAction, Command, value_parser};
 use std::alloc::Global;
@@ -10,6 +11,15 @@ use std::rt::Env;
 use std::{env, io};
 
 /// What a command line asks for.
+#[derive(Clone, Copy, Debug, PartialEq, Eq)]
+pub enum Task<'a> {
+    /// Something of an input that is read first.
+    Input(Asked<'a>),
+    /// A live session.
+    Live(Live<'a>),
+}
+
+/// What is asked for of an input.
 #[derive(Clone, Copy, Debug, PartialEq, Eq)]
 pub enum Asked<'a> {
     /// To check the bytes of a hex text, in pieces of `cut` bytes: as a station's answers, or as a host's
@@ -136,7 +146,9 @@ fn program<'a>(alloc: Global) -> Result<Command<'a>, clap::Error> {
         .subcommand_required(true)
         .subcommand(check)?
         .subcommand(show)?
-        .subcommand(play)?;
+        .subcommand(play)?
+        .subcommand(connect_command(alloc)?)?
+        .subcommand(serve_command(alloc)?)?;
     Ok(program)
 }
 
@@ -176,27 +188,32 @@ pub fn given_words<R: Env + AllocGlobal>(rt: &R) -> Result<Vec<String>, CommandF
 /// What the words ask for, of which the first is the program's name.
 ///
 /// Without `--cut` the bytes are read in the largest pieces.
-pub fn read_words<'a, S: AsStr>(alloc: Global, words: &'a [S]) -> Result<Asked<'a>, clap::Error>
-    ensures { IfOk result HasPieces }
+pub fn read_words<'a, S: AsStr>(alloc: Global, words: &'a [S]) -> Result<Task<'a>, clap::Error>
+    ensures { IfOk result IsTask }
 {
     let mut program = program(alloc)?;
     let matches = program.try_get_matches_from_mut(words)?;
     match matches.subcommand() {
-        Some(("check", check)) => Ok(Asked::Check {
+        Some(("check", check)) => Ok(Task::Input(Asked::Check {
             file: check.get_str("FILE"),
             // No 0 comes through.
             cut: check.get_one::<u16>("cut").unwrap_or(u16::MAX).max(1),
             answers: check.get_flag("answers"),
-        }),
-        Some(("show", show)) => Ok(Asked::Show {
+        })),
+        Some(("show", show)) => Ok(Task::Input(Asked::Show {
             file: show.get_str("FILE"),
             answers: show.get_flag("answers"),
-        }),
-        Some(("play", play)) => Ok(Asked::Play {
+        })),
+        Some(("play", play)) => Ok(Task::Input(Asked::Play {
             file: play.get_str("SCRIPT"),
             screen: play.get_flag("screen"),
             tcp: play.get_flag("tcp"),
-        }),
+        })),
+        Some(("connect", words)) => Ok(Task::Live(Live::Connect(connect_asked(
+            &mut program,
+            words,
+        )?))),
+        Some(("serve", words)) => Ok(Task::Live(Live::Serve(serve_asked(&mut program, words)?))),
         _ => Err(program.error(ErrorKind::MissingSubcommand, "no subcommand")?),
     }
 }

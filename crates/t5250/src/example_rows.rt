@@ -1,7 +1,7 @@
 // The scripts and captures of examples/, letter for letter, and what the program prints of each. `examples/run.sh` looks
 // whether they still are the same.
 use crate::buffered_sink::BufferedSink;
-use crate::command_line::read_words;
+use crate::command_line::{Task, read_words};
 use crate::fault::RunFault;
 use crate::program::{answer_buffered, status};
 use std::test::Fail;
@@ -266,7 +266,9 @@ fn examples_print_their_lines(rt: HostRuntime) -> Result<(), Fail> {
             (&["t5250", "show"], example.capture, example.shown),
         ];
         for (words, text, wanted) in runs {
-            let asked = read_words(rt.alloc(), words)?;
+            let Task::Input(asked) = read_words(rt.alloc(), words)? else {
+                return Err("a live session".into());
+            };
             let mut sink = BufferedSink::new(VecSink::new(rt.alloc()));
             let outcome = answer_buffered(&rt, rt.alloc(), asked, text.as_bytes(), &mut sink);
             assert_eq!(rt; status(&outcome), 0, "{words:?} {text}");
@@ -282,7 +284,9 @@ fn examples_print_their_lines(rt: HostRuntime) -> Result<(), Fail> {
 fn buffered_line_fails(rt: HostRuntime) -> Result<(), Fail> {
     let line = b"accepted: 0 records, 0 commands, 0 bytes\n";
     for calls in 0..=41u64 {
-        let asked = read_words(rt.alloc(), &["t5250", "check"])?;
+        let Task::Input(asked) = read_words(rt.alloc(), &["t5250", "check"])? else {
+            return Err("a live session".into());
+        };
         let mut sink = BufferedSink::new(FailingSink::new(rt.alloc(), calls));
         let outcome = answer_buffered(&rt, rt.alloc(), asked, b"", &mut sink);
         let wanted = if calls < 41 {

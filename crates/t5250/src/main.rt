@@ -11,18 +11,27 @@ mod check;
 mod command_line;
 #[cfg(test)]
 mod command_rows;
+mod connect;
+mod connect_line;
 mod element_text;
 #[cfg(test)]
 mod encoding_rows;
 #[cfg(test)]
 mod example_rows;
 mod fault;
+mod field_lines;
 mod hex_text;
 #[cfg(test)]
 mod hostile_rows;
 mod input;
 mod item_text;
 mod key_name;
+mod live;
+mod live_address;
+mod live_command;
+mod live_line;
+mod live_session;
+mod live_socket;
 #[cfg(test)]
 mod memory_rows;
 mod output;
@@ -36,6 +45,8 @@ mod script_line;
 mod script_move;
 #[cfg(test)]
 mod script_rows;
+mod serve;
+mod serve_line;
 mod show;
 #[cfg(test)]
 mod show_rows;
@@ -52,9 +63,10 @@ mod vectors;
 mod verdict;
 
 use crate::buffered_sink::BufferedSink;
-use crate::command_line::{given_words, read_words};
+use crate::command_line::{Task, given_words, read_words};
 use crate::fault::{CommandFault, RunFault};
 use crate::input::read_input;
+use crate::live_session::run_live;
 use crate::program::{answer_buffered, status};
 use std::io;
 use std::net::{Net, TcpListener, TcpStream};
@@ -68,8 +80,12 @@ fn run<R: Runtime + AllocGlobal + Net<Listener = TcpListener, Stream = TcpStream
 ) -> Result<bool, CommandFault> {
     let words = given_words(rt)?;
     let asked = read_words(rt.alloc(), words.as_slice())?;
-    let text = read_input(rt, asked.file())?;
     let mut sink = BufferedSink::new(WriteSink::new(io::writer(rt)));
+    let asked = match asked {
+        Task::Live(asked) => return Ok(run_live(rt, asked, &mut sink)?),
+        Task::Input(asked) => asked,
+    };
+    let text = read_input(rt, asked.file())?;
     Ok(answer_buffered(rt, rt.alloc(), asked, text.as_slice(), &mut sink)?)
 }
 

@@ -65,7 +65,7 @@ fn put_events<S: Sink>(sink: &mut S, events: &[Event]) -> Output
     output
 }
 
-fn put_event<S: Sink>(sink: &mut S, output: Output, event: &Event) -> Output
+pub fn put_event<S: Sink>(sink: &mut S, output: Output, event: &Event) -> Output
     ensures { Prints S.takes S.failures sink.old sink.new output result
         (Spec.event_text event.now) }
 {

@@ -46,7 +46,7 @@ pub fn read_script(alloc: Global, text: &[u8]) -> Result<Vec<Move>, ScriptFault>
 }
 
 // The first line of a text, and what stands behind it.
-fn first_line(text: &[u8]) -> (&[u8], &[u8])
+pub fn first_line(text: &[u8]) -> (&[u8], &[u8])
     requires { 0 < length text.now }
     ensures line { lines text.now ≡ result.0.now ∷ lines result.1.now }
     ensures shorter { length result.1.now < length text.now }

@@ -126,7 +126,7 @@ fn type_text(text: &str, inserts: bool, moves: &mut Vec<Move>) -> Result<(), Lin
     Ok(())
 }
 
-fn typed_key(inserts: bool, character: char) -> Key
+pub fn typed_key(inserts: bool, character: char) -> Key
     ensures { result ≡ Spec.typed_key inserts character }
 {
     if inserts {

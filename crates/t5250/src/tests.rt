@@ -1,5 +1,5 @@
 use crate::check::check_to;
-use crate::command_line::{Asked, read_words};
+use crate::command_line::{Asked, Task, read_words};
 use crate::fault::RunFault;
 use crate::hex_text::{TextFault, hex_bytes};
 use crate::program::{answer, status};
@@ -139,7 +139,7 @@ fn command_lines(rt: HostRuntime) -> Result<(), Fail> {
         ),
     ];
     for (words, asked) in rows {
-        assert_eq!(rt; read_words(rt.alloc(), words)?, asked);
+        assert_eq!(rt; read_words(rt.alloc(), words)?, Task::Input(asked));
     }
     assert_eq!(rt;
         Asked::Show {
@@ -279,7 +279,9 @@ fn answered(rt: HostRuntime) -> Result<(), Fail> {
         (show, "0g", "", 2),
     ];
     for (words, text, wanted, exit) in rows {
-        let asked = read_words(rt.alloc(), words)?;
+        let Task::Input(asked) = read_words(rt.alloc(), words)? else {
+            return Err("a live session".into());
+        };
         let mut sink = VecSink::new(rt.alloc());
         let outcome = answer(&rt, rt.alloc(), asked, text.as_bytes(), &mut sink);
         assert_eq!(rt; status(&outcome), exit, "{text}");
@@ -288,7 +290,9 @@ fn answered(rt: HostRuntime) -> Result<(), Fail> {
             assert_eq!(rt; outcome, Err(RunFault::NotHex));
         }
     }
-    let asked = read_words(rt.alloc(), answers)?;
+    let Task::Input(asked) = read_words(rt.alloc(), answers)? else {
+        return Err("a live session".into());
+    };
     let mut sink = FailingSink::new(rt.alloc(), 40);
     let outcome = answer(&rt, rt.alloc(), asked, bob.as_bytes(), &mut sink);
     assert_eq!(rt; outcome, Err(RunFault::Write));

@@ -1,0 +1,12 @@
+use Rattle.std.proofs.Common.{ap}
+use Rattle.t5250.specs.Buffering.{Buffering}
+use Rattle.t5250.proofs.LiveOutput.{handed_on, not_handed_on}
+use Rattle.t5250.proofs.live.hand_on.Goals as goal
+
+pub returns-in-Ok-clause-out : goal.returns-in-Ok-clause-out
+returns-in-Ok-clause-out g c = λ from text empty is.
+    handed_on g.O.Sink.takes g.O.Sink.failures (λ b. b.failures) from c.args.out.now empty c.flush.new.self.sink c.args.output text is c.in-Ok.ensures.ok.0 (λ none. ap (λ (b : Buffering g.row.O.Denot). b.sink) (c.flush.ensures.none none))
+
+pub returns-in-Err-clause-out : goal.returns-in-Err-clause-out
+returns-in-Err-clause-out g c = λ from text empty is.
+    not_handed_on g.O.Sink.takes g.O.Sink.failures (λ b. b.failures) from c.args.out.now empty c.flush.new.self.sink c.args.output text is c.in-Err.ensures.err.0

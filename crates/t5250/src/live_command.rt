@@ -1,0 +1,201 @@
+use crate::live_address::{HostPort, host_and_port, listening_address};
+use clap::error::ErrorKind;
+use clap::{Arg, ArgAction, ArgMatches, Command, value_parser};
+use std::alloc::Global;
+use ws_nego::TerminalType;
+
+/// A live session that a command line asks for.
+#[derive(Clone, Copy, Debug, PartialEq, Eq)]
+pub enum Live<'a> {
+    Connect(ConnectAsked<'a>),
+    Serve(ServeAsked<'a>),
+}
+
+/// A station at a host.
+#[derive(Clone, Copy, Debug, PartialEq, Eq)]
+pub struct ConnectAsked<'a> {
+    pub host: HostPort<'a>,
+    pub terminal: TerminalType,
+    /// In seconds, 1 to 86,400.
+    pub wait: u32,
+    pub ready: bool,
+    /// The file of a script; without it, standard input is read.
+    pub script: Option<&'a str>,
+}
+
+/// A host for one station.
+#[derive(Clone, Copy, Debug, PartialEq, Eq)]
+pub struct ServeAsked<'a> {
+    pub address: HostPort<'a>,
+    /// In seconds, 1 to 86,400.
+    pub wait: u32,
+    pub ready: bool,
+    /// The file of a script; without it, standard input is read.
+    pub script: Option<&'a str>,
+}
+
+const CONNECT_EXAMPLES: &str = "\
+A script has a line for each step, and is read before anything is sent. Without
+one a line of standard input is carried out before the next is read:
+  type TEXT    keys for the characters; insert TEXT inserts them
+  key NAME     a key, such as Enter, F3, FieldExit or Tab
+  await        goes on until the keyboard is unlocked
+  await record, await text TEXT
+               until one more record was applied, or a row shows TEXT
+  show         prints the screen
+  fields       prints each field: field ROW COLUMN LENGTH FORMAT TEXT
+
+A refused key is told as `key refused REASON`. A wait that runs out prints
+`late`, and the session goes on; one whose host has closed prints `ended`.
+`station refused at P: reason K NAME` is the last line.
+
+Exit status:
+  0  every line was carried out, none was late or ended, nothing was refused
+  1  one was, or the station refused a byte
+  2  a fault, told in one line on standard error
+
+Examples:
+  t5250 connect pub400.com sign-on.connect
+  t5250 connect --wait 5 '[::1]:5250' < sign-on.connect
+  t5250 connect --ready --terminal IBM-5251-11 127.0.0.1:5250";
+
+const SERVE_EXAMPLES: &str = "\
+It prints `listening ADDRESS`, and takes one connection. Port 0 takes a free
+port. A script has a line for each step, and is read before anything is sent.
+Without one a line of standard input is carried out before the next is read:
+  send K HEX   sends a record of opcode K; HEX may be absent
+  cancel       cancels the read that is asked
+  await        goes on until the station has told something, and prints it
+               as `play` does
+
+A refused send is told as `send refused REASON`. A wait that runs out prints
+`late`, and the session goes on; one whose station has closed prints `ended`.
+`host refused at P: reason K NAME` is the last line. Behind the last line of a
+script it answers on until the station closes, or the wait is over.
+
+Exit status: as of connect.
+
+Examples:
+  t5250 serve 127.0.0.1:5250 sign-on.serve
+  t5250 serve --ready --wait 5 '[::1]:0'";
+
+/// The commands of live sessions.
+pub fn connect_command<'a>(alloc: Global) -> Result<Command<'a>, clap::Error> {
+    let terminal = Arg::new(alloc, "terminal")
+        .long("terminal")
+        .value_name("NAME")
+        .help(
+            "The terminal's type: IBM-3179-2 without it, IBM-5251-11, IBM-5291-1, IBM-5292-2 or IBM-3196-A1",
+        )
+        .action(ArgAction::Set);
+    let host = Arg::new(alloc, "HOST[:PORT]")
+        .help(
+            "A name or an address, one of IPv6 in brackets before a port; port 23 where none is named",
+        )
+        .required(true)
+        .action(ArgAction::Set);
+    let command = Command::new(alloc, "connect")
+        .about("Is a station at a host, by a script or line by line")
+        .after_help(CONNECT_EXAMPLES)
+        .arg(terminal)?
+        .arg(wait(alloc))?
+        .arg(ready(alloc))?
+        .arg(host)?
+        .arg(script(alloc))?;
+    Ok(command)
+}
+
+pub fn serve_command<'a>(alloc: Global) -> Result<Command<'a>, clap::Error> {
+    let address = Arg::new(alloc, "ADDRESS")
+        .help(
+            "Where it listens: HOST:PORT, with an address of IPv6 in brackets; port 0 takes a free one",
+        )
+        .required(true)
+        .action(ArgAction::Set);
+    let command = Command::new(alloc, "serve")
+        .about("Is a host for one station, by a script or line by line")
+        .after_help(SERVE_EXAMPLES)
+        .arg(wait(alloc))?
+        .arg(ready(alloc))?
+        .arg(address)?
+        .arg(script(alloc))?;
+    Ok(command)
+}
+
+fn wait<'a>(alloc: Global) -> Arg<'a> {
+    Arg::new(alloc, "wait")
+        .long("wait")
+        .value_name("SECONDS")
+        .help(
+            "The time of a whole await, of connecting and of a write, from 1 to 86400; 30 without it",
+        )
+        .value_parser(value_parser!(u32).range(1..=86400))
+        .action(ArgAction::Set)
+}
+
+fn ready<'a>(alloc: Global) -> Arg<'a> {
+    Arg::new(alloc, "ready")
+        .long("ready")
+        .help("Prints `ok` behind each line's output, for a program that drives the session")
+        .action(ArgAction::SetTrue)
+}
+
+fn script<'a>(alloc: Global) -> Arg<'a> {
+    Arg::new(alloc, "SCRIPT")
+        .help("A script; without it, standard input is read a line at a time")
+        .action(ArgAction::Set)
+}
+
+/// The session that these words of `connect` ask for.
+pub fn connect_asked<'a>(
+    program: &mut Command<'a>,
+    words: &ArgMatches<'a>,
+) -> Result<ConnectAsked<'a>, clap::Error> {
+    let Some(host) = host_and_port(words.get_str("HOST[:PORT]").unwrap_or("")) else {
+        return Err(program.error(
+            ErrorKind::InvalidValue,
+            "no host is named so: HOST, HOST:PORT, [V6]:PORT",
+        )?);
+    };
+    let terminal = match words.get_str("terminal") {
+        None => TerminalType::default(),
+        Some(name) => match TerminalType::from_name(name.as_bytes()) {
+            Some(terminal) => terminal,
+            None => return Err(program.error(
+                ErrorKind::InvalidValue,
+                "no terminal has this name",
+            )?),
+        },
+    };
+    Ok(ConnectAsked {
+        host,
+        terminal,
+        wait: seconds(words),
+        ready: words.get_flag("ready"),
+        script: words.get_str("SCRIPT"),
+    })
+}
+
+/// The session that these words of `serve` ask for.
+pub fn serve_asked<'a>(
+    program: &mut Command<'a>,
+    words: &ArgMatches<'a>,
+) -> Result<ServeAsked<'a>, clap::Error> {
+    let Some(address) = listening_address(words.get_str("ADDRESS").unwrap_or("")) else {
+        return Err(program.error(
+            ErrorKind::InvalidValue,
+            "no address to listen at: HOST:PORT, [V6]:PORT",
+        )?);
+    };
+    Ok(ServeAsked {
+        address,
+        wait: seconds(words),
+        ready: words.get_flag("ready"),
+        script: words.get_str("SCRIPT"),
+    })
+}
+
+// The time of a wait. No 0 comes through.
+fn seconds(words: &ArgMatches<'_>) -> u32 {
+    words.get_one::<u32>("wait").unwrap_or(30).max(1)
+}

@@ -1,0 +1,231 @@
+//! Live sessions over a connection: the sockets, the script or standard input, and standard output. What a line does
+//! at an end, and what it prints, is said where it is carried out.
+use crate::buffered_sink::BufferedSink;
+use crate::connect_line::StationLine;
+use crate::fault::RunFault;
+use crate::live::{LiveMove, Ran, Watch, carry_line, carry_lines, hand_on};
+use crate::live_address::HostPort;
+use crate::live_command::{ConnectAsked, Live, ServeAsked};
+use crate::live_line::{LiveLine, read_lines};
+use crate::live_socket::{TimedReader, TimedWriter, Timer};
+use crate::output::{Output, put_text};
+use crate::script_line::LineFault;
+use crate::serve::answer_on;
+use crate::serve_line::HostLine;
+use std::io::{ErrorKind, Read};
+use std::net::{Net, Shutdown, TcpListener, TcpStream, ToSocketAddrs};
+use std::rt::{Files, Runtime};
+use std::time::{Clock, Duration};
+use std::{fs, io};
+use ws_code::{ReadSource, Sink, WriteSink, write_whole};
+use ws_session::{Attached, HostEnd, Station};
+
+// How many seconds the end of a connection may take.
+const LINGER: u64 = 1;
+
+/// Carries a live session out: true where all went well.
+pub fn run_live<R, O>(rt: &R, asked: Live<'_>, out: &mut BufferedSink<O>) -> Result<bool, RunFault>
+where
+    R: Runtime + AllocGlobal + Net<Listener = TcpListener, Stream = TcpStream>,
+    O: Sink,
+{
+    match asked {
+        Live::Connect(asked) => connect(rt, &asked, out),
+        Live::Serve(asked) => serve(rt, &asked, out),
+    }
+}
+
+// A station at a host.
+fn connect<R, O>(
+    rt: &R,
+    asked: &ConnectAsked<'_>,
+    out: &mut BufferedSink<O>,
+) -> Result<bool, RunFault>
+where
+    R: Runtime + AllocGlobal + Net<Listener = TcpListener, Stream = TcpStream>,
+    O: Sink,
+{
+    let script = read_script_file::<R, StationLine>(rt, asked.script)?;
+    let limit = Duration::from_secs(u64::from(asked.wait));
+    let timer = Timer::new(rt, limit);
+    let Ok(stream) = connect_to(rt, asked.host, &timer) else {
+        return Err(RunFault::NoConnection);
+    };
+    let mut attached = Attached::new(
+        Station::new(asked.terminal),
+        ReadSource::new(TimedReader::new(&stream, &timer)),
+        WriteSink::new(TimedWriter::new(&stream, &timer)),
+    );
+    let ran = carry_session(rt, &mut attached, &timer, script, asked.ready, out)?;
+    close(rt, &stream);
+    Ok(ran.all_well)
+}
+
+// A host for one station.
+fn serve<R, O>(rt: &R, asked: &ServeAsked<'_>, out: &mut BufferedSink<O>) -> Result<bool, RunFault>
+where
+    R: Runtime + AllocGlobal + Net<Listener = TcpListener, Stream = TcpStream>,
+    O: Sink,
+{
+    let script = read_script_file::<R, HostLine>(rt, asked.script)?;
+    let limit = Duration::from_secs(u64::from(asked.wait));
+    let Ok(listener) = TcpListener::bind(rt, (asked.address.host, asked.address.port)) else {
+        return Err(RunFault::NoConnection);
+    };
+    put_listening(rt, &listener, out)?;
+    let Ok(stream) = accept(&listener) else {
+        return Err(RunFault::NoConnection);
+    };
+    let timer = Timer::new(rt, limit);
+    let mut host = HostEnd::new(rt.alloc());
+    let mut sink = WriteSink::new(TimedWriter::new(&stream, &timer));
+    write_whole(&mut sink, host.open().as_slice())?;
+    let source = ReadSource::new(TimedReader::new(&stream, &timer));
+    let mut attached = Attached::new(host, source, sink);
+    let ran = carry_session(rt, &mut attached, &timer, script, asked.ready, out)?;
+    let is_well = ran.is_over || answer_on(&mut attached, &timer, out)?;
+    close(rt, &stream);
+    Ok(ran.all_well && is_well)
+}
+
+// The lines of a script, where one is named.
+fn read_script_file<R: Files + AllocGlobal, L: LiveLine>(
+    rt: &R,
+    script: Option<&str>,
+) -> Result<Option<Vec<L>>, RunFault> {
+    let Some(path) = script else {
+        return Ok(None);
+    };
+    let text = fs::read(rt, path)?;
+    Ok(Some(read_lines(rt.alloc(), text.as_slice())?))
+}
+
+// Tries each address of a host in turn, for as long as the wait lasts.
+fn connect_to<R: Clock + Net<Stream = TcpStream>>(
+    rt: &R,
+    to: HostPort<'_>,
+    timer: &Timer<'_, R>,
+) -> io::Result<TcpStream> {
+    let mut last = io::Error::from(ErrorKind::TimedOut);
+    for address in (to.host, to.port).to_socket_addrs(rt)? {
+        let Some(left) = timer.left() else {
+            return Err(last);
+        };
+        match TcpStream::connect_timeout(rt, &address, left) {
+            Ok(stream) => {
+                stream.set_nodelay(true)?;
+                return Ok(stream);
+            }
+            Err(error) => last = error,
+        }
+    }
+    Err(last)
+}
+
+fn accept(listener: &TcpListener) -> io::Result<TcpStream> {
+    let (stream, _) = listener.accept()?;
+    stream.set_nodelay(true)?;
+    Ok(stream)
+}
+
+fn put_listening<R: AllocGlobal, O: Sink>(
+    rt: &R,
+    listener: &TcpListener,
+    out: &mut BufferedSink<O>,
+) -> Result<(), RunFault> {
+    let Ok(address) = listener.local_addr() else {
+        return Err(RunFault::NoConnection);
+    };
+    let Ok(line) = format!(in rt.alloc(); "listening {address}\n") else {
+        return Err(RunFault::Memory);
+    };
+    let output = put_text(out, Output::Open, line.as_str());
+    match hand_on(out, output) {
+        Output::Open => Ok(()),
+        Output::Failed => Err(RunFault::Write),
+    }
+}
+
+// Carries out the lines of a script, or without one those of standard input.
+fn carry_session<R, E, S, K, L, W, O>(
+    rt: &R,
+    attached: &mut Attached<E, S, K>,
+    watch: &W,
+    script: Option<Vec<L>>,
+    ready: bool,
+    out: &mut BufferedSink<O>,
+) -> Result<Ran, RunFault>
+where
+    R: Runtime + AllocGlobal,
+    L: LiveMove<E, S, K>,
+    W: Watch,
+    O: Sink,
+{
+    match script {
+        Some(lines) => carry_lines(attached, watch, lines.as_slice(), ready, out),
+        None => carry_input::<R, E, S, K, L, W, O>(rt, attached, watch, ready, out),
+    }
+}
+
+// Carries out each line of standard input before it reads the next.
+fn carry_input<R, E, S, K, L, W, O>(
+    rt: &R,
+    attached: &mut Attached<E, S, K>,
+    watch: &W,
+    ready: bool,
+    out: &mut BufferedSink<O>,
+) -> Result<Ran, RunFault>
+where
+    R: Runtime + AllocGlobal,
+    L: LiveMove<E, S, K>,
+    W: Watch,
+    O: Sink,
+{
+    let mut ran = Ran::none();
+    let mut number = 0u64;
+    for line in rt.lines(rt.alloc()) {
+        number = number.saturating_add(1);
+        let line = read_input_line::<R, L>(rt, line, number)?;
+        ran = ran.and(carry_line(attached, watch, &line, ready, out)?.ran());
+        if ran.is_over {
+            return Ok(ran);
+        }
+    }
+    Ok(ran)
+}
+
+fn read_input_line<R: AllocGlobal, L: LiveLine>(
+    rt: &R,
+    line: io::Result<String>,
+    number: u64,
+) -> Result<L, RunFault> {
+    let line = match line {
+        Ok(line) => line,
+        Err(error) if error.kind() == ErrorKind::InvalidData => {
+            return Err(RunFault::Line(number));
+        }
+        Err(error) => return Err(RunFault::from(error)),
+    };
+    match L::read(rt.alloc(), line.as_bytes()) {
+        Ok(line) => Ok(line),
+        Err(LineFault::Bad) => Err(RunFault::Line(number)),
+        Err(LineFault::Memory) => Err(RunFault::Memory),
+    }
+}
+
+// Ends a connection in order: nothing more is written, and what the other side still sends is taken for a moment, so
+// that it isn't told of a fault.
+fn close<R: Clock>(rt: &R, stream: &TcpStream) {
+    if stream.shutdown(Shutdown::Write).is_err() {
+        return;
+    }
+    let timer = Timer::new(rt, Duration::from_secs(LINGER));
+    let mut rest = TimedReader::new(stream, &timer);
+    let mut piece = [0u8; 4096];
+    for _ in 0..u32::MAX {
+        match rest.read(&mut piece) {
+            Ok(0) | Err(_) => return,
+            Ok(_) => {}
+        }
+    }
+}
