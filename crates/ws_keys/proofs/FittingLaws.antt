@@ -1,5 +1,6 @@
 -- Parts fit a read, part by part, exactly where something is read of them.
-use Rattle.std.proofs.Common.{◌≡◌, ℕ, ◌+◌, ◌-◌, ◌<◌, ◌≤◌, List, [], ◌∷◌, Bool, true, false, Option, Some, None, length, find, map, if◌then◌else◌, refl, sym, ap, ◌∙◌, subst, arith, inl, inr}
+use Rattle.std.proofs.Common.{◌≡◌, ℕ, ◌+◌, ◌-◌, ◌<◌, ◌≤◌, List, [], ◌∷◌, Bool, true, false, Option, Some, None}
+use Rattle.std.proofs.Common.{length, find, map, if◌then◌else◌, refl, sym, ap, ◌∙◌, subst, arith, inl, inr}
 use Rattle.std.proofs.lemmas.List.{length-map}
 use Rattle.std.specs.Prelude.{sum_by, ◌==◌, ◌&&◌, nat_le, nat_lt, is_some, Err, ◌⊎◌}
 use Rattle.std.specs.Option.{option_map, option_map_or}
@@ -123,7 +124,8 @@ if_fit-some fields (Some read) = go (list_all (fits_field fields) read && is_ris
     go true = refl
     go false = refl
 
-pub fits_modified : (fields : List Field) (parts : List AnswerPart) → fits_from fields at_first parts ≡ is_some (if_fit fields (fields_in parts))
+pub fits_modified : (fields : List Field) (parts : List AnswerPart)
+    → fits_from fields at_first parts ≡ is_some (if_fit fields (fields_in parts))
 fits_modified fields [] = fits_from-is fields [] at_first ∙ sym (if_fit-some fields (fields_in []))
 fits_modified fields (Head cursor aid ∷ parts) = refl
 fits_modified fields (Byte b ∷ parts) = refl
@@ -131,7 +133,8 @@ fits_modified fields (At p ∷ parts) =
     fits_from-is fields (At p ∷ parts) at_first ∙ sym (if_fit-some fields (fields_behind (At p ∷ parts)))
 
 -- what both reads of modified fields give
-pub modified_data : (kind : ReadKind) (fields : List Field) (parts : List AnswerPart) → (kind ≡ Mdt) ⊎ (kind ≡ MdtAlternate)
+pub modified_data : (kind : ReadKind) (fields : List Field) (parts : List AnswerPart)
+    → (kind ≡ Mdt) ⊎ (kind ≡ MdtAlternate)
     → read_data kind fields parts ≡ if_fit fields (fields_in parts)
 modified_data kind fields parts (inl e) = ap (λ k. read_data k fields parts) e
 modified_data kind fields parts (inr e) = ap (λ k. read_data k fields parts) e
@@ -141,14 +144,16 @@ modified_data kind fields parts (inr e) = ap (λ k. read_data k fields parts) e
 length-in : (parts : List AnswerPart) (xs : List ℕ) → bytes_in parts ≡ Some xs → length xs ≡ length parts
 length-in parts xs e = sym (ap length (bytes_held parts xs e) ∙ length-map xs Byte)
 
-pub no_bytes : (fields : List Field) (parts : List AnswerPart) → is_some (bytes_in parts) ≡ false → is_some (if_cut fields (bytes_in parts)) ≡ false
+pub no_bytes : (fields : List Field) (parts : List AnswerPart) → is_some (bytes_in parts) ≡ false
+    → is_some (if_cut fields (bytes_in parts)) ≡ false
 no_bytes fields parts e = go (bytes_in parts) e
   where
     go : (o : Option (List ℕ)) → is_some o ≡ false → is_some (if_cut fields o) ≡ false
     go None e = refl
     go (Some xs) e = absurd (cc)
 
-cut_some : (fields : List Field) (b : ℕ) (xs : List ℕ) → is_some (if_cut fields (Some (b ∷ xs))) ≡ (length (b ∷ xs) == sum_by sent_length fields)
+cut_some : (fields : List Field) (b : ℕ) (xs : List ℕ)
+    → is_some (if_cut fields (Some (b ∷ xs))) ≡ (length (b ∷ xs) == sum_by sent_length fields)
 cut_some fields b xs = decide (length (b ∷ xs) == sum_by sent_length fields)
   where
     decide : (t : Bool) → is_some (if t then Some (input_by_field fields (b ∷ xs)) else None) ≡ t
@@ -186,7 +191,8 @@ fault_known kind fields parts rest cursor aid (Reason why) e h = (
     clash e = cc
 fault_known kind fields parts rest cursor aid Memory e h = go (read_data kind fields rest) refl h
   where
-    go : (o : Option (List ReadField)) → read_data kind fields rest ≡ o → is_some o ≡ true → IsSplit kind fields parts (Err Memory)
+    go : (o : Option (List ReadField)) → read_data kind fields rest ≡ o → is_some o ≡ true
+        → IsSplit kind fields parts (Err Memory)
     go None q h = absurd (cc)
     go (Some read) q h = let a : HostAnswer = record { cursor = cursor; aid = aid; fields = read } in
         (a, (rest, e, data_held kind fields rest read q))

@@ -1,5 +1,8 @@
--- A field of a screen that events give leaves a cell for its attribute, so a signed numeric one has at most 1,918 digits.
-use Rattle.std.proofs.Common.{◌≡◌, ℕ, ◌+◌, ◌-◌, ◌≤◌, List, [], ◌∷◌, ◌++◌, Bool, true, false, Option, Some, None, All, length, find, take, drop, replicate, if◌then◌else◌, refl, sym, ap, ◌∙◌, subst, arith, ◌==◌, length-append, length-take, length-drop}
+-- A field of a screen that events give leaves a cell for its attribute, so a signed numeric one has at most
+-- 1,918 digits.
+use Rattle.std.proofs.Common.{◌≡◌, ℕ, ◌+◌, ◌-◌, ◌≤◌, List, [], ◌∷◌, ◌++◌, Bool, true, false, Option, Some, None, All}
+use Rattle.std.proofs.Common.{length, find, take, drop, replicate, if◌then◌else◌, refl, sym, ap, ◌∙◌, subst, arith}
+use Rattle.std.proofs.Common.{◌==◌, length-append, length-take, length-drop}
 use Rattle.std.specs.List.{filter_map, cons_option, range_with_len, Contains}
 use Rattle.std.specs.Option.{option_map_or}
 use Rattle.std.proofs.lemmas.Bool.{false≢true}
@@ -69,7 +72,8 @@ none_at_first (e ∷ h) = go (empties_table e) (none_at_first h)
     go true rest = refl
     go false rest = more (field_by (address h) e) refl rest
 
-found : (make : Field → Option Field) (o : Option Field) (f : Field) → option_map_or make o None ≡ Some f → is_some o ≡ true
+found : (make : Field → Option Field) (o : Option Field) (f : Field) → option_map_or make o None ≡ Some f
+    → is_some o ≡ true
 found make None f e = absurd (cc)
 found make (Some x) f e = refl
 
@@ -88,7 +92,8 @@ all_given : (g : ℕ → Option Field) (P : Field → Type 0) → ((a : ℕ) (f 
 all_given g P good [] = All-nil P
 all_given g P good (x ∷ xs) = go (g x) (good x) (all_given g P good xs)
   where
-    go : (o : Option Field) → ((f : Field) → o ≡ Some f → P f) → All P (filter_map g xs) → All P (cons_option o (filter_map g xs))
+    go : (o : Option Field) → ((f : Field) → o ≡ Some f → P f) → All P (filter_map g xs)
+        → All P (cons_option o (filter_map g xs))
     go None here rest = rest
     go (Some f) here rest = All-cons P f (filter_map g xs) (here f refl) rest
 

@@ -1,5 +1,6 @@
 -- The table of colours, read by its columns.
-use Rattle.std.proofs.Common.{◌≡◌, ℕ, zero, suc, ◌+◌, ◌/◌, ◌%◌, ◌<◌, ◌≤◌, ◌==◌, ◌&&◌, ◌||◌, not, Bool, true, false, refl, subst, arith, nat_le}
+use Rattle.std.proofs.Common.{◌≡◌, ℕ, zero, suc, ◌+◌, ◌/◌, ◌%◌, ◌<◌, ◌≤◌, ◌==◌, ◌&&◌, ◌||◌, not, Bool, true, false}
+use Rattle.std.proofs.Common.{refl, subst, arith, nat_le}
 use borrow.Author.Tests.{eqb-true, eqb-false}
 use Rattle.ws_screen.specs.Colors.{style_of}
 use Rattle.ws_screen.specs.declared.style.Color.{Color}

@@ -1,5 +1,7 @@
 -- How the attribute in force, and the text of a row, go on from cell to cell.
-use Rattle.std.proofs.Common.{◌≡◌, ℕ, ◌+◌, ◌<◌, ◌≤◌, List, [], ◌∷◌, ◌++◌, Bool, true, false, Some, None, length, if◌then◌else◌, refl, sym, ap, ◌∙◌, arith, map, find, take, slice_index, append-nil, nat_lt, cond, unwrap_or}
+use Rattle.std.proofs.Common.{◌≡◌, ℕ, ◌+◌, ◌<◌, ◌≤◌, List, [], ◌∷◌, ◌++◌, Bool, true, false, Some, None, length}
+use Rattle.std.proofs.Common.{if◌then◌else◌, refl, sym, ap, ◌∙◌, arith, map, find, take, slice_index, append-nil}
+use Rattle.std.proofs.Common.{nat_lt, cond, unwrap_or}
 use Rattle.std.specs.Prelude.{reverse, encode_utf8}
 use Rattle.std.specs.Char.{len_utf8}
 use Rattle.std.specs.Str.{encode_utf8_all}
@@ -29,7 +31,8 @@ pub find-passes : (p : ℕ → Bool) (xs : List ℕ) (x : ℕ) → find p xs ≡
 find-passes p [] x e = absurd (cc)
 find-passes p (y ∷ ys) x e = go (p y) refl e (find-passes p ys x)
   where
-    go : (t : Bool) → p y ≡ t → (if t then Some y else find p ys) ≡ Some x → (find p ys ≡ Some x → p x ≡ true) → p x ≡ true
+    go : (t : Bool) → p y ≡ t → (if t then Some y else find p ys) ≡ Some x → (find p ys ≡ Some x → p x ≡ true)
+        → p x ≡ true
     go true q e later = let same : y ≡ x = cc in ap p (sym same) ∙ q
     go false q e later = later e
 
