@@ -1,12 +1,16 @@
-use Rattle.std.proofs.Common.{true, false, ◌≡◌, ℕ, List, [], ◌∷◌, ◌++◌, take, drop, refl, sym, ap, ◌∙◌, subst, append_assoc}
+use Rattle.std.proofs.Common.{true, false, ◌≡◌, ℕ, List, [], ◌∷◌, ◌++◌, take, drop, refl, sym, ap, ◌∙◌, subst}
+use Rattle.std.proofs.Common.{append_assoc}
 use Rattle.std.proofs.lemmas.List.{append-nil, take-append-drop}
-use Rattle.ws_code.specs.Code.{Rules, IsSpelled, IsPrefix, IsPrefixFree, IsChain, IsUnfinished, place_after, spelling_of}
+use Rattle.ws_code.specs.Code.{Rules, IsSpelled, IsPrefix, IsPrefixFree, IsChain, IsUnfinished, place_after}
+use Rattle.ws_code.specs.Code.{spelling_of}
 use Rattle.ws_code.specs.Run.{Reading, HasRun}
 use Rattle.ws_code.proofs.CodeLaws.{Begins, one_cut, cut_bad, cut_unit}
 use Rattle.ws_record.specs.Body.{IsBody, HasUnitSoFar}
 
 -- a run from where a body begins
-pub from_first : {Place U : Type 0} (rules : Rules Place U) (from to : Reading Place) (values : List ℕ) → (run : HasRun rules from values to) → from.place ≡ rules.first → from.begun ≡ [] → (first : HasRun rules (record { place = rules.first; begun = [] }) values to) × (first.units ≡ run.units)
+pub from_first : {Place U : Type 0} (rules : Rules Place U) (from to : Reading Place) (values : List ℕ)
+    → (run : HasRun rules from values to) → from.place ≡ rules.first → from.begun ≡ []
+    → (first : HasRun rules (record { place = rules.first; begun = [] }) values to) × (first.units ≡ run.units)
 from_first {Place} {U} rules from to values run ep eb = (
   record {
     units = run.units;
@@ -21,30 +25,44 @@ from_first {Place} {U} rules from to values run ep eb = (
 -- Bodies by themselves, read from where a body begins.
 module _ {Place U : Type 0} (rules : Rules Place U) (bytes : List ℕ) (to : Reading Place) where
   -- at the end the units are the body, if one may end there
-  pub ended : (run : HasRun rules (record { place = rules.first; begun = [] }) bytes to) → to.begun ≡ [] → rules.may_end to.place ≡ true → (units : List U) → units ≡ run.units → IsBody rules bytes units
+  pub ended : (run : HasRun rules (record { place = rules.first; begun = [] }) bytes to) → to.begun ≡ []
+      → rules.may_end to.place ≡ true → (units : List U) → units ≡ run.units → IsBody rules bytes units
   ended run fresh ends units same = subst (λ (us : List U). IsBody rules bytes us) (sym same) (record {
     whole = record { chain = run.chain; ends = ap rules.may_end (sym run.behind) ∙ ends };
-    spelled = sym (append-nil (spelling_of rules run.units)) ∙ ap (λ x. spelling_of rules run.units ++ x) (sym fresh) ∙ run.spelled;
+    spelled = sym (append-nil (spelling_of rules run.units)) ∙ ap (λ x. spelling_of rules run.units ++ x) (sym fresh)
+        ∙ run.spelled;
   })
 
   -- inside a unit, or where none may, they are not
-  pub not_ended : IsPrefixFree rules → Begins rules → HasRun rules (record { place = rules.first; begun = [] }) bytes to → (to.begun ≡ [] → rules.may_end to.place ≡ true → ⊥) → (body : List U) → IsBody rules bytes body → ⊥
+  pub not_ended : IsPrefixFree rules → Begins rules → HasRun rules (record { place = rules.first; begun = [] }) bytes to
+      → (to.begun ≡ [] → rules.may_end to.place ≡ true → ⊥) → (body : List U) → IsBody rules bytes body → ⊥
   not_ended free begins run other body is =
-      let same : (run.units ≡ body) × (to.begun ≡ []) = one_cut rules free rules.first run.units body to.begun [] run.chain is.whole.chain (subst (λ (p : Place). IsUnfinished rules p to.begun) run.behind run.unfinished) (begins (place_after rules rules.first body)) (run.spelled ∙ sym is.spelled ∙ sym (append-nil (spelling_of rules body))) in
+      let same : (run.units ≡ body) × (to.begun ≡ []) =
+      one_cut rules free rules.first run.units body to.begun [] run.chain is.whole.chain
+      (subst (λ (p : Place). IsUnfinished rules p to.begun) run.behind run.unfinished)
+      (begins (place_after rules rules.first body))
+      (run.spelled ∙ sym is.spelled ∙ sym (append-nil (spelling_of rules body))) in
       other same.1 (ap rules.may_end (run.behind ∙ ap (place_after rules rules.first) same.0) ∙ is.whole.ends)
 
-module _ {Place U : Type 0} (rules : Rules Place U) (bytes : List ℕ) (used : ℕ) (front : List ℕ) (last : ℕ) (before : Reading Place) (split : take used bytes ≡ front ++ last ∷ []) (run : HasRun rules (record { place = rules.first; begun = [] }) front before) where
+module _ {Place U : Type 0} (rules : Rules Place U) (bytes : List ℕ) (used : ℕ) (front : List ℕ) (last : ℕ)
+    (before : Reading Place) (split : take used bytes ≡ front ++ last ∷ [])
+    (run : HasRun rules (record { place = rules.first; begun = [] }) front before) where
   -- no body goes on where no unit does
-  pub no_body : IsPrefixFree rules → Begins rules → (IsPrefix rules before.place (before.begun ++ last ∷ []) → ⊥) → (body : List U) → IsBody rules bytes body → ⊥
+  pub no_body : IsPrefixFree rules → Begins rules → (IsPrefix rules before.place (before.begun ++ last ∷ []) → ⊥)
+      → (body : List U) → IsBody rules bytes body → ⊥
   no_body free begins bad body is =
       let all : spelling_of rules body ≡ spelling_of rules run.units ++ (before.begun ++ last ∷ drop used bytes) =
-      is.spelled ∙ sym (take-append-drop used bytes) ∙ ap (λ x. x ++ drop used bytes) split ∙ append_assoc front (last ∷ []) (drop used bytes)
-      ∙ ap (λ x. x ++ last ∷ drop used bytes) (sym run.spelled) ∙ append_assoc (spelling_of rules run.units) before.begun (last ∷ drop used bytes) in
+      is.spelled ∙ sym (take-append-drop used bytes) ∙ ap (λ x. x ++ drop used bytes) split
+      ∙ append_assoc front (last ∷ []) (drop used bytes)
+      ∙ ap (λ x. x ++ last ∷ drop used bytes) (sym run.spelled)
+      ∙ append_assoc (spelling_of rules run.units) before.begun (last ∷ drop used bytes) in
       cut_bad rules free begins rules.first run.units body before.begun last (drop used bytes) run.chain is.whole.chain
-      (subst (λ (p : Place). IsUnfinished rules p before.begun) run.behind run.unfinished) (subst (λ (p : Place). IsPrefix rules p (before.begun ++ last ∷ []) → ⊥) run.behind bad) all
+      (subst (λ (p : Place). IsUnfinished rules p before.begun) run.behind run.unfinished)
+      (subst (λ (p : Place). IsPrefix rules p (before.begun ++ last ∷ []) → ⊥) run.behind bad) all
 
   -- a unit is complete in a front
-  pub unit_so_far : Begins rules → (unit : U) → IsSpelled rules before.place (before.begun ++ last ∷ []) unit → HasUnitSoFar rules bytes
+  pub unit_so_far : Begins rules → (unit : U) → IsSpelled rules before.place (before.begun ++ last ∷ []) unit
+      → HasUnitSoFar rules bytes
   unit_so_far begins unit spelled = record {
     front = front ++ last ∷ [];
     rest = drop used bytes;
@@ -52,6 +70,11 @@ module _ {Place U : Type 0} (rules : Rules Place U) (bytes : List ℕ) (used : �
     before = run.units;
     unit = unit;
     cut = cut_unit rules begins front run.units before.begun last unit
-        (record { chain = run.chain; more = subst (λ (p : Place). IsUnfinished rules p before.begun) run.behind run.unfinished; spelled = run.spelled })
+        (record {
+          chain = run.chain;
+          more = subst (λ (p : Place). IsUnfinished rules p before.begun) run.behind run.unfinished;
+          spelled =
+              run.spelled;
+        })
         (subst (λ (p : Place). IsSpelled rules p (before.begun ++ last ∷ []) unit) run.behind spelled);
   }
