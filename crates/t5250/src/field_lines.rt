@@ -1,10 +1,3 @@
-ghost use Rattle.std.specs.Prelude.{◌≡◌, ◌≤◌, ◌<◌, ◌+◌, List, ℕ, slice_index, if◌then◌else◌};
-ghost use Rattle.ws_screen.specs.Lines as Shown;
-ghost use Rattle.ws_stream.specs.FieldOrder as Attribute;
-ghost use Rattle.t5250.specs.FieldLines as Spec;
-ghost use Rattle.t5250.specs.Printing.{Prints};
-ghost use Rattle.t5250.specs.ScreenLines.{IsWithoutLastBlanks};
-
 use crate::output::{Output, put_cell, put_hex, put_number, put_text};
 use arrayvec::ArrayString;
 use ws_code::{Address, CELLS, Sink, ebcdic};
