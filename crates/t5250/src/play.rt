@@ -14,7 +14,7 @@ use ws_session::{Event, HostEvent, KeyFault, Report, SendFault};
 /// Writes what a session tells, an event after another, and with `screen` the station's screen behind them: true
 /// where no end has refused a byte.
 ///
-/// It takes no memory. `Write` is the only fault: the sink failed, and then a proper prefix of the text went out.
+/// It allocates no memory. `Write` is the only fault: the sink failed, and then a proper prefix of the text went out.
 pub fn play_to<S: Sink>(report: &Report, screen: bool, sink: &mut S) -> Result<bool, Fault>
     ensures printed { IfOk result (λ all_well. (text : List ℕ)
         × Spec.IsPlayText report.now.events report.now.station.screen screen text

@@ -29,7 +29,7 @@ impl Verdict {
 
     /// Writes the line that says it, of a stream of so many bytes: true where they are accepted.
     ///
-    /// It takes no memory. `Write` is the only fault: the sink failed.
+    /// It allocates no memory. `Write` is the only fault: the sink failed.
     pub fn write_to<S: Sink>(self, size: usize, sink: &mut S) -> Result<bool, Fault>
         ensures printed { IfOk result (λ accepted. (accepted ≡ is_accepted self)
             × WentOut S.takes S.failures sink.old sink.new (line_of self size)) }

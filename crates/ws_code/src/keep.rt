@@ -63,7 +63,7 @@ impl<U: Drop> Keep<U> for Option<U> {
     fn took(&mut self, _values: &[u8]) {}
 }
 
-/// Keeps nothing, and so takes no memory.
+/// Keeps nothing, and so allocates no memory.
 #[derive(Clone, Copy, Debug, PartialEq, Eq)]
 pub struct Nothing;
 

@@ -11,7 +11,7 @@ use ws_code::{Body, DeviceFailed, Fault, Source};
 
 /// The items that the bytes spell.
 ///
-/// `Refused` names the first byte after which the bytes begin no stream, counted from 0, and why;
+/// `Refused` names the first byte after which nothing that follows can make the stream valid, counted from 0, and why;
 /// `Truncated` the bytes' number, where they end inside a token or a record; `Memory` comes only where a
 /// growth was refused.
 pub fn decode_all<B: Body>(alloc: Global, bytes: &[u8]) -> Result<Vec<Item<B::Unit>>, Fault>

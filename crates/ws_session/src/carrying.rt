@@ -4,7 +4,7 @@ ghost use Rattle.ws_session.specs.Carrying.{IsCarried, IsCarryFault};
 use ws_code::{DeviceFailed, Fault, Sink, Source, write_whole};
 
 /// Carries a piece of a stream over a connection: writes the bytes into its one end, and then reads as many from the
-/// other end into the slice. It takes no memory, and makes no more reads than the slice has bytes.
+/// other end into the slice. It allocates no memory, and makes no more reads than the slice has bytes.
 ///
 /// # Errors
 ///

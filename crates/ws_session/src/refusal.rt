@@ -9,7 +9,7 @@ pub enum Refusal {
     At { place: u64, reason: Reason },
     /// An earlier byte was refused, or 18,446,744,073,709,551,615 bytes were taken.
     Failed,
-    /// A growth was refused. A station takes no memory and never answers so.
+    /// A growth was refused. A station allocates no memory and never answers so.
     Memory,
 }
 

@@ -19,7 +19,7 @@ pub struct Played {
 
 /// Runs a station that has taken no byte and no key: it reads the source to its end, and writes what it answers, both
 /// to the bytes and to the keys. Each key is pressed as soon as all keys before it were pressed and its number of
-/// records has been applied; a key that is refused is counted. It takes no memory.
+/// records has been applied; a key that is refused is counted. It allocates no memory.
 ///
 /// # Errors
 ///
