@@ -233,7 +233,9 @@ fn answers_print_their_lines(rt: HostRuntime) -> Result<(), Fail> {
         (&["t5250", "show", "--answers"], ANSWERS_SHOWN),
     ];
     for (words, wanted) in runs {
-        let asked = read_words(rt.alloc(), words)?;
+        let Task::Input(asked) = read_words(rt.alloc(), words)? else {
+            return Err("a live session".into());
+        };
         let mut sink = BufferedSink::new(VecSink::new(rt.alloc()));
         let outcome = answer_buffered(&rt, rt.alloc(), asked, ANSWERS.as_bytes(), &mut sink);
         assert_eq!(rt; outcome, Ok(true), "{words:?}");
