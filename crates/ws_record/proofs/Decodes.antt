@@ -19,10 +19,6 @@ use Rattle.ws_record.proofs.Steps.{parts_of}
 use Rattle.ws_record.proofs.Refusals.{parts_right}
 use Rattle.ws_record.proofs.Receivers.{refused_append}
 
--- the byte at an index
-pub at_index : (bytes : List ℕ) (i : ℕ) → i < length bytes → take i bytes ++ get_or bytes i 0 ∷ drop (i + 1) bytes ≡ bytes
-at_index bytes i h = ap (λ x. take i bytes ++ x) (sym (drop-cons bytes i 0 h ∙ ap (λ n. get_or bytes i 0 ∷ drop n bytes) (sym (add-one i)))) ∙ take-append-drop i bytes
-
 module _ {Place U : Type 0} (rules : Rules Place U) where
   -- what is accepted is a stream that is right to each layer
   accepted_stream : (bytes : List ℕ) (items : List (Item U)) → IsInGrammar rules bytes items → (l : Layer) → IsStream (IsRight rules l) bytes
@@ -64,54 +60,11 @@ module _ {Place U : Type 0} (rules : Rules Place U) where
   pub one_accepted : IsPrefixFree rules → Begins rules → (bytes : List ℕ) (items others : List (Item U)) → IsInGrammar rules bytes items → IsInGrammar rules bytes others → items ≡ others
   one_accepted free begins bytes items others a b = one_spelling rules free begins bytes items others ([], a) ([], b)
 
-  -- a fault at a byte of a piece
-  pub take_feeds : (bytes piece : List ℕ) (i : ℕ) (fault : Fault) → i < length piece → IsTakeFault rules (bytes ++ take i piece) (get_or piece i 0) fault → IsFeedFault rules bytes piece fault
-  take_feeds bytes piece i (Refused place reason) lt f = (
-    omega (arith, f.0, length-append bytes (take i piece)),
-    subst (λ (x : List ℕ). IsRefused rules x place reason)
-        (append_assoc (bytes ++ take i piece) (get_or piece i 0 ∷ []) (drop (i + 1) piece) ∙ append_assoc bytes (take i piece) (get_or piece i 0 ∷ drop (i + 1) piece) ∙ ap (λ x. bytes ++ x) (at_index piece i lt))
-        (refused_append rules ((bytes ++ take i piece) ++ get_or piece i 0 ∷ []) (drop (i + 1) piece) place reason f.1),
-  )
-  take_feeds bytes piece i (Truncated n) lt f = absurd f
-  take_feeds bytes piece i Memory lt f = (take i piece, get_or piece i 0, drop (i + 1) piece, sym (at_index piece i lt), f)
-  take_feeds bytes piece i Read lt f = absurd f
-  take_feeds bytes piece i Write lt f = absurd f
-  take_feeds bytes piece i Failed lt f = absurd f
-
-  -- one before which nothing was complete
-  pub none_before : (bytes piece : List ℕ) (items : List (Item U)) (i : ℕ) (fault : Fault) → i < length piece
-      → ((n : ℕ) → n ≤ i → (so_far begun : List ℕ) × Holds rules (bytes ++ take n piece) items so_far begun)
-      → IsTakeFault rules (bytes ++ take i piece) (get_or piece i 0) fault → NoneBefore rules bytes piece items fault
-  none_before bytes piece items i (Refused place reason) lt before f = λ n h. before n (omega (arith, f.0, length-append bytes (take i piece), length-take i piece))
-  none_before bytes piece items i (Truncated n) lt before f = tt
-  none_before bytes piece items i Memory lt before f = tt
-  none_before bytes piece items i Read lt before f = tt
-  none_before bytes piece items i Write lt before f = tt
-  none_before bytes piece items i Failed lt before f = tt
-
   -- the end of a whole list
   pub end_decodes : (bytes : List ℕ) (fault : Fault) → (fault ≡ Truncated (length bytes)) × IsTruncated rules bytes → IsDecodeFault rules bytes fault
   end_decodes bytes fault f = subst (λ (x : Fault). IsDecodeFault rules bytes x) (sym f.0) (refl, f.1)
 
-upto_more : (P : ℕ → Type 0) (i : ℕ) → ((n : ℕ) → n ≤ i → P n) → P (i + 1) → (n : ℕ) → n ≤ i + 1 → P n
-upto_more P i below here n h = elim (cases_lt i n) [ inl lt ↦ subst P (let e : i + 1 ≡ n = omega arith in e) here | inr ge ↦ below n ge ]
-
 module _ {Place U : Type 0} (rules : Rules Place U) where
-  -- a byte of a piece with which nothing is complete
-  pub taken_so_far : (new : Receiving Place U) (bytes piece : List ℕ) (items : List (Item U)) (i : ℕ) → i < length piece
-      → ((n : ℕ) → n ≤ i → (so_far begun : List ℕ) × Holds rules (bytes ++ take n piece) items so_far begun)
-      → HasReceived rules new ((bytes ++ take i piece) ++ get_or piece i 0 ∷ []) (items ++ [])
-      → HasReceived rules new (bytes ++ take (i + 1) piece) items × ((n : ℕ) → n ≤ i + 1 → (so_far begun : List ℕ) × Holds rules (bytes ++ take n piece) items so_far begun)
-  taken_so_far new bytes piece items i lt before t =
-      let longer : (bytes ++ take i piece) ++ get_or piece i 0 ∷ [] ≡ bytes ++ take (i + 1) piece = append_assoc bytes (take i piece) (get_or piece i 0 ∷ []) ∙ ap (λ x. bytes ++ x) (sym (take_more piece i 0 lt)) in
-      let now : HasReceived rules new (bytes ++ take (i + 1) piece) items = subst (λ (x : List ℕ). HasReceived rules new x items) longer (subst (λ (x : List (Item U)). HasReceived rules new ((bytes ++ take i piece) ++ get_or piece i 0 ∷ []) x) (append-nil items) t) in
-      (now, upto_more (λ n. (so_far begun : List ℕ) × Holds rules (bytes ++ take n piece) items so_far begun) i before (now.leads.0, new.live.begun, now.leads.1.holds))
-
-  -- a byte of a piece
-  pub taken_next : (new : Receiving Place U) (bytes piece : List ℕ) (items : List (Item U)) (i : ℕ) → i < length piece → HasReceived rules new ((bytes ++ take i piece) ++ get_or piece i 0 ∷ []) items → HasReceived rules new (bytes ++ take (i + 1) piece) items
-  taken_next new bytes piece items i lt t =
-      subst (λ (x : List ℕ). HasReceived rules new x items) (append_assoc bytes (take i piece) (get_or piece i 0 ∷ []) ∙ ap (λ x. bytes ++ x) (sym (take_more piece i 0 lt))) t
-
   -- a fault of the first piece
   pub feed_decodes : (bytes : List ℕ) (fault : Fault) → IsListFault rules [] bytes fault → IsDecodeFault rules bytes fault
   feed_decodes bytes (Refused place reason) (inl f) = f.1
@@ -128,17 +81,9 @@ module _ {Place U : Type 0} (rules : Rules Place U) where
   grows_more bytes more (inr i) = inr (i.0, i.1 ++ more, ap (λ x. x ++ more) i.2 ∙ append_assoc i.0 i.1 more, i.3, i.4, i.5, i.6, i.7)
 
   -- a growth that was refused for an item of a piece
-  pub item_completed : (bytes piece : List ℕ) (items : List (Item U)) (item : Item U) (i : ℕ) (new : Receiving Place U) → i < length piece → HasReceived rules new ((bytes ++ take i piece) ++ get_or piece i 0 ∷ []) (items ++ item ∷ []) → HasItem rules (bytes ++ piece)
-  item_completed bytes piece items item i new lt t = (
-    (bytes ++ take i piece) ++ get_or piece i 0 ∷ [],
-    drop (i + 1) piece,
-    sym (append_assoc (bytes ++ take i piece) (get_or piece i 0 ∷ []) (drop (i + 1) piece) ∙ append_assoc bytes (take i piece) (get_or piece i 0 ∷ drop (i + 1) piece) ∙ ap (λ x. bytes ++ x) (at_index piece i lt)),
-    items,
-    item,
-    t.leads.0,
-    new.live.begun,
-    t.leads.1.holds,
-  )
+  pub item_completed : (bytes piece : List ℕ) (items : List (Item U)) (item : Item U) (used : ℕ) (new : Receiving Place U) → HasReceived rules new (bytes ++ take used piece) (items ++ item ∷ []) → HasItem rules (bytes ++ piece)
+  item_completed bytes piece items item used new t =
+      (bytes ++ take used piece, drop used piece, sym (append_assoc bytes (take used piece) (drop used piece) ∙ ap (λ x. bytes ++ x) (take-append-drop used piece)), items, item, t.leads.0, new.live.begun, t.leads.1.holds)
 
 -- What the loop over a source keeps: the bytes that it gave lead to the receiver, and are at most 4,096 a read.
 pub record Reading {Place U S : Type 0} (rules : Rules Place U) (gives : MayGive S) (failures : S → ℕ) (from to : S) (reads : ℕ) (receiver : Receiving Place U) (items : List (Item U)) : Type 0 where

@@ -4,8 +4,10 @@ use Rattle.std.proofs.Math.Seq.{get_or-append_seam}
 use Rattle.std.proofs.lemmas.Bool.{le-ltb}
 use Rattle.std.specs.Prelude.{IfSome, nat_lt, slice_index}
 use Rattle.std.proofs.lemmas.List.{get_or-take, take-append-le, take-append-drop, drop-append-le, take_all, append-nil}
-use Rattle.ws_code.specs.Code.{Rules, IsPrefixFree, IsUnfinished, IsSpelled, IsPrefix, IsCut, AreBytes, place_after, spelling_of}
-use Rattle.ws_code.proofs.CodeLaws.{AreBytes-append, Begins, one_cut, cut_more, cut_unit, cut_bad, place_after_more}
+use Rattle.std.proofs.lemmas.Grind.{flat_map-append}
+use Rattle.ws_code.specs.Code.{Rules, IsPrefixFree, IsUnfinished, IsPrefix, IsCut, IsChain, AreBytes, place_after, spelling_of}
+use Rattle.ws_code.specs.Run.{HasRun}
+use Rattle.ws_code.proofs.CodeLaws.{AreBytes-append, Begins, one_cut, cut_bad, chain_append, place_after-append}
 use Rattle.ws_code.specs.declared.reason.Reason.{Reason}
 use Rattle.ws_code.specs.declared.reason.Reason.TheVariants.{TooLong, EndedInside, UnknownOpcode}
 use Rattle.ws_telnet.specs.declared.token.Token.TheVariants.{Data}
@@ -15,8 +17,8 @@ use Rattle.ws_record.specs.Grammar.{IsFramed, header, opcode_byte}
 use Rattle.ws_record.specs.Refusal.{header_reason}
 use Rattle.ws_record.specs.HeaderSoFar.{HeaderSoFar, declared, head_in}
 use Rattle.ws_record.specs.OpenRecord.{RecordSoFar, no_record, CanBeFramed, IsHead, Keeping, HasRead, IsDataRefused, IsEndRefused}
-use Rattle.ws_record.specs.declared.open_record.DataStep.{DataStep}
-use Rattle.ws_record.specs.DataStep.{IsDataStep, IsWholeRecord}
+use Rattle.ws_record.specs.DataStep.{IsWholeRecord}
+use Rattle.ws_record.specs.Taking.{grown}
 use Rattle.ws_record.proofs.Reading.{opcode_same}
 use Rattle.ws_record.proofs.Headers.{can_be_framed, can_means, framed_from, header_length, header_append, byte_at, no_opcode, no_room, ten_cells}
 
@@ -204,23 +206,20 @@ module _ {Place U : Type 0} (rules : Rules Place U) where
     counted = r.left ∙ sym (head_declares h bytes r.head);
   }
 
-  more_framed : (reader : Keeping Place) (bytes : List ℕ) (head : Option Head) (units : List U) (b : ℕ) → (r : HasRead rules reader (record { bytes = bytes; head = head; units = units })) → InBody reader bytes head → b < 256 → (reader.left ≡ 0 → ⊥) → CanBeFramed (bytes ++ b ∷ [])
-  more_framed reader bytes head units b r i fits room =
-      let total : length (bytes ++ b ∷ []) ≡ length bytes + 1 = length-append bytes (b ∷ []) in
-      let same : declared (bytes ++ b ∷ []) ≡ declared bytes = (let long : 10 ≤ length bytes = i.long in omega (arith, get_or-append bytes (b ∷ []) 0 0 (omega arith), get_or-append bytes (b ∷ []) 0 1 (omega arith))) in
-      can_be_framed (bytes ++ b ∷ []) (AreBytes-append bytes (b ∷ []) r.bytes (fits, tt)) (header_append bytes (b ∷ []) i.long i.right)
-      (λ _. (let ne : reader.left ≢ 0 = room in let counted : length bytes + reader.left ≡ declared bytes = i.counted in omega arith))
+  more_framed : (reader : Keeping Place) (bytes : List ℕ) (head : Option Head) (units : List U) (v : List ℕ) → (r : HasRead rules reader (record { bytes = bytes; head = head; units = units })) → InBody reader bytes head → AreBytes v → length v ≤ reader.left → CanBeFramed (bytes ++ v)
+  more_framed reader bytes head units v r i are room =
+      let total : length (bytes ++ v) ≡ length bytes + length v = length-append bytes v in
+      let same : declared (bytes ++ v) ≡ declared bytes = (let long : 10 ≤ length bytes = i.long in omega (arith, get_or-append bytes v 0 0 (omega arith), get_or-append bytes v 0 1 (omega arith))) in
+      can_be_framed (bytes ++ v) (AreBytes-append bytes v r.bytes are) (header_append bytes v i.long i.right)
+      (λ _. (let counted : length bytes + reader.left ≡ declared bytes = i.counted in omega arith))
 
-  body_dropped : (bytes : List ℕ) (b : ℕ) → 10 ≤ length bytes → drop 10 bytes ++ b ∷ [] ≡ drop 10 (bytes ++ b ∷ [])
-  body_dropped bytes b long = sym (drop-append-le 10 bytes (b ∷ []) long)
+  body_head : (head : Option Head) (bytes v : List ℕ) → 10 ≤ length bytes → IsHead head bytes → IsHead head (bytes ++ v)
+  body_head None bytes v long is = absurd (omega (arith, is))
+  body_head (Some h) bytes v long is = (is.0, is.1, take-append-le 10 bytes v long ∙ is.2)
 
-  body_head : (head : Option Head) (bytes : List ℕ) (b : ℕ) → 10 ≤ length bytes → IsHead head bytes → IsHead head (bytes ++ b ∷ [])
-  body_head None bytes b long is = absurd (omega (arith, is))
-  body_head (Some h) bytes b long is = (is.0, is.1, take-append-le 10 bytes (b ∷ []) long ∙ is.2)
-
-  body_left : (reader new : Keeping Place) (head : Option Head) (bytes : List ℕ) (b : ℕ) → (reader.left ≡ 0 → ⊥) → new.left ≡ reader.left - 1 → IfSome head (λ h. length bytes + reader.left ≡ h.length) → IfSome head (λ h. length (bytes ++ b ∷ []) + new.left ≡ h.length)
-  body_left reader new None bytes b room l h = tt
-  body_left reader new (Some k) bytes b room l h = (let ne : reader.left ≢ 0 = room in omega (arith, h, length-append bytes (b ∷ [])))
+  body_left : (reader new : Keeping Place) (head : Option Head) (bytes v : List ℕ) → length v ≤ reader.left → new.left ≡ reader.left - length v → IfSome head (λ h. length bytes + reader.left ≡ h.length) → IfSome head (λ h. length (bytes ++ v) + new.left ≡ h.length)
+  body_left reader new None bytes v room l h = tt
+  body_left reader new (Some k) bytes v room l h = omega (arith, h, length-append bytes v)
 
   pub body_refused : (reader : Keeping Place) (so_far : RecordSoFar U) (b : ℕ) → HasRead rules reader so_far → length reader.header ≡ 10 → reader.left ≡ 0 → IsDataRefused rules so_far.bytes b TooLong
   body_refused reader so_far b r ten none =
@@ -228,44 +227,43 @@ module _ {Place U : Type 0} (rules : Rules Place U) where
       let long : 10 ≤ length so_far.bytes = i.long in
       inl ((λ m f. no_room so_far.bytes b m f (omega arith) (omega (arith, i.counted))), too_long so_far.bytes b long)
 
-  pub body_more : (reader new : Keeping Place) (so_far : RecordSoFar U) (b : ℕ) → HasRead rules reader so_far → length reader.header ≡ 10 → b < 256 → (reader.left ≡ 0 → ⊥)
-      → IsUnfinished rules reader.place (reader.begun ++ b ∷ []) → new.header ≡ reader.header → new.left ≡ reader.left - 1 → new.place ≡ reader.place → new.begun ≡ reader.begun ++ b ∷ []
-      → HasRead rules new (record so_far { bytes = so_far.bytes ++ b ∷ [] })
-  body_more reader new so_far b r ten fits room more e l p f =
+  -- what the body's bytes are
+  pub body_drops : (reader : Keeping Place) (so_far : RecordSoFar U) (v : List ℕ) → HasRead rules reader so_far → length reader.header ≡ 10 → drop 10 (so_far.bytes ++ v) ≡ drop 10 so_far.bytes ++ v
+  body_drops reader so_far v r ten =
       let i = in_body reader so_far.bytes so_far.head so_far.units r ten in
-      let cut = cut_more rules (drop 10 so_far.bytes) so_far.units reader.begun b r.cut (subst (λ (x : Place). IsUnfinished rules x (reader.begun ++ b ∷ [])) r.at_place more) in
+      drop-append-le 10 so_far.bytes v i.long
+
+  -- values of the body, with which units are complete
+  pub body_run : (reader new : Keeping Place) (so_far : RecordSoFar U) (v : List ℕ) → HasRead rules reader so_far → length reader.header ≡ 10 → AreBytes v → length v ≤ reader.left
+      → (run : HasRun rules (record { place = reader.place; begun = reader.begun }) v (record { place = new.place; begun = new.begun })) → new.header ≡ reader.header → new.left ≡ reader.left - length v
+      → HasRead rules new (grown so_far v run.units)
+  body_run reader new so_far v r ten are room run e l =
+      let i = in_body reader so_far.bytes so_far.head so_far.units r ten in
+      let chain : IsChain rules (place_after rules rules.first so_far.units) run.units = subst (λ (p : Place). IsChain rules p run.units) r.at_place run.chain in
+      let stands : new.place ≡ place_after rules rules.first (so_far.units ++ run.units) = run.behind ∙ ap (λ (p : Place). place_after rules p run.units) r.at_place ∙ sym (place_after-append rules rules.first so_far.units run.units) in
+      let spelled : spelling_of rules (so_far.units ++ run.units) ++ new.begun ≡ drop 10 so_far.bytes ++ v =
+          ap (λ x. x ++ new.begun) (flat_map-append rules.spelling so_far.units run.units) ∙ append_assoc (spelling_of rules so_far.units) (spelling_of rules run.units) new.begun ∙ ap (λ x. spelling_of rules so_far.units ++ x) run.spelled
+          ∙ sym (append_assoc (spelling_of rules so_far.units) reader.begun v) ∙ ap (λ x. x ++ v) r.cut.spelled in
       record {
-        bytes = AreBytes-append so_far.bytes (b ∷ []) r.bytes (fits, tt);
-        framed = more_framed reader so_far.bytes so_far.head so_far.units b r i fits room;
-        head = body_head so_far.head so_far.bytes b i.long r.head;
-        header = e ∙ r.header ∙ sym (take-append-le 10 so_far.bytes (b ∷ []) i.long);
-        left = body_left reader new so_far.head so_far.bytes b room l r.left;
-        cut = subst (λ (x : List ℕ). IsCut rules x so_far.units new.begun) (body_dropped so_far.bytes b i.long) (subst (λ (x : List ℕ). IsCut rules (drop 10 so_far.bytes ++ b ∷ []) so_far.units x) (sym f) cut);
-        at_place = p ∙ r.at_place;
+        bytes = AreBytes-append so_far.bytes v r.bytes are;
+        framed = more_framed reader so_far.bytes so_far.head so_far.units v r i are room;
+        head = body_head so_far.head so_far.bytes v i.long r.head;
+        header = e ∙ r.header ∙ sym (take-append-le 10 so_far.bytes v i.long);
+        left = body_left reader new so_far.head so_far.bytes v room l r.left;
+        cut = record {
+          chain = chain_append rules rules.first so_far.units run.units r.cut.chain chain;
+          more = subst (λ (p : Place). IsUnfinished rules p new.begun) stands run.unfinished;
+          spelled = spelled ∙ sym (drop-append-le 10 so_far.bytes v i.long);
+        };
+        at_place = stands;
       }
 
-  pub body_unit : Begins rules → (reader new : Keeping Place) (so_far : RecordSoFar U) (b : ℕ) (unit : U) → HasRead rules reader so_far → length reader.header ≡ 10 → b < 256 → (reader.left ≡ 0 → ⊥)
-      → IsSpelled rules reader.place (reader.begun ++ b ∷ []) unit → new.header ≡ reader.header → new.left ≡ reader.left - 1 → new.place ≡ rules.after unit → new.begun ≡ []
-      → HasRead rules new (record so_far { bytes = so_far.bytes ++ b ∷ []; units = so_far.units ++ unit ∷ [] })
-  body_unit begins reader new so_far b unit r ten fits room whole e l p f =
-      let i = in_body reader so_far.bytes so_far.head so_far.units r ten in
-      let cut = cut_unit rules begins (drop 10 so_far.bytes) so_far.units reader.begun b unit r.cut (subst (λ (x : Place). IsSpelled rules x (reader.begun ++ b ∷ []) unit) r.at_place whole) in
-      record {
-        bytes = AreBytes-append so_far.bytes (b ∷ []) r.bytes (fits, tt);
-        framed = more_framed reader so_far.bytes so_far.head so_far.units b r i fits room;
-        head = body_head so_far.head so_far.bytes b i.long r.head;
-        header = e ∙ r.header ∙ sym (take-append-le 10 so_far.bytes (b ∷ []) i.long);
-        left = body_left reader new so_far.head so_far.bytes b room l r.left;
-        cut = subst (λ (x : List ℕ). IsCut rules x (so_far.units ++ unit ∷ []) new.begun) (body_dropped so_far.bytes b i.long) (subst (λ (x : List ℕ). IsCut rules (drop 10 so_far.bytes ++ b ∷ []) (so_far.units ++ unit ∷ []) x) (sym f) cut);
-        at_place = p ∙ sym (place_after_more rules rules.first so_far.units unit);
-      }
-
-  pub body_bad : IsPrefixFree rules → Begins rules → (reader : Keeping Place) (so_far : RecordSoFar U) (b : ℕ) (reason : Reason) → HasRead rules reader so_far → length reader.header ≡ 10 → b < 256 → (reader.left ≡ 0 → ⊥)
+  pub body_bad : IsPrefixFree rules → Begins rules → (reader : Keeping Place) (so_far : RecordSoFar U) (b : ℕ) (reason : Reason) → HasRead rules reader so_far → length reader.header ≡ 10 → b < 256 → 1 ≤ reader.left
       → (IsPrefix rules reader.place (reader.begun ++ b ∷ []) → ⊥) → reason ≡ rules.reason reader.place reader.begun b → IsDataRefused rules so_far.bytes b reason
   body_bad free begins reader so_far b reason r ten fits room bad why =
       let i = in_body reader so_far.bytes so_far.head so_far.units r ten in
       inr (
-        more_framed reader so_far.bytes so_far.head so_far.units b r i fits room,
+        more_framed reader so_far.bytes so_far.head so_far.units (b ∷ []) r i (fits, tt) room,
         (λ m body. cut_bad rules free begins rules.first so_far.units body.units reader.begun b m r.cut.chain body.whole.chain r.cut.more
             (subst (λ (x : Place). IsPrefix rules x (reader.begun ++ b ∷ []) → ⊥) r.at_place bad)
             (sym body.spelled ∙ drop-append-le 10 so_far.bytes (b ∷ m) i.long ∙ ap (λ x. x ++ b ∷ m) (sym r.cut.spelled) ∙ append_assoc _ reader.begun (b ∷ m))),
@@ -336,6 +334,3 @@ module _ {Place U : Type 0} (rules : Rules Place U) where
       let same : i.of ≡ head = head_is reader so_far.bytes i.of head opcode r.header is op says in
       let long : length so_far.bytes ≡ i.of.length = (let c : length so_far.bytes + reader.left ≡ declared so_far.bytes = i.counted in omega (arith, c, none, head_declares i.of so_far.bytes is)) in
       (subst (λ (h : Head). IsWholeRecord rules so_far h) same (whole_with reader so_far i.of r i.is is long inside ends), reads_nothing begins new e p f)
-
-  pub data_step_is : (new : Keeping Place) (so_far : RecordSoFar U) (b : ℕ) (step given : DataStep U) → step ≡ given → IsDataStep rules new so_far b given → IsDataStep rules new so_far b step
-  data_step_is new so_far b step given e h = subst (λ (d : DataStep U). IsDataStep rules new so_far b d) (sym e) h

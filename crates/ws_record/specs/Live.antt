@@ -1,7 +1,10 @@
 -- A live decoder: what it keeps, which bytes lead to it, and what it answers to one byte more (RFC 854, 885, 1205).
 
-use Rattle.std.specs.Prelude.{◌≡◌, ℕ, Bool, false, List, [], ◌∷◌, ◌++◌, Option, Some, None, length}
-use Rattle.ws_code.specs.Code.{Rules}
+use Rattle.std.specs.Prelude.{◌≡◌, ℕ, ◌+◌, Bool, false, List, [], ◌∷◌, ◌++◌, Option, Some, None, length, drop}
+use Rattle.ws_code.specs.Code.{Rules, IsSpelled, IsCut}
+use Rattle.ws_telnet.specs.Token.{token_rules}
+use Rattle.ws_telnet.specs.declared.token.Sub.{Sub}
+use Rattle.ws_telnet.specs.declared.token.Token.TheVariants.{Data}
 use Rattle.ws_record.specs.declared.record.Head.{Head}
 use Rattle.ws_record.specs.declared.record.Item.{Item}
 use Rattle.ws_record.specs.declared.record.Item.TheVariants.{Record as RecordItem, Telnet as TelnetItem}
@@ -13,11 +16,12 @@ use Rattle.ws_record.specs.Refusal.{Layer, IsOpen, IsRefused}
 use Rattle.ws_record.specs.OpenRecord.{RecordSoFar, no_record, Keeping, HasRead}
 use Rattle.ws_record.specs.DataStep.{record_of}
 
--- What a live decoder keeps: how many bytes it took, the token that they end inside of, the open record,
--- and whether it has failed.
+-- What a live decoder keeps: how many bytes it took, the token that they end inside of, the subnegotiation that ended
+-- last, the open record, and whether it has failed.
 pub record Watching (Place : Type 0) : Type 0 where
   pub taken : ℕ
   pub begun : List ℕ
+  pub sub : Sub
   pub reader : Keeping Place
   pub failed : Bool
 
@@ -56,6 +60,35 @@ module _ {Place U : Type 0} where
   IsLiveStep rules new bytes items so_far byte (Refused place reason) = (place ≡ length bytes)
       × IsRefused rules (bytes ++ byte ∷ []) place reason
   IsLiveStep rules new bytes items so_far byte Failed = ⊥
+
+  -- behind these bytes the byte completes a unit of the open record's body
+  pub record CompletesUnit (rules : Rules Place U) (bytes : List ℕ) (byte : ℕ) : Type 0 where
+    pub items : List (Item U)
+    pub so_far : List ℕ
+    pub begun : List ℕ
+    pub value : ℕ
+    pub units : List U
+    pub unit : U
+    pub holds : Holds rules bytes items so_far begun
+    pub spelled : IsSpelled token_rules tt (begun ++ byte ∷ []) (Data value)
+    pub cut : IsCut rules (drop 10 (so_far ++ value ∷ [])) (units ++ unit ∷ []) []
+
+  -- What a front gives, with whose last byte alone something is complete, or with none: its step says what.
+  abbrev pub IsFrontStep : Rules Place U → Watching Place → List ℕ → List (Item U) → RecordSoFar U → List ℕ → Step U
+      → Type 0
+  IsFrontStep rules new bytes items so_far front More =
+      LeadsWith rules new (bytes ++ front) items so_far.head so_far.units
+  IsFrontStep rules new bytes items so_far front (Open head) = (so_far.head ≡ None)
+      × LeadsWith rules new (bytes ++ front) items (Some head) so_far.units
+  IsFrontStep rules new bytes items so_far front (Whole unit) =
+      LeadsWith rules new (bytes ++ front) items so_far.head (so_far.units ++ unit ∷ [])
+  IsFrontStep rules new bytes items so_far front Close = (head : Head) × (so_far.head ≡ Some head)
+      × Leads rules new (bytes ++ front) (items ++ RecordItem (record_of head so_far.units) ∷ []) no_record
+  IsFrontStep rules new bytes items so_far front (Command telnet) =
+      Leads rules new (bytes ++ front) (items ++ TelnetItem telnet ∷ []) so_far
+  IsFrontStep rules new bytes items so_far front (Refused place reason) = (length (bytes ++ front) ≡ place + 1)
+      × IsRefused rules (bytes ++ front) place reason
+  IsFrontStep rules new bytes items so_far front Failed = ⊥
 
 -- a fact where the step says that nothing follows
 abbrev pub OnEnd : {U : Type 0} → Step U → Type 0 → Type 0

@@ -10,7 +10,7 @@ returns-then-is_inside-clause-truncated g c = λ bytes items so_far l fits.
     let old = subst (λ (k : Watching g.row.B-Place.Denot). Leads g.B.Code.rules k bytes items so_far) (sym c.self.view_is) l in (
       ap Truncated old.count,
       cut_short g.B.Code.rules g.met.B.Body.can_end g.met.B.Code.bytes _ bytes items so_far old (λ e f. elim c.then-is_inside.branch [
-        | then-is_inside-via-then-is_inside w ↦ c.is_inside.ensures.inside w.if-is_inside.true f
+        | then-is_inside-via-then-is_inside w ↦ c.is_inside.ensures.yes w.if-is_inside.true f
         | then-is_inside-via-else-is_inside+then-not-is_empty w ↦ (w.is_empty.ensures so_far old.reads).1 w.if-not-is_empty.true e
       ]),
     )
