@@ -91,7 +91,7 @@ fn typed_keys(alloc: Global, text: &str, inserts: bool) -> Result<List<Key>, Lin
 // The key of this name.
 fn named_key(alloc: Global, name: &str) -> Result<List<Key>, LineFault>
     ensures keys { IfOk result (Spec.AreNamed name.now) }
-    ensures fault { IfErr result (IsLineFault (Spec.AreNamed name.now)) }
+    ensures fault { IfErr result (IsLineFault (Spec.AreNamed name.now) (Unit {0})) }
 {
     let Some(key) = key_named(name) else {
         return Err(LineFault::Bad);
@@ -104,7 +104,7 @@ fn named_key(alloc: Global, name: &str) -> Result<List<Key>, LineFault>
 // What is waited for: a record, or a text of one character at least.
 fn read_awaited(alloc: Global, words: &str) -> Result<Awaited, LineFault>
     ensures awaited { IfOk result (Spec.IsAwaited words.now) }
-    ensures fault { IfErr result (IsLineFault (Spec.IsAwaited words.now)) }
+    ensures fault { IfErr result (IsLineFault (Spec.IsAwaited words.now) (Unit {0})) }
 {
     if words == "record" {
         return Ok(Awaited::Record);

