@@ -4,11 +4,40 @@ use Rattle.std.proofs.lemmas.List.{append-nil}
 use Rattle.std.proofs.lemmas.Grind.{flat_map-append}
 use Rattle.ws_code.specs.Code.{Rules, Stands, IsSpelled, IsUnfinished, place_after, spelling_of}
 use Rattle.ws_code.specs.Keep.{Keeps}
-use Rattle.ws_code.specs.Run.{Reading, IsAt, RunsOn, StopsAtLast}
+use Rattle.ws_code.specs.Run.{Reading, IsAt, HasRun, RunsOn, StopsAtLast}
 use Rattle.ws_code.specs.declared.keep.Kept.{Kept}
 use Rattle.ws_code.specs.declared.keep.Kept.TheVariants.{GoOn}
 use Rattle.ws_code.specs.declared.run.Standing.{Standing}
 use Rattle.ws_code.proofs.CodeLaws.{chain_more, place_after_more}
+
+module _ {Place U : Type 0} where
+  -- a value more, which completes a unit
+  pub run_unit : (rules : Rules Place U) (from : Reading Place) (values values' : List ℕ) (to to' : Reading Place)
+      (b : ℕ) (unit : U) → (run : HasRun rules from values to) → IsSpelled rules to.place (to.begun ++ b ∷ []) unit
+      → ((place : Place) → IsUnfinished rules place []) → values' ≡ values ++ b ∷ []
+      → to' ≡ record { place = rules.after unit; begun = [] }
+      → (more : HasRun rules from values' to') × (more.units ≡ run.units ++ unit ∷ [])
+  run_unit rules from values values' to to' b unit run spelled begins ev et =
+      let units = run.units ++ unit ∷ [] in
+      let stands : Stands rules (place_after rules from.place run.units) unit =
+      subst (λ p. Stands rules p unit) run.behind spelled.stands in
+      let one : spelling_of rules (unit ∷ []) ≡ to.begun ++ b ∷ [] = append-nil (rules.spelling unit)
+      ∙ spelled.spelled in
+      let all : spelling_of rules units ≡ from.begun ++ (values ++ b ∷ []) =
+      flat_map-append rules.spelling run.units (unit ∷ []) ∙ ap (λ x. spelling_of rules run.units ++ x) one
+      ∙ sym (append_assoc (spelling_of rules run.units) to.begun (b ∷ [])) ∙ ap (λ x. x ++ b ∷ []) run.spelled
+      ∙ append_assoc from.begun values (b ∷ []) in (
+        record {
+          units = units;
+          chain = chain_more rules from.place run.units unit run.chain stands;
+          behind = ap (λ (t : Reading Place). t.place) et ∙ sym (place_after_more rules from.place run.units unit);
+          unfinished =
+              subst (λ (t : Reading Place). IsUnfinished rules t.place t.begun) (sym et) (begins (rules.after unit));
+          spelled = ap (λ (t : Reading Place). spelling_of rules units ++ t.begun) et
+              ∙ append-nil (spelling_of rules units) ∙ all ∙ ap (λ x. from.begun ++ x) (sym ev);
+        },
+        refl,
+      )
 
 module _ {Place U K : Type 0} where
   -- no value

@@ -1,5 +1,5 @@
-ghost use Rattle.std.specs.Prelude.{◌≡◌, ◌≢◌, ◌++◌, ◌∷◌, ◌<◌, ◌≤◌, [], List, ℕ, true, false, IfSome, length, take};
-ghost use Rattle.ws_code.specs.Code.{Rules, Stands, IsSpelled, IsPrefix, IsUnfinished, IsPrefixFree, AreBytes};
+ghost use Rattle.std.specs.Prelude.{◌≡◌, ◌≢◌, ◌<◌, ◌≤◌, [], List, ℕ, true, false, length, take};
+ghost use Rattle.ws_code.specs.Code.{Rules, IsUnfinished, IsPrefixFree, AreBytes};
 ghost use Rattle.ws_code.specs.Run.{IsAt, IsRun};
 ghost use Rattle.ws_code.specs.Step.{IsStep};
 ghost use Rattle.ws_code.specs.declared.run.End.{End as AnEnd};
@@ -51,28 +51,6 @@ pub trait Code: Drop {
         ensures fresh { unfinished self.new ≡ [] }
     {
         *self = Self::start(at);
-    }
-
-    /// The unit that this byte alone spells at the place, where the list goes on at the same place behind it.
-    /// `None` says nothing: then `push` decides.
-    fn single(_at: Self::Place, _byte: u8) -> Option<Self::Unit>
-        ensures { IfSome result (λ unit. IsSpelled rules _at (_byte ∷ []) unit
-            × (rules.after unit ≡ _at)) }
-    {
-        None
-    }
-
-    /// Takes a byte with which the bytes so far are still an unfinished spelling. `false` says nothing, and the byte
-    /// isn't taken: then `push` decides.
-    fn goes_on(&mut self, _byte: u8) -> bool
-        requires { IsUnfinished rules (place self.old) (unfinished self.old) }
-        ensures place { place self.new ≡ place self.old }
-        ensures taken { result ≡ true
-            → IsUnfinished rules (place self.old) (unfinished self.old ++ _byte ∷ [])
-            × (unfinished self.new ≡ unfinished self.old ++ _byte ∷ []) }
-        ensures left { result ≡ false → unfinished self.new ≡ unfinished self.old }
-    {
-        false
     }
 
     /// Takes a byte. After `Unit` or `Bad` a new machine is started, or this one is started anew.

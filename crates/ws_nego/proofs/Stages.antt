@@ -1,4 +1,5 @@
-use Rattle.std.proofs.Common.{◌≡◌, ℕ, ◌+◌, ◌≤◌, List, [], ◌∷◌, true, false, Some, length, take, drop, replicate, refl, ap, ◌∙◌, sym, subst, lit≤}
+use Rattle.std.proofs.Common.{◌≡◌, ℕ, ◌+◌, ◌≤◌, List, [], ◌∷◌, true, false, Some, length, take, drop, replicate, refl}
+use Rattle.std.proofs.Common.{ap, ◌∙◌, sym, subst, lit≤}
 use Rattle.ws_telnet.specs.declared.token.Verb.TheVariants.{Will, Do}
 use Rattle.ws_telnet.specs.declared.token.Telnet.{Telnet}
 use Rattle.ws_telnet.specs.declared.token.Telnet.TheVariants.{Option as Negotiate}
@@ -11,9 +12,11 @@ use Rattle.ws_nego.specs.declared.host.TerminalName.{TerminalName}
 use Rattle.ws_nego.specs.declared.host.TerminalName.TheVariants.{Unknown, Requested, Accepted}
 use Rattle.ws_nego.specs.Terminal.{name_of, terminal_named}
 use Rattle.ws_telnet.specs.declared.codes.TheConstants.{BINARY, TERMINAL_TYPE, END_OF_RECORD}
-use Rattle.ws_nego.specs.Station.{StationState, new_station, station_answer, station_allows_records, name_request, name_answer}
+use Rattle.ws_nego.specs.Station.{StationState, new_station, station_answer, station_allows_records, name_request}
+use Rattle.ws_nego.specs.Station.{name_answer}
 use Rattle.ws_nego.specs.Host.{HostState, opening, host_allows_records}
-use Rattle.ws_nego.specs.Exchange.{Exchange, Move, ToStation, ToHost, new_exchange, after_move, after_moves, IsQuiet, TablesAgree, after_all_to_host, after_delivery, after_three_deliveries}
+use Rattle.ws_nego.specs.Exchange.{Exchange, Move, ToStation, ToHost, new_exchange, after_move, after_moves, IsQuiet}
+use Rattle.ws_nego.specs.Exchange.{TablesAgree, after_all_to_host, after_delivery, after_three_deliveries}
 
 -- An exchange is determined by how many tokens each end has taken. The stages are named by these two
 -- numbers, the station's first.
@@ -58,13 +61,26 @@ station_after s (token ∷ tokens) = station_after (station_answer s token).afte
 -- the host end before and after it has the name
 abbrev asking : Mode → TerminalName → HostState
 asking mode name = record {
-  modes = record { station_binary = Off; station_terminal_type = mode; station_end_of_record = Off; host_binary = Off; host_end_of_record = Off };
+  modes = record {
+    station_binary = Off;
+    station_terminal_type = mode;
+    station_end_of_record = Off;
+    host_binary = Off;
+    host_end_of_record = Off;
+  };
   name = name;
 }
 
 abbrev named : TerminalType → Mode → Mode → Mode → Mode → HostState
 named t station_end_of_record host_end_of_record station_binary host_binary = record {
-  modes = record { station_binary = station_binary; station_terminal_type = On; station_end_of_record = station_end_of_record; host_binary = host_binary; host_end_of_record = host_end_of_record };
+  modes = record {
+    station_binary = station_binary;
+    station_terminal_type = On;
+    station_end_of_record =
+        station_end_of_record;
+    host_binary = host_binary;
+    host_end_of_record = host_end_of_record;
+  };
   name = Accepted t;
 }
 
@@ -145,7 +161,8 @@ abbrev pub stage_after : List Move → Stage → Stage
 stage_after [] s = s
 stage_after (m ∷ ms) s = stage_after ms (next m s)
 
-pub steps : (t : TerminalType) (ms : List Move) (s : Stage) → after_moves ms (exchange_at t s) ≡ exchange_at t (stage_after ms s)
+pub steps : (t : TerminalType) (ms : List Move) (s : Stage) → after_moves ms (exchange_at t s)
+    ≡ exchange_at t (stage_after ms s)
 steps t [] s = refl
 steps t (m ∷ ms) s = ap (after_moves ms) (step t m s) ∙ steps t ms (next m s)
 
@@ -154,7 +171,8 @@ end_agrees t StationBinary = refl
 end_agrees t direction = refl
 
 -- only at the last stage is nothing in flight
-quiet_agree : (t : TerminalType) (s : Stage) → IsQuiet (exchange_at t s) → TablesAgree (exchange_at t s).station (exchange_at t s).host
+quiet_agree : (t : TerminalType) (s : Stage) → IsQuiet (exchange_at t s)
+    → TablesAgree (exchange_at t s).station (exchange_at t s).host
 quiet_agree t at_66 q = end_agrees t
 quiet_agree t s q = absurd (let e = q.to_station in let f = q.to_host in cc)
 
@@ -186,7 +204,8 @@ three_full t at_66 = refl
 three_full t s = refl
 
 -- once the station allows records, nothing is in flight to it
-station_last : (t : TerminalType) (s : Stage) → station_allows_records (exchange_at t s).station ≡ true → (exchange_at t s).to_station ≡ []
+station_last : (t : TerminalType) (s : Stage) → station_allows_records (exchange_at t s).station ≡ true
+    → (exchange_at t s).to_station ≡ []
 station_last t at_62 h = refl
 station_last t at_63 h = refl
 station_last t at_64 h = refl
@@ -195,12 +214,14 @@ station_last t at_66 h = refl
 station_last t s h = cc
 
 -- and once nothing is in flight to the host end either, this one allows them too
-both_last : (t : TerminalType) (s : Stage) → station_allows_records (exchange_at t s).station ≡ true → (exchange_at t s).to_host ≡ [] → host_allows_records (exchange_at t s).host ≡ true
+both_last : (t : TerminalType) (s : Stage) → station_allows_records (exchange_at t s).station ≡ true
+    → (exchange_at t s).to_host ≡ [] → host_allows_records (exchange_at t s).host ≡ true
 both_last t at_66 h e = refl
 both_last t s h e = cc
 
 -- once the host end allows records, nothing is in flight, and the station allows them too
-host_last : (t : TerminalType) (s : Stage) → host_allows_records (exchange_at t s).host ≡ true → IsQuiet (exchange_at t s) × (station_allows_records (exchange_at t s).station ≡ true)
+host_last : (t : TerminalType) (s : Stage) → host_allows_records (exchange_at t s).host ≡ true
+    → IsQuiet (exchange_at t s) × (station_allows_records (exchange_at t s).station ≡ true)
 host_last t at_66 h = (record { to_station = refl; to_host = refl }, refl)
 host_last t s h = cc
 
@@ -251,10 +272,12 @@ module _ (t : TerminalType) (ms : List Move) where
 
   pub both_then : station_allows_records now.station ≡ true → now.to_host ≡ [] → host_allows_records now.host ≡ true
   both_then =
-      let P : Exchange → Type 0 = λ e. station_allows_records e.station ≡ true → e.to_host ≡ [] → host_allows_records e.host ≡ true in
+      let P : Exchange → Type 0 = λ e. station_allows_records e.station ≡ true → e.to_host ≡ []
+      → host_allows_records e.host ≡ true in
       subst P (sym reached) (both_last t stage)
 
   pub host_then : host_allows_records now.host ≡ true → IsQuiet now × (station_allows_records now.station ≡ true)
   host_then =
-      let P : Exchange → Type 0 = λ e. host_allows_records e.host ≡ true → IsQuiet e × (station_allows_records e.station ≡ true) in
+      let P : Exchange → Type 0 = λ e. host_allows_records e.host ≡ true → IsQuiet e
+      × (station_allows_records e.station ≡ true) in
       subst P (sym reached) (host_last t stage)

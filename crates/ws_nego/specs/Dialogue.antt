@@ -8,6 +8,7 @@ use Rattle.ws_nego.specs.Station.{StationState, new_station, station_answer}
 use Rattle.ws_nego.specs.Host.{HostState, new_host, after_open, opening, host_answer}
 use Rattle.ws_nego.specs.Exchange.{Move, ToStation, ToHost}
 
+-- both ends, all that either has written, and how many of its tokens have arrived
 pub record Dialogue : Type 0 where
   pub station : StationState
   pub host : HostState
@@ -58,15 +59,18 @@ after_host_writes dialogue (Some answer) = record {
   refused = dialogue.refused;
 }
 
+-- these tokens come to the host end, one after another, and it writes its answers
 abbrev pub after_host_gets : Dialogue → List Telnet → Dialogue
 after_host_gets dialogue [] = dialogue
 after_host_gets dialogue (token ∷ later) = after_host_writes dialogue (host_answer dialogue.host token)
 
+-- all that is on its way to one end arrives there
 abbrev pub after_arrival : Move → Dialogue → Dialogue
 after_arrival ToStation dialogue =
     after_station_gets dialogue (drop dialogue.at_station dialogue.to_station)
 after_arrival ToHost dialogue = after_host_gets dialogue (drop dialogue.at_host dialogue.to_host)
 
+-- one arrival after another
 abbrev pub after_arrivals : List Move → Dialogue → Dialogue
 after_arrivals [] dialogue = dialogue
 after_arrivals (move ∷ moves) dialogue = after_arrivals moves (after_arrival move dialogue)

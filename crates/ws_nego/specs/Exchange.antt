@@ -11,6 +11,7 @@ use Rattle.ws_nego.specs.Options.{entry, Answer}
 use Rattle.ws_nego.specs.Station.{StationState, new_station, station_answer}
 use Rattle.ws_nego.specs.Host.{HostState, new_host, after_open, opening, host_answer}
 
+-- both ends, and the tokens that are on their way to each
 pub record Exchange : Type 0 where
   pub station : StationState
   pub host : HostState
@@ -56,6 +57,7 @@ after_host_answers exchange later (Some answer) = record {
   refused = exchange.refused;
 }
 
+-- these tokens come to the host end, one after another, and its answers are on their way
 abbrev pub after_host_takes : Exchange → List Telnet → Exchange
 after_host_takes exchange [] = exchange
 after_host_takes exchange (token ∷ later) =
@@ -66,10 +68,12 @@ pub data Move : Type 0 where
   ToStation : Move
   ToHost : Move
 
+-- what is on its way to one end comes to it
 abbrev pub after_move : Move → Exchange → Exchange
 after_move ToStation exchange = after_station_takes exchange exchange.to_station
 after_move ToHost exchange = after_host_takes exchange exchange.to_host
 
+-- one move after another
 abbrev pub after_moves : List Move → Exchange → Exchange
 after_moves [] exchange = exchange
 after_moves (move ∷ moves) exchange = after_moves moves (after_move move exchange)
@@ -93,11 +97,14 @@ TablesAgree station host =
 abbrev pub after_all_to_station : Exchange → Exchange
 after_all_to_station exchange = after_moves (replicate (length exchange.to_station) ToStation) exchange
 
+-- as many moves to the host end as tokens are on their way to it
 abbrev pub after_all_to_host : Exchange → Exchange
 after_all_to_host exchange = after_moves (replicate (length exchange.to_host) ToHost) exchange
 
+-- all that is on its way comes to the station, and then all to the host end
 abbrev pub after_delivery : Exchange → Exchange
 after_delivery exchange = after_all_to_host (after_all_to_station exchange)
 
+-- three deliveries one after another
 abbrev pub after_three_deliveries : Exchange → Exchange
 after_three_deliveries exchange = after_delivery (after_delivery (after_delivery exchange))

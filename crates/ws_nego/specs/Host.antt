@@ -27,6 +27,7 @@ pub record HostState : Type 0 where
   pub modes : OptionTable Mode
   pub name : TerminalName
 
+-- a host end before it has opened the session
 abbrev pub new_host : HostState
 new_host = record { modes = uniform_table Off; name = Unknown }
 
@@ -34,6 +35,7 @@ new_host = record { modes = uniform_table Off; name = Unknown }
 abbrev pub opening : Telnet
 opening = Negotiate Do TERMINAL_TYPE
 
+-- it has asked for the terminal type
 abbrev pub after_open : HostState → HostState
 after_open host = record { modes = with_entry host.modes StationTerminalType Asked; name = host.name }
 
@@ -53,16 +55,19 @@ host_row Dont Off = (Off, None)
 host_row Dont Asked = (Off, None)
 host_row Dont On = (Off, Some Wont)
 
+-- the option is on in that direction
 abbrev pub is_on : Mode → Bool
 is_on On = true
 is_on Off = false
 is_on Asked = false
 
+-- it was asked for, and no answer has come
 abbrev pub is_asked : Mode → Bool
 is_asked Asked = true
 is_asked Off = false
 is_asked On = false
 
+-- no name was asked for
 abbrev pub is_unknown : TerminalName → Bool
 is_unknown Unknown = true
 is_unknown Requested = false
@@ -85,6 +90,7 @@ is_name_offered host Will StationTerminalType =
     is_asked host.modes.station_terminal_type && is_unknown host.name
 is_name_offered host verb direction = false
 
+-- the terminal type is on, and its name is asked for
 abbrev pub after_name_request : HostState → HostState
 after_name_request host = record { modes = with_entry host.modes StationTerminalType On; name = Requested }
 
@@ -113,6 +119,7 @@ request On verb option = []
 request Off verb option = Negotiate verb option ∷ []
 request Asked verb option = Negotiate verb option ∷ []
 
+-- a direction once it was asked for: on stays on
 abbrev pub mode_once_requested : Mode → Mode
 mode_once_requested On = On
 mode_once_requested Off = Asked
@@ -127,6 +134,7 @@ requests modes =
     ++ request modes.station_binary Do BINARY
     ++ request modes.host_binary Will BINARY
 
+-- the directions that records need are asked for, where they are not on (RFC 1205, section 2)
 abbrev pub modes_once_requested : OptionTable Mode → OptionTable Mode
 modes_once_requested modes = record {
   station_binary = mode_once_requested modes.station_binary;
@@ -141,6 +149,7 @@ abbrev pub name_after_is : List ℕ → Option (List ℕ)
 name_after_is [] = None
 name_after_is (code ∷ name) = if code == IS then Some name else None
 
+-- the name that a subnegotiation of the terminal type tells (RFC 1091)
 abbrev pub name_in : Sub → Option (List ℕ)
 name_in sub = if sub.option == TERMINAL_TYPE then name_after_is sub.data_ else None
 
@@ -158,6 +167,7 @@ host_name_answer host Requested name = host_judgement host (terminal_named name)
 host_name_answer host Unknown name = Some (no_effect host)
 host_name_answer host (Accepted terminal) name = Some (no_effect host)
 
+-- what a subnegotiation does to the host end: it may tell a name
 abbrev pub host_sub_answer : HostState → Option (List ℕ) → Option (Answer HostState)
 host_sub_answer host None = Some (no_effect host)
 host_sub_answer host (Some name) = host_name_answer host host.name name

@@ -47,6 +47,7 @@ station_direction option =
     else (if option == END_OF_RECORD then Some StationEndOfRecord
     else None))
 
+-- the direction that the host end uses the option in
 abbrev pub host_direction : ℕ → Option Direction
 host_direction option =
     if option == BINARY then Some HostBinary
@@ -61,6 +62,7 @@ direction_at_station Dont option = station_direction option
 direction_at_station Will option = host_direction option
 direction_at_station Wont option = host_direction option
 
+-- the direction that a verb is about when it comes to the host end
 abbrev pub direction_at_host : Verb → ℕ → Option Direction
 direction_at_host Do option = host_direction option
 direction_at_host Dont option = host_direction option

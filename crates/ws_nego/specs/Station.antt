@@ -21,6 +21,7 @@ pub record StationState : Type 0 where
   pub terminal : TerminalType
   pub on : OptionTable Bool
 
+-- a station of the terminal, with no option on
 abbrev pub new_station : TerminalType → StationState
 new_station terminal = record { terminal = terminal; on = uniform_table false }
 
@@ -40,9 +41,11 @@ station_row Wont true = (false, Some Dont)
 abbrev pub name_request : Telnet
 name_request = terminal_type_token SEND []
 
+-- what tells the name of the terminal (RFC 1091)
 abbrev pub name_answer : TerminalType → Telnet
 name_answer terminal = terminal_type_token IS (name_of terminal)
 
+-- a subnegotiation that asks for the name (RFC 1091)
 abbrev pub is_name_request : Sub → Bool
 is_name_request sub = (sub.option == TERMINAL_TYPE) && bytes_eq sub.data_ (SEND ∷ [])
 

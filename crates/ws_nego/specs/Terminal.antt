@@ -6,9 +6,11 @@ use Rattle.ws_nego.specs.declared.terminal.TerminalType.{TerminalType}
 use Rattle.ws_nego.specs.declared.terminal.TerminalType.TheVariants.{Ibm5251Model11, Ibm5291Model1, Ibm5292Model2}
 use Rattle.ws_nego.specs.declared.terminal.TerminalType.TheVariants.{Ibm3196ModelA1, Ibm3179Model2}
 
+-- the terminals of 24 by 80 that a station may be (RFC 4777)
 abbrev pub terminal_types : List TerminalType
 terminal_types = Ibm5251Model11 ∷ Ibm5291Model1 ∷ Ibm5292Model2 ∷ Ibm3196ModelA1 ∷ Ibm3179Model2 ∷ []
 
+-- the name of a terminal (RFC 4777)
 abbrev pub name_of : TerminalType → List ℕ
 name_of Ibm5251Model11 = codes "IBM-5251-11"
 name_of Ibm5291Model1 = codes "IBM-5291-1"

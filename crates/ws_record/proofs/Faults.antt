@@ -1,4 +1,5 @@
-use Rattle.std.proofs.Common.{◌≡◌, ℕ, List, [], ◌∷◌, ◌++◌, ◌⊎◌, inl, inr, length, drop, refl, sym, ap, ◌∙◌, subst, append_assoc}
+use Rattle.std.proofs.Common.{◌≡◌, ℕ, List, [], ◌∷◌, ◌++◌, ◌⊎◌, inl, inr, length, drop, refl, sym, ap, ◌∙◌, subst}
+use Rattle.std.proofs.Common.{append_assoc}
 use Rattle.std.specs.List.{AllByRecursion}
 use Rattle.std.proofs.lemmas.List.{append-nil}
 use Rattle.ws_code.specs.Code.{Rules, IsPrefixFree, place_after}
@@ -11,7 +12,8 @@ use Rattle.ws_telnet.specs.TokenLaws.{token_prefix_free, token_begins}
 use Rattle.ws_telnet.specs.declared.token.Token.{Token}
 use Rattle.ws_telnet.specs.declared.token.Token.TheVariants.{Data, Eor, Telnet as TelnetToken}
 use Rattle.ws_record.specs.Grammar.{IsStream, carried, joined}
-use Rattle.ws_record.specs.Refusal.{EndsWith, Layer, header_reason, IsRight, IsOpen, IsFirstClosed, IsBodyReason, IsReason, IsRefused, IsTruncated}
+use Rattle.ws_record.specs.Refusal.{EndsWith, Layer, header_reason, IsRight, IsOpen, IsFirstClosed, IsBodyReason}
+use Rattle.ws_record.specs.Refusal.{IsReason, IsRefused, IsTruncated}
 use Rattle.ws_record.specs.Refusal.Layer.{Tokens, Header, Body}
 use Rattle.ws_record.specs.Receiver.{IsDecodeFault}
 use Rattle.ws_record.proofs.Decodes.{closed_is_not}
@@ -29,9 +31,12 @@ same_last (a ∷ xs) (b ∷ ys) x y e =
     (ap (λ z. z ∷ xs) head ∙ ap (λ zs. b ∷ zs) rest.0, rest.1)
 
 -- the last of whole tokens, and the record bytes before it
-one_end : (bytes so_far other : List ℕ) (s t : Token) → EndsWith bytes so_far s → EndsWith bytes other t → (so_far ≡ other) × (s ≡ t)
+one_end : (bytes so_far other : List ℕ) (s t : Token) → EndsWith bytes so_far s → EndsWith bytes other t
+    → (so_far ≡ other) × (s ≡ t)
 one_end bytes so_far other s t e f =
-    let tokens : joined e.parts e.rest ++ s ∷ [] ≡ joined f.parts f.rest ++ t ∷ [] = one_list token_rules token_prefix_free token_begins _ _ e.tokens.chain f.tokens.chain (sym e.spelled ∙ f.spelled) in
+    let tokens : joined e.parts e.rest ++ s ∷ [] ≡ joined f.parts f.rest ++ t ∷ [] =
+    one_list token_rules token_prefix_free token_begins _ _ e.tokens.chain f.tokens.chain
+    (sym e.spelled ∙ f.spelled) in
     let last = same_last (joined e.parts e.rest) (joined f.parts f.rest) s t tokens in
     let joins = one_join e.parts f.parts e.rest f.rest e.no_eor.0 f.no_eor.0 e.no_eor.1 f.no_eor.1 last.0 in
     (e.is_open ∙ ap carried joins.1 ∙ sym f.is_open, last.1)
@@ -41,30 +46,49 @@ all_right [] = tt
 all_right (part ∷ parts) = (tt, all_right parts)
 
 module _ {Place U : Type 0} (rules : Rules Place U) where
-  one_body_reason : IsPrefixFree rules → (bytes : List ℕ) (t : Token) (r s : Reason) → IsBodyReason rules bytes t r → IsBodyReason rules bytes t s → r ≡ s
+  one_body_reason : IsPrefixFree rules → (bytes : List ℕ) (t : Token) (r s : Reason) → IsBodyReason rules bytes t r
+      → IsBodyReason rules bytes t s → r ≡ s
   one_body_reason free bytes (Data b) r s p q =
-      let cut = one_cut rules free rules.first p.0 q.0 p.1 q.1 p.2.chain q.2.chain p.2.more q.2.more (p.2.spelled ∙ sym q.2.spelled) in
-      p.3 ∙ ap (λ (us : List U). rules.reason (place_after rules rules.first us) p.1 b) cut.0 ∙ ap (λ (x : List ℕ). rules.reason (place_after rules rules.first q.0) x b) cut.1 ∙ sym q.3
+      let cut = one_cut rules free rules.first p.0 q.0 p.1 q.1 p.2.chain q.2.chain p.2.more q.2.more
+      (p.2.spelled ∙ sym q.2.spelled) in
+      p.3 ∙ ap (λ (us : List U). rules.reason (place_after rules rules.first us) p.1 b) cut.0
+      ∙ ap (λ (x : List ℕ). rules.reason (place_after rules rules.first q.0) x b) cut.1 ∙ sym q.3
   one_body_reason free bytes Eor r s p q = p ∙ sym q
   one_body_reason free bytes (TelnetToken t) r s p q = p ∙ sym q
 
-  one_reason : IsPrefixFree rules → (layer : Layer) (before : List ℕ) (b : ℕ) (r s : Reason) → IsReason rules layer before b r → IsReason rules layer before b s → r ≡ s
+  one_reason : IsPrefixFree rules → (layer : Layer) (before : List ℕ) (b : ℕ) (r s : Reason)
+      → IsReason rules layer before b r → IsReason rules layer before b s → r ≡ s
   one_reason free Tokens before b r s p q =
-      let cut = one_cut token_rules token_prefix_free tt p.0 q.0 p.1 q.1 p.2.chain q.2.chain p.2.more q.2.more (p.2.spelled ∙ sym q.2.spelled) in
+      let cut = one_cut token_rules token_prefix_free tt p.0 q.0 p.1 q.1 p.2.chain q.2.chain p.2.more q.2.more
+      (p.2.spelled ∙ sym q.2.spelled) in
       p.3 ∙ ap (λ (x : List ℕ). token_rules.reason tt x b) cut.1 ∙ sym q.3
   one_reason free Header before b r s p q =
       let last = one_end (before ++ b ∷ []) p.0 q.0 p.1 q.1 p.2 q.2 in
       p.3 ∙ ap (λ (x : List ℕ). header_reason x p.1) last.0 ∙ ap (header_reason q.0) last.1 ∙ sym q.3
   one_reason free Body before b r s p q =
       let last = one_end (before ++ b ∷ []) p.0 q.0 p.1 q.1 p.2 q.2 in
-      let moved : IsBodyReason rules (drop 10 q.0) p.1 r = subst (λ (x : List ℕ). IsBodyReason rules (drop 10 x) p.1 r) last.0 p.3 in
-      one_body_reason free (drop 10 q.0) q.1 r s (subst (λ (t : Token). IsBodyReason rules (drop 10 q.0) t r) last.1 moved) q.3
+      let moved : IsBodyReason rules (drop 10 q.0) p.1 r =
+      subst (λ (x : List ℕ). IsBodyReason rules (drop 10 x) p.1 r) last.0 p.3 in
+      one_body_reason free (drop 10 q.0) q.1 r s
+      (subst (λ (t : Token). IsBodyReason rules (drop 10 q.0) t r) last.1 moved) q.3
 
   -- to the lowest layer all bytes are a record
   open_tokens : (bytes : List ℕ) → IsOpen rules Header bytes → IsOpen rules Tokens bytes
   open_tokens bytes o =
       let s = o.stream in
-      record { more = o.more; stream = record { parts = s.parts; rest = s.rest; no_eor = s.no_eor; each = all_right s.parts; closed = s.closed; tokens = s.tokens; spelled = s.spelled } }
+      record {
+        more = o.more;
+        stream =
+            record {
+              parts = s.parts;
+              rest = s.rest;
+              no_eor = s.no_eor;
+              each = all_right s.parts;
+              closed = s.closed;
+              tokens = s.tokens;
+              spelled = s.spelled;
+            };
+      }
 
   one_layer : (bytes : List ℕ) (l m : Layer) → IsFirstClosed rules l bytes → IsFirstClosed rules m bytes → l ≡ m
   one_layer bytes Tokens Tokens p q = refl
@@ -78,15 +102,20 @@ module _ {Place U : Type 0} (rules : Rules Place U) where
   one_layer bytes Body Body p q = refl
 
   -- behind a byte at which a layer is closed nothing is open
-  behind : (before : List ℕ) (byte : ℕ) (more longer : List ℕ) (layer : Layer) → IsFirstClosed rules layer (before ++ byte ∷ []) → longer ≡ before ++ byte ∷ more → ((l : Layer) → IsOpen rules l longer) → ⊥
+  behind : (before : List ℕ) (byte : ℕ) (more longer : List ℕ) (layer : Layer)
+      → IsFirstClosed rules layer (before ++ byte ∷ []) → longer ≡ before ++ byte ∷ more
+      → ((l : Layer) → IsOpen rules l longer) → ⊥
   behind before byte more longer layer closed e opened =
       let o = opened layer in
       closed_is_not rules layer (before ++ byte ∷ []) closed (record {
         more = more ++ o.more;
-        stream = subst (λ (x : List ℕ). IsStream (IsRight rules layer) x) (ap (λ x. x ++ o.more) e ∙ append_assoc before (byte ∷ more) o.more ∙ sym (append_assoc before (byte ∷ []) (more ++ o.more))) o.stream;
+        stream = subst (λ (x : List ℕ). IsStream (IsRight rules layer) x)
+            (ap (λ x. x ++ o.more) e ∙ append_assoc before (byte ∷ more) o.more
+            ∙ sym (append_assoc before (byte ∷ []) (more ++ o.more))) o.stream;
       })
 
-  one_split : (x y : List ℕ) (b c : ℕ) (v w : List ℕ) (l m : Layer) → x ++ b ∷ v ≡ y ++ c ∷ w → IsFirstClosed rules l (x ++ b ∷ []) → IsFirstClosed rules m (y ++ c ∷ [])
+  one_split : (x y : List ℕ) (b c : ℕ) (v w : List ℕ) (l m : Layer) → x ++ b ∷ v ≡ y ++ c ∷ w
+      → IsFirstClosed rules l (x ++ b ∷ []) → IsFirstClosed rules m (y ++ c ∷ [])
       → ((k : Layer) → IsOpen rules k x) → ((k : Layer) → IsOpen rules k y) → (x ≡ y) × (b ≡ c)
   one_split x y b c v w l m e p q ox oy = elim (one_begins x y (b ∷ v) (c ∷ w) e) [
     | inl f ↦ longer f.0 f.1 f.2
@@ -102,23 +131,35 @@ module _ {Place U : Type 0} (rules : Rules Place U) where
       shorter (z ∷ r) g h = let s : z ≡ c = cc in absurd (behind y c r x m q (g ∙ ap (λ n. y ++ n ∷ r) s) ox)
 
   -- one place and one reason
-  pub one_refused : IsPrefixFree rules → (bytes : List ℕ) (place other : ℕ) (reason another : Reason) → IsRefused rules bytes place reason → IsRefused rules bytes other another → (place ≡ other) × (reason ≡ another)
+  pub one_refused : IsPrefixFree rules → (bytes : List ℕ) (place other : ℕ) (reason another : Reason)
+      → IsRefused rules bytes place reason → IsRefused rules bytes other another → (place ≡ other) × (reason ≡ another)
   one_refused free bytes place other reason another a b =
-      let same = one_split a.before b.before a.byte b.byte a.after b.after a.layer b.layer (sym a.split ∙ b.split) a.closed b.closed a.opened b.opened in
-      let moved : (F : List ℕ → ℕ → Type 0) → F a.before a.byte → F b.before b.byte = λ F f. subst (λ n. F b.before n) same.1 (subst (λ (x : List ℕ). F x a.byte) same.0 f) in
-      let layer : a.layer ≡ b.layer = one_layer (b.before ++ b.byte ∷ []) a.layer b.layer (moved (λ x n. IsFirstClosed rules a.layer (x ++ n ∷ [])) a.closed) b.closed in
-      let why : IsReason rules a.layer b.before b.byte reason = moved (λ x n. IsReason rules a.layer x n reason) a.why in
-      (a.at_place ∙ ap length same.0 ∙ sym b.at_place, one_reason free b.layer b.before b.byte reason another (subst (λ (l : Layer). IsReason rules l b.before b.byte reason) layer why) b.why)
+      let same = one_split a.before b.before a.byte b.byte a.after b.after a.layer b.layer (sym a.split ∙ b.split)
+      a.closed b.closed a.opened b.opened in
+      let moved : (F : List ℕ → ℕ → Type 0) → F a.before a.byte → F b.before b.byte =
+      λ F f. subst (λ n. F b.before n) same.1 (subst (λ (x : List ℕ). F x a.byte) same.0 f) in
+      let layer : a.layer ≡ b.layer =
+      one_layer (b.before ++ b.byte ∷ []) a.layer b.layer
+      (moved (λ x n. IsFirstClosed rules a.layer (x ++ n ∷ [])) a.closed) b.closed in
+      let why : IsReason rules a.layer b.before b.byte reason =
+      moved (λ x n. IsReason rules a.layer x n reason) a.why in (
+        a.at_place ∙ ap length same.0 ∙ sym b.at_place,
+        one_reason free b.layer b.before b.byte reason another
+            (subst (λ (l : Layer). IsReason rules l b.before b.byte reason) layer why) b.why,
+      )
 
   -- what is refused isn't truncated
-  pub refused_or_truncated : (bytes : List ℕ) (place : ℕ) (reason : Reason) → IsRefused rules bytes place reason → IsTruncated rules bytes → ⊥
+  pub refused_or_truncated : (bytes : List ℕ) (place : ℕ) (reason : Reason) → IsRefused rules bytes place reason
+      → IsTruncated rules bytes → ⊥
   refused_or_truncated bytes place reason r t = behind r.before r.byte r.after bytes r.layer r.closed r.split t.opened
 
   -- so two decoders of the bytes meet one fault, unless a growth was refused
-  pub one_fault : IsPrefixFree rules → (bytes : List ℕ) (fault other : Fault) → IsDecodeFault rules bytes fault → IsDecodeFault rules bytes other → (fault ≡ Memory) ⊎ (other ≡ Memory) ⊎ (fault ≡ other)
+  pub one_fault : IsPrefixFree rules → (bytes : List ℕ) (fault other : Fault) → IsDecodeFault rules bytes fault
+      → IsDecodeFault rules bytes other → (fault ≡ Memory) ⊎ (other ≡ Memory) ⊎ (fault ≡ other)
   one_fault free bytes Memory other a b = inl refl
   one_fault free bytes (Refused p r) Memory a b = inr (inl refl)
-  one_fault free bytes (Refused p r) (Refused q s) a b = let same = one_refused free bytes p q r s a b in inr (inr (ap (λ n. Refused n r) same.0 ∙ ap (Refused q) same.1))
+  one_fault free bytes (Refused p r) (Refused q s) a b = let same = one_refused free bytes p q r s a b in
+      inr (inr (ap (λ n. Refused n r) same.0 ∙ ap (Refused q) same.1))
   one_fault free bytes (Refused p r) (Truncated n) a b = absurd (refused_or_truncated bytes p r a b.1)
   one_fault free bytes (Refused p r) Read a b = absurd b
   one_fault free bytes (Refused p r) Write a b = absurd b

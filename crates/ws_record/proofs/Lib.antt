@@ -10,10 +10,12 @@ pub mod LastRecords
 pub mod Lives
 pub mod OpenPrefixes
 pub mod OpenRecords
+pub mod Pieces
 pub mod Prefixes
 pub mod Reading
 pub mod Receivers
 pub mod Refusals
 pub mod Steps
 pub mod Streams
+pub mod Takings
 pub mod Writes

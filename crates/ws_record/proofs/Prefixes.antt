@@ -19,15 +19,33 @@ pub record Parted (tokens : List Token) : Type 0 where
   pub no_eor : AllByRecursion HasNoEor parts × HasNoEor rest
   pub is : joined parts rest ≡ tokens
 
-part_more : (t : Token) (tokens : List Token) (parts : List (List Token)) (rest : List Token) → t ≢ Eor → AllByRecursion HasNoEor parts → HasNoEor rest → joined parts rest ≡ tokens → Parted (t ∷ tokens)
-part_more t tokens [] rest other hp hr e = record { parts = []; rest = t ∷ rest; no_eor = (tt, (other, hr)); is = ap (λ (x : List Token). t ∷ x) e }
-part_more t tokens (p ∷ parts) rest other hp hr e = record { parts = (t ∷ p) ∷ parts; rest = rest; no_eor = (((other, hp.0), hp.1), hr); is = ap (λ (x : List Token). t ∷ x) e }
+part_more : (t : Token) (tokens : List Token) (parts : List (List Token)) (rest : List Token) → t ≢ Eor
+    → AllByRecursion HasNoEor parts → HasNoEor rest → joined parts rest ≡ tokens → Parted (t ∷ tokens)
+part_more t tokens [] rest other hp hr e =
+    record { parts = []; rest = t ∷ rest; no_eor = (tt, (other, hr)); is = ap (λ (x : List Token). t ∷ x) e }
+part_more t tokens (p ∷ parts) rest other hp hr e =
+    record {
+      parts = (t ∷ p) ∷ parts;
+      rest = rest;
+      no_eor = (((other, hp.0), hp.1), hr);
+      is =
+          ap (λ (x : List Token). t ∷ x) e;
+    }
 
 pub parted : (tokens : List Token) → Parted tokens
 parted [] = record { parts = []; rest = []; no_eor = (tt, tt); is = refl }
-parted (Data b ∷ tokens) = let q = parted tokens in part_more (Data b) tokens q.parts q.rest (λ f. cc) q.no_eor.0 q.no_eor.1 q.is
-parted (TelnetToken t ∷ tokens) = let q = parted tokens in part_more (TelnetToken t) tokens q.parts q.rest (λ f. cc) q.no_eor.0 q.no_eor.1 q.is
-parted (Eor ∷ tokens) = let q = parted tokens in record { parts = [] ∷ q.parts; rest = q.rest; no_eor = ((tt, q.no_eor.0), q.no_eor.1); is = ap (λ (x : List Token). Eor ∷ x) q.is }
+parted (Data b ∷ tokens) = let q = parted tokens in
+    part_more (Data b) tokens q.parts q.rest (λ f. cc) q.no_eor.0 q.no_eor.1 q.is
+parted (TelnetToken t ∷ tokens) = let q = parted tokens in
+    part_more (TelnetToken t) tokens q.parts q.rest (λ f. cc) q.no_eor.0 q.no_eor.1 q.is
+parted (Eor ∷ tokens) = let q = parted tokens in
+    record {
+      parts = [] ∷ q.parts;
+      rest = q.rest;
+      no_eor = ((tt, q.no_eor.0), q.no_eor.1);
+      is =
+          ap (λ (x : List Token). Eor ∷ x) q.is;
+    }
 
 -- the last element of a list, if it has one
 pub last_of : {X : Type 0} (xs : List X) → (xs ≡ []) ⊎ ((ys : List X) × (y : X) × (xs ≡ ys ++ y ∷ []))
@@ -52,18 +70,22 @@ pub AreBytes-apart : (xs ys : List ℕ) → AreBytes (xs ++ ys) → AreBytes xs 
 AreBytes-apart [] ys h = (tt, h)
 AreBytes-apart (x ∷ xs) ys h = let both = AreBytes-apart xs ys h.1 in ((h.0, both.0), both.1)
 
-pub parts_are_bytes : (parts : List (List Token)) (rest : List Token) → AreBytes (carried (joined parts rest)) → AllByRecursion (λ part. AreBytes (carried part)) parts
+pub parts_are_bytes : (parts : List (List Token)) (rest : List Token) → AreBytes (carried (joined parts rest))
+    → AllByRecursion (λ part. AreBytes (carried part)) parts
 parts_are_bytes [] rest h = tt
 parts_are_bytes (p ∷ parts) rest h =
     let first : joined (p ∷ parts) rest ≡ p ++ Eor ∷ joined parts rest = simp append_assoc in
-    let both = AreBytes-apart (carried p) (carried (joined parts rest)) (subst AreBytes (ap carried first ∙ carried-append p (Eor ∷ joined parts rest)) h) in
+    let both = AreBytes-apart (carried p) (carried (joined parts rest))
+    (subst AreBytes (ap carried first ∙ carried-append p (Eor ∷ joined parts rest)) h) in
     (both.0, parts_are_bytes parts rest both.1)
 
-pub AllByRecursion-front : {X : Type 0} (P : X → Type 0) (xs ys : List X) → AllByRecursion P (xs ++ ys) → AllByRecursion P xs
+pub AllByRecursion-front : {X : Type 0} (P : X → Type 0) (xs ys : List X) → AllByRecursion P (xs ++ ys)
+    → AllByRecursion P xs
 AllByRecursion-front P [] ys h = tt
 AllByRecursion-front P (x ∷ xs) ys h = (h.0, AllByRecursion-front P xs ys h.1)
 
-pub AllByRecursion-both : {X : Type 0} (P Q : X → Type 0) (xs : List X) → AllByRecursion P xs → AllByRecursion Q xs → AllByRecursion (λ x. P x × Q x) xs
+pub AllByRecursion-both : {X : Type 0} (P Q : X → Type 0) (xs : List X) → AllByRecursion P xs → AllByRecursion Q xs
+    → AllByRecursion (λ x. P x × Q x) xs
 AllByRecursion-both P Q [] h k = tt
 AllByRecursion-both P Q (x ∷ xs) h k = ((h.0, k.0), AllByRecursion-both P Q xs h.1 k.1)
 
@@ -78,16 +100,35 @@ pub record CutAt {Place U : Type 0} (rules : Rules Place U) (place : Place) (byt
   pub spelled : spelling_of rules units ++ begun ≡ bytes
 
 module _ {Place U : Type 0} (rules : Rules Place U) (begins : Begins rules) where
-  cut_inside : (place : Place) (u : U) (x left : List ℕ) → Stands rules place u → rules.spelling u ≡ x ++ left → CutAt rules place x
-  cut_inside place u x [] s e = record { units = u ∷ []; begun = []; chain = (s, tt); more = begins (rules.after u); spelled = append-nil _ ∙ append-nil (rules.spelling u) ∙ e ∙ append-nil x }
-  cut_inside place u x (next ∷ left) s e = record { units = []; begun = x; chain = tt; more = record { unit = u; next = next; rest = left; stands = s; spelled = e }; spelled = refl }
+  cut_inside : (place : Place) (u : U) (x left : List ℕ) → Stands rules place u → rules.spelling u ≡ x ++ left
+      → CutAt rules place x
+  cut_inside place u x [] s e =
+      record {
+        units = u ∷ [];
+        begun = [];
+        chain = (s, tt);
+        more = begins (rules.after u);
+        spelled = append-nil _
+            ∙ append-nil (rules.spelling u) ∙ e ∙ append-nil x;
+      }
+  cut_inside place u x (next ∷ left) s e =
+      record {
+        units = [];
+        begun = x;
+        chain = tt;
+        more =
+            record { unit = u; next = next; rest = left; stands = s; spelled = e };
+        spelled = refl;
+      }
 
   nothing_left : (x z : List ℕ) → [] ≡ x ++ z → [] ≡ x
   nothing_left [] z e = refl
   nothing_left (b ∷ x) z e = cc
 
-  pub cut_at : (place : Place) (us : List U) (x z : List ℕ) → IsChain rules place us → spelling_of rules us ≡ x ++ z → CutAt rules place x
-  cut_at place [] x z c e = record { units = []; begun = []; chain = tt; more = begins place; spelled = nothing_left x z e }
+  pub cut_at : (place : Place) (us : List U) (x z : List ℕ) → IsChain rules place us → spelling_of rules us ≡ x ++ z
+      → CutAt rules place x
+  cut_at place [] x z c e =
+      record { units = []; begun = []; chain = tt; more = begins place; spelled = nothing_left x z e }
   cut_at place (u ∷ us) x z c e = elim (one_begins x (rules.spelling u) z (spelling_of rules us) (sym e)) [
     | inl p ↦ cut_inside place u x p.0 c.0 p.1
     | inr p ↦ (let found = cut_at (rules.after u) us p.0 z c.1 p.2 in
@@ -96,18 +137,21 @@ module _ {Place U : Type 0} (rules : Rules Place U) (begins : Begins rules) wher
           begun = found.begun;
           chain = (c.0, found.chain);
           more = found.more;
-          spelled = append_assoc (rules.spelling u) (spelling_of rules found.units) found.begun ∙ ap (λ l. rules.spelling u ++ l) found.spelled ∙ sym p.1;
+          spelled = append_assoc (rules.spelling u) (spelling_of rules found.units) found.begun
+              ∙ ap (λ l. rules.spelling u ++ l) found.spelled ∙ sym p.1;
         })
   ]
 
   -- what begins a list is a cut of one
-  pub list_cut : (bytes : List ℕ) → BeginsList rules bytes → (units : List U) × (begun : List ℕ) × IsCut rules bytes units begun
+  pub list_cut : (bytes : List ℕ) → BeginsList rules bytes → (units : List U) × (begun : List ℕ)
+      × IsCut rules bytes units begun
   list_cut bytes b =
       let found = cut_at rules.first b.units bytes b.more b.whole.chain b.spelled in
       (found.units, found.begun, record { chain = found.chain; more = found.more; spelled = found.spelled })
 
 -- bytes before the last one
-pub all_but_last : (before : List ℕ) (b : ℕ) (x w : List ℕ) → before ++ b ∷ [] ≡ x ++ w → (w ≡ [] → ⊥) → (y : List ℕ) × (before ≡ x ++ y)
+pub all_but_last : (before : List ℕ) (b : ℕ) (x w : List ℕ) → before ++ b ∷ [] ≡ x ++ w → (w ≡ [] → ⊥) → (y : List ℕ)
+    × (before ≡ x ++ y)
 all_but_last before b x w e some = elim (one_begins before x (b ∷ []) w e) [
   | inl p ↦ left_over p.0 p.1 p.2
   | inr p ↦ (p.0, p.1)

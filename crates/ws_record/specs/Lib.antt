@@ -1,3 +1,4 @@
+pub mod Advance
 pub mod Arrived
 pub mod Body
 pub mod DataStep
@@ -12,6 +13,6 @@ pub mod RawBody
 pub mod ReadyRecord
 pub mod Receiver
 pub mod Refusal
+pub mod Steps
+pub mod Taking
 pub mod Tests
-pub mod TokenStep
-pub mod UnitReading

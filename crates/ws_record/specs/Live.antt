@@ -1,7 +1,10 @@
 -- A live decoder: what it keeps, which bytes lead to it, and what it answers to one byte more (RFC 854, 885, 1205).
 
-use Rattle.std.specs.Prelude.{◌≡◌, ℕ, Bool, false, List, [], ◌∷◌, ◌++◌, Option, Some, None, length}
-use Rattle.ws_code.specs.Code.{Rules}
+use Rattle.std.specs.Prelude.{◌≡◌, ℕ, ◌+◌, Bool, false, List, [], ◌∷◌, ◌++◌, Option, Some, None, length, drop}
+use Rattle.ws_code.specs.Code.{Rules, IsSpelled, IsCut}
+use Rattle.ws_telnet.specs.Token.{token_rules}
+use Rattle.ws_telnet.specs.declared.token.Sub.{Sub}
+use Rattle.ws_telnet.specs.declared.token.Token.TheVariants.{Data}
 use Rattle.ws_record.specs.declared.record.Head.{Head}
 use Rattle.ws_record.specs.declared.record.Item.{Item}
 use Rattle.ws_record.specs.declared.record.Item.TheVariants.{Record as RecordItem, Telnet as TelnetItem}
@@ -13,11 +16,12 @@ use Rattle.ws_record.specs.Refusal.{Layer, IsOpen, IsRefused}
 use Rattle.ws_record.specs.OpenRecord.{RecordSoFar, no_record, Keeping, HasRead}
 use Rattle.ws_record.specs.DataStep.{record_of}
 
--- What a live decoder keeps: how many bytes it took, the token that they end inside of, the open record,
--- and whether it has failed.
+-- What a live decoder keeps: how many bytes it took, the token that they end inside of, the subnegotiation that ended
+-- last, the open record, and whether it has failed.
 pub record Watching (Place : Type 0) : Type 0 where
   pub taken : ℕ
   pub begun : List ℕ
+  pub sub : Sub
   pub reader : Keeping Place
   pub failed : Bool
 
@@ -36,11 +40,6 @@ module _ {Place U : Type 0} where
   LeadsWith rules live bytes items head units = (so_far : List ℕ)
       × Leads rules live bytes items (record { bytes = so_far; head = head; units = units })
 
-  -- one byte more ends the open record, which has this head
-  abbrev pub IsClosed : Rules Place U → Watching Place → List ℕ → List (Item U) → RecordSoFar U → ℕ → Head → Type 0
-  IsClosed rules new bytes items so_far byte head = (so_far.head ≡ Some head)
-      × Leads rules new (bytes ++ byte ∷ []) (items ++ RecordItem (record_of head so_far.units) ∷ []) no_record
-
   -- What one byte more gives: its step says what is complete with it.
   abbrev pub IsLiveStep : Rules Place U → Watching Place → List ℕ → List (Item U) → RecordSoFar U → ℕ → Step U → Type 0
   IsLiveStep rules new bytes items so_far byte More = LeadsWith rules new (bytes
@@ -56,6 +55,33 @@ module _ {Place U : Type 0} where
   IsLiveStep rules new bytes items so_far byte (Refused place reason) = (place ≡ length bytes)
       × IsRefused rules (bytes ++ byte ∷ []) place reason
   IsLiveStep rules new bytes items so_far byte Failed = ⊥
+
+  -- behind these bytes the byte completes a unit of the open record's body
+  pub record CompletesUnit (rules : Rules Place U) (bytes : List ℕ) (byte : ℕ) : Type 0 where
+    pub items : List (Item U)
+    pub so_far : List ℕ
+    pub begun : List ℕ
+    pub value : ℕ
+    pub units : List U
+    pub unit : U
+    pub holds : Holds rules bytes items so_far begun
+    pub spelled : IsSpelled token_rules tt (begun ++ byte ∷ []) (Data value)
+    pub cut : IsCut rules (drop 10 (so_far ++ value ∷ [])) (units ++ unit ∷ []) []
+
+  -- What the last of these bytes gives, where nothing was complete with those before it: its step says what.
+  abbrev pub IsFrontStep : Rules Place U → Watching Place → List ℕ → List (Item U) → RecordSoFar U → Step U → Type 0
+  IsFrontStep rules new bytes items so_far More = LeadsWith rules new bytes items so_far.head so_far.units
+  IsFrontStep rules new bytes items so_far (Open head) = (so_far.head ≡ None)
+      × LeadsWith rules new bytes items (Some head) so_far.units
+  IsFrontStep rules new bytes items so_far (Whole unit) =
+      LeadsWith rules new bytes items so_far.head (so_far.units ++ unit ∷ [])
+  IsFrontStep rules new bytes items so_far Close = (head : Head) × (so_far.head ≡ Some head)
+      × Leads rules new bytes (items ++ RecordItem (record_of head so_far.units) ∷ []) no_record
+  IsFrontStep rules new bytes items so_far (Command telnet) =
+      Leads rules new bytes (items ++ TelnetItem telnet ∷ []) so_far
+  IsFrontStep rules new bytes items so_far (Refused place reason) = (length bytes ≡ place + 1)
+      × IsRefused rules bytes place reason
+  IsFrontStep rules new bytes items so_far Failed = ⊥
 
 -- a fact where the step says that nothing follows
 abbrev pub OnEnd : {U : Type 0} → Step U → Type 0 → Type 0

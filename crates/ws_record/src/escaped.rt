@@ -1,4 +1,4 @@
-ghost use Rattle.std.specs.Prelude.{◌≡◌, [], ◌∷◌, refl};
+ghost use Rattle.std.specs.Prelude.{[]};
 ghost use Rattle.ws_record.specs.Tests.Escaped.{escaped_rules, escaped_nonempty, escaped_prefix_free, escaped_begins, escaped_can_end};
 
 use arrayvec::ArrayVec;

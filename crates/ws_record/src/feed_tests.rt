@@ -1,5 +1,5 @@
 use super::*;
-use crate::tests::{INVITE, PUT_FF, Wanted, made};
+use crate::tests::{INVITE, PUT_FF, Wanted, made, steps_of};
 use std::alloc::{AllocError, Global};
 use std::test::Fail;
 use ws_code::Fault;
@@ -194,5 +194,75 @@ fn failed_after_refusal(rt: HostRuntime) -> Result<(), Fail> {
     assert!(rt; matches!(live.push(0xff), Step::More));
     assert!(rt; matches!(live.finish(), Err(Fault::Truncated { at: 1 })));
     assert!(rt; matches!(live.push(0xef), Step::Failed));
+    Ok(())
+}
+
+// A decoder, how many bytes it has taken, and its steps other than `More`, each behind the place of its last byte.
+#[derive(Drop)]
+struct Watcher {
+    live: Live<RawBody>,
+    taken: usize,
+    steps: Vec<(usize, Step<u8>)>,
+}
+
+impl Watcher {
+    // Feeds the piece up to its end.
+    fn watch(&mut self, piece: &[u8]) -> Result<(), AllocError> {
+        let mut rest = piece;
+        for _ in 0..20 {
+            if rest.is_empty() {
+                return Ok(());
+            }
+            let Stepped { used, step } = self.live.feed(rest);
+            self.taken = self.taken.saturating_add(used);
+            rest = &rest[used..];
+            if !matches!(step, Step::More) {
+                self.steps.push((self.taken.saturating_sub(1), step))?;
+            }
+        }
+        Ok(())
+    }
+}
+
+// The steps of the bytes, cut so.
+fn watched(alloc: Global, bytes: &[u8], cut: Cut) -> Result<Vec<(usize, Step<u8>)>, AllocError> {
+    let mut watcher = Watcher {
+        live: Live::new(),
+        taken: 0,
+        steps: Vec::new(alloc),
+    };
+    let mut piece = Vec::new(alloc);
+    for (at, byte) in bytes.iter().enumerate() {
+        piece.push(*byte)?;
+        if cut.is_behind(at) {
+            watcher.watch(piece.as_slice())?;
+            piece.clear();
+        }
+    }
+    watcher.watch(piece.as_slice())?;
+    Ok(watcher.steps)
+}
+
+// The steps of single bytes, at the same places, however the bytes are cut; and bytes behind a step are left.
+#[test]
+fn steps_of_every_cut(rt: HostRuntime) -> Result<(), Fail> {
+    for (row, bytes, _wanted, _end) in &CUT {
+        let wanted = steps_of(rt.alloc(), bytes)?;
+        for size in 0..20 {
+            for cut in [Cut::Pieces(size), Cut::Two(size)] {
+                let found = watched(rt.alloc(), bytes, cut)?;
+                assert_eq!(rt; found, wanted, "{row}, {cut:?}");
+            }
+        }
+    }
+    let mut live = Live::<RawBody>::new();
+    let fed = live.feed(b"\xff\xf1\x00\x09");
+    assert_eq!(rt; fed.used, 2);
+    assert_eq!(rt; fed.step, Step::Telnet(Telnet::Command(CommandCode::Nop)));
+    let fed = live.feed(b"\x00\x09");
+    assert_eq!(rt; fed.used, 2);
+    let reason = Reason::LengthBelowHeader;
+    assert_eq!(rt; fed.step, Step::Refused { place: 3, reason });
+    assert_eq!(rt; live.feed(b"").step, Step::Failed);
     Ok(())
 }

@@ -7,13 +7,13 @@ mod encoder;
 mod item_writer;
 mod laws;
 mod live;
+mod news;
 mod opcode;
 mod open_record;
 mod raw;
 mod receiver;
 mod record;
 mod record_writer;
-mod unit_reader;
 
 pub use body_reader::{BodyFault, read_body};
 pub use decode::{decode_all, decode_from};
@@ -22,7 +22,8 @@ pub use laws::{
     decode_both_ways, encode_and_decode, encoding_spells_its_items, fronts_hold_items, one_fault,
     one_reading, one_refusal, one_truncation,
 };
-pub use live::{Live, Step};
+pub use live::{Live, Step, Stepped};
+pub use news::{Advance, News};
 pub use opcode::Opcode;
 pub use raw::RawBody;
 pub use receiver::{Fed, Receiver};

@@ -1,25 +1,17 @@
-ghost use Rattle.std.specs.Prelude.{◌≡◌, ◌≢◌, ◌++◌, ◌∷◌, ◌+◌, ◌*◌, ◌<◌, ◌≤◌, [], List, ℕ, Option, Some, None, true, false, length, IfSome, IfNone, IfOk, IfErr};
+ghost use Rattle.std.specs.Prelude.{◌≡◌, ◌≢◌, ◌++◌, ◌∷◌, ◌+◌, ◌*◌, ◌<◌, ◌≤◌, [], List, ℕ, Option, Some, None, true, false, length, take, slice_index, IfSome, IfNone};
+ghost use Rattle.ws_code.specs.Run.{IsAt};
 ghost use Rattle.ws_telnet.specs.declared.token.Token.TheVariants.{Data};
-ghost use Rattle.ws_record.specs.declared.record.Record.{Record};
-ghost use Rattle.ws_record.specs.Grammar.{IsFramed, IsRecord, record_bytes};
+ghost use Rattle.ws_record.specs.Grammar.{IsFramed};
 ghost use Rattle.ws_record.specs.Refusal.{header_reason};
 ghost use Rattle.ws_record.specs.HeaderSoFar.{HeaderSoFar, head_in};
-ghost use Rattle.ws_record.specs.OpenRecord.{RecordSoFar, no_record, HasRead, IsEndRefused};
-ghost use Rattle.ws_record.specs.DataStep.{IsDataStep, IsWholeRecord};
+ghost use Rattle.ws_record.specs.OpenRecord.{RecordSoFar, no_record, HasRead};
+ghost use Rattle.ws_record.specs.Taking.{ArePlain, IsHeaderStep, IsTaken, IsEnd, IsWordTaken};
+ghost use Rattle.ws_record.specs.declared.news.News.{News as SomeNews};
 
-use crate::unit_reader::UnitReader;
-use crate::{Head, Opcode};
+use crate::{Advance, Head, News, Opcode};
 use std::marker::Model;
-use ws_code::{Body, Push, Reason, ShortList, word};
-
-/// What an open record makes of a byte.
-#[derive(Debug, Drop)]
-pub enum DataStep<U> {
-    More,
-    Open(Head),
-    Unit(U),
-    Refused(Reason),
-}
+use ws_code::{Body, End, Keep, Reason, Run, ShortList, Standing, word};
+use ws_telnet::{IAC, Word};
 
 // The reason why a byte can't stand behind these in a header, before the opcode.
 fn header_refusal(header: &[u8], byte: u8) -> Option<Reason>
@@ -41,12 +33,46 @@ fn header_refusal(header: &[u8], byte: u8) -> Option<Reason>
     }
 }
 
+// How many bytes the piece has before its first FF, but at most so many.
+fn plain_length(piece: &[u8], most: usize) -> usize
+    requires some { 0 < length piece.now }
+    requires room { 0 < most }
+    requires plain { slice_index piece.now 0 ≢ IAC }
+    ensures within { result ≤ length piece.now }
+    ensures few { result ≤ most }
+    ensures some { 0 < result }
+    ensures plain { ArePlain (take result piece.now) }
+{
+    for (index, byte) in piece.iter().enumerate() {
+        if *byte == IAC || index == most {
+            return index;
+        }
+    }
+    piece.len()
+}
+
+// The next unit stands where a body begins.
+fn begin_body<B: Body>(machine: &mut B, at: &mut Standing<B::Place>)
+    ensures place { B.place machine.new ≡ B.rules.first }
+    ensures fresh { B.unfinished machine.new ≡ [] }
+    ensures stands { IsAt B.rules
+        (record { place = B.place machine.new; begun = B.unfinished machine.new }) at.new }
+{
+    let place = B::first();
+    machine.restart(place);
+    *at = Standing {
+        place,
+        is_inside: false,
+    };
+}
+
 /// The open record of a stream: its header, and of its body what the unit that is read needs.
 #[derive(Drop)]
 pub struct OpenRecord<B: Body> {
     header: ShortList<u8, 10>,
     left: u16,
-    units: UnitReader<B>,
+    machine: B,
+    at: Standing<B::Place>,
 }
 
 impl<B: Body> Model for OpenRecord<B> {
@@ -55,9 +81,15 @@ impl<B: Body> Model for OpenRecord<B> {
 
     ghost Value = { Keeping B.Place };
 
-    ghost view = { λ o. record { header = o.header; left = o.left; place = o.units.place; begun = o.units.begun } };
+    ghost view = { λ o. record {
+      header = o.header;
+      left = o.left;
+      place = B.place o.machine;
+      begun = B.unfinished o.machine;
+    } };
 
-    ghost invariant = { λ o. IsReady o.header o.left };
+    ghost invariant = { λ o. IsReady B.rules o.header o.left
+        (record { place = B.place o.machine; begun = B.unfinished o.machine }) o.at };
 }
 
 impl<B: Body> OpenRecord<B> {
@@ -65,10 +97,15 @@ impl<B: Body> OpenRecord<B> {
     pub fn new() -> Self
         ensures { HasRead B.rules result no_record }
     {
+        let place = B::first();
         OpenRecord {
             header: ShortList::new(),
             left: 0,
-            units: UnitReader::new(B::first()),
+            machine: B::start(place),
+            at: Standing {
+                place,
+                is_inside: false,
+            },
         }
     }
 
@@ -80,130 +117,186 @@ impl<B: Body> OpenRecord<B> {
         self.header.is_empty()
     }
 
-    /// Takes a byte that is a unit of the body by itself, and gives the unit; `None` says nothing, and the byte isn't
-    /// taken.
+    /// Takes bytes of the piece up to an FF, as values: some of the header, or some of the body.
     #[inline(always)]
-    pub fn take_single(&mut self, byte: u8) -> Option<B::Unit>
-        ensures unit { IfSome result (λ unit. (so_far : RecordSoFar B.Unit)
-            → HasRead B.rules self.old so_far
-            → IsDataStep B.rules self.new so_far byte (DataStep.Unit unit)) }
-        ensures none { IfNone result (self.new ≡ self.old) }
-    {
-        if self.left == 0 {
-            return None;
-        }
-        let unit = self.units.single(byte)?;
-        self.left -= 1;
-        Some(unit)
-    }
-
-    /// Takes a byte with which nothing is complete; `false` says nothing, and the byte isn't taken.
-    #[inline(always)]
-    pub fn take_more(&mut self, byte: u8) -> bool
-        ensures taken { result ≡ true → (so_far : RecordSoFar B.Unit) → HasRead B.rules self.old so_far
-            → IsDataStep B.rules self.new so_far byte DataStep.More }
-        ensures left { result ≡ false → self.new ≡ self.old }
-    {
-        if self.left == 0 {
-            return self.header.len() < 9 && self.take_header(byte).is_none();
-        }
-        if !self.units.goes_on(byte) {
-            return false;
-        }
-        self.left -= 1;
-        true
-    }
-
-    /// Takes a byte of the record.
-    #[inline(always)]
-    pub fn take(&mut self, byte: u8) -> DataStep<B::Unit>
-        ensures { (so_far : RecordSoFar B.Unit) → HasRead B.rules self.old so_far
-            → IsDataStep B.rules self.new so_far byte result }
+    pub fn take<K: Keep<B::Unit>>(&mut self, piece: &[u8], keep: &mut K) -> Advance
+        requires some { 0 < length piece.now }
+        requires plain { slice_index piece.now 0 ≢ IAC }
+        ensures within { result.used ≤ length piece.now }
+        ensures used { 0 < result.used }
+        ensures plain { ArePlain (take result.used piece.now) }
+        ensures taken { (so_far : RecordSoFar B.Unit) → HasRead B.rules self.old so_far
+            → IsTaken B.rules K.holds K.may_answer so_far keep.old (take result.used piece.now)
+            self.new keep.new result.news }
     {
         if self.left > 0 {
-            self.take_body(byte)
-        } else if self.header.len() < 9 {
-            match self.take_header(byte) {
-                None => DataStep::More,
-                Some(reason) => DataStep::Refused(reason),
-            }
-        } else if self.header.len() < 10 {
-            self.take_opcode(byte)
+            let most = usize::from(self.left);
+            let count = plain_length(piece, most);
+            self.take_body(&piece[..count], keep)
         } else {
-            DataStep::Refused(Reason::TooLong)
+            let count = plain_length(piece, 10);
+            self.take_header(&piece[..count], keep)
         }
     }
 
-    // Takes a byte of the header before the opcode, or gives the reason why it can't stand there.
-    #[inline(always)]
-    fn take_header(&mut self, byte: u8) -> Option<Reason>
-        requires { length self.old.header < 9 }
-        ensures taken { IfNone result ((so_far : RecordSoFar B.Unit) → HasRead B.rules self.old so_far
-            → IsDataStep B.rules self.new so_far byte DataStep.More) }
-        ensures refused { IfSome result (λ reason. (so_far : RecordSoFar B.Unit) → HasRead B.rules self.old so_far
-            → IsDataStep B.rules self.new so_far byte (DataStep.Refused reason)) }
-        ensures left { IfSome result (λ _. self.new ≡ self.old) }
+    // Takes a value, which may be FF.
+    #[inline(never)]
+    fn take_value<K: Keep<B::Unit>>(&mut self, value: u8, keep: &mut K) -> News
+        ensures { (so_far : RecordSoFar B.Unit) → HasRead B.rules self.old so_far
+            → IsTaken B.rules K.holds K.may_answer so_far keep.old (value ∷ [])
+            self.new keep.new result }
     {
+        if self.left > 0 {
+            self.take_body(&[value], keep).news
+        } else {
+            self.take_header(&[value], keep).news
+        }
+    }
+
+    // Takes values of the body.
+    #[inline(always)]
+    fn take_body<K: Keep<B::Unit>>(&mut self, values: &[u8], keep: &mut K) -> Advance
+        requires some { 0 < length values.now }
+        requires room { length values.now ≤ self.old.left }
+        ensures within { result.used ≤ length values.now }
+        ensures used { 0 < result.used }
+        ensures taken { (so_far : RecordSoFar B.Unit) → HasRead B.rules self.old so_far
+            → IsTaken B.rules K.holds K.may_answer so_far keep.old (take result.used values.now)
+            self.new keep.new result.news }
+    {
+        let Run { used, end } = self.machine.run(&mut self.at, values, keep);
+        self.left -= used as u16;
+        keep.took(&values[..used]);
+        match end {
+            End::More => Advance {
+                used,
+                news: News::More,
+            },
+            End::Enough => Advance {
+                used,
+                news: News::Unit,
+            },
+            End::NoMemory => {
+                begin_body(&mut self.machine, &mut self.at);
+                Advance {
+                    used,
+                    news: News::NoMemory,
+                }
+            }
+            End::Bad(reason) => {
+                begin_body(&mut self.machine, &mut self.at);
+                Advance {
+                    used,
+                    news: News::Refused(reason),
+                }
+            }
+        }
+    }
+
+    // Takes values of the header, or the first one behind a whole record.
+    #[inline(never)]
+    fn take_header<K: Keep<B::Unit>>(&mut self, values: &[u8], _keep: &mut K) -> Advance
+        requires some { 0 < length values.now }
+        requires header { self.old.left ≡ 0 }
+        ensures within { result.used ≤ length values.now }
+        ensures used { 0 < result.used }
+        ensures taken { (so_far : RecordSoFar B.Unit) → HasRead B.rules self.old so_far
+            → IsTaken B.rules K.holds K.may_answer so_far _keep.old (take result.used values.now)
+            self.new _keep.new result.news }
+    {
+        for (index, value) in values.iter().enumerate() {
+            match self.take_header_byte(*value) {
+                News::More => {}
+                news => {
+                    return Advance {
+                        used: index + 1,
+                        news,
+                    };
+                }
+            }
+        }
+        Advance {
+            used: values.len(),
+            news: News::More,
+        }
+    }
+
+    // Takes a byte of the header, or one behind a whole record.
+    #[inline(always)]
+    fn take_header_byte(&mut self, byte: u8) -> News
+        requires { self.old.left ≡ 0 }
+        ensures step { (so_far : RecordSoFar B.Unit) → HasRead B.rules self.old so_far
+            → IsHeaderStep B.rules self.new so_far byte result }
+        ensures more { result ≡ SomeNews.More
+            → (self.new.left ≡ 0) × (length self.new.header < 10) }
+    {
+        if self.header.len() >= 10 {
+            return News::Refused(Reason::TooLong);
+        }
+        if self.header.len() == 9 {
+            return self.take_opcode(byte);
+        }
         if let Some(reason) = header_refusal(self.header.as_slice(), byte) {
-            return Some(reason);
+            return News::Refused(reason);
         }
         self.header.push(byte);
-        None
+        News::More
     }
 
-    fn take_opcode(&mut self, byte: u8) -> DataStep<B::Unit>
-        requires { length self.old.header ≡ 9 }
-        ensures { (so_far : RecordSoFar B.Unit) → HasRead B.rules self.old so_far
-            → IsDataStep B.rules self.new so_far byte result }
+    fn take_opcode(&mut self, byte: u8) -> News
+        requires header { length self.old.header ≡ 9 }
+        ensures step { (so_far : RecordSoFar B.Unit) → HasRead B.rules self.old so_far
+            → IsHeaderStep B.rules self.new so_far byte result }
+        ensures more { result ≢ SomeNews.More }
     {
         match Opcode::from_byte(byte) {
-            None => DataStep::Refused(Reason::UnknownOpcode),
+            None => News::Refused(Reason::UnknownOpcode),
             Some(opcode) => {
                 let head = head_of(self.header.as_slice(), opcode);
                 self.header.push(byte);
                 self.left = head.length - 10;
-                DataStep::Open(head)
+                News::Open(head)
             }
         }
     }
 
-    #[inline(always)]
-    fn take_body(&mut self, byte: u8) -> DataStep<B::Unit>
-        requires { 0 < self.old.left }
+    // Ends the record, where it is whole, and tells its head, else why not. The next one begins.
+    fn end(&mut self) -> News
         ensures { (so_far : RecordSoFar B.Unit) → HasRead B.rules self.old so_far
-            → IsDataStep B.rules self.new so_far byte result }
-    {
-        self.left -= 1;
-        match self.units.push(byte) {
-            Push::More => DataStep::More,
-            Push::Unit(unit) => DataStep::Unit(unit),
-            Push::Bad(reason) => DataStep::Refused(reason),
-        }
-    }
-
-    /// Ends the record, where it is whole, and answers with its head, else why not. The next one begins.
-    pub fn end(&mut self) -> Result<Head, Reason>
-        ensures whole { IfOk result (λ head. (so_far : RecordSoFar B.Unit)
-            → HasRead B.rules self.old so_far
-            → IsWholeRecord B.rules so_far head × HasRead B.rules self.new no_record) }
-        ensures refused { IfErr result (λ reason. (so_far : RecordSoFar B.Unit)
-            → HasRead B.rules self.old so_far
-            → IsEndRefused B.rules so_far.bytes reason) }
+            → IsEnd B.rules so_far self.new result }
     {
         if self.header.len() < 10 || self.left > 0 {
-            return Err(Reason::TooShort);
+            return News::Refused(Reason::TooShort);
         }
-        if self.units.is_inside() || !B::may_end(self.units.place()) {
-            return Err(Reason::EndedInside);
+        if self.at.is_inside || !B::may_end(self.at.place) {
+            return News::Refused(Reason::EndedInside);
         }
         let header = self.header.as_slice();
         let Some(opcode) = Opcode::from_byte(header[9]) else {
-            return Err(Reason::TooShort);
+            return News::Refused(Reason::TooShort);
         };
         let head = head_of(header, opcode);
         self.header.clear();
-        self.units.restart(B::first());
-        Ok(head)
+        begin_body(&mut self.machine, &mut self.at);
+        News::Close(head)
+    }
+
+    /// Takes what a token's last byte has made of it.
+    #[inline(always)]
+    pub fn complete<K: Keep<B::Unit>>(&mut self, word: Word, keep: &mut K) -> News
+        ensures { (so_far : RecordSoFar B.Unit) → HasRead B.rules self.old so_far
+            → IsWordTaken B.rules K.holds K.may_answer so_far self.old keep.old word
+            self.new keep.new result }
+    {
+        match word {
+            Word::More => News::More,
+            Word::Data => self.take_value(IAC, keep),
+            Word::Eor => self.end(),
+            Word::Command(code) => News::Command(code),
+            Word::Option(verb, option) => News::Option(verb, option),
+            Word::Sub => News::Sub,
+            Word::Bad(reason) => News::Refused(reason),
+        }
     }
 }
 

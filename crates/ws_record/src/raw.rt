@@ -1,4 +1,4 @@
-ghost use Rattle.std.specs.Prelude.{◌≡◌, [], ◌∷◌, refl};
+ghost use Rattle.std.specs.Prelude.{[], refl};
 ghost use Rattle.ws_record.specs.RawBody.{raw_rules, raw_nonempty, raw_prefix_free, raw_begins};
 
 use arrayvec::ArrayVec;

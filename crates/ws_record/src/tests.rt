@@ -49,7 +49,7 @@ fn all_made(alloc: Global, wanted: &[Wanted]) -> Result<Vec<Item<u8>>, Fail> {
 }
 
 // The steps that the bytes give one by one with their places, but for those with which nothing is complete.
-fn steps_of(alloc: Global, bytes: &[u8]) -> Result<Vec<(usize, Step<u8>)>, AllocError> {
+pub(crate) fn steps_of(alloc: Global, bytes: &[u8]) -> Result<Vec<(usize, Step<u8>)>, AllocError> {
     let mut live = Live::<RawBody>::new();
     let mut steps = Vec::new(alloc);
     for (at, byte) in bytes.iter().enumerate() {

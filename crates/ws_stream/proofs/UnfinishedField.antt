@@ -36,8 +36,15 @@ field_begins place allowed = record {
   next = 0x20;
   rest = 0 ∷ 0 ∷ [];
   stands = record {
-    is_unit = record
-        { formatted = refl; few = omega arith; words = refl; low = omega arith; high = omega arith; short = omega arith };
+    is_unit = record {
+      formatted = refl;
+      few = omega arith;
+      words = refl;
+      low = omega arith;
+      high = omega arith;
+      short =
+          omega arith;
+    };
     may_follow = allowed;
   };
   spelled = refl;

@@ -24,6 +24,7 @@ abbrev pub HasFormat : Option ℕ → List ℕ → Type 0
 HasFormat None controls = controls ≡ []
 HasFormat (Some w) controls = IsFfw w
 
+-- what a Start of Field may be: a format word before control words, at most eight of these, and an attribute
 pub record IsFieldOrder (f : FieldOrder) : Type 0 where
   pub formatted : HasFormat f.format f.controls
   pub few : Rattle.std.specs.Prelude.length f.controls ≤ 8

@@ -24,10 +24,12 @@ use Rattle.ws_stream.specs.declared.place.Place.{Place}
 abbrev pub reading_of : Commands → Reading Place
 reading_of m = record { place = m.place; begun = unfinished_of m }
 
+-- the machine is inside an element
 abbrev pub is_inside : Phase → Bool
 is_inside Begin = false
 is_inside _ = true
 
+-- where the machine stands
 abbrev pub standing_of : Commands → Standing Place
 standing_of m = record { place = m.place; is_inside = is_inside m.phase }
 
@@ -52,6 +54,7 @@ module _ {K : Type 0} where
     pub answer : may_answer kept
     pub behind : reading_of machine ≡ record { place = element_rules.after element; begun = [] }
 
+  -- what becomes of an element that the keep is given
   abbrev pub IsKept : (K → List Element → List ℕ → Type 0) → (Kept → Type 0) → K → Element → Commands → K → End
       → Type 0
   IsKept holds may_answer old element machine new More = HasKept holds may_answer old element machine new kept.GoOn

@@ -60,17 +60,6 @@ sub_so_far option xs tail u =
 pub content_more : (xs : List ℕ) (b : ℕ) → flat_map doubled (xs ++ b ∷ []) ≡ flat_map doubled xs ++ doubled b
 content_more xs b = flat_map-append doubled xs (b ∷ []) ∙ ap (λ x. flat_map doubled xs ++ x) (append-nil (doubled b))
 
-pub content_more_plain : (xs : List ℕ) (b : ℕ) → b ≢ 0xff
-    → flat_map doubled (xs ++ b ∷ []) ≡ flat_map doubled xs ++ b ∷ []
-content_more_plain xs b ne = elim (iac_or_not b) [
-  | inl h ↦ absurd (ne h)
-  | inr h ↦ content_more xs b ∙ ap (λ x. flat_map doubled xs ++ x) (doubled_plain b h.1)
-]
-
-pub content_more_iac : (xs : List ℕ)
-    → flat_map doubled (xs ++ 0xff ∷ []) ≡ flat_map doubled xs ++ 0xff ∷ [] ++ 0xff ∷ []
-content_more_iac xs = content_more xs 0xff ∙ sym (append_assoc (flat_map doubled xs) (0xff ∷ []) (0xff ∷ []))
-
 pub bytes_more : (xs : List ℕ) (b : ℕ) → AreBytes xs → b < 256 → AreBytes (xs ++ b ∷ [])
 bytes_more xs b h k = AreBytes-append xs (b ∷ []) h (k, tt)
 

@@ -17,6 +17,7 @@ use Rattle.ws_telnet.specs.declared.token.Telnet.TheVariants.{Command, Option as
 use Rattle.ws_telnet.specs.declared.token.Token.{Token}
 use Rattle.ws_telnet.specs.declared.token.Token.TheVariants.{Data, Eor, Telnet as TelnetToken}
 
+-- the byte behind IAC that is the command (RFC 854)
 abbrev pub command_byte : CommandCode → ℕ
 command_byte Nop = 0xf1
 command_byte DataMark = 0xf2
@@ -28,6 +29,7 @@ command_byte EraseCharacter = 0xf7
 command_byte EraseLine = 0xf8
 command_byte GoAhead = 0xf9
 
+-- the byte behind IAC that is the verb (RFC 854, RFC 855)
 abbrev pub verb_byte : Verb → ℕ
 verb_byte Will = 0xfb
 verb_byte Wont = 0xfc
@@ -38,11 +40,13 @@ verb_byte Dont = 0xfe
 abbrev pub doubled : ℕ → List ℕ
 doubled b = if b == IAC then IAC ∷ IAC ∷ [] else b ∷ []
 
+-- the bytes of a Telnet command: IAC, what it is, and a subnegotiation up to its IAC SE
 abbrev pub telnet_spelling : Telnet → List ℕ
 telnet_spelling (Command code) = IAC ∷ command_byte code ∷ []
 telnet_spelling (Negotiate verb option) = IAC ∷ verb_byte verb ∷ option ∷ []
 telnet_spelling (Subnegotiate sub) = IAC ∷ SB ∷ sub.option ∷ flat_map doubled sub.data_ ++ IAC ∷ SE ∷ []
 
+-- the bytes of a token: a data byte has FF doubled, the end of a record is IAC EOR (RFC 885)
 abbrev pub token_spelling : Token → List ℕ
 token_spelling (Data b) = doubled b
 token_spelling Eor = IAC ∷ EOR ∷ []
@@ -54,6 +58,7 @@ IsTelnet (Command code) = Unit {0}
 IsTelnet (Negotiate verb option) = option < 256
 IsTelnet (Subnegotiate sub) = (sub.option < 256) × (length sub.data_ ≤ 64) × AreBytes sub.data_
 
+-- what may be a token: a data byte is a byte, and a Telnet command one that can be sent
 abbrev pub IsToken : Token → Type 0
 IsToken (Data b) = b < 256
 IsToken Eor = Unit {0}
@@ -70,6 +75,7 @@ abbrev pub token_reason : List ℕ → ℕ → Reason
 token_reason (iac ∷ sb ∷ option ∷ content) b = if ends_in_iac content && not (b == IAC) then BadSub else SubTooLong
 token_reason begun b = if b == SE then StraySe else BadCommand
 
+-- the grammar of tokens: each may follow each
 abbrev pub token_rules : Rules (Unit {0}) Token
 token_rules = record {
   first = tt;

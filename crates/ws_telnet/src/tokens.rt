@@ -1,7 +1,6 @@
-ghost use Rattle.std.specs.Prelude.{◌≡◌, ◌≢◌, ◌++◌, ◌∷◌, ◌<◌, ◌≤◌, [], List, ℕ, true, false, length, ◌⊎◌, IfSome, IfNone};
-ghost use Rattle.ws_telnet.specs.Token.{token_rules, token_reason, IsToken, command_byte, verb_byte, doubled};
-ghost use Rattle.ws_code.specs.Code.{IsSpelled, IsPrefix, IsUnfinished};
-ghost use Rattle.ws_code.specs.Step.{IsStep};
+ghost use Rattle.std.specs.Prelude.{◌≡◌, ◌≢◌, ◌++◌, ◌∷◌, ◌<◌, [], true, false, ◌⊎◌, IfSome, IfNone};
+ghost use Rattle.ws_telnet.specs.Token.{token_rules, token_reason, command_byte, verb_byte, doubled};
+ghost use Rattle.ws_code.specs.Code.{IsUnfinished};
 ghost use Rattle.ws_telnet.specs.Machine.{unfinished_of, sub_begun, sub_of};
 ghost use Rattle.ws_telnet.specs.Words.{IsWord};
 ghost use Rattle.ws_telnet.specs.TokenLaws.{token_nonempty, token_bytes_are, token_prefix_free, token_begins};
@@ -68,92 +67,6 @@ fn verb_of(byte: u8) -> Option<Verb>
 }
 
 impl Tokens {
-    /// Whether the bytes so far are one FF, so that a second one makes the data byte FF (RFC 854).
-    #[inline(always)]
-    pub fn has_iac(&self) -> bool
-        ensures yes { result ≡ true → unfinished_of self.now ≡ IAC ∷ [] }
-        ensures no { result ≡ false → unfinished_of self.now ≢ IAC ∷ [] }
-    {
-        matches!(self.phase, Phase::Iac)
-    }
-
-    // An FF, an SB or a verb with more of its token behind it.
-    #[inline(always)]
-    fn command_goes_on(&mut self, byte: u8) -> bool
-        ensures taken { result ≡ true → IsUnfinished token_rules tt (IAC ∷ byte ∷ [])
-            × (unfinished_of self.new ≡ IAC ∷ byte ∷ []) }
-        ensures left { result ≡ false → self.new ≡ self.old }
-        ensures no_sub { result ≡ false → byte ≢ SB }
-        ensures no_verb { result ≡ false → (byte < 0xfb) ⊎ (0xfe < byte) }
-    {
-        if byte == SB {
-            self.phase = Phase::SubOption;
-            return true;
-        }
-        match verb_of(byte) {
-            Some(verb) => {
-                self.phase = Phase::Negotiation(verb);
-                true
-            }
-            None => false,
-        }
-    }
-
-    // The option of a subnegotiation, whose data follow.
-    #[inline(always)]
-    fn take_option(&mut self, option: u8)
-        ensures { unfinished_of self.new ≡ IAC ∷ SB ∷ option ∷ [] }
-    {
-        self.option = option;
-        self.content.clear();
-        self.phase = Phase::Content;
-    }
-
-    // A byte of a subnegotiation's data, or the first FF behind them. False where there is no room for it.
-    #[inline(always)]
-    fn content_goes_on(&mut self, byte: u8) -> bool
-        requires phase { self.old.phase ≡ Phase.Content }
-        requires begun { IsUnfinished token_rules tt (unfinished_of self.old) }
-        ensures taken { result ≡ true
-            → IsUnfinished token_rules tt (unfinished_of self.old ++ byte ∷ [])
-            × (unfinished_of self.new ≡ unfinished_of self.old ++ byte ∷ []) }
-        ensures left { result ≡ false → self.new ≡ self.old }
-        ensures no_iac { result ≡ false → byte ≢ IAC }
-        ensures full { result ≡ false → length self.old.content.items ≡ 64 }
-    {
-        if byte == IAC {
-            self.phase = Phase::ContentIac;
-            return true;
-        }
-        if self.content.is_full() {
-            return false;
-        }
-        self.content.push(byte);
-        true
-    }
-
-    // The second FF of a pair in a subnegotiation's data. False at another byte, and where there is no room for it.
-    #[inline(always)]
-    fn pair_goes_on(&mut self, byte: u8) -> bool
-        requires phase { self.old.phase ≡ Phase.ContentIac }
-        requires begun { IsUnfinished token_rules tt (unfinished_of self.old) }
-        ensures taken { result ≡ true
-            → IsUnfinished token_rules tt (unfinished_of self.old ++ byte ∷ [])
-            × (unfinished_of self.new ≡ unfinished_of self.old ++ byte ∷ []) }
-        ensures left { result ≡ false → self.new ≡ self.old }
-        ensures full { result ≡ false → byte ≡ IAC → length self.old.content.items ≡ 64 }
-    {
-        if byte != IAC {
-            return false;
-        }
-        if self.content.is_full() {
-            return false;
-        }
-        self.content.push(byte);
-        self.phase = Phase::Content;
-        true
-    }
-
     /// Whether a token has begun and isn't whole.
     #[inline(always)]
     pub fn is_inside(&self) -> bool
@@ -248,6 +161,16 @@ impl Tokens {
         }
     }
 
+    // The option of a subnegotiation, whose data follow.
+    #[inline(always)]
+    fn take_option(&mut self, option: u8)
+        ensures { unfinished_of self.new ≡ IAC ∷ SB ∷ option ∷ [] }
+    {
+        self.option = option;
+        self.content.clear();
+        self.phase = Phase::Content;
+    }
+
     // What follows the option or the data of a subnegotiation.
     #[inline(always)]
     fn after_content(&mut self, byte: u8) -> Word
@@ -338,36 +261,6 @@ impl Code for Tokens {
     #[inline(always)]
     fn restart(&mut self, _at: ()) {
         self.phase = Phase::Begin;
-    }
-
-    #[inline(always)]
-    fn single(_at: (), byte: u8) -> Option<Token> {
-        if byte == IAC {
-            None
-        } else {
-            Some(Token::Data(byte))
-        }
-    }
-
-    #[inline(always)]
-    fn goes_on(&mut self, byte: u8) -> bool {
-        match self.phase {
-            Phase::Begin => {
-                if byte != IAC {
-                    return false;
-                }
-                self.phase = Phase::Iac;
-                true
-            }
-            Phase::Iac => self.command_goes_on(byte),
-            Phase::Negotiation(_verb) => false,
-            Phase::SubOption => {
-                self.take_option(byte);
-                true
-            }
-            Phase::Content => self.content_goes_on(byte),
-            Phase::ContentIac => self.pair_goes_on(byte),
-        }
     }
 
     #[inline(always)]

@@ -5,5 +5,6 @@ use Rattle.ws_code.proofs.device_tests.count_all.Given as goal
 abbrev pub invariant-loop : goal.invariant-loop
 invariant-loop g l = record {
   fits : l.count ≤ 4 * l.counter;
-  gave : (bytes : List ℕ) × (l.count ≡ length bytes) × Gave g.S.Source.gives g.S.Source.failures l.fn.source l.source l.counter bytes;
+  gave : (bytes : List ℕ) × (l.count ≡ length bytes) × Gave g.S.Source.gives g.S.Source.failures l.fn.source l.source
+      l.counter bytes;
 }

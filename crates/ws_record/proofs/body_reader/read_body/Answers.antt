@@ -1,4 +1,4 @@
-use Rattle.std.proofs.Common.{Bool, true, false, ◌≡◌, List, [], ℕ, length, take, refl, sym, ap, ◌∙◌, subst}
+use Rattle.std.proofs.Common.{Bool, true, false, ◌≡◌, List, [], ℕ, take, refl, sym, ap, ◌∙◌, subst}
 use Rattle.std.proofs.Math.Seq.{take-length}
 use Rattle.ws_code.specs.Code.{IsUnfinished}
 use Rattle.ws_code.proofs.RunLaws.{is_between}

@@ -15,16 +15,24 @@ none_says (Some x) e h = let f : ◌≡◌ {A = Bool} true false = e in absurd (
 pub returns-then-not-is_body-clause-fault : goal.returns-then-not-is_body-clause-fault
 returns-then-not-is_body-clause-fault g c =
     let rules = g.B.Code.rules in
-    first_at rules (IsBadSequence rules) c.args.items.now c.loop-index.index c.index-items-index.result c.loop-index-test.true c.index-items-index.is c.loop-index.invariant.encoded
-    (subst (IsBadSequence rules) (sym c.in-Record.is) (λ w. (let e : ◌≡◌ {A = Bool} false true = c.if-not-is_body.ensures.1 (subst (IsWhole rules) (sym c.as_slice-units.ensures) w) in cc)))
+    first_at rules (IsBadSequence rules) c.args.items.now c.loop-index.index c.index-items-index.result
+    c.loop-index-test.true c.index-items-index.is c.loop-index.invariant.encoded
+    (subst (IsBadSequence rules) (sym c.in-Record.is)
+    (λ w. (let e : ◌≡◌ {A = Bool} false true =
+    c.if-not-is_body.ensures.1 (subst (IsWhole rules) (sym c.as_slice-units.ensures) w) in cc)))
 
 pub returns-then-is_none-clause-fault : goal.returns-then-is_none-clause-fault
 returns-then-is_none-clause-fault g c =
     let rules = g.B.Code.rules in
     let found = c.in-Record.record in
-    let whole : IsWhole rules found.body = subst (IsWhole rules) c.as_slice-units.ensures (c.if-not-is_body.ensures.0 refl) in
-    let long : 65525 < length (spelling_of rules c.as_slice-units.result.now) = none_says c.body_length.result c.if-is_none.ensures c.body_length.ensures.none in
-    let same : length (spelling_of rules c.as_slice-units.result.now) ≡ length (spelling_of rules found.body) = ap (λ (z : List g.row.B-Unit.Denot). length (spelling_of rules z)) c.as_slice-units.ensures in
-    let total = header_length (10 + length (spelling_of rules found.body)) found.flags found.opcode (spelling_of rules found.body) in
-    first_at rules (IsTooBig rules) c.args.items.now c.loop-index.index c.index-items-index.result c.loop-index-test.true c.index-items-index.is c.loop-index.invariant.encoded
+    let whole : IsWhole rules found.body =
+    subst (IsWhole rules) c.as_slice-units.ensures (c.if-not-is_body.ensures.0 refl) in
+    let long : 65525 < length (spelling_of rules c.as_slice-units.result.now) =
+    none_says c.body_length.result c.if-is_none.ensures c.body_length.ensures.none in
+    let same : length (spelling_of rules c.as_slice-units.result.now) ≡ length (spelling_of rules found.body) =
+    ap (λ (z : List g.row.B-Unit.Denot). length (spelling_of rules z)) c.as_slice-units.ensures in
+    let total = header_length (10 + length (spelling_of rules found.body)) found.flags found.opcode
+    (spelling_of rules found.body) in
+    first_at rules (IsTooBig rules) c.args.items.now c.loop-index.index c.index-items-index.result
+    c.loop-index-test.true c.index-items-index.is c.loop-index.invariant.encoded
     (subst (IsTooBig rules) (sym c.in-Record.is) (whole, omega (arith, long, same, total)))

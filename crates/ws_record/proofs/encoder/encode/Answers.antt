@@ -9,11 +9,13 @@ use Rattle.ws_record.proofs.encoder.encode.Goals as goal
 pub returns-in-Ok-clause-spelled : goal.returns-in-Ok-clause-spelled
 returns-in-Ok-clause-spelled g c =
     let text = plain_spelling g.B.Code.rules c.args.items.now in
-    c.into_inner.ensures ∙ held_went_out (λ (s : Held). s.failures) c.new-sink.result c.write_items.new.sink text c.in-Ok.ensures.ok ∙ ap (λ (z : List ℕ). z ++ text) c.new-sink.ensures.bytes
+    c.into_inner.ensures ∙ held_went_out (λ (s : Held). s.failures) c.new-sink.result c.write_items.new.sink text
+    c.in-Ok.ensures.ok ∙ ap (λ (z : List ℕ). z ++ text) c.new-sink.ensures.bytes
 
 pub returns-in-Ok-clause-accepted : goal.returns-in-Ok-clause-accepted
 returns-in-Ok-clause-accepted g c =
     let rules = g.B.Code.rules in
     let items = c.args.items.now in
     subst (λ (z : List ℕ). IsInGrammar rules z items) (sym (returns-in-Ok-clause-spelled g c))
-    (spelling_accepted rules g.met.B.Code.bytes items c.in_ok-check_items.ensures.encoded c.in_ok-check_items.ensures.known)
+    (spelling_accepted rules g.met.B.Code.bytes items c.in_ok-check_items.ensures.encoded
+    c.in_ok-check_items.ensures.known)

@@ -10,8 +10,11 @@ returns-then-not-may_follow g c =
     let units = c.args.units.now in
     let unit = c.unit-item.result in (
       λ f. absurd (let e : ◌≡◌ {A = Bool} false true = f in cc),
-      λ w. (let stands = chain_at rules rules.first units c.loop-unit.unit-index unit c.loop-unit-test.true c.unit-item.is w.chain in
-          let e : ◌≡◌ {A = Bool} false true = sym c.if-not-may_follow.true ∙ c.may_follow.ensures ∙ ap (λ (p : g.row.B-Place.Denot). rules.may_follow p unit) c.loop-unit.invariant.leads ∙ stands.may_follow in e),
+      λ w. (let stands = chain_at rules rules.first units c.loop-unit.unit-index unit c.loop-unit-test.true
+          c.unit-item.is w.chain in
+          let e : ◌≡◌ {A = Bool} false true = sym c.if-not-may_follow.true ∙ c.may_follow.ensures
+          ∙ ap (λ (p : g.row.B-Place.Denot). rules.may_follow p unit) c.loop-unit.invariant.leads
+          ∙ stands.may_follow in e),
     )
 
 pub loop-unit-preserved : goal.loop-unit-preserved
@@ -21,6 +24,8 @@ loop-unit-preserved g c =
     let unit = c.unit-item.result in
     let at = c.loop-unit.invariant.leads in
     let may : rules.may_follow (place_after rules rules.first (take c.loop-unit.unit-index units)) unit ≡ true =
-    ap (λ (p : g.row.B-Place.Denot). rules.may_follow p unit) (sym at) ∙ sym c.may_follow.ensures ∙ c.if-not-may_follow.false in
-    let next = chain_next rules units c.loop-unit.unit-index unit c.loop-unit-test.true c.unit-item.is c.loop-unit.invariant.chain (record { is_unit = c.known.ensures; may_follow = may }) in
+    ap (λ (p : g.row.B-Place.Denot). rules.may_follow p unit) (sym at) ∙ sym c.may_follow.ensures
+    ∙ c.if-not-may_follow.false in
+    let next = chain_next rules units c.loop-unit.unit-index unit c.loop-unit-test.true c.unit-item.is
+    c.loop-unit.invariant.chain (record { is_unit = c.known.ensures; may_follow = may }) in
     record { chain = next.0; leads = c.after-place.ensures ∙ next.1 }

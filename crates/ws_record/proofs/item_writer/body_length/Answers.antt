@@ -4,5 +4,13 @@ use Rattle.ws_record.proofs.item_writer.body_length.Goals as goal
 
 pub returns-then-length-gt65525-clause-none : goal.returns-then-length-gt65525-clause-none
 returns-then-length-gt65525-clause-none g c =
-    let longer = length_through g.B.Code.rules.spelling c.args.units.now c.loop-unit.unit-index c.unit-item.result c.loop-unit-test.true c.unit-item.is in
-    omega (arith, longer, c.loop-unit.invariant.counts, c.len-length.ensures.value, ap length c.spell.ensures, c.if-length-gt65525.true)
+    let longer = length_through g.B.Code.rules.spelling c.args.units.now c.loop-unit.unit-index c.unit-item.result
+    c.loop-unit-test.true c.unit-item.is in
+    omega (
+      arith,
+      longer,
+      c.loop-unit.invariant.counts,
+      c.len-length.ensures.value,
+      ap length c.spell.ensures,
+      c.if-length-gt65525.true,
+    )

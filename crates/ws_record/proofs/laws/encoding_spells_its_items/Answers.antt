@@ -10,4 +10,5 @@ returns-clause-accepted g c = spelling_accepted g.B.Code.rules g.met.B.Code.byte
 pub returns-clause-only : goal.returns-clause-only
 returns-clause-only g c = λ items others encoded range spells.
     let rules = g.B.Code.rules in
-    one_spelling rules g.met.B.Code.prefix_free g.met.B.Code.begins (plain_spelling rules items) others items spells ([], spelling_accepted rules g.met.B.Code.bytes items encoded range)
+    one_spelling rules g.met.B.Code.prefix_free g.met.B.Code.begins (plain_spelling rules items) others items spells
+    ([], spelling_accepted rules g.met.B.Code.bytes items encoded range)

@@ -4,7 +4,9 @@ use Rattle.ws_code.proofs.code.Code.run.Given as goal
 
 abbrev pub invariant-loop-index : goal.invariant-loop-index
 invariant-loop-index g l =
-    let from : Reading g.row.Self-Place.Denot = record { place = g.Self.Code.place l.fn.self; begun = g.Self.Code.unfinished l.fn.self } in
-    let to : Reading g.row.Self-Place.Denot = record { place = g.Self.Code.place l.self; begun = g.Self.Code.unfinished l.self } in
+    let from : Reading g.row.Self-Place.Denot =
+    record { place = g.Self.Code.place l.fn.self; begun = g.Self.Code.unfinished l.fn.self } in
+    let to : Reading g.row.Self-Place.Denot =
+    record { place = g.Self.Code.place l.self; begun = g.Self.Code.unfinished l.self } in
     RunsOn g.Self.Code.rules g.K.Keep.holds g.K.Keep.may_answer from l.fn.keep (take l.index l.values) to l.keep
     × IsAt g.Self.Code.rules to l.at

@@ -1,17 +1,43 @@
-use Rattle.std.proofs.Common.{sym, subst}
-use Rattle.ws_record.specs.Live.{Watching}
-use Rattle.ws_record.specs.TokenStep.{Counts}
+use Rattle.std.proofs.Common.{◌≡◌, ◌++◌, ◌∷◌, [], ℕ, length, take, refl, subst, arith, length-append}
+use Rattle.ws_record.specs.declared.news.News.{News}
+use Rattle.ws_record.specs.declared.news.News.TheVariants.{More}
+use Rattle.ws_record.specs.declared.live.Step.TheVariants as steps
+use Rattle.ws_record.proofs.Lives.{front_step, live_step, fails_not, IsSlotAdvance}
 use Rattle.ws_record.proofs.live.Live.push.Goals as goal
 
-pub returns-in-Data-clause-step : goal.returns-in-Data-clause-step
-returns-in-Data-clause-step g c = λ bytes items so_far l fits.
-    let n = c.in-Some.ensures.counts bytes items so_far l in
-    c.take_value.ensures.step bytes items so_far c.count.new.self.begun c.args.byte (c.in-Data.ensures bytes items so_far n.1) n.0
+pub returns-in_default-clause-step : goal.returns-in_default-clause-step
+returns-in_default-clause-step g c = λ bytes items so_far l fits.
+    let rules = g.B.Code.rules in
+    let a = c.advance.ensures.advance bytes items so_far l fits in
+    let used : c.advance.result.used ≡ 1 =
+    omega (
+      arith,
+      c.advance.ensures.within,
+      c.advance.ensures.used (fails_not rules bytes items so_far _ _ _ c.advance.result.news a),
+    ) in
+    let one = subst (λ (n : ℕ). IsSlotAdvance rules bytes items so_far (take n (c.args.byte ∷ [])) c.advance.new.self
+    c.advance.new.keep c.advance.result.news) used a in
+    let count : c.advance.new.self.taken ≡ length (bytes ++ c.args.byte ∷ []) =
+    omega (arith, used, l.count, fits, c.advance.ensures.counted, length-append bytes (c.args.byte ∷ [])) in
+    live_step rules bytes items so_far c.args.byte c.step_of.new.self c.step_of.result
+    (front_step rules bytes items so_far (c.args.byte ∷ []) c.advance.new.self c.step_of.new.self c.advance.new.keep
+    c.advance.result.news c.step_of.result one count c.step_of.ensures.step)
 
 pub returns-in-More-clause-step : goal.returns-in-More-clause-step
-returns-in-More-clause-step g c = λ bytes items so_far l fits. (so_far.bytes, c.in-More.ensures bytes items so_far (c.in-Some.ensures.counts bytes items so_far l).1)
-
-pub returns-in-Other-clause-step : goal.returns-in-Other-clause-step
-returns-in-Other-clause-step g c = λ bytes items so_far l fits.
-    let n = c.in-Some.ensures.counts bytes items so_far l in
-    c.take_token.ensures.step bytes items so_far (subst (λ (k : Watching g.row.B-Place.Denot). Counts g.B.Code.rules k bytes items so_far) (sym (c.in-Other.ensures bytes items so_far n.1)) n.1) n.0
+returns-in-More-clause-step g c = λ bytes items so_far l fits.
+    let rules = g.B.Code.rules in
+    let a = c.advance.ensures.advance bytes items so_far l fits in
+    let used : c.advance.result.used ≡ 1 =
+    omega (
+      arith,
+      c.advance.ensures.within,
+      c.advance.ensures.used (fails_not rules bytes items so_far _ _ _ c.advance.result.news a),
+    ) in
+    let one = subst (λ (n : ℕ). IsSlotAdvance rules bytes items so_far (take n (c.args.byte ∷ [])) c.advance.new.self
+    c.advance.new.keep c.advance.result.news) used a in
+    let more = subst (λ (x : News). IsSlotAdvance rules bytes items so_far (c.args.byte ∷ []) c.advance.new.self
+    c.advance.new.keep x) c.in-More.is one in
+    let count : c.advance.new.self.taken ≡ length (bytes ++ c.args.byte ∷ []) =
+    omega (arith, used, l.count, fits, c.advance.ensures.counted, length-append bytes (c.args.byte ∷ [])) in
+    front_step rules bytes items so_far (c.args.byte ∷ []) c.advance.new.self c.advance.new.self c.advance.new.keep More
+    steps.More more count (refl, refl)

@@ -1,10 +1,28 @@
-use Rattle.std.proofs.Common.{◌≡◌, length, sym, subst, arith}
-use Rattle.ws_record.specs.OpenRecord.{Keeping, HasRead}
-use Rattle.ws_record.proofs.OpenRecords.{body_refused}
+use Rattle.std.proofs.Common.{List, ℕ, subst}
+use Rattle.ws_record.specs.Taking.{IsTaken}
+use Rattle.ws_record.proofs.Takings.{same_front, plain_front}
 use Rattle.ws_record.proofs.open_record.OpenRecord.take.Goals as goal
 
-pub returns-else-len-lt10 : goal.returns-else-len-lt10
-returns-else-len-lt10 g c = λ so_far r.
-    let reads = subst (λ (k : Keeping g.row.B-Place.Denot). HasRead g.B.Code.rules k so_far) (sym c.self.view_is) r in
-    let ten : length c.self.inside.header ≡ 10 = omega (arith, c.len-else-len-lt9.ensures.value, c.len-else-len-lt9.ensures.fits, c.if-len-lt10.false) in
-    body_refused g.B.Code.rules _ so_far c.args.byte reads ten (omega (arith, c.if-self-gt0.false))
+pub returns-then-self-gt0-clause-plain : goal.returns-then-self-gt0-clause-plain
+returns-then-self-gt0-clause-plain g c =
+    plain_front c.args.piece.now c.take_body.result.used c.plain_length-count.result c.take_body.ensures.within
+    c.plain_length-count.ensures.plain
+
+pub returns-then-self-gt0-clause-taken : goal.returns-then-self-gt0-clause-taken
+returns-then-self-gt0-clause-taken g c = λ so_far r.
+    subst (λ (x : List ℕ). IsTaken g.B.Code.rules g.K.Keep.holds g.K.Keep.may_answer so_far c.args.keep.now x
+    c.take_body.new.self c.take_body.new.keep c.take_body.result.news)
+    (same_front c.args.piece.now c.take_body.result.used c.plain_length-count.result c.take_body.ensures.within)
+    (c.take_body.ensures.taken so_far r)
+
+pub returns-else-self-gt0-clause-plain : goal.returns-else-self-gt0-clause-plain
+returns-else-self-gt0-clause-plain g c =
+    plain_front c.args.piece.now c.take_header.result.used c.plain_length-count-else-self-gt0.result
+    c.take_header.ensures.within c.plain_length-count-else-self-gt0.ensures.plain
+
+pub returns-else-self-gt0-clause-taken : goal.returns-else-self-gt0-clause-taken
+returns-else-self-gt0-clause-taken g c = λ so_far r.
+    subst (λ (x : List ℕ). IsTaken g.B.Code.rules g.K.Keep.holds g.K.Keep.may_answer so_far c.args.keep.now x
+    c.take_header.new.self c.take_header.new._keep c.take_header.result.news)
+    (same_front c.args.piece.now c.take_header.result.used c.plain_length-count-else-self-gt0.result
+    c.take_header.ensures.within) (c.take_header.ensures.taken so_far r)

@@ -1,27 +1,75 @@
-use Rattle.std.proofs.Common.{◌≡◌, ◌<◌, length, refl, sym, ap, subst, arith}
+use Rattle.std.proofs.Common.{◌≡◌, ℕ, ◌-◌, ◌≤◌, length, take, refl, sym, ap, subst, arith}
+use Rattle.std.proofs.lemmas.List.{length-take-le}
 use Rattle.ws_record.specs.OpenRecord.{Keeping, HasRead}
-use Rattle.ws_record.specs.UnitReading.{UnitReading}
-use Rattle.ws_record.proofs.OpenRecords.{body_more, body_unit, body_bad, data_step_is}
-use Rattle.ws_record.proofs.open_record.OpenRecord.take_body.Goals.{in-More, in-Unit, in-Bad}
+use Rattle.ws_record.proofs.Takings.{taken_more, taken_unit, taken_full, taken_bad, front_bytes}
 use Rattle.ws_record.proofs.open_record.OpenRecord.take_body.Goals as goal
 
-pub returns : goal.returns
-returns g c = λ so_far r.
-    let rules = g.B.Code.rules in
-    let b = c.args.byte in
+pub returns-in-More-clause-taken : goal.returns-in-More-clause-taken
+returns-in-More-clause-taken g c = λ so_far r.
     let reads = subst (λ (k : Keeping g.row.B-Place.Denot). HasRead g.B.Code.rules k so_far) (sym c.self.view_is) r in
-    let some : 0 < c.self.inside.left = omega (arith, ap (λ (k : Keeping g.row.B-Place.Denot). k.left) c.self.view_is, c.requires) in
-    let room : c.self.inside.left ≡ 0 → ⊥ = λ e. omega (arith, some) in
-    let ten : length c.self.inside.header ≡ 10 = c.self.invariant.behind some in
-    elim c.match-push.branch [
-      | in-More w ↦
-          (let m = w.in-More.ensures in
-          data_step_is rules _ so_far b _ _ w.result-is (body_more rules _ _ so_far b reads ten (omega arith) room m.0 refl refl (ap (λ (u : UnitReading g.row.B-Place.Denot). u.place) m.1) (ap (λ (u : UnitReading g.row.B-Place.Denot). u.begun) m.1)))
-      | in-Unit w ↦
-          (let m = w.in-Unit.ensures in
-          let fresh = ap (λ (u : UnitReading g.row.B-Place.Denot). u.begun) m.1 in
-          data_step_is rules _ so_far b _ _ w.result-is (body_unit rules g.met.B.Code.begins _ _ so_far b w.in-Unit.unit reads ten (omega arith) room m.0 refl refl (ap (λ (u : UnitReading g.row.B-Place.Denot). u.place) m.1) fresh, fresh))
-      | in-Bad w ↦
-          (let m = w.in-Bad.ensures in
-          data_step_is rules _ so_far b _ _ w.result-is (body_bad rules g.met.B.Code.prefix_free g.met.B.Code.begins _ so_far b w.in-Bad.reason reads ten (omega arith) room m.0 m.1))
-    ]
+    let used = c.run-used.result.used in
+    let long : length (take used c.args.values.now) ≡ used =
+    length-take-le used c.args.values.now c.run-used.ensures.used in
+    let left : c.self.inside.left ≡ c.args.self.now.left =
+    ap (λ (k : Keeping g.row.B-Place.Denot). k.left) c.self.view_is in
+    let room : length (take used c.args.values.now) ≤ c.self.inside.left =
+    omega (arith, long, left, c.requires.room, c.run-used.ensures.used) in
+    let ten : length c.self.inside.header ≡ 10 =
+    c.self.invariant.behind (omega (arith, left, c.requires.room, c.requires.some)) in
+    let are = front_bytes c.args.values.now used (λ i. omega (arith, c.type_inv.values i)) in
+    let run = rw c.in-More.is at c.run-used.ensures.run in
+    taken_more g.B.Code.rules g.K.Keep.holds g.K.Keep.may_answer _ so_far reads ten _ (take used c.args.values.now) are
+    room _ _ _ run.0 refl (ap (λ (n : ℕ). c.self.inside.left - n) (sym long)) c.took.ensures
+
+pub returns-in-Enough-clause-taken : goal.returns-in-Enough-clause-taken
+returns-in-Enough-clause-taken g c = λ so_far r.
+    let reads = subst (λ (k : Keeping g.row.B-Place.Denot). HasRead g.B.Code.rules k so_far) (sym c.self.view_is) r in
+    let used = c.run-used.result.used in
+    let long : length (take used c.args.values.now) ≡ used =
+    length-take-le used c.args.values.now c.run-used.ensures.used in
+    let left : c.self.inside.left ≡ c.args.self.now.left =
+    ap (λ (k : Keeping g.row.B-Place.Denot). k.left) c.self.view_is in
+    let room : length (take used c.args.values.now) ≤ c.self.inside.left =
+    omega (arith, long, left, c.requires.room, c.run-used.ensures.used) in
+    let ten : length c.self.inside.header ≡ 10 =
+    c.self.invariant.behind (omega (arith, left, c.requires.room, c.requires.some)) in
+    let are = front_bytes c.args.values.now used (λ i. omega (arith, c.type_inv.values i)) in
+    let run = rw c.in-Enough.is at c.run-used.ensures.run in
+    taken_unit g.B.Code.rules g.K.Keep.holds g.K.Keep.may_answer _ so_far reads ten _ (take used c.args.values.now) are
+    room g.met.B.Code.begins run.0 run.1 _ _ _ run.2 run.3 run.4 refl
+    (ap (λ (n : ℕ). c.self.inside.left - n) (sym long)) run.5 c.took.ensures
+
+pub returns-in-NoMemory-clause-taken : goal.returns-in-NoMemory-clause-taken
+returns-in-NoMemory-clause-taken g c = λ so_far r.
+    let reads = subst (λ (k : Keeping g.row.B-Place.Denot). HasRead g.B.Code.rules k so_far) (sym c.self.view_is) r in
+    let used = c.run-used.result.used in
+    let long : length (take used c.args.values.now) ≡ used =
+    length-take-le used c.args.values.now c.run-used.ensures.used in
+    let left : c.self.inside.left ≡ c.args.self.now.left =
+    ap (λ (k : Keeping g.row.B-Place.Denot). k.left) c.self.view_is in
+    let room : length (take used c.args.values.now) ≤ c.self.inside.left =
+    omega (arith, long, left, c.requires.room, c.run-used.ensures.used) in
+    let ten : length c.self.inside.header ≡ 10 =
+    c.self.invariant.behind (omega (arith, left, c.requires.room, c.requires.some)) in
+    let are = front_bytes c.args.values.now used (λ i. omega (arith, c.type_inv.values i)) in
+    let run = rw c.in-NoMemory.is at c.run-used.ensures.run in
+    taken_full g.B.Code.rules g.K.Keep.holds g.K.Keep.may_answer _ so_far reads ten _ (take used c.args.values.now) are
+    room g.met.B.Code.begins run.0 run.1 c.args.self.now c.took.new.self run.2 run.4
+
+pub returns-in-Bad-clause-taken : goal.returns-in-Bad-clause-taken
+returns-in-Bad-clause-taken g c = λ so_far r.
+    let reads = subst (λ (k : Keeping g.row.B-Place.Denot). HasRead g.B.Code.rules k so_far) (sym c.self.view_is) r in
+    let used = c.run-used.result.used in
+    let long : length (take used c.args.values.now) ≡ used =
+    length-take-le used c.args.values.now c.run-used.ensures.used in
+    let left : c.self.inside.left ≡ c.args.self.now.left =
+    ap (λ (k : Keeping g.row.B-Place.Denot). k.left) c.self.view_is in
+    let room : length (take used c.args.values.now) ≤ c.self.inside.left =
+    omega (arith, long, left, c.requires.room, c.run-used.ensures.used) in
+    let ten : length c.self.inside.header ≡ 10 =
+    c.self.invariant.behind (omega (arith, left, c.requires.room, c.requires.some)) in
+    let are = front_bytes c.args.values.now used (λ i. omega (arith, c.type_inv.values i)) in
+    let run = rw c.in-Bad.is at c.run-used.ensures.run in
+    taken_bad g.B.Code.rules g.K.Keep.holds g.K.Keep.may_answer _ so_far reads ten _ (take used c.args.values.now) are
+    room g.met.B.Code.prefix_free g.met.B.Code.begins run.0 c.in-Bad.reason c.args.self.now c.took.new.self run.1
+    run.2

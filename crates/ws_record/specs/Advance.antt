@@ -1,0 +1,75 @@
+-- What a front of a piece makes of a live decoder and of a keep (RFC 854, 885, 1205).
+
+use Rattle.std.specs.Prelude.{◌≡◌, ℕ, ◌+◌, Bool, true, false, List, [], ◌∷◌, ◌++◌, Option, Some, None, length, drop}
+use Rattle.ws_code.specs.Code.{Rules}
+use Rattle.ws_code.specs.declared.keep.Kept.{Kept}
+use Rattle.ws_code.specs.declared.keep.Kept.TheVariants as answer
+use Rattle.ws_telnet.specs.declared.token.Telnet.TheVariants as telnet
+use Rattle.ws_record.specs.declared.record.Head.{Head}
+use Rattle.ws_record.specs.declared.record.Item.{Item}
+use Rattle.ws_record.specs.declared.record.Item.TheVariants.{Record as RecordItem, Telnet as TelnetItem}
+use Rattle.ws_record.specs.declared.news.News.{News}
+use Rattle.ws_record.specs.declared.news.News.TheVariants.{More, Unit as Whole, Open, Close, Command}
+use Rattle.ws_record.specs.declared.news.News.TheVariants.{Option as Negotiate, Sub, Refused, NoMemory, Failed}
+use Rattle.ws_record.specs.Refusal.{IsRefused}
+use Rattle.ws_record.specs.OpenRecord.{RecordSoFar, no_record}
+use Rattle.ws_record.specs.DataStep.{IsWholeRecord, record_of}
+use Rattle.ws_record.specs.Taking.{KeepsTold, OnlyIfOn, EndIn}
+use Rattle.ws_record.specs.Live.{Watching, Leads, CompletesUnit}
+
+module _ {Place U : Type 0} where
+  -- The bytes lead to the decoder with these items, and the open record has this head, these units and body bytes more.
+  pub record Onward (rules : Rules Place U) (live : Watching Place) (bytes : List ℕ) (items : List (Item U))
+      (so_far : RecordSoFar U) (head : Option Head) (more : List U) (told : List ℕ) : Type 0 where
+    pub grown : List ℕ
+    pub leads : Leads rules live bytes items (record { bytes = grown; head = head; units = so_far.units ++ more })
+    pub body : drop 10 grown ≡ drop 10 so_far.bytes ++ told
+
+  -- What a front behind these bytes makes of the decoder: what is complete with its last byte, and of the keep.
+  abbrev pub IsAdvance : {K : Type 0} → Rules Place U → (K → List U → List ℕ → Type 0) → (Kept → Type 0) → List ℕ
+      → List (Item U) → RecordSoFar U → K → List ℕ → Watching Place → K → News → Type 0
+  IsAdvance rules holds may_answer bytes items so_far old front live new More = (more : List U) × (told : List ℕ)
+      × Onward rules live (bytes ++ front) items so_far so_far.head more told
+      × KeepsTold holds old new more told
+      × OnlyIfOn may_answer more
+  IsAdvance rules holds may_answer bytes items so_far old front live new Whole = (before : List U) × (unit : U)
+      × (told : List ℕ)
+      × Onward rules live (bytes ++ front) items so_far so_far.head (before ++ unit ∷ []) told
+      × KeepsTold holds old new (before ++ unit ∷ []) told
+      × OnlyIfOn may_answer before
+      × (live.reader.begun ≡ [])
+      × may_answer answer.Enough
+  IsAdvance rules holds may_answer bytes items so_far old front live new (Open head) = (so_far.head ≡ None)
+      × ((grown : List ℕ) × Leads rules live (bytes ++ front) items (record so_far { bytes = grown; head = Some head })
+      × (drop 10 grown ≡ []))
+      × (new ≡ old)
+  IsAdvance rules holds may_answer bytes items so_far old front live new (Close head) = IsWholeRecord rules so_far head
+      × Leads rules live (bytes ++ front) (items ++ RecordItem (record_of head so_far.units) ∷ []) no_record
+      × (new ≡ old)
+  IsAdvance rules holds may_answer bytes items so_far old front live new (Command code) =
+      Leads rules live (bytes ++ front) (items ++ TelnetItem (telnet.Command code) ∷ []) so_far × (new ≡ old)
+  IsAdvance rules holds may_answer bytes items so_far old front live new (Negotiate verb option) =
+      Leads rules live (bytes ++ front) (items ++ TelnetItem (telnet.Option verb option) ∷ []) so_far × (new ≡ old)
+  IsAdvance rules holds may_answer bytes items so_far old front live new Sub =
+      Leads rules live (bytes ++ front) (items ++ TelnetItem (telnet.Sub live.sub) ∷ []) so_far
+      × (live.begun ≡ []) × (new ≡ old)
+  IsAdvance rules holds may_answer bytes items so_far old front live new (Refused reason) = (place : ℕ)
+      × (length (bytes ++ front) ≡ place + 1)
+      × IsRefused rules (bytes ++ front) place reason
+  IsAdvance rules holds may_answer bytes items so_far old front live new NoMemory =
+      EndIn front (λ before last. CompletesUnit rules (bytes ++ before) last) × may_answer answer.NoMemory
+  IsAdvance rules holds may_answer bytes items so_far old front live new Failed = ⊥
+
+-- no item is complete, and more may follow
+abbrev pub goes_on : News → Bool
+goes_on More = true
+goes_on Whole = true
+goes_on (Open head) = true
+goes_on news = false
+
+-- a fact where nothing follows the news
+abbrev pub OnLastNews : News → Type 0 → Type 0
+OnLastNews (Refused reason) P = P
+OnLastNews NoMemory P = P
+OnLastNews Failed P = P
+OnLastNews news P = Unit {0}
