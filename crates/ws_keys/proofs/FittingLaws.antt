@@ -1,6 +1,6 @@
 -- Parts fit a read, part by part, exactly where something is read of them.
 use Rattle.std.proofs.Common.{◌≡◌, ℕ, ◌+◌, ◌-◌, ◌<◌, ◌≤◌, List, [], ◌∷◌, Bool, true, false, Option, Some, None}
-use Rattle.std.proofs.Common.{length, find, map, if◌then◌else◌, refl, sym, ap, ◌∙◌, subst, arith, inl, inr}
+use Rattle.std.proofs.Common.{length, find, if◌then◌else◌, refl, sym, ap, ◌∙◌, subst, arith, inl, inr}
 use Rattle.std.proofs.lemmas.List.{length-map}
 use Rattle.std.specs.Prelude.{sum_by, ◌==◌, ◌&&◌, nat_le, nat_lt, is_some, Err, ◌⊎◌}
 use Rattle.std.specs.Option.{option_map, option_map_or}
@@ -55,8 +55,10 @@ and-false false = refl
 -- a field more, by whether its address ascends, what starts there, and the fields behind
 at_address : (fields : List Field) (n next p : ℕ) (t : Bool) (o : Option Field) (q : Option (List ReadField))
     → option_map_or (λ e. nat_le n e.room && fit_behind fields e.next q)
-    (if t then option_map (λ f. let e : Expected = record { next = p + 1; room = sent_length f } in e) o else None) false
-    ≡ option_map_or (λ read. (option_map_or (λ f. nat_le n (sent_length f)) o false && list_all (fits_field fields) read)
+    (if t then option_map (λ f. let e : Expected = record { next = p + 1; room = sent_length f } in e) o else None)
+    false
+    ≡ option_map_or (λ read.
+    (option_map_or (λ f. nat_le n (sent_length f)) o false && list_all (fits_field fields) read)
     && (t && is_rising_from (p + 1) read)) q false
 at_address fields n next p false o None = refl
 at_address fields n next p false o (Some read) =
@@ -81,7 +83,8 @@ mapped fields next r None = refl
 mapped fields next r (Some read) = refl
 
 fits_from-is : (fields : List Field) (parts : List AnswerPart) (e : Expected)
-    → fits_from fields e parts ≡ (nat_le (length (bytes_before parts)) e.room && fit_behind fields e.next (fields_behind parts))
+    → fits_from fields e parts
+    ≡ (nat_le (length (bytes_before parts)) e.room && fit_behind fields e.next (fields_behind parts))
 fits_from-is fields [] e = rw (le-leb 0 e.room (omega arith)) refl
 fits_from-is fields (Head cursor aid ∷ parts) e = sym (and-false (nat_le 0 e.room))
 fits_from-is fields (Byte b ∷ parts) e =
@@ -98,13 +101,16 @@ fits_from-is fields (Byte b ∷ parts) e =
     one_less = record { next = e.next; room = e.room - 1 }
 
     go : (t : Bool) → nat_lt 0 e.room ≡ t
-        → ((x : Expected) → fits_from fields x parts ≡ (nat_le n x.room && fit_behind fields x.next (fields_behind parts)))
-        → option_map_or (λ x. fits_from fields x parts) (if t then Some one_less else None) false ≡ (nat_le (n + 1) e.room && rest)
+        → ((x : Expected) → fits_from fields x parts
+        ≡ (nat_le n x.room && fit_behind fields x.next (fields_behind parts)))
+        → option_map_or (λ x. fits_from fields x parts) (if t then Some one_less else None) false
+        ≡ (nat_le (n + 1) e.room && rest)
     go true some known = known one_less ∙ ap (λ t. t && rest) (le-shift n e.room some)
     go false none known = sym (ap (λ t. t && rest) (no-room n e.room none))
 fits_from-is fields (At p ∷ parts) e =
     next_is (behind_part fields e (At p)) (fits_from-is fields parts)
-    ∙ at_address fields (length (bytes_before parts)) e.next p (nat_le e.next p) (find (starts_at p) fields) (fields_behind parts)
+    ∙ at_address fields (length (bytes_before parts)) e.next p (nat_le e.next p) (find (starts_at p) fields)
+    (fields_behind parts)
     ∙ mapped fields e.next (record { address = p; content = bytes_before parts }) (fields_behind parts)
     ∙ ap (λ t. t && fit_behind fields e.next (fields_behind (At p ∷ parts))) (sym (le-leb 0 e.room (omega arith)))
   where
@@ -144,14 +150,6 @@ modified_data kind fields parts (inr e) = ap (λ k. read_data k fields parts) e
 length-in : (parts : List AnswerPart) (xs : List ℕ) → bytes_in parts ≡ Some xs → length xs ≡ length parts
 length-in parts xs e = sym (ap length (bytes_held parts xs e) ∙ length-map xs Byte)
 
-pub no_bytes : (fields : List Field) (parts : List AnswerPart) → is_some (bytes_in parts) ≡ false
-    → is_some (if_cut fields (bytes_in parts)) ≡ false
-no_bytes fields parts e = go (bytes_in parts) e
-  where
-    go : (o : Option (List ℕ)) → is_some o ≡ false → is_some (if_cut fields o) ≡ false
-    go None e = refl
-    go (Some xs) e = absurd (cc)
-
 cut_some : (fields : List Field) (b : ℕ) (xs : List ℕ)
     → is_some (if_cut fields (Some (b ∷ xs))) ≡ (length (b ∷ xs) == sum_by sent_length fields)
 cut_some fields b xs = decide (length (b ∷ xs) == sum_by sent_length fields)
@@ -161,7 +159,8 @@ cut_some fields b xs = decide (length (b ∷ xs) == sum_by sent_length fields)
     decide false = refl
 
 pub fits_input : (fields : List Field) (parts : List AnswerPart) → is_some (bytes_in parts) ≡ true
-    → is_some (if_cut fields (bytes_in parts)) ≡ (if length parts == 0 then true else length parts == sum_by sent_length fields)
+    → is_some (if_cut fields (bytes_in parts))
+    ≡ (if length parts == 0 then true else length parts == sum_by sent_length fields)
 fits_input fields parts e = go (bytes_in parts) (length-in parts) e
   where
     test : ℕ → Bool
@@ -172,18 +171,22 @@ fits_input fields parts e = go (bytes_in parts) (length-in parts) e
     go None same e = absurd (cc)
     go (Some []) same e = ap test (same [] refl)
     go (Some (b ∷ xs)) same e =
-        let some : (length (b ∷ xs) == 0) ≡ false = ne_eqb (length {A = ℕ} (b ∷ xs)) 0 (λ q. absurd (omega (arith, q))) in
+        let some : (length (b ∷ xs) == 0) ≡ false =
+        ne_eqb (length {A = ℕ} (b ∷ xs)) 0 (λ q. absurd (omega (arith, q))) in
         cut_some fields b xs ∙ sym (ap (λ t. if t then true else length (b ∷ xs) == sum_by sent_length fields) some)
         ∙ ap test (same (b ∷ xs) refl)
 
 -- WHAT IS TOLD WHERE MEMORY IS WANTING
 
-pub fault_known : (kind : ReadKind) (fields : List Field) (parts rest : List AnswerPart) (cursor aid : ℕ) (fault : HostFault)
-    → parts ≡ Head cursor aid ∷ rest → IsFaultOf (read_data kind fields rest) fault → IsSplit kind fields parts (Err fault)
+pub fault_known : (kind : ReadKind) (fields : List Field) (parts rest : List AnswerPart) (cursor aid : ℕ)
+    (fault : HostFault)
+    → parts ≡ Head cursor aid ∷ rest → IsFaultOf (read_data kind fields rest) fault
+    → IsSplit kind fields parts (Err fault)
 fault_known kind fields parts rest cursor aid (Reason why) e h = (
   h.0,
   λ a s. let same : rest ≡ s.0 = cc (e, s.1) in
-      let held : SplitsData kind fields rest a.fields = subst (λ (l : List AnswerPart). SplitsData kind fields l a.fields) (sym same) s.2 in
+      let held : SplitsData kind fields rest a.fields =
+      subst (λ (l : List AnswerPart). SplitsData kind fields l a.fields) (sym same) s.2 in
       clash (sym h.1 ∙ data_read kind fields rest a.fields held),
 )
   where

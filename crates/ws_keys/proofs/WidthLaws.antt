@@ -1,8 +1,8 @@
 -- A field of a screen that events give leaves a cell for its attribute, so a signed numeric one has at most
 -- 1,918 digits.
 use Rattle.std.proofs.Common.{◌≡◌, ℕ, ◌+◌, ◌-◌, ◌≤◌, List, [], ◌∷◌, ◌++◌, Bool, true, false, Option, Some, None, All}
-use Rattle.std.proofs.Common.{length, find, take, drop, replicate, if◌then◌else◌, refl, sym, ap, ◌∙◌, subst, arith}
-use Rattle.std.proofs.Common.{◌==◌, length-append, length-take, length-drop}
+use Rattle.std.proofs.Common.{length, find, drop, replicate, if◌then◌else◌, refl, sym, ap, ◌∙◌, subst, arith}
+use Rattle.std.proofs.Common.{◌==◌, length-append, length-take}
 use Rattle.std.specs.List.{filter_map, cons_option, range_with_len, Contains}
 use Rattle.std.specs.Option.{option_map_or}
 use Rattle.std.proofs.lemmas.Bool.{false≢true}
@@ -22,7 +22,7 @@ use Rattle.ws_screen.specs.Writes.{address}
 use Rattle.ws_screen.specs.declared.field.Field.{Field}
 use Rattle.ws_screen.proofs.FormatLemmas.{starts_there}
 use Rattle.ws_screen.proofs.Legal.{apart-ends}
-use Rattle.ws_keys.specs.Contents.{is_signed, sent_cells, sent_length}
+use Rattle.ws_keys.specs.Contents.{sent_cells, sent_length}
 use Rattle.ws_keys.specs.SignedDigits.{IsDecoded, ReadsSigned, zoned_decimal}
 use Rattle.ws_keys.specs.declared.signed.SignedDigits.{SignedDigits}
 use Rattle.ws_keys.proofs.SignedLaws.{reads_digits}
@@ -30,7 +30,8 @@ use Rattle.ws_keys.proofs.SignedLaws.{reads_digits}
 -- WHERE FIELDS START
 
 order_starts : (a : ℕ) (f : FieldOrder) (format : Option ℕ) (x : Field)
-    → option_map_or (λ w. let y : Field = record { start = a + 1; length = f.length; format = w } in Some y) format None ≡ Some x
+    → option_map_or (λ w. let y : Field = record { start = a + 1; length = f.length; format = w } in Some y) format None
+    ≡ Some x
     → x.start ≡ a + 1
 order_starts a f None x e = absurd (cc)
 order_starts a f (Some w) x e = let P : Option Field → ℕ = λ o. option_map_or (λ y. y.start) o 0 in sym (ap P e)
@@ -117,7 +118,12 @@ reads_signed bytes result decoded = λ h s gives legal f member signed front dig
     let width : length (sent_cells s f) ≤ sent_length f =
     omega (arith, length-take (f.start + sent_length f - f.start) (drop f.start s.cells)) in
     let parts : length front + length digits ≤ length (front ++ zoned ++ replicate k 0) =
-    omega (arith, length-append (front ++ zoned) (replicate k 0), length-append front zoned, length-map digits (λ d. 0xF0 + d)) in
+    omega (
+      arith,
+      length-append (front ++ zoned) (replicate k 0),
+      length-append front zoned,
+      length-map digits (λ d. 0xF0 + d),
+    ) in
     let joined : length front + length digits ≤ length (sent_cells s f) = omega (arith, parts, ap length cells) in
     let slim : f.length ≤ 1919 = narrow h s f gives legal member in
     let short : length front + length digits ≤ 1918 = omega (arith, slim, sent, width, joined) in

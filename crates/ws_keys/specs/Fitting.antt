@@ -14,18 +14,22 @@ use Rattle.ws_keys.specs.declared.fitting.Expected.{Expected}
 abbrev pub at_first : Expected
 at_first = record { next = 0; room = 0 }
 
+-- a byte takes a cell of the room
 abbrev pub behind_byte : Expected → Option Expected
 behind_byte e = if nat_lt 0 e.room then Some (record { next = e.next; room = e.room - 1 }) else None
 
+-- an address begins the content of a later field
 abbrev pub behind_address : List Field → Expected → ℕ → Option Expected
 behind_address fields e p = if nat_le e.next p
     then option_map (λ f. record { next = p + 1; room = sent_length f }) (find (starts_at p) fields) else None
 
+-- what may come behind a part; none where the part does not fit
 abbrev pub behind_part : List Field → Expected → AnswerPart → Option Expected
 behind_part fields e (Byte b) = behind_byte e
 behind_part fields e (At p) = behind_address fields e p
 behind_part fields e (Head cursor aid) = None
 
+-- the parts fit, one after another
 abbrev pub fits_from : List Field → Expected → List AnswerPart → Bool
 fits_from fields e [] = true
 fits_from fields e (part ∷ parts) =

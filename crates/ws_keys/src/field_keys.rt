@@ -31,7 +31,8 @@ pub fn entered_field(screen: &Screen) -> Result<Field, KeyRefusal>
 // Changes the open field at the cursor.
 pub fn change_field(screen: &mut Screen, field: &Field, change: Change, to: Address)
     requires open_ { open_field screen.old ≡ Some field.now }
-    requires asked { AsksChange change field.now.format (screen.old.cursor - field.now.start) field.now.length }
+    requires asked { AsksChange change field.now.format
+        (screen.old.cursor - field.now.start) field.now.length }
     ensures { screen.new ≡ after_edit (field_edit field.now
         (after_change change field.now.format (cells_of screen.old field.now) (screen.old.cursor - field.now.start)) to)
         screen.old }

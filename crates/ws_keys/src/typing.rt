@@ -53,7 +53,8 @@ fn last_cell(field: &Field) -> u16
 fn at_sign(screen: &Screen, field: &Field) -> bool
     requires some { 1 ≤ field.now.length }
     requires within { field.now.start + field.now.length ≤ CELLS }
-    ensures { result ≡ (Contents.is_signed field.now && (screen.now.cursor == Spec.last_cell field.now)) }
+    ensures { result
+        ≡ (Contents.is_signed field.now && (screen.now.cursor == Spec.last_cell field.now)) }
 {
     is_signed(field.format) && screen.cursor().place() == last_cell(field)
 }

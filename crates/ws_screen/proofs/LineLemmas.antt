@@ -1,11 +1,11 @@
 -- How the attribute in force, and the text of a row, go on from cell to cell.
-use Rattle.std.proofs.Common.{◌≡◌, ℕ, ◌+◌, ◌<◌, ◌≤◌, List, [], ◌∷◌, ◌++◌, Bool, true, false, Some, None, length}
-use Rattle.std.proofs.Common.{if◌then◌else◌, refl, sym, ap, ◌∙◌, arith, map, find, take, slice_index, append-nil}
+use Rattle.std.proofs.Common.{◌≡◌, ℕ, ◌+◌, ◌<◌, ◌≤◌, List, [], ◌∷◌, ◌++◌, Bool, true, false, Some, length}
+use Rattle.std.proofs.Common.{if◌then◌else◌, refl, sym, ap, ◌∙◌, arith, find, take, slice_index, append-nil}
 use Rattle.std.proofs.Common.{nat_lt, cond, unwrap_or}
 use Rattle.std.specs.Prelude.{reverse, encode_utf8}
 use Rattle.std.specs.Char.{len_utf8}
 use Rattle.std.specs.Str.{encode_utf8_all}
-use Rattle.std.proofs.lemmas.List.{take_more, reverse-append, map-append}
+use Rattle.std.proofs.lemmas.List.{take_more, reverse-append}
 use Rattle.std.proofs.lemmas.Str.{encodes-append, length-encode}
 use borrow.Author.Tests.{lt-ltb}
 use Rattle.ws_stream.specs.FieldOrder.{is_attribute}
@@ -13,7 +13,8 @@ use Rattle.ws_screen.specs.Lines.{attribute_at}
 
 -- the attribute in force behind a cell
 pub attribute_at-more : (cells : List ℕ) (c : ℕ) → c < length cells
-    → attribute_at cells (c + 1) ≡ (if is_attribute (slice_index cells c) then slice_index cells c else attribute_at cells c)
+    → attribute_at cells (c + 1)
+    ≡ (if is_attribute (slice_index cells c) then slice_index cells c else attribute_at cells c)
 attribute_at-more cells c small =
     let last : List ℕ → ℕ = λ back. unwrap_or (find is_attribute back) 0x20 in
     ap (λ front. last (reverse front)) (take_more cells c 0 small)

@@ -15,9 +15,12 @@ read_of Mdt cc1 cc2 = ReadMdt cc1 cc2
 read_of MdtAlternate cc1 cc2 = ReadMdtAlternate cc1 cc2
 
 pub is_read : (e : Element) (r : Read) → read_in e ≡ Some r → e ≡ read_of r.kind r.cc1 r.cc2
-is_read (ReadInput cc1 cc2) r is = ap (λ (o : Option Read). option_map_or (λ x. read_of x.kind x.cc1 x.cc2) o (ReadInput cc1 cc2)) is
-is_read (ReadMdt cc1 cc2) r is = ap (λ (o : Option Read). option_map_or (λ x. read_of x.kind x.cc1 x.cc2) o (ReadMdt cc1 cc2)) is
-is_read (ReadMdtAlternate cc1 cc2) r is = ap (λ (o : Option Read). option_map_or (λ x. read_of x.kind x.cc1 x.cc2) o (ReadMdtAlternate cc1 cc2)) is
+is_read (ReadInput cc1 cc2) r is =
+    ap (λ (o : Option Read). option_map_or (λ x. read_of x.kind x.cc1 x.cc2) o (ReadInput cc1 cc2)) is
+is_read (ReadMdt cc1 cc2) r is =
+    ap (λ (o : Option Read). option_map_or (λ x. read_of x.kind x.cc1 x.cc2) o (ReadMdt cc1 cc2)) is
+is_read (ReadMdtAlternate cc1 cc2) r is =
+    ap (λ (o : Option Read). option_map_or (λ x. read_of x.kind x.cc1 x.cc2) o (ReadMdtAlternate cc1 cc2)) is
 is_read e r is = absurd (cc)
 
 pub is_command-read : (kind : ReadKind) (cc1 cc2 : ℕ) → is_command (read_of kind cc1 cc2) ≡ true

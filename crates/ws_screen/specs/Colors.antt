@@ -1,5 +1,5 @@
 -- What an attribute says to a colour display (IBM 3179-2, colour attributes): a table of all 32.
-use Rattle.std.specs.Prelude.{ℕ, ◌-◌, List, [], ◌∷◌, Bool, true, false, slice_index_or}
+use Rattle.std.specs.Prelude.{ℕ, ◌-◌, List, [], ◌∷◌, true, false, slice_index_or}
 use Rattle.ws_screen.specs.declared.style.Color.{Color}
 use Rattle.ws_screen.specs.declared.style.Color.TheVariants.{Green, White, Red, Turquoise, Yellow, Pink, Blue}
 use Rattle.ws_screen.specs.declared.style.Style.{Style}
@@ -14,15 +14,19 @@ plain c = record {
   has_separators = false;
 }
 
+-- foreground and background change places
 abbrev pub reversed : Style → Style
 reversed s = record s { is_reversed = true }
 
+-- with a line under each cell
 abbrev pub underscored : Style → Style
 underscored s = record s { is_underscored = true }
 
+-- it blinks
 abbrev pub blinking : Style → Style
 blinking s = record s { is_blinking = true }
 
+-- with column separators
 abbrev pub separated : Style → Style
 separated s = record s { has_separators = true }
 
@@ -54,5 +58,6 @@ styles =
     ∷ underscored (plain Blue) ∷ unseen
     ∷ []
 
+-- how a colour display shows an attribute (SC30-3533, colour attributes)
 abbrev pub style_of : ℕ → Style
 style_of a = slice_index_or styles (a - 0x20) unseen

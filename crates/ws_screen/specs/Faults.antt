@@ -35,6 +35,7 @@ sf_faults a fields f = let input = is_some f.format in
     ∷ (fresh && input && list_any (shares (a + 1) f.length) fields, FieldOverlap)
     ∷ (fresh && input && (length fields == MAX_FIELDS), TableFull) ∷ []
 
+-- the tests of an element by the address in force and the fields, each with its reason; the first that holds refuses it
 abbrev pub faults : ℕ → List Field → Element → List (Bool × Reason)
 faults a fields (Put byte) = (a == CELLS, PastEnd) ∷ []
 faults a fields (Ra place byte) = (nat_lt place a, BackwardAddress) ∷ []

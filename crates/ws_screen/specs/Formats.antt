@@ -10,6 +10,7 @@ use Rattle.ws_screen.specs.Controls.{clears_mdt, cc1_of}
 use Rattle.ws_screen.specs.Events.{Event, did, keyed, History, latest}
 use Rattle.ws_screen.specs.Writes.{address}
 
+-- an event that removes all fields
 abbrev pub empties_table : Event → Bool
 empties_table (did ClearUnit) = true
 empties_table (did ClearFormat) = true
@@ -22,6 +23,7 @@ field_by a (did (Sf f)) = option_map_or
     (λ w. Some (record { start = a + 1; length = f.length; format = w })) f.format None
 field_by a _ = None
 
+-- a field put before others, where there is one
 abbrev pub cons_some : Option Field → List Field → List Field
 cons_some None fs = fs
 cons_some (Some f) fs = f ∷ fs
@@ -31,6 +33,7 @@ abbrev pub input_sfs : History → List Field
 input_sfs [] = []
 input_sfs (e ∷ h) = if empties_table e then [] else cons_some (field_by (address h) e) (input_sfs h)
 
+-- a field starts at that cell
 abbrev pub starts_at : ℕ → Field → Bool
 starts_at a f = f.start == a
 
@@ -52,6 +55,7 @@ sets_mdt a h e = option_or
     (option_map_or (λ cc1. if clears_mdt cc1 (bypass_at a h) then Some false else None)
     (cc1_of e) None)
 
+-- the MDT of the field that starts there is on
 abbrev pub mdt_at : ℕ → History → Bool
 mdt_at a h = latest (sets_mdt a) false h
 

@@ -12,6 +12,7 @@ use Rattle.ws_screen.specs.ScreenParts.{ScreenParts}
 use Rattle.ws_screen.specs.States.{switches, home_set, cursor, is_locked, message, blink, pending_read}
 use Rattle.ws_screen.specs.Writes.{open_write}
 
+-- these events leave a screen so: each part of it is what the events say of it
 pub record Gives (h : History) (s : ScreenParts) : Type 0 where
   pub cells : (c : ℕ) → c < CELLS → slice_index s.cells c ≡ cell c h
   pub fields_are : s.fields ≡ fields h

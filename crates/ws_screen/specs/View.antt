@@ -2,6 +2,7 @@
 use Rattle.ws_screen.specs.ScreenParts.{ScreenParts, IsLegal}
 use Rattle.ws_screen.specs.declared.screen.Screen.TheInside.{Inside}
 
+-- what contracts see of a screen
 abbrev pub screen_parts : Inside → ScreenParts
 screen_parts s = record {
   cells = s.cells;
@@ -16,5 +17,6 @@ screen_parts s = record {
   writing = s.writing;
 }
 
+-- what holds of every screen
 abbrev pub IsLegalInside : Inside → Type 0
 IsLegalInside s = IsLegal (screen_parts s)

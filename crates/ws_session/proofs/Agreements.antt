@@ -28,15 +28,22 @@ module _ (t : TerminalType) where
   quiet_agrees : (w : World) → Sound t w → IsQuiet w → TablesAgree w.station.options w.host.options
   quiet_agrees w s q =
       let x = s.between.exchanges in
-      let ts : s.ts ≡ [] = no_tokens s.ts (front_empty (tokens s.ts) (posted s.ds) (quiet element_rules w.down (tokens s.ts ++ posted s.ds) (subst (λ n. InFlight element_rules w.down n (tokens s.ts ++ posted s.ds)) q.to_station s.down))) in
-      let us : s.us ≡ [] = no_tokens s.us (front_empty (tokens s.us) (sents s.es) (quiet answer_rules w.up (tokens s.us ++ sents s.es) (subst (λ n. InFlight answer_rules w.up n (tokens s.us ++ sents s.es)) q.to_host s.up))) in
+      let ts : s.ts ≡ [] = no_tokens s.ts (front_empty (tokens s.ts) (posted s.ds)
+      (quiet element_rules w.down (tokens s.ts ++ posted s.ds)
+      (subst (λ n. InFlight element_rules w.down n (tokens s.ts ++ posted s.ds)) q.to_station s.down))) in
+      let us : s.us ≡ [] = no_tokens s.us (front_empty (tokens s.us) (sents s.es)
+      (quiet answer_rules w.up (tokens s.us ++ sents s.es)
+      (subst (λ n. InFlight answer_rules w.up n (tokens s.us ++ sents s.es)) q.to_host s.up))) in
       let P : Exchange → Type 0 = λ e. NothingInFlight e → TablesAgree e.station e.host in
-      subst (λ z. TablesAgree z w.host.options) x.station (subst (λ z. TablesAgree s.ex.station z) x.host (subst P x.is (agrees t x.moves) (record { to_station = x.to_station ∙ ts; to_host = x.to_host ∙ us })))
+      subst (λ z. TablesAgree z w.host.options) x.station (subst (λ z. TablesAgree s.ex.station z) x.host
+      (subst P x.is (agrees t x.moves) (record { to_station = x.to_station ∙ ts; to_host = x.to_host ∙ us })))
 
-  pub agree_when_quiet : (ms : List Move) → IsQuiet (after_moves (new_world t) ms) → TablesAgree (after_moves (new_world t) ms).station.options (after_moves (new_world t) ms).host.options
+  pub agree_when_quiet : (ms : List Move) → IsQuiet (after_moves (new_world t) ms)
+      → TablesAgree (after_moves (new_world t) ms).station.options (after_moves (new_world t) ms).host.options
   agree_when_quiet ms = quiet_agrees (after_moves (new_world t) ms) (sound t ms)
 
-  pub few_messages : (ms : List Move) → telnets (after_moves (new_world t) ms).down + telnets (after_moves (new_world t) ms).up ≤ 12
+  pub few_messages : (ms : List Move) → telnets (after_moves (new_world t) ms).down + telnets
+      (after_moves (new_world t) ms).up ≤ 12
   few_messages ms =
       let s = sound t ms in
       let w = after_moves (new_world t) ms in

@@ -1,5 +1,7 @@
 use Rattle.std.specs.Prelude.{flat_map, ◌^◌, min}
-use Rattle.std.proofs.Common.{inl, inr, ◌≡◌, ℕ, zero, suc, ◌+◌, ◌<◌, ◌≤◌, List, [], ◌∷◌, ◌++◌, Option, Some, None, Result, Ok, Err, length, take, drop, get_or, refl, ap, ◌∙◌, sym, subst, arith, append_assoc, add-zero, add-one, length-append, length-drop, drop-cons}
+use Rattle.std.proofs.Common.{inl, inr, ◌≡◌, ℕ, suc, ◌+◌, ◌<◌, ◌≤◌, List, [], ◌∷◌, ◌++◌, Some, None, length, drop}
+use Rattle.std.proofs.Common.{get_or, refl, ap, ◌∙◌, sym, subst, arith, append_assoc, add-zero, add-one, length-append}
+use Rattle.std.proofs.Common.{length-drop, drop-cons}
 use Rattle.std.proofs.lemmas.List.{append-nil, length-take, take_all, get_or-drop}
 use Rattle.std.proofs.lemmas.Bool.{cases_lt}
 use Rattle.ws_code.specs.declared.reason.Reason.{Reason}
@@ -12,22 +14,35 @@ use Rattle.ws_screen.proofs.Applies.{longer_by}
 
 -- Bytes that arrive at an end, one after another.
 
-module _ {E Deed Told : Type 0} (goes : E → List (Act Deed) → List ℕ → List Told → E → Type 0) (refuses : E → ℕ → Refusal → E → Type 0) (over : E → Type 0) (tells : Told → List Event) (refusal : ℕ → Reason → Event) where
+module _ {E Deed Told : Type 0} (goes : E → List (Act Deed) → List ℕ → List Told → E → Type 0) (refuses : E → ℕ
+    → Refusal → E → Type 0) (over : E → Type 0) (tells : Told → List Event) (refusal : ℕ → Reason → Event) where
   -- a byte at which the end goes on
-  pub goes_come : (old new : E) (byte : ℕ) (reply : List ℕ) (told : List Told) (to to' : WireParts) (events events' : List Event)
-      → goes old (Came byte ∷ []) reply told new → (over old → ⊥) → to' ≡ record to { bytes = to.bytes ++ reply } → events' ≡ events ++ flat_map tells told
+  pub goes_come : (old new : E) (byte : ℕ) (reply : List ℕ) (told : List Told) (to to' : WireParts)
+      (events events' : List Event)
+      → goes old (Came byte ∷ []) reply told new → (over old → ⊥) → to' ≡ record to { bytes = to.bytes ++ reply }
+      → events' ≡ events ++ flat_map tells told
       → HasCome goes refuses over tells refusal old byte new to to' events events'
   goes_come old new byte reply told to to' events events' led works t e = record {
     written = reply;
     events = flat_map tells told;
-    comes = record { told = told; why = None; through = led; reports = refl; has_memory = tt; stays = λ o. absurd (works o) };
+    comes = record {
+      told = told;
+      why = None;
+      through = led;
+      reports = refl;
+      has_memory = tt;
+      stays = λ o. absurd (works o);
+    };
     to_is = t;
     told_is = e;
   }
 
   -- one that it refuses
-  pub refused_come : (stays : (e : E) → goes e [] [] [] e) (old new : E) (byte : ℕ) (why : Refusal) → HasMemory (Some why) → (to : WireParts) (events events' : List Event)
-      → refuses old byte why new → over new → (over old → (new ≡ old) × (reported goes refuses over tells refusal [] (Some why) ≡ [])) → events' ≡ events ++ reported goes refuses over tells refusal [] (Some why)
+  pub refused_come : (stays : (e : E) → goes e [] [] [] e) (old new : E) (byte : ℕ) (why : Refusal)
+      → HasMemory (Some why) → (to : WireParts) (events events' : List Event)
+      → refuses old byte why new → over new
+      → (over old → (new ≡ old) × (reported goes refuses over tells refusal [] (Some why) ≡ [])) → events' ≡ events
+      ++ reported goes refuses over tells refusal [] (Some why)
       → HasCome goes refuses over tells refusal old byte new to to events events'
   refused_come stays old new byte why memory to events events' r o same e = record {
     written = [];
@@ -35,7 +50,16 @@ module _ {E Deed Told : Type 0} (goes : E → List (Act Deed) → List ℕ → L
     comes = record {
       told = [];
       why = Some why;
-      through = record { before = []; byte = byte; after = []; split = refl; last = old; led = stays old; refused = r; is_over = o };
+      through = record {
+        before = [];
+        byte = byte;
+        after = [];
+        split = refl;
+        last = old;
+        led = stays old;
+        refused = r;
+        is_over = o;
+      };
       reports = refl;
       has_memory = memory;
       stays = λ p. ((same p).0, refl, (same p).1);
@@ -45,7 +69,8 @@ module _ {E Deed Told : Type 0} (goes : E → List (Act Deed) → List ℕ → L
   }
 
   -- one byte more
-  pub come_more : (a b c : E) (xs : List ℕ) (x : ℕ) (v w : List ℕ) (s t : List Event) → AllCome goes refuses over tells refusal a xs b v s → Comes goes refuses over tells refusal b x c w t
+  pub come_more : (a b c : E) (xs : List ℕ) (x : ℕ) (v w : List ℕ) (s t : List Event)
+      → AllCome goes refuses over tells refusal a xs b v s → Comes goes refuses over tells refusal b x c w t
       → AllCome goes refuses over tells refusal a (xs ++ x ∷ []) c (v ++ w) (s ++ t)
   come_more a b c [] x v w s t p q = (
     c,
@@ -70,7 +95,8 @@ module _ {E Deed Told : Type 0} (goes : E → List (Act Deed) → List ℕ → L
     ap (λ z. z ++ t) p.8 ∙ append_assoc p.3 p.4 t,
   )
 
-  pub none_delivered : (e : E) (from to : WireParts) (told : List Event) → length from.bytes + 1 < 2 ^ 64 → AreDelivered goes refuses over tells refusal e e from from to to told told 0
+  pub none_delivered : (e : E) (from to : WireParts) (told : List Event) → length from.bytes + 1 < 2 ^ 64
+      → AreDelivered goes refuses over tells refusal e e from from to to told told 0
   none_delivered e from to told few = record {
     bytes = [];
     written = [];
@@ -83,26 +109,55 @@ module _ {E Deed Told : Type 0} (goes : E → List (Act Deed) → List ℕ → L
     told_is = sym (append-nil told);
   }
 
-  module _ (a b : E) (from f to t : WireParts) (told e : List Event) (n : ℕ) (d : AreDelivered goes refuses over tells refusal a b from f to t told e n) where
+  module _ (a b : E) (from f to t : WireParts) (told e : List Event) (n : ℕ)
+      (d : AreDelivered goes refuses over tells refusal a b from f to t told e n) where
     counted : f.at < length f.bytes → length d.bytes ≡ n
     counted more =
-        omega (arith, more, ap (λ (z : WireParts). z.at) d.from_is, ap (λ (z : WireParts). length z.bytes) d.from_is, ap (λ z. length z) d.first, length-take n (drop from.at from.bytes), length-drop from.at from.bytes)
+        omega (
+          arith,
+          more,
+          ap (λ (z : WireParts). z.at) d.from_is,
+          ap (λ (z : WireParts). length z.bytes) d.from_is,
+          ap (λ z. length z) d.first,
+          length-take n (drop from.at from.bytes),
+          length-drop from.at from.bytes,
+        )
 
     -- others wait
     pub more_wait : (k : ℕ) → from.at + k ≡ length from.bytes → n < k → f.at < length f.bytes
     more_wait k all more =
-        omega (arith, all, more, ap (λ (z : WireParts). z.at) d.from_is, ap (λ (z : WireParts). length z.bytes) d.from_is, ap (λ z. length z) d.first, length-take n (drop from.at from.bytes), length-drop from.at from.bytes)
+        omega (
+          arith,
+          all,
+          more,
+          ap (λ (z : WireParts). z.at) d.from_is,
+          ap (λ (z : WireParts). length z.bytes) d.from_is,
+          ap (λ z. length z) d.first,
+          length-take n
+              (drop from.at from.bytes),
+          length-drop from.at from.bytes,
+        )
 
     -- all have come
-    pub all_delivered : (m : ℕ) → n ≤ m → length f.bytes ≤ f.at → AreDelivered goes refuses over tells refusal a b from f to t told e m
+    pub all_delivered : (m : ℕ) → n ≤ m → length f.bytes ≤ f.at
+        → AreDelivered goes refuses over tells refusal a b from f to t told e m
     all_delivered m le all =
         let whole : length (drop from.at from.bytes) ≤ n =
-        omega (arith, all, ap (λ (z : WireParts). z.at) d.from_is, ap (λ (z : WireParts). length z.bytes) d.from_is, ap (λ z. length z) d.first, length-take n (drop from.at from.bytes), length-drop from.at from.bytes) in
+        omega (
+          arith,
+          all,
+          ap (λ (z : WireParts). z.at) d.from_is,
+          ap (λ (z : WireParts). length z.bytes) d.from_is,
+          ap (λ z. length z) d.first,
+          length-take n (drop from.at from.bytes),
+          length-drop from.at from.bytes,
+        ) in
         record {
           bytes = d.bytes;
           written = d.written;
           events = d.events;
-          first = d.first ∙ take_all n (drop from.at from.bytes) whole ∙ sym (take_all m (drop from.at from.bytes) (omega (arith, whole, le)));
+          first = d.first ∙ take_all n (drop from.at from.bytes) whole
+              ∙ sym (take_all m (drop from.at from.bytes) (omega (arith, whole, le)));
           few = d.few;
           come = d.come;
           from_is = d.from_is;
@@ -111,20 +166,37 @@ module _ {E Deed Told : Type 0} (goes : E → List (Act Deed) → List ℕ → L
         }
 
     -- so many, or all that were in flight
-    pub all_come : (k m : ℕ) → from.at + k ≡ length from.bytes → n ≡ min m k → AreDelivered goes refuses over tells refusal a b from f to t told e m
+    pub all_come : (k m : ℕ) → from.at + k ≡ length from.bytes → n ≡ min m k
+        → AreDelivered goes refuses over tells refusal a b from f to t told e m
     all_come k m all is = elim (cases_lt m k) [
-      | inl h ↦ subst (AreDelivered goes refuses over tells refusal a b from f to t told e) (let q : n ≡ m = omega (arith, is, h) in q) d
-      | inr h ↦ all_delivered m (omega (arith, is, h)) (omega (arith, h, is, all, ap (λ (z : WireParts). z.at) d.from_is, ap (λ (z : WireParts). length z.bytes) d.from_is, ap (λ z. length z) d.first, length-take n (drop from.at from.bytes), length-drop from.at from.bytes))
+      | inl h ↦ subst (AreDelivered goes refuses over tells refusal a b from f to t told e)
+          (let q : n ≡ m = omega (arith, is, h) in q) d
+      | inr h ↦ all_delivered m (omega (arith, is, h))
+          (omega (
+            arith,
+            h,
+            is,
+            all,
+            ap (λ (z : WireParts). z.at) d.from_is,
+            ap (λ (z : WireParts). length z.bytes) d.from_is,
+            ap (λ z. length z) d.first,
+            length-take n
+                (drop from.at from.bytes),
+            length-drop from.at from.bytes,
+          ))
     ]
 
-    pub one_delivered : f.at < length f.bytes → (x : ℕ) → x ≡ get_or f.bytes f.at x → (f' : WireParts) → f' ≡ record f { at = f.at + 1 } → (c : E) (t' : WireParts) (e' : List Event) → HasCome goes refuses over tells refusal b x c t t' e e'
+    pub one_delivered : f.at < length f.bytes → (x : ℕ) → x ≡ get_or f.bytes f.at x → (f' : WireParts)
+        → f' ≡ record f { at = f.at + 1 } → (c : E) (t' : WireParts) (e' : List Event)
+        → HasCome goes refuses over tells refusal b x c t t' e e'
         → AreDelivered goes refuses over tells refusal a c from f' to t' told e' (n + 1)
     one_delivered more x is f' on c t' e' h =
         let rest : List ℕ = drop from.at from.bytes in
         let count : length d.bytes ≡ n = counted more in
         let same : f.bytes ≡ from.bytes = ap (λ (z : WireParts). z.bytes) d.from_is in
         let at : f.at ≡ from.at + n = ap (λ (z : WireParts). z.at) d.from_is ∙ ap (λ k. from.at + k) count in
-        let next : x ≡ get_or rest n x = is ∙ ap (λ z. get_or z f.at x) same ∙ ap (λ k. get_or from.bytes k x) at ∙ sym (get_or-drop from.at from.bytes n x) in
+        let next : x ≡ get_or rest n x = is ∙ ap (λ z. get_or z f.at x) same ∙ ap (λ k. get_or from.bytes k x) at
+        ∙ sym (get_or-drop from.at from.bytes n x) in
         let room : n < length rest = omega (arith, more, at, ap (λ z. length z) same, length-drop from.at from.bytes) in
         record {
           bytes = d.bytes ++ x ∷ [];
@@ -134,13 +206,18 @@ module _ {E Deed Told : Type 0} (goes : E → List (Act Deed) → List ℕ → L
           few = d.few;
           come = come_more a b c d.bytes x d.written h.written d.events h.events d.come h.comes;
           from_is = on ∙ ap (λ (z : WireParts). let w : WireParts = record z { at = z.at + 1 } in w) d.from_is
-              ∙ ap (λ (k : ℕ). let w : WireParts = record from { at = k } in w) (let k : (from.at + length d.bytes) + 1 ≡ from.at + length (d.bytes ++ x ∷ []) = omega (arith, length-append d.bytes (x ∷ [])) in k);
-          to_is = h.to_is ∙ ap (λ (z : WireParts). let w : WireParts = record z { bytes = z.bytes ++ h.written } in w) d.to_is ∙ ap (λ (z : List ℕ). let w : WireParts = record to { bytes = z } in w) (append_assoc to.bytes d.written h.written);
+              ∙ ap (λ (k : ℕ). let w : WireParts = record from { at = k } in w) (let k : (from.at + length d.bytes) + 1
+              ≡ from.at + length (d.bytes ++ x ∷ []) = omega (arith, length-append d.bytes (x ∷ [])) in k);
+          to_is = h.to_is ∙ ap (λ (z : WireParts). let w : WireParts = record z { bytes = z.bytes ++ h.written } in
+              w) d.to_is ∙ ap (λ (z : List ℕ). let w : WireParts = record to { bytes = z } in w)
+              (append_assoc to.bytes d.written h.written);
           told_is = h.told_is ∙ ap (λ z. z ++ h.events) d.told_is ∙ append_assoc told d.events h.events;
         }
 
 -- a byte that alone came, and that was refused
-module _ {E Deed Told : Type 0} (goes : E → List (Act Deed) → List ℕ → List Told → E → Type 0) (refuses : E → ℕ → Refusal → E → Type 0) (over : E → Type 0) (old new : E) (byte : ℕ) (written : List ℕ) (told : List Told) (why : Refusal) where
+module _ {E Deed Told : Type 0} (goes : E → List (Act Deed) → List ℕ → List Told → E → Type 0) (refuses : E → ℕ
+    → Refusal → E → Type 0) (over : E → Type 0) (old new : E) (byte : ℕ) (written : List ℕ) (told : List Told)
+    (why : Refusal) where
   abbrev pub RefusedAtOnce : Type 0
   RefusedAtOnce = (last : E) × goes old [] written told last × refuses last byte why new
 
@@ -150,7 +227,8 @@ module _ {E Deed Told : Type 0} (goes : E → List (Act Deed) → List ℕ → L
     none [] after b e = cc
     none (y ∷ ys) after b e = cc
 
-    by : (before : List (Act Deed)) → Came byte ∷ [] ≡ before ++ Came h.byte ∷ h.after → goes old before written told h.last → RefusedAtOnce
+    by : (before : List (Act Deed)) → Came byte ∷ [] ≡ before ++ Came h.byte ∷ h.after
+        → goes old before written told h.last → RefusedAtOnce
     by [] e g = (h.last, g, (let same : h.byte ≡ byte = cc in subst (λ b. refuses h.last b why new) same h.refused))
     by (x ∷ xs) e g = absurd (none xs h.after h.byte (let f : [] ≡ xs ++ Came h.byte ∷ h.after = cc in f))
 

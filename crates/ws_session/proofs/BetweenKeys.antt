@@ -1,5 +1,6 @@
 use Rattle.std.specs.Prelude.{◌||◌}
-use Rattle.std.proofs.Common.{if◌then◌else◌, unwrap_or, ◌≡◌, ℕ, ◌⊎◌, inl, inr, List, [], ◌∷◌, ◌++◌, Bool, true, false, Option, Some, None, refl, ap, ◌∙◌, sym, subst}
+use Rattle.std.proofs.Common.{if◌then◌else◌, unwrap_or, ◌≡◌, ℕ, ◌⊎◌, inl, inr, List, [], ◌∷◌, ◌++◌, Bool, true, false}
+use Rattle.std.proofs.Common.{Option, Some, None, refl, ap, ◌∙◌, sym, subst}
 use Rattle.std.specs.Option.{is_some}
 use Rattle.std.proofs.lemmas.List.{append-nil}
 use Rattle.ws_telnet.specs.declared.token.Telnet.{Telnet}
@@ -30,9 +31,14 @@ use Rattle.ws_screen.specs.ByHost.{by_host, layouts, read_left_by}
 use Rattle.ws_stream.specs.Bodies.{is_body}
 use Rattle.ws_session.specs.StationSide.{StationSide, opcode_events, after_record, after_key, screen_at}
 use Rattle.ws_session.specs.HostSide.{HostSide, sent_record, is_outstanding}
-use Rattle.ws_screen.proofs.ScreenLaws.{Alike, open_write_alike, layout_alike, elements_alike, end_alike, body_fault_alike, pending-elements, pending-end}
-use Rattle.ws_session.proofs.Turns.{DownMark, Stop as StopMark, Reply, TurnAt, sends_text, sends_read, sends_stop, answers, no_answer}
-use Rattle.ws_session.proofs.Betweens.{Between, Body, Ends, Posted, Replies, Sent, Signal, Stop, Waits, after_posted, after_posted_more, closed_end, end_events, fit_alike, fit_more, is_stop, mark_left, marks_down, marks_down_more, marks_of, marks_up, marks_up_more, opcode_alike, posted_alike, record_of}
+use Rattle.ws_screen.proofs.ScreenLaws.{Alike, open_write_alike, layout_alike, elements_alike, end_alike}
+use Rattle.ws_screen.proofs.ScreenLaws.{body_fault_alike, pending-elements, pending-end}
+use Rattle.ws_session.proofs.Turns.{DownMark, Stop as StopMark, Reply, TurnAt, sends_text, sends_read, sends_stop}
+use Rattle.ws_session.proofs.Turns.{answers, no_answer}
+use Rattle.ws_session.proofs.Betweens.{Between, Body, Ends, Posted, Replies, Sent, Signal, Stop, Waits, after_posted}
+use Rattle.ws_session.proofs.Betweens.{after_posted_more, closed_end, end_events, fit_alike, fit_more, is_stop}
+use Rattle.ws_session.proofs.Betweens.{mark_left, marks_down, marks_down_more, marks_of, marks_up, marks_up_more}
+use Rattle.ws_session.proofs.Betweens.{opcode_alike, posted_alike, record_of}
 use Rattle.ws_session.proofs.BetweenSteps.{waits_any}
 
 -- What stands between both ends, where a key is pressed, or the host end sends or cancels.
@@ -42,30 +48,37 @@ keyed_alike : (o : Option Edit) (h : History) → Alike (events_by o ++ h) h
 keyed_alike None h = refl
 keyed_alike (Some edit) h = refl
 
-pub pending-keyed : (o : Option Edit) (h : History) (b : Bool) → is_answered o ≡ b → pending_read (events_by o ++ h) ≡ (if b then None else pending_read h)
+pub pending-keyed : (o : Option Edit) (h : History) (b : Bool) → is_answered o ≡ b → pending_read (events_by o ++ h)
+    ≡ (if b then None else pending_read h)
 pending-keyed None h b e = ap (λ (t : Bool). if t then None else pending_read h) e
-pending-keyed (Some edit) h b e = ap (λ (t : Bool). unwrap_or (if t then Some None else None) (pending_read h)) e ∙ by_test b
+pending-keyed (Some edit) h b e = ap (λ (t : Bool). unwrap_or (if t then Some None else None) (pending_read h)) e
+    ∙ by_test b
   where
-    by_test : (t : Bool) → unwrap_or (if t then Some None else None) (pending_read h) ≡ (if t then None else pending_read h)
+    by_test : (t : Bool) → unwrap_or (if t then Some None else None) (pending_read h)
+        ≡ (if t then None else pending_read h)
     by_test true = refl
     by_test false = refl
 
-module _ (t : TerminalType) (ex : Exchange) (s : StationSide) (h : HostSide) (ts us : List Telnet) (ds : List Posted) (es : List Sent) (later : List HostAnswer) (b : Between t ex s h ts us ds es later) where
+module _ (t : TerminalType) (ex : Exchange) (s : StationSide) (h : HostSide) (ts us : List Telnet) (ds : List Posted)
+    (es : List Sent) (later : List HostAnswer) (b : Between t ex s h ts us ds es later) where
   -- a key that leaves what is pending, and sends nothing
-  pub key_silent : (o : Option Edit) → pending_read (events_by o ++ s.happened) ≡ pending_read s.happened → Between t ex (record { options = s.options; happened = events_by o ++ s.happened }) h ts us ds es later
+  pub key_silent : (o : Option Edit) → pending_read (events_by o ++ s.happened) ≡ pending_read s.happened
+      → Between t ex (record { options = s.options; happened = events_by o ++ s.happened }) h ts us ds es later
   key_silent o same = record {
     exchanges = b.exchanges;
     host_ready = b.host_ready;
     station_ready = b.station_ready;
     alike = b.alike ∙ posted_alike s.happened (events_by o ++ s.happened) (sym (keyed_alike o s.happened)) ds;
     fits = fit_alike s.happened (events_by o ++ s.happened) (sym (keyed_alike o s.happened)) ds b.fits;
-    within = same_apart 0 (fields s.happened) (fields (events_by o ++ s.happened)) (layout_alike s.happened (events_by o ++ s.happened) (sym (keyed_alike o s.happened))) b.within;
+    within = same_apart 0 (fields s.happened) (fields (events_by o ++ s.happened))
+        (layout_alike s.happened (events_by o ++ s.happened) (sym (keyed_alike o s.happened))) b.within;
     turn = subst (λ z. TurnAt (pending_read h.kept) h.cancelling z (marks_down ds) (marks_up es)) (sym same) b.turn;
     waits = b.waits;
     closed = b.closed;
   }
 
-  pub key_signal : station_allows_records s.options ≡ true → (flags : ℕ) → Between t ex s h ts us ds (es ++ Signal flags ∷ []) later
+  pub key_signal : station_allows_records s.options ≡ true → (flags : ℕ) → Between t ex s h ts us ds
+      (es ++ Signal flags ∷ []) later
   key_signal allows flags = record {
     exchanges = b.exchanges;
     host_ready = b.host_ready;
@@ -73,110 +86,167 @@ module _ (t : TerminalType) (ex : Exchange) (s : StationSide) (h : HostSide) (ts
     alike = b.alike;
     fits = b.fits;
     within = b.within;
-    turn = subst (TurnAt (pending_read h.kept) h.cancelling (pending_read s.happened) (marks_down ds)) (sym (marks_up_more es (Signal flags) ∙ append-nil (marks_up es))) b.turn;
+    turn = subst (TurnAt (pending_read h.kept) h.cancelling (pending_read s.happened) (marks_down ds))
+        (sym (marks_up_more es (Signal flags) ∙ append-nil (marks_up es))) b.turn;
     waits = more es later b.waits;
     closed = b.closed;
   }
     where
-      more : (es : List Sent) (later : List HostAnswer) → Waits (layouts (fields h.kept)) (pending_read h.kept) es later → Waits (layouts (fields h.kept)) (pending_read h.kept) (es ++ Signal flags ∷ []) later
+      more : (es : List Sent) (later : List HostAnswer) → Waits (layouts (fields h.kept))
+          (pending_read h.kept) es later → Waits (layouts (fields h.kept)) (pending_read h.kept)
+          (es ++ Signal flags ∷ []) later
       more [] later w = w
       more (Replies parts ∷ es) later w = (w.0, w.1, w.2, w.3, w.4, w.5, w.6, w.7, more es w.3 w.8)
       more (Ends ∷ es) later w = more es later w
       more (Signal other ∷ es) later w = more es later w
 
   -- records on their way while a read is pending leave the fields as they are
-  layout_held : (k : History) (ds : List Posted) → (marks_down ds ≡ []) ⊎ (marks_down ds ≡ StopMark ∷ []) → layouts (fields (after_posted k ds)) ≡ layouts (fields k)
+  layout_held : (k : History) (ds : List Posted) → (marks_down ds ≡ []) ⊎ (marks_down ds ≡ StopMark ∷ [])
+      → layouts (fields (after_posted k ds)) ≡ layouts (fields k)
   layout_held k [] n = refl
-  layout_held k (Body o other [] ok ∷ ds) n = layout_held (after_record k (sent_record o [])) ds n ∙ layout_alike (opcode_events o ++ after_end k) (after_end k) (opcode_alike o (after_end k)) ∙ end_events k
-  layout_held k (Body o other (e ∷ body) ok ∷ ds) n = elim n [ inl q ↦ cc | inr q ↦ mark_stop (read_left_by None (e ∷ body)) q ]
+  layout_held k (Body o other [] ok ∷ ds) n = layout_held (after_record k (sent_record o [])) ds n
+      ∙ layout_alike (opcode_events o ++ after_end k) (after_end k) (opcode_alike o (after_end k)) ∙ end_events k
+  layout_held k (Body o other (e ∷ body) ok ∷ ds) n =
+      elim n [ inl q ↦ cc | inr q ↦ mark_stop (read_left_by None (e ∷ body)) q ]
     where
       mark_stop : {A : Type 0} (left : Option ReadKind) → mark_left left ∷ marks_down ds ≡ StopMark ∷ [] → A
       mark_stop None e = cc
       mark_stop (Some kind) e = cc
-  layout_held k (Stop ∷ ds) n = layout_held (after_record k (record_of Stop)) ds (inl (elim n [ inl e ↦ cc | inr e ↦ cc ])) ∙ layout_alike (cancelled ∷ after_end k) (after_end k) refl ∙ end_events k
+  layout_held k (Stop ∷ ds) n = layout_held (after_record k (record_of Stop)) ds
+      (inl (elim n [ inl e ↦ cc | inr e ↦ cc ])) ∙ layout_alike (cancelled ∷ after_end k) (after_end k) refl
+      ∙ end_events k
 
   -- a key that answers the read
-  pub key_answer : (kind : ReadKind) (aid : ℕ) → station_allows_records s.options ≡ true → pending_read s.happened ≡ Some kind
-      → Between t ex (after_key s (Send aid)) h ts us ds (es ++ Replies (answer_parts kind (screen_at s) aid) ∷ []) (later ++ answer_of kind (screen_at s) aid ∷ [])
+  pub key_answer : (kind : ReadKind) (aid : ℕ) → station_allows_records s.options ≡ true → pending_read s.happened
+      ≡ Some kind
+      → Between t ex (after_key s (Send aid)) h ts us ds (es ++ Replies (answer_parts kind (screen_at s) aid) ∷ [])
+      (later ++ answer_of kind (screen_at s) aid ∷ [])
   key_answer kind aid allows is =
       let o : Option Edit = edit_of (screen_at s) (Send aid) in
-      let found = answers (pending_read h.kept) h.cancelling (pending_read s.happened) (marks_down ds) (marks_up es) b.turn kind is in
-      let dropped : pending_read (events_by o ++ s.happened) ≡ None = pending-keyed o s.happened true (aids_answer (screen_at s) (Send aid)) in
+      let found = answers (pending_read h.kept) h.cancelling (pending_read s.happened) (marks_down ds)
+      (marks_up es) b.turn kind is in
+      let dropped : pending_read (events_by o ++ s.happened) ≡ None = pending-keyed o s.happened true
+      (aids_answer (screen_at s) (Send aid)) in
       let reply : Sent = Replies (answer_parts kind (screen_at s) aid) in
-      let places : layouts (fields s.happened) ≡ layouts (fields h.kept) = sym (layout_alike h.kept (after_posted s.happened ds) b.alike ∙ layout_held s.happened ds found.2) in
+      let places : layouts (fields s.happened) ≡ layouts (fields h.kept) = sym
+      (layout_alike h.kept (after_posted s.happened ds) b.alike ∙ layout_held s.happened ds found.2) in
       record {
         exchanges = b.exchanges;
         host_ready = b.host_ready;
         station_ready = inr allows;
         alike = b.alike ∙ posted_alike s.happened (events_by o ++ s.happened) (sym (keyed_alike o s.happened)) ds;
         fits = fit_alike s.happened (events_by o ++ s.happened) (sym (keyed_alike o s.happened)) ds b.fits;
-        within = same_apart 0 (fields s.happened) (fields (events_by o ++ s.happened)) (layout_alike s.happened (events_by o ++ s.happened) (sym (keyed_alike o s.happened))) b.within;
-        turn = subst (TurnAt (pending_read h.kept) h.cancelling (pending_read (events_by o ++ s.happened)) (marks_down ds)) (sym (marks_up_more es reply))
-            (subst (λ z. TurnAt (pending_read h.kept) h.cancelling z (marks_down ds) (marks_up es ++ Reply ∷ [])) (sym dropped) found.0);
+        within = same_apart 0 (fields s.happened) (fields (events_by o ++ s.happened))
+            (layout_alike s.happened (events_by o ++ s.happened) (sym (keyed_alike o s.happened))) b.within;
+        turn = subst (TurnAt (pending_read h.kept) h.cancelling (pending_read (events_by o ++ s.happened))
+            (marks_down ds)) (sym (marks_up_more es reply))
+            (subst (λ z. TurnAt (pending_read h.kept) h.cancelling z (marks_down ds) (marks_up es ++ Reply ∷ []))
+            (sym dropped) found.0);
         waits = more es later found.3 b.waits places found.1;
         closed = b.closed;
       }
     where
-      more : (es : List Sent) (later : List HostAnswer) → marks_up es ≡ [] → Waits (layouts (fields h.kept)) (pending_read h.kept) es later → layouts (fields s.happened) ≡ layouts (fields h.kept) → pending_read h.kept ≡ Some kind
-          → Waits (layouts (fields h.kept)) (pending_read h.kept) (es ++ Replies (answer_parts kind (screen_at s) aid) ∷ []) (later ++ answer_of kind (screen_at s) aid ∷ [])
-      more [] later n w places asked = (kind, fields s.happened, answer_of kind (screen_at s) aid, [], asked, places, own_reading kind (screen_at s) aid (length-map-range_with_len (λ c. cell c s.happened) 0 1920) b.within, ap (λ l. l ++ answer_of kind (screen_at s) aid ∷ []) w, refl)
+      more : (es : List Sent) (later : List HostAnswer) → marks_up es ≡ [] → Waits (layouts (fields h.kept))
+          (pending_read h.kept) es later → layouts (fields s.happened) ≡ layouts (fields h.kept) → pending_read h.kept
+          ≡ Some kind
+          → Waits (layouts (fields h.kept)) (pending_read h.kept)
+          (es ++ Replies (answer_parts kind (screen_at s) aid) ∷ []) (later ++ answer_of kind (screen_at s) aid ∷
+          [])
+      more [] later n w places asked = (
+        kind,
+        fields s.happened,
+        answer_of kind (screen_at s) aid,
+        [],
+        asked,
+        places,
+        own_reading kind (screen_at s) aid (length-map-range_with_len (λ c. cell c s.happened) 0 1920) b.within,
+        ap (λ l. l ++ answer_of kind (screen_at s) aid ∷ []) w,
+        refl,
+      )
       more (Replies parts ∷ es) later n w places asked = cc
       more (Ends ∷ es) later n w places asked = cc
       more (Signal flags ∷ es) later n w places asked = more es later n w places asked
 
   -- SENDS
 
-  fresh : (d : Posted) → body_fault h.kept (record_of d).body ≡ None → body_fault (after_posted s.happened ds) (record_of d).body ≡ None
+  fresh : (d : Posted) → body_fault h.kept (record_of d).body ≡ None → body_fault (after_posted s.happened ds)
+      (record_of d).body ≡ None
   fresh d n = sym (body_fault_alike h.kept (after_posted s.happened ds) b.alike (record_of d).body) ∙ n
 
-  turn_sent : (left asked : Option ReadKind) → asked ≡ None → h.cancelling ≡ false → TurnAt asked h.cancelling (pending_read s.happened) (marks_down ds) (marks_up es)
+  turn_sent : (left asked : Option ReadKind) → asked ≡ None → h.cancelling ≡ false → TurnAt asked h.cancelling
+      (pending_read s.happened) (marks_down ds) (marks_up es)
       → TurnAt left h.cancelling (pending_read s.happened) (marks_down ds ++ mark_left left ∷ []) (marks_up es)
-  turn_sent None asked none going turn = sends_text asked h.cancelling (pending_read s.happened) (marks_down ds) (marks_up es) turn none going
-  turn_sent (Some kind) asked none going turn = sends_read asked h.cancelling (pending_read s.happened) (marks_down ds) (marks_up es) turn kind none going
+  turn_sent None asked none going turn = sends_text asked h.cancelling (pending_read s.happened) (marks_down ds)
+      (marks_up es) turn none going
+  turn_sent (Some kind) asked none going turn = sends_read asked h.cancelling (pending_read s.happened) (marks_down ds)
+      (marks_up es) turn kind none going
 
   idle : (o : Option ReadKind) (c : Bool) → (is_some o || c) ≡ false → (o ≡ None) × (c ≡ false)
   idle None false e = (refl, refl)
   idle None true e = cc
   idle (Some kind) c e = cc
 
-  turn_after : (o : Opcode) (other : is_stop o ≡ false) (body : List Element) (ok : is_body body ≡ true) → is_outstanding h body ≡ false
-      → TurnAt (read_left_by (pending_read h.kept) body) h.cancelling (pending_read s.happened) (marks_down ds ++ marks_of (Body o other body ok)) (marks_up es)
-  turn_after o other [] ok out = subst (λ (z : List DownMark). TurnAt (pending_read h.kept) h.cancelling (pending_read s.happened) z (marks_up es)) (sym (append-nil (marks_down ds))) b.turn
+  turn_after : (o : Opcode) (other : is_stop o ≡ false) (body : List Element) (ok : is_body body ≡ true)
+      → is_outstanding h body ≡ false
+      → TurnAt (read_left_by (pending_read h.kept) body) h.cancelling (pending_read s.happened)
+      (marks_down ds ++ marks_of (Body o other body ok)) (marks_up es)
+  turn_after o other [] ok out = subst (λ (z : List DownMark). TurnAt (pending_read h.kept) h.cancelling
+      (pending_read s.happened) z (marks_up es)) (sym (append-nil (marks_down ds))) b.turn
   turn_after o other (e ∷ body) ok out =
       let i = idle (pending_read h.kept) h.cancelling out in
-      subst (λ (z : Option ReadKind). TurnAt (read_left_by z (e ∷ body)) h.cancelling (pending_read s.happened) (marks_down ds ++ mark_left (read_left_by None (e ∷ body)) ∷ []) (marks_up es)) (sym i.0)
+      subst (λ (z : Option ReadKind). TurnAt (read_left_by z (e ∷ body)) h.cancelling (pending_read s.happened)
+      (marks_down ds ++ mark_left (read_left_by None (e ∷ body)) ∷ []) (marks_up es)) (sym i.0)
       (turn_sent (read_left_by None (e ∷ body)) (pending_read h.kept) i.0 i.1 b.turn)
 
-  waits_after : (body : List Element) → is_outstanding h body ≡ false → Waits (layouts (fields (after_end (after_elements h.kept body)))) (read_left_by (pending_read h.kept) body) es later
+  waits_after : (body : List Element) → is_outstanding h body ≡ false
+      → Waits (layouts (fields (after_end (after_elements h.kept body)))) (read_left_by (pending_read h.kept) body) es
+      later
   waits_after [] out = subst (λ z. Waits z (pending_read h.kept) es later) (sym (end_events h.kept)) b.waits
   waits_after (e ∷ body) out =
       let i = idle (pending_read h.kept) h.cancelling out in
-      waits_any (layouts (fields h.kept)) (layouts (fields (after_end (after_elements h.kept (e ∷ body))))) (pending_read h.kept) (read_left_by (pending_read h.kept) (e ∷ body)) es later
-      (no_answer (pending_read h.kept) h.cancelling (pending_read s.happened) (marks_down ds) (marks_up es) b.turn i.0) b.waits
+      waits_any (layouts (fields h.kept)) (layouts (fields (after_end (after_elements h.kept (e ∷ body)))))
+      (pending_read h.kept) (read_left_by (pending_read h.kept) (e ∷ body)) es later
+      (no_answer (pending_read h.kept) h.cancelling (pending_read s.happened) (marks_down ds) (marks_up es) b.turn i.0)
+      b.waits
 
   -- a body
-  pub sends_body : (o : Opcode) (other : is_stop o ≡ false) (body : List Element) (ok : is_body body ≡ true) → host_allows_records h.options ≡ true → is_outstanding h body ≡ false → body_fault h.kept body ≡ None
-      → Between t ex s (record { options = h.options; kept = after_end (after_elements h.kept body); cancelling = h.cancelling }) ts us (ds ++ Body o other body ok ∷ []) es later
+  pub sends_body : (o : Opcode) (other : is_stop o ≡ false) (body : List Element) (ok : is_body body ≡ true)
+      → host_allows_records h.options ≡ true → is_outstanding h body ≡ false → body_fault h.kept body ≡ None
+      → Between t ex s (record {
+        options = h.options;
+        kept = after_end (after_elements h.kept body);
+        cancelling =
+            h.cancelling;
+      }) ts us (ds ++ Body o other body ok ∷ []) es later
   sends_body o other body ok ready out none =
       let all : History = after_posted s.happened ds in
       let kept : History = after_end (after_elements h.kept body) in
-      let left : pending_read kept ≡ read_left_by (pending_read h.kept) body = pending-end (after_elements h.kept body) ∙ pending-elements h.kept body in
+      let left : pending_read kept ≡ read_left_by (pending_read h.kept) body = pending-end (after_elements h.kept body)
+      ∙ pending-elements h.kept body in
       record {
         exchanges = b.exchanges;
         host_ready = inr ready;
         station_ready = b.station_ready;
-        alike = end_alike (after_elements h.kept body) (after_elements all body) (elements_alike h.kept all b.alike body) ∙ sym (opcode_alike o (after_end (after_elements all body))) ∙ ap by_host (sym (after_posted_more s.happened ds (Body o other body ok)));
+        alike = end_alike (after_elements h.kept body) (after_elements all body)
+            (elements_alike h.kept all b.alike body) ∙ sym (opcode_alike o (after_end (after_elements all body)))
+            ∙ ap by_host (sym (after_posted_more s.happened ds (Body o other body ok)));
         fits = fit_more s.happened ds (Body o other body ok) b.fits (fresh (Body o other body ok) none);
         within = b.within;
-        turn = subst (λ (z : List DownMark). TurnAt (pending_read kept) h.cancelling (pending_read s.happened) z (marks_up es)) (sym (marks_down_more ds (Body o other body ok)))
-            (subst (λ (z : Option ReadKind). TurnAt z h.cancelling (pending_read s.happened) (marks_down ds ++ marks_of (Body o other body ok)) (marks_up es)) (sym left) (turn_after o other body ok out));
-        waits = subst (λ (z : Option ReadKind). Waits (layouts (fields kept)) z es later) (sym left) (waits_after body out);
+        turn = subst (λ (z : List DownMark). TurnAt (pending_read kept) h.cancelling (pending_read s.happened) z
+            (marks_up es)) (sym (marks_down_more ds (Body o other body ok)))
+            (subst (λ (z : Option ReadKind). TurnAt z h.cancelling (pending_read s.happened)
+            (marks_down ds ++ marks_of (Body o other body ok)) (marks_up es)) (sym left)
+            (turn_after o other body ok out));
+        waits = subst (λ (z : Option ReadKind). Waits (layouts (fields kept)) z es later) (sym left)
+            (waits_after body out);
         closed = closed_end (after_elements h.kept body);
       }
 
   -- a cancel
-  pub sends_cancel : (kind : ReadKind) → host_allows_records h.options ≡ true → pending_read h.kept ≡ Some kind → h.cancelling ≡ false
-      → Between t ex s (record { options = h.options; kept = h.kept; cancelling = true }) ts us (ds ++ Stop ∷ []) es later
+  pub sends_cancel : (kind : ReadKind) → host_allows_records h.options ≡ true → pending_read h.kept ≡ Some kind
+      → h.cancelling ≡ false
+      → Between t ex s (record { options = h.options; kept = h.kept; cancelling = true }) ts us
+      (ds ++ Stop ∷ []) es later
   sends_cancel kind ready is going =
       let all : History = after_posted s.happened ds in
       let shut : open_write all ≡ None = sym (open_write_alike h.kept all b.alike) ∙ b.closed in
@@ -188,8 +258,10 @@ module _ (t : TerminalType) (ex : Exchange) (s : StationSide) (h : HostSide) (ts
         alike = b.alike ∙ same ∙ ap by_host (sym (after_posted_more s.happened ds Stop));
         fits = fit_more s.happened ds Stop b.fits refl;
         within = b.within;
-        turn = subst (λ (z : List DownMark). TurnAt (pending_read h.kept) true (pending_read s.happened) z (marks_up es)) (sym (marks_down_more ds Stop))
-            (sends_stop (pending_read h.kept) h.cancelling (pending_read s.happened) (marks_down ds) (marks_up es) b.turn kind is going);
+        turn = subst (λ (z : List DownMark). TurnAt (pending_read h.kept) true (pending_read s.happened) z
+            (marks_up es)) (sym (marks_down_more ds Stop))
+            (sends_stop (pending_read h.kept) h.cancelling (pending_read s.happened) (marks_down ds)
+            (marks_up es) b.turn kind is going);
         waits = b.waits;
         closed = b.closed;
       }

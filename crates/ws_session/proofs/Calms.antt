@@ -1,5 +1,6 @@
 use Rattle.std.specs.Prelude.{if◌then◌else◌, nat_lt}
-use Rattle.std.proofs.Common.{◌≡◌, ℕ, zero, suc, ◌+◌, List, [], ◌∷◌, ◌++◌, Bool, true, false, Option, Some, None, length, refl, ap}
+use Rattle.std.proofs.Common.{◌≡◌, ℕ, zero, suc, ◌+◌, List, [], ◌∷◌, ◌++◌, Bool, true, false, Option, Some, None}
+use Rattle.std.proofs.Common.{length, refl, ap}
 use Rattle.ws_nego.specs.declared.terminal.TerminalType.{TerminalType}
 use Rattle.ws_record.specs.Arrived.{ending_at}
 use Rattle.ws_record.specs.declared.record.Item.{Item}
@@ -17,8 +18,11 @@ use Rattle.ws_session.specs.declared.world.Move.TheVariants.{Send, Cancel, ToSta
 use Rattle.ws_session.specs.HostSide.{HostSide, HostOutput, host_takes, SendReaction, RefusesSend, Sends, host_cancel}
 use Rattle.ws_session.specs.Reaction.{Reaction, Refuses, GoesOn}
 use Rattle.ws_session.specs.Refusals.{is_refusal, refusals_in}
-use Rattle.ws_session.specs.StationSide.{StationSide, station_takes, KeyReaction, RefusesKey, Silent, Answers, Signals, station_key}
-use Rattle.ws_session.specs.World.{World, new_world, down_bytes, up_bytes, station_did, station_gets, events_with, host_did, host_gets, byte_to_station, byte_to_host, bytes_to_station, bytes_to_host, station_pressed, host_sent, host_sends, after_move, after_moves}
+use Rattle.ws_session.specs.StationSide.{StationSide, station_takes, KeyReaction, RefusesKey, Silent, Answers, Signals}
+use Rattle.ws_session.specs.StationSide.{station_key}
+use Rattle.ws_session.specs.World.{World, new_world, down_bytes, up_bytes, station_did, station_gets, events_with}
+use Rattle.ws_session.specs.World.{host_did, host_gets, byte_to_station, byte_to_host, bytes_to_station, bytes_to_host}
+use Rattle.ws_session.specs.World.{station_pressed, host_sent, host_sends, after_move, after_moves}
 use Rattle.ws_session.proofs.Worlds.{sound}
 
 -- While no end has refused, no refusal has been told.
@@ -26,16 +30,19 @@ use Rattle.ws_session.proofs.Worlds.{sound}
 abbrev IsCalm : World → Type 0
 IsCalm w = w.station_refused ≡ false → w.host_refused ≡ false → refusals_in w.events ≡ []
 
-one_more : (events : List Event) (e : Event) → is_refusal e ≡ false → refusals_in events ≡ [] → refusals_in (events ++ e ∷ []) ≡ []
+one_more : (events : List Event) (e : Event) → is_refusal e ≡ false → refusals_in events ≡ []
+    → refusals_in (events ++ e ∷ []) ≡ []
 one_more [] e calm none = ap (λ (b : Bool). if b then e ∷ [] else []) calm
 one_more (x ∷ xs) e calm none = by_test (is_refusal x) none (λ q. one_more xs e calm q)
   where
-    by_test : (b : Bool) → (if b then x ∷ refusals_in xs else refusals_in xs) ≡ [] → (refusals_in xs ≡ [] → refusals_in (xs ++ e ∷ []) ≡ [])
+    by_test : (b : Bool) → (if b then x ∷ refusals_in xs else refusals_in xs) ≡ []
+        → (refusals_in xs ≡ [] → refusals_in (xs ++ e ∷ []) ≡ [])
         → (if b then x ∷ refusals_in (xs ++ e ∷ []) else refusals_in (xs ++ e ∷ [])) ≡ []
     by_test true q rest = cc
     by_test false q rest = rest q
 
-tells : (events : List Event) (event : Option HostEvent) → refusals_in events ≡ [] → refusals_in (events_with events event) ≡ []
+tells : (events : List Event) (event : Option HostEvent) → refusals_in events ≡ []
+    → refusals_in (events_with events event) ≡ []
 tells events None none = none
 tells events (Some event) none = one_more events (Host event) refl none
 
@@ -60,15 +67,20 @@ host_byte w false (Some item) calm = host_item w (host_takes w.host item) calm
 byte_down : (w : World) → IsCalm w → IsCalm (byte_to_station w)
 byte_down w calm = by_test (nat_lt w.at_station (length (down_bytes w)))
   where
-    by_test : (b : Bool) → IsCalm (if b then station_gets (record w { at_station = w.at_station + 1 }) w.station_refused (ending_at element_rules w.down (w.at_station + 1)) else w)
-    by_test true = station_byte (record w { at_station = w.at_station + 1 }) w.station_refused (ending_at element_rules w.down (w.at_station + 1)) calm
+    by_test : (b : Bool) → IsCalm
+        (if b then station_gets (record w { at_station = w.at_station + 1 }) w.station_refused
+        (ending_at element_rules w.down (w.at_station + 1)) else w)
+    by_test true = station_byte (record w { at_station = w.at_station + 1 }) w.station_refused
+        (ending_at element_rules w.down (w.at_station + 1)) calm
     by_test false = calm
 
 byte_up : (w : World) → IsCalm w → IsCalm (byte_to_host w)
 byte_up w calm = by_test (nat_lt w.at_host (length (up_bytes w)))
   where
-    by_test : (b : Bool) → IsCalm (if b then host_gets (record w { at_host = w.at_host + 1 }) w.host_refused (ending_at answer_rules w.up (w.at_host + 1)) else w)
-    by_test true = host_byte (record w { at_host = w.at_host + 1 }) w.host_refused (ending_at answer_rules w.up (w.at_host + 1)) calm
+    by_test : (b : Bool) → IsCalm (if b then host_gets (record w { at_host = w.at_host + 1 }) w.host_refused
+        (ending_at answer_rules w.up (w.at_host + 1)) else w)
+    by_test true = host_byte (record w { at_host = w.at_host + 1 }) w.host_refused
+        (ending_at answer_rules w.up (w.at_host + 1)) calm
     by_test false = calm
 
 bytes_down : (n : ℕ) (w : World) → IsCalm w → IsCalm (bytes_to_station n w)
@@ -90,7 +102,8 @@ sent w (RefusesSend fault) calm = λ p q. one_more w.events (SendRefused fault) 
 sent w (Sends host item) calm = calm
 
 move : (w : World) (m : Move) → IsCalm w → IsCalm (after_move w m)
-move w (Send opcode body) calm = sent w (if w.host_refused then RefusesSend SendFailed else host_sends w.host opcode body) calm
+move w (Send opcode body) calm =
+    sent w (if w.host_refused then RefusesSend SendFailed else host_sends w.host opcode body) calm
 move w Cancel calm = sent w (if w.host_refused then RefusesSend SendFailed else host_cancel w.host) calm
 move w (ToStation n) calm = bytes_down n w calm
 move w (ToHost n) calm = bytes_up n w calm

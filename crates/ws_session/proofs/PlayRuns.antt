@@ -1,5 +1,6 @@
 use Rattle.std.specs.Prelude.{IfOk, IfErr}
-use Rattle.std.proofs.Common.{◌≡◌, ◌≢◌, ℕ, ◌+◌, ◌*◌, ◌<◌, ◌≤◌, ◌^◌, inl, inr, List, [], ◌++◌, Some, None, Result, Ok, Err, length, drop, refl, ap, ◌∙◌, sym, subst, arith, length-append}
+use Rattle.std.proofs.Common.{◌≡◌, ◌≢◌, ℕ, ◌+◌, ◌*◌, ◌<◌, ◌≤◌, ◌^◌, inl, inr, List, [], ◌++◌, Some, None, Result, Ok}
+use Rattle.std.proofs.Common.{Err, length, drop, refl, ap, ◌∙◌, sym, subst, arith, length-append}
 use Rattle.ws_code.specs.declared.fault.Fault.{Fault}
 use Rattle.ws_code.specs.declared.fault.Fault.TheVariants.{Refused, Truncated, Memory, Read, Write, Failed}
 use Rattle.ws_code.specs.Device.{MayTake, MayGive, Gave, FailedWithin, one_more, most_reads}
@@ -25,20 +26,23 @@ use Rattle.ws_session.proofs.PlaySteps.{keys_taken}
 -- What the reads of a run make of its player.
 
 -- what the loop over a source keeps: the bytes that it gave have brought the player here, and are at most 4,096 a read
-pub record Reading {R S : Type 0} (gives : MayGive R) (misses : R → ℕ) (source now : R) (reads : ℕ) (takes : MayTake S) (failures : S → ℕ) (t : TerminalType) (keys : List (ℕ × Key)) (sink here : S) (player : Player) : Type 0 where
+pub record Reading {R S : Type 0} (gives : MayGive R) (misses : R → ℕ) (source now : R) (reads : ℕ) (takes : MayTake S)
+    (failures : S → ℕ) (t : TerminalType) (keys : List (ℕ × Key)) (sink here : S) (player : Player) : Type 0 where
   pub bytes : List ℕ
   pub items : List (Item Element)
   pub gave : Gave gives misses source now reads bytes
   pub come : HasCome takes failures t keys sink player here bytes items
   pub few : length bytes ≤ 4096 * reads
 
-module _ {R S : Type 0} (gives : MayGive R) (misses : R → ℕ) (takes : MayTake S) (failures : S → ℕ) (t : TerminalType) (keys : List (ℕ × Key)) where
+module _ {R S : Type 0} (gives : MayGive R) (misses : R → ℕ) (takes : MayTake S) (failures : S → ℕ) (t : TerminalType)
+    (keys : List (ℕ × Key)) where
   gave_none : (s : R) → Gave gives misses s s 0 []
   gave_none s = record { reads = []; made = refl; counted = refl; within = omega arith; gave = refl; uncounted = refl }
 
   -- before the first read the keys are pressed that wait for no record
   pub run_starts : (station : StationParts) (source : R) (sink here : S) (player : Player)
-      → HasDone takes failures [] [] (record { station = station; records = 0; pressed = 0; keys_refused = 0 }) player sink here (outcome (new_station_side t) (due 0 keys))
+      → HasDone takes failures [] [] (record { station = station; records = 0; pressed = 0; keys_refused = 0 }) player
+      sink here (outcome (new_station_side t) (due 0 keys))
       → drop player.pressed keys ≡ later 0 keys
       → Reading gives misses source source 0 takes failures t keys sink here player
   run_starts station source sink here player done left = record {
@@ -47,7 +51,8 @@ module _ {R S : Type 0} (gives : MayGive R) (misses : R → ℕ) (takes : MayTak
     gave = gave_none source;
     come = record {
       is_behind = record { leads = done.leads; taken = keys_taken (new_station_side t) 0 keys };
-      refused = done.refused 0 refl ∙ ap refusal_count (let e : 0 + (outcome (new_station_side t) (due 0 keys)).refused ≡ (outcome (new_station_side t) (due 0 keys)).refused = omega arith in e);
+      refused = done.refused 0 refl ∙ ap refusal_count (let e : 0 + (outcome (new_station_side t) (due 0 keys)).refused
+          ≡ (outcome (new_station_side t) (due 0 keys)).refused = omega arith in e);
       records = done.records;
       left = left;
       few = omega (arith, done.records);
@@ -56,8 +61,10 @@ module _ {R S : Type 0} (gives : MayGive R) (misses : R → ℕ) (takes : MayTak
     few = omega arith;
   }
 
-  pub start_fails : (station : StationParts) (source : R) (sink here : S) → StationLeads station [] [] (new_station_side t)
-      → FailedWithin takes failures sink here (text_of (outcome (new_station_side t) (due 0 keys)).written) → IsRun t keys gives misses source source takes failures sink here (Err Write)
+  pub start_fails : (station : StationParts) (source : R) (sink here : S) → StationLeads station [] []
+      (new_station_side t)
+      → FailedWithin takes failures sink here (text_of (outcome (new_station_side t) (due 0 keys)).written)
+      → IsRun t keys gives misses source source takes failures sink here (Err Write)
   start_fails station source sink here l failed = record {
     bytes = [];
     reads = 0;
@@ -75,24 +82,37 @@ module _ {R S : Type 0} (gives : MayGive R) (misses : R → ℕ) (takes : MayTak
     };
   }
 
-  module _ (source now : R) (reads : ℕ) (sink here : S) (player : Player) (r : Reading gives misses source now reads takes failures t keys sink here player) (one_left : reads < most_reads) where
+  module _ (source now : R) (reads : ℕ) (sink here : S) (player : Player)
+      (r : Reading gives misses source now reads takes failures t keys sink here player)
+      (one_left : reads < most_reads) where
     -- the source's end
-    pub run_ends : (now' : R) (room : ℕ) (result : Result Played Fault) → 0 < room → gives now room (Some []) now' → misses now' ≡ misses now
-        → IfOk result (λ played. (played.station ≡ player.station) × (played.keys_refused ≡ player.keys_refused) × ((bytes : List ℕ) (items : List (Item Element)) (side : StationSide) → StationLeads player.station bytes items side → IsInGrammar element_rules bytes items))
-        → IfErr result (λ fault. (bytes : List ℕ) (items : List (Item Element)) (side : StationSide) → StationLeads player.station bytes items side → length bytes + 1 < 2 ^ 64 → (fault ≡ Truncated (length bytes)) × IsTruncated {Place = Place} {U = Element} element_rules bytes)
+    pub run_ends : (now' : R) (room : ℕ) (result : Result Played Fault) → 0 < room → gives now room (Some []) now'
+        → misses now' ≡ misses now
+        → IfOk result (λ played. (played.station ≡ player.station) × (played.keys_refused ≡ player.keys_refused)
+        × ((bytes : List ℕ) (items : List (Item Element)) (side : StationSide)
+        → StationLeads player.station bytes items side → IsInGrammar element_rules bytes items))
+        → IfErr result (λ fault. (bytes : List ℕ) (items : List (Item Element)) (side : StationSide)
+        → StationLeads player.station bytes items side → length bytes + 1 < 2 ^ 64
+        → (fault ≡ Truncated (length bytes)) × IsTruncated {Place = Place} {U = Element} element_rules bytes)
         → IsRun t keys gives misses source now' takes failures sink here result
     run_ends now' room (Ok played) h made same ok err = record {
       bytes = r.bytes;
       items = r.items;
       gave = gave_all gives misses source now now' reads r.bytes room r.gave one_left h made same;
       accepted = ok.2 r.bytes r.items (behind t keys r.items).side r.come.is_behind.leads;
-      is_behind = record { leads = subst (λ (z : StationParts). StationLeads z r.bytes r.items (behind t keys r.items).side) (sym ok.0) r.come.is_behind.leads; taken = r.come.is_behind.taken };
+      is_behind = record {
+        leads = subst (λ (z : StationParts). StationLeads z r.bytes r.items
+            (behind t keys r.items).side) (sym ok.0) r.come.is_behind.leads;
+        taken = r.come.is_behind.taken;
+      };
       refused = ok.1 ∙ r.come.refused;
       wrote = r.come.wrote;
     }
     run_ends now' room (Err fault) h made same ok err =
-        let e = err r.bytes r.items (behind t keys r.items).side r.come.is_behind.leads (omega (arith, r.few, one_left)) in
-        subst (λ (z : Fault). IsRun t keys gives misses source now' takes failures sink here (Err z)) (sym e.0) (record {
+        let e = err r.bytes r.items (behind t keys r.items).side r.come.is_behind.leads
+        (omega (arith, r.few, one_left)) in
+        subst (λ (z : Fault). IsRun t keys gives misses source now' takes failures sink here (Err z)) (sym e.0)
+        (record {
           bytes = r.bytes;
           items = r.items;
           station = player.station;
@@ -104,25 +124,37 @@ module _ {R S : Type 0} (gives : MayGive R) (misses : R → ℕ) (takes : MayTak
         })
 
     -- a read that failed
-    pub run_unread : (now' : R) (room : ℕ) → gives now room None now' → misses now' ≡ one_more (misses now) → IsRun t keys gives misses source now' takes failures sink here (Err Read)
+    pub run_unread : (now' : R) (room : ℕ) → gives now room None now' → misses now' ≡ one_more (misses now)
+        → IsRun t keys gives misses source now' takes failures sink here (Err Read)
     run_unread now' room made counted = record {
       bytes = r.bytes;
       items = r.items;
       station = player.station;
-      failed = inl (record { before = now; count = reads; gave = r.gave; one_left = one_left; room = room; last = made; counted = counted ∙ ap one_more r.gave.uncounted });
+      failed = inl (record {
+        before = now;
+        count = reads;
+        gave = r.gave;
+        one_left = one_left;
+        room = room;
+        last = made;
+        counted = counted ∙ ap one_more r.gave.uncounted;
+      });
       is_behind = r.come.is_behind;
       wrote = r.come.wrote;
     }
 
-    module _ (now' : R) (room : ℕ) (given : List ℕ) (made : gives now room (Some given) now') (some : given ≢ []) (same : misses now' ≡ misses now) (small : length given ≤ 4096) where
+    module _ (now' : R) (room : ℕ) (given : List ℕ) (made : gives now room (Some given) now') (some : given ≢ [])
+        (same : misses now' ≡ misses now) (small : length given ≤ 4096) where
       gave_next : Gave gives misses source now' (reads + 1) (r.bytes ++ given)
       gave_next = gave_more gives misses source now now' reads r.bytes room given r.gave one_left made some same
 
-      pub fits : length r.bytes + length given < 2 ^ 64
+      pub fits : length r.bytes + length given + 1 < 2 ^ 64
       fits = omega (arith, r.few, one_left, small)
 
       -- a piece that is taken
-      pub reads_on : (next : Player) (to : S) → ((items : List (Item Element)) × HasCome takes failures t keys sink next to (r.bytes ++ given) items) → Reading gives misses source now' (reads + 1) takes failures t keys sink to next
+      pub reads_on : (next : Player) (to : S) → ((items : List (Item Element))
+          × HasCome takes failures t keys sink next to (r.bytes ++ given) items) → Reading gives misses source now'
+          (reads + 1) takes failures t keys sink to next
       reads_on next to come = record {
         bytes = r.bytes ++ given;
         items = come.0;
@@ -132,7 +164,8 @@ module _ {R S : Type 0} (gives : MayGive R) (misses : R → ℕ) (takes : MayTak
       }
 
       -- and one that isn't
-      pub run_stops : (to : S) (fault : Fault) → IsRunFault t keys takes failures sink to (length r.bytes) (r.bytes ++ given) fault → IsRun t keys gives misses source now' takes failures sink to (Err fault)
+      pub run_stops : (to : S) (fault : Fault) → IsRunFault t keys takes failures sink to (length r.bytes)
+          (r.bytes ++ given) fault → IsRun t keys gives misses source now' takes failures sink to (Err fault)
       run_stops to (Refused place reason) f = record {
         first = r.bytes;
         last = given;
@@ -152,7 +185,9 @@ module _ {R S : Type 0} (gives : MayGive R) (misses : R → ℕ) (takes : MayTak
       run_stops to Failed f = absurd f
 
 -- so many reads that the end wasn't reached
-pub run_endless : {R S : Type 0} (gives : MayGive R) (misses : R → ℕ) (takes : MayTake S) (failures : S → ℕ) (t : TerminalType) (keys : List (ℕ × Key)) (source now : R) (reads : ℕ) (sink here : S) (player : Player) → Reading gives misses source now reads takes failures t keys sink here player
+pub run_endless : {R S : Type 0} (gives : MayGive R) (misses : R → ℕ) (takes : MayTake S) (failures : S → ℕ)
+    (t : TerminalType) (keys : List (ℕ × Key)) (source now : R) (reads : ℕ) (sink here : S) (player : Player)
+    → Reading gives misses source now reads takes failures t keys sink here player
     → reads ≡ most_reads → IsRun t keys gives misses source now takes failures sink here (Err Read)
 run_endless gives misses takes failures t keys source now reads sink here player r is = record {
   bytes = r.bytes;

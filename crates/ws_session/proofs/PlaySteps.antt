@@ -1,5 +1,7 @@
 use Rattle.std.specs.Prelude.{nat_lt, if◌then◌else◌}
-use Rattle.std.proofs.Common.{◌≡◌, ℕ, ◌+◌, ◌-◌, ◌<◌, ◌≤◌, ◌^◌, min, inl, inr, Bool, true, false, List, [], ◌∷◌, ◌++◌, Ok, Err, length, take, drop, get_or, refl, ap, ◌∙◌, sym, subst, arith, append_assoc, length-append, take-append-drop}
+use Rattle.std.proofs.Common.{◌≡◌, ℕ, ◌+◌, ◌-◌, ◌<◌, ◌≤◌, ◌^◌, min, inl, inr, Bool, true, false, List, [], ◌∷◌, ◌++◌}
+use Rattle.std.proofs.Common.{Ok, Err, length, take, drop, get_or, refl, ap, ◌∙◌, sym, subst, arith, append_assoc}
+use Rattle.std.proofs.Common.{length-append, take-append-drop}
 use Rattle.std.proofs.lemmas.List.{append-nil, take_more}
 use Rattle.ws_code.specs.declared.fault.Fault.{Fault}
 use Rattle.ws_code.specs.declared.fault.Fault.TheVariants.{Refused, Truncated, Memory, Read, Write, Failed}
@@ -14,7 +16,9 @@ use Rattle.ws_keys.specs.declared.key.Key.{Key}
 use Rattle.ws_session.specs.declared.player.Player.{Player}
 use Rattle.ws_session.specs.declared.refusal.Refusal.TheVariants.{At}
 use Rattle.ws_session.specs.declared.station.StationStep.{StationStep}
-use Rattle.ws_session.specs.Moments.{Moment, Arrives, Presses, Outcome, idle_outcome, outcome_of_both, at_item, at_moment, outcome, goes_on, AreTaken, due, later, one_record, moments_from, moments}
+use Rattle.ws_session.specs.Moments.{Moment, Arrives, Presses, Outcome, idle_outcome, outcome_of_both, at_item}
+use Rattle.ws_session.specs.Moments.{at_moment, outcome, goes_on, AreTaken, due, later, one_record, moments_from}
+use Rattle.ws_session.specs.Moments.{moments}
 use Rattle.ws_session.specs.Playing.{HasDone, HasCome, records_from, keys_left_from}
 use Rattle.ws_session.specs.StationLeads.{StationParts, StationLeads, IsInside, IsTaken, IsStepped, is_record}
 use Rattle.ws_session.specs.StationRun.{refusal_count, behind, run_text, RunRefuses, RunUnwritten, IsRunFault}
@@ -26,17 +30,22 @@ use Rattle.ws_session.proofs.Plays.{text_of, text_append, outcome_append, none_d
 -- ---- the moments of one item more
 
 moments_more : (n : ℕ) (keys : List (ℕ × Key)) (items : List (Item Element)) (item : Item Element)
-    → moments_from n keys (items ++ item ∷ []) ≡ moments_from n keys items ++ Arrives item ∷ due (records_from n items + one_record item) (keys_left_from n keys items)
+    → moments_from n keys (items ++ item ∷ []) ≡ moments_from n keys items ++ Arrives item ∷ due
+    (records_from n items + one_record item) (keys_left_from n keys items)
 moments_more n keys [] item = refl
 moments_more n keys (i ∷ items) item =
     ap (λ z. due n keys ++ Arrives i ∷ z) (moments_more (n + one_record i) (later n keys) items item)
-    ∙ sym (append_assoc (due n keys) (Arrives i ∷ moments_from (n + one_record i) (later n keys) items) (Arrives item ∷ due (records_from (n + one_record i) items + one_record item) (keys_left_from (n + one_record i) (later n keys) items)))
+    ∙ sym (append_assoc (due n keys) (Arrives i ∷ moments_from (n + one_record i) (later n keys) items)
+    (Arrives item ∷ due (records_from (n + one_record i) items + one_record item)
+    (keys_left_from (n + one_record i) (later n keys) items)))
 
-left_more : (n : ℕ) (keys : List (ℕ × Key)) (items : List (Item Element)) (item : Item Element) → keys_left_from n keys (items ++ item ∷ []) ≡ later (records_from n items + one_record item) (keys_left_from n keys items)
+left_more : (n : ℕ) (keys : List (ℕ × Key)) (items : List (Item Element)) (item : Item Element) → keys_left_from n keys
+    (items ++ item ∷ []) ≡ later (records_from n items + one_record item) (keys_left_from n keys items)
 left_more n keys [] item = refl
 left_more n keys (i ∷ items) item = left_more (n + one_record i) (later n keys) items item
 
-records_more : (n : ℕ) (items : List (Item Element)) (item : Item Element) → records_from n (items ++ item ∷ []) ≡ records_from n items + one_record item
+records_more : (n : ℕ) (items : List (Item Element)) (item : Item Element) → records_from n (items ++ item ∷ [])
+    ≡ records_from n items + one_record item
 records_more n [] item = refl
 records_more n (i ∷ items) item = records_more (n + one_record i) items item
 
@@ -44,16 +53,20 @@ due_later : (n : ℕ) (keys : List (ℕ × Key)) → (due n (later n keys) ≡ [
 due_later n [] = (refl, refl)
 due_later n (k ∷ ks) = by_test (nat_lt n k.0) refl (due_later n ks)
   where
-    by_test : (b : Bool) → nat_lt n k.0 ≡ b → (due n (later n ks) ≡ []) × (later n (later n ks) ≡ later n ks) → (due n (later n (k ∷ ks)) ≡ []) × (later n (later n (k ∷ ks)) ≡ later n (k ∷ ks))
+    by_test : (b : Bool) → nat_lt n k.0 ≡ b → (due n (later n ks) ≡ []) × (later n (later n ks) ≡ later n ks)
+        → (due n (later n (k ∷ ks)) ≡ []) × (later n (later n (k ∷ ks)) ≡ later n (k ∷ ks))
     by_test true e next = let q = none_due n k ks e in (ap (due n) q.1 ∙ q.0, ap (later n) q.1)
     by_test false e next = let q = later_by n k ks e in (ap (due n) q ∙ next.0, ap (later n) q ∙ next.1 ∙ sym q)
 
 -- behind items no key is due
-pub left_settled : (n : ℕ) (keys : List (ℕ × Key)) (items : List (Item Element)) → (due (records_from n items) (keys_left_from n keys items) ≡ []) × (later (records_from n items) (keys_left_from n keys items) ≡ keys_left_from n keys items)
+pub left_settled : (n : ℕ) (keys : List (ℕ × Key)) (items : List (Item Element))
+    → (due (records_from n items) (keys_left_from n keys items) ≡ [])
+    × (later (records_from n items) (keys_left_from n keys items) ≡ keys_left_from n keys items)
 left_settled n keys [] = due_later n keys
 left_settled n keys (i ∷ items) = left_settled (n + one_record i) (later n keys) items
 
-taken_append : (s : StationSide) (ms ns : List Moment) → AreTaken s ms → AreTaken (outcome s ms).side ns → AreTaken s (ms ++ ns)
+taken_append : (s : StationSide) (ms ns : List Moment) → AreTaken s ms → AreTaken (outcome s ms).side ns
+    → AreTaken s (ms ++ ns)
 taken_append s [] ns a b = b
 taken_append s (m ∷ ms) ns a b = (a.0, taken_append (at_moment s m).side ms ns a.1 b)
 
@@ -61,7 +74,8 @@ pub keys_taken : (s : StationSide) (n : ℕ) (ks : List (ℕ × Key)) → AreTak
 keys_taken s n [] = tt
 keys_taken s n (k ∷ ks) = by_test (nat_lt n k.0) (keys_taken (at_moment s (Presses k.1)).side n ks)
   where
-    by_test : (b : Bool) → AreTaken (at_moment s (Presses k.1)).side (due n ks) → AreTaken s (if b then [] else Presses k.1 ∷ due n ks)
+    by_test : (b : Bool) → AreTaken (at_moment s (Presses k.1)).side (due n ks)
+        → AreTaken s (if b then [] else Presses k.1 ∷ due n ks)
     by_test true rest = tt
     by_test false rest = (refl, rest)
 
@@ -73,7 +87,8 @@ one_of_record : (item : Item Element) → is_record item ≡ true → one_record
 one_of_record (RecordItem r) e = refl
 one_of_record (TelnetItem token) e = cc
 
-module _ {S : Type 0} (takes : MayTake S) (failures : S → ℕ) (t : TerminalType) (keys : List (ℕ × Key)) (start now : S) (old : Player) (before : StationParts) (bytes : List ℕ) (items : List (Item Element)) (byte : ℕ)
+module _ {S : Type 0} (takes : MayTake S) (failures : S → ℕ) (t : TerminalType) (keys : List (ℕ × Key)) (start now : S)
+    (old : Player) (before : StationParts) (bytes : List ℕ) (items : List (Item Element)) (byte : ℕ)
     (c : HasCome takes failures t keys start (record old { station = before }) now bytes items) where
   abbrev so_far : Outcome
   so_far = behind t keys items
@@ -82,14 +97,17 @@ module _ {S : Type 0} (takes : MayTake S) (failures : S → ℕ) (t : TerminalTy
   longer = bytes ++ byte ∷ []
 
   -- no item is complete
-  inside_comes : (reply : List ℕ) (to : S) → IsInside before old.station bytes items so_far.side byte reply → WentOut takes failures now to reply → HasCome takes failures t keys start old to longer items
+  inside_comes : (reply : List ℕ) (to : S) → IsInside before old.station bytes items so_far.side byte reply
+      → WentOut takes failures now to reply → HasCome takes failures t keys start old to longer items
   inside_comes reply to i went = record {
     is_behind = record { leads = i.leads; taken = c.is_behind.taken };
     refused = c.refused;
     records = c.records;
     left = c.left;
     few = omega (arith, c.few, length-append bytes (byte ∷ []));
-    wrote = subst (WentOut takes failures start to) (ap (λ z. run_text t keys items ++ z) i.silent ∙ append-nil (run_text t keys items)) (went_out_both takes failures start now to (run_text t keys items) reply c.wrote went);
+    wrote = subst (WentOut takes failures start to) (ap (λ z. run_text t keys items ++ z) i.silent
+        ∙ append-nil (run_text t keys items)) (went_out_both takes failures start now to
+        (run_text t keys items) reply c.wrote went);
   }
 
   module _ (reply : List ℕ) (taken : IsTaken old.station bytes items so_far.side byte reply) where
@@ -107,34 +125,54 @@ module _ {S : Type 0} (takes : MayTake S) (failures : S → ℕ) (t : TerminalTy
 
     one_more : behind t keys more ≡ outcome_of_both so_far (outcome_of_both did keyed)
     one_more =
-        ap (outcome (new_station_side t)) (moments_more 0 keys items taken.item) ∙ outcome_append (new_station_side t) (moments keys items) (Arrives taken.item ∷ due_then)
-        ∙ ap (λ r. let a : Outcome = at_item so_far.side r in outcome_of_both so_far (outcome_of_both a (outcome a.side due_then))) taken.goes_on
+        ap (outcome (new_station_side t)) (moments_more 0 keys items taken.item) ∙ outcome_append (new_station_side t)
+        (moments keys items) (Arrives taken.item ∷ due_then)
+        ∙ ap (λ r. let a : Outcome = at_item so_far.side r in
+        outcome_of_both so_far (outcome_of_both a (outcome a.side due_then))) taken.goes_on
 
     taken_more : AreTaken (new_station_side t) (moments keys more)
     taken_more =
         subst (AreTaken (new_station_side t)) (sym (moments_more 0 keys items taken.item))
-        (taken_append (new_station_side t) (moments keys items) (Arrives taken.item ∷ due_then) c.is_behind.taken
-        (ap goes_on taken.goes_on, keys_taken (at_moment so_far.side (Arrives taken.item)).side (records_from 0 items + one_record taken.item) (keys_left_from 0 keys items)))
+        (taken_append (new_station_side t) (moments keys items) (Arrives taken.item ∷ due_then) c.is_behind.taken (
+          ap goes_on taken.goes_on,
+          keys_taken (at_moment so_far.side (Arrives taken.item)).side
+              (records_from 0 items + one_record taken.item) (keys_left_from 0 keys items),
+        ))
 
     text_more : run_text t keys items ++ (reply ++ text_of keyed.written) ≡ run_text t keys more
     text_more =
-        ap (λ z. run_text t keys items ++ (z ++ text_of keyed.written)) taken.spelled ∙ ap (λ z. run_text t keys items ++ z) (sym (text_append taken.writes keyed.written))
-        ∙ sym (text_append so_far.written (taken.writes ++ keyed.written)) ∙ ap (λ (o : Outcome). text_of o.written) (sym one_more)
+        ap (λ z. run_text t keys items ++ (z ++ text_of keyed.written)) taken.spelled
+        ∙ ap (λ z. run_text t keys items ++ z) (sym (text_append taken.writes keyed.written))
+        ∙ sym (text_append so_far.written (taken.writes ++ keyed.written)) ∙ ap (λ (o : Outcome). text_of o.written)
+        (sym one_more)
 
     -- an item is, and the keys that are due behind it are pressed
-    item_comes : (records : ℕ) (new : Player) (mid to : S) → records ≡ old.records + one_record taken.item → WentOut takes failures now mid reply
-        → HasDone takes failures longer more (record old { records = records }) new mid to keyed → drop new.pressed keys ≡ later (records_from 0 items + one_record taken.item) (keys_left_from 0 keys items) → one_record taken.item ≤ 1
+    item_comes : (records : ℕ) (new : Player) (mid to : S) → records ≡ old.records + one_record taken.item
+        → WentOut takes failures now mid reply
+        → HasDone takes failures longer more (record old { records = records }) new mid to keyed
+        → drop new.pressed keys ≡ later (records_from 0 items + one_record taken.item)
+        (keys_left_from 0 keys items) → one_record taken.item ≤ 1
         → HasCome takes failures t keys start new to longer more
     item_comes records new mid to is went done left one = record {
-      is_behind = record { leads = subst (λ (o : Outcome). StationLeads new.station longer more o.side) (sym one_more) done.leads; taken = taken_more };
-      refused = done.refused so_far.refused c.refused ∙ ap refusal_count (let e : so_far.refused + keyed.refused ≡ so_far.refused + (0 + keyed.refused) = omega arith in e) ∙ ap (λ (o : Outcome). refusal_count o.refused) (sym one_more);
-      records = done.records ∙ is ∙ ap (λ n. n + one_record taken.item) c.records ∙ sym (records_more 0 items taken.item);
+      is_behind = record {
+        leads = subst (λ (o : Outcome). StationLeads new.station longer more o.side)
+            (sym one_more) done.leads;
+        taken = taken_more;
+      };
+      refused = done.refused so_far.refused c.refused ∙ ap refusal_count (let e : so_far.refused + keyed.refused
+          ≡ so_far.refused + (0 + keyed.refused) = omega arith in e) ∙ ap (λ (o : Outcome). refusal_count o.refused)
+          (sym one_more);
+      records = done.records ∙ is ∙ ap (λ n. n + one_record taken.item) c.records
+          ∙ sym (records_more 0 items taken.item);
       left = left ∙ sym (left_more 0 keys items taken.item);
       few = omega (arith, done.records, is, one, c.few, length-append bytes (byte ∷ []));
-      wrote = subst (WentOut takes failures start to) text_more (went_out_both takes failures start now to (run_text t keys items) (reply ++ text_of keyed.written) c.wrote (went_out_both takes failures now mid to reply (text_of keyed.written) went done.wrote));
+      wrote = subst (WentOut takes failures start to) text_more (went_out_both takes failures start now to
+          (run_text t keys items) (reply ++ text_of keyed.written) c.wrote
+          (went_out_both takes failures now mid to reply (text_of keyed.written) went done.wrote));
     }
 
-    unwritten : (to : S) → FailedWithin takes failures start to (run_text t keys more) → RunUnwritten t keys takes failures start to longer
+    unwritten : (to : S) → FailedWithin takes failures start to (run_text t keys more)
+        → RunUnwritten t keys takes failures start to longer
     unwritten to failed = record {
       before = longer;
       after = [];
@@ -147,40 +185,50 @@ module _ {S : Type 0} (takes : MayTake S) (failures : S → ℕ) (t : TerminalTy
       failed = failed;
     }
 
-    reply_unwritten : (to : S) → FailedWithin takes failures now to reply → RunUnwritten t keys takes failures start to longer
+    reply_unwritten : (to : S) → FailedWithin takes failures now to reply
+        → RunUnwritten t keys takes failures start to longer
     reply_unwritten to failed =
-        unwritten to (subst (FailedWithin takes failures start to) text_more (failed_within_both takes failures start now to (run_text t keys items) reply (text_of keyed.written) c.wrote failed))
+        unwritten to (subst (FailedWithin takes failures start to) text_more
+        (failed_within_both takes failures start now to (run_text t keys items) reply
+        (text_of keyed.written) c.wrote failed))
 
-    keys_unwritten : (mid to : S) → WentOut takes failures now mid reply → FailedWithin takes failures mid to (text_of keyed.written) → RunUnwritten t keys takes failures start to longer
+    keys_unwritten : (mid to : S) → WentOut takes failures now mid reply → FailedWithin takes failures mid to
+        (text_of keyed.written) → RunUnwritten t keys takes failures start to longer
     keys_unwritten mid to went failed =
         let xs = run_text t keys items in
         let ys = text_of keyed.written in
-        let text : (xs ++ reply) ++ (ys ++ []) ≡ run_text t keys more = append_assoc xs reply (ys ++ []) ∙ ap (λ z. xs ++ (reply ++ z)) (append-nil ys) ∙ text_more in
-        unwritten to (subst (FailedWithin takes failures start to) text (failed_within_both takes failures start mid to (xs ++ reply) ys [] (went_out_both takes failures start now mid xs reply c.wrote went) failed))
+        let text : (xs ++ reply) ++ (ys ++ []) ≡ run_text t keys more = append_assoc xs reply (ys ++ [])
+        ∙ ap (λ z. xs ++ (reply ++ z)) (append-nil ys) ∙ text_more in
+        unwritten to (subst (FailedWithin takes failures start to) text (failed_within_both takes failures start mid to
+        (xs ++ reply) ys [] (went_out_both takes failures start now mid xs reply c.wrote went) failed))
 
   -- ---- by what the byte gives
-  module _ (step : StationStep) (few : length bytes + 1 < 2 ^ 64) where
+  module _ (step : StationStep) (few : length bytes + 2 < 2 ^ 64) where
     abbrev Steps : Type 0
     Steps = IsStepped before old.station bytes items so_far.side byte (Ok step)
 
     -- the reply isn't written
-    pub reply_fails : (to : S) → FailedWithin takes failures now to step.reply → Steps → RunUnwritten t keys takes failures start to longer
+    pub reply_fails : (to : S) → FailedWithin takes failures now to step.reply → Steps
+        → RunUnwritten t keys takes failures start to longer
     reply_fails to failed (inl i) =
         let none = subst (FailedWithin takes failures now to) i.0.silent failed in
         absurd (let e : 0 < 0 = omega (arith, none.within) in omega (arith, e))
     reply_fails to failed (inr taken) = reply_unwritten step.reply taken.0 to failed
 
     -- it ends no record
-    pub no_record : (to : S) → step.ends_record ≡ false → WentOut takes failures now to step.reply → Steps → (next : List (Item Element)) × HasCome takes failures t keys start old to longer next
+    pub no_record : (to : S) → step.ends_record ≡ false → WentOut takes failures now to step.reply → Steps
+        → (next : List (Item Element)) × HasCome takes failures t keys start old to longer next
     no_record to e went (inl i) = (items, inside_comes step.reply to i.0 went)
     no_record to e went (inr taken) =
         let item : Item Element = taken.0.item in
         let one : one_record item ≡ 0 = one_of item (sym taken.1 ∙ e) in
         let same : records_from 0 items + one_record item ≡ records_from 0 items = omega (arith, one) in
         let settled = left_settled 0 keys items in
-        let none : due (records_from 0 items + one_record item) (keys_left_from 0 keys items) ≡ [] = ap (λ n. due n (keys_left_from 0 keys items)) same ∙ settled.0 in
+        let none : due (records_from 0 items + one_record item) (keys_left_from 0 keys items)
+        ≡ [] = ap (λ n. due n (keys_left_from 0 keys items)) same ∙ settled.0 in
         let side : StationSide = taken.0.next in
-        let done : HasDone takes failures longer (items ++ item ∷ []) (record old { records = old.records }) old to to (idle_outcome side) = record {
+        let done : HasDone takes failures longer (items ++ item ∷ []) (record old { records = old.records }) old to to
+        (idle_outcome side) = record {
           leads = taken.0.leads;
           refused = λ n is. is ∙ ap refusal_count (let f : n ≡ n + 0 = omega arith in f);
           records = refl;
@@ -188,48 +236,72 @@ module _ {S : Type 0} (takes : MayTake S) (failures : S → ℕ) (t : TerminalTy
         } in (
           items ++ item ∷ [],
           item_comes step.reply taken.0 old.records old to to (omega (arith, one)) went
-              (subst (λ (ms : List Moment). HasDone takes failures longer (items ++ item ∷ []) (record old { records = old.records }) old to to (outcome side ms)) (sym none) done)
-              (c.left ∙ sym settled.1 ∙ ap (λ n. later n (keys_left_from 0 keys items)) (sym same)) (omega (arith, one)),
+              (subst (λ (ms : List Moment). HasDone takes failures longer (items ++ item ∷ [])
+              (record old { records = old.records }) old to to (outcome side ms)) (sym none) done)
+              (c.left ∙ sym settled.1 ∙ ap (λ n. later n (keys_left_from 0 keys items)) (sym same))
+              (omega (arith, one)),
         )
 
     -- it ends one
-    module _ (ends : step.ends_record ≡ true) (records : ℕ) (is : records ≡ min (old.records + 1) (2 ^ 64 - 1)) (mid : S) (went : WentOut takes failures now mid step.reply) where
-      counts : (item : Item Element) → is_record item ≡ true → (records ≡ old.records + one_record item) × (records ≡ records_from 0 items + one_record item)
+    module _ (ends : step.ends_record ≡ true) (records : ℕ) (is : records ≡ min (old.records + 1) (2 ^ 64 - 1))
+        (mid : S) (went : WentOut takes failures now mid step.reply) where
+      counts : (item : Item Element) → is_record item ≡ true → (records ≡ old.records + one_record item)
+          × (records ≡ records_from 0 items + one_record item)
       counts item e =
           let one : one_record item ≡ 1 = one_of_record item e in
           let f : records ≡ old.records + one_record item = omega (arith, one, is, c.few, few) in
           (f, f ∙ ap (λ n. n + one_record item) c.records)
 
       pub record_comes : (new : Player) (to : S)
-          → ((bytes : List ℕ) (items : List (Item Element)) (side : StationSide) → StationLeads old.station bytes items side → HasDone takes failures bytes items (record old { records = records }) new mid to (outcome side (due records (drop old.pressed keys))))
-          → drop new.pressed keys ≡ later records (drop old.pressed keys) → Steps → (next : List (Item Element)) × HasCome takes failures t keys start new to longer next
+          → ((bytes : List ℕ) (items : List (Item Element)) (side : StationSide)
+          → StationLeads old.station bytes items side → length bytes + 1 < 2 ^ 64
+          → HasDone takes failures bytes items (record old { records = records }) new mid to
+          (outcome side (due records (drop old.pressed keys))))
+          → drop new.pressed keys ≡ later records (drop old.pressed keys) → Steps → (next : List (Item Element))
+          × HasCome takes failures t keys start new to longer next
       record_comes new to done left (inl i) = absurd (let e : true ≡ false = sym ends ∙ i.1 in cc)
       record_comes new to done left (inr taken) =
           let item : Item Element = taken.0.item in
           let n = counts item (sym taken.1 ∙ ends) in
           let one : one_record item ≡ 1 = one_of_record item (sym taken.1 ∙ ends) in
-          let at : due records (drop old.pressed keys) ≡ due (records_from 0 items + one_record item) (keys_left_from 0 keys items) = ap (λ z. due z (drop old.pressed keys)) n.1 ∙ ap (due (records_from 0 items + one_record item)) c.left in (
+          let at : due records (drop old.pressed keys) ≡ due (records_from 0 items + one_record item)
+          (keys_left_from 0 keys items) = ap (λ z. due z (drop old.pressed keys)) n.1
+          ∙ ap (due (records_from 0 items + one_record item)) c.left in (
             items ++ item ∷ [],
             item_comes step.reply taken.0 records new mid to n.0 went
-                (subst (λ (ms : List Moment). HasDone takes failures longer (items ++ item ∷ []) (record old { records = records }) new mid to (outcome taken.0.next ms)) at (done longer (items ++ item ∷ []) taken.0.next taken.0.leads))
-                (left ∙ ap (λ z. later z (drop old.pressed keys)) n.1 ∙ ap (later (records_from 0 items + one_record item)) c.left) (omega (arith, one)),
+                (subst (λ (ms : List Moment). HasDone takes failures longer (items ++ item ∷ [])
+                (record old { records = records }) new mid to (outcome taken.0.next ms)) at
+                (done longer (items ++ item ∷ []) taken.0.next taken.0.leads
+                (omega (arith, few, length-append bytes (byte ∷ [])))))
+                (left ∙ ap (λ z. later z (drop old.pressed keys)) n.1
+                ∙ ap (later (records_from 0 items + one_record item)) c.left) (omega (arith, one)),
           )
 
       pub keys_fail : (to : S)
-          → ((bytes : List ℕ) (items : List (Item Element)) (side : StationSide) → StationLeads old.station bytes items side → FailedWithin takes failures mid to (text_of (outcome side (due records (drop old.pressed keys))).written))
+          → ((bytes : List ℕ) (items : List (Item Element)) (side : StationSide)
+          → StationLeads old.station bytes items side → length bytes + 1 < 2 ^ 64
+          → FailedWithin takes failures mid to
+          (text_of (outcome side (due records (drop old.pressed keys))).written))
           → Steps → RunUnwritten t keys takes failures start to longer
       keys_fail to failed (inl i) = absurd (let e : true ≡ false = sym ends ∙ i.1 in cc)
       keys_fail to failed (inr taken) =
           let item : Item Element = taken.0.item in
           let n = counts item (sym taken.1 ∙ ends) in
-          let at : due records (drop old.pressed keys) ≡ due (records_from 0 items + one_record item) (keys_left_from 0 keys items) = ap (λ z. due z (drop old.pressed keys)) n.1 ∙ ap (due (records_from 0 items + one_record item)) c.left in
+          let at : due records (drop old.pressed keys) ≡ due (records_from 0 items + one_record item)
+          (keys_left_from 0 keys items) = ap (λ z. due z (drop old.pressed keys)) n.1
+          ∙ ap (due (records_from 0 items + one_record item)) c.left in
           keys_unwritten step.reply taken.0 mid to went
-          (subst (λ (ms : List Moment). FailedWithin takes failures mid to (text_of (outcome taken.0.next ms).written)) at (failed longer (items ++ item ∷ []) taken.0.next taken.0.leads))
+          (subst (λ (ms : List Moment). FailedWithin takes failures mid to (text_of (outcome taken.0.next ms).written))
+          at (failed longer (items ++ item ∷ []) taken.0.next taken.0.leads
+          (omega (arith, few, length-append bytes (byte ∷ [])))))
 
 -- the byte is refused, or its item
-module _ {S : Type 0} (takes : MayTake S) (failures : S → ℕ) (t : TerminalType) (keys : List (ℕ × Key)) (start now : S) (old : Player) (bytes : List ℕ) (items : List (Item Element)) (byte : ℕ)
+module _ {S : Type 0} (takes : MayTake S) (failures : S → ℕ) (t : TerminalType) (keys : List (ℕ × Key)) (start now : S)
+    (old : Player) (bytes : List ℕ) (items : List (Item Element)) (byte : ℕ)
     (c : HasCome takes failures t keys start old now bytes items) where
-  pub byte_refused : (station : StationParts) (place : ℕ) (reason : Reason) → IsStepped old.station station bytes items (behind t keys items).side byte (Err (At place reason)) → RunRefuses t keys takes failures start now (length bytes) (bytes ++ byte ∷ []) place reason
+  pub byte_refused : (station : StationParts) (place : ℕ) (reason : Reason) → IsStepped old.station station bytes items
+      (behind t keys items).side byte (Err (At place reason)) → RunRefuses t keys takes failures start now
+      (length bytes) (bytes ++ byte ∷ []) place reason
   byte_refused station place reason is = record {
     before = bytes;
     byte = byte;
@@ -245,8 +317,10 @@ module _ {S : Type 0} (takes : MayTake S) (failures : S → ℕ) (t : TerminalTy
   }
 
 -- a fault within some bytes is one within more
-pub fault_within : (t : TerminalType) (keys : List (ℕ × Key)) {S : Type 0} (takes : MayTake S) (failures : S → ℕ) (start now : S) (first first' : ℕ) (bytes more : List ℕ) (fault : Fault) → first' ≤ first
-    → IsRunFault t keys takes failures start now first bytes fault → IsRunFault t keys takes failures start now first' (bytes ++ more) fault
+pub fault_within : (t : TerminalType) (keys : List (ℕ × Key)) {S : Type 0} (takes : MayTake S) (failures : S → ℕ)
+    (start now : S) (first first' : ℕ) (bytes more : List ℕ) (fault : Fault) → first' ≤ first
+    → IsRunFault t keys takes failures start now first bytes fault → IsRunFault t keys takes failures start now first'
+    (bytes ++ more) fault
 fault_within t keys takes failures start now first first' bytes more (Refused place reason) le f = record {
   before = f.before;
   byte = f.byte;
@@ -277,9 +351,13 @@ fault_within t keys takes failures start now first first' bytes more Read le f =
 fault_within t keys takes failures start now first first' bytes more Failed le f = absurd f
 
 -- the bytes of a piece, one after another
-pub next_byte : (bytes piece : List ℕ) (i : ℕ) → i < length piece → (bytes ++ take i piece) ++ get_or piece i 0 ∷ [] ≡ bytes ++ take (i + 1) piece
-next_byte bytes piece i lt = append_assoc bytes (take i piece) (get_or piece i 0 ∷ []) ∙ ap (λ x. bytes ++ x) (sym (take_more piece i 0 lt))
+pub next_byte : (bytes piece : List ℕ) (i : ℕ) → i < length piece → (bytes ++ take i piece) ++ get_or piece i 0 ∷ []
+    ≡ bytes ++ take (i + 1) piece
+next_byte bytes piece i lt = append_assoc bytes (take i piece) (get_or piece i 0 ∷ []) ∙ ap (λ x. bytes ++ x)
+    (sym (take_more piece i 0 lt))
 
-pub rest_of : (bytes piece : List ℕ) (i : ℕ) → i < length piece → ((bytes ++ take i piece) ++ get_or piece i 0 ∷ []) ++ drop (i + 1) piece ≡ bytes ++ piece
+pub rest_of : (bytes piece : List ℕ) (i : ℕ) → i < length piece → ((bytes ++ take i piece) ++ get_or piece i 0 ∷ [])
+    ++ drop (i + 1) piece ≡ bytes ++ piece
 rest_of bytes piece i lt =
-    ap (λ z. z ++ drop (i + 1) piece) (next_byte bytes piece i lt) ∙ append_assoc bytes (take (i + 1) piece) (drop (i + 1) piece) ∙ ap (λ z. bytes ++ z) (take-append-drop (i + 1) piece)
+    ap (λ z. z ++ drop (i + 1) piece) (next_byte bytes piece i lt) ∙ append_assoc bytes (take (i + 1) piece)
+    (drop (i + 1) piece) ∙ ap (λ z. bytes ++ z) (take-append-drop (i + 1) piece)

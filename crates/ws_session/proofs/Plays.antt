@@ -1,5 +1,7 @@
 use Rattle.std.specs.Prelude.{nat_lt, if◌then◌else◌}
-use Rattle.std.proofs.Common.{◌≡◌, ℕ, suc, ◌+◌, ◌-◌, ◌<◌, ◌≤◌, ◌^◌, min, Bool, true, false, List, [], ◌∷◌, ◌++◌, Some, None, Ok, Err, length, drop, get_or, refl, ap, ◌∙◌, sym, subst, arith, append_assoc, drop-cons, add-one}
+use Rattle.std.proofs.Common.{◌≡◌, ℕ, suc, ◌+◌, ◌-◌, ◌<◌, ◌≤◌, ◌^◌, min, Bool, true, false, List, [], ◌∷◌, ◌++◌, Some}
+use Rattle.std.proofs.Common.{None, Ok, Err, length, drop, get_or, refl, ap, ◌∙◌, sym, subst, arith, append_assoc}
+use Rattle.std.proofs.Common.{drop-cons, add-one}
 use Rattle.std.proofs.lemmas.List.{append-nil, drop_all}
 use Rattle.std.proofs.lemmas.Bool.Decides.{nat_tests}
 use Rattle.std.proofs.lemmas.Grind.{flat_map-append}
@@ -18,7 +20,8 @@ use Rattle.ws_keys.specs.declared.key.Key.{Key}
 use Rattle.ws_session.specs.AnswerSpelling.{answer_spelling}
 use Rattle.ws_session.specs.declared.player.Player.{Player}
 use Rattle.ws_session.specs.declared.key_fault.KeyFault.{KeyFault}
-use Rattle.ws_session.specs.Moments.{Moment, Presses, Outcome, idle_outcome, outcome_of_both, at_key, at_moment, outcome, due, later}
+use Rattle.ws_session.specs.Moments.{Moment, Presses, Outcome, idle_outcome, outcome_of_both, at_key, at_moment}
+use Rattle.ws_session.specs.Moments.{outcome, due, later}
 use Rattle.ws_session.specs.Playing.{HasDone}
 use Rattle.ws_session.specs.StationLeads.{StationParts, StationLeads, IsKeyed}
 use Rattle.ws_session.specs.StationRun.{refusal_count}
@@ -37,47 +40,65 @@ text_append xs ys = flat_map-append (item_spelling answer_rules) xs ys
 made : (side : StationSide) (written : List (Item AnswerPart)) (refused : ℕ) → Outcome
 made side written refused = record { side = side; written = written; refused = refused }
 
-pub followed_assoc : (a b c : Outcome) → outcome_of_both (outcome_of_both a b) c ≡ outcome_of_both a (outcome_of_both b c)
+pub followed_assoc : (a b c : Outcome) → outcome_of_both (outcome_of_both a b) c ≡ outcome_of_both a
+    (outcome_of_both b c)
 followed_assoc a b c =
-    ap (λ z. let o : Outcome = record { side = c.side; written = z; refused = (a.refused + b.refused) + c.refused } in o) (append_assoc a.written b.written c.written)
-    ∙ ap (λ n. let o : Outcome = record { side = c.side; written = a.written ++ (b.written ++ c.written); refused = n } in o) (let e : (a.refused + b.refused) + c.refused ≡ a.refused + (b.refused + c.refused) = omega arith in e)
+    ap (λ z. let o : Outcome = record { side = c.side; written = z; refused = (a.refused + b.refused) + c.refused } in
+    o) (append_assoc a.written b.written c.written)
+    ∙ ap (λ n. let o : Outcome = record {
+      side = c.side;
+      written = a.written ++ (b.written ++ c.written);
+      refused = n;
+    } in o) (let e : (a.refused + b.refused) + c.refused ≡ a.refused + (b.refused + c.refused) =
+    omega arith in e)
 
 pub unmoved_first : (s : StationSide) (b : Outcome) → outcome_of_both (idle_outcome s) b ≡ b
-unmoved_first s b = ap (λ n. let o : Outcome = record { side = b.side; written = b.written; refused = n } in o) (let e : 0 + b.refused ≡ b.refused = omega arith in e)
+unmoved_first s b = ap (λ n. let o : Outcome = record { side = b.side; written = b.written; refused = n } in o)
+    (let e : 0 + b.refused ≡ b.refused = omega arith in e)
 
 pub unmoved_last : (a : Outcome) → outcome_of_both a (idle_outcome a.side) ≡ a
 unmoved_last a =
-    ap (λ z. let o : Outcome = record { side = a.side; written = z; refused = a.refused + 0 } in o) (append-nil a.written)
-    ∙ ap (λ n. let o : Outcome = record { side = a.side; written = a.written; refused = n } in o) (let e : a.refused + 0 ≡ a.refused = omega arith in e)
+    ap (λ z. let o : Outcome = record { side = a.side; written = z; refused = a.refused + 0 } in o)
+    (append-nil a.written)
+    ∙ ap (λ n. let o : Outcome = record { side = a.side; written = a.written; refused = n } in o)
+    (let e : a.refused + 0 ≡ a.refused = omega arith in e)
 
-pub outcome_append : (s : StationSide) (ms ns : List Moment) → outcome s (ms ++ ns) ≡ outcome_of_both (outcome s ms) (outcome (outcome s ms).side ns)
+pub outcome_append : (s : StationSide) (ms ns : List Moment) → outcome s (ms ++ ns) ≡ outcome_of_both (outcome s ms)
+    (outcome (outcome s ms).side ns)
 outcome_append s [] ns = sym (unmoved_first s (outcome s ns))
 outcome_append s (m ∷ ms) ns =
     let a : Outcome = at_moment s m in
-    ap (outcome_of_both a) (outcome_append a.side ms ns) ∙ sym (followed_assoc a (outcome a.side ms) (outcome (outcome a.side ms).side ns))
+    ap (outcome_of_both a) (outcome_append a.side ms ns)
+    ∙ sym (followed_assoc a (outcome a.side ms) (outcome (outcome a.side ms).side ns))
 
 -- what an answer is spelled as
 abbrev Sends : StationParts → List ℕ → List (Item Element) → List ℕ → Outcome → Type 0
-Sends station bytes items text o = (text ≡ text_of o.written) × StationLeads station bytes items o.side × (o.refused ≡ 0)
+Sends station bytes items text o = (text ≡ text_of o.written) × StationLeads station bytes items o.side
+    × (o.refused ≡ 0)
 
-pub key_sends : (old station : StationParts) (bytes : List ℕ) (items : List (Item Element)) (side : StationSide) (key : Key) (answer : Answer) → IsKeyed old station bytes items side key (Ok (Some answer))
+pub key_sends : (old station : StationParts) (bytes : List ℕ) (items : List (Item Element)) (side : StationSide)
+    (key : Key) (answer : Answer) → IsKeyed old station bytes items side key (Ok (Some answer))
     → Sends station bytes items (answer_spelling answer) (at_moment side (Presses key))
 key_sends old station bytes items side key (Read body) k =
     subst (λ (z : KeyReaction). Sends station bytes items (answer_spelling (Read body)) (at_key side z)) (sym k.3)
     (ap (λ z. record_spelling (header (10 + length z) 0 PutGet ++ z)) k.4 ∙ sym (append-nil _), k.5, refl)
 key_sends old station bytes items side key Attention k =
-    subst (λ (z : KeyReaction). Sends station bytes items (answer_spelling Attention) (at_key side z)) (sym k.0) (refl, k.1, refl)
+    subst (λ (z : KeyReaction). Sends station bytes items (answer_spelling Attention) (at_key side z)) (sym k.0)
+    (refl, k.1, refl)
 key_sends old station bytes items side key SystemRequest k =
-    subst (λ (z : KeyReaction). Sends station bytes items (answer_spelling SystemRequest) (at_key side z)) (sym k.0) (refl, k.1, refl)
+    subst (λ (z : KeyReaction). Sends station bytes items (answer_spelling SystemRequest) (at_key side z)) (sym k.0)
+    (refl, k.1, refl)
 
 add_none : (n m : ℕ) (before : ℕ) → m ≡ 0 → n ≡ refusal_count before → n ≡ refusal_count (before + m)
 add_none n m before e is = is ∙ ap refusal_count (let f : before ≡ before + m = omega (arith, e) in f)
 
-module _ {S : Type 0} (takes : MayTake S) (failures : S → ℕ) (old : Player) (bytes : List ℕ) (items : List (Item Element)) (side : StationSide) (key : Key) (station : StationParts) where
+module _ {S : Type 0} (takes : MayTake S) (failures : S → ℕ) (old : Player) (bytes : List ℕ)
+    (items : List (Item Element)) (side : StationSide) (key : Key) (station : StationParts) where
   abbrev Done : Player → S → S → KeyReaction → Type 0
   Done new from to z = HasDone takes failures bytes items old new from to (at_key side z)
 
-  pub silent_done : (now : S) → IsKeyed old.station station bytes items side key (Ok None) → HasDone takes failures bytes items old (record old { station = station }) now now (at_moment side (Presses key))
+  pub silent_done : (now : S) → IsKeyed old.station station bytes items side key (Ok None)
+      → HasDone takes failures bytes items old (record old { station = station }) now now (at_moment side (Presses key))
   silent_done now k = subst (Done (record old { station = station }) now now) (sym k.1) (record {
     leads = k.2;
     refused = λ before is. add_none old.keys_refused 0 before refl is;
@@ -85,7 +106,8 @@ module _ {S : Type 0} (takes : MayTake S) (failures : S → ℕ) (old : Player) 
     wrote = went_out_none takes failures now;
   })
 
-  pub sent_done : (from to : S) (answer : Answer) → IsKeyed old.station station bytes items side key (Ok (Some answer)) → WentOut takes failures from to (answer_spelling answer)
+  pub sent_done : (from to : S) (answer : Answer) → IsKeyed old.station station bytes items side key (Ok (Some answer))
+      → WentOut takes failures from to (answer_spelling answer)
       → HasDone takes failures bytes items old (record old { station = station }) from to (at_moment side (Presses key))
   sent_done from to answer k went =
       let s = key_sends old.station station bytes items side key answer k in
@@ -96,29 +118,37 @@ module _ {S : Type 0} (takes : MayTake S) (failures : S → ℕ) (old : Player) 
         wrote = subst (WentOut takes failures from to) s.0 went;
       }
 
-  pub sent_failed : (from to : S) (answer : Answer) → IsKeyed old.station station bytes items side key (Ok (Some answer)) → FailedWithin takes failures from to (answer_spelling answer)
+  pub sent_failed : (from to : S) (answer : Answer) → IsKeyed old.station station bytes items side key
+      (Ok (Some answer)) → FailedWithin takes failures from to (answer_spelling answer)
       → FailedWithin takes failures from to (text_of (at_moment side (Presses key)).written)
   sent_failed from to answer k failed =
       subst (FailedWithin takes failures from to) (key_sends old.station station bytes items side key answer k).0 failed
 
-  pub refused_done : (now : S) (fault : KeyFault) (count : ℕ) → StationLeads old.station bytes items side → IsKeyed old.station station bytes items side key (Err fault) → count ≡ min (old.keys_refused + 1) (2 ^ 32 - 1)
-      → HasDone takes failures bytes items old (record old { station = station; keys_refused = count }) now now (at_moment side (Presses key))
-  refused_done now fault count l k is = subst (Done (record old { station = station; keys_refused = count }) now now) (sym k.0) (record {
-    leads = subst (λ (z : StationParts). StationLeads z bytes items side) (sym k.1) l;
-    refused = λ before e. (let f : count ≡ refusal_count (before + 1) = omega (arith, e, is) in f);
-    records = refl;
-    wrote = went_out_none takes failures now;
-  })
+  pub refused_done : (now : S) (fault : KeyFault) (count : ℕ) → StationLeads old.station bytes items side
+      → IsKeyed old.station station bytes items side key (Err fault) → count ≡ min (old.keys_refused + 1) (2 ^ 32 - 1)
+      → HasDone takes failures bytes items old (record old { station = station; keys_refused = count }) now now
+      (at_moment side (Presses key))
+  refused_done now fault count l k is = subst (Done (record old { station = station; keys_refused = count }) now now)
+      (sym k.0) (record {
+        leads = subst (λ (z : StationParts). StationLeads z bytes items side) (sym k.1) l;
+        refused = λ before e. (let f : count ≡ refusal_count (before + 1) = omega (arith, e, is) in f);
+        records = refl;
+        wrote = went_out_none takes failures now;
+      })
 
 -- one after another
 module _ {S : Type 0} (takes : MayTake S) (failures : S → ℕ) (bytes : List ℕ) (items : List (Item Element)) where
-  pub done_both : (old mid new : Player) (from between to : S) (a b : Outcome) → HasDone takes failures bytes items old mid from between a → HasDone takes failures bytes items mid new between to b
+  pub done_both : (old mid new : Player) (from between to : S) (a b : Outcome)
+      → HasDone takes failures bytes items old mid from between a
+      → HasDone takes failures bytes items mid new between to b
       → HasDone takes failures bytes items old new from to (outcome_of_both a b)
   done_both old mid new from between to a b p q = record {
     leads = q.leads;
-    refused = λ before is. q.refused (before + a.refused) (p.refused before is) ∙ ap refusal_count (let e : (before + a.refused) + b.refused ≡ before + (a.refused + b.refused) = omega arith in e);
+    refused = λ before is. q.refused (before + a.refused) (p.refused before is) ∙ ap refusal_count
+        (let e : (before + a.refused) + b.refused ≡ before + (a.refused + b.refused) = omega arith in e);
     records = q.records ∙ p.records;
-    wrote = subst (WentOut takes failures from to) (sym (text_append a.written b.written)) (went_out_both takes failures from between to (text_of a.written) (text_of b.written) p.wrote q.wrote);
+    wrote = subst (WentOut takes failures from to) (sym (text_append a.written b.written))
+        (went_out_both takes failures from between to (text_of a.written) (text_of b.written) p.wrote q.wrote);
   }
 
 -- ---- the keys that are due
@@ -129,11 +159,17 @@ due_by n k ks e = ap (λ (b : Bool). if b then [] else Presses k.1 ∷ due n ks)
 pub later_by : (n : ℕ) (k : ℕ × Key) (ks : List (ℕ × Key)) → nat_lt n k.0 ≡ false → later n (k ∷ ks) ≡ later n ks
 later_by n k ks e = ap (λ (b : Bool). if b then k ∷ ks else later n ks) e
 
-pub none_due : (n : ℕ) (k : ℕ × Key) (ks : List (ℕ × Key)) → nat_lt n k.0 ≡ true → (due n (k ∷ ks) ≡ []) × (later n (k ∷ ks) ≡ k ∷ ks)
-none_due n k ks e = (ap (λ (b : Bool). if b then [] else Presses k.1 ∷ due n ks) e, ap (λ (b : Bool). if b then k ∷ ks else later n ks) e)
+pub none_due : (n : ℕ) (k : ℕ × Key) (ks : List (ℕ × Key)) → nat_lt n k.0 ≡ true → (due n (k ∷ ks) ≡ [])
+    × (later n (k ∷ ks) ≡ k ∷ ks)
+none_due n k ks e = (
+  ap (λ (b : Bool). if b then [] else Presses k.1 ∷ due n ks) e,
+  ap (λ (b : Bool). if b then k ∷ ks else later n ks) e,
+)
 
-pub next_key : (keys : List (ℕ × Key)) (p : ℕ) (k : ℕ × Key) → p < length keys → k ≡ get_or keys p k → drop p keys ≡ k ∷ drop (p + 1) keys
-next_key keys p k h e = drop-cons keys p k h ∙ ap (λ z. z ∷ drop (suc p) keys) (sym e) ∙ ap (λ n. k ∷ drop n keys) (sym (add-one p))
+pub next_key : (keys : List (ℕ × Key)) (p : ℕ) (k : ℕ × Key) → p < length keys → k ≡ get_or keys p k → drop p keys
+    ≡ k ∷ drop (p + 1) keys
+next_key keys p k h e = drop-cons keys p k h ∙ ap (λ z. z ∷ drop (suc p) keys) (sym e) ∙ ap (λ n. k ∷ drop n keys)
+    (sym (add-one p))
 
 pub none_left : (keys : List (ℕ × Key)) (p : ℕ) → length keys ≤ p → drop p keys ≡ []
 none_left keys p h = drop_all p keys h
@@ -146,21 +182,25 @@ pub is_reached : (records here n k : ℕ) → here ≡ records → n ≤ here �
 is_reached records here n k e h f = grind (arith, nat_tests, e, h, f)
 
 -- what the loop over the keys keeps
-pub record Pressing {S : Type 0} (takes : MayTake S) (failures : S → ℕ) (first now : Player) (from to : S) (keys : List (ℕ × Key)) : Type 0 where
+pub record Pressing {S : Type 0} (takes : MayTake S) (failures : S → ℕ) (first now : Player) (from to : S)
+    (keys : List (ℕ × Key)) : Type 0 where
   pub moments : List Moment
   pub due_is : due first.records (drop first.pressed keys) ≡ moments ++ due first.records (drop now.pressed keys)
   pub later_is : later first.records (drop first.pressed keys) ≡ later first.records (drop now.pressed keys)
   pub records : now.records ≡ first.records
-  pub did : (bytes : List ℕ) (items : List (Item Element)) (side : StationSide) → StationLeads first.station bytes items side → HasDone takes failures bytes items first now from to (outcome side moments)
+  pub did : (bytes : List ℕ) (items : List (Item Element)) (side : StationSide)
+      → StationLeads first.station bytes items side → length bytes + 1 < 2 ^ 64
+      → HasDone takes failures bytes items first now from to (outcome side moments)
 
 module _ {S : Type 0} (takes : MayTake S) (failures : S → ℕ) where
-  pub pressing_starts : (first : Player) (from : S) (keys : List (ℕ × Key)) → Pressing takes failures first first from from keys
+  pub pressing_starts : (first : Player) (from : S) (keys : List (ℕ × Key))
+      → Pressing takes failures first first from from keys
   pressing_starts first from keys = record {
     moments = [];
     due_is = refl;
     later_is = refl;
     records = refl;
-    did = λ bytes items side l. record {
+    did = λ bytes items side l few. record {
       leads = l;
       refused = λ before is. add_none first.keys_refused 0 before refl is;
       records = refl;
@@ -168,47 +208,72 @@ module _ {S : Type 0} (takes : MayTake S) (failures : S → ℕ) where
     };
   }
 
-  module _ (first now : Player) (from mid : S) (keys : List (ℕ × Key)) (p : Pressing takes failures first now from mid keys) where
+  module _ (first now : Player) (from mid : S) (keys : List (ℕ × Key))
+      (p : Pressing takes failures first now from mid keys) where
     -- no further key is due
-    pub pressing_ends : (due first.records (drop now.pressed keys) ≡ []) → (bytes : List ℕ) (items : List (Item Element)) (side : StationSide) → StationLeads first.station bytes items side
-        → HasDone takes failures bytes items first now from mid (outcome side (due first.records (drop first.pressed keys)))
-    pressing_ends none bytes items side l =
-        subst (λ (z : List Moment). HasDone takes failures bytes items first now from mid (outcome side z)) (sym (p.due_is ∙ ap (λ z. p.moments ++ z) none ∙ append-nil p.moments)) (p.did bytes items side l)
+    pub pressing_ends : (due first.records (drop now.pressed keys) ≡ []) → (bytes : List ℕ)
+        (items : List (Item Element)) (side : StationSide) → StationLeads first.station bytes items side
+        → length bytes + 1 < 2 ^ 64 → HasDone takes failures bytes items first now from mid
+        (outcome side (due first.records (drop first.pressed keys)))
+    pressing_ends none bytes items side l few =
+        subst (λ (z : List Moment). HasDone takes failures bytes items first now from mid (outcome side z))
+        (sym (p.due_is ∙ ap (λ z. p.moments ++ z) none ∙ append-nil p.moments)) (p.did bytes items side l few)
 
-    module _ (k : ℕ × Key) (more : now.pressed < length keys) (is : k ≡ get_or keys now.pressed k) (test : nat_lt first.records k.0 ≡ false) where
-      rest_due : due first.records (drop first.pressed keys) ≡ (p.moments ++ Presses k.1 ∷ []) ++ due first.records (drop (now.pressed + 1) keys)
+    module _ (k : ℕ × Key) (more : now.pressed < length keys) (is : k ≡ get_or keys now.pressed k)
+        (test : nat_lt first.records k.0 ≡ false) where
+      rest_due : due first.records (drop first.pressed keys) ≡ (p.moments ++ Presses k.1 ∷ []) ++ due first.records
+          (drop (now.pressed + 1) keys)
       rest_due =
-          p.due_is ∙ ap (λ z. p.moments ++ z) (ap (due first.records) (next_key keys now.pressed k more is) ∙ due_by first.records k (drop (now.pressed + 1) keys) test)
+          p.due_is ∙ ap (λ z. p.moments ++ z) (ap (due first.records) (next_key keys now.pressed k more is)
+          ∙ due_by first.records k (drop (now.pressed + 1) keys) test)
           ∙ sym (append_assoc p.moments (Presses k.1 ∷ []) (due first.records (drop (now.pressed + 1) keys)))
 
       pub pressing_next : (next : Player) (to : S) (place : ℕ) → place ≡ now.pressed + 1 → next.records ≡ now.records
-          → ((bytes : List ℕ) (items : List (Item Element)) (side : StationSide) → StationLeads now.station bytes items side → HasDone takes failures bytes items now next mid to (at_moment side (Presses k.1)))
+          → ((bytes : List ℕ) (items : List (Item Element)) (side : StationSide)
+          → StationLeads now.station bytes items side → length bytes + 1 < 2 ^ 64
+          → HasDone takes failures bytes items now next mid to (at_moment side (Presses k.1)))
           → Pressing takes failures first (record next { pressed = place }) from to keys
       pressing_next next to place at kept q = record {
         moments = p.moments ++ Presses k.1 ∷ [];
         due_is = rest_due ∙ ap (λ n. (p.moments ++ Presses k.1 ∷ []) ++ due first.records (drop n keys)) (sym at);
-        later_is = p.later_is ∙ ap (later first.records) (next_key keys now.pressed k more is) ∙ later_by first.records k (drop (now.pressed + 1) keys) test ∙ ap (λ n. later first.records (drop n keys)) (sym at);
+        later_is = p.later_is ∙ ap (later first.records) (next_key keys now.pressed k more is)
+            ∙ later_by first.records k (drop (now.pressed + 1) keys) test ∙ ap (λ n. later first.records (drop n keys))
+            (sym at);
         records = kept ∙ p.records;
-        did = λ bytes items side l.
-            let d = p.did bytes items side l in
+        did = λ bytes items side l few.
+            let d = p.did bytes items side l few in
             let o : Outcome = outcome side p.moments in
             let b : Outcome = at_moment o.side (Presses k.1) in
-            let e : outcome_of_both o b ≡ outcome side (p.moments ++ Presses k.1 ∷ []) = ap (outcome_of_both o) (sym (unmoved_last b)) ∙ sym (outcome_append side p.moments (Presses k.1 ∷ [])) in
-            let both = done_both takes failures bytes items first now next from mid to o b d (q bytes items o.side d.leads) in
-            subst (HasDone takes failures bytes items first (record next { pressed = place }) from to) e (record { leads = both.leads; refused = both.refused; records = both.records; wrote = both.wrote });
+            let e : outcome_of_both o b ≡ outcome side (p.moments ++ Presses k.1 ∷ []) = ap (outcome_of_both o)
+            (sym (unmoved_last b)) ∙ sym (outcome_append side p.moments (Presses k.1 ∷ [])) in
+            let both = done_both takes failures bytes items first now next from mid to o b d
+            (q bytes items o.side d.leads few) in
+            subst (HasDone takes failures bytes items first (record next { pressed = place }) from to) e
+            (record { leads = both.leads; refused = both.refused; records = both.records; wrote = both.wrote });
       }
 
       -- a write failed at the key
-      pub pressing_fails : (to : S) → ((bytes : List ℕ) (items : List (Item Element)) (side : StationSide) → StationLeads now.station bytes items side → FailedWithin takes failures mid to (text_of (at_moment side (Presses k.1)).written))
-          → (bytes : List ℕ) (items : List (Item Element)) (side : StationSide) → StationLeads first.station bytes items side
-          → FailedWithin takes failures from to (text_of (outcome side (due first.records (drop first.pressed keys))).written)
-      pressing_fails to q bytes items side l =
-          let d = p.did bytes items side l in
+      pub pressing_fails : (to : S) → ((bytes : List ℕ) (items : List (Item Element)) (side : StationSide)
+          → StationLeads now.station bytes items side → length bytes + 1 < 2 ^ 64 → FailedWithin takes failures mid to
+          (text_of (at_moment side (Presses k.1)).written))
+          → (bytes : List ℕ) (items : List (Item Element)) (side : StationSide)
+          → StationLeads first.station bytes items side
+          → length bytes + 1 < 2 ^ 64 → FailedWithin takes failures from to
+          (text_of (outcome side (due first.records (drop first.pressed keys))).written)
+      pressing_fails to q bytes items side l few =
+          let d = p.did bytes items side l few in
           let o : Outcome = outcome side p.moments in
           let b : Outcome = at_moment o.side (Presses k.1) in
           let rest : List Moment = due first.records (drop (now.pressed + 1) keys) in
-          let e : outcome side (due first.records (drop first.pressed keys)) ≡ outcome_of_both o (outcome_of_both b (outcome b.side rest)) =
-          ap (outcome side) (rest_due ∙ append_assoc p.moments (Presses k.1 ∷ []) rest) ∙ outcome_append side p.moments (Presses k.1 ∷ rest) in
-          let text : text_of o.written ++ (text_of b.written ++ text_of (outcome b.side rest).written) ≡ text_of (outcome side (due first.records (drop first.pressed keys))).written =
-          ap (λ z. text_of o.written ++ z) (sym (text_append b.written (outcome b.side rest).written)) ∙ sym (text_append o.written (b.written ++ (outcome b.side rest).written)) ∙ ap (λ (z : Outcome). text_of z.written) (sym e) in
-          subst (FailedWithin takes failures from to) text (failed_within_both takes failures from mid to (text_of o.written) (text_of b.written) (text_of (outcome b.side rest).written) d.wrote (q bytes items o.side d.leads))
+          let e : outcome side (due first.records (drop first.pressed keys)) ≡ outcome_of_both o
+          (outcome_of_both b (outcome b.side rest)) =
+          ap (outcome side) (rest_due ∙ append_assoc p.moments (Presses k.1 ∷ []) rest) ∙ outcome_append side p.moments
+          (Presses k.1 ∷ rest) in
+          let text : text_of o.written ++ (text_of b.written ++ text_of (outcome b.side rest).written)
+          ≡ text_of (outcome side (due first.records (drop first.pressed keys))).written =
+          ap (λ z. text_of o.written ++ z) (sym (text_append b.written (outcome b.side rest).written))
+          ∙ sym (text_append o.written (b.written ++ (outcome b.side rest).written))
+          ∙ ap (λ (z : Outcome). text_of z.written) (sym e) in
+          subst (FailedWithin takes failures from to) text (failed_within_both takes failures from mid to
+          (text_of o.written) (text_of b.written) (text_of (outcome b.side rest).written) d.wrote
+          (q bytes items o.side d.leads few))

@@ -8,7 +8,8 @@ use Rattle.ws_session.proofs.Worlds.{sound}
 
 -- A running session is a world that its moves lead to.
 
-pub more_moves : (moves : List Move) (move : Move) (w : World) → after_moves w (moves ++ move ∷ []) ≡ after_move (after_moves w moves) move
+pub more_moves : (moves : List Move) (move : Move) (w : World) → after_moves w (moves ++ move ∷ []) ≡ after_move
+    (after_moves w moves) move
 more_moves [] move w = refl
 more_moves (m ∷ moves) move w = more_moves moves move (after_move w m)
 

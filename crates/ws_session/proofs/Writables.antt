@@ -1,11 +1,14 @@
 use Rattle.std.specs.Prelude.{if◌then◌else◌, ◌&&◌}
-use Rattle.std.proofs.Common.{◌≡◌, ℕ, ◌<◌, Bool, true, false, List, [], ◌∷◌, ◌++◌, Option, Some, None, refl, ap, ◌∙◌, sym, subst, map, rules, arith}
+use Rattle.std.proofs.Common.{◌≡◌, ℕ, ◌<◌, Bool, true, false, List, [], ◌∷◌, ◌++◌, Option, Some, None, refl, ap, ◌∙◌}
+use Rattle.std.proofs.Common.{sym, subst, map, rules, arith}
 use Rattle.std.specs.List.{AllByRecursion}
 use Rattle.ws_code.specs.declared.reason.Reason.{Reason}
 use Rattle.ws_code.specs.declared.reason.Reason.TheVariants.{RecordBeforeNegotiation}
 use Rattle.ws_telnet.specs.declared.codes.TheConstants.{BINARY, END_OF_RECORD}
 use Rattle.ws_nego.specs.Options.{Answer}
-use Rattle.ws_nego.specs.Host.{HostState, host_answer, host_option_answer, host_table_answer, host_row, host_sub_answer, host_name_answer, host_judgement, after_name_request, is_name_withheld, is_name_offered, name_in, request, requests, host_allows_records}
+use Rattle.ws_nego.specs.Host.{HostState, host_answer, host_option_answer, host_table_answer, host_row, host_sub_answer}
+use Rattle.ws_nego.specs.Host.{host_name_answer, host_judgement, after_name_request, is_name_withheld, is_name_offered}
+use Rattle.ws_nego.specs.Host.{name_in, request, requests, host_allows_records}
 use Rattle.ws_nego.specs.Options.{direction_at_host}
 use Rattle.ws_nego.specs.Station.{name_request}
 use Rattle.ws_nego.specs.Terminal.{terminal_named}
@@ -19,15 +22,18 @@ use Rattle.ws_screen.specs.Formats.{fields}
 use Rattle.ws_screen.specs.declared.read_kind.ReadKind.{ReadKind}
 use Rattle.ws_keys.specs.Readings.{read_answer}
 use Rattle.ws_keys.specs.declared.host_answer.HostAnswer.{HostAnswer}
-use Rattle.ws_session.specs.HostSide.{HostSide, HostOutput, asked_read, host_negotiates, host_reads, host_reads_by, host_ends_cancel, host_takes_record, host_takes}
+use Rattle.ws_session.specs.HostSide.{HostSide, HostOutput, asked_read, host_negotiates, host_reads, host_reads_by}
+use Rattle.ws_session.specs.HostSide.{host_ends_cancel, host_takes_record, host_takes}
 use Rattle.ws_telnet.specs.Token.{IsTelnet}
 use Rattle.ws_telnet.specs.declared.token.Verb.{Verb}
 use Rattle.ws_telnet.specs.declared.token.Telnet.{Telnet}
 use Rattle.ws_telnet.specs.declared.token.Telnet.TheVariants.{Command, Option as Negotiate, Sub as Subnegotiate}
 use Rattle.ws_nego.specs.Options.{entry, direction_at_station, refusal_of, option_tokens}
-use Rattle.ws_nego.specs.Station.{StationState, station_row, name_answer, is_name_request, station_option_answer, station_answer, station_allows_records}
+use Rattle.ws_nego.specs.Station.{StationState, station_row, name_answer, is_name_request, station_option_answer}
+use Rattle.ws_nego.specs.Station.{station_answer, station_allows_records}
 use Rattle.ws_nego.specs.declared.options.Direction.{Direction}
-use Rattle.ws_nego.specs.declared.terminal.TerminalType.TheVariants.{Ibm5251Model11, Ibm5291Model1, Ibm5292Model2, Ibm3196ModelA1, Ibm3179Model2}
+use Rattle.ws_nego.specs.declared.terminal.TerminalType.TheVariants.{Ibm5251Model11, Ibm5291Model1, Ibm5292Model2}
+use Rattle.ws_nego.specs.declared.terminal.TerminalType.TheVariants.{Ibm3196ModelA1, Ibm3179Model2}
 use Rattle.ws_record.specs.declared.opcode.Opcode.{Opcode}
 use Rattle.ws_record.specs.declared.opcode.Opcode.TheVariants.{NoOperation, PutGet, CancelInvite}
 use Rattle.ws_record.specs.declared.record.Item.TheVariants.{Record as RecordItem, Telnet as TelnetItem}
@@ -50,7 +56,8 @@ abbrev written_of : {E W : Type 0} → W → Reaction E W → W
 written_of none (Refuses reason) = none
 written_of none (GoesOn end written) = written
 
-pub writable_append : (xs ys : List (Item AnswerPart)) → AreWritable answer_rules xs → AreWritable answer_rules ys → AreWritable answer_rules (xs ++ ys)
+pub writable_append : (xs ys : List (Item AnswerPart)) → AreWritable answer_rules xs → AreWritable answer_rules ys
+    → AreWritable answer_rules (xs ++ ys)
 writable_append xs ys a b = (all_append (CanBeEncoded answer_rules) xs ys a.0 b.0, all_append IsInRange xs ys a.1 b.1)
 
 tokens_writable : (ts : List Telnet) → AllByRecursion IsTelnet ts → AreWritable answer_rules (map TelnetItem ts)
@@ -68,7 +75,8 @@ name_in_range Ibm5292Model2 = search rules
 name_in_range Ibm3196ModelA1 = search rules
 name_in_range Ibm3179Model2 = search rules
 
-reply_in_range : (s : StationState) (token : Telnet) → IsTelnet token → AllByRecursion IsTelnet (station_answer s token).reply
+reply_in_range : (s : StationState) (token : Telnet) → IsTelnet token → AllByRecursion IsTelnet
+    (station_answer s token).reply
 reply_in_range s (Command code) h = tt
 reply_in_range s (Negotiate verb option) h = by_direction (direction_at_station verb option)
   where
@@ -86,24 +94,34 @@ opcode_writable CancelInvite = (((record { chain = tt; ends = refl }, omega arit
 opcode_writable o = (tt, tt)
 
 -- what the station answers to an item that can be written can be written
-pub answers_writable : (side : StationSide) (item : Item Element) (next : StationSide) (writes : List (Item AnswerPart)) → IsInRange item → station_takes side item ≡ GoesOn next writes → AreWritable answer_rules writes
+pub answers_writable : (side : StationSide) (item : Item Element) (next : StationSide)
+    (writes : List (Item AnswerPart)) → IsInRange item → station_takes side item ≡ GoesOn next writes
+    → AreWritable answer_rules writes
 answers_writable side (TelnetItem token) next writes range e =
     let same : map TelnetItem (station_answer side.options token).reply ≡ writes = ap (written_of []) e in
-    subst (AreWritable answer_rules) same (tokens_writable (station_answer side.options token).reply (reply_in_range side.options token range))
+    subst (AreWritable answer_rules) same (tokens_writable (station_answer side.options token).reply
+    (reply_in_range side.options token range))
 answers_writable side (RecordItem r) next writes range e = by_test (station_allows_records side.options) refl
   where
-    by_fault : (o : Option Reason) → body_fault side.happened r.body ≡ o → station_allows_records side.options ≡ true → AreWritable answer_rules writes
+    by_fault : (o : Option Reason) → body_fault side.happened r.body ≡ o → station_allows_records side.options ≡ true
+        → AreWritable answer_rules writes
     by_fault None f a =
-        let same : opcode_answer r.opcode ≡ writes = ap (written_of []) (sym (ap (λ b. if b then station_applies side r (body_fault side.happened r.body) else Refuses RecordBeforeNegotiation) a ∙ ap (station_applies side r) f) ∙ e) in
+        let same : opcode_answer r.opcode ≡ writes = ap (written_of [])
+        (sym (ap (λ b. if b then station_applies side r (body_fault side.happened r.body) else Refuses
+        RecordBeforeNegotiation) a ∙ ap (station_applies side r) f) ∙ e) in
         subst (AreWritable answer_rules) same (opcode_writable r.opcode)
     by_fault (Some reason) f a =
-        let never : Refuses reason ≡ GoesOn next writes = sym (ap (λ b. if b then station_applies side r (body_fault side.happened r.body) else Refuses RecordBeforeNegotiation) a ∙ ap (station_applies side r) f) ∙ e in
+        let never : Refuses reason ≡ GoesOn next writes = sym
+        (ap (λ b. if b then station_applies side r (body_fault side.happened r.body) else Refuses
+        RecordBeforeNegotiation) a ∙ ap (station_applies side r) f) ∙ e in
         cc
 
     by_test : (b : Bool) → station_allows_records side.options ≡ b → AreWritable answer_rules writes
     by_test true a = by_fault (body_fault side.happened r.body) refl a
     by_test false a =
-        let never : Refuses RecordBeforeNegotiation ≡ GoesOn next writes = sym (ap (λ b. if b then station_applies side r (body_fault side.happened r.body) else Refuses RecordBeforeNegotiation) a) ∙ e in
+        let never : Refuses RecordBeforeNegotiation ≡ GoesOn next writes = sym
+        (ap (λ b. if b then station_applies side r (body_fault side.happened r.body) else Refuses
+        RecordBeforeNegotiation) a) ∙ e in
         cc
 
 host_tokens_writable : (ts : List Telnet) → AllByRecursion IsTelnet ts → AreWritable element_rules (map TelnetItem ts)
@@ -115,7 +133,8 @@ abbrev Ranges : Option (Answer HostState) → Type 0
 Ranges None = Unit {0}
 Ranges (Some answer) = AllByRecursion IsTelnet answer.reply
 
-request_in_range : (mode : Mode) (verb : Verb) (option : ℕ) → option < 256 → AllByRecursion IsTelnet (request mode verb option)
+request_in_range : (mode : Mode) (verb : Verb) (option : ℕ) → option < 256 → AllByRecursion IsTelnet
+    (request mode verb option)
 request_in_range On verb option h = tt
 request_in_range Off verb option h = (h, tt)
 request_in_range Asked verb option h = (h, tt)
@@ -126,8 +145,11 @@ requests_in_range modes =
     let b = request modes.host_end_of_record Will END_OF_RECORD in
     let c = request modes.station_binary Do BINARY in
     let d = request modes.host_binary Will BINARY in
-    all_append IsTelnet ((a ++ b) ++ c) d (all_append IsTelnet (a ++ b) c (all_append IsTelnet a b (request_in_range modes.station_end_of_record Do END_OF_RECORD (omega arith)) (request_in_range modes.host_end_of_record Will END_OF_RECORD (omega arith)))
-    (request_in_range modes.station_binary Do BINARY (omega arith))) (request_in_range modes.host_binary Will BINARY (omega arith))
+    all_append IsTelnet ((a ++ b) ++ c) d (all_append IsTelnet (a ++ b) c
+    (all_append IsTelnet a b (request_in_range modes.station_end_of_record Do END_OF_RECORD (omega arith))
+    (request_in_range modes.host_end_of_record Will END_OF_RECORD (omega arith)))
+    (request_in_range modes.station_binary Do BINARY (omega arith))) (request_in_range modes.host_binary Will BINARY
+    (omega arith))
 
 asks_in_range : IsTelnet name_request
 asks_in_range = search rules
@@ -136,11 +158,17 @@ host_reply_in_range : (h : HostState) (token : Telnet) → IsTelnet token → Ra
 host_reply_in_range h (Command code) r = tt
 host_reply_in_range h (Negotiate verb option) r = by_direction (direction_at_host verb option)
   where
-    by_offer : (d : Direction) (b : Bool) → Ranges (if b then Some (record { after = after_name_request h; reply = name_request ∷ [] }) else Some (host_table_answer h verb option d))
+    by_offer : (d : Direction) (b : Bool)
+        → Ranges (if b then Some (record { after = after_name_request h; reply = name_request ∷ [] }) else Some
+        (host_table_answer h verb option d))
     by_offer d true = (asks_in_range, tt)
     by_offer d false = option_in_range (host_row verb (entry h.modes d)).1 option r
 
-    by_test : (d : Direction) (b : Bool) → Ranges (if b then None else (if is_name_offered h verb d then Some (record { after = after_name_request h; reply = name_request ∷ [] }) else Some (host_table_answer h verb option d)))
+    by_test : (d : Direction) (b : Bool)
+        → Ranges (if b then None else (if is_name_offered h verb d then Some (record {
+          after = after_name_request h;
+          reply = name_request ∷ [];
+        }) else Some (host_table_answer h verb option d)))
     by_test d true = tt
     by_test d false = by_offer d (is_name_offered h verb d)
 
@@ -167,7 +195,8 @@ abbrev pub WritesWell : Reaction HostSide HostOutput → Type 0
 WritesWell (Refuses reason) = Unit {0}
 WritesWell (GoesOn end told) = AreWritable element_rules told.items
 
-record_writes : (h : HostSide) (flags : ℕ) (o : Opcode) (parts : List AnswerPart) → WritesWell (host_takes_record h flags o parts)
+record_writes : (h : HostSide) (flags : ℕ) (o : Opcode) (parts : List AnswerPart)
+    → WritesWell (host_takes_record h flags o parts)
 record_writes h flags PutGet parts = by_kind (asked_read h)
   where
     by_answer : (o : Option HostAnswer) → WritesWell (host_reads h o)
@@ -186,13 +215,15 @@ record_writes h flags NoOperation [] = (tt, tt)
 record_writes h flags o parts = tt
 
 pub host_writes_well : (h : HostSide) (item : Item AnswerPart) → IsInRange item → WritesWell (host_takes h item)
-host_writes_well h (TelnetItem token) range = by_answer (host_answer h.options token) (host_reply_in_range h.options token range)
+host_writes_well h (TelnetItem token) range = by_answer (host_answer h.options token)
+    (host_reply_in_range h.options token range)
   where
     by_answer : (o : Option (Answer HostState)) → Ranges o → WritesWell (host_negotiates h o)
     by_answer None a = tt
     by_answer (Some answer) a = host_tokens_writable answer.reply a
 host_writes_well h (RecordItem r) range = by_test (host_allows_records h.options)
   where
-    by_test : (b : Bool) → WritesWell (if b then host_takes_record h r.flags r.opcode r.body else Refuses RecordBeforeNegotiation)
+    by_test : (b : Bool) → WritesWell
+        (if b then host_takes_record h r.flags r.opcode r.body else Refuses RecordBeforeNegotiation)
     by_test true = record_writes h r.flags r.opcode r.body
     by_test false = tt

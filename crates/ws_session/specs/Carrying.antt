@@ -8,9 +8,10 @@ use Rattle.ws_code.specs.Device.{MayTake, MayGive, WentOut, FailedWithin, Gave, 
 
 module _ {S R : Type 0} (takes : MayTake S) (failures : S → ℕ) (sink sink' : S) (gives : MayGive R) (misses : R
     → ℕ) (source source' : R) where
-  -- all the bytes went out, and these are what the source gave next
+  -- all the bytes went out, and these are as many that the source gave next
   pub record IsCarried (bytes given : List ℕ) : Type 0 where
     pub wrote : WentOut takes failures sink sink' bytes
+    pub as_many : length given ≡ length bytes
     pub reads : ℕ
     pub gave : Gave gives misses source source' reads given
     pub few : reads ≤ length given

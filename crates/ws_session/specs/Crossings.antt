@@ -1,8 +1,9 @@
 -- What crosses a line: what its sink takes is to be read at its source.
 
-use Rattle.std.specs.Prelude.{◌≡◌, ℕ, ◌+◌, List, [], ◌∷◌, ◌++◌, length, take, drop}
+use Rattle.std.specs.Prelude.{◌≡◌, ℕ, ◌+◌, ◌⊎◌, List, [], ◌∷◌, ◌++◌, length, take, drop}
 use Rattle.std.specs.List.{AllByRecursion}
 use Rattle.ws_code.specs.declared.fault.Fault.{Fault}
+use Rattle.ws_code.specs.declared.fault.Fault.TheVariants.{Memory}
 use Rattle.ws_code.specs.Device.{MayTake, MayGive}
 use Rattle.ws_session.specs.declared.line.Line.{Line}
 use Rattle.ws_session.specs.Carrying.{IsCarried, IsCarryFault}
@@ -28,6 +29,10 @@ module _ {S R : Type 0} (takes : MayTake S) (failures : S → ℕ) (gives : MayG
       × IsCarried takes failures from.sink next.sink gives misses from.source next.source c.sent c.read
       × HaveCrossed next crossings to
 
+  -- some pieces crossed the line, and no further one went into it
+  abbrev pub HasCrossed : Line S R → Line S R → Type 0
+  HasCrossed from to = (crossings : List Crossing) × HaveCrossed from crossings to
+
   -- some pieces crossed the line, and the next one did not, for this fault
   pub record IsStopped (from to : Line S R) (fault : Fault) : Type 0 where
     pub crossings : List Crossing
@@ -36,3 +41,18 @@ module _ {S R : Type 0} (takes : MayTake S) (failures : S → ℕ) (gives : MayG
     pub bytes : List ℕ
     pub slice : List ℕ
     pub failed : IsCarryFault takes failures last.sink to.sink gives misses last.source to.source bytes slice fault
+
+  -- why no more crosses it: memory is wanting, and whatever went into it has crossed; or a piece did not cross
+  abbrev pub IsEnded : Line S R → Line S R → Fault → Type 0
+  IsEnded from to fault = ((fault ≡ Memory) × HasCrossed from to) ⊎ IsStopped from to fault
+
+-- the same of two lines: what went into the other has crossed it
+module _ {S R T Q : Type 0} (takes : MayTake S) (failures : S → ℕ) (gives : MayGive R) (misses : R → ℕ)
+    (takes' : MayTake
+    T) (failures' : T → ℕ) (gives' : MayGive Q) (misses' : Q → ℕ) where
+  abbrev pub AreEnded : Line S R → Line S R → Line T Q → Line T Q → Fault → Type 0
+  AreEnded from to from' to' fault =
+      ((fault ≡ Memory) × HasCrossed takes failures gives misses from to
+      × HasCrossed takes' failures' gives' misses' from' to')
+      ⊎ ((IsStopped takes failures gives misses from to fault × HasCrossed takes' failures' gives' misses' from' to')
+      ⊎ (HasCrossed takes failures gives misses from to × IsStopped takes' failures' gives' misses' from' to' fault))

@@ -1,9 +1,9 @@
 -- The bytes between the ends of a session, and what they do where they arrive
 
-use Rattle.std.specs.Prelude.{◌≡◌, ℕ, ◌+◌, ◌^◌, ◌<◌, List, [], ◌∷◌, ◌++◌, Option, Some, None, flat_map, length, take, drop}
+use Rattle.std.specs.Prelude.{◌≡◌, ℕ, ◌+◌, ◌^◌, ◌<◌, List, [], ◌∷◌, ◌++◌, Option, Some, flat_map, length, take, drop}
 use Rattle.ws_code.specs.declared.reason.Reason.{Reason}
 use Rattle.ws_session.specs.declared.refusal.Refusal.{Refusal}
-use Rattle.ws_session.specs.declared.refusal.Refusal.TheVariants.{At, Failed, Memory}
+use Rattle.ws_session.specs.declared.refusal.Refusal.TheVariants.{At, Memory}
 use Rattle.ws_session.specs.declared.world.Event.{Event}
 use Rattle.ws_session.specs.Acts.{Act, Came}
 use Rattle.ws_session.specs.Through.{Through}

@@ -5,7 +5,7 @@ use ws_keys::KeyRefusal;
 /// Why a key has no effect: the first that applies. The station is unchanged.
 #[derive(Clone, Copy, Debug, PartialEq, Eq)]
 pub enum KeyFault {
-    /// The station has refused a byte.
+    /// The station has refused a byte, or has taken 18,446,744,073,709,551,615.
     Failed,
     /// Records aren't allowed yet, and the key sends one.
     NotReady,

@@ -32,14 +32,14 @@ impl Player {
     // Presses a key, and writes what it sends.
     fn press<S: Sink>(&mut self, sink: &mut S, key: Key) -> Result<(), Fault>
         ensures done { OnOk result ((bytes : List ℕ) (items : List (Item Element)) (side : StationSide)
-            → StationLeads self.old.station bytes items side
+            → StationLeads self.old.station bytes items side → length bytes + 1 < 2 ^ 64
             → HasDone S.takes S.failures bytes items self.old self.new sink.old sink.new
             (at_moment side (Presses key))) }
         ensures place { (self.new.pressed ≡ self.old.pressed)
             × (self.new.records ≡ self.old.records) }
         ensures fault { IfErr result (λ fault. (fault ≡ Fault.Write)
             × ((bytes : List ℕ) (items : List (Item Element)) (side : StationSide)
-            → StationLeads self.old.station bytes items side
+            → StationLeads self.old.station bytes items side → length bytes + 1 < 2 ^ 64
             → FailedWithin S.takes S.failures sink.old sink.new
             (plain_spelling answer_rules (at_moment side (Presses key)).written))) }
     {
@@ -60,14 +60,14 @@ impl Player {
         keys: &[(u32, Key)],
     ) -> Result<(), Fault>
         ensures done { OnOk result ((bytes : List ℕ) (items : List (Item Element)) (side : StationSide)
-            → StationLeads self.old.station bytes items side
+            → StationLeads self.old.station bytes items side → length bytes + 1 < 2 ^ 64
             → HasDone S.takes S.failures bytes items self.old self.new sink.old sink.new
             (outcome side (due self.old.records (drop self.old.pressed keys.now)))) }
         ensures left { OnOk result (drop self.new.pressed keys.now
             ≡ later self.old.records (drop self.old.pressed keys.now)) }
         ensures fault { IfErr result (λ fault. (fault ≡ Fault.Write)
             × ((bytes : List ℕ) (items : List (Item Element)) (side : StationSide)
-            → StationLeads self.old.station bytes items side
+            → StationLeads self.old.station bytes items side → length bytes + 1 < 2 ^ 64
             → FailedWithin S.takes S.failures sink.old sink.new (plain_spelling answer_rules
             (outcome side (due self.old.records (drop self.old.pressed keys.now))).written))) }
     {
@@ -93,7 +93,7 @@ impl Player {
             (items : List (Item Element)) (byte : ℕ)
             → HasCome S.takes S.failures terminal keys.now start
             (record self.old { station = before }) sink.old bytes items
-            → length bytes + 1 < 2 ^ 64
+            → length bytes + 2 < 2 ^ 64
             → IsStepped before self.old.station bytes items
             (behind terminal keys.now items).side byte (Ok step.now)
             → (next : List (Item Element)) × HasCome S.takes S.failures terminal keys.now
@@ -102,7 +102,7 @@ impl Player {
             (terminal : ATerminal) (before : StationParts) (bytes : List ℕ) (items : List (Item Element)) (byte : ℕ)
             → HasCome S.takes S.failures terminal keys.now start
             (record self.old { station = before }) sink.old bytes items
-            → length bytes + 1 < 2 ^ 64
+            → length bytes + 2 < 2 ^ 64
             → IsStepped before self.old.station bytes items
             (behind terminal keys.now items).side byte (Ok step.now)
             → RunUnwritten terminal keys.now S.takes S.failures start sink.new
@@ -121,13 +121,13 @@ impl Player {
     fn take<S: Sink>(&mut self, sink: &mut S, keys: &[(u32, Key)], byte: u8) -> Result<(), Fault>
         ensures come { OnOk result ((start : S) (terminal : ATerminal) (bytes : List ℕ) (items : List (Item Element))
             → HasCome S.takes S.failures terminal keys.now start self.old sink.old bytes items
-            → length bytes + 1 < 2 ^ 64
+            → length bytes + 2 < 2 ^ 64
             → (next : List (Item Element)) × HasCome S.takes S.failures terminal keys.now
             start self.new sink.new (bytes ++ byte ∷ []) next) }
         ensures fault { IfErr result (λ fault. (start : S) (terminal : ATerminal) (bytes : List ℕ)
             (items : List (Item Element))
             → HasCome S.takes S.failures terminal keys.now start self.old sink.old bytes items
-            → length bytes + 1 < 2 ^ 64
+            → length bytes + 2 < 2 ^ 64
             → IsRunFault terminal keys.now S.takes S.failures start sink.new
             (length bytes) (bytes ++ byte ∷ []) fault) }
     {
@@ -148,13 +148,13 @@ impl Player {
     ) -> Result<(), Fault>
         ensures come { OnOk result ((start : S) (terminal : ATerminal) (bytes : List ℕ) (items : List (Item Element))
             → HasCome S.takes S.failures terminal keys.now start self.old sink.old bytes items
-            → length bytes + length piece.now < 2 ^ 64
+            → length bytes + length piece.now + 1 < 2 ^ 64
             → (next : List (Item Element)) × HasCome S.takes S.failures terminal keys.now
             start self.new sink.new (bytes ++ piece.now) next) }
         ensures fault { IfErr result (λ fault. (start : S) (terminal : ATerminal) (bytes : List ℕ)
             (items : List (Item Element))
             → HasCome S.takes S.failures terminal keys.now start self.old sink.old bytes items
-            → length bytes + length piece.now < 2 ^ 64
+            → length bytes + length piece.now + 1 < 2 ^ 64
             → IsRunFault terminal keys.now S.takes S.failures start sink.new
             (length bytes) (bytes ++ piece.now) fault) }
     {

@@ -2,7 +2,7 @@ use std::error::Error;
 use std::fmt;
 use ws_code::Reason;
 
-/// Why an end takes no more bytes. Every later call but a look at its screen answers `Failed`.
+/// Why an end takes no more bytes. Each later byte, key, send or cancel is answered by `Failed`.
 #[derive(Clone, Copy, Debug, PartialEq, Eq)]
 pub enum Refusal {
     /// This byte is refused, or the item that it ends. The place counts bytes from 0.

@@ -5,7 +5,7 @@ use ws_code::Reason;
 /// Why a host end doesn't send or cancel: the first that applies. Nothing is changed by one.
 #[derive(Clone, Copy, Debug, PartialEq, Eq)]
 pub enum SendFault {
-    /// The host end has refused a byte.
+    /// The host end has refused a byte, or has taken 18,446,744,073,709,551,615.
     Failed,
     /// Records aren't allowed yet.
     NotAllowed,

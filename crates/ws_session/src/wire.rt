@@ -50,6 +50,14 @@ impl Wire {
         Ok(())
     }
 
+    // Has no effect, and tells what is so of every wire.
+    pub(crate) fn known(&self)
+        ensures arrived { self.now.at ≤ length self.now.bytes }
+        ensures few { length self.now.bytes + 1 < 2 ^ 64 }
+    {
+        let _at = self.at;
+    }
+
     // How many bytes are in flight.
     pub(crate) fn in_flight(&self) -> usize
         ensures left { self.now.at + result ≡ length self.now.bytes }

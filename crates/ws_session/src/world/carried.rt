@@ -1,9 +1,10 @@
 //! A session whose bytes go over a connection.
-ghost use Rattle.std.specs.Prelude.{◌≡◌, ◌≤◌, ◌+◌, ◌⊎◌, ◌∷◌, [], List as Seq, length, vec_len, IfOk, IfErr, OnOk};
+ghost use Rattle.std.specs.Prelude.{◌≡◌, ◌<◌, ◌^◌, ◌≤◌, ◌+◌, ◌⊎◌, ◌∷◌, [], List as Seq, length, vec_len, IfOk, IfErr, OnOk};
 ghost use Rattle.ws_nego.specs.declared.terminal.TerminalType.{TerminalType as ATerminal};
-ghost use Rattle.ws_session.specs.Crossings.{Crossing, AreFaithful, HaveCrossed, IsStopped};
+ghost use Rattle.ws_session.specs.Crossings.{Crossing, AreFaithful, HaveCrossed, IsEnded, AreEnded};
 ghost use Rattle.ws_session.specs.Reports.{IsReport};
 ghost use Rattle.ws_session.specs.Runs.{Runs};
+ghost use Rattle.ws_session.specs.TwoLines.{ends_of, all_read, HasMoved, HasRun, StationIsLed, HostIsLed, ComesDown, ComesUp};
 ghost use Rattle.ws_session.specs.World as spec;
 ghost use Rattle.ws_session.specs.World.{World as AWorld, new_world, after_move, after_moves};
 
@@ -24,7 +25,7 @@ impl World {
     /// # Errors
     ///
     /// `Write`, `Read` or `Truncated` as `carry` answers them, of the first piece that doesn't cross. `Memory` where a
-    /// growth was refused.
+    /// growth was refused; each piece that went into a line has then crossed it.
     pub fn run_carried<S: Sink, R: Source, T: Sink, Q: Source>(
         alloc: Global,
         terminal: TerminalType,
@@ -32,15 +33,25 @@ impl World {
         down: &mut Line<S, R>,
         up: &mut Line<T, Q>,
     ) -> Result<Report, Fault>
-        // Pieces crossed the lines. Where what was read is what was written, the session is that of `run`.
+        // Pieces crossed the lines. What came out of a line is what arrived at its end, whatever was written: each
+        // move did what the definition of a session over two lines says, and these bytes lead to the end, or it has
+        // refused one. Where what was read is what was written, the session is that of `run`.
         ensures done { IfOk result (λ r. (downs ups : Seq Crossing)
             × HaveCrossed S.takes S.failures R.gives R.failures down.old downs down.new
             × HaveCrossed T.takes T.failures Q.gives Q.failures up.old ups up.new
+            × HasRun terminal moves.now downs ups (record {
+              station = r.station;
+              host = r.host;
+              to_station = r.to_station;
+              to_host = r.to_host;
+              events = r.events;
+            })
+            × (length (all_read downs) + 1 < 2 ^ 64 → StationIsLed r.station (all_read downs))
+            × (length (all_read ups) + 1 < 2 ^ 64 → HostIsLed r.host (all_read ups))
             × (AreFaithful downs → AreFaithful ups → IsReport r.events r.station r.host
             r.to_station r.to_host (after_moves (new_world terminal) moves.now))) }
-        ensures fault { IfErr result (λ fault. (fault ≡ Fault.Memory)
-            ⊎ (IsStopped S.takes S.failures R.gives R.failures down.old down.new fault
-            ⊎ IsStopped T.takes T.failures Q.gives Q.failures up.old up.new fault)) }
+        ensures fault { IfErr result (AreEnded S.takes S.failures R.gives R.failures T.takes T.failures
+            Q.gives Q.failures down.old down.new up.old up.new) }
     {
         let mut world = World::new(alloc, terminal)?;
         for step in moves {
@@ -58,16 +69,18 @@ impl World {
         ensures taken { OnOk result ((downs ups : Seq Crossing)
             × HaveCrossed S.takes S.failures R.gives R.failures down.old downs down.new
             × HaveCrossed T.takes T.failures Q.gives Q.failures up.old ups up.new
+            × HasMoved (ends_of self.old) step.now downs ups (ends_of self.new)
             × (AreFaithful downs → AreFaithful ups → (t : ATerminal) (w : AWorld)
             → Runs t self.old w → Runs t self.new (after_move w step.now))) }
-        ensures fault { IfErr result (λ fault. (fault ≡ Fault.Memory)
-            ⊎ (IsStopped S.takes S.failures R.gives R.failures down.old down.new fault
-            ⊎ IsStopped T.takes T.failures Q.gives Q.failures up.old up.new fault)) }
+        ensures fault { IfErr result (AreEnded S.takes S.failures R.gives R.failures T.takes T.failures
+            Q.gives Q.failures down.old down.new up.old up.new) }
     {
         match step {
+            Move::Send(opcode, body) => self.order(*opcode, body.as_slice()),
+            Move::Cancel => self.cancel(),
             Move::ToStation(count) => self.carry_to_station(down, *count),
             Move::ToHost(count) => self.carry_to_host(up, *count),
-            _ => self.take(step),
+            Move::Key(key) => self.press(*key),
         }
     }
 
@@ -78,10 +91,10 @@ impl World {
     ) -> Result<(), Fault>
         ensures came { OnOk result ((crossings : Seq Crossing)
             × HaveCrossed S.takes S.failures R.gives R.failures line.old crossings line.new
+            × ComesDown (ends_of self.old) count crossings (ends_of self.new)
             × (AreFaithful crossings → (t : ATerminal) (w : AWorld)
             → Runs t self.old w → Runs t self.new (spec.bytes_to_station count w))) }
-        ensures fault { IfErr result (λ fault. (fault ≡ Fault.Memory)
-            ⊎ IsStopped S.takes S.failures R.gives R.failures line.old line.new fault) }
+        ensures fault { IfErr result (IsEnded S.takes S.failures R.gives R.failures line.old line.new) }
     {
         let mut left = count;
         while left > 0 {
@@ -105,11 +118,12 @@ impl World {
         requires small { piece ≤ 4096 }
         ensures came { OnOk result ((crossing : Crossing)
             × HaveCrossed S.takes S.failures R.gives R.failures line.old (crossing ∷ []) line.new
+            × ComesDown (ends_of self.old) piece (crossing ∷ []) (ends_of self.new)
             × (crossing.read ≡ crossing.sent → (t : ATerminal) (w : AWorld)
             → Runs t self.old w → Runs t self.new (spec.bytes_to_station piece w))) }
-        ensures fault { IfErr result (λ fault. (fault ≡ Fault.Memory)
-            ⊎ IsStopped S.takes S.failures R.gives R.failures line.old line.new fault) }
+        ensures fault { IfErr result (IsEnded S.takes S.failures R.gives R.failures line.old line.new) }
     {
+        self.known_wires();
         let mut taken = [0u8; PIECE];
         let read = &mut taken[..piece];
         carry(
@@ -129,10 +143,10 @@ impl World {
     ) -> Result<(), Fault>
         ensures came { OnOk result ((crossings : Seq Crossing)
             × HaveCrossed S.takes S.failures R.gives R.failures line.old crossings line.new
+            × ComesUp (ends_of self.old) count crossings (ends_of self.new)
             × (AreFaithful crossings → (t : ATerminal) (w : AWorld)
             → Runs t self.old w → Runs t self.new (spec.bytes_to_host count w))) }
-        ensures fault { IfErr result (λ fault. (fault ≡ Fault.Memory)
-            ⊎ IsStopped S.takes S.failures R.gives R.failures line.old line.new fault) }
+        ensures fault { IfErr result (IsEnded S.takes S.failures R.gives R.failures line.old line.new) }
     {
         let mut left = count;
         while left > 0 {
@@ -156,11 +170,12 @@ impl World {
         requires small { piece ≤ 4096 }
         ensures came { OnOk result ((crossing : Crossing)
             × HaveCrossed S.takes S.failures R.gives R.failures line.old (crossing ∷ []) line.new
+            × ComesUp (ends_of self.old) piece (crossing ∷ []) (ends_of self.new)
             × (crossing.read ≡ crossing.sent → (t : ATerminal) (w : AWorld)
             → Runs t self.old w → Runs t self.new (spec.bytes_to_host piece w))) }
-        ensures fault { IfErr result (λ fault. (fault ≡ Fault.Memory)
-            ⊎ IsStopped S.takes S.failures R.gives R.failures line.old line.new fault) }
+        ensures fault { IfErr result (IsEnded S.takes S.failures R.gives R.failures line.old line.new) }
     {
+        self.known_wires();
         let mut taken = [0u8; PIECE];
         let read = &mut taken[..piece];
         carry(

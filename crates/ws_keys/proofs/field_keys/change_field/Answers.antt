@@ -13,5 +13,7 @@ pub returns : goal.returns
 returns c =
     let s = c.args.screen.now in
     let f = c.args.field.now in
-    let at : c.place.result - c.place-2.result ≡ s.cursor - f.start = omega (arith, c.place.ensures.value, c.place-2.ensures.value, c.cursor.ensures) in
-    c.edit_field.ensures.exact ∙ ap (λ k. after_edit (field_edit f (after_change c.args.change f.format (cells_of s f) k) c.args.to) s) at
+    let at : c.place.result - c.place-2.result ≡ s.cursor - f.start =
+    omega (arith, c.place.ensures.value, c.place-2.ensures.value, c.cursor.ensures) in
+    c.edit_field.ensures.exact
+    ∙ ap (λ k. after_edit (field_edit f (after_change c.args.change f.format (cells_of s f) k) c.args.to) s) at

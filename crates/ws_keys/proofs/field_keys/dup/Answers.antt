@@ -16,8 +16,10 @@ returns c =
     let s = c.args.screen.now in
     let f = c.in_ok-field.field in
     let lets : not (is_dup f.format) ≡ false = ap not (sym c.dup.ensures ∙ c.if-not-dup.false) in (
-      past_open s f ((of_open s (λ f. not (is_dup f.format)), DupNotAllowed) ∷ []) c.in_ok-field.ensures.0 c.in_ok-field.ensures.1
+      past_open s f ((of_open s (λ f. not (is_dup f.format)), DupNotAllowed) ∷ []) c.in_ok-field.ensures.0
+          c.in_ok-field.ensures.1
           ∙ past_test s f (λ f. not (is_dup f.format)) DupNotAllowed [] c.in_ok-field.ensures.1 lets,
-      edited_to s c.change_field.new.screen f (λ f x i. after_dup x i) (λ f. next_field s) _ c.in_ok-field.ensures.1 c.next_field-to.ensures c.change_field.ensures,
+      edited_to s c.change_field.new.screen f (λ f x i. after_dup x i) (λ f. next_field s) _ c.in_ok-field.ensures.1
+          c.next_field-to.ensures c.change_field.ensures,
       refl,
     )

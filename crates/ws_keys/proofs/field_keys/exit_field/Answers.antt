@@ -14,6 +14,7 @@ returns c =
     let s = c.args.screen.now in
     let f = c.in_ok-field.field in (
       past_open s f [] c.in_ok-field.ensures.0 c.in_ok-field.ensures.1,
-      edited_to s c.change_field.new.screen f (λ f x i. after_exit f.format x i) (λ f. next_field s) _ c.in_ok-field.ensures.1 c.next_field-to.ensures c.change_field.ensures,
+      edited_to s c.change_field.new.screen f (λ f x i. after_exit f.format x i) (λ f. next_field s) _
+          c.in_ok-field.ensures.1 c.next_field-to.ensures c.change_field.ensures,
       refl,
     )

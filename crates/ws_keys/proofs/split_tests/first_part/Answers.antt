@@ -6,4 +6,5 @@ use Rattle.ws_stream.specs.AnswerLaws.{part_begins}
 use Rattle.ws_keys.proofs.split_tests.first_part.Goals as goal
 
 pub loop-at-init : goal.loop-at-init
-loop-at-init c = subst (λ (l : List ℕ). IsUnfinished answer_rules (place_in c.start-machine.result.phase) l) (sym c.start-machine.ensures.fresh) (part_begins (place_in c.start-machine.result.phase))
+loop-at-init c = subst (λ (l : List ℕ). IsUnfinished answer_rules (place_in c.start-machine.result.phase) l)
+    (sym c.start-machine.ensures.fresh) (part_begins (place_in c.start-machine.result.phase))

@@ -5,4 +5,5 @@ use Rattle.ws_stream.specs.ElementLaws.{element_begins}
 use Rattle.ws_keys.proofs.tests.first_element.Goals as goal
 
 pub loop-at-init : goal.loop-at-init
-loop-at-init c = subst (λ (l : List ℕ). IsUnfinished element_rules c.start-machine.result.place l) (sym c.start-machine.ensures.fresh) (element_begins c.start-machine.result.place)
+loop-at-init c = subst (λ (l : List ℕ). IsUnfinished element_rules c.start-machine.result.place l)
+    (sym c.start-machine.ensures.fresh) (element_begins c.start-machine.result.place)

@@ -10,18 +10,30 @@ pub change_field-requires-clause-asked : goal.change_field-requires-clause-asked
 change_field-requires-clause-asked c =
     let s = c.args.screen.now in
     let f = c.in_ok-field.field in
-    let inside = cursor_in s f c.in_ok-field.ensures.1 in
-    (omega (arith, inside.0, inside.1), c.in_ok-byte.ensures.2, λ signed. before_sign s f c.args.character inside.0 inside.1 c.in_ok-byte.ensures.0 signed)
+    let inside = cursor_in s f c.in_ok-field.ensures.1 in (
+      omega (arith, inside.0, inside.1),
+      c.in_ok-byte.ensures.2,
+      λ signed. before_sign s f c.args.character inside.0 inside.1 c.in_ok-byte.ensures.0 signed,
+    )
 
 pub returns : goal.returns
 returns c =
     let s = c.args.screen.now in
     let f = c.in_ok-field.field in
-    let full : not (slice_index s.cells (last_entry_cell f) == 0) ≡ false = ap not (sym c.has_room.ensures ∙ c.if-not-has_room.false) in (
-      past_open s f ((of_open s (forbids s c.args.character), WrongCharacter) ∷ (of_open s (λ f. not (slice_index s.cells (last_entry_cell f) == 0)), NoRoom) ∷ []) c.in_ok-field.ensures.0 c.in_ok-field.ensures.1
-          ∙ past_test s f (forbids s c.args.character) WrongCharacter ((of_open s (λ f. not (slice_index s.cells (last_entry_cell f) == 0)), NoRoom) ∷ []) c.in_ok-field.ensures.1 c.in_ok-byte.ensures.0
-          ∙ past_test s f (λ f. not (slice_index s.cells (last_entry_cell f) == 0)) NoRoom [] c.in_ok-field.ensures.1 full,
-      edited_to s c.change_field.new.screen f (λ f x i. after_insert f.format x i (byte_entered f c.args.character)) (after_character s) _ c.in_ok-field.ensures.1 c.after_character-to.ensures
-          (c.change_field.ensures ∙ ap (λ b. after_edit (field_edit f (after_insert f.format (cells_of s f) (s.cursor - f.start) b) c.after_character-to.result) s) c.in_ok-byte.ensures.1),
+    let full : not (slice_index s.cells (last_entry_cell f) == 0) ≡ false =
+    ap not (sym c.has_room.ensures ∙ c.if-not-has_room.false) in (
+      past_open s f ((of_open s (forbids s c.args.character), WrongCharacter)
+          ∷ (of_open s (λ f. not (slice_index s.cells (last_entry_cell f) == 0)), NoRoom) ∷ []) c.in_ok-field.ensures.0
+          c.in_ok-field.ensures.1
+          ∙ past_test s f (forbids s c.args.character) WrongCharacter
+          ((of_open s (λ f. not (slice_index s.cells (last_entry_cell f) == 0)), NoRoom) ∷ [])
+          c.in_ok-field.ensures.1 c.in_ok-byte.ensures.0
+          ∙ past_test s f (λ f. not (slice_index s.cells (last_entry_cell f) == 0)) NoRoom [] c.in_ok-field.ensures.1
+          full,
+      edited_to s c.change_field.new.screen f (λ f x i. after_insert f.format x i (byte_entered f c.args.character))
+          (after_character s) _ c.in_ok-field.ensures.1 c.after_character-to.ensures
+          (c.change_field.ensures ∙ ap
+          (λ b. after_edit (field_edit f (after_insert f.format (cells_of s f) (s.cursor - f.start) b)
+          c.after_character-to.result) s) c.in_ok-byte.ensures.1),
       refl,
     )

@@ -15,9 +15,13 @@ pub returns : goal.returns
 returns c =
     let s = c.args.screen.now in
     let f = c.in_ok-field.field in (
-      past_open s f ((of_open s (forbids s c.args.character), WrongCharacter) ∷ []) c.in_ok-field.ensures.0 c.in_ok-field.ensures.1
+      past_open s f ((of_open s (forbids s c.args.character), WrongCharacter) ∷ []) c.in_ok-field.ensures.0
+          c.in_ok-field.ensures.1
           ∙ past_test s f (forbids s c.args.character) WrongCharacter [] c.in_ok-field.ensures.1 c.in_ok-byte.ensures.0,
-      edited_to s c.change_field.new.screen f (λ f x i. with_byte_at x i (byte_entered f c.args.character)) (after_character s) _ c.in_ok-field.ensures.1 c.after_character-to.ensures
-          (c.change_field.ensures ∙ ap (λ b. after_edit (field_edit f (with_byte_at (cells_of s f) (s.cursor - f.start) b) c.after_character-to.result) s) c.in_ok-byte.ensures.1),
+      edited_to s c.change_field.new.screen f (λ f x i. with_byte_at x i (byte_entered f c.args.character))
+          (after_character s) _ c.in_ok-field.ensures.1 c.after_character-to.ensures
+          (c.change_field.ensures ∙ ap
+          (λ b. after_edit (field_edit f (with_byte_at (cells_of s f) (s.cursor - f.start) b)
+          c.after_character-to.result) s) c.in_ok-byte.ensures.1),
       refl,
     )

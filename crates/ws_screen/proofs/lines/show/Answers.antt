@@ -29,6 +29,7 @@ loop-index-preserved c =
           ∙ sym (map-range_with_len_more (shown_at cells) c.args.first index at refl);
       latin = subst Latin (sym written)
           (All-push (λ s. s.character < 256) _ new c.loop-index.invariant.latin c.shown_under.ensures.latin);
-      in_force = c.behind-attribute.ensures ∙ ap (λ a. if is_attribute byte then byte else a) c.loop-index.invariant.in_force
+      in_force = c.behind-attribute.ensures
+          ∙ ap (λ a. if is_attribute byte then byte else a) c.loop-index.invariant.in_force
           ∙ sym (attribute_at-more cells at inside) ∙ ap (attribute_at cells) (sym next);
     }

@@ -17,7 +17,8 @@ latin_at shown i s small all is =
 
 pub push-requires : goal.push-requires
 push-requires c =
-    let short : _ = latin_at c.args.shown.now c.loop-cell.cell-index c.cell-item.result (omega arith) c.requires.latin c.cell-item.is in
+    let short : _ = latin_at c.args.shown.now c.loop-cell.cell-index c.cell-item.result (omega arith) c.requires.latin
+    c.cell-item.is in
     let fits : length c.loop-cell.text.bytes + length (encode_utf8 c.cell-item.result.character) ≤ 160 =
     omega (arith, c.loop-cell.invariant.short, c.requires.short, short) in
     (lit< tt, fits)

@@ -6,8 +6,10 @@ use Rattle.ws_screen.proofs.searches.last_before.Goals as goal
 pub returns-then-count-gt0 : goal.returns-then-count-gt0
 returns-then-count-gt0 c =
     let last = c.count_before-count.result - 1 in
-    let counted : count_before c.args.place c.args.fields.now ≡ suc last = omega (arith, c.count_before-count.ensures.value) in
-    ap Some c.index-fields-count.is ∙ sym (last_before-is c.args.place c.args.fields.now c.index-fields-count.result last counted)
+    let counted : count_before c.args.place c.args.fields.now ≡ suc last =
+    omega (arith, c.count_before-count.ensures.value) in
+    ap Some c.index-fields-count.is
+    ∙ sym (last_before-is c.args.place c.args.fields.now c.index-fields-count.result last counted)
 
 pub returns-else-count-gt0 : goal.returns-else-count-gt0
 returns-else-count-gt0 c =

@@ -1,4 +1,5 @@
-use Rattle.std.proofs.Common.{◌≡◌, ◌≢◌, ℕ, ◌+◌, ◌-◌, ◌≤◌, List, ◌++◌, Some, length, take, drop, sym, ap, ◌∙◌, subst, arith, length-append}
+use Rattle.std.proofs.Common.{◌≡◌, ◌≢◌, ℕ, ◌+◌, ◌-◌, ◌≤◌, List, ◌++◌, Some, length, take, drop, sym, ap, ◌∙◌, subst}
+use Rattle.std.proofs.Common.{arith, length-append}
 use Rattle.std.proofs.lemmas.List.{length-take-le, take-append-le}
 use Rattle.std.proofs.lemmas.Slice.{take-put_mid_below}
 use Rattle.std.proofs.Math.Seq.{take-append-add}
@@ -7,14 +8,22 @@ use Rattle.ws_code.proofs.DeviceLaws.{gave_more, take_some, length_rest}
 use Rattle.ws_session.proofs.carrying.carry.Goals as goal
 
 -- the front of a slice behind a read into the rest of it
-front_more : (xs ys zs : List ℕ) (at n : ℕ) → at ≤ length xs → n ≤ length ys → take (at + n) (take at xs ++ (ys ++ zs)) ≡ take at xs ++ take n ys
+front_more : (xs ys zs : List ℕ) (at n : ℕ) → at ≤ length xs → n ≤ length ys → take (at + n) (take at xs ++ (ys ++ zs))
+    ≡ take at xs ++ take n ys
 front_more xs ys zs at n h k =
     let front : length (take at xs) ≡ at = length-take-le at xs h in
-    ap (λ j. take (j + n) (take at xs ++ (ys ++ zs))) (sym front) ∙ take-append-add (take at xs) (ys ++ zs) n ∙ ap (λ z. take at xs ++ z) (take-append-le n ys zs k)
+    ap (λ j. take (j + n) (take at xs ++ (ys ++ zs))) (sym front) ∙ take-append-add (take at xs) (ys ++ zs) n
+    ∙ ap (λ z. take at xs ++ z) (take-append-le n ys zs k)
 
 -- which is within the slice
-within_more : (xs ys zs : List ℕ) (at n : ℕ) → at ≤ length xs → n ≤ length ys → at + n ≤ length (take at xs ++ (ys ++ zs))
-within_more xs ys zs at n h k = omega (arith, length-append (take at xs) (ys ++ zs), length-append ys zs, length-take-le at xs h)
+within_more : (xs ys zs : List ℕ) (at n : ℕ) → at ≤ length xs → n ≤ length ys
+    → at + n ≤ length (take at xs ++ (ys ++ zs))
+within_more xs ys zs at n h k = omega (
+  arith,
+  length-append (take at xs) (ys ++ zs),
+  length-append ys zs,
+  length-take-le at xs h,
+)
 
 pub loop-at-preserved : goal.loop-at-preserved
 loop-at-preserved g c =
@@ -23,13 +32,17 @@ loop-at-preserved g c =
     let into = c.read.new.into in
     let n = c.in-Ok.given in
     let some : n ≢ 0 = c.in-Ok.given-test.1 in
-    let more = gave_more g.R.Source.gives g.R.Source.failures c.args.source.now c.loop-at.source c.read.new.self inv.gave.0 (take at c.loop-at.taken) _ (take n into) inv.gave.2 (omega (arith, inv.gave.1, inv.within)) c.in-Ok.ensures.ok.1 (take_some into n some c.in-Ok.ensures.ok.0) c.in-Ok.ensures.ok.2 in
+    let more = gave_more g.R.Source.gives g.R.Source.failures c.args.source.now c.loop-at.source c.read.new.self
+    inv.gave.0 (take at c.loop-at.taken) _ (take n into) inv.gave.2
+    (omega (arith, inv.gave.1, inv.within)) c.in-Ok.ensures.ok.1 (take_some into n some c.in-Ok.ensures.ok.0)
+    c.in-Ok.ensures.ok.2 in
     record {
       within = within_more c.loop-at.taken into _ at n inv.within c.in-Ok.ensures.ok.0;
       gave = (
         inv.gave.0 + 1,
         omega (arith, inv.gave.1),
-        subst (Gave g.R.Source.gives g.R.Source.failures c.args.source.now c.read.new.self (inv.gave.0 + 1)) (sym (front_more c.loop-at.taken into _ at n inv.within c.in-Ok.ensures.ok.0)) more,
+        subst (Gave g.R.Source.gives g.R.Source.failures c.args.source.now c.read.new.self (inv.gave.0 + 1))
+            (sym (front_more c.loop-at.taken into _ at n inv.within c.in-Ok.ensures.ok.0)) more,
       );
     }
 
@@ -53,7 +66,8 @@ returns-in-Ok-eq0-clause-fault g c =
         one_left = omega (arith, inv.gave.1);
         room = room;
         has_room = omega (arith, length_rest slice at);
-        end = subst (λ (n : ℕ). g.R.Source.gives c.loop-at.source room (Some (take n c.read.new.into)) c.read.new.self) zero c.in-Ok-eq0.ensures.ok.1;
+        end = subst (λ (n : ℕ). g.R.Source.gives c.loop-at.source room (Some (take n c.read.new.into)) c.read.new.self)
+            zero c.in-Ok-eq0.ensures.ok.1;
         uncounted = c.in-Ok-eq0.ensures.ok.2 ∙ inv.gave.2.uncounted;
       };
       few = inv.gave.1;

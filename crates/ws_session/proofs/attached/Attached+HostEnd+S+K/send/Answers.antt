@@ -3,27 +3,29 @@ use Rattle.std.proofs.Common.{subst}
 use Rattle.ws_session.specs.Attachments.{AttachedParts}
 use Rattle.ws_session.specs.HostLeads.{HostParts}
 use Rattle.ws_session.specs.HostSide.{host_send}
-use Rattle.ws_session.specs.Manners.{IsSendRefusal}
+use Rattle.ws_session.specs.Manners.{IsSendRefusal, IsSendTaken}
 use Rattle.ws_session.proofs.WorldSteps.{refrains}
 use Rattle.ws_code.proofs.DeviceLaws.{went_out_none}
 use Rattle.ws_session.specs.declared.end_step.Order.TheVariants.{Send}
 use Rattle.ws_session.specs.declared.send_fault.SendFault.TheVariants.{Memory}
 use Rattle.ws_session.specs.Manners.{HostGoes, HostRefuses}
-use Rattle.ws_session.proofs.EndDeeds.{deed_led, send_fails, send_goes, send_refused_goes}
+use Rattle.ws_session.proofs.EndDeeds.{deed_led, send_fails, send_goes, send_refused_goes, send_taken}
 use Rattle.ws_session.proofs.attached.Attached+HostEnd+S+K.send.Goals as goal
 
 pub returns-in-Err-write_whole-clause-fault : goal.returns-in-Err-write_whole-clause-fault
 returns-in-Err-write_whole-clause-fault g c = λ works.
     send_fails HostGoes HostRefuses g.K.Sink.takes g.K.Sink.failures g.S.Source.gives g.S.Source.failures
     c.args.self.now _ _ c.self.view_is (Send c.args.opcode c.args.body.now) c.in-Ok.bytes.items
-    (send_goes c.self.inside.end c.send.new.self c.args.opcode c.args.body.now c.requires.other c.in-Ok.bytes.items c.in-Ok.ensures.sent)
+    (send_goes c.self.inside.end c.send.new.self c.args.opcode c.args.body.now c.requires.other c.in-Ok.bytes.items
+    c.in-Ok.ensures.sent)
     (rw c.as_slice.ensures.value at c.in-Err-write_whole.ensures.err.1) _ c.in-Err-write_whole.ensures.err.0 refl
 
 pub returns-in_default-clause-sent : goal.returns-in_default-clause-sent
 returns-in_default-clause-sent g c =
     deed_led HostGoes HostRefuses g.K.Sink.takes g.K.Sink.failures g.S.Source.gives g.S.Source.failures
     c.args.self.now _ _ c.self.view_is (Send c.args.opcode c.args.body.now) c.in-Ok.bytes.items
-    (send_goes c.self.inside.end c.send.new.self c.args.opcode c.args.body.now c.requires.other c.in-Ok.bytes.items c.in-Ok.ensures.sent)
+    (send_goes c.self.inside.end c.send.new.self c.args.opcode c.args.body.now c.requires.other c.in-Ok.bytes.items
+    c.in-Ok.ensures.sent)
     (rw c.as_slice.ensures.value at c.in_default.ensures.ok)
 
 pub returns-else-eq-clause-sent : goal.returns-else-eq-clause-sent
@@ -31,11 +33,22 @@ returns-else-eq-clause-sent g c =
     let ne : c.in-Err.fault ≡ Memory → ⊥ = search rules in
     deed_led HostGoes HostRefuses g.K.Sink.takes g.K.Sink.failures g.S.Source.gives g.S.Source.failures
     c.args.self.now _ _ c.self.view_is (Send c.args.opcode c.args.body.now) []
-    (send_refused_goes c.self.inside.end c.send.new.self c.args.opcode c.args.body.now c.requires.other c.in-Err.fault ne c.in-Err.ensures.same c.in-Err.ensures.sent)
+    (send_refused_goes c.self.inside.end c.send.new.self c.args.opcode c.args.body.now c.requires.other c.in-Err.fault
+    ne c.in-Err.ensures.same c.in-Err.ensures.sent)
     (went_out_none g.K.Sink.takes g.K.Sink.failures c.self.inside.sink)
 
 pub returns-else-eq-clause-told : goal.returns-else-eq-clause-told
 returns-else-eq-clause-told g c =
     let ne : c.in-Err.fault ≡ Memory → ⊥ = search rules in
-    subst (λ (z : AttachedParts HostParts _ _). IsSendRefusal z.end (λ side. host_send side c.args.opcode c.args.body.now) c.in-Err.fault) c.self.view_is
-    (λ bytes items side l few. refrains (host_send side c.args.opcode c.args.body.now) c.in-Err.fault ne (c.in-Err.ensures.sent bytes items side l))
+    subst (λ (z : AttachedParts HostParts _ _). IsSendRefusal z.end
+    (λ side. host_send side c.args.opcode c.args.body.now) c.in-Err.fault) c.self.view_is
+    (λ bytes items side l few. refrains (host_send side c.args.opcode c.args.body.now) c.in-Err.fault ne
+    (c.in-Err.ensures.sent bytes items side l few))
+
+pub returns-in_default-clause-taken : goal.returns-in_default-clause-taken
+returns-in_default-clause-taken g c =
+    subst (λ (z : AttachedParts HostParts _ _). IsSendTaken z.end
+    (λ side. host_send side c.args.opcode c.args.body.now))
+    c.self.view_is
+    (λ bytes items side l few. send_taken c.send.new.self bytes items (host_send side c.args.opcode c.args.body.now)
+    c.in-Ok.bytes.items (c.in-Ok.ensures.sent bytes items side l few))

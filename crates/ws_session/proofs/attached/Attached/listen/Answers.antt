@@ -1,41 +1,69 @@
 use Rattle.std.proofs.Common.{ap, ◌∙◌, [], ◌++◌, arith}
-use Rattle.ws_session.proofs.Attachings.{reads_on, reads_heard, reads_fail, at_once, heard_at_once, fails_at_once, hearing_endless}
+use Rattle.ws_session.proofs.Attachings.{reads_on, reads_heard, reads_fail, at_once, heard_at_once, fails_at_once}
+use Rattle.ws_session.proofs.Attachings.{hearing_endless}
 use Rattle.ws_session.proofs.attached.Attached.listen.Goals as goal
 
 pub returns-in-Ok-Some-clause-heard : goal.returns-in-Ok-Some-clause-heard
-returns-in-Ok-Some-clause-heard g c = heard_at_once g.E.End.goes g.E.End.refuses g.K.Sink.takes g.K.Sink.failures g.S.Source.gives g.S.Source.failures g.met.E.End.follows c.args.self.now c.take_waiting.new.self c.in-Ok-Some.event (rw c.in-Ok-Some.field-0-is at c.in-Ok-Some.ensures.taken)
+returns-in-Ok-Some-clause-heard g c = heard_at_once g.E.End.goes g.E.End.refuses g.K.Sink.takes g.K.Sink.failures
+    g.S.Source.gives g.S.Source.failures g.met.E.End.follows c.args.self.now c.take_waiting.new.self c.in-Ok-Some.event
+    (rw c.in-Ok-Some.field-0-is at c.in-Ok-Some.ensures.taken)
 
 pub returns-in-Err-clause-fault : goal.returns-in-Err-clause-fault
-returns-in-Err-clause-fault g c = fails_at_once g.E.End.goes g.E.End.refuses g.K.Sink.takes g.K.Sink.failures g.S.Source.gives g.S.Source.failures g.met.E.End.follows c.args.self.now c.take_waiting.new.self c.in-Err.fault c.in-Err.ensures.fault
+returns-in-Err-clause-fault g c = fails_at_once g.E.End.goes g.E.End.refuses g.K.Sink.takes g.K.Sink.failures
+    g.S.Source.gives g.S.Source.failures g.met.E.End.follows c.args.self.now c.take_waiting.new.self c.in-Err.fault
+    c.in-Err.ensures.fault
 
 pub loop-init : goal.loop-init
 loop-init g c =
-    let p = at_once g.E.End.goes g.E.End.refuses g.K.Sink.takes g.K.Sink.failures g.S.Source.gives g.S.Source.failures g.met.E.End.follows c.args.self.now c.take_waiting.new.self (rw c.in-Ok-None.field-0-is at c.in-Ok-None.ensures.taken) in
+    let p = at_once g.E.End.goes g.E.End.refuses g.K.Sink.takes g.K.Sink.failures g.S.Source.gives g.S.Source.failures
+    g.met.E.End.follows c.args.self.now c.take_waiting.new.self
+    (rw c.in-Ok-None.field-0-is at c.in-Ok-None.ensures.taken) in
     (p.0, [], p.1, p.2, p.3, c.in-Ok-None.ensures.works ∙ c.requires.works, p.4)
 
 pub loop-preserved : goal.loop-preserved
 loop-preserved g c =
     let i = c.loop.invariant in
     let f = c.in-Ok-true.ensures.some in
-    let p = reads_on g.E.End.goes g.E.End.refuses g.K.Sink.takes g.K.Sink.failures g.S.Source.gives g.S.Source.failures g.met.E.End.follows c.args.self.now c.loop.self _ c.take_waiting-in-loop.new.self c.self.view_is i.0 i.1 c.loop.counter i.2 i.3 i.6 (omega (arith, c.loop-test.true)) c.fill.new.self c.fill.new.source f.0 f.1 (f.2 c.in-Ok-true.field-0-test) (rw c.in-Ok-None-take_waiting.field-0-is at c.in-Ok-None-take_waiting.ensures.taken) in
-    (p.0, i.1 ++ c.fill.new.self, p.1, p.2, p.3, c.in-Ok-None-take_waiting.ensures.works ∙ ap (λ z. z.broken) c.self.view_is ∙ i.5, p.4)
+    let p = reads_on g.E.End.goes g.E.End.refuses g.K.Sink.takes g.K.Sink.failures g.S.Source.gives g.S.Source.failures
+    g.met.E.End.follows c.args.self.now c.loop.self _ c.take_waiting-in-loop.new.self c.self.view_is i.0 i.1
+    c.loop.counter i.2 i.3 i.6 (omega (arith, c.loop-test.true)) c.fill.new.self c.fill.new.source f.0 f.1
+    (f.2 c.in-Ok-true.field-0-test)
+    (rw c.in-Ok-None-take_waiting.field-0-is at c.in-Ok-None-take_waiting.ensures.taken) in (
+      p.0,
+      i.1 ++ c.fill.new.self,
+      p.1,
+      p.2,
+      p.3,
+      c.in-Ok-None-take_waiting.ensures.works
+          ∙ ap (λ z. z.broken) c.self.view_is ∙ i.5,
+      p.4,
+    )
 
 pub returns-in-Ok-Some-take_waiting-clause-heard : goal.returns-in-Ok-Some-take_waiting-clause-heard
 returns-in-Ok-Some-take_waiting-clause-heard g c =
     let i = c.loop.invariant in
     let f = c.in-Ok-true.ensures.some in
-    reads_heard g.E.End.goes g.E.End.refuses g.K.Sink.takes g.K.Sink.failures g.S.Source.gives g.S.Source.failures g.met.E.End.follows c.args.self.now c.loop.self _ c.take_waiting-in-loop.new.self c.self.view_is i.0 i.1 c.loop.counter i.2 i.3 i.6 (omega (arith, c.loop-test.true)) c.fill.new.self c.fill.new.source f.0 f.1 (f.2 c.in-Ok-true.field-0-test) c.in-Ok-Some-take_waiting.event (rw c.in-Ok-Some-take_waiting.field-0-is at c.in-Ok-Some-take_waiting.ensures.taken)
+    reads_heard g.E.End.goes g.E.End.refuses g.K.Sink.takes g.K.Sink.failures g.S.Source.gives g.S.Source.failures
+    g.met.E.End.follows c.args.self.now c.loop.self _ c.take_waiting-in-loop.new.self c.self.view_is i.0 i.1
+    c.loop.counter i.2 i.3 i.6 (omega (arith, c.loop-test.true)) c.fill.new.self c.fill.new.source f.0 f.1
+    (f.2 c.in-Ok-true.field-0-test) c.in-Ok-Some-take_waiting.event
+    (rw c.in-Ok-Some-take_waiting.field-0-is at c.in-Ok-Some-take_waiting.ensures.taken)
 
 pub returns-in-Err-take_waiting-clause-fault : goal.returns-in-Err-take_waiting-clause-fault
 returns-in-Err-take_waiting-clause-fault g c =
     let i = c.loop.invariant in
     let f = c.in-Ok-true.ensures.some in
-    reads_fail g.E.End.goes g.E.End.refuses g.K.Sink.takes g.K.Sink.failures g.S.Source.gives g.S.Source.failures g.met.E.End.follows c.args.self.now c.loop.self _ c.take_waiting-in-loop.new.self c.self.view_is i.0 i.1 c.loop.counter i.2 i.3 i.6 (omega (arith, c.loop-test.true)) c.fill.new.self c.fill.new.source f.0 f.1 (f.2 c.in-Ok-true.field-0-test) c.in-Err-take_waiting.fault c.in-Err-take_waiting.ensures.fault
+    reads_fail g.E.End.goes g.E.End.refuses g.K.Sink.takes g.K.Sink.failures g.S.Source.gives g.S.Source.failures
+    g.met.E.End.follows c.args.self.now c.loop.self _ c.take_waiting-in-loop.new.self c.self.view_is i.0 i.1
+    c.loop.counter i.2 i.3 i.6 (omega (arith, c.loop-test.true)) c.fill.new.self c.fill.new.source f.0 f.1
+    (f.2 c.in-Ok-true.field-0-test) c.in-Err-take_waiting.fault c.in-Err-take_waiting.ensures.fault
 
 pub returns-clause-fault : goal.returns-clause-fault
 returns-clause-fault g c =
     let i = c.loop.invariant in
-    hearing_endless g.E.End.goes g.E.End.refuses g.K.Sink.takes g.K.Sink.failures g.S.Source.gives g.S.Source.failures g.met.E.End.follows c.args.self.now c.loop.self i.0 i.1 c.loop.counter (omega (arith, c.loop-test.false, c.loop.auto.counter-end)) i.2 i.3 i.4 i.6
+    hearing_endless g.E.End.goes g.E.End.refuses g.K.Sink.takes g.K.Sink.failures g.S.Source.gives g.S.Source.failures
+    g.met.E.End.follows c.args.self.now c.loop.self i.0 i.1 c.loop.counter
+    (omega (arith, c.loop-test.false, c.loop.auto.counter-end)) i.2 i.3 i.4 i.6
 
 pub returns-in-Ok-false-clause-works : goal.returns-in-Ok-false-clause-works
 returns-in-Ok-false-clause-works g c = ap (λ z. z.broken) c.self.view_is ∙ c.loop.invariant.5
@@ -44,7 +72,8 @@ pub returns-in-Err-fill-clause-breaks : goal.returns-in-Err-fill-clause-breaks
 returns-in-Err-fill-clause-breaks g c = ap (λ z. z.broken) c.self.view_is ∙ c.loop.invariant.5
 
 pub returns-in-Ok-Some-take_waiting-clause-works : goal.returns-in-Ok-Some-take_waiting-clause-works
-returns-in-Ok-Some-take_waiting-clause-works g c = c.in-Ok-Some-take_waiting.ensures.works ∙ ap (λ z. z.broken) c.self.view_is ∙ c.loop.invariant.5
+returns-in-Ok-Some-take_waiting-clause-works g c = c.in-Ok-Some-take_waiting.ensures.works
+    ∙ ap (λ z. z.broken) c.self.view_is ∙ c.loop.invariant.5
 
 pub returns-clause-breaks : goal.returns-clause-breaks
 returns-clause-breaks g c = c.loop.invariant.5

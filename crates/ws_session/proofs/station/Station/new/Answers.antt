@@ -1,5 +1,17 @@
-use Rattle.std.proofs.Common.{rules}
+use Rattle.std.proofs.Common.{rules, [], None, refl}
 use Rattle.ws_session.proofs.station.Station.new.Goals as goal
 
+pub returns-clause-leads : goal.returns-clause-leads
+returns-clause-leads c = record {
+  head = None;
+  units = [];
+  leads = ([], c.new.ensures);
+  body = c.new-kept.ensures;
+  options = search rules;
+  given = search rules;
+  counted = refl;
+  works = refl;
+}
+
 pub returns-clause-fresh : goal.returns-clause-fresh
-returns-clause-fresh c = record { terminal = c.args.terminal; leads = search rules }
+returns-clause-fresh c = record { terminal = c.args.terminal; leads = returns-clause-leads c }

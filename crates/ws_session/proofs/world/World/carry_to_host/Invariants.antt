@@ -2,6 +2,7 @@ use Rattle.std.proofs.Common.{◌≡◌, ◌+◌, ℕ, List}
 use Rattle.ws_nego.specs.declared.terminal.TerminalType.{TerminalType}
 use Rattle.ws_session.specs.Crossings.{Crossing, AreFaithful, HaveCrossed}
 use Rattle.ws_session.specs.Runs.{Runs}
+use Rattle.ws_session.specs.TwoLines.{ends_of, ComesUp}
 use Rattle.ws_session.specs.World.{World, bytes_to_host}
 use Rattle.ws_session.proofs.world.World.carry_to_host.Given as goal
 
@@ -14,6 +15,9 @@ invariant-loop-left g l = record {
   gone : ℕ;
   all : gone + l.left ≡ l.fn.count;
   crossings : List Crossing;
-  crossed : HaveCrossed g.S.Sink.takes g.S.Sink.failures g.R.Source.gives g.R.Source.failures l.fn.line crossings l.line;
-  runs : AreFaithful crossings → (t : TerminalType) (w : World) → Runs t l.fn.self w → Runs t l.self (bytes_to_host gone w);
+  crossed : HaveCrossed g.S.Sink.takes g.S.Sink.failures g.R.Source.gives g.R.Source.failures l.fn.line crossings
+      l.line;
+  heard : ComesUp (ends_of l.fn.self) gone crossings (ends_of l.self);
+  runs : AreFaithful crossings → (t : TerminalType) (w : World) → Runs t l.fn.self w
+      → Runs t l.self (bytes_to_host gone w);
 }

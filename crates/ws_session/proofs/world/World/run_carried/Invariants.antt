@@ -1,6 +1,7 @@
 use Rattle.std.proofs.Common.{List, take}
 use Rattle.ws_session.specs.Crossings.{Crossing, AreFaithful, HaveCrossed}
 use Rattle.ws_session.specs.Runs.{Runs}
+use Rattle.ws_session.specs.TwoLines.{ends_of, HasRun}
 use Rattle.ws_session.specs.World.{new_world, after_moves}
 use Rattle.ws_session.proofs.world.World.run_carried.Given as goal
 
@@ -11,5 +12,7 @@ invariant-loop-step g l = record {
   ups : List Crossing;
   went_down : HaveCrossed g.S.Sink.takes g.S.Sink.failures g.R.Source.gives g.R.Source.failures l.fn.down downs l.down;
   went_up : HaveCrossed g.T.Sink.takes g.T.Sink.failures g.Q.Source.gives g.Q.Source.failures l.fn.up ups l.up;
-  runs : AreFaithful downs → AreFaithful ups → Runs l.fn.terminal l.world (after_moves (new_world l.fn.terminal) (take l.step-index l.moves));
+  moved : HasRun l.fn.terminal (take l.step-index l.moves) downs ups (ends_of l.world);
+  runs : AreFaithful downs → AreFaithful ups → Runs l.fn.terminal l.world (after_moves (new_world l.fn.terminal)
+      (take l.step-index l.moves));
 }

@@ -18,5 +18,6 @@ returns-clause-written c =
       events = s.events.items;
     } in
     let new : WireParts → WorldParts = λ z. record old { up = z.bytes; at_host = z.at } in
-    subst (λ (k : WorldParts). OnOk c.write.result (new c.write.new.self ≡ record k { up = k.up ++ c.args.bytes.now })) c.self.view_is
+    subst (λ (k : WorldParts). OnOk c.write.result (new c.write.new.self ≡ record k { up = k.up ++ c.args.bytes.now }))
+    c.self.view_is
     (on_ok_weaker c.write.result (λ q. ap new q) c.write.ensures.written)

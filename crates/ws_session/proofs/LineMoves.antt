@@ -1,0 +1,326 @@
+use Rattle.std.specs.Prelude.{IfOk, OnOk}
+use Rattle.std.proofs.Common.{◌≡◌, ℕ, ◌+◌, ◌≤◌, List, [], ◌∷◌, ◌++◌, Result, Ok, Err, length, take, drop, refl, ap, ◌∙◌}
+use Rattle.std.proofs.Common.{sym, subst, arith, append_assoc, length-append, length-drop}
+use Rattle.std.proofs.lemmas.List.{append-nil, length-take-le, take_all, drop_all, drop-drop, drop-append-le}
+use Rattle.std.proofs.lemmas.Grind.{flat_map-append}
+use Rattle.std.proofs.Math.Seq.{take-add, drop-append_seam, take-append-add}
+use Rattle.ws_code.specs.declared.reason.Reason.{Reason}
+use Rattle.ws_session.specs.declared.refusal.Refusal.{Refusal}
+use Rattle.ws_session.specs.declared.world.Event.{Event}
+use Rattle.ws_session.specs.declared.world.Move.{Move}
+use Rattle.ws_session.specs.Acts.{Act}
+use Rattle.ws_session.specs.Crossings.{Crossing, with_piece_at}
+use Rattle.ws_session.specs.HostLeads.{HostParts}
+use Rattle.ws_session.specs.StationLeads.{StationParts}
+use Rattle.ws_nego.specs.declared.terminal.TerminalType.{TerminalType}
+use Rattle.ws_session.specs.Runs.{WorldParts, Runs}
+use Rattle.ws_session.specs.World.{new_world}
+use Rattle.ws_session.specs.TwoLines.{TwoEnds, ends_of, all_sent, all_read, HaveCome, ComesDown, ComesUp}
+use Rattle.ws_session.specs.TwoLines.{IsDeliveredDown, IsDeliveredUp, HasMoved, HaveMoved, HasRun}
+use Rattle.ws_session.specs.Wires.{WireParts, AllCome, AreDelivered}
+
+-- Moves of a session whose bytes go over two lines.
+
+pub both_of_ok : {A E : Type 0} (r : Result A E) (P Q : Type 0) → OnOk r P → OnOk r Q → OnOk r (P × Q)
+both_of_ok (Ok a) P Q p q = (p, q)
+both_of_ok (Err e) P Q p q = tt
+
+pub both_if_ok : {A E : Type 0} (r : Result A E) (P Q : A → Type 0) → IfOk r P → IfOk r Q → IfOk r (λ a. P a × Q a)
+both_if_ok (Ok a) P Q p q = (p, q)
+both_if_ok (Err e) P Q p q = tt
+
+-- what a piece makes of the bytes in flight
+module _ (bytes : List ℕ) (at : ℕ) (read : List ℕ) (fits : at + length read ≤ length bytes) where
+  front : length (take at bytes) ≡ at
+  front = length-take-le at bytes (omega (arith, fits))
+
+  behind_front : drop at (with_piece_at bytes at read) ≡ read ++ drop (at + length read) bytes
+  behind_front =
+      ap (λ n. drop n (with_piece_at bytes at read)) (sym front)
+      ∙ ap (drop (length (take at bytes))) (append_assoc (take at bytes) read (drop (at + length read) bytes))
+      ∙ drop-append_seam (take at bytes) (read ++ drop (at + length read) bytes)
+
+  pub piece_first : take (length read) (drop at (with_piece_at bytes at read)) ≡ read
+  piece_first =
+      ap (take (length read)) behind_front
+      ∙ ap (λ n. take n (read ++ drop (at + length read) bytes)) (let e : length read
+      ≡ length read + 0 = omega arith in e)
+      ∙ take-append-add read (drop (at + length read) bytes) 0 ∙ append-nil read
+
+  pub piece_left : drop (at + length read) (with_piece_at bytes at read) ≡ drop (length read) (drop at bytes)
+  piece_left =
+      sym (drop-drop (length read) at (with_piece_at bytes at read)) ∙ ap (drop (length read)) behind_front
+      ∙ drop-append_seam read (drop (at + length read) bytes) ∙ sym (drop-drop (length read) at bytes)
+
+module _ {E Deed Told : Type 0} (goes : E → List (Act Deed) → List ℕ → List Told → E → Type 0) (refuses : E → ℕ
+    → Refusal → E → Type 0) (over : E → Type 0) (tells : Told → List Event) (refusal : ℕ → Reason → Event) where
+  -- bytes, and then further ones
+  come_on : (a b c : E) (xs ys : List ℕ) (v w : List ℕ) (s t : List Event)
+      → AllCome goes refuses over tells refusal a xs b v s
+      → AllCome goes refuses over tells refusal b ys c w t → AllCome goes refuses over tells refusal a (xs ++ ys) c
+      (v ++ w) (s ++ t)
+  come_on a b c [] ys v w s t p q =
+      subst (λ (z : List ℕ). AllCome goes refuses over tells refusal a ys c (z ++ w) (s ++ t)) (sym p.1)
+      (subst (λ (z : List Event). AllCome goes refuses over tells refusal a ys c w (z ++ t)) (sym p.2)
+      (subst (λ (z : E). AllCome goes refuses over tells refusal z ys c w t) p.0 q))
+  come_on a b c (x ∷ xs) ys v w s t p q = (
+    p.0,
+    p.1,
+    p.2 ++ w,
+    p.3,
+    p.4 ++ t,
+    p.5,
+    come_on p.0 b c xs ys p.2 w p.4 t p.6 q,
+    ap (λ z. z ++ w) p.7 ∙ append_assoc p.1 p.2 w,
+    ap (λ z. z ++ t) p.8 ∙ append_assoc p.3 p.4 t,
+  )
+
+  pub none_come : (e : E) (flight : List ℕ) → HaveCome goes refuses over tells refusal 0 [] flight flight e e [] []
+  none_come e flight = record { sent = refl; as_many = refl; left = refl; come = (refl, refl, refl) }
+
+  -- a piece that crossed
+  pub piece_comes : (old new : E) (bytes : List ℕ) (at n : ℕ) (read : List ℕ) (from' to to' : WireParts)
+      (told told' : List Event) → length read ≡ n → at + n ≤ length bytes
+      → (d : AreDelivered goes refuses over tells refusal old new (record {
+        bytes = with_piece_at bytes at read;
+        at = at;
+      }) from' to to' told told' n)
+      → HaveCome goes refuses over tells refusal n (record { sent = take n (drop at bytes); read = read } ∷ [])
+      (drop at bytes) (drop from'.at from'.bytes) old new d.written d.events
+  piece_comes old new bytes at n read from' to to' told told' is fits d =
+      let room : at + length read ≤ length bytes = omega (arith, is, fits) in
+      let same : d.bytes ≡ read = d.first ∙ ap (λ k. take k (drop at (with_piece_at bytes at read))) (sym is)
+      ∙ piece_first bytes at read room in
+      record {
+        sent = append-nil (take n (drop at bytes));
+        as_many = ap (λ (z : List ℕ). length z) (append-nil read) ∙ is
+            ∙ sym (length-take-le n (drop at bytes) (omega (arith, fits, length-drop at bytes)))
+            ∙ ap (λ (z : List ℕ). length z) (sym (append-nil (take n (drop at bytes))));
+        left = ap (λ (z : WireParts). drop z.at z.bytes) d.from_is
+            ∙ ap (λ (z : List ℕ). drop (at + length z) (with_piece_at bytes at read)) same
+            ∙ piece_left bytes at read room ∙ ap (λ k. drop k (drop at bytes)) is;
+        come = subst (λ (z : List ℕ). AllCome goes refuses over tells refusal old z new d.written d.events)
+            (same ∙ sym (append-nil read)) d.come;
+      }
+
+  module _ (a b : ℕ) (cs ds : List Crossing) (f g h : List ℕ) (old mid new : E) (v w : List ℕ) (s t : List Event) where
+    pub more_come : HaveCome goes refuses over tells refusal a cs f g old mid v s
+        → HaveCome goes refuses over tells refusal b ds g h mid new w t
+        → HaveCome goes refuses over tells refusal (a + b) (cs ++ ds) f h old new (v ++ w) (s ++ t)
+    more_come p q =
+        let sents : all_sent (cs ++ ds) ≡ all_sent cs ++ all_sent ds = flat_map-append
+        (λ (c : Crossing). c.sent) cs ds in
+        let reads : all_read (cs ++ ds) ≡ all_read cs ++ all_read ds = flat_map-append
+        (λ (c : Crossing). c.read) cs ds in
+        record {
+          sent = sents ∙ ap (λ z. z ++ all_sent ds) p.sent ∙ ap (λ z. take a f ++ z) q.sent
+              ∙ ap (λ z. take a f ++ take b z) p.left ∙ sym (take-add a b f);
+          as_many = omega (
+            arith,
+            p.as_many,
+            q.as_many,
+            ap (λ (z : List ℕ). length z) sents,
+            ap (λ (z : List ℕ). length z) reads,
+            length-append (all_sent cs) (all_sent ds),
+            length-append
+                (all_read cs) (all_read ds),
+          );
+          left = q.left ∙ ap (drop b) p.left ∙ drop-drop b a f;
+          come = subst (λ (z : List ℕ). AllCome goes refuses over tells refusal old z new (v ++ w) (s ++ t))
+              (sym reads) (come_on old mid new (all_read cs) (all_read ds) v w s t p.come q.come);
+        }
+
+  -- all that were in flight have come
+  pub all_have_come : (a b : ℕ) (cs : List Crossing) (f g : List ℕ) (old new : E) (v : List ℕ) (s : List Event) → a ≤ b
+      → g ≡ []
+      → HaveCome goes refuses over tells refusal a cs f g old new v s
+      → HaveCome goes refuses over tells refusal b cs f g old new v s
+  all_have_come a b cs f g old new v s le none p =
+      let few : length f ≤ a = omega (arith, ap (λ (z : List ℕ). length z) (sym p.left ∙ none), length-drop a f) in
+      record {
+        sent = p.sent ∙ take_all a f few ∙ sym (take_all b f (omega (arith, few, le)));
+        as_many = p.as_many;
+        left = none ∙ sym (drop_all b f (omega (arith, few, le)));
+        come = p.come;
+      }
+
+-- bytes down
+
+pub down_none : (now : WorldParts) → ComesDown (ends_of now) 0 [] (ends_of now)
+down_none now = (
+  [],
+  [],
+  none_come _ _ _ _ _ now.station (drop now.at_station now.down),
+  ap (λ (z : List ℕ). let e : TwoEnds = record (ends_of now) { to_host = z } in e)
+      (sym (append-nil (drop now.at_host now.up)))
+      ∙ ap (λ (z : List Event). let e : TwoEnds = record (ends_of now) {
+        to_host = drop now.at_host now.up ++ [];
+        events = z;
+      } in e) (sym (append-nil now.events)),
+)
+
+pub up_none : (now : WorldParts) → ComesUp (ends_of now) 0 [] (ends_of now)
+up_none now = (
+  [],
+  [],
+  none_come _ _ _ _ _ now.host (drop now.at_host now.up),
+  ap (λ (z : List ℕ). let e : TwoEnds = record (ends_of now) { to_station = z } in e)
+      (sym (append-nil (drop now.at_station now.down)))
+      ∙ ap (λ (z : List Event). let e : TwoEnds = record (ends_of now) {
+        to_station = drop now.at_station now.down
+            ++ [];
+        events = z;
+      } in e) (sym (append-nil now.events)),
+)
+
+-- what went over a line, written in the place of the bytes in flight
+module _ (old new : WorldParts) (n : ℕ) (read : List ℕ) (is : length read ≡ n) where
+  pub down_piece : old.at_station + n ≤ length old.down → old.at_host ≤ length old.up
+      → IsDeliveredDown (record old { down = with_piece_at old.down old.at_station read }) n new
+      → ComesDown (ends_of old) n (record { sent = take n (drop old.at_station old.down); read = read } ∷ [])
+      (ends_of new)
+  down_piece fits room d =
+      let flight = drop new.at_station new.down in
+      let upward : drop new.at_host new.up ≡ drop old.at_host old.up ++ d.0.written =
+      ap (λ (z : WireParts). drop z.at z.bytes) d.0.to_is ∙ drop-append-le old.at_host old.up d.0.written room in (
+        d.0.written,
+        d.0.events,
+        piece_comes _ _ _ _ _ old.station new.station old.down old.at_station n read _ _ _ old.events new.events is
+            fits d.0,
+        ap (λ (z : HostParts). let e : TwoEnds = record (ends_of new) { host = z } in e) d.1
+            ∙ ap (λ (z : List ℕ). let e : TwoEnds = record (ends_of new) { host = old.host; to_host = z } in e) upward
+            ∙ ap (λ (z : List Event). let e : TwoEnds = record (ends_of new) {
+              host = old.host;
+              to_host = drop old.at_host old.up ++ d.0.written;
+              events = z;
+            } in e) d.0.told_is,
+      )
+
+  pub up_piece : old.at_host + n ≤ length old.up → old.at_station ≤ length old.down
+      → IsDeliveredUp (record old { up = with_piece_at old.up old.at_host read }) n new
+      → ComesUp (ends_of old) n (record { sent = take n (drop old.at_host old.up); read = read } ∷ []) (ends_of new)
+  up_piece fits room d =
+      let downward : drop new.at_station new.down ≡ drop old.at_station old.down ++ d.0.written =
+      ap (λ (z : WireParts). drop z.at z.bytes) d.0.to_is ∙ drop-append-le old.at_station old.down d.0.written room in (
+        d.0.written,
+        d.0.events,
+        piece_comes _ _ _ _ _ old.host new.host old.up old.at_host n read _ _ _ old.events new.events is fits d.0,
+        ap (λ (z : StationParts). let e : TwoEnds = record (ends_of new) { station = z } in e) d.1
+            ∙ ap (λ (z : List ℕ). let e : TwoEnds = record (ends_of new) { station = old.station; to_station = z } in
+            e) downward
+            ∙ ap (λ (z : List Event). let e : TwoEnds = record (ends_of new) {
+              station = old.station;
+              to_station =
+                  drop old.at_station old.down ++ d.0.written;
+              events = z;
+            } in e) d.0.told_is,
+      )
+
+module _ (x y z : TwoEnds) (a b : ℕ) (cs ds : List Crossing) where
+  pub down_more : ComesDown x a cs y → ComesDown y b ds z → ComesDown x (a + b) (cs ++ ds) z
+  down_more p q = (
+    p.0 ++ q.0,
+    p.1 ++ q.1,
+    more_come _ _ _ _ _ a b cs ds x.to_station y.to_station z.to_station x.station y.station z.station p.0 q.0 p.1 q.1
+        p.2 q.2,
+    q.3
+        ∙ ap (λ (k : TwoEnds). let e : TwoEnds = record k {
+          station = z.station;
+          to_station = z.to_station;
+          to_host = k.to_host ++ q.0;
+          events = k.events ++ q.1;
+        } in e) p.3
+        ∙ ap (λ (k : List ℕ). let e : TwoEnds = record x {
+          station = z.station;
+          to_station = z.to_station;
+          to_host = k;
+          events = (x.events ++ p.1) ++ q.1;
+        } in e) (append_assoc x.to_host p.0 q.0)
+        ∙ ap (λ (k : List Event). let e : TwoEnds = record x {
+          station = z.station;
+          to_station = z.to_station;
+          to_host = x.to_host ++ (p.0 ++ q.0);
+          events = k;
+        } in e) (append_assoc x.events p.1 q.1),
+  )
+
+  pub up_more : ComesUp x a cs y → ComesUp y b ds z → ComesUp x (a + b) (cs ++ ds) z
+  up_more p q = (
+    p.0 ++ q.0,
+    p.1 ++ q.1,
+    more_come _ _ _ _ _ a b cs ds x.to_host y.to_host z.to_host x.host y.host z.host p.0 q.0 p.1 q.1 p.2 q.2,
+    q.3
+        ∙ ap (λ (k : TwoEnds). let e : TwoEnds = record k {
+          host = z.host;
+          to_station = k.to_station ++ q.0;
+          to_host = z.to_host;
+          events = k.events ++ q.1;
+        } in e) p.3
+        ∙ ap (λ (k : List ℕ). let e : TwoEnds = record x {
+          host = z.host;
+          to_station = k;
+          to_host = z.to_host;
+          events = (x.events ++ p.1) ++ q.1;
+        } in e) (append_assoc x.to_station p.0 q.0)
+        ∙ ap (λ (k : List Event). let e : TwoEnds = record x {
+          host = z.host;
+          to_station = x.to_station
+              ++ (p.0 ++ q.0);
+          to_host = z.to_host;
+          events = k;
+        } in e) (append_assoc x.events p.1 q.1),
+  )
+
+module _ (x y : TwoEnds) (a b : ℕ) (cs : List Crossing) (le : a ≤ b) where
+  pub down_all : y.to_station ≡ [] → ComesDown x a cs y → ComesDown x b cs y
+  down_all none p = (
+    p.0,
+    p.1,
+    all_have_come _ _ _ _ _ a b cs x.to_station y.to_station x.station y.station p.0 p.1 le
+        none p.2,
+    p.3,
+  )
+
+  pub up_all : y.to_host ≡ [] → ComesUp x a cs y → ComesUp x b cs y
+  up_all none p = (p.0, p.1, all_have_come _ _ _ _ _ a b cs x.to_host y.to_host x.host y.host p.0 p.1 le none p.2, p.3)
+
+-- one move more
+pub moved_on : (a b c : TwoEnds) (ms : List Move) (m : Move) (ds us es vs : List Crossing) → HaveMoved a ms ds us b
+    → HasMoved b m es vs c
+    → HaveMoved a (ms ++ m ∷ []) (ds ++ es) (us ++ vs) c
+moved_on a b c [] m ds us es vs p q = (
+  es,
+  vs,
+  [],
+  [],
+  c,
+  subst (λ (z : TwoEnds). HasMoved z m es vs c) p.2 q,
+  (refl, refl, refl),
+  ap (λ z. z ++ es) p.0 ∙ sym (append-nil es),
+  ap (λ z. z ++ vs) p.1 ∙ sym (append-nil vs),
+)
+moved_on a b c (x ∷ ms) m ds us es vs p q = (
+  p.0,
+  p.1,
+  p.2 ++ es,
+  p.3 ++ vs,
+  p.4,
+  p.5,
+  moved_on p.4 b c ms m p.2 p.3 es vs p.6 q,
+  ap (λ z. z ++ es) p.7 ∙ append_assoc p.0 p.2 es,
+  ap (λ z. z ++ vs) p.8 ∙ append_assoc p.1 p.3 vs,
+)
+
+-- before the first move
+pub begun : (t : TerminalType) (now : WorldParts) → Runs t now (new_world t) → HasRun t [] [] [] (ends_of now)
+begun t now r = (
+  ends_of now,
+  record {
+    station = r.station;
+    host = r.host;
+    to_station = ap (λ n. drop n now.down) r.at_station ∙ r.down;
+    to_host = ap (λ n. drop n now.up) r.at_host ∙ r.up;
+    untold = r.events;
+  },
+  (refl, refl, refl),
+)

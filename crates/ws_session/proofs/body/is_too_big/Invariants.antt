@@ -1,0 +1,8 @@
+use Rattle.std.proofs.Common.{◌≡◌, ◌+◌, take, length}
+use Rattle.ws_code.specs.Code.{spelling_of}
+use Rattle.ws_stream.specs.Elements.{element_rules}
+use Rattle.ws_session.proofs.body.is_too_big.Given as goal
+
+-- the room that the elements before leave
+abbrev pub invariant-loop-element : goal.invariant-loop-element
+invariant-loop-element l = l.room + length (spelling_of element_rules (take l.element-index l.body)) ≡ 65525

@@ -1,0 +1,18 @@
+use Rattle.std.proofs.Common.{◌≡◌, ◌+◌, ◌-◌, ◌<◌, ◌≤◌, ◌^◌, ℕ, None, List, [], length, take}
+use Rattle.ws_record.specs.declared.record.Item.{Item}
+use Rattle.ws_stream.specs.declared.answer_part.AnswerPart.{AnswerPart}
+use Rattle.ws_session.specs.HostFeeds.{HasHostFed, IsHostSilent}
+use Rattle.ws_session.specs.HostLeads.{HostLeads}
+use Rattle.ws_session.specs.HostSide.{HostSide}
+use Rattle.ws_session.proofs.host_end.HostEnd.feed.Given as goal
+
+-- the bytes so far were taken in silence
+abbrev pub invariant-loop-used : goal.invariant-loop-used
+invariant-loop-used l = (l.used ≤ length l.piece) × (l.self.screen ≡ l.fn.self.screen)
+    × ((bytes : List ℕ) (items : List (Item AnswerPart)) (side : HostSide) → HostLeads l.fn.self bytes items side
+    → length bytes + length l.piece + 1 < 2 ^ 64
+    → HasHostFed l.self bytes items side (take l.used l.piece) [] None
+    × ((n : ℕ) → n ≤ l.used → IsHostSilent bytes items side (take n l.piece)))
+
+abbrev pub decreases-loop-used : goal.decreases-loop-used
+decreases-loop-used l = length l.piece - l.used

@@ -1,0 +1,45 @@
+-- What a host end makes of a piece of bytes: it takes them one after another, up to the first that brings something.
+
+use Rattle.std.specs.Prelude.{◌≡◌, ℕ, ◌+◌, List, [], ◌∷◌, ◌++◌, Option, Err, length}
+use Rattle.ws_record.specs.declared.record.Item.{Item}
+use Rattle.ws_stream.specs.AnswerParts.{answer_rules}
+use Rattle.ws_stream.specs.Elements.{element_rules}
+use Rattle.ws_stream.specs.declared.answer_part.AnswerPart.{AnswerPart}
+use Rattle.ws_session.specs.declared.end_step.Order.{Order}
+use Rattle.ws_session.specs.declared.host_event.HostEvent.{HostEvent}
+use Rattle.ws_session.specs.declared.refusal.Refusal.{Refusal}
+use Rattle.ws_session.specs.Acts.{all_came, as_list, HasGone}
+use Rattle.ws_session.specs.Manners.{host_manner}
+use Rattle.ws_session.specs.HostLeads.{HostParts, HostLeads, IsHostPushed}
+use Rattle.ws_session.specs.HostSide.{HostSide}
+
+-- Behind these bytes others come, one after another: the host end refuses none of their items, writes and tells this,
+-- and then this holds of all bytes, their items, and the side that it has come to.
+abbrev pub HasHostTakenAll : (List ℕ → List (Item AnswerPart) → HostSide → Type 0) → List ℕ → List (Item AnswerPart)
+    → HostSide → List ℕ → List ℕ → List HostEvent → Type 0
+HasHostTakenAll Then bytes items side came = HasGone answer_rules element_rules host_manner Then bytes items side
+    (all_came {Deed = Order} came)
+
+-- it takes them to come to this host end
+abbrev pub HasHostFed : HostParts → List ℕ → List (Item AnswerPart) → HostSide → List ℕ → List ℕ → Option HostEvent
+    → Type 0
+HasHostFed new bytes items side came reply event =
+    HasHostTakenAll (HostLeads new) bytes items side came reply (as_list event)
+
+-- it writes and tells nothing at them
+abbrev pub IsHostSilent : List ℕ → List (Item AnswerPart) → HostSide → List ℕ → Type 0
+IsHostSilent bytes items side came = HasHostTakenAll (λ bytes' items' side'. Unit {0}) bytes items side came [] []
+
+-- it takes no byte behind this one, for which it fails as it does for that byte alone
+abbrev pub EndsAt : HostParts → HostParts → ℕ → Refusal → List ℕ → List (Item AnswerPart) → HostSide → Type 0
+EndsAt old new byte refusal bytes items side = IsHostPushed old new bytes items side byte (Err refusal)
+    × (new.receiver.live.taken ≡ length bytes + 1)
+
+-- it fails at a byte of the piece, and writes and tells nothing at those before it
+pub record HasHostRefused (old new : HostParts) (bytes : List ℕ) (items : List (Item AnswerPart)) (side : HostSide)
+    (piece : List ℕ) (refusal : Refusal) : Type 0 where
+  pub front : List ℕ
+  pub byte : ℕ
+  pub rest : List ℕ
+  pub split : piece ≡ front ++ byte ∷ rest
+  pub refused : HasHostTakenAll (EndsAt old new byte refusal) bytes items side front [] []

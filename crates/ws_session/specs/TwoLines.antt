@@ -1,0 +1,220 @@
+-- A session whose bytes go over two lines: what each move does, whatever the lines bring.
+
+use Rattle.std.specs.Prelude.{◌≡◌, ℕ, ◌+◌, ◌^◌, ◌<◌, ◌⊎◌, List, [], ◌∷◌, ◌++◌, IsSome, flat_map, length, take, drop}
+use Rattle.ws_code.specs.declared.reason.Reason.{Reason}
+use Rattle.ws_nego.specs.declared.terminal.TerminalType.{TerminalType}
+use Rattle.ws_nego.specs.Host.{opening}
+use Rattle.ws_record.specs.declared.opcode.Opcode.{Opcode}
+use Rattle.ws_record.specs.declared.opcode.Opcode.TheVariants.{CancelInvite}
+use Rattle.ws_record.specs.declared.record.Item.{Item}
+use Rattle.ws_record.specs.declared.record.Item.TheVariants.{Telnet as TelnetItem}
+use Rattle.ws_record.specs.Encode.{plain_spelling}
+use Rattle.ws_stream.specs.Elements.{element_rules}
+use Rattle.ws_stream.specs.declared.answer_part.AnswerPart.{AnswerPart}
+use Rattle.ws_stream.specs.declared.element.Element.{Element}
+use Rattle.ws_keys.specs.declared.key.Key.{Key}
+use Rattle.ws_session.specs.declared.end_step.Applied.{Applied}
+use Rattle.ws_session.specs.declared.end_step.Order.{Order}
+use Rattle.ws_session.specs.declared.end_step.Order.TheVariants.{Send as Sending, Cancel as Cancelling}
+use Rattle.ws_session.specs.declared.host_event.HostEvent.{HostEvent}
+use Rattle.ws_session.specs.declared.key_fault.KeyFault.TheVariants.{Failed as KeyFailed}
+use Rattle.ws_session.specs.declared.refusal.Refusal.{Refusal}
+use Rattle.ws_session.specs.declared.send_fault.SendFault.TheVariants.{Failed as SendFailed}
+use Rattle.ws_session.specs.declared.world.Event.{Event}
+use Rattle.ws_session.specs.declared.world.Event.TheVariants.{Host, KeyRefused, SendRefused, StationRefused}
+use Rattle.ws_session.specs.declared.world.Event.TheVariants.{HostRefused}
+use Rattle.ws_session.specs.declared.world.Move.{Move}
+use Rattle.ws_session.specs.declared.world.Move.TheVariants.{Send, Cancel, ToStation, ToHost, Key as Press}
+use Rattle.ws_session.specs.Acts.{Act, Did}
+use Rattle.ws_session.specs.Crossings.{Crossing}
+use Rattle.ws_session.specs.HostLeads.{HostParts, HostLeads}
+use Rattle.ws_session.specs.HostSide.{HostSide, new_host_side, host_cancel, SendReaction, RefusesSend}
+use Rattle.ws_session.specs.Manners.{StationGoes, StationRefuses, HostGoes, HostRefuses}
+use Rattle.ws_session.specs.Runs.{WorldParts}
+use Rattle.ws_session.specs.StationLeads.{StationParts, StationLeads}
+use Rattle.ws_session.specs.StationSide.{StationSide, new_station_side, station_key, KeyReaction, RefusesKey}
+use Rattle.ws_session.specs.Wires.{WireParts, AllCome, AreDelivered}
+use Rattle.ws_session.specs.World.{host_sends}
+
+-- where a session stands: both ends, the bytes in flight to each, and what was told
+pub record TwoEnds : Type 0 where
+  pub station : StationParts
+  pub host : HostParts
+  pub to_station : List ℕ
+  pub to_host : List ℕ
+  pub events : List Event
+
+-- the same of what a running session keeps
+abbrev pub ends_of : WorldParts → TwoEnds
+ends_of w = record {
+  station = w.station;
+  host = w.host;
+  to_station = drop w.at_station w.down;
+  to_host = drop w.at_host w.up;
+  events = w.events;
+}
+
+-- at the start both ends are new, and what opens the session is in flight to the station
+pub record IsBegun (terminal : TerminalType) (now : TwoEnds) : Type 0 where
+  pub station : StationLeads now.station [] [] (new_station_side terminal)
+  pub host : HostLeads now.host [] [] new_host_side
+  pub to_station : now.to_station ≡ plain_spelling element_rules (TelnetItem opening ∷ [])
+  pub to_host : now.to_host ≡ []
+  pub untold : now.events ≡ []
+
+-- what went into a line, and what came out of it, its pieces joined
+abbrev pub all_sent : List Crossing → List ℕ
+all_sent crossings = flat_map (λ (c : Crossing). c.sent) crossings
+
+abbrev pub all_read : List Crossing → List ℕ
+all_read crossings = flat_map (λ (c : Crossing). c.read) crossings
+
+module _ {E Deed Told : Type 0} (goes : E → List (Act Deed) → List ℕ → List Told → E → Type 0) (refuses : E → ℕ
+    → Refusal → E → Type 0) (over : E → Type 0) (tells : Told → List Event) (refusal : ℕ → Reason → Event) where
+  -- So many of the bytes in flight go into the line, or all where there are fewer. As many that came out of it come
+  -- to the end, whatever they are; what it writes and tells at them is this.
+  pub record HaveCome (count : ℕ) (crossings : List Crossing) (flight flight' : List ℕ) (old new : E)
+      (written : List ℕ) (told : List Event) : Type 0 where
+    pub sent : all_sent crossings ≡ take count flight
+    pub as_many : length (all_read crossings) ≡ length (all_sent crossings)
+    pub left : flight' ≡ drop count flight
+    pub come : AllCome goes refuses over tells refusal old (all_read crossings) new written told
+
+-- bytes come to the station: it tells a refusal alone
+abbrev pub StationHears : ℕ → List Crossing → List ℕ → List ℕ → StationParts → StationParts → List ℕ → List Event
+    → Type 0
+StationHears = HaveCome StationGoes StationRefuses (λ (s : StationParts). IsSome s.ended)
+    (λ (a : Applied). let none : List Event = [] in none) (λ place reason. StationRefused place reason)
+
+-- bytes come to the host end: its events are told, and a refusal
+abbrev pub HostHears : ℕ → List Crossing → List ℕ → List ℕ → HostParts → HostParts → List ℕ → List Event → Type 0
+HostHears = HaveCome HostGoes HostRefuses (λ (h : HostParts). IsSome h.ended)
+    (λ (e : HostEvent). Host e ∷ []) (λ place reason. HostRefused place reason)
+
+-- what is told of a key, and of a send or a cancel: that it was refused, and why
+abbrev pub key_told : KeyReaction → List Event
+key_told (RefusesKey fault) = KeyRefused fault ∷ []
+key_told reaction = []
+
+abbrev pub send_told : SendReaction → List Event
+send_told (RefusesSend fault) = SendRefused fault ∷ []
+send_told reaction = []
+
+-- what the host end does when it is to send or to cancel
+abbrev pub host_orders : HostSide → Order → SendReaction
+host_orders side (Sending opcode body) = host_sends side opcode body
+host_orders side Cancelling = host_cancel side
+
+-- what a send is: with Cancel Invite it is a cancel
+abbrev pub order_of : Opcode → List Element → Order
+order_of CancelInvite body = Cancelling
+order_of opcode body = Sending opcode body
+
+-- A key at the station. One that has refused a byte stays as it is.
+pub record HasPressed (old : StationParts) (key : Key) (new : StationParts) (written : List ℕ)
+    (told : List Event) : Type 0 where
+  pub led : StationGoes old (Did key ∷ []) written [] new
+  pub tells : (bytes : List ℕ) (items : List (Item Element)) (side : StationSide) → StationLeads old bytes items side
+      → length bytes + 1 < 2 ^ 64 → told ≡ key_told (station_key side key)
+  pub stays : IsSome old.ended → (new ≡ old) × (written ≡ []) × (told ≡ KeyRefused KeyFailed ∷ [])
+
+-- the same of a send or a cancel at the host end
+pub record HasOrdered (old : HostParts) (order : Order) (new : HostParts) (written : List ℕ)
+    (told : List Event) : Type 0 where
+  pub led : HostGoes old (Did order ∷ []) written [] new
+  pub tells : (bytes : List ℕ) (items : List (Item AnswerPart)) (side : HostSide) → HostLeads old bytes items side
+      → length bytes + 1 < 2 ^ 64 → told ≡ send_told (host_orders side order)
+  pub stays : IsSome old.ended → (new ≡ old) × (written ≡ []) × (told ≡ SendRefused SendFailed ∷ [])
+
+-- What each act makes of both ends: what an end writes is in flight to the other, behind what was.
+
+abbrev pub Presses : TwoEnds → Key → TwoEnds → Type 0
+Presses old key new = (written : List ℕ) × (told : List Event)
+    × HasPressed old.station key new.station written told
+    × (new ≡ record old {
+      station = new.station;
+      to_host = old.to_host ++ written;
+      events = old.events ++ told;
+    })
+
+abbrev pub Orders : TwoEnds → Order → TwoEnds → Type 0
+Orders old order new = (written : List ℕ) × (told : List Event)
+    × HasOrdered old.host order new.host written told
+    × (new ≡ record old {
+      host = new.host;
+      to_station = old.to_station ++ written;
+      events = old.events ++ told;
+    })
+
+abbrev pub ComesDown : TwoEnds → ℕ → List Crossing → TwoEnds → Type 0
+ComesDown old count crossings new = (written : List ℕ) × (told : List Event)
+    × StationHears count crossings old.to_station new.to_station old.station new.station written told
+    × (new ≡ record old {
+      station = new.station;
+      to_station = new.to_station;
+      to_host = old.to_host ++ written;
+      events = old.events ++ told;
+    })
+
+abbrev pub ComesUp : TwoEnds → ℕ → List Crossing → TwoEnds → Type 0
+ComesUp old count crossings new = (written : List ℕ) × (told : List Event)
+    × HostHears count crossings old.to_host new.to_host old.host new.host written told
+    × (new ≡ record old {
+      host = new.host;
+      to_station = old.to_station ++ written;
+      to_host = new.to_host;
+      events = old.events ++ told;
+    })
+
+-- A move, and the pieces that cross the line down and the line up in it
+abbrev pub HasMoved : TwoEnds → Move → List Crossing → List Crossing → TwoEnds → Type 0
+HasMoved old (Send opcode body) downs ups new = (downs ≡ []) × (ups ≡ []) × Orders old (order_of opcode body) new
+HasMoved old Cancel downs ups new = (downs ≡ []) × (ups ≡ []) × Orders old Cancelling new
+HasMoved old (ToStation count) downs ups new = (ups ≡ []) × ComesDown old count downs new
+HasMoved old (ToHost count) downs ups new = (downs ≡ []) × ComesUp old count ups new
+HasMoved old (Press key) downs ups new = (downs ≡ []) × (ups ≡ []) × Presses old key new
+
+-- one move after another
+abbrev pub HaveMoved : TwoEnds → List Move → List Crossing → List Crossing → TwoEnds → Type 0
+HaveMoved old [] downs ups new = (downs ≡ []) × (ups ≡ []) × (new ≡ old)
+HaveMoved old (move ∷ moves) downs ups new = (first_downs : List Crossing) × (first_ups : List Crossing)
+    × (later_downs : List Crossing) × (later_ups : List Crossing) × (next : TwoEnds)
+    × HasMoved old move first_downs first_ups next × HaveMoved next moves later_downs later_ups new
+    × (downs ≡ first_downs ++ later_downs) × (ups ≡ first_ups ++ later_ups)
+
+-- a session of new ends: the moves led here, and these pieces crossed the lines in them
+abbrev pub HasRun : TerminalType → List Move → List Crossing → List Crossing → TwoEnds → Type 0
+HasRun terminal moves downs ups now = (begun : TwoEnds) × IsBegun terminal begun
+    × HaveMoved begun moves downs ups now
+
+-- The bytes lead to the end: they hold items, none of them is refused, and what it did at them and at the acts between
+-- them left it on a side. Or it has refused a byte, and takes no more.
+abbrev pub StationIsLed : StationParts → List ℕ → Type 0
+StationIsLed station bytes = ((items : List (Item Element)) × (side : StationSide)
+    × StationLeads station bytes items side) ⊎ IsSome station.ended
+
+abbrev pub HostIsLed : HostParts → List ℕ → Type 0
+HostIsLed host bytes = ((items : List (Item AnswerPart)) × (side : HostSide) × HostLeads host bytes items side)
+    ⊎ IsSome host.ended
+
+-- the wires of a running session
+abbrev pub down_wire : WorldParts → WireParts
+down_wire w = record { bytes = w.down; at = w.at_station }
+
+abbrev pub up_wire : WorldParts → WireParts
+up_wire w = record { bytes = w.up; at = w.at_host }
+
+-- so many of the bytes in flight, as they stand there, have come to the station, and to the host end
+abbrev pub IsDeliveredDown : WorldParts → ℕ → WorldParts → Type 0
+IsDeliveredDown old count new =
+    AreDelivered StationGoes StationRefuses (λ (s : StationParts). IsSome s.ended)
+    (λ (a : Applied). let none : List Event = [] in none) (λ place reason. StationRefused place reason)
+    old.station new.station (down_wire old) (down_wire new) (up_wire old) (up_wire new) old.events new.events count
+    × (new.host ≡ old.host)
+
+abbrev pub IsDeliveredUp : WorldParts → ℕ → WorldParts → Type 0
+IsDeliveredUp old count new =
+    AreDelivered HostGoes HostRefuses (λ (h : HostParts). IsSome h.ended)
+    (λ (e : HostEvent). Host e ∷ []) (λ place reason. HostRefused place reason)
+    old.host new.host (up_wire old) (up_wire new) (down_wire old) (down_wire new) old.events new.events count
+    × (new.station ≡ old.station)

@@ -1,0 +1,110 @@
+//! What a host end sends.
+ghost use Rattle.std.specs.Prelude.{◌≡◌, ◌≢◌, ◌<◌, ◌+◌, ◌^◌, List, ℕ, Err, length, IsSome, OnErr, MatchResult};
+ghost use Rattle.ws_record.specs.declared.record.Item.{Item as AnItem};
+ghost use Rattle.ws_stream.specs.declared.answer_part.AnswerPart.{AnswerPart as APart};
+ghost use Rattle.ws_session.specs.HostLeads.{HostStands, HostLeads, IsSent, IsSendFault};
+ghost use Rattle.ws_session.specs.HostSide.{HostSide, RefusesSend, host_send, host_cancel, is_outstanding};
+
+use crate::body::{body_spelling, is_too_big};
+use crate::{HostEnd, SendFault};
+use arrayvec::ArrayVec;
+use ws_code::VecSink;
+use ws_record::{Opcode, write_record};
+use ws_screen::{Screen, apply_elements};
+use ws_stream::{Element, is_body};
+
+impl HostEnd {
+    /// Sends a record with flags 0, and gives its bytes. The body's write ends with it.
+    ///
+    /// # Errors
+    ///
+    /// The first of `SendFault`'s that applies; nothing is then changed.
+    pub fn send(&mut self, opcode: Opcode, body: &[Element]) -> Result<Vec<u8>, SendFault>
+        requires other { opcode ≢ Opcode.CancelInvite }
+        ensures sent { (bytes : List ℕ) (items : List (AnItem APart)) (side : HostSide)
+            → HostLeads self.old bytes items side → length bytes + 1 < 2 ^ 64
+            → MatchResult result
+            (λ sent. IsSent self.new bytes items (host_send side opcode body.now) sent.items)
+            (IsSendFault (host_send side opcode body.now)) }
+        ensures same { OnErr result (self.new ≡ self.old) }
+        ensures full { self.old.receiver.live.taken + 1 ≡ 2 ^ 64 → result ≡ Err SendFault.Failed }
+        ensures failed { IsSome self.old.ended → result ≡ Err SendFault.Failed }
+    {
+        if self.ended.is_some() {
+            return Err(SendFault::Failed);
+        }
+        if self.live.taken() == u64::MAX {
+            return Err(SendFault::Failed);
+        }
+        if !self.options.records_allowed() {
+            return Err(SendFault::NotAllowed);
+        }
+        if self.is_disturbed(body) {
+            return Err(SendFault::ReadOutstanding);
+        }
+        if !is_body(body) {
+            return Err(SendFault::BadSequence);
+        }
+        let mut copy = Screen::new();
+        copy.assign(&self.kept);
+        if let Err(reason) = apply_elements(&mut copy, body) {
+            return Err(SendFault::Screen(reason));
+        }
+        copy.end_write();
+        if is_too_big(body) {
+            return Err(SendFault::TooBig);
+        }
+        let Ok(bytes) = body_spelling(self.alloc, body) else {
+            return Err(SendFault::Memory);
+        };
+        let mut sink = VecSink::new(self.alloc);
+        if write_record(&mut sink, 0, opcode, bytes.as_slice()).is_err() {
+            return Err(SendFault::Memory);
+        }
+        self.kept.assign(&copy);
+        Ok(sink.into_inner())
+    }
+
+    /// Cancels the asked read, and gives the bytes of the record. The read stays asked until an answer or the
+    /// cancel's end comes.
+    ///
+    /// # Errors
+    ///
+    /// `Failed`, `NotAllowed`, or `NoReadToCancel`; nothing is then changed.
+    pub fn cancel(&mut self) -> Result<ArrayVec<u8, 12>, SendFault>
+        ensures sent { (bytes : List ℕ) (items : List (AnItem APart)) (side : HostSide)
+            → HostLeads self.old bytes items side → length bytes + 1 < 2 ^ 64
+            → MatchResult result
+            (λ sent. IsSent self.new bytes items (host_cancel side) sent.items)
+            (λ fault. host_cancel side ≡ RefusesSend fault) }
+        ensures same { OnErr result (self.new ≡ self.old) }
+        ensures full { self.old.receiver.live.taken + 1 ≡ 2 ^ 64 → result ≡ Err SendFault.Failed }
+        ensures failed { IsSome self.old.ended → result ≡ Err SendFault.Failed }
+    {
+        if self.ended.is_some() {
+            return Err(SendFault::Failed);
+        }
+        if self.live.taken() == u64::MAX {
+            return Err(SendFault::Failed);
+        }
+        if !self.options.records_allowed() {
+            return Err(SendFault::NotAllowed);
+        }
+        if self.cancelling || self.kept.pending().is_none() {
+            return Err(SendFault::NoReadToCancel);
+        }
+        self.cancelling = true;
+        let record = [
+            0x00, 0x0a, 0x12, 0xa0, 0x00, 0x00, 0x04, 0x00, 0x00, 0x0a, 0xff, 0xef,
+        ];
+        Ok(ArrayVec::from(record))
+    }
+
+    // Whether the body would disturb a read or a cancel.
+    fn is_disturbed(&self, body: &[Element]) -> bool
+        ensures { (side : HostSide) → HostStands self.now side
+            → result ≡ is_outstanding side body.now }
+    {
+        !body.is_empty() && (self.kept.pending().is_some() || self.cancelling)
+    }
+}
