@@ -1,4 +1,6 @@
-use Rattle.std.proofs.Common.{◌≡◌, ℕ, ◌+◌, ◌-◌, ◌%◌, ◌==◌, ◌&&◌, ◌||◌, Bool, true, false, inl, inr, List, [], ◌∷◌, ◌++◌, length, map, Bor, Some, None, Result, Ok, Err, arith, refl, sym, ap, subst, ◌∙◌, ◌≤◌, take, add-zero, append_assoc}
+use Rattle.std.proofs.Common.{◌≡◌, ℕ, ◌+◌, ◌-◌, ◌%◌, ◌==◌, ◌&&◌, ◌||◌, Bool, true, false, inl, inr, List, [], ◌∷◌, ◌++◌}
+use Rattle.std.proofs.Common.{length, map, Bor, Some, None, Result, Ok, Err, arith, refl, sym, ap, subst, ◌∙◌, ◌≤◌}
+use Rattle.std.proofs.Common.{take, add-zero, append_assoc}
 use Rattle.std.specs.Prelude.{not, nat_le, is_some, IsErr, if◌then◌else◌}
 use Rattle.std.specs.List.{concat, slice_split, onto_first, list_all}
 use Rattle.std.specs.Char.{is_ascii_hexdigit}
@@ -27,16 +29,19 @@ part_concat false x parts rest e = onto_first_concat x parts ∙ ap (λ z. x ∷
 -- the parts between blanks, one behind the other
 pub concat_parts : (text : List ℕ) → concat (slice_split is_blank_byte text) ≡ without_blanks text
 concat_parts [] = refl
-concat_parts (b ∷ text) = part_concat (is_blank_byte b) b (slice_split is_blank_byte text) (without_blanks text) (concat_parts text)
+concat_parts (b ∷ text) = part_concat (is_blank_byte b) b (slice_split is_blank_byte text) (without_blanks text)
+    (concat_parts text)
 
 -- the parts so far and one more
 pub concat_now_more : (parts : List (Bor (List ℕ))) (part : Bor (List ℕ))
     → concat (map (λ x. x.now) (parts ++ part ∷ [])) ≡ concat (map (λ x. x.now) parts) ++ part.now
 concat_now_more [] part = append-nil part.now
 concat_now_more (x ∷ parts) part =
-    ap (λ z. x.now ++ z) (concat_now_more parts part) ∙ sym (append_assoc x.now (concat (map (λ y. y.now) parts)) part.now)
+    ap (λ z. x.now ++ z) (concat_now_more parts part)
+    ∙ sym (append_assoc x.now (concat (map (λ y. y.now) parts)) part.now)
 
-three_ranges : (a b c : Bool) (x y z : ℕ) → ((c || a) || b) ≡ is_some (if a then Some x else if b then Some y else if c then Some z else None)
+three_ranges : (a b c : Bool) (x y z : ℕ) → ((c || a) || b)
+    ≡ is_some (if a then Some x else if b then Some y else if c then Some z else None)
 three_ranges true b true x y z = refl
 three_ranges true b false x y z = refl
 three_ranges false true true x y z = refl
@@ -94,7 +99,8 @@ odd_same : (is_odd : Bool) → not (beq is_odd false) ≡ is_odd
 odd_same true = refl
 odd_same false = refl
 
-odd_one : (is_odd is_digit is_blank : Bool) (n b : ℕ) → (is_digit || is_blank) ≡ true → (is_blank ≡ true → is_digit ≡ false)
+odd_one : (is_odd is_digit is_blank : Bool) (n b : ℕ) → (is_digit || is_blank) ≡ true
+    → (is_blank ≡ true → is_digit ≡ false)
     → is_odd ≡ (n % 2 == 1)
     → not (beq is_odd is_digit) ≡ ((n + length (cond (not is_blank) (b ∷ []) [])) % 2 == 1)
 odd_one is_odd true true n b h k e = absurd (true≢false (k refl))
@@ -114,15 +120,18 @@ looked_one bytes b is_odd is_text l =
           ∙ ap (list_all is_hex_digit) (sym joined);
       odd = λ h.
           let both = and_parts is_text (is_hex_digit b || is_blank_byte b) h in
-          odd_one is_odd (is_hex_digit b) (is_blank_byte b) (length (without_blanks bytes)) b both.1 (blank_is_one b) (l.odd both.0)
-          ∙ ap (λ n. n % 2 == 1) (sym (ap length joined ∙ length-append (without_blanks bytes) (without_blanks (b ∷ []))));
+          odd_one is_odd (is_hex_digit b) (is_blank_byte b) (length (without_blanks bytes)) b both.1 (blank_is_one b)
+          (l.odd both.0)
+          ∙ ap (λ n. n % 2 == 1) (sym (ap length joined ∙ length-append (without_blanks bytes)
+          (without_blanks (b ∷ []))));
     }
 
 -- one byte more
 pub looked_more : (bytes : List ℕ) (b : ℕ) (is_odd is_text is_digit is_blank : Bool)
     → is_digit ≡ is_ascii_hexdigit b → is_blank ≡ is_blank_byte b → Looked bytes is_odd is_text
     → Looked (bytes ++ b ∷ []) (not (beq is_odd is_digit)) (is_text && (is_digit || is_blank))
-looked_more bytes b is_odd is_text is_digit is_blank d k l = rw (d ∙ ascii_is_hex b, k) (looked_one bytes b is_odd is_text l)
+looked_more bytes b is_odd is_text is_digit is_blank d k l = rw (d ∙ ascii_is_hex b, k)
+    (looked_one bytes b is_odd is_text l)
 
 -- all were looked at
 pub looked_all : (text : List ℕ) (n : ℕ) (is_odd is_text : Bool) → length text ≤ n → Looked (take n text) is_odd is_text
@@ -142,7 +151,8 @@ err_of : (r : Result (List ℕ) FromHexError) → ((bytes : List ℕ) → r ≡ 
 err_of (Ok bytes) h = absurd (h bytes refl)
 err_of (Err e) h = refl
 
-not_both : (is_odd is_text : Bool) → (is_text ≡ true) → (is_text ≡ true → is_odd ≡ false) → (is_text && not is_odd) ≡ true
+not_both : (is_odd is_text : Bool) → (is_text ≡ true) → (is_text ≡ true → is_odd ≡ false) → (is_text && not is_odd)
+    ≡ true
 not_both is_odd is_text t o = rw (t, o t) refl
 
 pub not_hex : (text : List ℕ) (is_odd is_text : Bool) → Looked text is_odd is_text → (is_text && not is_odd) ≡ false

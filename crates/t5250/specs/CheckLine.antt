@@ -6,11 +6,11 @@ use Rattle.ws_code.specs.Code.{Rules}
 use Rattle.ws_code.specs.declared.fault.Fault.{Fault}
 use Rattle.ws_code.specs.declared.fault.Fault.TheVariants as faults
 use Rattle.ws_code.specs.declared.reason.Reason.{Reason}
-use Rattle.ws_code.specs.Reason.{number_of, name_of}
 use Rattle.ws_record.specs.declared.record.Item.{Item}
 use Rattle.ws_record.specs.declared.record.Item.TheVariants.{Record, Telnet}
 use Rattle.ws_record.specs.Grammar.{IsInGrammar}
 use Rattle.ws_record.specs.Refusal.{IsRefused, IsTruncated}
+use Rattle.ws_live.specs.PlaceAndReason.{place_and_reason}
 use Rattle.t5250.specs.declared.verdict.Verdict.{Verdict}
 use Rattle.t5250.specs.declared.verdict.Verdict.TheVariants.{Accepted, Refused, Truncated}
 
@@ -20,6 +20,7 @@ record_count [] = 0
 record_count (Record r ∷ items) = record_count items + 1
 record_count (Telnet t ∷ items) = record_count items
 
+-- how many Telnet commands the items have
 abbrev pub command_count : {U : Type 0} → List (Item U) → ℕ
 command_count [] = 0
 command_count (Record r ∷ items) = command_count items
@@ -32,15 +33,11 @@ IsVerdict {Place} {U} rules bytes (Accepted records commands) = (items : List (I
 IsVerdict rules bytes (Refused place reason) = IsRefused rules bytes place reason
 IsVerdict rules bytes (Truncated n) = (n ≡ length bytes) × IsTruncated rules bytes
 
+-- the whole stream was accepted
 abbrev pub is_accepted : Verdict → Bool
 is_accepted (Accepted records commands) = true
 is_accepted (Refused place reason) = false
 is_accepted (Truncated n) = false
-
--- a byte's place, and for what reason it is refused, up to the line's end
-abbrev pub place_and_reason : ℕ → Reason → List ℕ
-place_and_reason place reason = decimal place ++ codes ": reason " ++ decimal (number_of reason) ++ codes " "
-    ++ name_of reason ++ 10 ∷ []
 
 -- the line that says it, of so many bytes
 abbrev pub line_of : Verdict → ℕ → List ℕ

@@ -1,28 +1,40 @@
 -- How a check counts the items that come, and what it answers where it prints no line.
 
-use Rattle.std.specs.Prelude.{◌≡◌, ℕ, ◌+◌, ◌-◌, ◌^◌, ◌≤◌, min, List, length, Option, Some, None}
+use Rattle.std.specs.Prelude.{◌≡◌, ℕ, ◌+◌, ◌-◌, ◌^◌, ◌≤◌, min, List, length}
 use Rattle.ws_code.specs.Code.{Rules}
 use Rattle.ws_code.specs.Device.{MayTake}
 use Rattle.ws_code.specs.declared.fault.Fault.{Fault}
 use Rattle.ws_record.specs.declared.record.Item.{Item}
-use Rattle.ws_record.specs.declared.record.Item.TheVariants.{Record, Telnet}
-use Rattle.ws_record.specs.Receiver.{Receiving, HasReceived}
+use Rattle.ws_record.specs.declared.news.News.{News}
+use Rattle.ws_record.specs.declared.news.News.TheVariants.{Close, Command, Option, Sub}
+use Rattle.ws_record.specs.Live.{Watching, Leads}
+use Rattle.ws_record.specs.OpenRecord.{RecordSoFar}
 use Rattle.t5250.specs.declared.check.Tally.{Tally}
 use Rattle.t5250.specs.declared.verdict.Verdict.{Verdict}
 use Rattle.t5250.specs.CheckLine.{IsVerdict, line_of, record_count, command_count}
-use Rattle.t5250.specs.Printing.{IsTextFault}
+use Rattle.ws_text.specs.Printing.{IsTextFault}
 
--- the tally after one item more, where there is one
-abbrev pub tally_after : {U : Type 0} → Tally → Option (Item U) → Tally
-tally_after tally None = tally
-tally_after tally (Some (Record r)) = record tally { records = min (tally.records + 1) (2 ^ 64 - 1) }
-tally_after tally (Some (Telnet t)) = record tally { commands = min (tally.commands + 1) (2 ^ 64 - 1) }
+-- the tally after one record more, and after one Telnet command more
+abbrev pub one_record : Tally → Tally
+one_record tally = record tally { records = min (tally.records + 1) (2 ^ 64 - 1) }
 
--- the bytes lead to the receiver, and the tally is of the items that it has given
-pub record Counts {Place U : Type 0} (rules : Rules Place U) (receiver : Receiving Place U) (tally : Tally)
+abbrev pub one_command : Tally → Tally
+one_command tally = record tally { commands = min (tally.commands + 1) (2 ^ 64 - 1) }
+
+-- the tally after the news of a front
+abbrev pub tally_after : Tally → News → Tally
+tally_after tally (Close head) = one_record tally
+tally_after tally (Command code) = one_command tally
+tally_after tally (Option verb option) = one_command tally
+tally_after tally Sub = one_command tally
+tally_after tally news = tally
+
+-- the bytes lead to the decoder, and the tally is of their items
+pub record Counts {Place U : Type 0} (rules : Rules Place U) (live : Watching Place) (tally : Tally)
     (bytes : List ℕ) : Type 0 where
   pub items : List (Item U)
-  pub taken : HasReceived rules receiver bytes items
+  pub so_far : RecordSoFar U
+  pub leads : Leads rules live bytes items so_far
   pub records : tally.records ≡ record_count items
   pub commands : tally.commands ≡ command_count items
   pub few : tally.records + tally.commands ≤ length bytes

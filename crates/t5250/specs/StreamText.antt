@@ -31,9 +31,11 @@ abbrev pub Placed : Type 0 → Type 0
 Placed U = ℕ × Item U
 
 module _ {U : Type 0} where
+  -- the items without their places
   abbrev pub items_of : List (Placed U) → List (Item U)
   items_of placed = map (λ x. x.1) placed
 
+  -- the lines of items, one after another
   abbrev pub lines_of : View U → List (Placed U) → List ℕ
   lines_of view placed = flat_map (λ x. view.lines x.0 x.1) placed
 
@@ -89,6 +91,7 @@ module _ {Place U : Type 0} where
       × IsComplete rules bytes (items_of placed) x × (view.fault (items_of placed) x.1 ≡ Some reason)
       × (text ≡ view.lines x.0 x.1 ++ line_of (Refused x.0 reason) (length bytes))
 
+  -- what stands behind the items: that of an accepted stream, or the line of one that is not
   abbrev pub IsEnd : Rules Place U → View U → List ℕ → List (Placed U) → Bool → List ℕ → Type 0
   IsEnd rules view bytes placed true text = IsAcceptedEnd rules view bytes placed text
   IsEnd rules view bytes placed false text = IsRefusedEnd rules bytes placed text
@@ -103,7 +106,8 @@ module _ {Place U : Type 0} where
     pub ends : IsEnd rules view bytes placed accepted end
     pub lines : text ≡ lines_of view placed ++ end
 
-  pub record IsPart (rules : Rules Place U) (view : View U) (bytes : List ℕ) (text : List ℕ) : Type 0 where
+  -- the lines of the first items, perhaps with one more that is complete
+  pub record AreFirstLines (rules : Rules Place U) (view : View U) (bytes : List ℕ) (text : List ℕ) : Type 0 where
     pub placed : List (Placed U)
     pub shown : AreShown rules view bytes [] placed
     pub last : Option (Placed U)
@@ -114,6 +118,7 @@ module _ {Place U : Type 0} where
   abbrev pub HasTaken : Rules Place U → List ℕ → Receiving Place U → List (Item U) → Type 0
   HasTaken rules bytes receiver items = HasReceived rules receiver (take receiver.live.taken bytes) items
 
+  -- a receiver that has taken the first of the bytes
   abbrev pub HasBegun : Rules Place U → List ℕ → Receiving Place U → Type 0
   HasBegun rules bytes receiver = (items : List (Item U)) × HasTaken rules bytes receiver items
 
@@ -142,15 +147,16 @@ module _ {Place U : Type 0} where
       (view : View U) where
     -- what is answered where not all is shown: the first lines went out, or a part of them
     abbrev pub IsShowFault : List ℕ → Fault → Type 0
-    IsShowFault bytes Memory = (text : List ℕ) × IsPart rules view bytes text × WentOut takes failures from to text
-    IsShowFault bytes Write = (text : List ℕ) × (IsPart rules view bytes text
+    IsShowFault bytes Memory = (text : List ℕ) × AreFirstLines rules view bytes text
+        × WentOut takes failures from to text
+    IsShowFault bytes Write = (text : List ℕ) × (AreFirstLines rules view bytes text
         ⊎ ((accepted : Bool) × IsShown rules view bytes accepted text)) × FailedWithin takes failures from to text
     IsShowFault bytes fault = ⊥
 
     -- what is answered where not all items are carried out: the items' lines went out, and the line of a verdict
     -- goes on behind them, or there was a fault
     abbrev pub IsStop : List ℕ → Result Verdict Fault → Type 0
-    IsStop bytes (Ok verdict) = (is_accepted verdict ≡ false) × ((lines : List ℕ) × IsPart rules view bytes lines
+    IsStop bytes (Ok verdict) = (is_accepted verdict ≡ false) × ((lines : List ℕ) × AreFirstLines rules view bytes lines
         × WentOut takes failures from to lines
         × IsShown rules view bytes false (lines ++ line_of verdict (length bytes)))
     IsStop bytes (Err fault) = IsShowFault bytes fault

@@ -11,9 +11,11 @@ use Rattle.ws_screen.specs.Events.{History}
 use Rattle.ws_screen.specs.Given.{Gives}
 use Rattle.ws_screen.specs.ScreenParts.{ScreenParts}
 use Rattle.ws_session.specs.StationSide.{after_record}
-use Rattle.t5250.specs.AnswerLines.{answer_text}
-use Rattle.t5250.specs.ItemLines.{item_text}
-use Rattle.t5250.specs.ScreenLines.{IsScreenText}
+use Rattle.ws_text.specs.AnswerLines.{answer_text}
+use Rattle.ws_text.specs.ItemLines.{item_text}
+use Rattle.ws_live.specs.ScreenLines.{IsScreenText}
+use Rattle.ws_live.specs.declared.paint.Paint.{Paint}
+use Rattle.ws_live.specs.declared.paint.Paint.TheVariants.{Plain}
 use Rattle.t5250.specs.StreamText.{View}
 
 -- the events so far and those of an item: a record is applied as a station does, a Telnet command has no effect
@@ -36,13 +38,29 @@ abbrev pub MakesScreen : List (Item Element) → ScreenParts → Type 0
 MakesScreen items screen = Gives (after_items [] items) screen × (screen.writing ≡ None)
 
 -- what stands behind the items of a host: the screen that they give
-abbrev pub IsScreenEnd : List (Item Element) → List ℕ → Type 0
-IsScreenEnd items text = (s : ScreenParts) × Gives (after_items [] items) s × IsScreenText s text
+abbrev pub IsScreenEnd : Paint → List (Item Element) → List ℕ → Type 0
+IsScreenEnd paint items text = (s : ScreenParts) × Gives (after_items [] items) s × IsScreenText paint s text
 
--- a host's items
+-- a host's items, and the screen behind them in a paint
+abbrev pub painted_host_view : Paint → View Element
+painted_host_view paint = record {
+  lines = item_text;
+  fault = λ before item. item_fault (after_items [] before) item;
+  Ends = IsScreenEnd paint;
+}
+
+-- the same in plain text
 abbrev pub host_view : View Element
-host_view = record { lines = item_text; fault = λ before item. item_fault (after_items [] before) item; Ends = IsScreenEnd }
+host_view = painted_host_view Plain
 
--- a station's answers, behind which nothing stands
+-- nothing stands behind a station's answers
+abbrev pub IsNoEnd : List (Item AnswerPart) → List ℕ → Type 0
+IsNoEnd items text = text ≡ []
+
+-- a station's answers
 abbrev pub answer_view : View AnswerPart
-answer_view = record { lines = answer_text; fault = λ _ _. None; Ends = λ _ text. text ≡ [] }
+answer_view = record { lines = answer_text; fault = λ _ _. None; Ends = IsNoEnd }
+
+-- the same items, with what stands behind them in a paint
+abbrev pub in_paint : {U : Type 0} → View U → (Paint → List (Item U) → List ℕ → Type 0) → Paint → View U
+in_paint view Ends paint = record { lines = view.lines; fault = view.fault; Ends = Ends paint }

@@ -1,16 +1,15 @@
-ghost use Rattle.std.specs.Prelude.{◌≡◌, ◌≢◌, ◌++◌, ◌+◌, ◌<◌, ◌^◌, List as Seq, ℕ, length, IfOk, IfErr, OnOk};
-ghost use Rattle.ws_record.specs.Receiver.{IsFeedFault};
+ghost use Rattle.std.specs.Prelude.{◌≡◌, ◌≢◌, ◌+◌, ◌<◌, ◌≤◌, ◌^◌, length, IfOk, IfErr};
 ghost use Rattle.t5250.specs.CheckLine.{IsVerdict, is_accepted, line_of};
 ghost use Rattle.t5250.specs.declared.verdict.Verdict.{Verdict};
 ghost use Rattle.ws_code.specs.Device.{WentOut};
-ghost use Rattle.t5250.specs.Checking.{Counts, IsCheckFault};
+ghost use Rattle.t5250.specs.Checking.{IsCheckFault};
 
-use crate::verdict::{Verdict, verdict_by_fault};
+use crate::verdict::Verdict;
 use std::alloc::Global;
-use ws_code::{Body, Fault, Sink};
-use ws_record::{Fed, Item, Receiver};
+use ws_code::{Body, Fault, Nothing, Sink};
+use ws_record::{Advance, Live, News};
 
-// How many items a receiver has given.
+// How many items a decoder has met.
 #[derive(Debug, Drop)]
 struct Tally {
     records: u64,
@@ -20,24 +19,27 @@ struct Tally {
 impl Tally {
     ghost use Rattle.t5250.specs.Checking.{tally_after};
 
-    // The count stops at its greatest value.
-    fn count<U: Drop>(&mut self, item: Option<Item<U>>)
-        ensures { self.new ≡ tally_after self.old item }
+    // Counts the item that is complete with a front, if one is. The count stops at its greatest value.
+    fn count(&mut self, news: News)
+        ensures { self.new ≡ tally_after self.old news }
     {
-        match item {
-            None => {}
-            Some(Item::Record(_)) => self.records = self.records.saturating_add(1),
-            Some(Item::Telnet(_)) => self.commands = self.commands.saturating_add(1),
+        match news {
+            News::Close(_) => self.records = self.records.saturating_add(1),
+            News::Command(_) | News::Option(_, _) | News::Sub => {
+                self.commands = self.commands.saturating_add(1);
+            }
+            News::More | News::Unit | News::Open(_) => {}
+            News::Refused(_) | News::NoMemory | News::Failed => {}
         }
     }
 }
 
 /// Writes whether the bytes are accepted, refused or truncated, in one line: true where they are accepted.
 ///
-/// `cut` is the size of the pieces in which they are read, and doesn't change what is written. `Memory`
-/// where a growth was refused, and then nothing was written; `Write` where the sink failed.
+/// `cut` is the size of the pieces in which they are read, and doesn't change what is written. No unit of a body is
+/// kept, and no memory is asked for. `Write` is the only fault: the sink failed.
 pub fn check_to<B: Body, S: Sink>(
-    alloc: Global,
+    _alloc: Global,
     bytes: &[u8],
     cut: u16,
     sink: &mut S,
@@ -49,57 +51,55 @@ pub fn check_to<B: Body, S: Sink>(
         × WentOut S.takes S.failures sink.old sink.new (line_of verdict (length bytes.now))) }
     ensures fault { IfErr result
         (λ fault. IsCheckFault B.rules S.takes S.failures sink.old sink.new bytes.now fault) }
+    ensures only { IfErr result (λ fault. fault ≡ Fault.Write) }
 {
-    verdict_of::<B>(alloc, bytes, cut)?.write_to(bytes.len(), sink)
+    verdict_of::<B>(bytes, cut).write_to(bytes.len(), sink)
 }
 
 // What holds of the bytes, read in pieces of a size.
-fn verdict_of<B: Body>(alloc: Global, bytes: &[u8], cut: u16) -> Result<Verdict, Fault>
+fn verdict_of<B: Body>(bytes: &[u8], cut: u16) -> Verdict
     requires { cut ≢ 0 }
-    ensures verdict { IfOk result (λ verdict. IsVerdict B.rules bytes.now verdict) }
-    ensures fault { IfErr result (λ fault. fault ≡ Fault.Memory) }
+    ensures { IsVerdict B.rules bytes.now result }
 {
-    let mut receiver = Receiver::<B>::new(alloc);
+    let mut live = Live::<B>::new();
     let mut tally = Tally {
         records: 0,
         commands: 0,
     };
     let mut at = 0;
+    let mut end = 0;
     while at < bytes.len() {
-        let end = bytes.len().min(at + usize::from(cut));
-        if let Err(fault) = feed_piece(&mut receiver, &bytes[at..end], &mut tally) {
-            return verdict_by_fault(fault);
+        end = piece_end(at, end, cut, bytes.len());
+        let Advance { used, news } = live.advance(&bytes[at..end], &mut Nothing);
+        at += used;
+        if let News::Refused(reason) = news {
+            let place = at as u64 - 1;
+            return Verdict::Refused { place, reason };
         }
-        at = end;
+        tally.count(news);
     }
-    match receiver.finish() {
-        Ok(()) => Ok(Verdict::Accepted {
+    match live.finish() {
+        Ok(()) => Verdict::Accepted {
             records: tally.records,
             commands: tally.commands,
-        }),
-        Err(fault) => verdict_by_fault(fault),
+        },
+        Err(_) => Verdict::Truncated {
+            at: bytes.len() as u64,
+        },
     }
 }
 
-// Feeds a whole piece, and counts the items that are complete with its bytes.
-fn feed_piece<B: Body>(
-    receiver: &mut Receiver<B>,
-    piece: &[u8],
-    tally: &mut Tally,
-) -> Result<(), Fault>
-    ensures counts { OnOk result ((bytes : Seq ℕ) → Counts B.rules receiver.old tally.old bytes
-        → length bytes + length piece.now + 1 < 2 ^ 64
-        → Counts B.rules receiver.new tally.new (bytes ++ piece.now)) }
-    ensures fault { IfErr result (λ fault. (bytes : Seq ℕ)
-        → Counts B.rules receiver.old tally.old bytes
-        → length bytes + length piece.now + 1 < 2 ^ 64
-        → IsFeedFault B.rules bytes piece.now fault) }
+// Where the piece ends that has the byte at the place, where the pieces before it end there.
+#[inline(always)]
+fn piece_end(at: usize, end: usize, cut: u16, size: usize) -> usize
+    requires cut { cut ≢ 0 }
+    requires at { at < size }
+    requires end { end ≤ size }
+    ensures behind { at < result }
+    ensures within { result ≤ size }
 {
-    let mut rest = piece;
-    while !rest.is_empty() {
-        let Fed { used, item } = receiver.feed(rest)?;
-        tally.count(item);
-        rest = &rest[used..];
+    if at < end {
+        return end;
     }
-    Ok(())
+    size.min(at.saturating_add(usize::from(cut)))
 }

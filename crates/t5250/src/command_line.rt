@@ -2,13 +2,16 @@ ghost use Rattle.std.specs.Prelude.{IfOk};
 ghost use Rattle.t5250.specs.Tasks.{IsTask};
 
 use crate::fault::{CommandFault, RunFault};
-use crate::live_command::{Live, connect_asked, connect_command, serve_asked, serve_command};
+use crate::live_command::{
+    Live, color_flag, connect_asked, connect_command, paint_asked, serve_asked, serve_command,
+};
 use clap::error::ErrorKind;
 use clap::{Arg, ArgAction, Command, value_parser};
 use std::alloc::Global;
 use std::convert::AsStr;
 use std::rt::Env;
 use std::{env, io};
+use ws_live::Paint;
 
 /// What a command line asks for.
 #[derive(Clone, Copy, Debug, PartialEq, Eq)]
@@ -29,18 +32,24 @@ pub enum Asked<'a> {
         cut: u16,
         answers: bool,
     },
-    /// To show the items of a hex text: as a host's commands, with the screen that they make, or as a station's
-    /// answers.
+    /// To show the items of a hex text: as a host's commands, with the screen that they make in a paint, or as a
+    /// station's answers.
     Show {
         file: Option<&'a str>,
         answers: bool,
+        paint: Paint,
     },
-    /// To play a script with both ends, and to tell what happens; with `screen` also the station's screen at the end.
-    /// With `tcp` their bytes go over a connection.
+    /// To play a script with both ends, and to tell what happens; with `screen` also the station's screen at the end,
+    /// in a paint. With `tcp` their bytes go over a connection.
     Play {
         file: Option<&'a str>,
         screen: bool,
         tcp: bool,
+        paint: Paint,
+    },
+    /// To write the stream whose items a text spells.
+    Make {
+        file: Option<&'a str>,
     },
 }
 
@@ -48,7 +57,10 @@ impl<'a> Asked<'a> {
     /// The file that is to be read; without it, standard input is.
     pub fn file(self) -> Option<&'a str> {
         match self {
-            Asked::Check { file, .. } | Asked::Show { file, .. } | Asked::Play { file, .. } => file,
+            Asked::Check { file, .. }
+            | Asked::Show { file, .. }
+            | Asked::Play { file, .. }
+            | Asked::Make { file } => file,
         }
     }
 }
@@ -83,6 +95,7 @@ A station's answers (--answers) have no screen.
 
 Examples:
   t5250 show capture.hex
+  t5250 show --color capture.hex
   t5250 show --answers answers.hex
   echo 000A12A0000004000001FFEF | t5250 show";
 
@@ -97,9 +110,24 @@ A script has a line for each move, and is read before anything is run:
   key NAME     a key, such as Enter, F3, FieldExit or Tab
 
 Examples:
-  t5250 play --screen sign-on.script
+  t5250 play --screen --color sign-on.script
   t5250 play --tcp sign-on.script
   echo settle | t5250 play";
+
+const MAKE_EXAMPLES: &str = "\
+A text has the lines that `show` prints, and is read before anything is written:
+  record opcode K   a record of opcode K; flags FFFF may stand before opcode
+  telnet DO 24      a Telnet command; so too telnet NOP, telnet SB 24 HEX
+    WRITE 00 08     an element of the record, behind two blanks
+    TEXT Sign On    characters for cells
+A place (at P) counts for nothing, nor does an empty line or one that begins
+with #. A line screen ends the text.
+
+It prints a line of hex for each item.
+
+Examples:
+  t5250 make screen.text
+  t5250 show capture.hex | t5250 make";
 
 // The commands that the program knows.
 fn program<'a>(alloc: Global) -> Result<Command<'a>, clap::Error> {
@@ -119,6 +147,7 @@ fn program<'a>(alloc: Global) -> Result<Command<'a>, clap::Error> {
         .about("Prints a stream's records and Telnet commands, and the screen that they make")
         .after_help(SHOW_EXAMPLES)
         .arg(answers_flag(alloc))?
+        .arg(color_flag(alloc))?
         .arg(hex_file(alloc))?;
     let screen = Arg::new(alloc, "screen")
         .long("screen")
@@ -137,8 +166,16 @@ fn program<'a>(alloc: Global) -> Result<Command<'a>, clap::Error> {
         .about("Plays a script of sends, keys and deliveries with both ends")
         .after_help(PLAY_EXAMPLES)
         .arg(screen)?
+        .arg(color_flag(alloc))?
         .arg(tcp)?
         .arg(script)?;
+    let items = Arg::new(alloc, "FILE")
+        .help("Items as text; without it, standard input is read")
+        .action(ArgAction::Set);
+    let make = Command::new(alloc, "make")
+        .about("Prints a host's stream as hex text, from the lines that show prints")
+        .after_help(MAKE_EXAMPLES)
+        .arg(items)?;
     let program = Command::new(alloc, "t5250")
         .version("0.1.0")
         .about("Reads recorded IBM 5250 streams over Telnet (RFC 1205)")
@@ -147,6 +184,7 @@ fn program<'a>(alloc: Global) -> Result<Command<'a>, clap::Error> {
         .subcommand(check)?
         .subcommand(show)?
         .subcommand(play)?
+        .subcommand(make)?
         .subcommand(connect_command(alloc)?)?
         .subcommand(serve_command(alloc)?)?;
     Ok(program)
@@ -203,11 +241,16 @@ pub fn read_words<'a, S: AsStr>(alloc: Global, words: &'a [S]) -> Result<Task<'a
         Some(("show", show)) => Ok(Task::Input(Asked::Show {
             file: show.get_str("FILE"),
             answers: show.get_flag("answers"),
+            paint: paint_asked(show),
         })),
         Some(("play", play)) => Ok(Task::Input(Asked::Play {
             file: play.get_str("SCRIPT"),
             screen: play.get_flag("screen"),
             tcp: play.get_flag("tcp"),
+            paint: paint_asked(play),
+        })),
+        Some(("make", make)) => Ok(Task::Input(Asked::Make {
+            file: make.get_str("FILE"),
         })),
         Some(("connect", words)) => Ok(Task::Live(Live::Connect(connect_asked(
             &mut program,

@@ -1,11 +1,12 @@
 // The scripts and captures of examples/, letter for letter, and what the program prints of each. `examples/run.sh` looks
 // whether they still are the same.
-use crate::buffered_sink::BufferedSink;
 use crate::command_line::{Task, read_words};
 use crate::fault::RunFault;
+use crate::hex_text::hex_bytes;
 use crate::program::{answer_buffered, status};
 use std::test::Fail;
 use ws_code::{FailingSink, VecSink};
+use ws_live::BufferedSink;
 
 // A script and its lines with the screen; a capture of what its host sends, and what `check` and `show` print of it.
 struct Example<'a> {
@@ -277,6 +278,24 @@ fn examples_print_their_lines(rt: HostRuntime) -> Result<(), Fail> {
             let sink = sink.into_inner();
             assert_eq!(rt; sink.as_slice(), wanted.as_bytes(), "{words:?} {text}");
         }
+    }
+    Ok(())
+}
+
+// What `make` makes of the lines of `show` is the capture, which is laid out otherwise.
+#[test]
+fn shown_lines_make_their_capture(rt: HostRuntime) -> Result<(), Fail> {
+    for example in &EXAMPLES {
+        let Task::Input(asked) = read_words(rt.alloc(), &["t5250", "make"])? else {
+            return Err("a live session".into());
+        };
+        let mut sink = BufferedSink::new(VecSink::new(rt.alloc()));
+        let shown = example.shown.as_bytes();
+        let outcome = answer_buffered(&rt, rt.alloc(), asked, shown, &mut sink);
+        assert_eq!(rt; outcome, Ok(true), "{}", example.shown);
+        let made = hex_bytes(rt.alloc(), sink.into_inner().as_slice())?;
+        let wanted = hex_bytes(rt.alloc(), example.capture.as_bytes())?;
+        assert_eq!(rt; made.as_slice(), wanted.as_slice(), "{}", example.shown);
     }
     Ok(())
 }

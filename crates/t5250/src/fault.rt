@@ -1,12 +1,13 @@
 ghost use Rattle.std.specs.Prelude.{◌≡◌};
-ghost use Rattle.t5250.specs.RunFaults.{run_fault, text_run_fault, script_run_fault, tcp_run_fault};
+ghost use Rattle.t5250.specs.RunFaults.{run_fault, text_run_fault, script_run_fault, items_run_fault, tcp_run_fault};
 
 use crate::hex_text::TextFault;
-use crate::script::ScriptFault;
 use crate::tcp::TcpFault;
 use std::io;
 use thiserror::Error;
 use ws_code::{Fault, Reason};
+use ws_live::ScriptFault;
+use ws_text::TextFault as ItemsFault;
 
 /// What ends the program with status 2, other than a wrong command line. Each has one line.
 #[derive(Clone, Copy, Debug, PartialEq, Eq, Drop, Error)]
@@ -15,7 +16,7 @@ pub enum RunFault {
     Read,
     #[error("not hex")]
     NotHex,
-    /// The first bad line of a script, counted from 1.
+    /// The first bad line of a script, or of items as text, counted from 1.
     #[error("script line {0}")]
     Line(u64),
     #[error("memory")]
@@ -93,6 +94,17 @@ impl From<ScriptFault> for RunFault {
         match fault {
             ScriptFault::Line(number) => RunFault::Line(number),
             ScriptFault::Memory => RunFault::Memory,
+        }
+    }
+}
+
+impl From<ItemsFault> for RunFault {
+    ghost from_gives = { λ fault told. told ≡ items_run_fault fault };
+
+    fn from(fault: ItemsFault) -> Self {
+        match fault {
+            ItemsFault::Line(number) => RunFault::Line(number),
+            ItemsFault::Memory => RunFault::Memory,
         }
     }
 }

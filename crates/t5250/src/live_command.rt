@@ -2,6 +2,7 @@ use crate::live_address::{HostPort, host_and_port, listening_address};
 use clap::error::ErrorKind;
 use clap::{Arg, ArgAction, ArgMatches, Command, value_parser};
 use std::alloc::Global;
+use ws_live::Paint;
 use ws_nego::TerminalType;
 
 /// A live session that a command line asks for.
@@ -19,6 +20,8 @@ pub struct ConnectAsked<'a> {
     /// In seconds, 1 to 86,400.
     pub wait: u32,
     pub ready: bool,
+    /// Of the screens that are printed.
+    pub paint: Paint,
     /// The file of a script; without it, standard input is read.
     pub script: Option<&'a str>,
 }
@@ -56,7 +59,7 @@ Exit status:
 
 Examples:
   t5250 connect pub400.com sign-on.connect
-  t5250 connect --wait 5 '[::1]:5250' < sign-on.connect
+  t5250 connect --color --wait 5 '[::1]:5250' < sign-on.connect
   t5250 connect --ready --terminal IBM-5251-11 127.0.0.1:5250";
 
 const SERVE_EXAMPLES: &str = "\
@@ -97,6 +100,7 @@ pub fn connect_command<'a>(alloc: Global) -> Result<Command<'a>, clap::Error> {
     let command = Command::new(alloc, "connect")
         .about("Is a station at a host, by a script or line by line")
         .after_help(CONNECT_EXAMPLES)
+        .arg(color_flag(alloc))?
         .arg(terminal)?
         .arg(wait(alloc))?
         .arg(ready(alloc))?
@@ -120,6 +124,23 @@ pub fn serve_command<'a>(alloc: Global) -> Result<Command<'a>, clap::Error> {
         .arg(address)?
         .arg(script(alloc))?;
     Ok(command)
+}
+
+/// The flag for screens in colour.
+pub fn color_flag<'a>(alloc: Global) -> Arg<'a> {
+    Arg::new(alloc, "color")
+        .long("color")
+        .help("Prints the rows of a screen in colour, by sequences of ECMA-48")
+        .action(ArgAction::SetTrue)
+}
+
+/// The paint of screens that these words ask for.
+pub fn paint_asked(words: &ArgMatches<'_>) -> Paint {
+    if words.get_flag("color") {
+        Paint::Color
+    } else {
+        Paint::Plain
+    }
 }
 
 fn wait<'a>(alloc: Global) -> Arg<'a> {
@@ -172,6 +193,7 @@ pub fn connect_asked<'a>(
         terminal,
         wait: seconds(words),
         ready: words.get_flag("ready"),
+        paint: paint_asked(words),
         script: words.get_str("SCRIPT"),
     })
 }

@@ -1,24 +1,21 @@
-//! Live sessions over a connection: the sockets, the script or standard input, and standard output. What a line does
-//! at an end, and what it prints, is said where it is carried out.
-use crate::buffered_sink::BufferedSink;
-use crate::connect_line::StationLine;
+//! Live sessions over a connection: the sockets and the script. What the lines do at an end, and what they print, is
+//! said where they are carried out.
+ghost use Rattle.std.specs.Prelude.{◌≡◌, []};
+
 use crate::fault::RunFault;
-use crate::live::{LiveMove, Ran, Watch, carry_line, carry_lines, hand_on};
 use crate::live_address::HostPort;
 use crate::live_command::{ConnectAsked, Live, ServeAsked};
-use crate::live_line::{LiveLine, read_lines};
+use crate::live_input::{carry_at_host, carry_at_station};
 use crate::live_socket::{TimedReader, TimedWriter, Timer};
-use crate::output::{Output, put_text};
-use crate::script_line::LineFault;
-use crate::serve::answer_on;
-use crate::serve_line::HostLine;
 use std::io::{ErrorKind, Read};
 use std::net::{Net, Shutdown, TcpListener, TcpStream, ToSocketAddrs};
 use std::rt::{Files, Runtime};
 use std::time::{Clock, Duration};
 use std::{fs, io};
 use ws_code::{ReadSource, Sink, WriteSink, write_whole};
+use ws_live::{BufferedSink, HostLine, LiveLine, StationLine, hand_on, read_lines};
 use ws_session::{Attached, HostEnd, Station};
+use ws_text::{Output, put_text};
 
 // How many seconds the end of a connection may take.
 const LINGER: u64 = 1;
@@ -28,6 +25,7 @@ pub fn run_live<R, O>(rt: &R, asked: Live<'_>, out: &mut BufferedSink<O>) -> Res
 where
     R: Runtime + AllocGlobal + Net<Listener = TcpListener, Stream = TcpStream>,
     O: Sink,
+    requires { out.old.held ≡ [] }
 {
     match asked {
         Live::Connect(asked) => connect(rt, &asked, out),
@@ -44,6 +42,7 @@ fn connect<R, O>(
 where
     R: Runtime + AllocGlobal + Net<Listener = TcpListener, Stream = TcpStream>,
     O: Sink,
+    requires { out.old.held ≡ [] }
 {
     let script = read_script_file::<R, StationLine>(rt, asked.script)?;
     let limit = Duration::from_secs(u64::from(asked.wait));
@@ -56,9 +55,17 @@ where
         ReadSource::new(TimedReader::new(&stream, &timer)),
         WriteSink::new(TimedWriter::new(&stream, &timer)),
     );
-    let ran = carry_session(rt, &mut attached, &timer, script, asked.ready, out)?;
+    let all_well = carry_at_station(
+        rt,
+        &mut attached,
+        &timer,
+        script,
+        asked.ready,
+        asked.paint,
+        out,
+    )?;
     close(rt, &stream);
-    Ok(ran.all_well)
+    Ok(all_well)
 }
 
 // A host for one station.
@@ -66,6 +73,7 @@ fn serve<R, O>(rt: &R, asked: &ServeAsked<'_>, out: &mut BufferedSink<O>) -> Res
 where
     R: Runtime + AllocGlobal + Net<Listener = TcpListener, Stream = TcpStream>,
     O: Sink,
+    requires { out.old.held ≡ [] }
 {
     let script = read_script_file::<R, HostLine>(rt, asked.script)?;
     let limit = Duration::from_secs(u64::from(asked.wait));
@@ -82,10 +90,9 @@ where
     write_whole(&mut sink, host.open().as_slice())?;
     let source = ReadSource::new(TimedReader::new(&stream, &timer));
     let mut attached = Attached::new(host, source, sink);
-    let ran = carry_session(rt, &mut attached, &timer, script, asked.ready, out)?;
-    let is_well = ran.is_over || answer_on(&mut attached, &timer, out)?;
+    let all_well = carry_at_host(rt, &mut attached, &timer, script, asked.ready, out)?;
     close(rt, &stream);
-    Ok(ran.all_well && is_well)
+    Ok(all_well)
 }
 
 // The lines of a script, where one is named.
@@ -132,7 +139,10 @@ fn put_listening<R: AllocGlobal, O: Sink>(
     rt: &R,
     listener: &TcpListener,
     out: &mut BufferedSink<O>,
-) -> Result<(), RunFault> {
+) -> Result<(), RunFault>
+    requires { out.old.held ≡ [] }
+    ensures { out.new.held ≡ [] }
+{
     let Ok(address) = listener.local_addr() else {
         return Err(RunFault::NoConnection);
     };
@@ -143,73 +153,6 @@ fn put_listening<R: AllocGlobal, O: Sink>(
     match hand_on(out, output) {
         Output::Open => Ok(()),
         Output::Failed => Err(RunFault::Write),
-    }
-}
-
-// Carries out the lines of a script, or without one those of standard input.
-fn carry_session<R, E, S, K, L, W, O>(
-    rt: &R,
-    attached: &mut Attached<E, S, K>,
-    watch: &W,
-    script: Option<Vec<L>>,
-    ready: bool,
-    out: &mut BufferedSink<O>,
-) -> Result<Ran, RunFault>
-where
-    R: Runtime + AllocGlobal,
-    L: LiveMove<E, S, K>,
-    W: Watch,
-    O: Sink,
-{
-    match script {
-        Some(lines) => carry_lines(attached, watch, lines.as_slice(), ready, out),
-        None => carry_input::<R, E, S, K, L, W, O>(rt, attached, watch, ready, out),
-    }
-}
-
-// Carries out each line of standard input before it reads the next.
-fn carry_input<R, E, S, K, L, W, O>(
-    rt: &R,
-    attached: &mut Attached<E, S, K>,
-    watch: &W,
-    ready: bool,
-    out: &mut BufferedSink<O>,
-) -> Result<Ran, RunFault>
-where
-    R: Runtime + AllocGlobal,
-    L: LiveMove<E, S, K>,
-    W: Watch,
-    O: Sink,
-{
-    let mut ran = Ran::none();
-    let mut number = 0u64;
-    for line in rt.lines(rt.alloc()) {
-        number = number.saturating_add(1);
-        let line = read_input_line::<R, L>(rt, line, number)?;
-        ran = ran.and(carry_line(attached, watch, &line, ready, out)?.ran());
-        if ran.is_over {
-            return Ok(ran);
-        }
-    }
-    Ok(ran)
-}
-
-fn read_input_line<R: AllocGlobal, L: LiveLine>(
-    rt: &R,
-    line: io::Result<String>,
-    number: u64,
-) -> Result<L, RunFault> {
-    let line = match line {
-        Ok(line) => line,
-        Err(error) if error.kind() == ErrorKind::InvalidData => {
-            return Err(RunFault::Line(number));
-        }
-        Err(error) => return Err(RunFault::from(error)),
-    };
-    match L::read(rt.alloc(), line.as_bytes()) {
-        Ok(line) => Ok(line),
-        Err(LineFault::Bad) => Err(RunFault::Line(number)),
-        Err(LineFault::Memory) => Err(RunFault::Memory),
     }
 }
 

@@ -1,12 +1,12 @@
 //! The two directions of a connection, each with a time.
 ghost use Rattle.std.specs.Io.{ReadsAtMost, WritesAtMost};
 
-use crate::live::Watch;
 use std::cell::Cell;
 use std::io;
 use std::io::{ErrorKind, Read, Write};
 use std::net::TcpStream;
 use std::time::{Clock, Duration, Instant};
+use ws_live::Watch;
 
 /// The time of a wait, which all its reads share, and of a write.
 #[derive(Drop)]
@@ -37,6 +37,9 @@ impl<'a, C: Clock> Timer<'a, C> {
 }
 
 impl<'a, C: Clock> Watch for Timer<'a, C> {
+    // No contract says what a clock tells.
+    ghost tells = { λ timer late. Unit {0} };
+
     fn begin(&self) {
         self.until.set(end_of_wait(self.clock, self.limit));
     }

@@ -1,52 +1,31 @@
-//! The program `t5250`, which checks and shows recorded 5250 streams (RFC 1205), and plays scripts with both ends.
+//! The program `t5250`, which checks and shows recorded 5250 streams (RFC 1205), makes them from text, and plays
+//! scripts with both ends.
 //!
 //! Its status is 0 where a stream is accepted, 1 where it is refused or truncated, and 2 on a fault. A fault
 //! is one line on standard error, or the text of `clap` for a wrong command line. Faults are looked for in this
-//! order: the command line, reading, hex text or script, the connection, and then those met in running.
+//! order: the command line, reading, hex text or lines, the connection, and then those met in running.
 #![tactic(auto)]
 
-mod answer_text;
-mod buffered_sink;
 mod check;
 mod command_line;
 #[cfg(test)]
-mod command_rows;
-mod connect;
-mod connect_line;
-mod element_text;
-#[cfg(test)]
-mod encoding_rows;
-#[cfg(test)]
 mod example_rows;
 mod fault;
-mod field_lines;
 mod hex_text;
-#[cfg(test)]
-mod hostile_rows;
 mod input;
-mod item_text;
-mod key_name;
-mod live;
 mod live_address;
 mod live_command;
-mod live_line;
+mod live_input;
 mod live_session;
 mod live_socket;
+mod make;
+#[cfg(test)]
+mod make_rows;
 #[cfg(test)]
 mod memory_rows;
-mod output;
-mod play;
 #[cfg(test)]
 mod play_rows;
 mod program;
-mod screen_lines;
-mod script;
-mod script_line;
-mod script_move;
-#[cfg(test)]
-mod script_rows;
-mod serve;
-mod serve_line;
 mod show;
 #[cfg(test)]
 mod show_rows;
@@ -58,11 +37,8 @@ mod tcp;
 mod tcp_rows;
 #[cfg(test)]
 mod tests;
-#[cfg(test)]
-mod vectors;
 mod verdict;
 
-use crate::buffered_sink::BufferedSink;
 use crate::command_line::{Task, given_words, read_words};
 use crate::fault::{CommandFault, RunFault};
 use crate::input::read_input;
@@ -73,6 +49,7 @@ use std::net::{Net, TcpListener, TcpStream};
 use std::process::ExitCode;
 use std::rt::Runtime;
 use ws_code::WriteSink;
+use ws_live::BufferedSink;
 
 // Reads the command line and the input, and writes what is asked for: true where all was accepted.
 fn run<R: Runtime + AllocGlobal + Net<Listener = TcpListener, Stream = TcpStream>>(

@@ -3,14 +3,13 @@
 // tests with each one refused in turn, so nothing here rests on memory, but what a call under test gave.
 use crate::check::check_to;
 use crate::hex_text::{TextFault, hex_bytes};
-use crate::script::{ScriptFault, read_script};
 use crate::show::show_to;
-use crate::vectors::{BOB, BOB_ANSWER, INVITE};
 use arrayvec::ArrayVec;
 use std::alloc::{AllocError, Global};
 use std::process::Abort;
 use ws_code::{Address, Aid, DataByte, Fault, Ffw, List, SliceSource, VecSink, WriteSink};
 use ws_keys::{HostAnswer, HostFault, Key};
+use ws_live::{ScriptFault, read_script};
 use ws_nego::TerminalType;
 use ws_record::{
     EncodeFault, Item, Live, Opcode, Receiver, Record, Step, decode_all, decode_from, encode,
@@ -28,6 +27,15 @@ const OPENING: &[u8] =
 
 const OPENED: &[u8] =
     b"\xff\xfb\x18\xff\xfa\x18\x00IBM-3179-2\xff\xf0\xff\xfb\x19\xff\xfd\x19\xff\xfb\x00\xff\xfd\x00";
+
+const INVITE: &[u8] = b"\x00\x0a\x12\xa0\x00\x00\x04\x00\x00\x01\xff\xef";
+
+// A form of one field at 6, 53, and the answer to it.
+const BOB: &[u8] =
+    b"\x00\x1d\x12\xa0\x00\x00\x04\x00\x00\x03\x04\x40\x04\x11\x00\x08\x11\x06\x34\x1d\x40\x00\x20\x00\x0a\x04\x52\x00\x00\xff\xef";
+
+const BOB_ANSWER: &[u8] =
+    b"\x00\x13\x12\xa0\x00\x00\x04\x00\x00\x03\x06\x38\xf1\x11\x06\x35\xc2\xd6\xc2\xff\xef";
 
 const BOB_HEX: &[u8] = b"001D12A0000004000003 0440041100081106341D400020000A04520000 FFEF";
 

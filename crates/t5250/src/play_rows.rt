@@ -1,10 +1,10 @@
 use crate::command_line::Asked;
 use crate::fault::RunFault;
-use crate::play::play_to;
 use crate::program::{answer, status};
 use std::test::Fail;
 use ws_code::{FailingSink, Fault, List, Reason, VecSink};
 use ws_keys::KeyRefusal;
+use ws_live::{Paint, play_to};
 use ws_nego::TerminalType;
 use ws_session::{Event, HostEnd, KeyFault, Report, SendFault, Station};
 
@@ -101,6 +101,7 @@ fn played(rt: HostRuntime) -> Result<(), Fail> {
                 file: None,
                 screen,
                 tcp,
+                paint: Paint::Plain,
             };
             let outcome = answer(&rt, rt.alloc(), asked, script.as_bytes(), &mut sink);
             assert_eq!(rt; status(&outcome), 0, "{name}");
@@ -132,6 +133,7 @@ fn byte_by_byte(rt: HostRuntime) -> Result<(), Fail> {
             file: None,
             screen: false,
             tcp: false,
+            paint: Paint::Plain,
         },
         script.as_bytes(),
         &mut sink,
@@ -152,6 +154,7 @@ fn unplayed(rt: HostRuntime) -> Result<(), Fail> {
             file: None,
             screen: true,
             tcp: false,
+            paint: Paint::Plain,
         },
         b"settle\nhello\n",
         &mut sink,
@@ -169,6 +172,7 @@ fn unplayed(rt: HostRuntime) -> Result<(), Fail> {
             file: None,
             screen: true,
             tcp: false,
+            paint: Paint::Plain,
         },
         PLAYED[0].1.as_bytes(),
         &mut sink,

@@ -4,33 +4,34 @@ ghost use Rattle.ws_stream.specs.Elements.{element_rules};
 ghost use Rattle.t5250.specs.Answering.{HasPieces, HasAnswered, HasChecked, HasShown, HasPlayed, HasPlayedByTcp, IsAnswerFault, IsHexFault, IsPlayFault, IsTcpPlayFault, status_of};
 ghost use Rattle.t5250.specs.HexText.{IsHexOf};
 ghost use Rattle.t5250.specs.Checking.{IsCheckFault};
+ghost use Rattle.t5250.specs.Making.{HasMade, IsMakeFault};
 ghost use Rattle.t5250.specs.StreamText.{IsShowFault};
-ghost use Rattle.t5250.specs.Views.{host_view, answer_view};
+ghost use Rattle.t5250.specs.Views.{painted_host_view, answer_view};
 ghost use Rattle.std.specs.Prelude.{List as Seq, ℕ};
 
-use crate::buffered_sink::BufferedSink;
 use crate::check::check_to;
 use crate::command_line::Asked;
 use crate::fault::RunFault;
 use crate::hex_text::hex_bytes;
-use crate::play::play_to;
-use crate::script::read_script;
-use crate::show::{show_answers_to, show_to};
+use crate::make::make_to;
+use crate::show::{show_answers_to, show_painted_to};
 use crate::tcp::play_tcp;
 use std::alloc::Global;
 use std::net::{Net, TcpListener, TcpStream};
 use ws_code::{Body, Sink};
+use ws_live::{BufferedSink, Paint, play_painted_to, read_script};
 use ws_nego::TerminalType;
 use ws_session::World;
 use ws_stream::{Answers, Commands};
+use ws_text::read_items;
 
 /// Does what the program was asked for with the whole of its input: true where all was accepted.
 ///
 /// What is asked for by `asked` is written to the sink; a file that it names was read before. `NotHex` comes
-/// where the input had to be hex text and isn't, `Line` where a line of a script is bad, `NoConnection` or `Read`
-/// where a script was to be played over a connection and can't, and then nothing was written; `Memory` where a growth
-/// was refused, and `Write` where the sink failed, or the connection, and then the first part of the text may have
-/// gone out.
+/// where the input had to be hex text and isn't, `Line` where a line of a script or of items as text is bad,
+/// `NoConnection` or `Read` where a script was to be played over a connection and can't, and then nothing was
+/// written; `Memory` where a growth was refused, and `Write` where the sink failed, or the connection, and then the
+/// first part of the text may have gone out.
 pub fn answer<R: Net<Listener = TcpListener, Stream = TcpStream>, S: Sink>(
     rt: &R,
     alloc: Global,
@@ -52,20 +53,26 @@ pub fn answer<R: Net<Listener = TcpListener, Stream = TcpStream>, S: Sink>(
                 check_text::<Commands, S>(alloc, text, cut, sink)
             }
         }
-        Asked::Show { answers, .. } => {
+        Asked::Show { answers, paint, .. } => {
             if answers {
                 show_answers_text(alloc, text, sink)
             } else {
-                show_text(alloc, text, sink)
+                show_text(alloc, text, paint, sink)
             }
         }
-        Asked::Play { screen, tcp, .. } => {
+        Asked::Play {
+            screen,
+            tcp,
+            paint,
+            ..
+        } => {
             if tcp {
-                play_script_by_tcp(rt, alloc, text, screen, sink)
+                play_script_by_tcp(rt, alloc, text, screen, paint, sink)
             } else {
-                play_script(alloc, text, screen, sink)
+                play_script(alloc, text, screen, paint, sink)
             }
         }
+        Asked::Make { .. } => make_stream(alloc, text, sink),
     }
 }
 
@@ -111,14 +118,21 @@ fn check_text<B: Body, S: Sink>(
 }
 
 // Writes what is shown of the bytes that a hex text tells, as a host's.
-fn show_text<S: Sink>(alloc: Global, text: &[u8], sink: &mut S) -> Result<bool, RunFault>
+fn show_text<S: Sink>(
+    alloc: Global,
+    text: &[u8],
+    paint: Paint,
+    sink: &mut S,
+) -> Result<bool, RunFault>
     ensures done { IfOk result (λ accepted. (bytes : Seq ℕ) × IsHexOf bytes text.now
-        × HasShown S.takes S.failures sink.old sink.new element_rules host_view bytes accepted) }
+        × HasShown S.takes S.failures sink.old sink.new
+        element_rules (painted_host_view paint) bytes accepted) }
     ensures fault { IfErr result (IsHexFault S.takes S.failures sink.old sink.new
-        (IsShowFault S.takes S.failures sink.old sink.new element_rules host_view) text.now) }
+        (IsShowFault S.takes S.failures sink.old sink.new
+        element_rules (painted_host_view paint)) text.now) }
 {
     let bytes = hex_bytes(alloc, text)?;
-    Ok(show_to(alloc, bytes.as_slice(), sink)?)
+    Ok(show_painted_to(alloc, paint, bytes.as_slice(), sink)?)
 }
 
 // The same as a station's.
@@ -137,16 +151,17 @@ fn play_script<S: Sink>(
     alloc: Global,
     script: &[u8],
     screen: bool,
+    paint: Paint,
     sink: &mut S,
 ) -> Result<bool, RunFault>
     ensures done { IfOk result
-        (HasPlayed S.takes S.failures sink.old sink.new screen script.now) }
+        (HasPlayed S.takes S.failures sink.old sink.new paint screen script.now) }
     ensures fault { IfErr result
-        (IsPlayFault S.takes S.failures sink.old sink.new screen script.now) }
+        (IsPlayFault S.takes S.failures sink.old sink.new paint screen script.now) }
 {
     let moves = read_script(alloc, script)?;
     let report = World::run(alloc, TerminalType::Ibm3179Model2, moves.as_slice())?;
-    Ok(play_to(&report, screen, sink)?)
+    Ok(play_painted_to(&report, paint, screen, sink)?)
 }
 
 // The same over a connection.
@@ -155,16 +170,27 @@ fn play_script_by_tcp<R: Net<Listener = TcpListener, Stream = TcpStream>, S: Sin
     alloc: Global,
     script: &[u8],
     screen: bool,
+    paint: Paint,
     sink: &mut S,
 ) -> Result<bool, RunFault>
     ensures done { IfOk result
-        (HasPlayedByTcp S.takes S.failures sink.old sink.new screen script.now) }
+        (HasPlayedByTcp S.takes S.failures sink.old sink.new paint screen script.now) }
     ensures fault { IfErr result
-        (IsTcpPlayFault S.takes S.failures sink.old sink.new screen script.now) }
+        (IsTcpPlayFault S.takes S.failures sink.old sink.new paint screen script.now) }
 {
     let moves = read_script(alloc, script)?;
     let report = play_tcp(rt, alloc, TerminalType::Ibm3179Model2, moves.as_slice())?;
-    Ok(play_to(&report, screen, sink)?)
+    Ok(play_painted_to(&report, paint, screen, sink)?)
+}
+
+// Writes the stream whose items a text spells.
+fn make_stream<S: Sink>(alloc: Global, text: &[u8], sink: &mut S) -> Result<bool, RunFault>
+    ensures done { IfOk result (HasMade S.takes S.failures sink.old sink.new text.now) }
+    ensures fault { IfErr result (IsMakeFault S.takes S.failures sink.old sink.new text.now) }
+{
+    let items = read_items(alloc, text)?;
+    make_to(alloc, items.as_slice(), sink)?;
+    Ok(true)
 }
 
 /// The exit status of an outcome: 0 where all was accepted, 1 where it wasn't, 2 on a fault.

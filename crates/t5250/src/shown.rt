@@ -1,19 +1,18 @@
 ghost use Rattle.std.specs.Prelude.{◌≡◌, ◌++◌, ◌∷◌, [], List, ℕ, OnOk};
 ghost use Rattle.ws_record.specs.declared.record.Item.{Item as AnItem};
 ghost use Rattle.ws_screen.specs.Faults.{refusal};
-ghost use Rattle.t5250.specs.Printing.{Prints};
+ghost use Rattle.ws_text.specs.Printing.{Prints};
 ghost use Rattle.t5250.specs.StreamText.{View, IsWholeItem};
-ghost use Rattle.t5250.specs.Views.{host_view, answer_view, MakesScreen};
+ghost use Rattle.t5250.specs.Views.{host_view, answer_view, IsNoEnd, IsScreenEnd, MakesScreen};
+ghost use Rattle.ws_live.specs.declared.paint.Paint.{Paint as APaint};
 
-use crate::answer_text::put_answer_item;
-use crate::item_text::put_item;
-use crate::output::{Output, put_text};
-use crate::screen_lines::put_screen;
 use ws_code::{Body, Reason, Sink};
+use ws_live::{Paint, put_screen};
 use ws_record::Item;
 use ws_screen::Screen;
 use ws_session::apply_record;
 use ws_stream::{AnswerPart, Answers, Commands, Element};
+use ws_text::{Output, put_answer_item, put_item, put_text};
 
 /// A body whose items are shown, and carried out one after another.
 pub trait Shown: Body {
@@ -22,6 +21,9 @@ pub trait Shown: Body {
 
     // How they are shown.
     ghost view: { View Self.Unit };
+
+    // What stands behind them in a paint.
+    ghost Ends: { APaint → List (AnItem Self.Unit) → List ℕ → Type 0 };
 
     // The items make it.
     ghost makes: { List (AnItem Self.Unit) → Self.Made → Type 0 };
@@ -50,9 +52,9 @@ pub trait Shown: Body {
             (view.lines place item.now) };
 
     /// Writes what stands behind all items of a stream that is accepted.
-    fn put_end<S: Sink>(sink: &mut S, output: Output, made: &Self::Made) -> Output
+    fn put_end<S: Sink>(sink: &mut S, output: Output, paint: Paint, made: &Self::Made) -> Output
         ensures { (text : List ℕ)
-            × ((items : List (AnItem Self.Unit)) → makes items made.now → view.Ends items text)
+            × ((items : List (AnItem Self.Unit)) → makes items made.now → Ends paint items text)
             × Prints S.takes S.failures sink.old sink.new output result text };
 }
 
@@ -61,6 +63,8 @@ impl Shown for Commands {
     type Made = Screen;
 
     ghost view = { host_view };
+
+    ghost Ends = { IsScreenEnd };
 
     ghost makes = { MakesScreen };
 
@@ -84,8 +88,8 @@ impl Shown for Commands {
         put_item(sink, output, place, item)
     }
 
-    fn put_end<S: Sink>(sink: &mut S, output: Output, screen: &Screen) -> Output {
-        put_screen(sink, output, screen)
+    fn put_end<S: Sink>(sink: &mut S, output: Output, paint: Paint, screen: &Screen) -> Output {
+        put_screen(sink, output, paint, screen)
     }
 }
 
@@ -94,6 +98,8 @@ impl Shown for Answers {
     type Made = ();
 
     ghost view = { answer_view };
+
+    ghost Ends = { λ _. IsNoEnd };
 
     ghost makes = { λ _ _. Unit {0} };
 
@@ -112,7 +118,7 @@ impl Shown for Answers {
         put_answer_item(sink, output, place, item)
     }
 
-    fn put_end<S: Sink>(sink: &mut S, output: Output, _made: &()) -> Output {
+    fn put_end<S: Sink>(sink: &mut S, output: Output, _paint: Paint, _made: &()) -> Output {
         put_text(sink, output, "")
     }
 }

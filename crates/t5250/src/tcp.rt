@@ -1,11 +1,16 @@
-ghost use Rattle.std.specs.Prelude.{◌≡◌};
+ghost use Rattle.std.specs.Prelude.{◌≡◌, List as Seq, IfOk, IfErr};
+ghost use Rattle.ws_code.specs.declared.fault.Fault.{Fault as AFault};
+ghost use Rattle.ws_session.specs.Crossings.{Crossing, AreFaithful, HaveCrossed, AreEnded};
+ghost use Rattle.ws_session.specs.Reports.{IsReport};
+ghost use Rattle.ws_session.specs.TwoLines.{HasRun};
+ghost use Rattle.ws_session.specs.World.{new_world, after_moves};
 ghost use Rattle.t5250.specs.RunFaults.{tcp_fault};
 
 use std::alloc::Global;
 use std::io;
 use std::net::{Ipv4Addr, Net, SocketAddr, TcpListener, TcpStream};
 use thiserror::Error;
-use ws_code::{Fault, ReadSource, WriteSink};
+use ws_code::{Fault, ReadSource, Sink, Source, WriteSink};
 use ws_nego::TerminalType;
 use ws_session::{Line, Move, Report, World};
 
@@ -44,8 +49,8 @@ impl From<Fault> for TcpFault {
 /// Plays a session whose bytes go over one TCP connection on 127.0.0.1: the host end listens and accepts, and the
 /// station connects. Bytes wait in memory until a move delivers them. Then they go in pieces of at most 4,096, each of
 /// which is written at the one end and read at the other before the next, so that one thread plays both ends. An end
-/// takes what was read. What a connection does can't be proved; where it brings what was written, the report is that
-/// of `World::run`, as `World::run_carried` promises.
+/// takes what was read. What a connection does can't be proved: the session is that of some pieces that crossed it.
+/// Where it brings what was written, the report is that of `World::run`, as `play_over` promises.
 ///
 /// # Errors
 ///
@@ -57,7 +62,16 @@ pub fn play_tcp<R: Net<Listener = TcpListener, Stream = TcpStream>>(
     alloc: Global,
     terminal: TerminalType,
     moves: &[Move],
-) -> Result<Report, TcpFault> {
+) -> Result<Report, TcpFault>
+    ensures { IfOk result (λ r. (downs ups : Seq Crossing)
+        × HasRun terminal moves.now downs ups (record {
+          station = r.station;
+          host = r.host;
+          to_station = r.to_station;
+          to_host = r.to_host;
+          events = r.events;
+        })) }
+{
     let (host, station) = match connect(rt) {
         Ok(ends) => ends,
         Err(_) => return Err(TcpFault::NoConnection),
@@ -70,7 +84,40 @@ pub fn play_tcp<R: Net<Listener = TcpListener, Stream = TcpStream>>(
         sink: WriteSink::new(&station),
         source: ReadSource::new(&host),
     };
-    Ok(World::run_carried(alloc, terminal, moves, &mut down, &mut up)?)
+    play_over(alloc, terminal, moves, &mut down, &mut up)
+}
+
+/// Plays a session whose bytes go over two lines, one for each direction.
+///
+/// # Errors
+///
+/// `Write` and `Read` where a piece doesn't cross a line, `Memory` where a growth was refused.
+pub fn play_over<S: Sink, R: Source, T: Sink, Q: Source>(
+    alloc: Global,
+    terminal: TerminalType,
+    moves: &[Move],
+    down: &mut Line<S, R>,
+    up: &mut Line<T, Q>,
+) -> Result<Report, TcpFault>
+    // These pieces crossed the lines, and what came out of them arrived. Where it is what went in, the session is
+    // that of `World::run`.
+    ensures done { IfOk result (λ r. (downs ups : Seq Crossing)
+        × HaveCrossed S.takes S.failures R.gives R.failures down.old downs down.new
+        × HaveCrossed T.takes T.failures Q.gives Q.failures up.old ups up.new
+        × HasRun terminal moves.now downs ups (record {
+          station = r.station;
+          host = r.host;
+          to_station = r.to_station;
+          to_host = r.to_host;
+          events = r.events;
+        })
+        × (AreFaithful downs → AreFaithful ups → IsReport r.events r.station r.host
+        r.to_station r.to_host (after_moves (new_world terminal) moves.now))) }
+    ensures fault { IfErr result (λ told. (fault : AFault) × (told ≡ tcp_fault fault)
+        × AreEnded S.takes S.failures R.gives R.failures T.takes T.failures Q.gives Q.failures
+        down.old down.new up.old up.new fault) }
+{
+    Ok(World::run_carried(alloc, terminal, moves, down, up)?)
 }
 
 // A connection of this program with itself: the end that accepts, and the end that connects. What is written goes at

@@ -1,7 +1,5 @@
 use crate::fault::RunFault;
-use crate::play::play_to;
 use crate::play_rows::PLAYED;
-use crate::script::read_script;
 use crate::tcp::{TcpFault, play_tcp};
 use std::alloc::{AllocError, Global};
 use std::io;
@@ -9,6 +7,7 @@ use std::net::{Net, Shutdown, SocketAddr, TcpListener, TcpStream};
 use std::process::Abort;
 use std::test::Fail;
 use ws_code::{Fault, VecSink};
+use ws_live::{play_to, read_script};
 use ws_nego::TerminalType;
 use ws_session::{Move, Report, World};
 
@@ -57,19 +56,15 @@ fn tcp_plays_alike(rt: HostRuntime) -> Result<(), Fail> {
     Ok(())
 }
 
-// `tcp-without-memory`: what is answered may be want of memory, and then it is said.
+// `tcp-without-memory`: what is answered may be want of memory, and then it is said. The connection itself allocates
+// nothing, so that want is never told as no connection.
 #[test]
 fn tcp_without_memory(rt: HostRuntime) {
     let (name, script, _, lines) = PLAYED[0];
     match read_script(rt.alloc(), script.as_bytes()) {
         Err(fault) => assert_eq!(rt; RunFault::from(fault), RunFault::Memory),
         Ok(moves) => match play_tcp(&rt, rt.alloc(), TERMINAL, moves.as_slice()) {
-            Err(fault) => {
-                assert!(rt;
-                    matches!(fault, TcpFault::Memory | TcpFault::NoConnection),
-                    "{name}"
-                )
-            }
+            Err(fault) => assert_eq!(rt; fault, TcpFault::Memory, "{name}"),
             Ok(report) => {
                 let mut sink = VecSink::new(rt.alloc());
                 match play_to(&report, false, &mut sink) {

@@ -6,8 +6,10 @@ use crate::program::{answer, status};
 use std::io;
 use std::test::Fail;
 use ws_code::{FailingSink, Fault, Reason, VecSink};
+use ws_live::Paint;
 use ws_record::RawBody;
 use ws_stream::Commands;
+use ws_text::TextFault as ItemsFault;
 
 #[test]
 fn hex_texts(rt: HostRuntime) -> Result<(), Fail> {
@@ -33,7 +35,7 @@ fn check<'a>() -> Asked<'a> {
 fn command_lines(rt: HostRuntime) -> Result<(), Fail> {
     let cut = u16::MAX;
     let file = Some("a.hex");
-    let rows: [(&[&str], Asked<'_>); 14] = [
+    let rows: [(&[&str], Asked<'_>); 18] = [
         (&["t5250", "check"], check()),
         (
             &["t5250", "check", "a.hex"],
@@ -96,6 +98,7 @@ fn command_lines(rt: HostRuntime) -> Result<(), Fail> {
             Asked::Show {
                 file: None,
                 answers: false,
+                paint: Paint::Plain,
             },
         ),
         (
@@ -103,6 +106,7 @@ fn command_lines(rt: HostRuntime) -> Result<(), Fail> {
             Asked::Show {
                 file,
                 answers: true,
+                paint: Paint::Plain,
             },
         ),
         (
@@ -111,6 +115,7 @@ fn command_lines(rt: HostRuntime) -> Result<(), Fail> {
                 file: None,
                 screen: false,
                 tcp: false,
+                paint: Paint::Plain,
             },
         ),
         (
@@ -119,6 +124,7 @@ fn command_lines(rt: HostRuntime) -> Result<(), Fail> {
                 file,
                 screen: false,
                 tcp: false,
+                paint: Paint::Plain,
             },
         ),
         (
@@ -127,6 +133,7 @@ fn command_lines(rt: HostRuntime) -> Result<(), Fail> {
                 file,
                 screen: true,
                 tcp: false,
+                paint: Paint::Plain,
             },
         ),
         (
@@ -135,8 +142,28 @@ fn command_lines(rt: HostRuntime) -> Result<(), Fail> {
                 file,
                 screen: false,
                 tcp: true,
+                paint: Paint::Plain,
             },
         ),
+        (
+            &["t5250", "show", "--color", "a.hex"],
+            Asked::Show {
+                file,
+                answers: false,
+                paint: Paint::Color,
+            },
+        ),
+        (
+            &["t5250", "play", "--color", "--screen"],
+            Asked::Play {
+                file: None,
+                screen: true,
+                tcp: false,
+                paint: Paint::Color,
+            },
+        ),
+        (&["t5250", "make"], Asked::Make { file: None }),
+        (&["t5250", "make", "a.hex"], Asked::Make { file }),
     ];
     for (words, asked) in rows {
         assert_eq!(rt; read_words(rt.alloc(), words)?, Task::Input(asked));
@@ -144,7 +171,8 @@ fn command_lines(rt: HostRuntime) -> Result<(), Fail> {
     assert_eq!(rt;
         Asked::Show {
             file,
-            answers: false
+            answers: false,
+            paint: Paint::Plain,
         }
         .file(),
         file
@@ -173,6 +201,8 @@ fn wrong_command_lines(rt: HostRuntime) -> Result<(), Fail> {
         ["t5250", "play", "a.hex", "b.hex"].as_slice(),
         ["t5250", "play", "--screen", "--screen"].as_slice(),
         ["t5250", "play", "--tcp=1"].as_slice(),
+        ["t5250", "make", "--answers"].as_slice(),
+        ["t5250", "make", "a.hex", "b.hex"].as_slice(),
     ];
     for words in wrong {
         match read_words(rt.alloc(), words) {
@@ -198,6 +228,8 @@ fn fault_lines(rt: HostRuntime) -> Result<(), Fail> {
         (RunFault::Read, "cannot read"),
         (RunFault::from(TextFault::NotHex), "not hex"),
         (RunFault::from(TextFault::Memory), "memory"),
+        (RunFault::from(ItemsFault::Line(7)), "script line 7"),
+        (RunFault::from(ItemsFault::Memory), "memory"),
         (
             RunFault::from(Fault::Refused { place: 7, reason }),
             "refused at 7: reason 3 BadSub",

@@ -1,10 +1,11 @@
 ghost use Rattle.std.specs.Prelude.{◌≡◌, ◌<◌, ◌≢◌, List, ℕ, length, IfOk, IfErr};
 ghost use Rattle.ws_code.specs.Device.{WentOut, FailedWithin};
-ghost use Rattle.t5250.specs.CheckLine.{verdict_by, place_and_reason};
-ghost use Rattle.t5250.specs.Printing.{Prints};
+ghost use Rattle.t5250.specs.CheckLine.{verdict_by};
+ghost use Rattle.ws_text.specs.Printing.{Prints};
 
-use crate::output::{Output, put_number, put_text};
 use ws_code::{Fault, Reason, Sink};
+use ws_live::put_place_and_reason;
+use ws_text::{Output, put_number, put_text};
 
 /// What holds of a stream.
 #[derive(Clone, Copy, Debug, PartialEq, Eq)]
@@ -67,24 +68,6 @@ impl Verdict {
             }
         }
     }
-}
-
-/// Writes the place of a byte, and for what reason it is refused, up to the line's end.
-pub fn put_place_and_reason<S: Sink>(
-    sink: &mut S,
-    output: Output,
-    place: u64,
-    reason: Reason,
-) -> Output
-    ensures { Prints S.takes S.failures sink.old sink.new output result
-        (place_and_reason place reason) }
-{
-    let output = put_number(sink, output, place);
-    let output = put_text(sink, output, ": reason ");
-    let output = put_number(sink, output, reason.number() as u64);
-    let output = put_text(sink, output, " ");
-    let output = put_text(sink, output, reason.name());
-    put_text(sink, output, "\n")
 }
 
 /// The verdict that a fault of a receiver is; the fault itself, where it says nothing of the stream.

@@ -1,2 +1,4 @@
 mod Values
 mod PushLaws
+mod FieldIndex
+mod FeedLaws

@@ -1,10 +1,15 @@
 -- Bytes that are taken one after another, and a buffer that gets what they bring
 
-use Rattle.std.proofs.Common.{◌≡◌, ℕ, ◌+◌, ◌<◌, ◌≤◌, List, [], ◌∷◌, ◌++◌, length, get_or, take, drop, suc, refl, ap}
+use Rattle.std.proofs.Common.{◌≡◌, ℕ, ◌+◌, ◌-◌, ◌^◌, ◌<◌, ◌≤◌, List, [], ◌∷◌, ◌++◌, length, get_or, take, drop, suc}
+use Rattle.std.proofs.Common.{refl, ap}
 use Rattle.std.proofs.Common.{subst, sym, ◌∙◌, arith}
 use Rattle.std.proofs.Common.{append_assoc, length-append}
-use Rattle.std.proofs.lemmas.List.{append-nil, take_more, drop_all}
-use Rattle.std.proofs.Math.Seq.{drop-cons}
+use Rattle.std.proofs.lemmas.List.{append-nil, drop_all, take_all, length-drop, length-take-le}
+use Rattle.std.proofs.Math.Seq.{drop-cons, take-add}
+use Rattle.ws_code.specs.Code.{Rules}
+use Rattle.ws_record.specs.declared.record.Item.{Item}
+use Rattle.ws_session.specs.ActLaws.{gone_on, came_append, bytes_came}
+use Rattle.ws_session.specs.Acts.{Act, Manner, all_came, HasGone}
 use Rattle.ws_c.specs.declared.told.PushedTold.{PushedTold}
 use Rattle.ws_c.specs.Calls.{holds_front}
 use Rattle.ws_c.specs.Pushes.{TakesAll, pushed_told}
@@ -32,29 +37,63 @@ module _ {S : Type 0} (Takes : S → ℕ → List ℕ → S → Type 0) where
     ap (λ (l : List ℕ). l ++ reply) t.5 ∙ append_assoc t.1 t.2 reply,
   )
 
-  -- so many bytes of these were taken, and what they brought stands at the buffer's front
-  pub record Pushing (bytes buffer after : List ℕ) (taken replied : ℕ) (old now : S) : Type 0 where
-    pub written : List ℕ
-    pub takes : TakesAll Takes old (take taken bytes) written now
-    pub put : after ≡ holds_front written buffer
-    pub fits : replied ≤ length buffer
-    pub replied_is : replied ≡ length written
+-- So many bytes of these were taken, and what they brought stands at the buffer's front.
+pub record Feeding {S : Type 0} (Takes : ℕ → List ℕ → S → Type 0) (bytes buffer after : List ℕ) (taken replied : ℕ)
+    (now : S) : Type 0 where
+  pub inside : taken ≤ length bytes
+  pub written : List ℕ
+  pub takes : Takes taken written now
+  pub put : after ≡ holds_front written buffer
+  pub fits : replied ≤ length buffer
+  pub replied_is : replied ≡ length written
 
-  -- one more byte was taken
-  pub pushing_more : (bytes buffer after last : List ℕ) (taken replied : ℕ) (old now new : S) (reply : List ℕ)
-      → taken < length bytes → replied + length reply ≤ length buffer
-      → (p : Pushing bytes buffer after taken replied old now) → Takes now (get_or bytes taken 0) reply new
-      → last ≡ holds_front (p.written ++ reply) buffer
-      → Pushing bytes buffer last (taken + 1) (replied + length reply) old new
-  pushing_more bytes buffer after last taken replied old now new reply inside room p one put = record {
-    written = p.written ++ reply;
-    takes = subst (λ (l : List ℕ). TakesAll Takes old l (p.written ++ reply) new)
-        (sym (take_more bytes taken 0 inside)) (takes_more old now new (take taken bytes) p.written
-        (get_or bytes taken 0) reply p.takes one);
-    put = put;
-    fits = room;
-    replied_is = ap (λ n. n + length reply) p.replied_is ∙ sym (length-append p.written reply);
-  }
+-- more of them were
+pub feeding_more : {S : Type 0} (Takes : ℕ → List ℕ → S → Type 0) (bytes buffer after last : List ℕ)
+    (taken replied used : ℕ) (now new : S) (reply : List ℕ) → taken + used ≤ length bytes
+    → replied + length reply ≤ length buffer → (f : Feeding Takes bytes buffer after taken replied now)
+    → Takes (taken + used) (f.written ++ reply) new → last ≡ holds_front (f.written ++ reply) buffer
+    → Feeding Takes bytes buffer last (taken + used) (replied + length reply) new
+feeding_more Takes bytes buffer after last taken replied used now new reply inside room f more put = record {
+  inside = inside;
+  written = f.written ++ reply;
+  takes = more;
+  put = put;
+  fits = room;
+  replied_is = ap (λ n. n + length reply) f.replied_is ∙ sym (length-append f.written reply);
+}
+
+-- what is left of them
+pub rest_is : (bytes : List ℕ) (n : ℕ) → take (length bytes - n) (drop n bytes) ≡ drop n bytes
+rest_is bytes n = take_all (length bytes - n) (drop n bytes) (omega (arith, length-drop n bytes))
+
+-- bytes that come behind others
+module _ {Place PlaceV Side U V Deed Event : Type 0} (rules : Rules Place U) (out : Rules PlaceV V)
+    (manner : Manner Side U V Deed Event) (Mid End : List ℕ → List (Item U) → Side → Type 0) where
+  pub come_on : (bytes : List ℕ) (n k : ℕ) (before : List ℕ) (items : List (Item U)) (side : Side)
+      (written reply : List ℕ) (told more : List Event) → n ≤ length bytes
+      → length before + length bytes + 1 < 2 ^ 64
+      → HasGone rules out manner Mid before items side (all_came (take n bytes)) written told
+      → ((b : List ℕ) (its : List (Item U)) (s : Side) → Mid b its s → length b + length (drop n bytes) + 1 < 2 ^ 64
+      → HasGone rules out manner End b its s (all_came (take k (drop n bytes))) reply more)
+      → HasGone rules out manner End before items side (all_came (take (n + k) bytes)) (written ++ reply)
+      (told ++ more)
+  come_on bytes n k before items side written reply told more inside fits gone next =
+      subst (λ (acts : List (Act Deed)). HasGone rules out manner End before items side acts (written ++ reply)
+      (told ++ more))
+      (sym (came_append (take n bytes) (take k (drop n bytes)))
+      ∙ ap (λ (x : List ℕ). all_came {Deed = Deed} x) (sym (take-add n k bytes)))
+      (gone_on rules out manner Mid End before items side (all_came (take n bytes)) (all_came (take k (drop n bytes)))
+      written reply told more gone
+      (λ b its s l size. next b its s l
+      (omega (
+        arith,
+        fits,
+        inside,
+        size,
+        ap length (bytes_came Deed (take n bytes)),
+        length-take-le n bytes inside,
+        length-drop n bytes,
+      ))))
 
 -- behind the last byte none is left
 pub none_left : (bytes : List ℕ) (n taken : ℕ) → length bytes ≤ n → taken ≡ n → drop taken bytes ≡ []

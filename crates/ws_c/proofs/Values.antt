@@ -1,4 +1,5 @@
--- The machine value of a handle, which is also that of a box taken apart: a pointer, and an allocator that has no bytes.
+-- The machine value of a handle, which is also that of a box taken apart: a pointer, and an allocator that has no
+-- bytes.
 use Rattle.std.proofs.Common.{◌≡◌, ℕ, zero, suc, List, [], ◌∷◌, ◌++◌, refl, ◌∙◌, lit<}
 use seplogic.Ra.Ura.{Ura}
 use mir.Syntax.{ty_ptr}
@@ -43,11 +44,16 @@ abbrev pub held_own : Ptr → Global → List Val → Fml
 held_own p heap = (plainly (RawPtr ∷ GlobalRow ∷ [])).own_val (p, (heap, tt))
 
 pub heap_told : (heap : Global) (vs : List Val) → shadow (GlobalRow.own_val heap vs) → vs ≡ heap_val ∷ []
-heap_told heap vs s = s.1.0 ∙ (λ i. vstruct (of_list ((s.1.1.0.1.0 ∙ (λ j. vstruct (of_list (s.1.1.0.1.1.0 j ++ [])) ∷ [])) i ++ [])) ∷ [])
+heap_told heap vs s = s.1.0
+    ∙ (λ i. vstruct (of_list ((s.1.1.0.1.0 ∙ (λ j. vstruct (of_list (s.1.1.0.1.1.0 j ++ [])) ∷ [])) i ++ [])) ∷ [])
 
 pub held_told : (p : Ptr) (heap : Global) (vs : List Val) → shadow (held_own p heap vs) → vs ≡ held_val p ∷ []
 held_told p heap vs s = s.1.0 ∙ (λ i. vstruct (of_list (s.1.1.0 i ++ (heap_told heap _ s.1.1.1.0 i ++ []))) ∷ [])
 
-pub held_made : {M : Type 1} {𝓤 : Ura M} (𝓛 : Logic 𝓤) (p : Ptr) (heap : Global) → ent 𝓤 (emp 𝓤) (sem 𝓛 (held_own p heap (held_val p ∷ [])))
-held_made 𝓛 p heap = makes_shadow 𝓛 (held_own p heap (held_val p ∷ [])) (λ _. (tt, (tt, ((λ _. (tt, ((λ _. (tt, (tt, tt))), tt))), tt))))
-    ((ptr_val p ∷ [], (heap_val ∷ [], tt)), (refl, (refl, (((memory_val ∷ [], tt), (refl, (((vunit ∷ [], tt), (refl, (refl, tt))), tt))), tt))))
+pub held_made : {M : Type 1} {𝓤 : Ura M} (𝓛 : Logic 𝓤) (p : Ptr) (heap : Global)
+    → ent 𝓤 (emp 𝓤) (sem 𝓛 (held_own p heap (held_val p ∷ [])))
+held_made 𝓛 p heap = makes_shadow 𝓛 (held_own p heap (held_val p ∷ []))
+    (λ _. (tt, (tt, ((λ _. (tt, ((λ _. (tt, (tt, tt))), tt))), tt)))) (
+      (ptr_val p ∷ [], (heap_val ∷ [], tt)),
+      (refl, (refl, (((memory_val ∷ [], tt), (refl, (((vunit ∷ [], tt), (refl, (refl, tt))), tt))), tt))),
+    )

@@ -1,7 +1,7 @@
 -- What calls come to, as C sees it
 
 use Rattle.std.specs.Prelude.{◌≡◌, ℕ, ◌+◌, ◌^◌, ◌<◌, ◌≤◌, ◌/◌, ◌%◌, false, List, [], ◌∷◌, ◌++◌, length, drop}
-use Rattle.std.specs.Prelude.{Option, Some, None, IsSome, Result, Ok, Err, OnErr, IfErr, if◌then◌else◌}
+use Rattle.std.specs.Prelude.{Option, Some, None, IsSome, Result, Ok, Err, OnErr, if◌then◌else◌}
 use Rattle.std.specs.Str.{encode_utf8_all}
 use Rattle.ws_code.specs.Reason.{number_of as reason_number}
 use Rattle.ws_code.specs.declared.reason.Reason.{Reason}
@@ -17,10 +17,8 @@ use Rattle.ws_screen.specs.declared.read_kind.ReadKind.{ReadKind}
 use Rattle.ws_screen.specs.declared.read_kind.ReadKind.TheVariants.{Input, Mdt, MdtAlternate}
 use Rattle.ws_session.specs.AnswerSpelling.{answer_spelling}
 use Rattle.ws_session.specs.Ends.{refused_byte}
-use Rattle.ws_session.specs.StationLeads.{StationParts, StationLeads, IsPushed, IsKeyed}
+use Rattle.ws_session.specs.StationLeads.{StationParts, StationLeads, IsKeyed}
 use Rattle.ws_session.specs.StationSide.{StationSide, new_station_side}
-use Rattle.ws_session.specs.declared.refusal.Refusal.{Refusal}
-use Rattle.ws_session.specs.declared.refusal.Refusal.TheVariants.{Failed as HasFailed}
 use Rattle.ws_session.specs.declared.key_fault.KeyFault.{KeyFault}
 use Rattle.ws_session.specs.declared.key_fault.KeyFault.TheVariants.{Failed as KeyFailed, NotReady as KeyNotReady}
 use Rattle.ws_session.specs.declared.key_fault.KeyFault.TheVariants.{Key as Refuses}
@@ -40,22 +38,22 @@ use Rattle.ws_c.specs.declared.status.Status.TheVariants.{ReadOutstanding, NoRea
 use Rattle.ws_c.specs.declared.told.Told.{Told}
 
 -- the number of a status
-abbrev pub number_of : Status → ℕ
-number_of Done = 0
-number_of Refused = 1
-number_of Failed = 2
-number_of NoMemory = 3
-number_of NothingHeld = 4
-number_of InUse = 5
-number_of NoRoom = 6
-number_of BadArgument = 7
-number_of NotReady = 8
-number_of KeyRefused = 9
-number_of Truncated = 10
-number_of ReadOutstanding = 11
-number_of NoReadToCancel = 12
-number_of TooBig = 13
-number_of NoAnswer = 14
+abbrev pub status_number : Status → ℕ
+status_number Done = 0
+status_number Refused = 1
+status_number Failed = 2
+status_number NoMemory = 3
+status_number NothingHeld = 4
+status_number InUse = 5
+status_number NoRoom = 6
+status_number BadArgument = 7
+status_number NotReady = 8
+status_number KeyRefused = 9
+status_number Truncated = 10
+status_number ReadOutstanding = 11
+status_number NoReadToCancel = 12
+status_number TooBig = 13
+status_number NoAnswer = 14
 
 -- a buffer whose front these bytes were put into
 abbrev pub holds_front : List ℕ → List ℕ → List ℕ
@@ -75,19 +73,11 @@ IsStationNew name None now BadArgument = (terminal_named name ≡ None) × (now 
 IsStationNew name None now NoMemory = (terminal : TerminalType) × (terminal_named name ≡ Some terminal) × (now ≡ None)
 IsStationNew name None now status = ⊥
 
--- a station at a byte
-pub record StationPushed (old new : StationParts) (byte : ℕ) (result : Result (List ℕ) Refusal) : Type 0 where
-  pub pushed : (bytes : List ℕ) (items : List (Item Element)) (side : StationSide) → StationLeads old bytes items side
-      → length bytes + 1 < 2 ^ 64 → IsPushed old new bytes items side byte result
-  pub full : old.live.taken + 1 ≡ 2 ^ 64 → result ≡ Err HasFailed
-  pub failed : IsSome old.ended → (result ≡ Err HasFailed) × (new ≡ old)
-  pub after : IfErr result (λ why. old.ended ≡ None → new.ended ≡ Some why)
-  pub seen : OnErr result (new.screen ≡ old.screen)
-
 -- a station at a key
 pub record StationKeyed (old new : StationParts) (key : Key) (result : Result (Option Answer) KeyFault) : Type 0 where
   pub keyed : (bytes : List ℕ) (items : List (Item Element)) (side : StationSide) → StationLeads old bytes items side
-      → IsKeyed old new bytes items side key result
+      → length bytes + 1 < 2 ^ 64 → IsKeyed old new bytes items side key result
+  pub full : old.live.taken + 1 ≡ 2 ^ 64 → result ≡ Err KeyFailed
   pub failed : IsSome old.ended → result ≡ Err KeyFailed
   pub same : OnErr result (new ≡ old)
 
@@ -138,6 +128,7 @@ abbrev pub place_refused : Option (ℕ × Reason) → ℕ
 place_refused None = 0
 place_refused (Some refused) = refused.0
 
+-- the number of the reason of a refused byte, and 0 for none
 abbrev pub reason_refused : Option (ℕ × Reason) → ℕ
 reason_refused None = 0
 reason_refused (Some refused) = reason_number refused.1

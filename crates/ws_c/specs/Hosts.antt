@@ -1,8 +1,7 @@
 -- A host's end, as C sees it (RFC 1205, sections 3 and 4)
 
 use Rattle.std.specs.Prelude.{◌≡◌, ℕ, ◌+◌, ◌-◌, ◌^◌, ◌<◌, ◌≤◌, List, [], ◌∷◌, ◌++◌, length, take, drop, Option, Some}
-use Rattle.std.specs.Prelude.{None}
-use Rattle.std.specs.Prelude.{Result, Ok, Err, IsSome, IfErr, OnErr}
+use Rattle.std.specs.Prelude.{None, ◌⊎◌, IsSome}
 use Rattle.ws_nego.specs.Host.{opening}
 use Rattle.ws_nego.specs.declared.terminal.TerminalType.{TerminalType}
 use Rattle.ws_nego.specs.declared.terminal.TerminalType.TheVariants.{Ibm5251Model11, Ibm5291Model1, Ibm5292Model2}
@@ -13,12 +12,12 @@ use Rattle.ws_record.specs.declared.record.Item.TheVariants.{Telnet as TelnetIte
 use Rattle.ws_stream.specs.Elements.{element_rules}
 use Rattle.ws_stream.specs.declared.answer_part.AnswerPart.{AnswerPart}
 use Rattle.ws_keys.specs.declared.host_answer.HostAnswer.{HostAnswer}
-use Rattle.ws_session.specs.HostLeads.{HostParts, HostLeads, IsHostPushed}
+use Rattle.ws_session.specs.HostFeeds.{HasHostTakenAll, HasHostFed, HasHostRefused, IsHostSilent as AreSilent}
+use Rattle.ws_session.specs.HostLeads.{HostParts, HostLeads}
 use Rattle.ws_session.specs.HostSide.{HostSide, new_host_side}
 use Rattle.ws_session.specs.declared.host_event.HostEvent.{HostEvent}
 use Rattle.ws_session.specs.declared.host_event.HostEvent.TheVariants.{Ready, Answer, Attention, SystemRequest}
 use Rattle.ws_session.specs.declared.host_event.HostEvent.TheVariants.{Cancelled}
-use Rattle.ws_session.specs.declared.host_event.HostStep.{HostStep}
 use Rattle.ws_session.specs.declared.refusal.Refusal.{Refusal}
 use Rattle.ws_session.specs.declared.refusal.Refusal.TheVariants.{Failed as HasFailed}
 use Rattle.ws_c.specs.declared.host.EventTold.{EventTold}
@@ -31,7 +30,7 @@ use Rattle.ws_c.specs.declared.told.Told.{Told}
 use Rattle.ws_c.specs.declared.told.PushedTold.{PushedTold}
 use Rattle.ws_c.specs.declared.told.TheConstants.{REPLY_ROOM}
 use Rattle.ws_c.specs.Calls.{holds_front, told_length}
-use Rattle.ws_c.specs.Pushes.{IsPushRefused, TakesAll, pushed_told}
+use Rattle.ws_c.specs.Pushes.{IsPushRefused, pushed_told}
 
 -- the bytes by which a host asks the station for its terminal type
 abbrev pub opening_bytes : List ℕ
@@ -52,14 +51,39 @@ IsHostNew buffer after told None now Done = (host : HeldHost) × (now ≡ Some (
 IsHostNew buffer after told None now NoMemory = (now ≡ None) × (after ≡ buffer) × (told ≡ told_length 0)
 IsHostNew buffer after told None now status = ⊥
 
--- a host's end at a byte
-pub record HostPushed (old new : HostParts) (byte : ℕ) (result : Result HostStep Refusal) : Type 0 where
-  pub pushed : (bytes : List ℕ) (items : List (Item AnswerPart)) (side : HostSide) → HostLeads old bytes items side
-      → length bytes + 1 < 2 ^ 64 → IsHostPushed old new bytes items side byte result
-  pub full : old.receiver.live.taken + 1 ≡ 2 ^ 64 → result ≡ Err HasFailed
-  pub failed : IsSome old.ended → (result ≡ Err HasFailed) × (new ≡ old)
-  pub after : IfErr result (λ why. old.ended ≡ None → new.ended ≡ Some why)
-  pub seen : OnErr result (new.screen ≡ old.screen)
+-- The first n of these bytes are taken one after another to come from the one host end to the other: none of their
+-- items is refused, this is written, and nothing is told. A host end that has ended takes none.
+pub record HostTakes (old : HostParts) (bytes : List ℕ) (n : ℕ) (written : List ℕ) (new : HostParts) : Type 0 where
+  pub taken : (before : List ℕ) (items : List (Item AnswerPart)) (side : HostSide) → HostLeads old before items side
+      → length before + length bytes + 1 < 2 ^ 64
+      → HasHostTakenAll (HostLeads new) before items side (take n bytes) written []
+  pub works : 0 < n → IsSome old.ended → ⊥
+  pub counts : 0 < n → old.receiver.live.taken + 1 ≡ 2 ^ 64 → ⊥
+  pub none : n ≡ 0 → (new ≡ old) × (written ≡ [])
+
+-- The first n of these are taken, it writes this and tells this at the last of them, and nothing before.
+pub record HostTells (old : HostParts) (bytes : List ℕ) (n : ℕ) (written : List ℕ) (event : HostEvent)
+    (new : HostParts) : Type 0 where
+  pub some : 0 < n
+  pub taken : (before : List ℕ) (items : List (Item AnswerPart)) (side : HostSide) → HostLeads old before items side
+      → length before + length bytes + 1 < 2 ^ 64
+      → HasHostFed new before items side (take n bytes) written (Some event)
+  pub first : (before : List ℕ) (items : List (Item AnswerPart)) (side : HostSide) → HostLeads old before items side
+      → length before + length bytes + 1 < 2 ^ 64 → (m : ℕ) → m < n → AreSilent before items side (take m bytes)
+  pub works : IsSome old.ended → ⊥
+  pub counts : old.receiver.live.taken + 1 ≡ 2 ^ 64 → ⊥
+
+-- The host end fails at one of these bytes, of which so many stand before it and bring nothing.
+pub record HostRefuses (old : HostParts) (bytes : List ℕ) (n : ℕ) (refusal : Refusal) (new : HostParts)
+    : Type 0 where
+  pub refused : (before : List ℕ) (items : List (Item AnswerPart)) (side : HostSide) → HostLeads old before items side
+      → length before + length bytes + 1 < 2 ^ 64
+      → (r : HasHostRefused old new before items side bytes refusal) × (n ≡ length r.front)
+  pub full : old.receiver.live.taken + 1 ≡ 2 ^ 64 → refusal ≡ HasFailed
+  pub failed : IsSome old.ended → (refusal ≡ HasFailed) × (new ≡ old)
+  pub none : refusal ≡ HasFailed → n ≡ 0
+  pub after : old.ended ≡ None → new.ended ≡ Some refusal
+  pub seen : new.screen ≡ old.screen
 
 -- the number of a terminal
 abbrev pub number_of_terminal : TerminalType → ℕ
@@ -84,19 +108,30 @@ abbrev pub answer_after : Option HostEvent → Option HostAnswer → Option Host
 answer_after (Some (Answer answer)) last = Some answer
 answer_after event last = last
 
--- a host takes a byte that tells nothing, and writes this
-abbrev pub HostTakes : HeldHost → ℕ → List ℕ → HeldHost → Type 0
-HostTakes old byte reply new = HostPushed old.end new.end byte (Ok (record { reply = reply; event = None }))
-    × (new.sent ≡ old.sent) × (new.answer ≡ old.answer)
+-- what bytes cross as at the last of which it tells something, behind so many that told nothing
+pub record IsHostTold (left : List ℕ) (quiet : ℕ) (status : Status) (told : PushedTold) (event : EventTold)
+    (last : List ℕ) (old new : HeldHost) : Type 0 where
+  pub length_is : ℕ
+  pub tells : HostEvent
+  pub taken : HostTells old.end left length_is last tells new.end
+  pub done : status ≡ Done
+  pub told_is : told ≡ pushed_told (quiet + length_is) told.replied
+  pub event_is : event ≡ event_told (Some tells)
+  pub sent_is : new.sent ≡ old.sent
+  pub answer_is : new.answer ≡ answer_after (Some tells) old.answer
 
--- what a byte crosses as that tells something or is refused, behind so many that told nothing
-abbrev pub IsHostLast : Result HostStep Refusal → ℕ → Status → PushedTold → EventTold → List ℕ → HeldHost → HeldHost
-    → Type 0
-IsHostLast (Ok step) quiet status told event last old new = (status ≡ Done)
-    × (told ≡ pushed_told (quiet + 1) told.replied) × IsSome step.event × (event ≡ event_told step.event)
-    × (last ≡ step.reply) × (new.answer ≡ answer_after step.event old.answer)
-IsHostLast (Err refusal) quiet status told event last old new = IsPushRefused refusal quiet told.replied status told
-    × (event ≡ event_told None) × (last ≡ []) × (new.answer ≡ old.answer)
+-- what bytes cross as at one of which it fails
+pub record IsHostFailed (left : List ℕ) (quiet : ℕ) (status : Status) (told : PushedTold) (event : EventTold)
+    (last : List ℕ) (old new : HeldHost) : Type 0 where
+  pub length_is : ℕ
+  pub refusal : Refusal
+  pub refuses : HostRefuses old.end left length_is refusal new.end
+  pub taken_is : told.taken ≡ quiet + length_is
+  pub told_is : IsPushRefused refusal told.taken told.replied status told
+  pub event_is : event ≡ event_told None
+  pub silent : last ≡ []
+  pub sent_is : new.sent ≡ old.sent
+  pub answer_is : new.answer ≡ old.answer
 
 -- that nothing is told but the counts
 abbrev pub IsHostSilent : ℕ → PushedTold → EventTold → List ℕ → HeldHost → HeldHost → Type 0
@@ -109,17 +144,19 @@ abbrev pub IsHostEnd : List ℕ → ℕ → ℕ → Status → PushedTold → Ev
 IsHostEnd [] quiet room status told event last old new = (status ≡ Done) × IsHostSilent quiet told event last old new
 IsHostEnd (byte ∷ left) quiet room status told event last old new =
     (room < REPLY_ROOM → (status ≡ NoRoom) × IsHostSilent quiet told event last old new)
-    × (REPLY_ROOM ≤ room → (result : Result HostStep Refusal) × HostPushed old.end new.end byte result
-    × (new.sent ≡ old.sent) × IsHostLast result quiet status told event last old new)
+    × (REPLY_ROOM ≤ room → IsHostTold (byte ∷ left) quiet status told event last old new
+    ⊎ IsHostFailed (byte ∷ left) quiet status told event last old new)
 
--- a host's end at a push of bytes: some tell nothing, and it ends there or with the one behind them
+-- a host's end at a push of bytes: some tell nothing, and it ends there or with one behind them
 pub record IsHostPush (bytes buffer after : List ℕ) (status : Status) (told : PushedTold) (event : EventTold)
     (old new : HeldHost) : Type 0 where
+  pub counted : told.taken ≤ length bytes
   pub quiet : ℕ
-  pub counted : quiet ≤ length bytes
   pub written : List ℕ
   pub before : HeldHost
-  pub takes : TakesAll HostTakes old (take quiet bytes) written before
+  pub takes : HostTakes old.end bytes quiet written before.end
+  pub sent_is : before.sent ≡ old.sent
+  pub answer_is : before.answer ≡ old.answer
   pub last : List ℕ
   pub replied : told.replied ≡ length written + length last
   pub fits : told.replied ≤ length buffer

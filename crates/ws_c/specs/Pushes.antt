@@ -1,15 +1,21 @@
 -- What a push of bytes comes to: they are taken one after another, and what they bring is put into a buffer
 
-use Rattle.std.specs.Prelude.{◌≡◌, ℕ, ◌-◌, ◌<◌, ◌≤◌, List, [], ◌∷◌, ◌++◌, length, take, drop, Result, Ok, Err}
+use Rattle.std.specs.Prelude.{◌≡◌, ℕ, ◌+◌, ◌-◌, ◌^◌, ◌<◌, ◌≤◌, List, [], ◌∷◌, ◌++◌, length, take, drop, Some, None}
+use Rattle.std.specs.Prelude.{IsSome}
 use Rattle.ws_code.specs.Reason.{number_of as reason_number}
-use Rattle.ws_session.specs.StationLeads.{StationParts}
+use Rattle.ws_record.specs.declared.record.Item.{Item}
+use Rattle.ws_stream.specs.declared.element.Element.{Element}
+use Rattle.ws_session.specs.StationFeeds.{HasTakenAll, HasRefused}
+use Rattle.ws_session.specs.StationLeads.{StationParts, StationLeads}
+use Rattle.ws_session.specs.StationSide.{StationSide}
+use Rattle.ws_session.specs.declared.end_step.Applied.{Applied}
 use Rattle.ws_session.specs.declared.refusal.Refusal.{Refusal}
 use Rattle.ws_session.specs.declared.refusal.Refusal.TheVariants.{At, Failed as HasFailed, Memory}
 use Rattle.ws_c.specs.declared.status.Status.{Status}
 use Rattle.ws_c.specs.declared.status.Status.TheVariants.{Done, Refused, Failed, NoMemory, NoRoom}
 use Rattle.ws_c.specs.declared.told.PushedTold.{PushedTold}
 use Rattle.ws_c.specs.declared.told.TheConstants.{REPLY_ROOM}
-use Rattle.ws_c.specs.Calls.{StationPushed, holds_front}
+use Rattle.ws_c.specs.Calls.{holds_front}
 
 -- nothing was done
 abbrev pub nothing_pushed : PushedTold
@@ -33,27 +39,53 @@ module _ {S : Type 0} (Takes : S → ℕ → List ℕ → S → Type 0) where
   TakesAll old (byte ∷ bytes) brought new = (next : S) × (reply : List ℕ) × (rest : List ℕ)
       × Takes old byte reply next × TakesAll next bytes rest new × (brought ≡ reply ++ rest)
 
--- a station takes a byte, and writes this
-abbrev pub StationTakes : StationParts → ℕ → List ℕ → StationParts → Type 0
-StationTakes old byte reply new = StationPushed old new byte (Ok reply)
+-- the place of the byte at which an end failed that had taken so many bytes before, and has now taken so many
+abbrev pub place_refused_at : Refusal → ℕ → ℕ → ℕ
+place_refused_at (At place reason) before after = place
+place_refused_at Memory before after = after - 1
+place_refused_at HasFailed before after = before
 
--- where a push of bytes ends: with the last, before one without room for what it may bring, or at a refused one
-abbrev pub IsStationEnd : List ℕ → ℕ → Status → PushedTold → StationParts → StationParts → Type 0
-IsStationEnd [] room status told old new = (status ≡ Done) × (told ≡ pushed_told told.taken told.replied)
-    × (new ≡ old)
-IsStationEnd (byte ∷ left) room status told old new =
-    (room < REPLY_ROOM → (status ≡ NoRoom) × (told ≡ pushed_told told.taken told.replied) × (new ≡ old))
-    × (REPLY_ROOM ≤ room → (refusal : Refusal) × StationPushed old new byte (Err refusal)
-    × IsPushRefused refusal told.taken told.replied status told)
+-- The first n of these bytes are taken one after another to come from the one station to the other: none of their
+-- items is refused, and this is written. A station that has ended takes none.
+pub record StationTakes (old : StationParts) (bytes : List ℕ) (n : ℕ) (written : List ℕ) (new : StationParts)
+    : Type 0 where
+  pub taken : (before : List ℕ) (items : List (Item Element)) (side : StationSide)
+      → StationLeads old before items side → length before + length bytes + 1 < 2 ^ 64
+      → (told : List Applied) × HasTakenAll (StationLeads new) before items side (take n bytes) written told
+  pub works : 0 < n → IsSome old.ended → ⊥
+  pub counts : 0 < n → old.live.taken + 1 ≡ 2 ^ 64 → ⊥
+  pub none : n ≡ 0 → (new ≡ old) × (written ≡ [])
 
--- a station at a push of bytes: what the first `taken` bring is put at the buffer's front
+-- The station refuses one of these bytes, of which so many stand before it and bring nothing.
+pub record StationRefuses (old : StationParts) (bytes : List ℕ) (n : ℕ) (refusal : Refusal) (new : StationParts)
+    : Type 0 where
+  pub refused : (before : List ℕ) (items : List (Item Element)) (side : StationSide)
+      → StationLeads old before items side → length before + length bytes + 1 < 2 ^ 64
+      → (r : HasRefused old new before items side bytes refusal) × (n ≡ length r.front)
+  pub full : old.live.taken + 1 ≡ 2 ^ 64 → refusal ≡ HasFailed
+  pub failed : IsSome old.ended → (refusal ≡ HasFailed) × (new ≡ old)
+  pub none : refusal ≡ HasFailed → n ≡ 0
+  pub after : old.ended ≡ None → new.ended ≡ Some refusal
+  pub seen : new.screen ≡ old.screen
+
+-- where a push of bytes ends, of which these are left behind so many: with the last, before one without room for what
+-- it may bring, or at a refused one
+abbrev pub IsStationEnd : List ℕ → ℕ → ℕ → Status → PushedTold → StationParts → StationParts → Type 0
+IsStationEnd [] fed room status told old new = (status ≡ Done) × (told ≡ pushed_told fed told.replied) × (new ≡ old)
+IsStationEnd (byte ∷ left) fed room status told old new =
+    (room < REPLY_ROOM → (status ≡ NoRoom) × (told ≡ pushed_told fed told.replied) × (new ≡ old))
+    × (REPLY_ROOM ≤ room → (refusal : Refusal) × (n : ℕ) × StationRefuses old (byte ∷ left) n refusal new
+    × (told.taken ≡ fed + n) × IsPushRefused refusal told.taken told.replied status told)
+
+-- a station at a push of bytes: what it writes is put at the buffer's front
 pub record IsStationPush (bytes buffer after : List ℕ) (status : Status) (told : PushedTold) (old new : StationParts)
     : Type 0 where
   pub counted : told.taken ≤ length bytes
+  pub fed : ℕ
   pub written : List ℕ
   pub before : StationParts
-  pub takes : TakesAll StationTakes old (take told.taken bytes) written before
+  pub takes : StationTakes old bytes fed written before
   pub replied : told.replied ≡ length written
   pub fits : told.replied ≤ length buffer
   pub put : after ≡ holds_front written buffer
-  pub ends : IsStationEnd (drop told.taken bytes) (length buffer - told.replied) status told before new
+  pub ends : IsStationEnd (drop fed bytes) fed (length buffer - told.replied) status told before new

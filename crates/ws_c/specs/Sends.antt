@@ -1,6 +1,7 @@
 -- What a host's end sends, as C sees it (RFC 1205, sections 3 and 4; SC30-3533, commands and orders)
 
-use Rattle.std.specs.Prelude.{◌≡◌, ◌≢◌, ℕ, ◌<◌, ◌≤◌, List, length, Option, Some, None, Result, Ok, Err, OnErr, IsSome}
+use Rattle.std.specs.Prelude.{◌≡◌, ◌≢◌, ℕ, ◌+◌, ◌^◌, ◌<◌, ◌≤◌, List, length, Option, Some, None, Result, Ok, Err, OnErr}
+use Rattle.std.specs.Prelude.{IsSome}
 use Rattle.std.specs.Prelude.{IfSome, IfNone, MatchResult}
 use Rattle.ws_code.specs.Code.{Rules}
 use Rattle.ws_code.specs.Reason.{number_of as reason_number}
@@ -45,17 +46,20 @@ IsReadFrom rules bytes (Err fault) = IsBodyFault (IsBody rules bytes) fault
 pub record HostSent (old new : HostParts) (opcode : Opcode) (body : List Element)
     (result : Result (List ℕ) SendFault) : Type 0 where
   pub sent : (bytes : List ℕ) (items : List (Item AnswerPart)) (side : HostSide) → HostLeads old bytes items side
-      → MatchResult result (λ spelled. IsSent new bytes items (host_send side opcode body) spelled)
+      → length bytes + 1 < 2 ^ 64 → MatchResult result (λ spelled. IsSent new bytes items
+      (host_send side opcode body) spelled)
       (IsSendFault (host_send side opcode body))
   pub same : OnErr result (new ≡ old)
+  pub full : old.receiver.live.taken + 1 ≡ 2 ^ 64 → result ≡ Err SendFailed
   pub failed : IsSome old.ended → result ≡ Err SendFailed
 
 -- a host's end at a cancel
 pub record HostCancelled (old new : HostParts) (result : Result (List ℕ) SendFault) : Type 0 where
   pub sent : (bytes : List ℕ) (items : List (Item AnswerPart)) (side : HostSide) → HostLeads old bytes items side
-      → MatchResult result (λ spelled. IsSent new bytes items (host_cancel side) spelled)
+      → length bytes + 1 < 2 ^ 64 → MatchResult result (λ spelled. IsSent new bytes items (host_cancel side) spelled)
       (λ fault. host_cancel side ≡ RefusesSend fault)
   pub same : OnErr result (new ≡ old)
+  pub full : old.receiver.live.taken + 1 ≡ 2 ^ 64 → result ≡ Err SendFailed
   pub failed : IsSome old.ended → result ≡ Err SendFailed
 
 -- the status of a fault

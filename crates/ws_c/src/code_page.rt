@@ -2,7 +2,7 @@
 ghost use Rattle.std.specs.Prelude.{◌≡◌, Some, None};
 ghost use Rattle.std.specs.Char.{IsScalar};
 ghost use Rattle.ws_code.specs.Ebcdic.{byte_of, char_of};
-ghost use Rattle.ws_c.specs.Calls.{number_of};
+ghost use Rattle.ws_c.specs.Calls.{status_number};
 ghost use Rattle.ws_c.specs.CodePage.{IsByteTold, IsCharacterTold};
 
 use crate::Status;
@@ -34,7 +34,7 @@ pub extern "C" fn ws_c_from_037(byte: u8, character: &mut u32) -> u32
 pub extern "C" fn ws_c_to_037(character: u32, byte: &mut u8) -> u32
     ensures scalar { IsScalar character → IsByteTold (byte_of character) result byte.new }
     ensures other { ¬ IsScalar character
-        → (result ≡ number_of Status.BadArgument) × (byte.new ≡ 0) }
+        → (result ≡ status_number Status.BadArgument) × (byte.new ≡ 0) }
 {
     *byte = 0;
     let Some(given) = char::from_u32(character) else {

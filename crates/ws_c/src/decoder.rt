@@ -4,7 +4,7 @@ ghost use Rattle.ws_code.specs.declared.fault.Fault.{Fault as AFault};
 ghost use Rattle.ws_record.specs.Grammar.{opcode_byte};
 ghost use Rattle.ws_record.specs.declared.live.Step.{Step as AStep};
 ghost use Rattle.ws_c.specs.declared.status.Status.{Status as AStatus};
-ghost use Rattle.ws_c.specs.Calls.{number_of};
+ghost use Rattle.ws_c.specs.Calls.{status_number};
 ghost use Rattle.ws_c.specs.Held.{IsDecoderFreed, OnDecoder};
 ghost use Rattle.ws_c.specs.Decoding.{DecoderFinished, IsDecode, IsDecoderNew, IsEnd, IsEndTold, IsStepTold, plain_step};
 
@@ -100,7 +100,7 @@ fn make_decoder(alloc: Global, handle: &mut Handle) -> Status
 /// `InUse` where the handle holds something, and `NoMemory`. The handle then stays as it is.
 #[unsafe(no_mangle)]
 pub extern "C" fn ws_c_decoder_new(alloc: Global, handle: &mut Handle) -> u32
-    ensures made { (status : AStatus) × (result ≡ number_of status)
+    ensures made { (status : AStatus) × (result ≡ status_number status)
         × IsDecoderNew handle.old.owned.value handle.new.owned.value status }
 {
     make_decoder(alloc, handle).number()
@@ -234,10 +234,10 @@ pub extern "C" fn ws_c_decoder_push(
     buffer: &mut [u8],
     told: &mut StepTold,
 ) -> u32
-    ensures room { length buffer.old < 133 → (result ≡ number_of Status.NoRoom)
+    ensures room { length buffer.old < 133 → (result ≡ status_number Status.NoRoom)
         × (handle.new ≡ handle.old) × (buffer.new ≡ buffer.old) × (told.new ≡ plain_step 0 0) }
     ensures pushed { 133 ≤ length buffer.old → (status : AStatus)
-        × (result ≡ number_of status)
+        × (result ≡ status_number status)
         × OnDecoder handle.old.owned.value handle.new.owned.value status
         (IsDecode bytes.now buffer.old buffer.new status told.new)
         ((told.new ≡ plain_step 0 0) × (buffer.new ≡ buffer.old)) }
@@ -288,7 +288,7 @@ fn finish(alloc: Global, handle: &mut Handle, place: &mut u64) -> Status
 /// `NothingHeld` where the handle holds no decoder; `place` is then 0.
 #[unsafe(no_mangle)]
 pub extern "C" fn ws_c_decoder_finish(alloc: Global, handle: &mut Handle, place: &mut u64) -> u32
-    ensures { (status : AStatus) × (result ≡ number_of status)
+    ensures { (status : AStatus) × (result ≡ status_number status)
         × OnDecoder handle.old.owned.value handle.new.owned.value status (IsEnd status place.new)
         (place.new ≡ 0) }
 {

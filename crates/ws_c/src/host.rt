@@ -1,13 +1,13 @@
 //! Hosts' ends of sessions.
 ghost use Rattle.std.specs.Prelude.{◌≡◌, ◌≤◌, ◌<◌, None, length};
 ghost use Rattle.ws_c.specs.declared.status.Status.{Status as AStatus};
-ghost use Rattle.ws_c.specs.Calls.{number_of, told_length};
+ghost use Rattle.ws_c.specs.Calls.{status_number, told_length};
 ghost use Rattle.ws_c.specs.Held.{IsHostFreed, OnHost};
 ghost use Rattle.ws_c.specs.Hosts.{IsHostNew, IsHostPush, IsNewHost, answer_after, event_told, number_of_terminal, opening_bytes};
 ghost use Rattle.ws_c.specs.Pushes.{nothing_pushed};
 
 use crate::held::{on_held, on_host};
-use crate::station::{put_behind, put_front, tell_push_refusal};
+use crate::station::{front_length, put_behind, put_front, tell_push_refusal};
 use crate::{Handle, Machine, PushedTold, REPLY_ROOM, Status, Told};
 use std::alloc::Global;
 use ws_code::List;
@@ -84,9 +84,10 @@ pub extern "C" fn ws_c_host_new(
     buffer: &mut [u8],
     told: &mut Told,
 ) -> u32
-    ensures room { length buffer.old < 17 → (result ≡ number_of Status.NoRoom)
+    ensures room { length buffer.old < 17 → (result ≡ status_number Status.NoRoom)
         × (handle.new ≡ handle.old) × (buffer.new ≡ buffer.old) × (told.new ≡ told_length 0) }
-    ensures made { 17 ≤ length buffer.old → (status : AStatus) × (result ≡ number_of status)
+    ensures made { 17 ≤ length buffer.old
+        → (status : AStatus) × (result ≡ status_number status)
         × IsHostNew buffer.old buffer.new told.new handle.old.owned.value
         handle.new.owned.value status }
 {
@@ -153,7 +154,7 @@ fn tell_event(event: Option<HostEvent>, answer: &mut Option<HostAnswer>) -> Even
     }
 }
 
-// Pushes bytes into a host's end, up to the first that tells something.
+// Feeds bytes to a host's end, up to the first that tells something. There is room as in the station's `push_all`.
 fn push_all(
     host: &mut HeldHost,
     bytes: &[u8],
@@ -166,22 +167,27 @@ fn push_all(
     ensures { IsHostPush bytes.now buffer.old buffer.new result told.new event.new
         host.old host.new }
 {
-    for byte in bytes {
+    while told.taken < bytes.len() {
         if buffer.len() - told.replied < REPLY_ROOM {
             return Status::NoRoom;
         }
-        match host.end.push(*byte) {
-            Ok(step) => {
-                let text = step.reply.as_slice();
+        let rest = &bytes[told.taken..];
+        let before = host.end.taken();
+        match host.end.feed(rest) {
+            Ok(fed) => {
+                let text = fed.reply.as_slice();
                 put_behind(buffer, told.replied, text);
-                told.taken += 1;
+                told.taken += fed.used;
                 told.replied += text.len();
-                if step.event.is_some() {
-                    *event = tell_event(step.event, &mut host.answer);
+                if fed.event.is_some() {
+                    *event = tell_event(fed.event, &mut host.answer);
                     return Status::Done;
                 }
             }
-            Err(refusal) => return tell_push_refusal(refusal, told),
+            Err(refusal) => {
+                told.taken += front_length(refusal, before, host.end.taken(), rest.len());
+                return tell_push_refusal(refusal, told);
+            }
         }
     }
     Status::Done
@@ -225,7 +231,7 @@ pub extern "C" fn ws_c_host_push(
     told: &mut PushedTold,
     event: &mut EventTold,
 ) -> u32
-    ensures { (status : AStatus) × (result ≡ number_of status)
+    ensures { (status : AStatus) × (result ≡ status_number status)
         × OnHost handle.old.owned.value handle.new.owned.value status
         (IsHostPush bytes.now buffer.old buffer.new status told.new event.new)
         ((told.new ≡ nothing_pushed) × (event.new ≡ event_told None) × (buffer.new ≡ buffer.old)) }

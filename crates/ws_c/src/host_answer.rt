@@ -1,7 +1,7 @@
 //! The answer that a host's end has taken.
 ghost use Rattle.std.specs.Prelude.{◌≡◌};
 ghost use Rattle.ws_c.specs.declared.status.Status.{Status as AStatus};
-ghost use Rattle.ws_c.specs.Calls.{number_of};
+ghost use Rattle.ws_c.specs.Calls.{status_number};
 ghost use Rattle.ws_c.specs.Held.{OnHost};
 ghost use Rattle.ws_c.specs.Answers.{IsAnswerTold, IsContentTold, IsFieldRead, no_answer, no_read_field};
 
@@ -99,7 +99,7 @@ fn answer_of(alloc: Global, handle: &mut Handle, told: &mut AnswerTold) -> Statu
 /// `NoAnswer` where none has come yet, `NothingHeld` where the handle holds no host; `told` is then zero.
 #[unsafe(no_mangle)]
 pub extern "C" fn ws_c_host_answer(alloc: Global, handle: &mut Handle, told: &mut AnswerTold) -> u32
-    ensures { (status : AStatus) × (result ≡ number_of status)
+    ensures { (status : AStatus) × (result ≡ status_number status)
         × OnHost handle.old.owned.value handle.new.owned.value status
         (λ old new. (new ≡ old) × IsAnswerTold old.answer status told.new)
         (told.new ≡ no_answer) }
@@ -178,7 +178,7 @@ pub extern "C" fn ws_c_host_answer_field(
     buffer: &mut [u8],
     told: &mut ReadFieldTold,
 ) -> u32
-    ensures { (status : AStatus) × (result ≡ number_of status)
+    ensures { (status : AStatus) × (result ≡ status_number status)
         × OnHost handle.old.owned.value handle.new.owned.value status
         (λ old new. (new ≡ old) × IsFieldRead old.answer index status told.new buffer.old buffer.new)
         ((told.new ≡ no_read_field) × (buffer.new ≡ buffer.old)) }

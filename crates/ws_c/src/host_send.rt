@@ -7,7 +7,7 @@ ghost use Rattle.ws_stream.specs.declared.element.Element.{Element as AnElement}
 ghost use Rattle.ws_session.specs.declared.send_fault.SendFault.{SendFault as AFault};
 ghost use Rattle.ws_record.specs.declared.body_reader.BodyFault.{BodyFault as ABodyFault};
 ghost use Rattle.ws_c.specs.declared.status.Status.{Status as AStatus};
-ghost use Rattle.ws_c.specs.Calls.{number_of, told_length};
+ghost use Rattle.ws_c.specs.Calls.{status_number, told_length};
 ghost use Rattle.ws_c.specs.Held.{OnHost};
 ghost use Rattle.ws_c.specs.Sends.{HostCancelled, HostSent, IsCancel, IsCancelTold, IsFetched, IsOpcodeFrom, IsReadFrom, IsSend, IsSendFaultTold, IsSendFrom, IsSendGiven, IsSentTold};
 
@@ -170,7 +170,7 @@ pub extern "C" fn ws_c_host_send(
 ) -> u32
     ensures sent { (given : Option AnOpcode) × IsOpcodeFrom opcode given
         × (read : Result (Seq AnElement) ABodyFault) × IsReadFrom element_rules body.now read
-        × (status : AStatus) × (result ≡ number_of status)
+        × (status : AStatus) × (result ≡ status_number status)
         × IsSendGiven given read handle.old.owned.value handle.new.owned.value told.new status }
 {
     *told = Told::length(0);
@@ -212,7 +212,7 @@ pub extern "C" fn ws_c_host_sent(
     buffer: &mut [u8],
     told: &mut Told,
 ) -> u32
-    ensures { (status : AStatus) × (result ≡ number_of status)
+    ensures { (status : AStatus) × (result ≡ status_number status)
         × OnHost handle.old.owned.value handle.new.owned.value status
         (λ old new. (new ≡ old) × IsFetched old.sent status told.new buffer.old buffer.new)
         ((told.new ≡ told_length 0) × (buffer.new ≡ buffer.old)) }
@@ -280,9 +280,10 @@ pub extern "C" fn ws_c_host_cancel(
     buffer: &mut [u8],
     told: &mut Told,
 ) -> u32
-    ensures room { length buffer.old < 12 → (result ≡ number_of Status.NoRoom)
+    ensures room { length buffer.old < 12 → (result ≡ status_number Status.NoRoom)
         × (handle.new ≡ handle.old) × (buffer.new ≡ buffer.old) × (told.new ≡ told_length 0) }
-    ensures sent { 12 ≤ length buffer.old → (status : AStatus) × (result ≡ number_of status)
+    ensures sent { 12 ≤ length buffer.old
+        → (status : AStatus) × (result ≡ status_number status)
         × OnHost handle.old.owned.value handle.new.owned.value status
         (IsCancel buffer.old buffer.new status told.new)
         ((told.new ≡ told_length 0) × (buffer.new ≡ buffer.old)) }

@@ -1,7 +1,7 @@
 //! Keys as C gives them.
 ghost use Rattle.std.specs.Prelude.{◌≡◌, IfSome, IfNone};
 ghost use Rattle.ws_c.specs.declared.key_kind.KeyKind.{KeyKind as AKind};
-ghost use Rattle.ws_c.specs.Keys.{IsKeyOf, kind_number, refusal_number as number_of};
+ghost use Rattle.ws_c.specs.Keys.{IsKeyOf, kind_number, refusal_number as status_number};
 
 use ws_code::Aid;
 use ws_keys::{Key, KeyRefusal};
@@ -95,7 +95,7 @@ fn attention_key(value: u32) -> Option<Key>
 
 /// The number of a key's refusal.
 pub fn refusal_number(refusal: KeyRefusal) -> u8
-    ensures { result ≡ number_of refusal }
+    ensures { result ≡ status_number refusal }
 {
     match refusal {
         KeyRefusal::Locked => 1,

@@ -2,6 +2,7 @@
 //! exports.
 #![tactic(auto)]
 
+mod cell_fields;
 mod code_page;
 mod decoder;
 mod field_told;

@@ -1,12 +1,12 @@
 //! Display stations.
-ghost use Rattle.std.specs.Prelude.{◌≡◌, ◌≤◌, ◌<◌, ◌+◌, ◌++◌, List, ℕ, None, length};
+ghost use Rattle.std.specs.Prelude.{◌≡◌, ◌≤◌, ◌<◌, ◌+◌, ◌-◌, ◌++◌, List, ℕ, None, length, min};
 ghost use Rattle.ws_nego.specs.Terminal.{terminal_named};
 ghost use Rattle.ws_session.specs.StationLeads.{StationParts, StationLeads};
 ghost use Rattle.ws_session.specs.StationSide.{new_station_side};
 ghost use Rattle.ws_c.specs.declared.status.Status.{Status as AStatus};
-ghost use Rattle.ws_c.specs.Calls.{IsStationNew, holds_front, number_of};
+ghost use Rattle.ws_c.specs.Calls.{IsStationNew, holds_front, status_number};
 ghost use Rattle.ws_c.specs.Held.{IsStationFreed, OnStation};
-ghost use Rattle.ws_c.specs.Pushes.{IsPushRefused, IsStationPush, nothing_pushed, pushed_told};
+ghost use Rattle.ws_c.specs.Pushes.{IsPushRefused, IsStationPush, nothing_pushed, place_refused_at, pushed_told};
 
 use crate::held::{on_held, on_station};
 use crate::{Handle, Machine, PushedTold, REPLY_ROOM, Status, Told};
@@ -40,7 +40,7 @@ fn make_station(alloc: Global, handle: &mut Handle, name: &[u8]) -> Status
 /// then stays as it is.
 #[unsafe(no_mangle)]
 pub extern "C" fn ws_c_station_new(alloc: Global, handle: &mut Handle, name: &[u8]) -> u32
-    ensures made { (status : AStatus) × (result ≡ number_of status)
+    ensures made { (status : AStatus) × (result ≡ status_number status)
         × IsStationNew name.now handle.old.owned.value handle.new.owned.value status }
 {
     make_station(alloc, handle, name).number()
@@ -97,24 +97,44 @@ pub(crate) fn tell_push_refusal(refusal: Refusal, told: &mut PushedTold) -> Stat
     }
 }
 
-// Pushes bytes into a station.
+// How many bytes of a piece of this length stand before the one that is refused. The end had taken `before` bytes, and
+// now it has taken `after`.
+pub(crate) fn front_length(refusal: Refusal, before: u64, after: u64, length: usize) -> usize
+    ensures { result ≡ min (place_refused_at refusal before after - before) length }
+{
+    let place = match refusal {
+        Refusal::At { place, .. } => place,
+        Refusal::Memory => after.saturating_sub(1),
+        Refusal::Failed => before,
+    };
+    let front = place.saturating_sub(before) as usize;
+    if front < length { front } else { length }
+}
+
+// Feeds bytes to a station. What it writes comes with the last byte of a front, so that there is room before each of
+// its bytes where there is before the first.
 fn push_all(station: &mut Station, bytes: &[u8], buffer: &mut [u8], told: &mut PushedTold) -> Status
     requires { told.old ≡ nothing_pushed }
     ensures { IsStationPush bytes.now buffer.old buffer.new result told.new
         station.old station.new }
 {
-    for byte in bytes {
+    while told.taken < bytes.len() {
         if buffer.len() - told.replied < REPLY_ROOM {
             return Status::NoRoom;
         }
-        match station.push(*byte) {
-            Ok(reply) => {
-                let text = reply.as_slice();
+        let rest = &bytes[told.taken..];
+        let before = station.taken();
+        match station.feed(rest) {
+            Ok(fed) => {
+                let text = fed.reply.as_slice();
                 put_behind(buffer, told.replied, text);
-                told.taken += 1;
+                told.taken += fed.used;
                 told.replied += text.len();
             }
-            Err(refusal) => return tell_push_refusal(refusal, told),
+            Err(refusal) => {
+                told.taken += front_length(refusal, before, station.taken(), rest.len());
+                return tell_push_refusal(refusal, told);
+            }
         }
     }
     Status::Done
@@ -153,7 +173,7 @@ pub extern "C" fn ws_c_station_push(
     buffer: &mut [u8],
     told: &mut PushedTold,
 ) -> u32
-    ensures { (status : AStatus) × (result ≡ number_of status)
+    ensures { (status : AStatus) × (result ≡ status_number status)
         × OnStation handle.old.owned.value handle.new.owned.value status
         (IsStationPush bytes.now buffer.old buffer.new status told.new)
         ((told.new ≡ nothing_pushed) × (buffer.new ≡ buffer.old)) }

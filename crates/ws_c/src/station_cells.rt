@@ -4,16 +4,16 @@ ghost use Rattle.std.specs.List.{range_with_len};
 ghost use Rattle.ws_code.specs.declared.address.TheConstants.{CELLS as ALL_CELLS};
 ghost use Rattle.ws_screen.specs.Lines.{shown_at};
 ghost use Rattle.ws_c.specs.declared.status.Status.{Status as AStatus};
-ghost use Rattle.ws_c.specs.Calls.{number_of};
+ghost use Rattle.ws_c.specs.Calls.{field_index, status_number};
 ghost use Rattle.ws_c.specs.Cells.{AreRows, cell_told as told_of, cells_in, rows_told};
 ghost use Rattle.ws_c.specs.Held.{OnStation};
 
+use crate::cell_fields::{fields_behind, index_at, passed};
 use crate::held::{on_held, on_station};
-use crate::station_screen::field_index;
 use crate::{Handle, Machine, Status};
 use std::alloc::Global;
 use ws_code::{Address, CELLS, COLUMNS};
-use ws_screen::{Field, Screen, Shown};
+use ws_screen::{Screen, Shown};
 use ws_session::Station;
 
 /// A cell of a screen.
@@ -30,16 +30,15 @@ pub struct CellTold {
     pub attribute: u8,
 }
 
-// What is told of a cell.
-fn cell_told(screen: &Screen, fields: &[Field], at: Address, shown: Shown) -> CellTold
-    requires few { length fields.now ≤ 256 }
-    requires fields { fields.now ≡ screen.now.fields }
+// What is told of a cell that is in the field of this index, or in none.
+fn cell_told(screen: &Screen, field: u16, at: Address, shown: Shown) -> CellTold
+    requires field { field ≡ field_index screen.now.fields at }
     requires shown { shown ≡ shown_at screen.now.cells at }
     ensures { result ≡ told_of screen.now at }
 {
     CellTold {
         character: shown.character as u32,
-        field: field_index(fields, at),
+        field,
         byte: screen.cell(at),
         attribute: shown.attribute.byte(),
     }
@@ -68,13 +67,14 @@ fn tell_cells(screen: &Screen, first: usize, cells: &mut [CellTold])
     let mut all = [Shown::default(); CELLS as usize];
     let shown = &mut all[..cells.len()];
     screen.show_cells(address(first), shown);
+    let (mut field, mut ahead) = fields_behind(fields.as_slice(), first as u16);
     for (index, cell) in cells.iter_mut().enumerate() {
-        *cell = cell_told(
-            screen,
-            fields.as_slice(),
-            address(first + index),
-            shown[index],
-        );
+        let at = address(first + index);
+        *cell = cell_told(screen, index_at(field, ahead, at), at, shown[index]);
+        if let Some(behind) = passed(ahead, at.place() + 1) {
+            field += 1;
+            ahead = behind;
+        }
     }
 }
 
@@ -128,16 +128,16 @@ pub extern "C" fn ws_c_station_cells(
     cells: &mut [CellTold],
 ) -> u32
     ensures cells { AreRows first_row last_row → cells_in first_row last_row ≤ length cells.old
-        → (status : AStatus) × (result ≡ number_of status)
+        → (status : AStatus) × (result ≡ status_number status)
         × OnStation handle.old.owned.value handle.new.owned.value status
         (λ old new. (new ≡ old) × (status ≡ Status.Done)
         × (cells.new ≡ rows_told old.screen first_row last_row
         ++ drop (cells_in first_row last_row) cells.old))
         (cells.new ≡ cells.old) }
-    ensures off { ¬ AreRows first_row last_row → (result ≡ number_of Status.BadArgument)
+    ensures off { ¬ AreRows first_row last_row → (result ≡ status_number Status.BadArgument)
         × (handle.new ≡ handle.old) × (cells.new ≡ cells.old) }
     ensures room { AreRows first_row last_row
-        → length cells.old < cells_in first_row last_row → (result ≡ number_of Status.NoRoom)
+        → length cells.old < cells_in first_row last_row → (result ≡ status_number Status.NoRoom)
         × (handle.new ≡ handle.old) × (cells.new ≡ cells.old) }
 {
     if first_row < 1 || last_row < first_row || last_row > 24 {

@@ -4,7 +4,7 @@ ghost use Rattle.ws_keys.specs.declared.answer.Answer.{Answer as AnAnswer};
 ghost use Rattle.ws_keys.specs.declared.key.Key.{Key as AKey};
 ghost use Rattle.ws_session.specs.declared.key_fault.KeyFault.{KeyFault as AFault};
 ghost use Rattle.ws_c.specs.declared.status.Status.{Status as AStatus};
-ghost use Rattle.ws_c.specs.Calls.{IsKeyFaultTold, IsKeyTold, IsPress, IsPressFrom, StationKeyed, number_of, told_length};
+ghost use Rattle.ws_c.specs.Calls.{IsKeyFaultTold, IsKeyTold, IsPress, IsPressFrom, StationKeyed, status_number, told_length};
 ghost use Rattle.ws_c.specs.Held.{OnStation};
 ghost use Rattle.ws_c.specs.Keys.{IsKeyFrom, IsKeyOfKind};
 
@@ -130,10 +130,10 @@ pub extern "C" fn ws_c_station_key(
     buffer: &mut [u8],
     told: &mut Told,
 ) -> u32
-    ensures room { length buffer.old < 5404 → (result ≡ number_of Status.NoRoom)
+    ensures room { length buffer.old < 5404 → (result ≡ status_number Status.NoRoom)
         × (handle.new ≡ handle.old) × (buffer.new ≡ buffer.old) × (told.new ≡ told_length 0) }
     ensures pressed { 5404 ≤ length buffer.old → (key : Option AKey) × IsKeyFrom kind value key
-        × (status : AStatus) × (result ≡ number_of status)
+        × (status : AStatus) × (result ≡ status_number status)
         × IsPressFrom key handle.old.owned.value handle.new.owned.value buffer.old buffer.new
         told.new status }
 {

@@ -3,7 +3,7 @@ ghost use Rattle.std.specs.Prelude.{◌≡◌, ◌≤◌, ◌<◌, length, slice
 ghost use Rattle.ws_code.specs.Address.{IsRowAndColumn, place_of};
 ghost use Rattle.ws_screen.specs.ScreenParts.{holds as holds_cell};
 ghost use Rattle.ws_c.specs.declared.status.Status.{Status as AStatus};
-ghost use Rattle.ws_c.specs.Calls.{IsFieldTold, IsRow, field_index as index_of, holds_front, no_field, no_state, number_of, place_refused, read_number as pending_number, reason_refused, row_text, state_told, told_length};
+ghost use Rattle.ws_c.specs.Calls.{IsFieldTold, IsRow, field_index as index_of, holds_front, no_field, no_state, status_number, place_refused, read_number as pending_number, reason_refused, row_text, state_told, told_length};
 ghost use Rattle.ws_c.specs.Held.{OnStation};
 
 use crate::held::{on_held, on_station};
@@ -111,7 +111,7 @@ pub extern "C" fn ws_c_station_state(
     handle: &mut Handle,
     state: &mut StateTold,
 ) -> u32
-    ensures { (status : AStatus) × (result ≡ number_of status)
+    ensures { (status : AStatus) × (result ≡ status_number status)
         × OnStation handle.old.owned.value handle.new.owned.value status
         (λ old new. (new ≡ old) × (status ≡ Status.Done) × (state.new ≡ state_told old))
         (state.new ≡ no_state) }
@@ -148,12 +148,13 @@ pub extern "C" fn ws_c_station_cell(
     column: u8,
     byte: &mut u8,
 ) -> u32
-    ensures cell { IsRowAndColumn row column → (status : AStatus) × (result ≡ number_of status)
+    ensures cell { IsRowAndColumn row column
+        → (status : AStatus) × (result ≡ status_number status)
         × OnStation handle.old.owned.value handle.new.owned.value status
         (λ old new. (new ≡ old) × (status ≡ Status.Done)
         × (byte.new ≡ slice_index old.screen.cells (place_of row column)))
         (byte.new ≡ 0) }
-    ensures off { ¬ IsRowAndColumn row column → (result ≡ number_of Status.BadArgument)
+    ensures off { ¬ IsRowAndColumn row column → (result ≡ status_number Status.BadArgument)
         × (handle.new ≡ handle.old) × (byte.new ≡ 0) }
 {
     *byte = 0;
@@ -216,15 +217,15 @@ pub extern "C" fn ws_c_station_row(
     told: &mut Told,
 ) -> u32
     ensures row { IsRow row → 160 ≤ length text.old
-        → (status : AStatus) × (result ≡ number_of status)
+        → (status : AStatus) × (result ≡ status_number status)
         × OnStation handle.old.owned.value handle.new.owned.value status
         (λ old new. (new ≡ old) × (status ≡ Status.Done)
         × (text.new ≡ holds_front (row_text old.screen row) text.old)
         × (told.new ≡ told_length (length (row_text old.screen row))))
         ((text.new ≡ text.old) × (told.new ≡ told_length 0)) }
-    ensures off { ¬ IsRow row → (result ≡ number_of Status.BadArgument)
+    ensures off { ¬ IsRow row → (result ≡ status_number Status.BadArgument)
         × (handle.new ≡ handle.old) × (text.new ≡ text.old) × (told.new ≡ told_length 0) }
-    ensures room { IsRow row → length text.old < 160 → (result ≡ number_of Status.NoRoom)
+    ensures room { IsRow row → length text.old < 160 → (result ≡ status_number Status.NoRoom)
         × (handle.new ≡ handle.old) × (text.new ≡ text.old) × (told.new ≡ told_length 0) }
 {
     *told = Told::length(0);
@@ -268,7 +269,7 @@ pub extern "C" fn ws_c_station_field(
     index: usize,
     field: &mut FieldTold,
 ) -> u32
-    ensures { (status : AStatus) × (result ≡ number_of status)
+    ensures { (status : AStatus) × (result ≡ status_number status)
         × OnStation handle.old.owned.value handle.new.owned.value status
         (λ old new. (new ≡ old) × IsFieldTold (slice_get old.screen.fields index) status field.new)
         (field.new ≡ no_field) }

@@ -1,5 +1,5 @@
 ghost use Rattle.std.specs.Prelude.{◌≡◌};
-ghost use Rattle.ws_c.specs.Calls.{number_of};
+ghost use Rattle.ws_c.specs.Calls.{status_number};
 
 /// What a call comes to.
 #[derive(Clone, Copy)]
@@ -39,7 +39,7 @@ pub enum Status {
 impl Status {
     /// Its number in C.
     pub fn number(self) -> u32
-        ensures { result ≡ number_of self }
+        ensures { result ≡ status_number self }
     {
         match self {
             Status::Done => 0,

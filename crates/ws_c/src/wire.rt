@@ -9,6 +9,8 @@ ghost use Rattle.ws_session.specs.AnswerSpelling.{answer_spelling};
 use arrayvec::ArrayVec;
 use ws_keys::Answer;
 use ws_record::{Opcode, header_bytes};
+use ws_session::{ATN, SRQ};
+use ws_telnet::{EOR, IAC};
 
 // A byte, doubled if it is FF (RFC 854).
 fn push_doubled(into: &mut ArrayVec<u8, 5404>, byte: u8)
@@ -17,8 +19,8 @@ fn push_doubled(into: &mut ArrayVec<u8, 5404>, byte: u8)
     ensures size { length into.new.items ≤ length into.old.items + 2 }
 {
     into.push(byte);
-    if byte == 0xff {
-        into.push(0xff);
+    if byte == IAC {
+        into.push(IAC);
     }
 }
 
@@ -36,7 +38,8 @@ fn push_all_doubled(into: &mut ArrayVec<u8, 5404>, bytes: &[u8])
 // A record with its IAC EOR.
 fn record_bytes(flags: u16, opcode: Opcode, body: &[u8]) -> ArrayVec<u8, 5404>
     requires { length body.now ≤ 2691 }
-    ensures { result.items ≡ record_spelling (header (10 + length body.now) flags opcode ++ body.now) }
+    ensures { result.items ≡ record_spelling
+        (header (10 + length body.now) flags opcode ++ body.now) }
 {
     let mut bytes = ArrayVec::new();
     push_all_doubled(
@@ -44,8 +47,8 @@ fn record_bytes(flags: u16, opcode: Opcode, body: &[u8]) -> ArrayVec<u8, 5404>
         &header_bytes(10 + body.len() as u16, flags, opcode),
     );
     push_all_doubled(&mut bytes, body);
-    bytes.push(0xff);
-    bytes.push(0xef);
+    bytes.push(IAC);
+    bytes.push(EOR);
     bytes
 }
 
@@ -55,7 +58,7 @@ pub fn answer_bytes(answer: &Answer) -> ArrayVec<u8, 5404>
 {
     match answer {
         Answer::Read(body) => record_bytes(0, Opcode::PutGet, body.as_slice()),
-        Answer::Attention => record_bytes(0x4000, Opcode::NoOperation, &[]),
-        Answer::SystemRequest => record_bytes(0x0400, Opcode::NoOperation, &[]),
+        Answer::Attention => record_bytes(ATN, Opcode::NoOperation, &[]),
+        Answer::SystemRequest => record_bytes(SRQ, Opcode::NoOperation, &[]),
     }
 }

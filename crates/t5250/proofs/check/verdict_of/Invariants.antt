@@ -2,11 +2,12 @@ use Rattle.std.proofs.Common.{◌-◌, ◌≤◌, length, take}
 use Rattle.t5250.specs.Checking.{Counts}
 use Rattle.t5250.proofs.check.verdict_of.Given as goal
 
--- the bytes so far lead to the receiver and the tally
+-- the bytes so far lead to the decoder and the tally
 abbrev pub invariant-loop-at : goal.invariant-loop-at
 invariant-loop-at g l = record {
   within : l.at ≤ length l.bytes;
-  counts : Counts g.B.Code.rules l.receiver l.tally (take l.at l.bytes);
+  end : l.end ≤ length l.bytes;
+  counts : Counts g.B.Code.rules l.live l.tally (take l.at l.bytes);
 }
 
 abbrev pub decreases-loop-at : goal.decreases-loop-at

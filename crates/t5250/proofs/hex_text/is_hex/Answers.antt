@@ -10,15 +10,18 @@ loop-byte-preserved c =
 
 pub returns-then-is_text-clause-yes : goal.returns-then-is_text-clause-yes
 returns-then-is_text-clause-yes c = λ h.
-    let l = looked_all c.args.text.now c.loop-byte.byte-index c.loop-byte.is_odd c.loop-byte.is_text c.loop-byte-test.false c.loop-byte.invariant in
+    let l = looked_all c.args.text.now c.loop-byte.byte-index c.loop-byte.is_odd c.loop-byte.is_text
+    c.loop-byte-test.false c.loop-byte.invariant in
     hex_of c.args.text.now c.loop-byte.is_odd c.loop-byte.is_text l c.if-is_text.true h
 
 pub returns-then-is_text-clause-no : goal.returns-then-is_text-clause-no
 returns-then-is_text-clause-no c = λ h.
-    let l = looked_all c.args.text.now c.loop-byte.byte-index c.loop-byte.is_odd c.loop-byte.is_text c.loop-byte-test.false c.loop-byte.invariant in
+    let l = looked_all c.args.text.now c.loop-byte.byte-index c.loop-byte.is_odd c.loop-byte.is_text
+    c.loop-byte-test.false c.loop-byte.invariant in
     not_hex c.args.text.now c.loop-byte.is_odd c.loop-byte.is_text l (rw c.if-is_text.true h)
 
 pub returns-else-is_text-clause-no : goal.returns-else-is_text-clause-no
 returns-else-is_text-clause-no c = λ h.
-    let l = looked_all c.args.text.now c.loop-byte.byte-index c.loop-byte.is_odd c.loop-byte.is_text c.loop-byte-test.false c.loop-byte.invariant in
+    let l = looked_all c.args.text.now c.loop-byte.byte-index c.loop-byte.is_odd c.loop-byte.is_text
+    c.loop-byte-test.false c.loop-byte.invariant in
     not_hex c.args.text.now c.loop-byte.is_odd c.loop-byte.is_text l (rw h refl)

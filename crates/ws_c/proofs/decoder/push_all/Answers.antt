@@ -1,4 +1,4 @@
-use Rattle.std.proofs.Common.{◌≡◌, ◌+◌, ℕ, List, ◌∷◌, [], length, take, drop, get_or, refl, sym, subst, ap, ◌∙◌}
+use Rattle.std.proofs.Common.{◌≡◌, ℕ, List, [], length, take, get_or, refl, sym, subst, ap, ◌∙◌}
 use Rattle.std.proofs.Common.{arith, true}
 use Rattle.std.proofs.lemmas.List.{take_more}
 use Rattle.ws_record.specs.declared.live.Step.{Step}

@@ -1,126 +1,246 @@
-use Rattle.std.proofs.Common.{◌≡◌, ◌+◌, ◌-◌, ℕ, List, ◌∷◌, [], length, take, drop, get_or, refl, sym, subst, ap, ◌∙◌}
-use Rattle.std.proofs.Common.{arith, Ok, Err, Option, Some, None, is_some, false, add-zero}
+use Rattle.std.specs.Prelude.{min, is_some}
+use Rattle.std.proofs.Common.{◌≡◌, ◌+◌, ◌-◌, ◌<◌, ◌≤◌, ◌^◌, ◌++◌, inl, inr, ℕ, List, [], Option, Some, None, true}
+use Rattle.std.proofs.Common.{false}
+use Rattle.std.proofs.Common.{length, take, drop, refl, sym, subst, ap, ◌∙◌, arith, add-zero}
+use Rattle.std.proofs.lemmas.List.{length-drop}
+use Rattle.ws_session.specs.HostFeeds.{HasHostFed, HasHostRefused, IsHostSilent}
 use Rattle.ws_session.specs.declared.host_event.HostEvent.{HostEvent}
-use Rattle.ws_session.specs.declared.host_event.HostStep.{HostStep}
-use Rattle.ws_c.specs.declared.host.HeldHost.{HeldHost}
 use Rattle.ws_c.specs.declared.status.Status.TheVariants.{Done, NoRoom}
 use Rattle.ws_c.specs.declared.told.PushedTold.{PushedTold}
-use Rattle.ws_c.specs.Hosts.{HostPushed, HostTakes, IsHostEnd}
-use Rattle.ws_c.specs.Pushes.{IsPushRefused, TakesAll, pushed_told}
-use Rattle.ws_c.proofs.PushLaws.{pushing_more, none_left, one_left, put_no_more}
+use Rattle.ws_c.specs.Hosts.{HostTells, HostRefuses, IsHostEnd, answer_after, event_told}
+use Rattle.ws_c.specs.Pushes.{place_refused_at}
+use Rattle.ws_c.proofs.PushLaws.{feeding_more, none_left, one_left, put_no_more, rest_is, told_again}
+use Rattle.ws_c.proofs.FeedLaws.{HeldTakes, host_takes_none, host_takes_on, host_refuses}
 use Rattle.ws_c.proofs.host.push_all.Goals as goal
 
 none_of : (o : Option HostEvent) → is_some o ≡ false → o ≡ None
 none_of None h = refl
 none_of (Some e) h = cc
 
-pub loop-byte-preserved : goal.loop-byte-preserved
-loop-byte-preserved c =
-    let now = c.loop-byte in
-    let byte = get_or c.args.bytes.now now.byte-index 0 in
-    let text = c.as_slice-text.result.now in
-    let step = c.in-Ok.step in
-    let same : text ≡ step.reply = c.as_slice-text.ensures.value in
-    let untold : step.event ≡ None = none_of step.event (sym c.is_some.ensures ∙ c.if-is_some.false) in
-    let push : HostPushed now.host.end c.push.new.self byte (Ok step) = record {
-      pushed = c.in-Ok.ensures.pushed;
-      full = c.in-Ok.ensures.full;
-      failed = c.in-Ok.ensures.failed;
-      after = c.in-Ok.ensures.after;
-      seen = c.in-Ok.ensures.seen;
-    } in
-    let one : HostPushed now.host.end c.push.new.self byte (Ok (record { reply = text; event = None })) =
-    subst (λ (s : HostStep). HostPushed now.host.end c.push.new.self byte (Ok s)) (cc) push in
+some_of : (o : Option HostEvent) → is_some o ≡ true → (e : HostEvent) × (o ≡ Some e)
+some_of None h = cc
+some_of (Some e) h = (e, refl)
+
+pub loop-told-init : goal.loop-told-init
+loop-told-init c =
+    let host = c.args.host.now in
+    let bytes = c.args.bytes.now in
+    let none = c.requires.told in
     record {
-      pushing = pushing_more HostTakes c.args.bytes.now c.args.buffer.now now.buffer c.put_behind.new.buffer
-          now.byte-index now.told.replied
-          c.args.host.now now.host (record { end = c.push.new.self; sent = now.host.sent; answer = now.host.answer })
-          text c.loop-byte-test.true
-          (omega (arith, c.as_slice-text.ensures.fits, ap length same))
-          now.invariant.pushing (one, refl, refl)
-          (c.put_behind.ensures now.invariant.pushing.written c.args.buffer.now (sym now.invariant.pushing.replied_is)
-          now.invariant.pushing.put);
-      told = ap (λ (t : PushedTold). record t { taken = t.taken + 1; replied = t.replied + length text })
+      feeding = record {
+        inside = omega (arith, ap (λ (t : PushedTold). t.taken) none);
+        written = [];
+        takes = subst (λ (n : ℕ). HeldTakes host bytes n [] host) (sym (ap (λ (t : PushedTold). t.taken) none))
+            (host_takes_none host.end bytes, refl, refl);
+        put = refl;
+        fits = omega (arith, ap (λ (t : PushedTold). t.replied) none);
+        replied_is = ap (λ (t : PushedTold). t.replied) none;
+      };
+      told = told_again c.args.told.now 0 0 none;
+      event = c.requires.event;
+    }
+
+pub loop-told-preserved : goal.loop-told-preserved
+loop-told-preserved c =
+    let now = c.loop-told in
+    let f = now.invariant.feeding in
+    let bytes = c.args.bytes.now in
+    let n : ℕ = now.told.taken in
+    let fed = c.in-Ok.fed in
+    let k : ℕ = fed.used in
+    let e = c.in-Ok.ensures in
+    let text = c.as_slice-text.result.now in
+    let same : text ≡ fed.reply = c.as_slice-text.ensures.value in
+    let untold : fed.event ≡ None = none_of fed.event (sym c.is_some.ensures ∙ c.if-is_some.false) in
+    let is = rest_is bytes n in
+    let new = c.feed.new.self in
+    let within : k ≤ length (drop n bytes) = subst (λ (x : List ℕ). k ≤ length x) is e.within in
+    let some : 0 < k = e.some (omega (arith, ap length is, length-drop n bytes, c.loop-told-test.true)) in
+    record {
+      feeding = feeding_more (HeldTakes c.args.host.now bytes) bytes c.args.buffer.now now.buffer
+          c.put_behind.new.buffer n now.told.replied k now.host
+          (record { end = new; sent = now.host.sent; answer = now.host.answer }) text
+          (omega (arith, within, length-drop n bytes, f.inside))
+          (omega (arith, c.as_slice-text.ensures.fits, ap length same)) f
+          (subst (λ (r : List ℕ). HeldTakes c.args.host.now bytes (n + k) (f.written ++ r)
+          (record { end = new; sent = now.host.sent; answer = now.host.answer })) (sym same) (
+            host_takes_on c.args.host.now.end now.host.end new bytes n k f.written fed.reply f.inside some f.takes.0
+                (λ b its s l fits. subst (λ (o : Option HostEvent). HasHostFed new b its s (take k (drop n bytes))
+                fed.reply o) untold
+                (subst (λ (x : List ℕ). HasHostFed new b its s (take k x) fed.reply fed.event) is
+                (e.fed b its s l (subst (λ (x : List ℕ). length b + length x + 1 < 2 ^ 64) (sym is) fits))))
+                (λ ended. (let x = (e.failed ended).0 in cc)) (λ full. (let x = e.full full in cc)),
+            f.takes.1,
+            f.takes.2,
+          ))
+          (c.put_behind.ensures f.written c.args.buffer.now (sym f.replied_is) f.put);
+      told = ap (λ (t : PushedTold). record t { taken = t.taken + k; replied = t.replied + length text })
           now.invariant.told;
       event = now.invariant.event;
     }
 
 pub returns : goal.returns
 returns c =
-    let now = c.loop-byte in
+    let now = c.loop-told in
+    let f = now.invariant.feeding in
     record {
-      quiet = now.byte-index;
-      counted = omega arith;
-      written = now.invariant.pushing.written;
+      counted = f.inside;
+      quiet = now.told.taken;
+      written = f.written;
       before = now.host;
-      takes = now.invariant.pushing.takes;
+      takes = f.takes.0;
+      sent_is = f.takes.1;
+      answer_is = f.takes.2;
       last = [];
-      replied = now.invariant.pushing.replied_is ∙ sym (add-zero _);
-      fits = now.invariant.pushing.fits;
-      put = put_no_more now.buffer now.invariant.pushing.written c.args.buffer.now now.invariant.pushing.put;
-      ends = subst (λ (l : List ℕ). IsHostEnd l now.byte-index
-          (length c.args.buffer.now - length now.invariant.pushing.written) Done now.told now.event [] now.host
-          now.host)
-          (sym (none_left c.args.bytes.now now.byte-index now.byte-index c.loop-byte-test.false refl))
+      replied = f.replied_is ∙ sym (add-zero _);
+      fits = f.fits;
+      put = put_no_more now.buffer f.written c.args.buffer.now f.put;
+      ends = subst (λ (l : List ℕ). IsHostEnd l now.told.taken (length c.args.buffer.now - length f.written) Done
+          now.told now.event [] now.host now.host)
+          (sym (none_left c.args.bytes.now now.told.taken now.told.taken c.loop-told-test.false refl))
           (refl, (now.invariant.told, now.invariant.event, refl, refl));
-    }
-
-pub returns-in-Err : goal.returns-in-Err
-returns-in-Err c =
-    let now = c.loop-byte in
-    let told = c.tell_push_refusal.new.told in
-    let taken : told.taken ≡ now.byte-index = c.tell_push_refusal.ensures.taken ∙ ap (λ (t : PushedTold). t.taken)
-    now.invariant.told in
-    let replied : told.replied ≡ now.told.replied = c.tell_push_refusal.ensures.replied in
-    let byte = get_or c.args.bytes.now now.byte-index 0 in
-    let new : HeldHost = record { end = c.push.new.self; sent = now.host.sent; answer = now.host.answer } in
-    let one : HostPushed now.host.end c.push.new.self byte (Err c.in-Err.refusal) = record {
-      pushed = c.in-Err.ensures.pushed;
-      full = c.in-Err.ensures.full;
-      failed = c.in-Err.ensures.failed;
-      after = c.in-Err.ensures.after;
-      seen = c.in-Err.ensures.seen;
-    } in
-    let refused : IsPushRefused c.in-Err.refusal now.byte-index told.replied c.tell_push_refusal.result told =
-    subst (λ n. IsPushRefused c.in-Err.refusal n told.replied c.tell_push_refusal.result told) taken
-    c.tell_push_refusal.ensures.refused in
-    record {
-      quiet = now.byte-index;
-      counted = omega arith;
-      written = now.invariant.pushing.written;
-      before = now.host;
-      takes = now.invariant.pushing.takes;
-      last = [];
-      replied = replied ∙ now.invariant.pushing.replied_is ∙ sym (add-zero _);
-      fits = omega arith;
-      put = put_no_more now.buffer now.invariant.pushing.written c.args.buffer.now now.invariant.pushing.put;
-      ends = subst (λ (l : List ℕ). IsHostEnd l now.byte-index
-          (length c.args.buffer.now - length now.invariant.pushing.written) c.tell_push_refusal.result told now.event
-          [] now.host new)
-          (sym (one_left c.args.bytes.now now.byte-index now.byte-index c.loop-byte-test.true refl)) (
-            (λ small. absurd (omega (arith, now.invariant.pushing.replied_is))),
-            (λ _. (Err c.in-Err.refusal, one, refl, (refused, now.invariant.event, refl, refl))),
-          );
     }
 
 pub returns-then-buffer-told-lt-REPLY_ROOM : goal.returns-then-buffer-told-lt-REPLY_ROOM
 returns-then-buffer-told-lt-REPLY_ROOM c =
-    let now = c.loop-byte in
+    let now = c.loop-told in
+    let f = now.invariant.feeding in
     record {
-      quiet = now.byte-index;
-      counted = omega arith;
-      written = now.invariant.pushing.written;
+      counted = f.inside;
+      quiet = now.told.taken;
+      written = f.written;
       before = now.host;
-      takes = now.invariant.pushing.takes;
+      takes = f.takes.0;
+      sent_is = f.takes.1;
+      answer_is = f.takes.2;
       last = [];
-      replied = now.invariant.pushing.replied_is ∙ sym (add-zero _);
-      fits = now.invariant.pushing.fits;
-      put = put_no_more now.buffer now.invariant.pushing.written c.args.buffer.now now.invariant.pushing.put;
-      ends = subst (λ (l : List ℕ). IsHostEnd l now.byte-index
-          (length c.args.buffer.now - length now.invariant.pushing.written) NoRoom now.told now.event [] now.host
-          now.host)
-          (sym (one_left c.args.bytes.now now.byte-index now.byte-index c.loop-byte-test.true refl)) (
+      replied = f.replied_is ∙ sym (add-zero _);
+      fits = f.fits;
+      put = put_no_more now.buffer f.written c.args.buffer.now f.put;
+      ends = subst (λ (l : List ℕ). IsHostEnd l now.told.taken (length c.args.buffer.now - length f.written) NoRoom
+          now.told now.event [] now.host now.host)
+          (sym (one_left c.args.bytes.now now.told.taken now.told.taken c.loop-told-test.true refl)) (
             (λ _. (refl, (now.invariant.told, now.invariant.event, refl, refl))),
-            (λ enough. absurd (omega (arith, now.invariant.pushing.replied_is))),
+            (λ enough. absurd (omega (arith, f.replied_is))),
+          );
+    }
+
+pub returns-in-Err : goal.returns-in-Err
+returns-in-Err c =
+    let now = c.loop-told in
+    let f = now.invariant.feeding in
+    let bytes = c.args.bytes.now in
+    let n : ℕ = now.told.taken in
+    let m : ℕ = c.front_length.result in
+    let e = c.in-Err.ensures in
+    let refusal = c.in-Err.refusal in
+    let told = c.tell_push_refusal.new.told in
+    let is = rest_is bytes n in
+    let new = c.feed.new.self in
+    let old = now.host.end in
+    let few : m ≡ min (place_refused_at refusal old.receiver.live.taken new.receiver.live.taken
+    - old.receiver.live.taken) (length (drop n bytes)) =
+    subst (λ (z : ℕ). m ≡ min (place_refused_at refusal old.receiver.live.taken z - old.receiver.live.taken)
+    (length (drop n bytes))) c.taken.ensures.count
+    (subst (λ (z : ℕ). m ≡ min (place_refused_at refusal z c.taken.result - z) (length (drop n bytes)))
+    c.taken-before.ensures.count
+    (subst (λ (x : List ℕ). m ≡ min (place_refused_at refusal c.taken-before.result c.taken.result
+    - c.taken-before.result) (length x)) is c.front_length.ensures)) in
+    let refuses : HostRefuses old (drop n bytes) m refusal new =
+    host_refuses old new (drop n bytes) refusal m few
+    (λ b its s l fits. subst (λ (x : List ℕ). HasHostRefused old new b its s x refusal) is
+    (e.refused b its s l (subst (λ (x : List ℕ). length b + length x + 1 < 2 ^ 64) (sym is) fits)))
+    (λ h. (let x = e.full h in cc)) (λ h. ((let x = (e.failed h).0 in cc), (e.failed h).1)) e.after e.seen in
+    let one = one_left bytes n n c.loop-told-test.true refl in
+    record {
+      counted = omega (arith, c.tell_push_refusal.ensures.taken, few, length-drop n bytes, f.inside);
+      quiet = n;
+      written = f.written;
+      before = now.host;
+      takes = f.takes.0;
+      sent_is = f.takes.1;
+      answer_is = f.takes.2;
+      last = [];
+      replied = c.tell_push_refusal.ensures.replied ∙ f.replied_is ∙ sym (add-zero _);
+      fits = omega (arith, c.tell_push_refusal.ensures.replied, f.fits);
+      put = put_no_more now.buffer f.written c.args.buffer.now f.put;
+      ends = subst (λ (l : List ℕ). IsHostEnd l n (length c.args.buffer.now - length f.written)
+          c.tell_push_refusal.result told now.event [] now.host
+          (record { end = new; sent = now.host.sent; answer = now.host.answer })) (sym one) (
+            (λ small. absurd (omega (arith, f.replied_is))),
+            (λ _. inr (record {
+              length_is = m;
+              refusal = refusal;
+              refuses = subst (λ (l : List ℕ). HostRefuses old l m refusal new) one refuses;
+              taken_is = c.tell_push_refusal.ensures.taken;
+              told_is = c.tell_push_refusal.ensures.refused;
+              event_is = now.invariant.event;
+              silent = refl;
+              sent_is = refl;
+              answer_is = refl;
+            })),
+          );
+    }
+
+pub returns-then-is_some : goal.returns-then-is_some
+returns-then-is_some c =
+    let now = c.loop-told in
+    let f = now.invariant.feeding in
+    let bytes = c.args.bytes.now in
+    let n : ℕ = now.told.taken in
+    let fed = c.in-Ok.fed in
+    let k : ℕ = fed.used in
+    let e = c.in-Ok.ensures in
+    let text = c.as_slice-text.result.now in
+    let same : text ≡ fed.reply = c.as_slice-text.ensures.value in
+    let tells = some_of fed.event (sym c.is_some.ensures ∙ c.if-is_some.true) in
+    let is = rest_is bytes n in
+    let new = c.feed.new.self in
+    let old = now.host.end in
+    let within : k ≤ length (drop n bytes) = subst (λ (x : List ℕ). k ≤ length x) is e.within in
+    let some : 0 < k = e.some (omega (arith, ap length is, length-drop n bytes, c.loop-told-test.true)) in
+    let one = one_left bytes n n c.loop-told-test.true refl in
+    let taken : HostTells old (drop n bytes) k text tells.0 new = record {
+      some = some;
+      taken = λ b its s l fits. subst (λ (r : List ℕ). HasHostFed new b its s (take k (drop n bytes)) r
+          (Some tells.0)) (sym same)
+          (subst (λ (o : Option HostEvent). HasHostFed new b its s (take k (drop n bytes)) fed.reply o) tells.1
+          (subst (λ (x : List ℕ). HasHostFed new b its s (take k x) fed.reply fed.event) is
+          (e.fed b its s l (subst (λ (x : List ℕ). length b + length x + 1 < 2 ^ 64) (sym is) fits))));
+      first = λ b its s l fits m few. subst (λ (x : List ℕ). IsHostSilent b its s (take m x)) is
+          (e.first b its s l (subst (λ (x : List ℕ). length b + length x + 1 < 2 ^ 64) (sym is) fits) m few);
+      works = λ ended. (let x = (e.failed ended).0 in cc);
+      counts = λ full. (let x = e.full full in cc);
+    } in
+    record {
+      counted = omega (arith, within, length-drop n bytes, f.inside);
+      quiet = n;
+      written = f.written;
+      before = now.host;
+      takes = f.takes.0;
+      sent_is = f.takes.1;
+      answer_is = f.takes.2;
+      last = text;
+      replied = ap (λ r. r + length text) f.replied_is;
+      fits = omega (arith, c.as_slice-text.ensures.fits, ap length same);
+      put = c.put_behind.ensures f.written c.args.buffer.now (sym f.replied_is) f.put;
+      ends = subst (λ (l : List ℕ). IsHostEnd l n (length c.args.buffer.now - length f.written) Done
+          (record now.told { taken = n + k; replied = now.told.replied + length text }) c.tell_event.result text
+          now.host (record { end = new; sent = now.host.sent; answer = c.tell_event.new.answer })) (sym one) (
+            (λ small. absurd (omega (arith, f.replied_is))),
+            (λ _. inl (record {
+              length_is = k;
+              tells = tells.0;
+              taken = subst (λ (l : List ℕ). HostTells old l k text tells.0 new) one taken;
+              done = refl;
+              told_is = ap (λ (t : PushedTold). record t {
+                taken = n + k;
+                replied = now.told.replied + length text;
+              }) now.invariant.told;
+              event_is = c.tell_event.ensures.told ∙ ap event_told tells.1;
+              sent_is = refl;
+              answer_is = c.tell_event.ensures.kept ∙ ap (λ (o : Option HostEvent). answer_after o now.host.answer)
+                  tells.1;
+            })),
           );
     }

@@ -7,8 +7,9 @@ use Rattle.ws_c.proofs.host_send.cancel_read.Goals as goal
 
 pub returns-in-Ok : goal.returns-in-Ok
 returns-in-Ok c = record {
-  sent = λ bytes items side leads. subst (λ (z : List ℕ). IsSent c.cancel.new.self bytes items (host_cancel side) z)
-      (sym c.of.ensures) (c.in-Ok.ensures.sent bytes items side leads);
+  sent = λ bytes items side leads few. subst (λ (z : List ℕ). IsSent c.cancel.new.self bytes items (host_cancel side) z)
+      (sym c.of.ensures) (c.in-Ok.ensures.sent bytes items side leads few);
   same = tt;
+  full = λ f. absurd (false≢true (ap is_err (c.in-Ok.ensures.full f)));
   failed = λ f. absurd (false≢true (ap is_err (c.in-Ok.ensures.failed f)));
 }

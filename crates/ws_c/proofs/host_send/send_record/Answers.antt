@@ -7,9 +7,10 @@ use Rattle.ws_c.proofs.host_send.send_record.Goals as goal
 
 pub returns-in-Ok : goal.returns-in-Ok
 returns-in-Ok c = record {
-  sent = λ bytes items side leads. subst (λ (z : List ℕ). IsSent c.send.new.self bytes items
+  sent = λ bytes items side leads few. subst (λ (z : List ℕ). IsSent c.send.new.self bytes items
       (host_send side c.args.opcode c.args.body.now) z) (sym c.of.ensures)
-      (c.in-Ok.ensures.sent bytes items side leads);
+      (c.in-Ok.ensures.sent bytes items side leads few);
   same = tt;
+  full = λ f. absurd (false≢true (ap is_err (c.in-Ok.ensures.full f)));
   failed = λ f. absurd (false≢true (ap is_err (c.in-Ok.ensures.failed f)));
 }

@@ -1,106 +1,146 @@
-use Rattle.std.proofs.Common.{◌≡◌, ◌+◌, ◌-◌, ℕ, List, ◌∷◌, [], length, take, drop, get_or, refl, sym, subst, ap, ◌∙◌}
-use Rattle.std.proofs.Common.{arith, Ok, Err}
+use Rattle.std.specs.Prelude.{min}
+use Rattle.std.proofs.Common.{◌≡◌, ◌+◌, ◌-◌, ◌<◌, ◌≤◌, ◌^◌, ◌++◌, ℕ, List, [], length, take, drop, refl, sym, subst, ap}
+use Rattle.std.proofs.Common.{◌∙◌, arith}
+use Rattle.std.proofs.lemmas.List.{length-drop}
+use Rattle.ws_session.specs.StationFeeds.{HasFed, HasRefused}
 use Rattle.ws_c.specs.declared.status.Status.TheVariants.{Done, NoRoom}
 use Rattle.ws_c.specs.declared.told.PushedTold.{PushedTold}
-use Rattle.ws_c.specs.Calls.{StationPushed}
-use Rattle.ws_c.specs.Pushes.{TakesAll, StationTakes, IsStationEnd, pushed_told}
-use Rattle.ws_c.proofs.PushLaws.{pushing_more, none_left, one_left, told_again}
+use Rattle.ws_c.specs.Pushes.{StationTakes, StationRefuses, IsStationEnd, place_refused_at}
+use Rattle.ws_c.proofs.PushLaws.{feeding_more, none_left, one_left, rest_is, told_again}
+use Rattle.ws_c.proofs.FeedLaws.{station_takes_none, station_takes_on, station_refuses}
 use Rattle.ws_c.proofs.station.push_all.Goals as goal
 
-pub loop-byte-preserved : goal.loop-byte-preserved
-loop-byte-preserved c =
-    let now = c.loop-byte in
-    let byte = get_or c.args.bytes.now now.byte-index 0 in
-    let text = c.as_slice-text.result.now in
-    let same : text ≡ c.in-Ok.reply = c.as_slice-text.ensures.value in
-    let one : StationPushed now.station c.push.new.self byte (Ok text) =
-    subst (λ (r : List ℕ). StationPushed now.station c.push.new.self byte (Ok r)) (sym same)
-    (record {
-      pushed = c.in-Ok.ensures.pushed;
-      full = c.in-Ok.ensures.full;
-      failed = c.in-Ok.ensures.failed;
-      after =
-          c.in-Ok.ensures.after;
-      seen = c.in-Ok.ensures.seen;
-    }) in
+pub loop-told-init : goal.loop-told-init
+loop-told-init c =
+    let station = c.args.station.now in
+    let bytes = c.args.bytes.now in
+    let buffer = c.args.buffer.now in
     record {
-      pushing = pushing_more StationTakes c.args.bytes.now c.args.buffer.now now.buffer c.put_behind.new.buffer
-          now.byte-index now.told.replied
-          c.args.station.now now.station c.push.new.self text c.loop-byte-test.true
-          (omega (arith, c.as_slice-text.ensures.fits, ap length same))
-          now.invariant.pushing one
-          (c.put_behind.ensures now.invariant.pushing.written c.args.buffer.now (sym now.invariant.pushing.replied_is)
-          now.invariant.pushing.put);
-      told = ap (λ (t : PushedTold). record t { taken = t.taken + 1; replied = t.replied + length text })
+      feeding = record {
+        inside = omega (arith, ap (λ (t : PushedTold). t.taken) c.requires);
+        written = [];
+        takes = subst (λ (n : ℕ). StationTakes station bytes n [] station)
+            (sym (ap (λ (t : PushedTold). t.taken) c.requires)) (station_takes_none station bytes);
+        put = refl;
+        fits = omega (arith, ap (λ (t : PushedTold). t.replied) c.requires);
+        replied_is = ap (λ (t : PushedTold). t.replied) c.requires;
+      };
+      told = told_again c.args.told.now 0 0 c.requires;
+    }
+
+pub loop-told-preserved : goal.loop-told-preserved
+loop-told-preserved c =
+    let now = c.loop-told in
+    let f = now.invariant.feeding in
+    let bytes = c.args.bytes.now in
+    let n : ℕ = now.told.taken in
+    let fed = c.in-Ok.fed in
+    let k : ℕ = fed.used in
+    let e = c.in-Ok.ensures in
+    let text = c.as_slice-text.result.now in
+    let same : text ≡ fed.reply = c.as_slice-text.ensures.value in
+    let is = rest_is bytes n in
+    let within : k ≤ length (drop n bytes) = subst (λ (x : List ℕ). k ≤ length x) is e.within in
+    let some : 0 < k = e.some (omega (arith, ap length is, length-drop n bytes, c.loop-told-test.true)) in
+    record {
+      feeding = feeding_more (StationTakes c.args.station.now bytes) bytes c.args.buffer.now now.buffer
+          c.put_behind.new.buffer n now.told.replied k now.station c.feed.new.self text
+          (omega (arith, within, length-drop n bytes, f.inside))
+          (omega (arith, c.as_slice-text.ensures.fits, ap length same)) f
+          (subst (λ (r : List ℕ). StationTakes c.args.station.now bytes (n + k) (f.written ++ r) c.feed.new.self)
+          (sym same)
+          (station_takes_on c.args.station.now now.station c.feed.new.self bytes n k f.written fed.reply
+          fed.ends_record f.inside some f.takes
+          (λ b its s l fits. subst
+          (λ (x : List ℕ). HasFed c.feed.new.self b its s (take k x) fed.reply fed.ends_record) is
+          (e.fed b its s l (subst (λ (x : List ℕ). length b + length x + 1 < 2 ^ 64) (sym is) fits)))
+          (λ ended. (let x = (e.failed ended).0 in cc)) (λ full. (let x = e.full full in cc))))
+          (c.put_behind.ensures f.written c.args.buffer.now (sym f.replied_is) f.put);
+      told = ap (λ (t : PushedTold). record t { taken = t.taken + k; replied = t.replied + length text })
           now.invariant.told;
     }
 
 pub returns : goal.returns
 returns c =
-    let now = c.loop-byte in
-    let counted : now.told.taken ≡ now.byte-index = ap (λ (t : PushedTold). t.taken) now.invariant.told in
+    let now = c.loop-told in
+    let f = now.invariant.feeding in
     record {
-      counted = omega arith;
-      written = now.invariant.pushing.written;
+      counted = f.inside;
+      fed = now.told.taken;
+      written = f.written;
       before = now.station;
-      takes = subst (λ n. TakesAll StationTakes c.args.station.now (take n c.args.bytes.now)
-          now.invariant.pushing.written now.station) (sym counted) now.invariant.pushing.takes;
-      replied = now.invariant.pushing.replied_is;
-      fits = now.invariant.pushing.fits;
-      put = now.invariant.pushing.put;
-      ends = subst (λ (l : List ℕ). IsStationEnd l (length c.args.buffer.now - now.told.replied) Done now.told
-          now.station now.station)
-          (sym (none_left c.args.bytes.now now.byte-index now.told.taken c.loop-byte-test.false counted))
-          (refl, told_again now.told _ _ now.invariant.told, refl);
-    }
-
-pub returns-in-Err : goal.returns-in-Err
-returns-in-Err c =
-    let now = c.loop-byte in
-    let told = c.tell_push_refusal.new.told in
-    let counted : told.taken ≡ now.byte-index = c.tell_push_refusal.ensures.taken ∙ ap (λ (t : PushedTold). t.taken)
-    now.invariant.told in
-    let replied : told.replied ≡ now.told.replied = c.tell_push_refusal.ensures.replied in
-    let byte = get_or c.args.bytes.now now.byte-index 0 in
-    let one : StationPushed now.station c.push.new.self byte (Err c.in-Err.refusal) =
-    record {
-      pushed = c.in-Err.ensures.pushed;
-      full = c.in-Err.ensures.full;
-      failed = c.in-Err.ensures.failed;
-      after =
-          c.in-Err.ensures.after;
-      seen = c.in-Err.ensures.seen;
-    } in
-    record {
-      counted = omega arith;
-      written = now.invariant.pushing.written;
-      before = now.station;
-      takes = subst (λ n. TakesAll StationTakes c.args.station.now (take n c.args.bytes.now)
-          now.invariant.pushing.written now.station) (sym counted) now.invariant.pushing.takes;
-      replied = replied ∙ now.invariant.pushing.replied_is;
-      fits = omega arith;
-      put = now.invariant.pushing.put;
-      ends = subst (λ (l : List ℕ). IsStationEnd l (length c.args.buffer.now - told.replied)
-          c.tell_push_refusal.result told now.station c.push.new.self)
-          (sym (one_left c.args.bytes.now now.byte-index told.taken c.loop-byte-test.true counted))
-          ((λ small. absurd (omega arith)), (λ _. (c.in-Err.refusal, one, c.tell_push_refusal.ensures.refused)));
+      takes = f.takes;
+      replied = f.replied_is;
+      fits = f.fits;
+      put = f.put;
+      ends = subst (λ (l : List ℕ). IsStationEnd l now.told.taken (length c.args.buffer.now - now.told.replied) Done
+          now.told now.station now.station)
+          (sym (none_left c.args.bytes.now now.told.taken now.told.taken c.loop-told-test.false refl))
+          (refl, now.invariant.told, refl);
     }
 
 pub returns-then-buffer-told-lt-REPLY_ROOM : goal.returns-then-buffer-told-lt-REPLY_ROOM
 returns-then-buffer-told-lt-REPLY_ROOM c =
-    let now = c.loop-byte in
-    let counted : now.told.taken ≡ now.byte-index = ap (λ (t : PushedTold). t.taken) now.invariant.told in
+    let now = c.loop-told in
+    let f = now.invariant.feeding in
     record {
-      counted = omega arith;
-      written = now.invariant.pushing.written;
+      counted = f.inside;
+      fed = now.told.taken;
+      written = f.written;
       before = now.station;
-      takes = subst (λ n. TakesAll StationTakes c.args.station.now (take n c.args.bytes.now)
-          now.invariant.pushing.written now.station) (sym counted) now.invariant.pushing.takes;
-      replied = now.invariant.pushing.replied_is;
-      fits = now.invariant.pushing.fits;
-      put = now.invariant.pushing.put;
-      ends = subst (λ (l : List ℕ). IsStationEnd l (length c.args.buffer.now - now.told.replied) NoRoom now.told
-          now.station now.station)
-          (sym (one_left c.args.bytes.now now.byte-index now.told.taken c.loop-byte-test.true counted))
-          ((λ _. (refl, told_again now.told _ _ now.invariant.told, refl)), (λ enough. absurd (omega arith)));
+      takes = f.takes;
+      replied = f.replied_is;
+      fits = f.fits;
+      put = f.put;
+      ends = subst (λ (l : List ℕ). IsStationEnd l now.told.taken (length c.args.buffer.now - now.told.replied) NoRoom
+          now.told now.station now.station)
+          (sym (one_left c.args.bytes.now now.told.taken now.told.taken c.loop-told-test.true refl))
+          ((λ _. (refl, now.invariant.told, refl)), (λ enough. absurd (omega arith)));
+    }
+
+pub returns-in-Err : goal.returns-in-Err
+returns-in-Err c =
+    let now = c.loop-told in
+    let f = now.invariant.feeding in
+    let bytes = c.args.bytes.now in
+    let n : ℕ = now.told.taken in
+    let m : ℕ = c.front_length.result in
+    let e = c.in-Err.ensures in
+    let refusal = c.in-Err.refusal in
+    let told = c.tell_push_refusal.new.told in
+    let is = rest_is bytes n in
+    let new = c.feed.new.self in
+    let last : ℕ = c.taken.result in
+    let few : m ≡ min (place_refused_at refusal now.station.live.taken last - now.station.live.taken)
+    (length (drop n bytes)) =
+    subst (λ (z : ℕ). m ≡ min (place_refused_at refusal z last - z) (length (drop n bytes)))
+    c.taken-before.ensures.count
+    (subst (λ (x : List ℕ). m ≡ min (place_refused_at refusal c.taken-before.result last - c.taken-before.result)
+    (length x)) is c.front_length.ensures) in
+    let refuses : StationRefuses now.station (drop n bytes) m refusal new =
+    station_refuses now.station new (drop n bytes) last refusal m few
+    (λ b its s l fits. subst (λ (x : List ℕ). HasRefused now.station new b its s x refusal) is
+    (e.refused b its s l (subst (λ (x : List ℕ). length b + length x + 1 < 2 ^ 64) (sym is) fits)))
+    (λ h. (let x = e.full h in cc)) (λ h. ((let x = (e.failed h).0 in cc), (e.failed h).1)) e.after e.seen in
+    let one = one_left bytes n n c.loop-told-test.true refl in
+    record {
+      counted = omega (arith, c.tell_push_refusal.ensures.taken, few, length-drop n bytes, f.inside);
+      fed = n;
+      written = f.written;
+      before = now.station;
+      takes = f.takes;
+      replied = c.tell_push_refusal.ensures.replied ∙ f.replied_is;
+      fits = omega (arith, c.tell_push_refusal.ensures.replied, f.fits);
+      put = f.put;
+      ends = subst (λ (l : List ℕ). IsStationEnd l n (length c.args.buffer.now - told.replied)
+          c.tell_push_refusal.result told now.station new) (sym one) (
+            (λ small. absurd (omega (arith, c.tell_push_refusal.ensures.replied))),
+            (λ _. (
+              refusal,
+              m,
+              subst (λ (l : List ℕ). StationRefuses now.station l m refusal new) one refuses,
+              c.tell_push_refusal.ensures.taken,
+              c.tell_push_refusal.ensures.refused,
+            )),
+          );
     }

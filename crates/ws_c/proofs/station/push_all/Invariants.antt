@@ -1,10 +1,14 @@
-use Rattle.std.proofs.Common.{◌≡◌}
+use Rattle.std.proofs.Common.{◌≡◌, ◌-◌, length}
 use Rattle.ws_c.specs.Pushes.{StationTakes, pushed_told}
-use Rattle.ws_c.proofs.PushLaws.{Pushing}
+use Rattle.ws_c.proofs.PushLaws.{Feeding}
 use Rattle.ws_c.proofs.station.push_all.Given as goal
 
-abbrev pub invariant-loop-byte : goal.invariant-loop-byte
-invariant-loop-byte l = record {
-  pushing : Pushing StationTakes l.bytes l.fn.buffer l.buffer l.byte-index l.told.replied l.fn.station l.station;
-  told : l.told ≡ pushed_told l.byte-index l.told.replied;
+abbrev pub invariant-loop-told : goal.invariant-loop-told
+invariant-loop-told l = record {
+  feeding : Feeding (StationTakes l.fn.station l.bytes) l.bytes l.fn.buffer l.buffer l.told.taken l.told.replied
+      l.station;
+  told : l.told ≡ pushed_told l.told.taken l.told.replied;
 }
+
+abbrev pub decreases-loop-told : goal.decreases-loop-told
+decreases-loop-told l = length l.bytes - l.told.taken

@@ -1,12 +1,19 @@
-use Rattle.std.proofs.Common.{◌≡◌, ◌+◌, List, [], ◌∷◌, ◌++◌, get_or, map, arith, sym, ◌∙◌, ap, refl}
+use Rattle.std.proofs.Common.{◌≡◌, ℕ, ◌+◌, List, [], ◌∷◌, ◌++◌, get_or, map, arith, sym, ◌∙◌, ap, refl, subst}
 use Rattle.std.specs.List.{range_with_len}
 use Rattle.std.proofs.lemmas.List.{take_more_set}
 use Rattle.std.proofs.lemmas.List.FromFn.{get_or-map-range_with_len, map-range_with_len_more}
 use Rattle.ws_screen.specs.Lines.{shown_at}
 use Rattle.ws_screen.specs.declared.shown.Shown.{Shown}
-use Rattle.ws_c.specs.Cells.{cell_told}
+use Rattle.ws_c.specs.Cells.{EndsBehind, IsPassed, cell_told}
 use Rattle.ws_c.specs.declared.station_cells.CellTold.{CellTold}
+use Rattle.ws_c.proofs.FieldIndex.{ends_later, past_on, past_one}
 use Rattle.ws_c.proofs.station_cells.tell_cells.Goals as goal
+use Rattle.ws_c.proofs.station_cells.tell_cells.Goals.{in-Some, in_default}
+
+pub cell_told-requires-clause-field : goal.cell_told-requires-clause-field
+cell_told-requires-clause-field c =
+    c.index_at.ensures
+    ∙ sym (c.loop-index.invariant.past.same c.address-at.result (omega (arith, c.address-at.ensures)))
 
 pub cell_told-requires-clause-shown : goal.cell_told-requires-clause-shown
 cell_told-requires-clause-shown c =
@@ -14,18 +21,35 @@ cell_told-requires-clause-shown c =
     let shown = c.index-shown-index.result in
     c.index-shown-index.is ∙ ap (λ (l : List Shown). get_or l index shown) c.show_cells.ensures
     ∙ get_or-map-range_with_len (shown_at c.args.screen.now.cells) c.address.result _ index
-    c.address-in-loop-index.result shown
-    (omega (arith, c.show_cells.auto.shown)) (omega (arith, c.address.ensures, c.address-in-loop-index.ensures))
+    c.address-at.result shown
+    (omega (arith, c.show_cells.auto.shown)) (omega (arith, c.address.ensures, c.address-at.ensures))
 
 pub loop-index-preserved : goal.loop-index-preserved
 loop-index-preserved c =
     let screen = c.args.screen.now in
+    let ahead = c.loop-index.ahead.now in
     let index = c.loop-index.index in
-    let first = c.args.first in
+    let place = c.args.first + index in
+    let held = c.loop-index.invariant in
     let new = c.cell_told.result in
-    let is : new ≡ cell_told screen (first + index) = c.cell_told.ensures ∙ ap (cell_told screen)
-    c.address-in-loop-index.ensures in
-    take_more_set c.loop-index.cells index new (omega arith)
-    ∙ ap (λ (front : List CellTold). front ++ new ∷ []) c.loop-index.invariant
-    ∙ ap (λ (s : CellTold). map (cell_told screen) (range_with_len first index) ++ s ∷ []) is
-    ∙ sym (map-range_with_len_more (cell_told screen) first index (first + index) refl)
+    let next : c.place.result + 1 ≡ c.args.first + (index + 1) =
+    omega (arith, c.place.ensures.value, c.address-at.ensures) in
+    let is : new ≡ cell_told screen place = c.cell_told.ensures ∙ ap (cell_told screen) c.address-at.ensures in
+    record {
+      told = take_more_set c.loop-index.cells index new (omega arith)
+          ∙ ap (λ (front : List CellTold). front ++ new ∷ []) held.told
+          ∙ ap (λ (s : CellTold). map (cell_told screen) (range_with_len c.args.first index) ++ s ∷ []) is
+          ∙ sym (map-range_with_len_more (cell_told screen) c.args.first index place refl);
+      past = elim c.match-passed.branch [
+        | in-Some w ↦ rw (w.field-is, w.ahead-is) (past_one screen.fields ahead w.in-Some.behind.now place _
+            c.loop-index.field held.past (omega arith)
+            (subst (λ (z : ℕ). IsPassed z ahead w.in-Some.behind.now) next w.in-Some.ensures))
+        | in_default w ↦ rw (w.field-is, w.ahead-is)
+            (past_on screen.fields ahead place _ c.loop-index.field held.past (omega arith))
+      ];
+      behind = elim c.match-passed.branch [
+        | in-Some w ↦ rw w.ahead-is (ends_later ahead w.in-Some.behind.now place _ (omega arith) held.past.in_order
+            held.behind (subst (λ (z : ℕ). IsPassed z ahead w.in-Some.behind.now) next w.in-Some.ensures))
+        | in_default w ↦ rw w.ahead-is (subst (λ (z : ℕ). EndsBehind z ahead) next w.in_default.ensures)
+      ];
+    }

@@ -11,7 +11,15 @@ both_ok (Err e) f p q = tt
 
 pub returns-in-Record-clause-after : goal.returns-in-Record-clause-after
 returns-in-Record-clause-after c =
-    rw c.in-Record.is (both_ok c.apply_record.result (λ after closed items makes. (gives_more items _ c.apply_record.new.screen (after (after_items [] items) makes.0), closed)) c.apply_record.ensures.after c.apply_record.ensures.closed)
+    rw c.in-Record.is (both_ok c.apply_record.result
+    (λ after closed items makes. (
+      gives_more items _ c.apply_record.new.screen
+          (after (after_items [] items) makes.0),
+      closed,
+    )) c.apply_record.ensures.after c.apply_record.ensures.closed)
 
 pub returns-in-Telnet-clause-after : goal.returns-in-Telnet-clause-after
-returns-in-Telnet-clause-after c = rw c.in-Telnet.is (λ items makes. (gives_more items _ c.args.screen.now makes.0, makes.1))
+returns-in-Telnet-clause-after c = rw c.in-Telnet.is (λ items makes. (
+  gives_more items _ c.args.screen.now makes.0,
+  makes.1,
+))

@@ -1,7 +1,0 @@
-use Rattle.std.proofs.Common.{◌≡◌, map}
-use Rattle.t5250.specs.Script.{typed_key}
-use Rattle.t5250.proofs.connect_line.typed_keys.Given as goal
-
--- a key for each character so far
-abbrev pub invariant-loop-character : goal.invariant-loop-character
-invariant-loop-character l = l.keys.items ≡ map (typed_key l.inserts) l.yielded

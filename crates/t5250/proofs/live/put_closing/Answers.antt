@@ -1,5 +1,0 @@
-use Rattle.t5250.proofs.Prints.{prints_both, prints_same}
-use Rattle.t5250.proofs.live.put_closing.Goals as goal
-
-pub returns : goal.returns
-returns g c = prints_both (prints_same c.closing_word.ensures c.put_text-output.ensures) (prints_same c.ready_word.ensures c.put_text.ensures)

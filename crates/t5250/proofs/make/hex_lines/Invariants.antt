@@ -1,0 +1,7 @@
+use Rattle.std.proofs.Common.{◌≡◌, take}
+use Rattle.t5250.specs.Making.{made_text}
+use Rattle.t5250.proofs.make.hex_lines.Given as goal
+
+-- the lines of the items so far
+abbrev pub invariant-loop-item : goal.invariant-loop-item
+invariant-loop-item l = l.text.items ≡ made_text (take l.item-index l.items)

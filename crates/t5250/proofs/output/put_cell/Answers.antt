@@ -1,7 +1,0 @@
-use Rattle.std.proofs.Common.{ap}
-use Rattle.std.specs.Fmt.{decimal}
-use Rattle.t5250.proofs.Prints.{prints_both, prints_same}
-use Rattle.t5250.proofs.output.put_cell.Goals as goal
-
-pub returns : goal.returns
-returns g c = prints_both (prints_both (prints_same (ap decimal c.row.ensures.value) c.put_number-output.ensures) c.put_text-output.ensures) (prints_same (ap decimal c.col.ensures.value) c.put_number.ensures)

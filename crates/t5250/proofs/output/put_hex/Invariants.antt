@@ -1,8 +1,0 @@
-use Rattle.std.proofs.Common.{take}
-use Rattle.hex.specs.Hex.{encode_upper}
-use Rattle.t5250.specs.Printing.{Prints}
-use Rattle.t5250.proofs.output.put_hex.Given as goal
-
--- the bytes so far
-abbrev pub invariant-loop-byte : goal.invariant-loop-byte
-invariant-loop-byte g l = Prints g.S.Sink.takes g.S.Sink.failures l.fn.sink l.sink l.fn.output l.output (encode_upper (take l.byte-index l.bytes))

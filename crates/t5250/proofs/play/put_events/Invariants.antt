@@ -1,9 +1,0 @@
-use Rattle.std.proofs.Common.{take}
-use Rattle.t5250.specs.declared.output.Output.TheVariants.{Open}
-use Rattle.t5250.specs.PlayLines.{events_text}
-use Rattle.t5250.specs.Printing.{Prints}
-use Rattle.t5250.proofs.play.put_events.Given as goal
-
--- the events so far
-abbrev pub invariant-loop-event : goal.invariant-loop-event
-invariant-loop-event g l = Prints g.S.Sink.takes g.S.Sink.failures l.fn.sink l.sink Open l.output (events_text (take l.event-index l.events))

@@ -1,0 +1,182 @@
+-- What feeds of a station and of a host's end come to, one behind another
+
+use Rattle.std.specs.Prelude.{min}
+use Rattle.std.proofs.Common.{◌≡◌, ℕ, ◌+◌, ◌-◌, ◌^◌, ◌<◌, ◌≤◌, inl, inr, Bool, List, [], ◌∷◌, ◌++◌, Some, None, IsSome}
+use Rattle.std.proofs.Common.{length, take, drop, refl, ap, subst, sym, ◌∙◌, arith, length-append}
+use Rattle.std.proofs.lemmas.Bool.{cases_lt}
+use Rattle.ws_record.specs.declared.record.Item.{Item}
+use Rattle.ws_stream.specs.AnswerParts.{answer_rules}
+use Rattle.ws_stream.specs.Elements.{element_rules}
+use Rattle.ws_stream.specs.declared.answer_part.AnswerPart.{AnswerPart}
+use Rattle.ws_stream.specs.declared.element.Element.{Element}
+use Rattle.ws_keys.specs.declared.key.Key.{Key}
+use Rattle.ws_session.specs.ActLaws.{bytes_came}
+use Rattle.ws_session.specs.Acts.{all_came, as_list, bytes_of}
+use Rattle.ws_session.specs.HostFeeds.{HasHostFed, HasHostRefused}
+use Rattle.ws_session.specs.HostLeads.{HostParts, HostLeads}
+use Rattle.ws_session.specs.HostSide.{HostSide}
+use Rattle.ws_session.specs.Manners.{host_manner, station_manner, told_by}
+use Rattle.ws_session.specs.StationFeeds.{HasFed, HasRefused}
+use Rattle.ws_session.specs.StationLeads.{StationParts, StationLeads}
+use Rattle.ws_session.specs.StationSide.{StationSide}
+use Rattle.ws_session.specs.declared.end_step.Order.{Order}
+use Rattle.ws_session.specs.declared.refusal.Refusal.{Refusal}
+use Rattle.ws_session.specs.declared.refusal.Refusal.TheVariants.{At, Failed, Memory}
+use Rattle.ws_session.proofs.Feedings.{none_come}
+use Rattle.ws_c.specs.declared.host.HeldHost.{HeldHost}
+use Rattle.ws_c.specs.Hosts.{HostTakes, HostRefuses}
+use Rattle.ws_c.specs.Pushes.{StationTakes, StationRefuses, place_refused_at}
+use Rattle.ws_c.proofs.PushLaws.{come_on}
+
+-- none of the bytes was taken
+pub station_takes_none : (station : StationParts) (bytes : List ℕ) → StationTakes station bytes 0 [] station
+station_takes_none station bytes = record {
+  taken = λ before items side l fits. (
+    [],
+    none_come element_rules answer_rules station_manner (StationLeads station)
+        before items side l,
+  );
+  works = λ some e. absurd (omega (arith, some));
+  counts = λ some e. absurd (omega (arith, some));
+  none = λ e. (refl, refl);
+}
+
+-- more of them are
+pub station_takes_on : (old now new : StationParts) (bytes : List ℕ) (n k : ℕ) (written reply : List ℕ) (ends : Bool)
+    → n ≤ length bytes → 0 < k → StationTakes old bytes n written now
+    → ((b : List ℕ) (its : List (Item Element)) (s : StationSide) → StationLeads now b its s
+    → length b + length (drop n bytes) + 1 < 2 ^ 64 → HasFed new b its s (take k (drop n bytes)) reply ends)
+    → (IsSome now.ended → ⊥) → (now.live.taken + 1 ≡ 2 ^ 64 → ⊥)
+    → StationTakes old bytes (n + k) (written ++ reply) new
+station_takes_on old now new bytes n k written reply ends inside some t fed works counts = record {
+  taken = λ before items side l fits. (let g = t.taken before items side l fits in (
+    g.0 ++ as_list (told_by ends),
+    come_on element_rules answer_rules station_manner (StationLeads now) (StationLeads new) bytes n k before items
+        side written reply g.0 (as_list (told_by ends)) inside fits g.1 fed,
+  ));
+  works = λ _ e. elim (cases_lt 0 n) [
+    | inl lt ↦ t.works lt e
+    | inr ge ↦ works (subst (λ (s : StationParts). IsSome s.ended) (sym (t.none (omega (arith, ge))).0) e)
+  ];
+  counts = λ _ e. elim (cases_lt 0 n) [
+    | inl lt ↦ t.counts lt e
+    | inr ge ↦ counts (subst (λ (s : StationParts). s.live.taken + 1 ≡ 2 ^ 64) (sym (t.none (omega (arith, ge))).0) e)
+  ];
+  none = λ z. absurd (omega (arith, z, some));
+}
+
+module _ (old new : StationParts) (bytes : List ℕ) (after : ℕ) where
+  -- how many bytes stand before a refused one
+  station_front : (refusal : Refusal) (b : List ℕ) (its : List (Item Element)) (s : StationSide)
+      → StationLeads old b its s → (r : HasRefused old new b its s bytes refusal)
+      → min (place_refused_at refusal old.live.taken after - old.live.taken) (length bytes) ≡ length r.front
+  station_front (At place reason) b its s l r =
+      let here : place ≡ length (b ++ bytes_of (all_came {Deed = Key} r.front)) = r.refused.leads.0 in
+      let size : length (b ++ bytes_of (all_came {Deed = Key} r.front)) ≡ length b + length r.front =
+      length-append b (bytes_of (all_came {Deed = Key} r.front))
+      ∙ ap (λ (x : List ℕ). length b + length x) (bytes_came Key r.front) in
+      let all : length bytes ≡ length r.front + length (r.byte ∷ r.rest) =
+      ap length r.split ∙ length-append r.front (r.byte ∷ r.rest) in
+      omega (arith, here, size, all, l.leads.1.count)
+  station_front Failed b its s l r = absurd r.refused.leads
+  station_front Memory b its s l r = absurd r.refused.leads
+
+  pub station_refuses : (refusal : Refusal) (n : ℕ)
+      → n ≡ min (place_refused_at refusal old.live.taken after - old.live.taken) (length bytes)
+      → ((b : List ℕ) (its : List (Item Element)) (s : StationSide) → StationLeads old b its s
+      → length b + length bytes + 1 < 2 ^ 64 → HasRefused old new b its s bytes refusal)
+      → (old.live.taken + 1 ≡ 2 ^ 64 → refusal ≡ Failed)
+      → (IsSome old.ended → (refusal ≡ Failed) × (new ≡ old))
+      → (old.ended ≡ None → new.ended ≡ Some refusal) → new.screen ≡ old.screen
+      → StationRefuses old bytes n refusal new
+  station_refuses refusal n is refused full failed after_it seen = record {
+    refused = λ b its s l fits. (let r = refused b its s l fits in (r, is ∙ station_front refusal b its s l r));
+    full = full;
+    failed = failed;
+    none = λ e. is ∙ subst (λ (r : Refusal). min (place_refused_at r old.live.taken after - old.live.taken)
+        (length bytes) ≡ 0) (sym e) (omega arith);
+    after = after_it;
+    seen = seen;
+  }
+
+-- The same of a host's end, that tells nothing
+pub host_takes_none : (host : HostParts) (bytes : List ℕ) → HostTakes host bytes 0 [] host
+host_takes_none host bytes = record {
+  taken = λ before items side l fits. none_come answer_rules element_rules host_manner (HostLeads host) before items
+      side l;
+  works = λ some e. absurd (omega (arith, some));
+  counts = λ some e. absurd (omega (arith, some));
+  none = λ e. (refl, refl);
+}
+
+pub host_takes_on : (old now new : HostParts) (bytes : List ℕ) (n k : ℕ) (written reply : List ℕ) → n ≤ length bytes
+    → 0 < k → HostTakes old bytes n written now
+    → ((b : List ℕ) (its : List (Item AnswerPart)) (s : HostSide) → HostLeads now b its s
+    → length b + length (drop n bytes) + 1 < 2 ^ 64 → HasHostFed new b its s (take k (drop n bytes)) reply None)
+    → (IsSome now.ended → ⊥) → (now.receiver.live.taken + 1 ≡ 2 ^ 64 → ⊥)
+    → HostTakes old bytes (n + k) (written ++ reply) new
+host_takes_on old now new bytes n k written reply inside some t fed works counts = record {
+  taken = λ before items side l fits. come_on answer_rules element_rules host_manner (HostLeads now) (HostLeads new)
+      bytes n k before items side written reply [] [] inside fits (t.taken before items side l fits) fed;
+  works = λ _ e. elim (cases_lt 0 n) [
+    | inl lt ↦ t.works lt e
+    | inr ge ↦ works (subst (λ (s : HostParts). IsSome s.ended) (sym (t.none (omega (arith, ge))).0) e)
+  ];
+  counts = λ _ e. elim (cases_lt 0 n) [
+    | inl lt ↦ t.counts lt e
+    | inr ge ↦ counts (subst (λ (s : HostParts). s.receiver.live.taken + 1 ≡ 2 ^ 64)
+        (sym (t.none (omega (arith, ge))).0) e)
+  ];
+  none = λ z. absurd (omega (arith, z, some));
+}
+
+module _ (old new : HostParts) (bytes : List ℕ) where
+  host_front : (refusal : Refusal) (b : List ℕ) (its : List (Item AnswerPart)) (s : HostSide)
+      → HostLeads old b its s → (r : HasHostRefused old new b its s bytes refusal)
+      → min (place_refused_at refusal old.receiver.live.taken new.receiver.live.taken - old.receiver.live.taken)
+      (length bytes) ≡ length r.front
+  host_front refusal b its s l r =
+      let size : length (b ++ bytes_of (all_came {Deed = Order} r.front)) ≡ length b + length r.front =
+      length-append b (bytes_of (all_came {Deed = Order} r.front))
+      ∙ ap (λ (x : List ℕ). length b + length x) (bytes_came Order r.front) in
+      let all : length bytes ≡ length r.front + length (r.byte ∷ r.rest) =
+      ap length r.split ∙ length-append r.front (r.byte ∷ r.rest) in
+      by refusal r size all
+    where
+      by : (refusal : Refusal) (r : HasHostRefused old new b its s bytes refusal)
+          → length (b ++ bytes_of (all_came {Deed = Order} r.front)) ≡ length b + length r.front
+          → length bytes ≡ length r.front + length (r.byte ∷ r.rest)
+          → min (place_refused_at refusal old.receiver.live.taken new.receiver.live.taken
+          - old.receiver.live.taken) (length bytes) ≡ length r.front
+      by (At place reason) r size all =
+          let here : place ≡ length (b ++ bytes_of (all_came {Deed = Order} r.front)) = r.refused.leads.0.0 in
+          omega (arith, here, size, all, l.taken.leads.1.count)
+      by Memory r size all =
+          let here : new.receiver.live.taken ≡ length (b ++ bytes_of (all_came {Deed = Order} r.front)) + 1 =
+          r.refused.leads.1 in
+          omega (arith, here, size, all, l.taken.leads.1.count)
+      by Failed r size all = absurd r.refused.leads.0
+
+  pub host_refuses : (refusal : Refusal) (n : ℕ)
+      → n ≡ min (place_refused_at refusal old.receiver.live.taken new.receiver.live.taken - old.receiver.live.taken)
+      (length bytes)
+      → ((b : List ℕ) (its : List (Item AnswerPart)) (s : HostSide) → HostLeads old b its s
+      → length b + length bytes + 1 < 2 ^ 64 → HasHostRefused old new b its s bytes refusal)
+      → (old.receiver.live.taken + 1 ≡ 2 ^ 64 → refusal ≡ Failed)
+      → (IsSome old.ended → (refusal ≡ Failed) × (new ≡ old))
+      → (old.ended ≡ None → new.ended ≡ Some refusal) → new.screen ≡ old.screen
+      → HostRefuses old bytes n refusal new
+  host_refuses refusal n is refused full failed after_it seen = record {
+    refused = λ b its s l fits. (let r = refused b its s l fits in (r, is ∙ host_front refusal b its s l r));
+    full = full;
+    failed = failed;
+    none = λ e. is ∙ subst (λ (r : Refusal). min (place_refused_at r old.receiver.live.taken
+        new.receiver.live.taken - old.receiver.live.taken) (length bytes) ≡ 0) (sym e) (omega arith);
+    after = after_it;
+    seen = seen;
+  }
+
+-- and keeps what C fetches
+abbrev pub HeldTakes : HeldHost → List ℕ → ℕ → List ℕ → HeldHost → Type 0
+HeldTakes old bytes n written new = HostTakes old.end bytes n written new.end × (new.sent ≡ old.sent)
+    × (new.answer ≡ old.answer)

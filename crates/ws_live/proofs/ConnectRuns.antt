@@ -1,0 +1,175 @@
+use Rattle.std.proofs.Common.{◌≡◌, ℕ, suc, ◌+◌, ◌<◌, ◌≤◌, List, [], ◌∷◌, ◌++◌, Bool, true, false, ◌&&◌, length, get_or}
+use Rattle.std.proofs.Common.{take, drop, take-append-drop, inl, inr, refl, sym, ap, ◌∙◌, subst, arith, append_assoc}
+use Rattle.std.proofs.Common.{length-append}
+use Rattle.std.specs.Prelude.{Result, Ok, Err, Option, Some, is_none}
+use Rattle.std.proofs.Math.Seq.{drop-cons}
+use Rattle.std.proofs.lemmas.Bool.{cases_lt}
+use Rattle.std.proofs.lemmas.List.{append-nil, take_more}
+use Rattle.ws_code.specs.Device.{MayTake, MayGive}
+use Rattle.ws_code.specs.declared.fault.Fault.{Fault}
+use Rattle.ws_code.specs.declared.fault.Fault.TheVariants as fault
+use Rattle.ws_screen.specs.ScreenParts.{ScreenParts}
+use Rattle.ws_keys.specs.declared.key.Key.{Key}
+use Rattle.ws_session.specs.Acts.{Did}
+use Rattle.ws_session.specs.Attachments.{AttachedParts, HaveLedUnwritten}
+use Rattle.ws_session.specs.Manners.{StationGoes, StationRefuses}
+use Rattle.ws_session.specs.StationLeads.{StationParts}
+use Rattle.ws_session.specs.declared.end_step.Applied.{Applied}
+use Rattle.ws_session.specs.declared.key_fault.KeyFault.{KeyFault}
+use Rattle.ws_live.specs.declared.live.Closing.{Closing}
+use Rattle.ws_live.specs.declared.connect.Waited.{Waited}
+use Rattle.ws_live.specs.declared.connect.Waited.TheVariants as waits
+use Rattle.ws_live.specs.declared.connect_line.Awaited.{Awaited}
+use Rattle.ws_live.specs.declared.connect_line.Awaited.TheVariants as awaits
+use Rattle.ws_live.specs.ConnectText.{refused_text, pressed, closing_of_both, IsMet, IsPressed, KeyRuns, ArePressed}
+use Rattle.ws_live.specs.ConnectText.{KeysRun, Hears, HasWaited, HearsOne, HearsNone, WaitsFor, IsWaited}
+
+-- Keys and records at a station, one more at a time.
+
+and_true : (b : Bool) → (b && true) ≡ b
+and_true true = refl
+and_true false = refl
+
+and_assoc : (a b c : Bool) → ((a && b) && c) ≡ (a && (b && c))
+and_assoc true b c = refl
+and_assoc false b c = refl
+
+ok_same : (a b : Closing) → ◌≡◌ {A = Result Closing Fault} (Ok a) (Ok b) → a ≡ b
+ok_same a b e = cc
+
+ok_no_err : (a : Closing) (why : Fault) → ◌≡◌ {A = Result Closing Fault} (Ok a) (Err why) → ⊥
+ok_no_err a why e = cc
+
+both_pressed : (a b : Bool) → closing_of_both (pressed a) (pressed b) ≡ pressed (a && b)
+both_pressed true b = refl
+both_pressed false b = refl
+
+module _ {S K : Type 0} (takes : MayTake K) (failures : K → ℕ) (gives : MayGive S) (misses : S → ℕ) where
+  abbrev Parts : Type 0
+  Parts = AttachedParts StationParts S K
+
+  pub pressed_more : (from mid to : Parts) (keys : List Key) (key : Key) (refused : Option KeyFault) (well : Bool)
+      (text : List ℕ) → ArePressed takes failures gives misses from keys well text mid
+      → IsPressed takes failures gives misses key mid refused to
+      → ArePressed takes failures gives misses from (keys ++ key ∷ []) (well && is_none refused)
+      (text ++ refused_text refused) to
+  pressed_more from mid to [] key refused well text h p = (
+    refused,
+    to,
+    true,
+    [],
+    subst (λ (z : Parts). IsPressed takes failures gives misses key z refused to) h.0 p,
+    (refl, refl, refl),
+    ap (λ b. b && is_none refused) h.1 ∙ sym (and_true (is_none refused)),
+    ap (λ z. z ++ refused_text refused) h.2 ∙ sym (append-nil (refused_text refused)),
+  )
+  pressed_more from mid to (first ∷ keys) key refused well text h p = (
+    h.0,
+    h.1,
+    h.2 && is_none refused,
+    h.3 ++ refused_text refused,
+    h.4,
+    pressed_more h.1 mid to keys key refused h.2 h.3 h.5 p,
+    ap (λ b. b && is_none refused) h.6 ∙ and_assoc (is_none h.0) h.2 (is_none refused),
+    ap (λ z. z ++ refused_text refused) h.7 ∙ append_assoc (refused_text h.0) h.3 (refused_text refused),
+  )
+
+  -- the keys of a list, of which so many are pressed
+  module _ (from mid to : Parts) (keys : List Key) (i : ℕ) (key : Key) (inside : i < length keys)
+      (is : key ≡ get_or keys i key) where
+    pub pressed_on : (refused : Option KeyFault) (well : Bool) (text : List ℕ)
+        → ArePressed takes failures gives misses from (take i keys) well text mid
+        → IsPressed takes failures gives misses key mid refused to
+        → ArePressed takes failures gives misses from (take (i + 1) keys) (well && is_none refused)
+        (text ++ refused_text refused) to
+    pressed_on refused well text h p =
+        let next : take i keys ++ key ∷ [] ≡ take (i + 1) keys = ap (λ z. take i keys ++ z ∷ []) is
+        ∙ sym (take_more keys i key inside) in
+        subst (λ (z : List Key). ArePressed takes failures gives misses from z (well && is_none refused)
+        (text ++ refused_text refused) to) next (pressed_more from mid to (take i keys) key refused well text h p)
+
+    pub unwritten_at : (well : Bool) (text : List ℕ) (outcome : Result Closing Fault)
+        → ArePressed takes failures gives misses from (take i keys) well text mid
+        → HaveLedUnwritten StationGoes StationRefuses takes failures gives misses mid to (Did key ∷ []) → outcome
+        ≡ Err fault.Write → KeysRun takes failures gives misses keys from outcome text to
+    unwritten_at well text outcome h led e = let n : suc i ≡ i + 1 = omega arith in inr (
+      take i keys,
+      key,
+      drop (i + 1) keys,
+      well,
+      mid,
+      sym (take-append-drop i keys) ∙ ap (λ z. take i keys ++ z) (drop-cons keys i key inside)
+          ∙ ap (λ z. take i keys ++ z ∷ drop (suc i) keys) (sym is) ∙ ap (λ m. take i keys ++ key ∷ drop m keys) n,
+      h,
+      led,
+      e,
+    )
+
+    -- one key more, and how they close then
+    pub key_more : (well : Bool) (text last : List ℕ) (closing next : Closing)
+        → ArePressed takes failures gives misses from (take i keys) well text mid → closing ≡ pressed well
+        → KeyRuns takes failures gives misses key mid (Ok next) last to
+        → (more : Bool) × ArePressed takes failures gives misses from (take (i + 1) keys) more (text ++ last) to
+        × (closing_of_both closing next ≡ pressed more)
+    key_more well text last closing next h e (inl r) =
+        let same : next ≡ pressed (is_none r.0) = ok_same next (pressed (is_none r.0)) r.2 in (
+          well && is_none r.0,
+          subst (λ (z : List ℕ). ArePressed takes failures gives misses from (take (i + 1) keys) (well && is_none r.0)
+              (text ++ z) to) (sym r.3) (pressed_on r.0 well text h r.1),
+          ap (λ z. closing_of_both z next) e ∙ ap (λ z. closing_of_both (pressed well) z) same ∙ both_pressed well
+              (is_none r.0),
+        )
+    key_more well text last closing next h e (inr r) = absurd (ok_no_err next fault.Write r.1)
+
+    pub key_stops : (well : Bool) (text last : List ℕ) (why : Fault) → ArePressed takes failures gives misses from
+        (take i keys) well text mid
+        → KeyRuns takes failures gives misses key mid (Err why) last to → KeysRun takes failures gives misses keys from
+        (Err why) (text ++ last) to
+    key_stops well text last why h (inl r) = absurd (ok_no_err (pressed (is_none r.0)) why (sym r.2))
+    key_stops well text last why h (inr r) =
+        let all : text ≡ text ++ last = sym (append-nil text) ∙ ap (λ z. text ++ z) (sym r.2) in
+        subst (λ (z : List ℕ). KeysRun takes failures gives misses keys from (Err why) z to) all
+        (unwritten_at well text (Err why) h r.0 r.1)
+
+  pub is_waited : (tells : Bool → Type 0) (from to : Parts) (awaited : Awaited) (waited : Waited)
+      → (awaited ≡ awaits.Record → ⊥) → WaitsFor takes failures gives misses tells (IsMet awaited) from waited to
+      → IsWaited takes failures gives misses tells awaited from waited to
+  is_waited tells from to awaits.Unlocked waited other h = h
+  is_waited tells from to (awaits.Text text) waited other h = h
+  is_waited tells from to awaits.Record waited other h = absurd (other refl)
+
+  module _ (Met : ScreenParts → Type 0) where
+    pub waited_more : (from mid to : Parts) (told : List Applied) (one : Applied)
+        → HasWaited takes failures gives misses Met from told mid → (Met mid.end.screen → ⊥)
+        → Hears takes failures gives misses mid (Some one) to
+        → HasWaited takes failures gives misses Met from (told ++ one ∷ []) to
+    waited_more from mid to [] one h unmet heard = (
+      to,
+      subst (λ (z : Parts). Met z.end.screen → ⊥) h unmet,
+      subst (λ (z : Parts). Hears takes failures gives misses z (Some one) to) h heard,
+      refl,
+    )
+    waited_more from mid to (first ∷ told) one h unmet heard =
+        (h.0, h.1, h.2, waited_more h.0 mid to told one h.3 unmet heard)
+
+    pub waits_on : (from to : Parts) (told : List Applied) (one : Applied) (count : ℕ) → length told ≡ count
+        → length (told ++ one ∷ []) ≡ count + 1
+    waits_on from to told one count e = omega (arith, e, length-append told (one ∷ []))
+
+  -- what isn't a record
+  pub hears_none : (tells : Bool → Type 0) (from to : Parts) (waited : Waited)
+      → HearsOne takes failures gives misses tells from waited to → (waited ≡ waits.Met → ⊥)
+      → HearsNone takes failures gives misses tells from waited to
+  hears_none tells from to waits.Met h other = absurd (other refl)
+  hears_none tells from to waits.Late h other = h
+  hears_none tells from to waits.Ended h other = h
+  hears_none tells from to (waits.Failed why) h other = h
+
+-- what no row up to one has, and that one neither
+pub below_next : (P : ℕ → Type 0) (at : ℕ) → ((row : ℕ) → 1 ≤ row → row < at → P row → ⊥) → (P at → ⊥) → (row : ℕ)
+    → 1 ≤ row → row < at + 1 → P row → ⊥
+below_next P at below here row low high p = elim (cases_lt row at) [
+  | inl less ↦ below row low less p
+  | inr more ↦ here
+      (subst P (let e : row ≡ at = omega (arith, high, more) in e) p)
+]

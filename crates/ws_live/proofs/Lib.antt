@@ -1,0 +1,12 @@
+pub mod Buffers
+pub mod ColoredCells
+pub mod ConnectRuns
+pub mod FieldTexts
+pub mod LiveLines
+pub mod LiveOutput
+pub mod LiveRuns
+pub mod LiveScripts
+pub mod Rows
+pub mod ScriptWords
+pub mod Scripts
+pub mod ServeRuns

@@ -1,0 +1,174 @@
+use Rattle.std.proofs.Common.{◌≡◌, ℕ, ◌+◌, ◌<◌, List, [], ◌∷◌, ◌++◌, Bool, true, false, ◌&&◌, length, take, drop, inl}
+use Rattle.std.proofs.Common.{inr, refl, sym, ap, ◌∙◌, subst, arith, append_assoc}
+use Rattle.std.specs.Prelude.{Result, Ok, Err}
+use Rattle.std.proofs.Common.{suc, get_or, take-append-drop}
+use Rattle.std.proofs.Math.Seq.{drop-cons}
+use Rattle.std.proofs.lemmas.List.{append-nil, take_more}
+use Rattle.ws_code.specs.Device.{MayTake, WentOut, FailedWithin}
+use Rattle.ws_code.specs.declared.fault.Fault.{Fault}
+use Rattle.std.proofs.lemmas.Bool.{false≢true}
+use Rattle.ws_code.proofs.DeviceLaws.{went_out_both}
+use Rattle.ws_record.proofs.Writes.{fails_last}
+use Rattle.ws_live.specs.declared.live.Closing.{Closing}
+use Rattle.ws_live.specs.declared.live.Closing.TheVariants.{Nothing, Done, Declined, Late, Ended, Stopped}
+use Rattle.ws_live.specs.declared.live.Ran.{Ran}
+use Rattle.ws_text.specs.declared.output.Output.{Output}
+use Rattle.ws_text.specs.declared.output.Output.TheVariants.{Open, Failed as Unwritten}
+use Rattle.ws_live.specs.LiveText.{closing_text, is_well, stops, ran_by, ran_and, HaveRun, IsStoppedAt, HasCarried}
+use Rattle.ws_live.specs.LiveText.{IsCarryFault, HasRun, IsLiveFault}
+use Rattle.ws_text.specs.Printing.{IsOut}
+
+-- Lines that are carried out one after another.
+
+and_true : (b : Bool) → (b && true) ≡ b
+and_true true = refl
+and_true false = refl
+
+and_assoc : (a b c : Bool) → ((a && b) && c) ≡ (a && (b && c))
+and_assoc true b c = refl
+and_assoc false b c = refl
+
+and_false : (b : Bool) → (b && false) ≡ false
+and_false true = refl
+and_false false = refl
+
+-- a line that ends the session stopped it, and nothing was well then
+pub stopped_ran : (ran : Ran) (closing : Closing) → (ran_and ran (ran_by closing)).is_over ≡ true → (closing ≡ Stopped)
+    × (ran_and ran (ran_by closing) ≡ ran_by Stopped)
+stopped_ran ran Nothing over = absurd (false≢true over)
+stopped_ran ran Done over = absurd (false≢true over)
+stopped_ran ran Declined over = absurd (false≢true over)
+stopped_ran ran Late over = absurd (false≢true over)
+stopped_ran ran Ended over = absurd (false≢true over)
+stopped_ran ran Stopped over = (
+  refl,
+  ap (λ (b : Bool). let r : Ran = record { all_well = b; is_over = true } in r)
+      (and_false ran.all_well),
+)
+
+-- nothing stands behind it
+stop_text : (ready : Bool) → closing_text ready Stopped ≡ []
+stop_text true = refl
+stop_text false = refl
+
+module _ {L P : Type 0} (runs : L → P → Result Closing Fault → List ℕ → P → Type 0) (ready : Bool) where
+  pub run_none : (from : P) → HaveRun runs ready from [] true [] from
+  run_none from = (refl, refl, refl)
+
+  -- one line more
+  pub run_more : (from mid to : P) (before : List L) (line : L) (well : Bool) (printed last : List ℕ)
+      (closing : Closing)
+      → HaveRun runs ready from before well printed mid → runs line mid (Ok closing) last to → stops closing ≡ false
+      → HaveRun runs ready from (before ++ line ∷ []) (well && is_well closing)
+      (printed ++ (last ++ closing_text ready closing)) to
+  run_more from mid to [] line well printed last closing h r s = (
+    closing,
+    last,
+    to,
+    true,
+    [],
+    subst (λ (p : P). runs line p (Ok closing) last to) h.0 r,
+    s,
+    (refl, refl, refl),
+    ap (λ b. b && is_well closing) h.1 ∙ sym (and_true (is_well closing)),
+    ap (λ z. z ++ (last ++ closing_text ready closing)) h.2 ∙ sym (append-nil (last ++ closing_text ready closing)),
+  )
+  run_more from mid to (first ∷ before) line well printed last closing h r s = (
+    h.0,
+    h.1,
+    h.2,
+    h.3 && is_well closing,
+    h.4 ++ (last ++ closing_text ready closing),
+    h.5,
+    h.6,
+    run_more h.2 mid to before line h.3 h.4 last closing h.7 r s,
+    ap (λ b. b && is_well closing) h.8 ∙ and_assoc (is_well h.0) h.3 (is_well closing),
+    ap (λ z. z ++ (last ++ closing_text ready closing)) h.9 ∙ append_assoc (h.1 ++ closing_text ready h.0) h.4
+        (last ++ closing_text ready closing),
+  )
+
+  -- one line more, behind those that were carried out and printed
+  module _ {O : Type 0} (takes : MayTake O) (failures : O → ℕ) (from mid to : P) (old between new : O)
+      (before : List L) (line : L) (ran : Ran) (printed : List ℕ)
+      (h : HaveRun runs ready from before ran.all_well printed mid) (out : WentOut takes failures old between printed)
+    where
+      stopped_at : (after lines : List L) → lines ≡ before ++ line ∷ after → (outcome : Result Closing Fault)
+          (last : List ℕ) → runs line mid outcome last to → IsStoppedAt runs ready from lines outcome
+          (printed ++ last) to
+      stopped_at after lines split outcome last r = record {
+        before = before;
+        line = line;
+        after = after;
+        split = split;
+        well = ran.all_well;
+        printed = printed;
+        mid = mid;
+        ran = h;
+        last = last;
+        stopped = r;
+        all = refl;
+      }
+
+      pub goes_on : (closing : Closing) → HasCarried runs ready takes failures mid to between new line closing
+          → (ran_and ran (ran_by closing)).is_over ≡ false
+          → (text : List ℕ) × HaveRun runs ready from (before ++ line ∷ []) (ran_and ran (ran_by closing)).all_well text
+          to × WentOut takes failures old new text
+      goes_on closing one going = (
+        printed ++ (one.0 ++ closing_text ready closing),
+        run_more from mid to before line ran.all_well printed one.0 closing h one.1 going,
+        went_out_both takes failures old between new printed (one.0 ++ closing_text ready closing) out one.2,
+      )
+
+      pub ends_here : (after lines : List L) → lines ≡ before ++ line ∷ after → (closing : Closing)
+          → HasCarried runs ready takes failures mid to between new line closing
+          → (ran_and ran (ran_by closing)).is_over
+          ≡ true
+          → HasRun runs ready takes failures from to old new lines (ran_and ran (ran_by closing))
+      ends_here after lines split closing one over =
+          let is = stopped_ran ran closing over in
+          let stopped : runs line mid (Ok Stopped) one.0 to = subst (λ (k : Closing). runs line mid (Ok k) one.0 to)
+          is.0
+          one.1 in
+          let text : one.0 ++ closing_text ready closing ≡ one.0 = ap (λ k. one.0 ++ closing_text ready k) is.0
+          ∙ ap (λ z. one.0 ++ z) (stop_text ready) ∙ append-nil one.0 in (
+            printed ++ one.0,
+            inr (stopped_at after lines split (Ok Stopped) one.0 stopped, is.1),
+            subst (λ (z : List ℕ). WentOut takes failures old new (printed ++ z)) text
+                (went_out_both takes failures old between new printed (one.0 ++ closing_text ready closing) out one.2),
+          )
+
+      out_both : (output : Output) (last : List ℕ) → IsOut takes failures between new output last
+          → IsOut takes failures old new output (printed ++ last)
+      out_both Open last w = went_out_both takes failures old between new printed last out w
+      out_both Unwritten last f = fails_last takes failures old between new printed last out f
+
+      pub breaks : (after lines : List L) → lines ≡ before ++ line ∷ after → (fault : Fault)
+          → IsCarryFault runs ready takes failures mid to between new line fault
+          → IsLiveFault runs ready takes failures from to old new lines fault
+      breaks after lines split fault (inl p) = let w = p.1 in inl (
+        p.0,
+        record {
+          closing = w.0;
+          text = printed ++ w.1;
+          at = stopped_at after lines split (Ok w.0) w.1 w.2;
+          failed = subst (FailedWithin takes failures old new) (sym (append_assoc printed w.1 (closing_text ready w.0)))
+              (fails_last takes failures old between new printed (w.1 ++ closing_text ready w.0) out w.3);
+        },
+      )
+      breaks after lines split fault (inr b) = inr (record {
+        text = printed ++ b.0;
+        at = stopped_at after lines split (Err fault) b.0 b.2;
+        output = b.1;
+        out = out_both b.1 b.0 b.3;
+      })
+
+-- the lines of a list, of which so many are carried out
+module _ {L : Type 0} (lines : List L) (i : ℕ) (line : L) (inside : i < length lines)
+    (is : line ≡ get_or lines i line) where
+  pub split_here : lines ≡ take i lines ++ line ∷ drop (i + 1) lines
+  split_here = let n : suc i ≡ i + 1 = omega arith in sym (take-append-drop i lines) ∙ ap (λ z. take i lines ++ z)
+      (drop-cons lines i line inside) ∙ ap (λ z. take i lines ++ z ∷ drop (suc i) lines) (sym is)
+      ∙ ap (λ m. take i lines ++ line ∷ drop m lines) n
+
+  pub taken_here : take i lines ++ line ∷ [] ≡ take (i + 1) lines
+  taken_here = ap (λ z. take i lines ++ z ∷ []) is ∙ sym (take_more lines i line inside)

@@ -1,0 +1,241 @@
+use Rattle.std.proofs.Common.{◌≡◌, ◌≢◌, ℕ, ◌+◌, List, [], ◌∷◌, ◌++◌, Bool, true, false, ◌&&◌, inl, inr, refl, sym, ap}
+use Rattle.std.proofs.Common.{◌∙◌, subst}
+use Rattle.std.specs.Prelude.{Result, Ok, Err, Option, IfOk, IfErr, IfSome, IfNone, not, replicate}
+use Rattle.std.proofs.lemmas.Bool.{false≢true}
+use Rattle.std.proofs.lemmas.List.{append-nil, replicate-append-replicate}
+use Rattle.ws_code.specs.Device.{MayTake, MayGive, WentOut, most_reads}
+use Rattle.ws_code.proofs.DeviceLaws.{went_out_both}
+use Rattle.ws_record.proofs.Writes.{fails_last}
+use Rattle.ws_code.specs.declared.fault.Fault.{Fault}
+use Rattle.ws_code.specs.declared.fault.Fault.TheVariants as fault
+use Rattle.ws_record.specs.declared.opcode.Opcode.{Opcode}
+use Rattle.ws_record.specs.declared.opcode.Opcode.TheVariants.{NoOperation, Invite, OutputOnly, PutGet, SaveScreen}
+use Rattle.ws_record.specs.declared.opcode.Opcode.TheVariants.{RestoreScreen, ReadImmediate, ReadScreen, CancelInvite}
+use Rattle.ws_record.specs.declared.opcode.Opcode.TheVariants.{MessageLightOn, MessageLightOff}
+use Rattle.ws_session.specs.Acts.{Did}
+use Rattle.ws_session.specs.Attachments.{AttachedParts, HaveLed, HaveLedUnwritten, IsSendFailure, breaks}
+use Rattle.ws_session.specs.HostLeads.{HostParts}
+use Rattle.ws_session.specs.Manners.{HostGoes, HostRefuses, IsSendRefusal, IsSendTaken}
+use Rattle.ws_session.specs.declared.end_step.Order.{Order}
+use Rattle.ws_session.specs.declared.end_step.Order.TheVariants.{Send}
+use Rattle.ws_session.specs.declared.send_fault.SendFault.{SendFault}
+use Rattle.ws_stream.specs.declared.element.Element.{Element}
+use Rattle.ws_live.specs.LiveText.{HaveRun, IsLiveText, stops}
+use Rattle.ws_live.specs.ServeText.{deed_of, reaction_to, unheard_outcome, is_told, AnswersOn, HasAnsweredOnce}
+use Rattle.ws_live.specs.ServeText.{HasAnsweredOn, IsAnswerFault, HostRuns, HearsOne, IsDone, IsGiven, IsAnsweringText}
+use Rattle.ws_live.specs.ServeText.{IsAnswerOnFault, IsServeText}
+use Rattle.ws_text.specs.Printing.{IsOut}
+use Rattle.ws_text.specs.declared.output.Output.{Output}
+use Rattle.ws_text.specs.declared.output.Output.TheVariants.{Open, Failed as Unwritten}
+use Rattle.ws_live.specs.declared.live.Closing.{Closing}
+use Rattle.ws_live.specs.declared.live.Closing.TheVariants.{Nothing, Done, Declined, Late, Ended, Stopped}
+use Rattle.ws_live.specs.declared.live.Ran.{Ran}
+use Rattle.ws_live.specs.declared.serve_line.HostLine.{HostLine}
+use Rattle.ws_live.specs.declared.serve_line.HostLine.TheVariants.{Await}
+use Rattle.ws_live.proofs.LiveRuns.{run_more}
+
+-- A host's lines, and what is told behind them.
+
+pub other_deed : (opcode : Opcode) (body : List Element) → opcode ≢ CancelInvite → deed_of (Send opcode body)
+    ≡ Send opcode body
+other_deed NoOperation body other = refl
+other_deed Invite body other = refl
+other_deed OutputOnly body other = refl
+other_deed PutGet body other = refl
+other_deed SaveScreen body other = refl
+other_deed RestoreScreen body other = refl
+other_deed ReadImmediate body other = refl
+other_deed ReadScreen body other = refl
+other_deed CancelInvite body other = absurd (other refl)
+other_deed MessageLightOn body other = refl
+other_deed MessageLightOff body other = refl
+
+-- a fault that is no refusal, and late where a read failed
+pub unheard_other : (why : Fault) → ((place : ℕ) → (reason : _) → why ≡ fault.Refused place reason → ⊥)
+    → (why ≡ fault.Read → ⊥) → Err why ≡ unheard_outcome false why
+unheard_other (fault.Refused place reason) no_refusal no_read = absurd (no_refusal place reason refl)
+unheard_other fault.Read no_refusal no_read = refl
+unheard_other fault.Memory no_refusal no_read = refl
+unheard_other fault.Write no_refusal no_read = refl
+unheard_other fault.Failed no_refusal no_read = refl
+unheard_other (fault.Truncated at) no_refusal no_read = refl
+
+-- a line that a fault doesn't stop leaves the end at work
+pub unheard_works : (late : Bool) (why : Fault) (broken : Bool) → broken ≡ breaks why → IfOk (unheard_outcome late why)
+    (λ closing. stops closing ≡ false → broken ≡ false)
+unheard_works late (fault.Refused place reason) broken e = λ stopped. absurd (false≢true (sym stopped))
+unheard_works true fault.Read broken e = λ _. e
+unheard_works false fault.Read broken e = tt
+unheard_works late fault.Memory broken e = tt
+unheard_works late fault.Write broken e = tt
+unheard_works late fault.Failed broken e = tt
+unheard_works late (fault.Truncated at) broken e = tt
+
+told_done : (closing : Closing) → is_told closing ≡ true → closing ≡ Done
+told_done Nothing e = absurd (false≢true e)
+told_done Done e = refl
+told_done Declined e = absurd (false≢true e)
+told_done Late e = absurd (false≢true e)
+told_done Ended e = absurd (false≢true e)
+told_done Stopped e = absurd (false≢true e)
+
+-- a wait with something that was told stops nothing
+pub told_goes : (closing : Closing) → is_told closing ≡ true → stops closing ≡ false
+told_goes closing e = ap stops (told_done closing e)
+
+module _ {S K : Type 0} (takes : MayTake K) (failures : K → ℕ) (gives : MayGive S) (misses : S → ℕ) where
+  abbrev Parts : Type 0
+  Parts = AttachedParts HostParts S K
+
+  module _ (order deed : Order) (is : deed_of order ≡ deed) (from to : Parts) where
+    abbrev Unsent : Order → Fault → Type 0
+    Unsent done = IsSendFailure HostGoes HostRefuses takes failures gives misses from to (Did done ∷ [])
+
+    pub is_given : (given : Result (Option SendFault) Fault)
+        → IfOk given (λ refused. HaveLed HostGoes HostRefuses takes failures gives misses from to (Did deed ∷ []) [])
+        → IfOk given (λ refused. IfSome refused (λ why. to ≡ from))
+        → IfOk given (λ refused. IfSome refused (IsSendRefusal from.end (reaction_to deed)))
+        → IfOk given (λ refused. IfNone refused (IsSendTaken from.end (reaction_to deed)))
+        → IfErr given (Unsent deed) → to.waiting ≡ from.waiting → to.source ≡ from.source
+        → IsGiven takes failures gives misses order from given to
+    is_given (Ok refused) led same why taken failure waiting unread =
+        let done : IsDone takes failures gives misses deed from refused to = record {
+          led = led;
+          same = same;
+          why = why;
+          taken = taken;
+          waiting = waiting;
+          unread = unread;
+        } in
+        subst (λ (d : Order). IsDone takes failures gives misses d from refused to) (sym is) done
+    is_given (Err why) led same told taken failure waiting unread = subst (λ (d : Order). Unsent d why) (sym is) failure
+
+    pub cancel_fails : (given : Result (Option SendFault) Fault)
+        → IfErr given (λ why. (why ≡ fault.Write) × HaveLedUnwritten HostGoes HostRefuses takes failures gives misses
+        from to (Did deed ∷ []))
+        → IfErr given (λ why. to.broken ≡ true) → IfErr given (Unsent deed)
+    cancel_fails (Ok refused) h b = tt
+    cancel_fails (Err why) h b = subst (Unsent deed) (sym h.0) (h.1, b)
+
+  module _ (tells : Bool → Type 0) where
+    abbrev Runs : HostLine → Parts → Result Closing Fault → List ℕ → Parts → Type 0
+    Runs = HostRuns takes failures gives misses tells
+
+    -- one thing more is told
+    pub told_more : (from mid to : Parts) (count : ℕ) (printed last : List ℕ) → HaveRun Runs false from
+        (replicate count Await) true printed mid → HearsOne takes failures gives misses tells mid (Ok Done) last to
+        → HaveRun Runs false from (replicate (count + 1) Await) true (printed ++ last) to
+    told_more from mid to count printed last h r =
+        let longer : replicate count Await ++ Await ∷ [] ≡ replicate (count + 1) Await = replicate-append-replicate
+        count 1 Await in
+        let text : printed ++ (last ++ []) ≡ printed ++ last = ap (λ z. printed ++ z) (append-nil last) in
+        subst (λ (z : List ℕ). HaveRun Runs false from (replicate (count + 1) Await) true z to) text
+        (subst (λ (lines : List HostLine). HaveRun Runs false from lines true (printed ++ (last ++ [])) to) longer
+        (run_more Runs false from mid to (replicate count Await) Await true printed last Done h r refl))
+
+    -- things were told and printed, and what came then
+    module _ {O : Type 0} (prints : MayTake O) (misprints : O → ℕ) (from mid to : Parts) (old between new : O)
+        (count : ℕ) (printed : List ℕ)
+        (h : HaveRun Runs false from (replicate count Await) true printed mid)
+        (out : WentOut prints misprints old between printed) where
+      answers : (outcome : Result Closing Fault) (last : List ℕ)
+          → HearsOne takes failures gives misses tells mid outcome last to
+          → AnswersOn takes failures gives misses tells from to outcome (printed ++ last)
+      answers outcome last came = record {
+        count = count;
+        printed = printed;
+        mid = mid;
+        ran = h;
+        last = last;
+        came = came;
+        all = refl;
+      }
+
+      pub one_told : (closing : Closing) → HasAnsweredOnce takes failures gives misses tells prints misprints mid to
+          between new closing → is_told closing ≡ true
+          → (text : List ℕ) × HaveRun Runs false from (replicate (count + 1) Await) true text to
+          × WentOut prints misprints old new text
+      one_told closing one told =
+          let came : HearsOne takes failures gives misses tells mid (Ok Done) one.0 to = subst
+          (λ (k : Closing). HearsOne takes failures gives misses tells mid (Ok k) one.0 to)
+          (told_done closing told) one.1 in (
+            printed ++ one.0,
+            told_more from mid to count printed one.0 h came,
+            went_out_both prints misprints old between new printed one.0 out one.2,
+          )
+
+      pub none_told : (closing : Closing) (well : Bool)
+          → HasAnsweredOnce takes failures gives misses tells prints misprints mid to between new closing
+          → is_told closing ≡ false → well ≡ not (stops closing)
+          → HasAnsweredOn takes failures gives misses tells prints misprints from to old new well
+      none_told closing well one untold e = (
+        printed ++ one.0,
+        (closing, answers (Ok closing) one.0 one.1, untold, e),
+        went_out_both prints misprints old between new printed one.0 out one.2,
+      )
+
+      out_both : (output : Output) (last : List ℕ) → IsOut prints misprints between new output last
+          → IsOut prints misprints old new output (printed ++ last)
+      out_both Open last w = went_out_both prints misprints old between new printed last out w
+      out_both Unwritten last f = fails_last prints misprints old between new printed last out f
+
+      pub answer_fails : (told : Fault) → IsAnswerFault takes failures gives misses tells prints misprints mid to
+          between new told → IsAnswerOnFault takes failures gives misses tells prints misprints from to old new told
+      answer_fails told (inl b) = inl (printed ++ b.0, b.1, answers (Err told) b.0 b.2, out_both b.1 b.0 b.3)
+      answer_fails told (inr p) = let w = p.1 in
+          inr (inl (
+            p.0,
+            (
+              w.0,
+              printed ++ w.1,
+              answers (Ok w.0) w.1 w.2,
+              fails_last prints misprints old between new printed w.1 out w.3,
+            ),
+          ))
+
+    module _ {O : Type 0} (prints : MayTake O) (misprints : O → ℕ) (from to : Parts) (old new : O)
+        (printed : List ℕ) where
+      pub too_much_told : (count : ℕ) → HaveRun Runs false from (replicate count Await) true printed to
+          → WentOut prints misprints old new printed → count ≡ most_reads
+          → IsAnswerOnFault takes failures gives misses tells prints misprints from to old new fault.Read
+      too_much_told count h out all =
+          inr (inr (
+            refl,
+            (
+              printed,
+              subst (λ (n : ℕ). HaveRun Runs false from (replicate n Await) true printed to) all
+                  h,
+              out,
+            ),
+          ))
+
+    module _ (ready : Bool) (from mid : Parts) (lines : List HostLine) (ran : Ran) (printed : List ℕ)
+        (h : IsLiveText Runs ready from lines ran printed mid) where
+      pub stopped_text : ran.is_over ≡ true → IsServeText takes failures gives misses tells ready from lines
+          ran.all_well printed mid
+      stopped_text over = elim h [
+        | inl all ↦ absurd (false≢true (sym all.1 ∙ over))
+        | inr at ↦ inr (at.0, ap (λ r. r.all_well) at.1)
+      ]
+
+      pub all_run : ran.is_over ≡ false → HaveRun Runs ready from lines ran.all_well printed mid
+      all_run going = elim h [
+        | inl all ↦ all.0
+        | inr at ↦ absurd (false≢true (sym going ∙ ap (λ r. r.is_over) at.1))
+      ]
+
+      pub answered_text : (to : Parts) (is_well : Bool) (told : List ℕ) → ran.is_over ≡ false
+          → IsAnsweringText takes failures gives misses tells mid is_well told to
+          → IsServeText takes failures gives misses tells ready from lines (ran.all_well && is_well)
+          (printed ++ told) to
+      answered_text to is_well told going answers = inl (
+        ran.all_well,
+        mid,
+        printed,
+        is_well,
+        told,
+        all_run going,
+        answers,
+        refl,
+        refl,
+      )

@@ -1,0 +1,12 @@
+use Rattle.std.proofs.Common.{◌≡◌, ℕ, List, Bool, take, false}
+use Rattle.ws_live.specs.ConnectText.{ArePressed, pressed}
+use Rattle.ws_text.specs.Printing.{Prints}
+use Rattle.ws_live.proofs.connect.press_keys.Given as goal
+
+-- the keys so far
+abbrev pub invariant-loop-key : goal.invariant-loop-key
+invariant-loop-key g l = (well : Bool) × (text : List ℕ)
+    × ArePressed g.K.Sink.takes g.K.Sink.failures g.S.Source.gives g.S.Source.failures l.fn.attached
+    (take l.key-index l.keys) well text l.attached
+    × (l.closing ≡ pressed well) × Prints g.O.Sink.takes g.O.Sink.failures l.fn.out l.out l.fn.output l.output text
+    × (l.attached.broken ≡ false)

@@ -1,0 +1,11 @@
+use Rattle.std.proofs.Common.{◌≡◌, List, length, false}
+use Rattle.ws_session.specs.declared.end_step.Applied.{Applied}
+use Rattle.ws_live.specs.ConnectText.{HasWaited, IsMet}
+use Rattle.ws_live.proofs.connect.wait_for.Given as goal
+
+-- the records so far, before each of which it wasn't met
+abbrev pub invariant-loop : goal.invariant-loop
+invariant-loop g l = (told : List Applied)
+    × HasWaited g.K.Sink.takes g.K.Sink.failures g.S.Source.gives g.S.Source.failures
+    (IsMet l.awaited) l.fn.attached told l.attached
+    × (length told ≡ l.counter) × (l.attached.broken ≡ false)

@@ -1,0 +1,7 @@
+use Rattle.std.proofs.Common.{◌≡◌, map}
+use Rattle.ws_live.specs.Script.{typed_key}
+use Rattle.ws_live.proofs.connect_line.typed_keys.Given as goal
+
+-- a key for each character so far
+abbrev pub invariant-loop-character : goal.invariant-loop-character
+invariant-loop-character l = l.keys.items ≡ map (typed_key l.inserts) l.yielded

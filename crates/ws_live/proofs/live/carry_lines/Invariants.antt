@@ -1,0 +1,12 @@
+use Rattle.std.proofs.Common.{◌≡◌, ℕ, List, [], take, false}
+use Rattle.ws_code.specs.Device.{WentOut}
+use Rattle.ws_live.specs.LiveText.{HaveRun}
+use Rattle.ws_live.proofs.live.carry_lines.Given as goal
+
+-- the lines so far, of which none stopped the session
+abbrev pub invariant-loop-line : goal.invariant-loop-line
+invariant-loop-line g l = (text : List ℕ)
+    × HaveRun (g.L.LiveMove.runs (g.W.Watch.tells l.watch) l.paint) l.ready l.fn.attached
+    (take l.line-index l.lines) l.ran.all_well text l.attached
+    × WentOut g.O.Sink.takes g.O.Sink.failures l.fn.out.sink l.out.sink text × (l.ran.is_over ≡ false)
+    × (l.attached.broken ≡ false) × (l.out.held ≡ [])

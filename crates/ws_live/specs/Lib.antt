@@ -1,0 +1,15 @@
+pub mod Buffering
+pub mod ColoredRows
+pub mod ConnectLines
+pub mod ConnectText
+pub mod FieldLines
+pub mod KeyNames
+pub mod LiveScript
+pub mod LiveText
+pub mod PlaceAndReason
+pub mod PlayLines
+pub mod ScreenLines
+pub mod Script
+pub mod ScriptFaults
+pub mod ServeLines
+pub mod ServeText

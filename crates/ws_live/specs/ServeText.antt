@@ -1,0 +1,152 @@
+-- What a line of a script for a host does there, and what it prints, by what the host end is told.
+
+use Rattle.std.specs.Prelude.{◌≡◌, ℕ, List, [], ◌∷◌, ◌++◌, ◌⊎◌, Bool, true, false, Option, None, Some}
+use Rattle.std.specs.Prelude.{IfSome, IfNone, not, ◌&&◌, replicate}
+use Rattle.std.specs.Prelude.{Result, Ok, Err}
+use Rattle.ws_code.specs.Device.{MayTake, MayGive, WentOut, FailedWithin, most_reads}
+use Rattle.ws_code.specs.declared.fault.Fault.{Fault}
+use Rattle.ws_code.specs.declared.fault.Fault.TheVariants as fault
+use Rattle.ws_session.specs.Acts.{Did}
+use Rattle.ws_session.specs.Attachments.{AttachedParts, HaveLed, IsSendFailure, HasHeard, IsHearFault}
+use Rattle.ws_session.specs.HostLeads.{HostParts}
+use Rattle.ws_session.specs.HostSide.{HostSide, SendReaction, host_send, host_cancel}
+use Rattle.ws_session.specs.Manners.{HostGoes, HostRefuses, IsSendRefusal, IsSendTaken}
+use Rattle.ws_record.specs.declared.opcode.Opcode.TheVariants.{CancelInvite}
+use Rattle.ws_session.specs.declared.end_step.Order.{Order}
+use Rattle.ws_session.specs.declared.end_step.Order.TheVariants.{Send, Cancel}
+use Rattle.ws_session.specs.declared.host_event.HostEvent.{HostEvent}
+use Rattle.ws_session.specs.declared.send_fault.SendFault.{SendFault}
+use Rattle.ws_session.specs.declared.world.Event.TheVariants.{Host, SendRefused, HostRefused}
+use Rattle.ws_live.specs.LiveText.{HaveRun, IsStoppedAt, stops}
+use Rattle.ws_live.specs.PlayLines.{event_text}
+use Rattle.ws_text.specs.Printing.{IsOut}
+use Rattle.ws_live.specs.declared.serve_line.HostLine.{HostLine}
+use Rattle.ws_live.specs.declared.serve_line.HostLine.TheVariants.{Nothing as NoLine, Give, Await}
+use Rattle.ws_text.specs.declared.output.Output.{Output}
+use Rattle.ws_live.specs.declared.live.Closing.{Closing}
+use Rattle.ws_live.specs.declared.live.Closing.TheVariants.{Nothing, Done, Declined, Late, Ended, Stopped}
+
+-- how a send or a cancel closes, and what it prints
+abbrev pub given_outcome : Result (Option SendFault) Fault → Result Closing Fault
+given_outcome (Ok None) = Ok Done
+given_outcome (Ok (Some why)) = Ok Declined
+given_outcome (Err why) = Err why
+
+abbrev pub given_text : Result (Option SendFault) Fault → List ℕ
+given_text (Ok (Some why)) = event_text (SendRefused why)
+given_text given = []
+
+-- whether a wait closed with something that was told
+abbrev pub is_told : Closing → Bool
+is_told Done = true
+is_told closing = false
+
+-- how a wait closes that a fault ended, late or not, and what it prints
+abbrev pub unheard_outcome : Bool → Fault → Result Closing Fault
+unheard_outcome late (fault.Refused place reason) = Ok Stopped
+unheard_outcome true fault.Read = Ok Late
+unheard_outcome late why = Err why
+
+abbrev pub unheard_text : Fault → List ℕ
+unheard_text (fault.Refused place reason) = event_text (HostRefused place reason)
+unheard_text why = []
+
+-- what it does: a send of Cancel Invite is a cancel
+abbrev pub deed_of : Order → Order
+deed_of (Send CancelInvite body) = Cancel
+deed_of order = order
+
+abbrev pub reaction_to : Order → HostSide → SendReaction
+reaction_to (Send opcode body) side = host_send side opcode body
+reaction_to Cancel side = host_cancel side
+
+module _ {S K : Type 0} (takes : MayTake K) (failures : K → ℕ) (gives : MayGive S) (misses : S → ℕ) where
+  abbrev pub Parts : Type 0
+  Parts = AttachedParts HostParts S K
+
+  -- the host end did this: it was written, or refused, and nothing is changed; no byte was read or taken
+  pub record IsDone (order : Order) (from : Parts) (refused : Option SendFault) (to : Parts) : Type 0 where
+    pub led : HaveLed HostGoes HostRefuses takes failures gives misses from to (Did order ∷ []) []
+    pub same : IfSome refused (λ why. to ≡ from)
+    pub why : IfSome refused (IsSendRefusal from.end (reaction_to order))
+    pub taken : IfNone refused (IsSendTaken from.end (reaction_to order))
+    pub waiting : to.waiting ≡ from.waiting
+    pub unread : to.source ≡ from.source
+
+  -- what it was told to do is done, or a write failed, or for want of memory nothing is
+  abbrev pub IsGiven : Order → Parts → Result (Option SendFault) Fault → Parts → Type 0
+  IsGiven order from (Ok refused) to = IsDone (deed_of order) from refused to
+  IsGiven order from (Err why) to = IsSendFailure HostGoes HostRefuses takes failures gives misses from to
+      (Did (deed_of order) ∷ []) why
+
+  -- What a wait comes to, at a watch that tells whether a failed read was late.
+  module _ (tells : Bool → Type 0) where
+    -- the host end heard the station up to the first thing that it tells, which is printed, or none came
+    abbrev pub HearsOne : Parts → Result Closing Fault → List ℕ → Parts → Type 0
+    HearsOne from outcome text to =
+        ((event : HostEvent) × HasHeard HostGoes HostRefuses takes failures gives misses from to (Some event)
+        × (outcome ≡ Ok Done) × (text ≡ event_text (Host event)))
+        ⊎ ((HasHeard HostGoes HostRefuses takes failures gives misses from to None
+        × (outcome ≡ Ok Ended) × (text ≡ []))
+        ⊎ ((why : Fault) × (late : Bool)
+        × IsHearFault HostGoes HostRefuses takes failures gives misses from to why × (why ≡ fault.Read → tells late)
+        × (outcome ≡ unheard_outcome late why) × (text ≡ unheard_text why)))
+
+    -- a line at a host, how it closed, and what it printed
+    abbrev pub HostRuns : HostLine → Parts → Result Closing Fault → List ℕ → Parts → Type 0
+    HostRuns NoLine from outcome text to = (to ≡ from) × (outcome ≡ Ok Nothing) × (text ≡ [])
+    HostRuns (Give order) from outcome text to = (given : Result (Option SendFault) Fault) × IsGiven order from given to
+        × (outcome ≡ given_outcome given) × (text ≡ given_text given)
+    HostRuns Await from outcome text to = HearsOne from outcome text to
+
+    -- behind a script: things were told and printed, and then this came
+    pub record AnswersOn (from to : Parts) (outcome : Result Closing Fault) (text : List ℕ) : Type 0 where
+      pub count : ℕ
+      pub printed : List ℕ
+      pub mid : Parts
+      pub ran : HaveRun HostRuns false from (replicate count Await) true printed mid
+      pub last : List ℕ
+      pub came : HearsOne mid outcome last to
+      pub all : text ≡ printed ++ last
+
+    -- up to the first thing that isn't told: the station closed, the wait was over, or a byte was refused
+    abbrev pub IsAnsweringText : Parts → Bool → List ℕ → Parts → Type 0
+    IsAnsweringText from all_well text to = (closing : Closing) × AnswersOn from to (Ok closing) text
+        × (is_told closing ≡ false) × (all_well ≡ not (stops closing))
+
+    -- What the lines of a script at a host print, and behind them what the host end is told, and whether all went well:
+    -- where a line stopped the session, nothing stands behind it.
+    abbrev pub IsServeText : Bool → Parts → List HostLine → Bool → List ℕ → Parts → Type 0
+    IsServeText ready from lines all_well text to =
+        ((well : Bool) × (mid : Parts) × (printed : List ℕ) × (answers_well : Bool) × (told : List ℕ)
+        × HaveRun HostRuns ready from lines well printed mid × IsAnsweringText mid answers_well told to
+        × (all_well ≡ well && answers_well) × (text ≡ printed ++ told))
+        ⊎ (IsStoppedAt HostRuns ready from lines (Ok Stopped) text to × (all_well ≡ false))
+
+    module _ {O : Type 0} (prints : MayTake O) (misprints : O → ℕ) (from to : Parts) (old new : O) where
+      -- the next thing that is told is printed, or none came
+      abbrev pub HasAnsweredOnce : Closing → Type 0
+      HasAnsweredOnce closing = (text : List ℕ) × HearsOne from (Ok closing) text to
+          × WentOut prints misprints old new text
+
+      -- a device or memory failed, or what was told didn't go out
+      abbrev pub IsAnswerFault : Fault → Type 0
+      IsAnswerFault why = ((text : List ℕ) × (output : Output) × HearsOne from (Err why) text to
+          × IsOut prints misprints old new output text)
+          ⊎ ((why ≡ fault.Write) × ((closing : Closing) × (text : List ℕ) × HearsOne from (Ok closing) text to
+          × FailedWithin prints misprints old new text))
+
+      -- what was told is printed
+      abbrev pub HasAnsweredOn : Bool → Type 0
+      HasAnsweredOn all_well = (text : List ℕ) × IsAnsweringText from all_well text to
+          × WentOut prints misprints old new text
+
+      -- a device or memory failed, or what was told didn't go out, or too much was told
+      abbrev pub IsAnswerOnFault : Fault → Type 0
+      IsAnswerOnFault why = ((text : List ℕ) × (output : Output) × AnswersOn from to (Err why) text
+          × IsOut prints misprints old new output text)
+          ⊎ (((why ≡ fault.Write) × ((closing : Closing) × (text : List ℕ) × AnswersOn from to (Ok closing) text
+          × FailedWithin prints misprints old new text))
+          ⊎ ((why ≡ fault.Read) × ((text : List ℕ)
+          × HaveRun HostRuns false from (replicate most_reads Await) true text to
+          × WentOut prints misprints old new text)))

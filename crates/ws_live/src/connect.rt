@@ -1,0 +1,252 @@
+ghost use Rattle.std.specs.Prelude.{◌≡◌, List, ℕ, Bool, true, false, IfOk};
+ghost use Rattle.ws_live.specs.ConnectText as Spec;
+ghost use Rattle.ws_text.specs.Printing.{Prints};
+
+use crate::connect_line::{Awaited, StationLine};
+use crate::field_lines::put_field_lines;
+use crate::live::{Carried, Closing, LiveMove, Watch};
+use crate::paint::Paint;
+use crate::play::put_event;
+use crate::screen_lines::put_screen;
+use ws_code::{Fault, ROWS, Sink, Source};
+use ws_keys::Key;
+use ws_screen::Screen;
+use ws_session::{Attached, Event, Station};
+use ws_text::Output;
+
+// What becomes of a wait.
+#[derive(Clone, Copy, Debug, PartialEq, Eq)]
+enum Waited {
+    Met,
+    Late,
+    Ended,
+    Failed(Fault),
+}
+
+impl<S: Source, K: Sink> LiveMove<Station, S, K> for StationLine {
+    ghost runs = { Spec.StationRuns K.takes K.failures S.gives S.failures };
+
+    fn carry_out<W: Watch, O: Sink>(
+        &self,
+        attached: &mut Attached<Station, S, K>,
+        watch: &W,
+        paint: Paint,
+        out: &mut O,
+        output: Output,
+    ) -> Carried {
+        match self {
+            StationLine::Nothing => Carried {
+                output,
+                outcome: Ok(Closing::Nothing),
+            },
+            StationLine::Press(keys) => press_keys(attached, keys.as_slice(), out, output),
+            StationLine::Await(awaited) => {
+                let waited = wait(attached, watch, awaited);
+                put_waited(out, output, waited)
+            }
+            StationLine::Fields => Carried {
+                output: put_field_lines(out, output, attached.end().screen()),
+                outcome: Ok(Closing::Done),
+            },
+            StationLine::Show => Carried {
+                output: put_screen(out, output, paint, attached.end().screen()),
+                outcome: Ok(Closing::Done),
+            },
+        }
+    }
+}
+
+// Presses keys one after another, and prints why one is refused.
+fn press_keys<S: Source, K: Sink, O: Sink>(
+    attached: &mut Attached<Station, S, K>,
+    keys: &[Key],
+    out: &mut O,
+    output: Output,
+) -> Carried
+    requires works { attached.old.broken ≡ false }
+    ensures runs { (text : List ℕ) × Spec.KeysRun K.takes K.failures S.gives S.failures keys.now
+        attached.old result.outcome text attached.new
+        × Prints O.takes O.failures out.old out.new output result.output text }
+    ensures works { IfOk result.outcome (λ closing. attached.new.broken ≡ false) }
+{
+    let mut output = output;
+    let mut closing = Closing::Done;
+    for key in keys {
+        let carried = press_key(attached, *key, out, output);
+        output = carried.output;
+        match carried.outcome {
+            Ok(next) => closing = closing_of_both(closing, next),
+            Err(fault) => return Carried {
+                output,
+                outcome: Err(fault),
+            },
+        }
+    }
+    Carried {
+        output,
+        outcome: Ok(closing),
+    }
+}
+
+// Presses a key, and prints why it is refused.
+fn press_key<S: Source, K: Sink, O: Sink>(
+    attached: &mut Attached<Station, S, K>,
+    key: Key,
+    out: &mut O,
+    output: Output,
+) -> Carried
+    requires works { attached.old.broken ≡ false }
+    ensures runs { (text : List ℕ) × Spec.KeyRuns K.takes K.failures S.gives S.failures key
+        attached.old result.outcome text attached.new
+        × Prints O.takes O.failures out.old out.new output result.output text }
+    ensures works { IfOk result.outcome (λ closing. attached.new.broken ≡ false) }
+{
+    match attached.press(key) {
+        Ok(None) => Carried {
+            output,
+            outcome: Ok(Closing::Done),
+        },
+        Ok(Some(fault)) => Carried {
+            output: put_event(out, output, &Event::KeyRefused(fault)),
+            outcome: Ok(Closing::Declined),
+        },
+        Err(fault) => Carried {
+            output,
+            outcome: Err(fault),
+        },
+    }
+}
+
+// How keys close that close so, and one behind them.
+fn closing_of_both(closing: Closing, next: Closing) -> Closing
+    ensures { result ≡ Spec.closing_of_both closing next }
+{
+    match closing {
+        Closing::Done => next,
+        _ => closing,
+    }
+}
+
+// Takes what the host sends, until what is awaited holds.
+fn wait<S: Source, K: Sink, W: Watch>(
+    attached: &mut Attached<Station, S, K>,
+    watch: &W,
+    awaited: &Awaited,
+) -> Waited
+    requires works { attached.old.broken ≡ false }
+    ensures waited { Spec.IsWaited K.takes K.failures S.gives S.failures (W.tells watch.now)
+        awaited.now attached.old result attached.new }
+    ensures works { Spec.IsWorking result attached.new.broken }
+{
+    watch.begin();
+    match awaited {
+        Awaited::Record => hear_record(attached, watch),
+        _ => wait_for(attached, watch, awaited),
+    }
+}
+
+// Takes records, until what is awaited holds.
+fn wait_for<S: Source, K: Sink, W: Watch>(
+    attached: &mut Attached<Station, S, K>,
+    watch: &W,
+    awaited: &Awaited,
+) -> Waited
+    requires works { attached.old.broken ≡ false }
+    ensures waited { Spec.WaitsFor K.takes K.failures S.gives S.failures (W.tells watch.now)
+        (Spec.IsMet awaited.now) attached.old result attached.new }
+    ensures works { Spec.IsWorking result attached.new.broken }
+{
+    for _ in 0..4_294_967_296u64 {
+        if is_met(attached.end().screen(), awaited) {
+            return Waited::Met;
+        }
+        match hear_record(attached, watch) {
+            Waited::Met => {}
+            other => return other,
+        }
+    }
+    Waited::Failed(Fault::Read)
+}
+
+// Whether what is awaited holds; a record is awaited by itself.
+fn is_met(screen: &Screen, awaited: &Awaited) -> bool
+    ensures met { result ≡ true → Spec.IsMet awaited.now screen.now }
+    ensures unmet { result ≡ false → Spec.IsMet awaited.now screen.now → ⊥ }
+{
+    match awaited {
+        Awaited::Unlocked => !screen.locked(),
+        Awaited::Text(text) => shows(screen, text.as_str()),
+        Awaited::Record => true,
+    }
+}
+
+// Whether some row shows the text.
+fn shows(screen: &Screen, text: &str) -> bool
+    ensures shown { result ≡ true → Spec.ShowsText screen.now.cells text.now }
+    ensures unshown { result ≡ false → Spec.ShowsText screen.now.cells text.now → ⊥ }
+{
+    for row in 1..=ROWS {
+        if screen.line(row).as_str().contains(text) {
+            return true;
+        }
+    }
+    false
+}
+
+// Takes one record more.
+fn hear_record<S: Source, K: Sink, W: Watch>(
+    attached: &mut Attached<Station, S, K>,
+    watch: &W,
+) -> Waited
+    requires works { attached.old.broken ≡ false }
+    ensures heard { Spec.HearsOne K.takes K.failures S.gives S.failures (W.tells watch.now)
+        attached.old result attached.new }
+    ensures works { Spec.IsWorking result attached.new.broken }
+{
+    match attached.hear() {
+        Ok(Some(_)) => Waited::Met,
+        Ok(None) => Waited::Ended,
+        Err(Fault::Read) => unread(watch),
+        Err(fault) => Waited::Failed(fault),
+    }
+}
+
+// What becomes of a wait at which a read failed.
+fn unread<W: Watch>(watch: &W) -> Waited
+    ensures { (late : Bool) × W.tells watch.now late × (result ≡ Spec.unread_by late) }
+{
+    if watch.is_late() {
+        Waited::Late
+    } else {
+        Waited::Failed(Fault::Read)
+    }
+}
+
+fn put_waited<O: Sink>(out: &mut O, output: Output, waited: Waited) -> Carried
+    ensures outcome { result.outcome ≡ Spec.waited_outcome waited }
+    ensures text { Prints O.takes O.failures out.old out.new output result.output
+        (Spec.waited_text waited) }
+{
+    match waited {
+        Waited::Met => Carried {
+            output,
+            outcome: Ok(Closing::Done),
+        },
+        Waited::Late => Carried {
+            output,
+            outcome: Ok(Closing::Late),
+        },
+        Waited::Ended => Carried {
+            output,
+            outcome: Ok(Closing::Ended),
+        },
+        Waited::Failed(Fault::Refused { place, reason }) => Carried {
+            output: put_event(out, output, &Event::StationRefused { place, reason }),
+            outcome: Ok(Closing::Stopped),
+        },
+        Waited::Failed(fault) => Carried {
+            output,
+            outcome: Err(fault),
+        },
+    }
+}

@@ -1,0 +1,143 @@
+ghost use Rattle.std.specs.Prelude.{◌≡◌, ◌++◌, ◌<◌, List as Seq, true, length, codes, IfOk, IfErr};
+ghost use Rattle.ws_keys.specs.declared.key.Key.{Key as AKey};
+ghost use Rattle.ws_live.specs.ConnectLines as Spec;
+ghost use Rattle.ws_live.specs.ConnectLines.{BeginsStationLine, IsStationLine};
+ghost use Rattle.ws_live.specs.ScriptFaults.{IsLineFault, IsNoComment, has_no_blank};
+
+use crate::key_name::key_named;
+use crate::live_line::LiveLine;
+use crate::script_line::{LineFault, add, typed_key};
+use crate::script_move::split_word;
+use std::alloc::Global;
+use std::str;
+use ws_code::List;
+use ws_keys::Key;
+
+/// A line of a script for a station at a host.
+#[derive(Debug, Drop)]
+pub enum StationLine {
+    /// An empty line or a comment.
+    Nothing,
+    /// The keys are pressed one after another.
+    Press(List<Key>),
+    /// The station takes what the host sends, until this holds.
+    Await(Awaited),
+    /// The fields are printed.
+    Fields,
+    /// The screen is printed.
+    Show,
+}
+
+/// What a station waits for.
+#[derive(Debug, Drop)]
+pub enum Awaited {
+    /// The keyboard is unlocked.
+    Unlocked,
+    /// One record more was applied.
+    Record,
+    /// Some row shows this text.
+    Text(String),
+}
+
+impl LiveLine for StationLine {
+    ghost means = { IsStationLine };
+
+    ghost begins = { BeginsStationLine };
+
+    fn read(alloc: Global, line: &[u8]) -> Result<Self, LineFault> {
+        let Ok(text) = str::from_utf8(line) else {
+            return Err(LineFault::Bad);
+        };
+        if text.is_empty() {
+            return Ok(StationLine::Nothing);
+        }
+        if text.strip_prefix('#').is_some() {
+            return Ok(StationLine::Nothing);
+        }
+        match split_word(text) {
+            None => read_word(text),
+            Some((command, words)) => read_command(alloc, command, words),
+        }
+    }
+}
+
+// A line that is one word.
+fn read_word(word: &str) -> Result<StationLine, LineFault>
+    requires some { 0 < length word.now }
+    requires no_blank { has_no_blank word.now ≡ true }
+    requires no_comment { IsNoComment word.now }
+    ensures line { IfOk result (Spec.Means word.now) }
+    ensures fault { IfErr result (IsLineFault (Spec.Means word.now) ⊥) }
+{
+    match word {
+        "await" => Ok(StationLine::Await(Awaited::Unlocked)),
+        "fields" => Ok(StationLine::Fields),
+        "show" => Ok(StationLine::Show),
+        _ => Err(LineFault::Bad),
+    }
+}
+
+// A command with words behind its blank.
+fn read_command(alloc: Global, command: &str, words: &str) -> Result<StationLine, LineFault>
+    requires no_blank { has_no_blank command.now ≡ true }
+    requires no_comment { IsNoComment (command.now ++ codes " " ++ words.now) }
+    ensures line { IfOk result (Spec.Means (command.now ++ codes " " ++ words.now)) }
+    ensures fault { IfErr result
+        (IsLineFault (Spec.Means (command.now ++ codes " " ++ words.now))
+        (Spec.IsCommandSoFar (command.now ++ codes " " ++ words.now))) }
+{
+    match command {
+        "type" => Ok(StationLine::Press(typed_keys(alloc, words, false)?)),
+        "insert" => Ok(StationLine::Press(typed_keys(alloc, words, true)?)),
+        "key" => Ok(StationLine::Press(named_key(alloc, words)?)),
+        "await" => Ok(StationLine::Await(read_awaited(alloc, words)?)),
+        _ => Err(LineFault::Bad),
+    }
+}
+
+// A key for each character of a text.
+fn typed_keys(alloc: Global, text: &str, inserts: bool) -> Result<List<Key>, LineFault>
+    ensures keys { IfOk result (Spec.AreKeysOf inserts text.now) }
+    ensures fault { IfErr result (λ fault. fault ≡ LineFault.Memory) }
+{
+    let mut keys = Vec::new(alloc);
+    for character in text.chars() {
+        add(&mut keys, typed_key(inserts, character))?;
+    }
+    Ok(List::of(keys))
+}
+
+// The key of this name.
+fn named_key(alloc: Global, name: &str) -> Result<List<Key>, LineFault>
+    ensures keys { IfOk result (Spec.AreNamed name.now) }
+    ensures fault { IfErr result (IsLineFault (Spec.AreNamed name.now)
+        ((keys : Seq AKey) × Spec.AreNamed name.now keys)) }
+{
+    let Some(key) = key_named(name) else {
+        return Err(LineFault::Bad);
+    };
+    let mut keys = Vec::new(alloc);
+    add(&mut keys, key)?;
+    Ok(List::of(keys))
+}
+
+// What is waited for: a record, or a text of one character at least.
+fn read_awaited(alloc: Global, words: &str) -> Result<Awaited, LineFault>
+    ensures awaited { IfOk result (Spec.IsAwaited words.now) }
+    ensures fault { IfErr result (IsLineFault (Spec.IsAwaited words.now)
+        (Spec.IsTextAwaited words.now)) }
+{
+    if words == "record" {
+        return Ok(Awaited::Record);
+    }
+    let Some(text) = words.strip_prefix("text ") else {
+        return Err(LineFault::Bad);
+    };
+    if text.is_empty() {
+        return Err(LineFault::Bad);
+    }
+    match String::from_str(alloc, text) {
+        Ok(text) => Ok(Awaited::Text(text)),
+        Err(_) => Err(LineFault::Memory),
+    }
+}

@@ -1,0 +1,38 @@
+//! Sessions by lines: scripts and their moves, the lines of a live session at either end over any devices, and what
+//! is printed of events, screens and fields.
+#![tactic(auto)]
+
+mod buffered_sink;
+mod colored_cells;
+#[cfg(test)]
+mod colored_rows;
+mod connect;
+mod connect_line;
+mod field_lines;
+mod key_name;
+mod live;
+mod live_line;
+mod paint;
+mod place_and_reason;
+mod play;
+mod screen_lines;
+mod script;
+mod script_line;
+mod script_move;
+#[cfg(test)]
+mod script_rows;
+mod serve;
+mod serve_line;
+
+pub use buffered_sink::BufferedSink;
+pub use connect_line::{Awaited, StationLine};
+pub use live::{Carried, Closing, LiveMove, Ran, Watch, carry_line, carry_lines, hand_on};
+pub use live_line::{LiveLine, read_lines};
+pub use paint::Paint;
+pub use place_and_reason::put_place_and_reason;
+pub use play::{play_painted_to, play_to};
+pub use screen_lines::put_screen;
+pub use script::{ScriptFault, read_script};
+pub use script_line::LineFault;
+pub use serve::answer_on;
+pub use serve_line::HostLine;

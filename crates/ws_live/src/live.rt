@@ -1,0 +1,235 @@
+ghost use Rattle.std.specs.Prelude.{◌≡◌, [], false, Bool, List, ℕ, Result, IfOk, IfErr};
+ghost use Rattle.ws_code.specs.declared.fault.Fault.{Fault as AFault};
+ghost use Rattle.ws_session.specs.Attachments.{AttachedParts};
+ghost use Rattle.ws_live.specs.Buffering.{Buffering, buffered_takes};
+ghost use Rattle.ws_text.specs.Printing.{IsOut, Prints};
+ghost use Rattle.ws_live.specs.LiveText as Spec;
+ghost use Rattle.ws_live.specs.declared.live.Closing.{Closing as AClosing};
+ghost use Rattle.ws_live.specs.declared.paint.Paint.{Paint as APaint};
+
+use crate::buffered_sink::BufferedSink;
+use crate::live_line::LiveLine;
+use crate::paint::Paint;
+use ws_code::{Fault, Sink};
+use ws_session::Attached;
+use ws_text::{Output, put_text};
+
+/// How a line of a live session closed.
+#[derive(Clone, Copy, Debug, PartialEq, Eq)]
+pub enum Closing {
+    /// It was an empty line or a comment.
+    Nothing,
+    /// It was carried out.
+    Done,
+    /// It was carried out, and a key or a send of it was refused.
+    Declined,
+    /// Its time was over.
+    Late,
+    /// The other side closed the connection.
+    Ended,
+    /// The end refused a byte. No line is carried out behind it.
+    Stopped,
+}
+
+/// What the lines of a live session came to.
+#[derive(Clone, Copy, Debug, PartialEq, Eq)]
+pub struct Ran {
+    /// None closed late or ended, and nothing was refused.
+    pub all_well: bool,
+    /// The end refused a byte.
+    pub is_over: bool,
+}
+
+impl Ran {
+    /// No line was carried out.
+    pub fn none() -> Self
+        ensures { result ≡ Spec.ran_none }
+    {
+        Ran {
+            all_well: true,
+            is_over: false,
+        }
+    }
+
+    /// What these lines came to, and those behind them.
+    pub fn and(self, behind: Ran) -> Self
+        ensures { result ≡ Spec.ran_and self behind }
+    {
+        Ran {
+            all_well: self.all_well && behind.all_well,
+            is_over: behind.is_over,
+        }
+    }
+}
+
+impl Closing {
+    /// What a line came to that closed so.
+    pub fn ran(self) -> Ran
+        ensures { result ≡ Spec.ran_by self }
+    {
+        Ran {
+            all_well: matches!(self, Closing::Nothing | Closing::Done),
+            is_over: self == Closing::Stopped,
+        }
+    }
+}
+
+/// What was made of a line: whether all of its text so far went out, and how it closed.
+#[derive(Clone, Copy, Debug, PartialEq, Eq)]
+pub struct Carried {
+    pub output: Output,
+    pub outcome: Result<Closing, Fault>,
+}
+
+/// What tells the time of a wait.
+pub trait Watch {
+    // What it may tell of a read that has failed: whether it was late.
+    ghost tells: { Self → Bool → Type 0 };
+
+    /// A wait begins.
+    fn begin(&self);
+
+    /// Whether the last read failed for want of time.
+    fn is_late(&self) -> bool
+        ensures { tells self.now result };
+}
+
+/// A line that is carried out at an end with these devices.
+pub trait LiveMove<E, S, K>: LiveLine {
+    // At a watch that may tell this, and with screens in this paint, the line came to this at the one state, printed
+    // this text, and left the other.
+    ghost runs: { (Bool → Type 0) → APaint → Self → AttachedParts E S K → Result AClosing AFault → List ℕ
+        → AttachedParts E S K → Type 0 };
+
+    /// Carries the line out, and prints what it tells.
+    fn carry_out<W: Watch, O: Sink>(
+        &self,
+        attached: &mut Attached<E, S, K>,
+        watch: &W,
+        paint: Paint,
+        out: &mut O,
+        output: Output,
+    ) -> Carried
+        requires works { attached.old.broken ≡ false }
+        ensures runs { (text : List ℕ)
+            × runs (W.tells watch.now) paint self.now attached.old result.outcome text attached.new
+            × Prints O.takes O.failures out.old out.new output result.output text }
+        ensures works { IfOk result.outcome (λ closing.
+            Spec.stops closing ≡ false → attached.new.broken ≡ false) };
+}
+
+/// Carries lines out one after another, up to the first at which the end refuses a byte. What each prints is out before
+/// the next; behind it comes a line `late` or `ended` where it closed so, and `ok` with `ready`. Screens are printed in
+/// the paint.
+///
+/// `Write` where the sink or the connection failed, `Read` where a read failed, though not for want of time, `Memory`
+/// where a growth was refused.
+pub fn carry_lines<E, S, K, L: LiveMove<E, S, K>, W: Watch, O: Sink>(
+    attached: &mut Attached<E, S, K>,
+    watch: &W,
+    lines: &[L],
+    ready: bool,
+    paint: Paint,
+    out: &mut BufferedSink<O>,
+) -> Result<Ran, Fault>
+    requires works { attached.old.broken ≡ false }
+    requires empty { out.old.held ≡ [] }
+    ensures ran { IfOk result (Spec.HasRun (L.runs (W.tells watch.now) paint) ready
+        O.takes O.failures attached.old attached.new out.old.sink out.new.sink lines.now) }
+    ensures fault { IfErr result (Spec.IsLiveFault (L.runs (W.tells watch.now) paint) ready
+        O.takes O.failures attached.old attached.new out.old.sink out.new.sink lines.now) }
+    ensures works { IfOk result (λ ran. ran.is_over ≡ false → attached.new.broken ≡ false) }
+    ensures held { out.new.held ≡ [] }
+{
+    let mut ran = Ran::none();
+    for line in lines {
+        let closing = match carry_line(attached, watch, line, ready, paint, out) {
+            Ok(closing) => closing,
+            Err(fault) => return Err(fault),
+        };
+        ran = ran.and(closing.ran());
+        if ran.is_over {
+            return Ok(ran);
+        }
+    }
+    Ok(ran)
+}
+
+/// Carries a line out, as `carry_lines` does.
+pub fn carry_line<E, S, K, L: LiveMove<E, S, K>, W: Watch, O: Sink>(
+    attached: &mut Attached<E, S, K>,
+    watch: &W,
+    line: &L,
+    ready: bool,
+    paint: Paint,
+    out: &mut BufferedSink<O>,
+) -> Result<Closing, Fault>
+    requires works { attached.old.broken ≡ false }
+    requires empty { out.old.held ≡ [] }
+    ensures done { IfOk result (Spec.HasCarried (L.runs (W.tells watch.now) paint) ready
+        O.takes O.failures attached.old attached.new out.old.sink out.new.sink line.now) }
+    ensures fault { IfErr result (Spec.IsCarryFault (L.runs (W.tells watch.now) paint) ready
+        O.takes O.failures attached.old attached.new out.old.sink out.new.sink line.now) }
+    ensures works { IfOk result (λ closing.
+        Spec.stops closing ≡ false → attached.new.broken ≡ false) }
+    ensures held { out.new.held ≡ [] }
+{
+    let carried = line.carry_out(attached, watch, paint, out, Output::Open);
+    match carried.outcome {
+        Ok(closing) => {
+            let output = put_closing(out, carried.output, ready, closing);
+            match hand_on(out, output) {
+                Output::Open => Ok(closing),
+                Output::Failed => Err(Fault::Write),
+            }
+        }
+        Err(fault) => {
+            hand_on(out, carried.output);
+            Err(fault)
+        }
+    }
+}
+
+/// Hands on what the buffer holds of a text.
+pub fn hand_on<O: Sink>(out: &mut BufferedSink<O>, output: Output) -> Output
+    ensures out { (from : Buffering O) (text : List ℕ) → from.held ≡ []
+        → IsOut (buffered_takes O.takes O.failures) (λ b. b.failures) from out.old output text
+        → IsOut O.takes O.failures from.sink out.new.sink result text }
+    ensures held { out.new.held ≡ [] }
+{
+    match out.flush() {
+        Ok(()) => output,
+        Err(_) => Output::Failed,
+    }
+}
+
+// Writes what stands behind a line's text.
+fn put_closing<O: Sink>(out: &mut O, output: Output, ready: bool, closing: Closing) -> Output
+    ensures { Prints O.takes O.failures out.old out.new output result
+        (Spec.closing_text ready closing) }
+{
+    let output = put_text(out, output, closing_word(closing));
+    put_text(out, output, ready_word(ready, closing))
+}
+
+fn closing_word(closing: Closing) -> &'static str
+    ensures { result.now ≡ Spec.closing_word closing }
+{
+    match closing {
+        Closing::Late => "late\n",
+        Closing::Ended => "ended\n",
+        _ => "",
+    }
+}
+
+fn ready_word(ready: bool, closing: Closing) -> &'static str
+    ensures { result.now ≡ Spec.ready_word ready closing }
+{
+    if !ready {
+        return "";
+    }
+    match closing {
+        Closing::Nothing | Closing::Stopped => "",
+        _ => "ok\n",
+    }
+}

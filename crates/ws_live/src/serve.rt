@@ -1,0 +1,229 @@
+ghost use Rattle.std.specs.Prelude.{◌≡◌, [], false, Bool, List, ℕ, IfOk, IfErr};
+ghost use Rattle.ws_session.specs.declared.end_step.Order.TheVariants.{Send};
+ghost use Rattle.ws_live.specs.ServeText as Spec;
+ghost use Rattle.ws_live.specs.LiveText.{stops};
+ghost use Rattle.ws_text.specs.Printing.{Prints};
+
+use crate::buffered_sink::BufferedSink;
+use crate::live::{Carried, Closing, LiveMove, Watch, hand_on};
+use crate::paint::Paint;
+use crate::play::put_event;
+use crate::serve_line::HostLine;
+use ws_code::{Fault, Sink, Source};
+use ws_record::Opcode;
+use ws_session::{Attached, Event, HostEnd, Order, SendFault};
+use ws_stream::Element;
+use ws_text::Output;
+
+impl<S: Source, K: Sink> LiveMove<HostEnd, S, K> for HostLine {
+    ghost runs = { λ tells paint. Spec.HostRuns K.takes K.failures S.gives S.failures tells };
+
+    fn carry_out<W: Watch, O: Sink>(
+        &self,
+        attached: &mut Attached<HostEnd, S, K>,
+        watch: &W,
+        _paint: Paint,
+        out: &mut O,
+        output: Output,
+    ) -> Carried {
+        match self {
+            HostLine::Nothing => Carried {
+                output,
+                outcome: Ok(Closing::Nothing),
+            },
+            HostLine::Give(order) => put_given(out, output, give(attached, order)),
+            HostLine::Await => {
+                watch.begin();
+                hear_event(attached, watch, out, output)
+            }
+        }
+    }
+}
+
+// Sends a record, or cancels the read.
+fn give<S: Source, K: Sink>(
+    attached: &mut Attached<HostEnd, S, K>,
+    order: &Order,
+) -> Result<Option<SendFault>, Fault>
+    requires works { attached.old.broken ≡ false }
+    ensures given { Spec.IsGiven K.takes K.failures S.gives S.failures order.now
+        attached.old result attached.new }
+    ensures works { IfOk result (λ refused. attached.new.broken ≡ false) }
+{
+    match order {
+        Order::Cancel => attached.cancel(),
+        Order::Send(opcode, body) => give_record(attached, *opcode, body.as_slice()),
+    }
+}
+
+// Sends a record; one of Cancel Invite is a cancel.
+fn give_record<S: Source, K: Sink>(
+    attached: &mut Attached<HostEnd, S, K>,
+    opcode: Opcode,
+    body: &[Element],
+) -> Result<Option<SendFault>, Fault>
+    requires works { attached.old.broken ≡ false }
+    ensures given { Spec.IsGiven K.takes K.failures S.gives S.failures (Send opcode body.now)
+        attached.old result attached.new }
+    ensures works { IfOk result (λ refused. attached.new.broken ≡ false) }
+{
+    match opcode {
+        Opcode::CancelInvite => attached.cancel(),
+        _ => attached.send(opcode, body),
+    }
+}
+
+fn put_given<O: Sink>(
+    out: &mut O,
+    output: Output,
+    given: Result<Option<SendFault>, Fault>,
+) -> Carried
+    ensures outcome { result.outcome ≡ Spec.given_outcome given }
+    ensures text { Prints O.takes O.failures out.old out.new output result.output
+        (Spec.given_text given) }
+{
+    match given {
+        Ok(None) => Carried {
+            output,
+            outcome: Ok(Closing::Done),
+        },
+        Ok(Some(fault)) => Carried {
+            output: put_event(out, output, &Event::SendRefused(fault)),
+            outcome: Ok(Closing::Declined),
+        },
+        Err(fault) => Carried {
+            output,
+            outcome: Err(fault),
+        },
+    }
+}
+
+// Takes what the station sends up to the first thing that the host end tells, and prints it.
+fn hear_event<S: Source, K: Sink, W: Watch, O: Sink>(
+    attached: &mut Attached<HostEnd, S, K>,
+    watch: &W,
+    out: &mut O,
+    output: Output,
+) -> Carried
+    requires works { attached.old.broken ≡ false }
+    ensures heard { (text : List ℕ) × Spec.HearsOne K.takes K.failures S.gives S.failures
+        (W.tells watch.now) attached.old result.outcome text attached.new
+        × Prints O.takes O.failures out.old out.new output result.output text }
+    ensures works { IfOk result.outcome (λ closing.
+        stops closing ≡ false → attached.new.broken ≡ false) }
+{
+    match attached.hear() {
+        Ok(Some(event)) => Carried {
+            output: put_event(out, output, &Event::Host(event)),
+            outcome: Ok(Closing::Done),
+        },
+        Ok(None) => Carried {
+            output,
+            outcome: Ok(Closing::Ended),
+        },
+        Err(fault) => put_unheard(watch, out, output, fault),
+    }
+}
+
+// How a wait closes that a fault ended.
+fn put_unheard<W: Watch, O: Sink>(watch: &W, out: &mut O, output: Output, fault: Fault) -> Carried
+    ensures { (late : Bool) × (fault ≡ Fault.Read → W.tells watch.now late)
+        × (result.outcome ≡ Spec.unheard_outcome late fault)
+        × Prints O.takes O.failures out.old out.new output result.output
+        (Spec.unheard_text fault) }
+{
+    match fault {
+        Fault::Refused { place, reason } => Carried {
+            output: put_event(out, output, &Event::HostRefused { place, reason }),
+            outcome: Ok(Closing::Stopped),
+        },
+        Fault::Read => Carried {
+            output,
+            outcome: unread(watch),
+        },
+        _ => Carried {
+            output,
+            outcome: Err(fault),
+        },
+    }
+}
+
+// How a wait closes at which a read failed.
+fn unread<W: Watch>(watch: &W) -> Result<Closing, Fault>
+    ensures { (late : Bool) × W.tells watch.now late
+        × (result ≡ Spec.unheard_outcome late Fault.Read) }
+{
+    if watch.is_late() {
+        Ok(Closing::Late)
+    } else {
+        Err(Fault::Read)
+    }
+}
+
+/// Answers a station on, and prints what the host end tells, until the station closes the connection, a wait for the
+/// next thing is over, or a byte is refused: true where none is.
+///
+/// `Write` where the sink or the connection failed, `Read` where a read failed, though not for want of time, or
+/// 4,294,967,296 things were told; `Memory` where a growth was refused.
+pub fn answer_on<S: Source, K: Sink, W: Watch, O: Sink>(
+    attached: &mut Attached<HostEnd, S, K>,
+    watch: &W,
+    out: &mut BufferedSink<O>,
+) -> Result<bool, Fault>
+    requires works { attached.old.broken ≡ false }
+    requires empty { out.old.held ≡ [] }
+    ensures answered { IfOk result (Spec.HasAnsweredOn K.takes K.failures S.gives S.failures
+        (W.tells watch.now) O.takes O.failures
+        attached.old attached.new out.old.sink out.new.sink) }
+    ensures fault { IfErr result (Spec.IsAnswerOnFault K.takes K.failures S.gives S.failures
+        (W.tells watch.now) O.takes O.failures
+        attached.old attached.new out.old.sink out.new.sink) }
+{
+    for _ in 0..4_294_967_296u64 {
+        match answer_once(attached, watch, out) {
+            Ok(closing) => {
+                if !is_told(closing) {
+                    return Ok(!closing.ran().is_over);
+                }
+            }
+            Err(fault) => return Err(fault),
+        }
+    }
+    Err(Fault::Read)
+}
+
+// Takes what the station sends up to the next thing that the host end tells, and prints it: how the wait closed.
+fn answer_once<S: Source, K: Sink, W: Watch, O: Sink>(
+    attached: &mut Attached<HostEnd, S, K>,
+    watch: &W,
+    out: &mut BufferedSink<O>,
+) -> Result<Closing, Fault>
+    requires works { attached.old.broken ≡ false }
+    requires empty { out.old.held ≡ [] }
+    ensures answered { IfOk result (Spec.HasAnsweredOnce K.takes K.failures S.gives S.failures
+        (W.tells watch.now) O.takes O.failures
+        attached.old attached.new out.old.sink out.new.sink) }
+    ensures fault { IfErr result (Spec.IsAnswerFault K.takes K.failures S.gives S.failures
+        (W.tells watch.now) O.takes O.failures
+        attached.old attached.new out.old.sink out.new.sink) }
+    ensures works { IfOk result (λ closing.
+        stops closing ≡ false → attached.new.broken ≡ false) }
+    ensures held { out.new.held ≡ [] }
+{
+    let carried = HostLine::Await.carry_out(attached, watch, Paint::Plain, out, Output::Open);
+    let output = hand_on(out, carried.output);
+    match carried.outcome {
+        Ok(closing) => match output {
+            Output::Open => Ok(closing),
+            Output::Failed => Err(Fault::Write),
+        },
+        Err(fault) => Err(fault),
+    }
+}
+
+// Whether a wait closed with something that was told.
+fn is_told(closing: Closing) -> bool
+    ensures { result ≡ Spec.is_told closing }
+{
+    matches!(closing, Closing::Done)
+}

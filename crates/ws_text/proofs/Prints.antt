@@ -1,0 +1,110 @@
+use Rattle.std.proofs.Common.{◌≡◌, ℕ, ◌+◌, ◌/◌, ◌%◌, ◌<◌, ◌≤◌, ◌^◌, List, [], ◌∷◌, ◌++◌, length, take, get_or, refl}
+use Rattle.std.proofs.Common.{sym, ap, ◌∙◌, subst, arith, append_assoc, length-append}
+use Rattle.std.specs.Prelude.{slice_index, codes, ◌==◌, true, false}
+use Rattle.std.proofs.lemmas.Bool.{false≢true}
+use Rattle.std.specs.Fmt.{decimal}
+use Rattle.std.proofs.lemmas.Fmt.{decimal_digit, decimal_step}
+use Rattle.std.proofs.lemmas.List.{append-nil, take_more, take-append-le}
+use Rattle.hex.specs.Hex.{encode_with, encode_upper}
+use Rattle.ws_code.specs.Device.{MayTake, WentOut, FailedAfter, FailedWithin}
+use Rattle.ws_code.proofs.DeviceLaws.{went_out_none, went_out_both}
+use Rattle.ws_record.proofs.Writes.{fails_last}
+use Rattle.ws_text.specs.declared.output.Output.{Output}
+use Rattle.ws_text.specs.declared.output.Output.TheVariants.{Open, Failed}
+use Rattle.ws_text.specs.ItemLines.{hex_behind_blank}
+use Rattle.ws_text.proofs.LineEnds.{filled}
+use Rattle.ws_text.specs.Printing.{IsOut, Prints}
+
+-- A text that goes out in parts.
+
+fails_on : {S : Type 0} (takes : MayTake S) (failures : S → ℕ) (from to : S) (text more : List ℕ)
+    → FailedWithin takes failures from to text → FailedWithin takes failures from to (text ++ more)
+fails_on takes failures from to text more f =
+    let n : ℕ = f.count in
+    let inside : n ≤ length text = omega (arith, f.within) in
+    let same : take n (text ++ more) ≡ take n text = take-append-le n text more inside in
+    record {
+      count = n;
+      within = omega (arith, f.within, length-append text more);
+      failed = subst (FailedAfter takes failures from to) (sym same) f.failed;
+    }
+
+pub put_out : {S : Type 0} (takes : MayTake S) (failures : S → ℕ) (old new : S) (bytes : List ℕ)
+    → WentOut takes failures old new bytes → Prints takes failures old new Open Open bytes
+put_out takes failures old new bytes w =
+    record { on = λ from text h. went_out_both takes failures from old new text bytes h w }
+
+pub put_fails : {S : Type 0} (takes : MayTake S) (failures : S → ℕ) (old new : S) (bytes : List ℕ)
+    → FailedWithin takes failures old new bytes → Prints takes failures old new Open Failed bytes
+put_fails takes failures old new bytes f =
+    record { on = λ from text h. fails_last takes failures from old new text bytes h f }
+
+pub put_failed : {S : Type 0} (takes : MayTake S) (failures : S → ℕ) (s : S) (bytes : List ℕ)
+    → Prints takes failures s s Failed Failed bytes
+put_failed takes failures s bytes = record { on = λ from text h. fails_on takes failures from s text bytes h }
+
+pub prints_none : {S : Type 0} (takes : MayTake S) (failures : S → ℕ) (s : S) (o : Output)
+    → Prints takes failures s s o o []
+prints_none takes failures s o = record {
+  on = λ from text h. subst (IsOut takes failures from s o)
+      (sym (append-nil text)) h;
+}
+
+-- two parts
+pub prints_both : {S : Type 0} {takes : MayTake S} {failures : S → ℕ} {old mid new : S} {before between after : Output}
+    {xs ys : List ℕ} → Prints takes failures old mid before between xs → Prints takes failures mid new between after ys
+    → Prints takes failures old new before after (xs ++ ys)
+prints_both {S} {takes} {failures} {old} {mid} {new} {before} {between} {after} {xs} {ys} p q =
+    record {
+      on = λ from text h. subst (IsOut takes failures from new after) (append_assoc text xs ys)
+          (q.on from (text ++ xs) (p.on from text h));
+    }
+
+-- the same text by another name
+pub prints_same : {S : Type 0} {takes : MayTake S} {failures : S → ℕ} {old new : S} {before after : Output}
+    {xs ys : List ℕ} → xs ≡ ys → Prints takes failures old new before after xs
+    → Prints takes failures old new before after ys
+prints_same {S} {takes} {failures} {old} {new} {before} {after} {xs} {ys} e p =
+    subst (Prints takes failures old new before after) e p
+
+-- a text from its start
+pub whole_out : {S : Type 0} {takes : MayTake S} {failures : S → ℕ} {old new : S} {after : Output} {xs : List ℕ}
+    → Prints takes failures old new Open after xs → IsOut takes failures old new after xs
+whole_out {S} {takes} {failures} {old} {new} {after} {xs} p = p.on old [] (went_out_none takes failures old)
+
+pub one_digit : (n : ℕ) → n < 10 → (48 + n) ∷ [] ≡ decimal n
+one_digit n h = sym (decimal_digit n h)
+
+pub more_digits : (n : ℕ) → 10 ≤ n → n < 2 ^ 64 → decimal (n / 10) ++ (48 + n % 10) ∷ [] ≡ decimal n
+more_digits n h k = sym (decimal_step n h k)
+
+pub encode_append : (t xs ys : List ℕ) → encode_with t (xs ++ ys) ≡ encode_with t xs ++ encode_with t ys
+unfolding encode_with
+encode_append t [] ys = refl
+encode_append t (b ∷ xs) ys = ap (λ z. slice_index t (b / 16) ∷ slice_index t (b % 16) ∷ z) (encode_append t xs ys)
+
+encode_one : (t : List ℕ) (b : ℕ) → encode_with t (b ∷ []) ≡ slice_index t (b / 16) ∷ slice_index t (b % 16) ∷ []
+unfolding encode_with
+encode_one t b = refl
+
+pub encode_none : (t : List ℕ) → [] ≡ encode_with t []
+unfolding encode_with
+encode_none t = refl
+
+pub encode_more : (t bytes : List ℕ) (i high low : ℕ) → i < length bytes → high ≡ slice_index t (get_or bytes i 0 / 16)
+    → low ≡ slice_index t (get_or bytes i 0 % 16) → encode_with t (take i bytes) ++ high ∷ low ∷ [] ≡ encode_with t
+    (take (i + 1) bytes)
+encode_more t bytes i high low k h l =
+    let digits : high ∷ low ∷ [] ≡ encode_with t (get_or bytes i 0 ∷ []) = ap (λ z. z ∷ low ∷ []) h
+    ∙ ap (λ z. slice_index t (get_or bytes i 0 / 16) ∷ z ∷ []) l ∙ sym (encode_one t (get_or bytes i 0)) in
+    ap (λ z. encode_with t (take i bytes) ++ z) digits ∙ sym (encode_append t (take i bytes) (get_or bytes i 0 ∷ []))
+    ∙ ap (encode_with t) (sym (take_more bytes i 0 k))
+
+pub hex_of_none : (bytes : List ℕ) → (length bytes == 0) ≡ true → [] ≡ hex_behind_blank bytes
+hex_of_none [] e = refl
+hex_of_none (b ∷ bytes) e = absurd (false≢true (sym (filled (b ∷ bytes) (omega arith)) ∙ e))
+
+pub hex_of_some : (bytes : List ℕ) → (length bytes == 0) ≡ false → codes " " ++ encode_upper bytes
+    ≡ hex_behind_blank bytes
+hex_of_some [] e = absurd (false≢true (sym e))
+hex_of_some (b ∷ bytes) e = refl

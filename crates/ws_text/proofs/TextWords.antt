@@ -1,0 +1,71 @@
+use Rattle.std.proofs.Common.{◌≡◌, ◌≢◌, ◌⊎◌, inl, inr, ℕ, ◌+◌, ◌<◌, List, [], ◌∷◌, ◌++◌, Bool, true, false, ◌==◌}
+use Rattle.std.proofs.Common.{length, map, get_or, drop, Bor, refl, sym, ap, subst, ◌∙◌, arith}
+use Rattle.std.specs.Prelude.{codes}
+use Rattle.std.specs.List.{slice_split}
+use Rattle.ws_stream.specs.declared.element.Element.{Element}
+use Rattle.ws_text.specs.Names.{look_up, kinds}
+use Rattle.std.specs.Prelude.{Option, Some, None}
+use Rattle.ws_text.specs.Words.{words_of}
+use Rattle.ws_text.specs.declared.line.Part.{Part}
+use Rattle.ws_text.specs.declared.line.Part.TheVariants as part
+use Rattle.ws_text.specs.TextLines.{AreTyped, AreElements, IsWorded, Means}
+use Rattle.ws_text.specs.TextLines.AreElements.{one, run}
+use Rattle.ws_text.specs.TextLines.Means.{empty, comment, typed, worded}
+use Rattle.ws_text.proofs.Lists.{differ}
+use Rattle.ws_text.proofs.LineWords.{no_indented, IsTextStripped}
+use Rattle.ws_text.proofs.LineEnds.{is_none}
+use Rattle.std.proofs.lemmas.Bool.{false≢true}
+
+-- Lines of characters.
+
+-- the words of a line of characters
+pub first_words : (text : List ℕ) → words_of (codes "  TEXT " ++ text) ≡ [] ∷ [] ∷ codes "TEXT" ∷ words_of text
+first_words text = refl
+
+pub text_is_no_element : (rest : List (List ℕ)) (es : List Element) → AreElements (codes "TEXT") rest es → ⊥
+text_is_no_element rest es (one e h f) = cc h.1
+text_is_no_element rest es (run hex f g h) = differ (codes "TEXT") (codes "PUT") refl f
+
+pub behind_seven : (a b : List ℕ) → codes "  TEXT " ++ a ≡ codes "  TEXT " ++ b → a ≡ b
+behind_seven a b e = cc
+
+pub no_typed_line : (line text : List ℕ) → line ≡ codes "  TEXT " ++ text → ((es : List Element) → AreTyped text es → ⊥)
+    → (says : Part) → Means line says → ⊥
+no_typed_line line text e bad says (empty f g) = absurd (omega (arith, ap length (sym f ∙ e)))
+no_typed_line line text e bad says (comment other f g) =
+    let first : 35 ≡ 32 = ap (λ z. get_or z 0 0) (sym f ∙ e) in
+    absurd (omega (arith, first))
+no_typed_line line text e bad says (typed other es f h g) =
+    let same : other ≡ text = behind_seven other text (sym f ∙ e) in
+    bad es (subst (λ (z : List ℕ). AreTyped z es) same h)
+no_typed_line line text e bad says (worded h) =
+    no_indented (words_of line) (codes "TEXT") (words_of text) (ap words_of e ∙ first_words text)
+    (text_is_no_element (words_of text)) says h
+
+-- a line that is neither empty nor a comment nor characters
+pub no_worded : (line : List ℕ) → (line ≡ [] → ⊥) → ((text : List ℕ) → line ≡ codes "#" ++ text → ⊥)
+    → ((text : List ℕ) → line ≡ codes "  TEXT " ++ text → ⊥) → (words : List (List ℕ)) → words ≡ words_of line
+    → ((says : Part) → IsWorded words says → ⊥) → (says : Part) → Means line says → ⊥
+no_worded line some plain other words e bad says (empty f g) = some f
+no_worded line some plain other words e bad says (comment text f g) = plain text f
+no_worded line some plain other words e bad says (typed text es f h g) = other text f
+no_worded line some plain other words e bad says (worded h) =
+    bad says (subst (λ (z : List (List ℕ)). IsWorded z says) (sym e) h)
+
+pub is_nil_by : (text : List ℕ) (r : Bool) → r ≡ (length text == 0) → r ≡ true → text ≡ []
+is_nil_by text r e h = is_none text (sym e ∙ h)
+
+pub not_nil_by : (text : List ℕ) (r : Bool) → r ≡ (length text == 0) → r ≡ false → text ≡ [] → ⊥
+not_nil_by text r e h f = false≢true (sym h ∙ e ∙ ap (λ z. length z == 0) f)
+
+pub hash_first : (text : List ℕ) → get_or text 0 0 ≡ 35 → text ≡ codes "#" ++ drop 1 text
+hash_first [] e = absurd (omega (arith, e))
+hash_first (x ∷ text) e = ap (λ z. z ∷ text) e
+
+pub no_hash : (text : List ℕ) → (get_or text 0 0 ≡ 35 → ⊥) → (rest : List ℕ) → text ≡ codes "#" ++ rest → ⊥
+no_hash text h rest e = h (ap (λ z. get_or z 0 0) e)
+
+pub not_stripped : (p text : List ℕ) (r : Option (Bor (List ℕ))) → IsTextStripped p text r → r ≡ None → (rest : List ℕ)
+    → text ≡ p ++ rest → ⊥
+not_stripped p text None h e rest f = h rest f
+not_stripped p text (Some x) h e rest f = cc e

@@ -1,0 +1,10 @@
+use Rattle.std.proofs.Common.{◌≡◌, length, arith}
+use Rattle.ws_text.proofs.Lists.{texts, three_words, no_fill}
+use Rattle.ws_text.proofs.element_words.read_repeat.Goals as goal
+
+pub returns-in_err-to : goal.returns-in_err-to
+returns-in_err-to c =
+    let three : length c.args.words.now ≡ 3 = omega (arith, c.in-len3.len_at_least, c.in-len3.len_below) in
+    rw c.from_residual.ensures
+    (λ fill h. no_fill (texts c.args.words.now) _ _ _ (three_words _ c.args.words.now three) c.in_err-to.ensures
+    fill.0 h.0 h.1)

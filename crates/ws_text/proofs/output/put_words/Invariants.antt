@@ -1,0 +1,9 @@
+use Rattle.std.proofs.Common.{take}
+use Rattle.ws_text.specs.ItemLines.{words_text}
+use Rattle.ws_text.specs.Printing.{Prints}
+use Rattle.ws_text.proofs.output.put_words.Given as goal
+
+-- the words so far
+abbrev pub invariant-loop-word : goal.invariant-loop-word
+invariant-loop-word g l = Prints g.S.Sink.takes g.S.Sink.failures l.fn.sink l.sink l.fn.output l.output
+    (words_text (take l.word-index l.words))

@@ -1,0 +1,9 @@
+-- Why a part of a line gives nothing.
+
+use Rattle.ws_text.specs.declared.fault.LineFault.{LineFault}
+use Rattle.ws_text.specs.declared.fault.LineFault.TheVariants.{Bad, Memory}
+
+-- nothing is what the part should be, want of memory aside
+abbrev pub IsFault : {X : Type 0} → (X → Type 0) → LineFault → Type 0
+IsFault {X} IsRead Bad = (x : X) → IsRead x → ⊥
+IsFault IsRead Memory = Unit {0}

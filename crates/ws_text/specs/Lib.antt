@@ -1,0 +1,11 @@
+pub mod AnswerLines
+pub mod ElementWords
+pub mod Faults
+pub mod ItemLines
+pub mod Items
+pub mod Reading
+pub mod Names
+pub mod Words
+pub mod TextLines
+pub mod Shown
+pub mod Printing

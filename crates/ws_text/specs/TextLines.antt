@@ -1,0 +1,93 @@
+-- Lines of items as text, and what each one says.
+
+use Rattle.std.specs.Prelude.{◌≡◌, ◌≢◌, ◌⊎◌, ℕ, ◌≤◌, ◌<◌, ◌^◌, List, [], ◌∷◌, ◌++◌, map, length, codes, Some}
+use Rattle.std.specs.List.{AllByRecursion}
+use Rattle.std.specs.Str.{IsUtf8, chars}
+use Rattle.std.specs.Str.Parse.{IsNumeral, digits_value}
+use Rattle.ws_code.specs.DataByte.{IsData}
+use Rattle.ws_code.specs.Ebcdic.{byte_of}
+use Rattle.ws_telnet.specs.declared.token.Telnet.{Telnet}
+use Rattle.ws_telnet.specs.declared.token.Telnet.TheVariants.{Command, Option as Negotiate, Sub}
+use Rattle.ws_record.specs.Grammar.{opcode_byte}
+use Rattle.ws_record.specs.declared.opcode.Opcode.{Opcode}
+use Rattle.ws_stream.specs.declared.element.Element.{Element}
+use Rattle.ws_stream.specs.declared.element.Element.TheVariants.{Put}
+use Rattle.ws_text.specs.declared.line.Part.{Part}
+use Rattle.ws_text.specs.declared.line.Part.TheVariants as part
+use Rattle.ws_text.specs.Names.{look_up, commands, verbs}
+use Rattle.ws_text.specs.Words.{words_of, IsHex, IsHexPair, IsSmall}
+use Rattle.ws_text.specs.ElementWords.{AreBytes, IsOneElement}
+
+-- a place in a stream, which is counted in 64 bits
+abbrev pub IsPlace : List ℕ → Type 0
+IsPlace word = IsNumeral 10 word × (digits_value 10 word < 2 ^ 64)
+
+-- a Telnet command: its name, and the words behind that
+abbrev pub IsTelnetText : List ℕ → List (List ℕ) → Telnet → Type 0
+IsTelnetText name words (Command code) = (words ≡ []) × (look_up name commands ≡ Some code)
+IsTelnetText name words (Negotiate verb option) = (number : List ℕ) × (words ≡ number ∷ [])
+    × (look_up name verbs ≡ Some verb) × IsSmall number option
+IsTelnetText name words (Sub sub) = (number : List ℕ) × (more : List (List ℕ)) × (words ≡ number ∷ more)
+    × (name ≡ codes "SB") × IsSmall number sub.option × AreBytes more sub.data_ × (length sub.data_ ≤ 64)
+
+-- the opcode of a record
+abbrev pub IsOpcodeText : List ℕ → List ℕ → Opcode → Type 0
+IsOpcodeText name number opcode = (name ≡ codes "opcode") × IsSmall number (opcode_byte opcode)
+
+-- a record's flags, 0 where they aren't named, and its opcode
+pub data IsHeadText (words : List (List ℕ)) (flags : ℕ) (opcode : Opcode) : Type 0 where
+  short : (name number : List ℕ) → words ≡ name ∷ number ∷ [] → flags ≡ 0 → IsOpcodeText name number opcode
+      → IsHeadText words flags opcode
+  long : (hex name number : List ℕ) → words ≡ codes "flags" ∷ hex ∷ name ∷ number ∷ [] → IsHexPair hex flags
+      → IsOpcodeText name number opcode → IsHeadText words flags opcode
+
+-- a line that begins an item
+abbrev pub IsItemLine : List (List ℕ) → Part → Type 0
+IsItemLine words (part.Head flags opcode) = (rest : List (List ℕ)) × (words ≡ codes "record" ∷ rest)
+    × IsHeadText rest flags opcode
+IsItemLine words (part.Command telnet) = (name : List ℕ) × (rest : List (List ℕ))
+    × (words ≡ codes "telnet" ∷ name ∷ rest) × IsTelnetText name rest telnet
+IsItemLine words other = ⊥
+
+-- bytes for cells
+abbrev pub ArePuts : List ℕ → List Element → Type 0
+ArePuts bytes elements = AllByRecursion IsData bytes × (elements ≡ map (λ b. Put b) bytes)
+
+-- a run of bytes for cells
+abbrev pub IsRun : List ℕ → List Element → Type 0
+IsRun hex elements = (bytes : List ℕ) × IsHex hex bytes × ArePuts bytes elements
+
+-- the elements of a name and the words behind it: one, or a run of bytes for cells
+pub data AreElements (name : List ℕ) (words : List (List ℕ)) (elements : List Element) : Type 0 where
+  one : (e : Element) → IsOneElement name words e → elements ≡ e ∷ [] → AreElements name words elements
+  run : (hex : List ℕ) → name ≡ codes "PUT" → words ≡ hex ∷ [] → IsRun hex elements → AreElements name words elements
+
+-- characters, each of which has a byte in code page 037
+pub record AreTyped (text : List ℕ) (elements : List Element) : Type 0 where
+  pub bytes : List ℕ
+  pub typed : map byte_of (chars text) ≡ map (λ b. Some b) bytes
+  pub puts : ArePuts bytes elements
+
+-- the words behind `at` and a place, where a line begins with them, or all of them
+abbrev pub AreBehindPlace : List (List ℕ) → List (List ℕ) → Type 0
+AreBehindPlace words behind = ((place : List ℕ) × (words ≡ codes "at" ∷ place ∷ behind) × IsPlace place)
+    ⊎ ((behind ≡ words) × ((place : List ℕ) (rest : List (List ℕ)) → words ≡ codes "at" ∷ place ∷ rest
+    → ¬ IsPlace place))
+
+-- what the words of a line say: an item, or elements behind two blanks
+pub data IsWorded (words : List (List ℕ)) (says : Part) : Type 0 where
+  item : (behind : List (List ℕ)) → AreBehindPlace words behind → IsItemLine behind says → IsWorded words says
+  indented : (name : List ℕ) (rest : List (List ℕ)) (are : List Element) → words ≡ [] ∷ [] ∷ name ∷ rest
+      → AreElements name rest are → says ≡ part.Elements are → IsWorded words says
+
+-- what a line says
+pub data Means (line : List ℕ) (says : Part) : Type 0 where
+  empty : line ≡ [] → says ≡ part.Nothing → Means line says
+  comment : (text : List ℕ) → line ≡ codes "#" ++ text → says ≡ part.Nothing → Means line says
+  typed : (text : List ℕ) (are : List Element) → line ≡ codes "  TEXT " ++ text → AreTyped text are
+      → says ≡ part.Elements are → Means line says
+  worded : IsWorded (words_of line) says → Means line says
+
+-- a line, which is UTF-8, and what it says
+abbrev pub IsLine : List ℕ → Part → Type 0
+IsLine line says = IsUtf8 line × Means line says

@@ -1,0 +1,37 @@
+//! Items as text, both ways: the lines that `show` prints of a stream, and the items that such lines spell.
+#![tactic(auto)]
+
+mod answer_text;
+#[cfg(test)]
+mod command_rows;
+mod element_text;
+mod element_words;
+#[cfg(test)]
+mod encoding_rows;
+mod fault;
+mod field_words;
+mod head_words;
+#[cfg(test)]
+mod hostile_rows;
+mod item_text;
+mod items;
+mod kind;
+mod line;
+mod lines;
+mod number;
+mod output;
+mod puts;
+mod reading;
+mod telnet_words;
+#[cfg(test)]
+mod tests;
+#[cfg(test)]
+mod vectors;
+mod words;
+
+pub use answer_text::put_answer_item;
+pub use item_text::put_item;
+pub use items::{TextFault, read_items};
+pub use lines::first_line;
+pub use number::read_number;
+pub use output::{Output, put, put_cell, put_hex, put_hex_behind_blank, put_number, put_text};

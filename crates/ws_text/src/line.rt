@@ -1,0 +1,171 @@
+ghost use Rattle.std.specs.Prelude.{◌≡◌, ◌∷◌, [], ℕ, List as Seq, map, true, IfOk, IfErr, MatchOption};
+ghost use Rattle.ws_text.specs.declared.line.Part.{Part as APart};
+ghost use Rattle.ws_text.specs.Faults.{IsFault};
+ghost use Rattle.ws_text.specs.TextLines as Spec;
+
+use crate::element_words::read_element;
+use crate::fault::LineFault;
+use crate::head_words::read_head;
+use crate::puts::{puts_of, typed};
+use crate::telnet_words::read_telnet;
+use crate::words::{read_hex, words_of};
+use std::alloc::Global;
+use std::str;
+use ws_code::List;
+use ws_record::Opcode;
+use ws_stream::Element;
+use ws_telnet::Telnet;
+
+/// What a line says.
+#[derive(Debug, Drop)]
+pub enum Part {
+    /// An empty line, or a comment.
+    Nothing,
+    /// A record begins.
+    Head { flags: u16, opcode: Opcode },
+    /// A Telnet command.
+    Command(Telnet),
+    /// Elements of the record before them.
+    Elements(List<Element>),
+}
+
+/// What a line says.
+pub fn read_line(alloc: Global, line: &[u8]) -> Result<Part, LineFault>
+    ensures ok { IfOk result (Spec.IsLine line.now) }
+    ensures fault { IfErr result (IsFault (Spec.IsLine line.now)) }
+{
+    let Ok(text) = str::from_utf8(line) else {
+        return Err(LineFault::Bad);
+    };
+    read_text(alloc, text)
+}
+
+// What a line of characters says.
+fn read_text(alloc: Global, text: &str) -> Result<Part, LineFault>
+    ensures ok { IfOk result (Spec.Means text.now) }
+    ensures fault { IfErr result (IsFault (Spec.Means text.now)) }
+{
+    if text.is_empty() || text.starts_with('#') {
+        return Ok(Part::Nothing);
+    }
+    match text.strip_prefix("  TEXT ") {
+        Some(behind) => match typed(alloc, behind) {
+            Ok(elements) => Ok(Part::Elements(List::of(elements))),
+            Err(fault) => Err(fault),
+        },
+        None => match words_of(alloc, text) {
+            Ok(words) => read_words(alloc, words.as_slice()),
+            Err(_) => Err(LineFault::Memory),
+        },
+    }
+}
+
+// What the words of a line say.
+fn read_words(alloc: Global, words: &[&str]) -> Result<Part, LineFault>
+    ensures ok { IfOk result (Spec.IsWorded (map (λ w. w.now) words.now)) }
+    ensures fault { IfErr result (IsFault (Spec.IsWorded (map (λ w. w.now) words.now))) }
+{
+    match indented(words) {
+        Some((name, rest)) => match read_elements(alloc, name, rest) {
+            Ok(elements) => Ok(Part::Elements(List::of(elements))),
+            Err(fault) => Err(fault),
+        },
+        None => match read_item(behind_place(words)) {
+            Some(part) => Ok(part),
+            None => Err(LineFault::Bad),
+        },
+    }
+}
+
+// The name behind two blanks, and the words behind it.
+fn indented<'a>(words: &'a [&'a str]) -> Option<(&'a str, &'a [&'a str])>
+    ensures { MatchOption result
+        ((name : Seq ℕ) (rest : Seq (Seq ℕ))
+        → map (λ w. w.now) words.now ≡ [] ∷ [] ∷ name ∷ rest → ⊥)
+        (λ p. map (λ w. w.now) words.now ≡ [] ∷ [] ∷ p.0.now ∷ map (λ w. w.now) p.1.now) }
+{
+    match words {
+        [first, second, name, rest @ ..] if first.is_empty() && second.is_empty() => {
+            Some((name, rest))
+        }
+        _ => None,
+    }
+}
+
+// The words behind `at` and a place, where a line begins with them; all words otherwise.
+fn behind_place<'a>(words: &'a [&'a str]) -> &'a [&'a str]
+    ensures { Spec.AreBehindPlace (map (λ w. w.now) words.now) (map (λ w. w.now) result.now) }
+{
+    match words {
+        [at, place, rest @ ..] if *at == "at" && is_place(place) => rest,
+        _ => words,
+    }
+}
+
+// Whether the word is a place in a stream.
+fn is_place(word: &str) -> bool
+    ensures yes { result ≡ true → Spec.IsPlace word.now }
+    ensures no { Spec.IsPlace word.now → result ≡ true }
+{
+    !word.starts_with('+') && word.parse::<u64>().is_ok()
+}
+
+// The elements of a name and the words behind it.
+fn read_elements(alloc: Global, name: &str, words: &[&str]) -> Result<Vec<Element>, LineFault>
+    ensures ok { IfOk result (λ elements.
+        Spec.AreElements name.now (map (λ w. w.now) words.now) elements.items) }
+    ensures fault { IfErr result
+        (IsFault (Spec.AreElements name.now (map (λ w. w.now) words.now))) }
+{
+    if name == "PUT" {
+        if words.len() != 1 {
+            return Err(LineFault::Bad);
+        }
+        return read_run(alloc, words[0]);
+    }
+    match read_element(name, words) {
+        Some(element) => alone(alloc, element),
+        None => Err(LineFault::Bad),
+    }
+}
+
+// A run of bytes for cells, in hex.
+fn read_run(alloc: Global, hex: &str) -> Result<Vec<Element>, LineFault>
+    ensures ok { IfOk result (λ elements. Spec.IsRun hex.now elements.items) }
+    ensures fault { IfErr result (IsFault (Spec.IsRun hex.now)) }
+{
+    match read_hex(alloc, hex) {
+        Ok(bytes) => puts_of(alloc, bytes.as_slice()),
+        Err(fault) => Err(fault),
+    }
+}
+
+// The list of one element.
+fn alone(alloc: Global, element: Element) -> Result<Vec<Element>, LineFault>
+    ensures ok { IfOk result (λ elements. elements.items ≡ element ∷ []) }
+    ensures fault { IfErr result (λ fault. fault ≡ LineFault.Memory) }
+{
+    let mut elements = Vec::new(alloc);
+    match elements.push(element) {
+        Ok(()) => Ok(elements),
+        Err(_) => Err(LineFault::Memory),
+    }
+}
+
+// An item that a line begins.
+fn read_item(words: &[&str]) -> Option<Part>
+    ensures { MatchOption result
+        ((says : APart) → Spec.IsItemLine (map (λ w. w.now) words.now) says → ⊥)
+        (Spec.IsItemLine (map (λ w. w.now) words.now)) }
+{
+    match words {
+        [first, rest @ ..] if *first == "record" => {
+            let (flags, opcode) = read_head(rest)?;
+            Some(Part::Head { flags, opcode })
+        }
+        [first, name, rest @ ..] if *first == "telnet" => {
+            Some(Part::Command(read_telnet(name, rest)?))
+        }
+        _ => None,
+    }
+}
