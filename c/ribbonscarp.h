@@ -79,7 +79,7 @@
  * that it reads and the record that it keeps.
  *
  * Stack, in bytes, as measured on x86-64 (`make bench`): ribbon_station_new 11,900, _push 16,600, _key 29,600, _cells
- * 18,600, _changed 24,000, _state and _field 3,200; ribbon_host_new 12,500, _push 6,300, _send 141,100;
+ * 18,600, _changed 24,000, _state and _field 3,200; ribbon_host_new 12,500, _push 6,500, _send 141,100;
  * ribbon_decoder_new 3,800; all others less than 1,500. */
 #ifndef RIBBONSCARP_H
 #define RIBBONSCARP_H

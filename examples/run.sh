@@ -25,6 +25,14 @@ compare() {
     count $? "differs: $*"
 }
 
+# compare_made NAME: what `make` prints of NAME.show is NAME.hex, but for blanks, line ends and the digits' case.
+compare_made() {
+    local made wanted
+    made=$("$program" make "$1.show") && wanted=$(tr -d ' \t\r\n' <"$1.hex" | tr a-f A-F) \
+        && [ "$(tr -d '\n' <<<"$made")" = "$wanted" ]
+    count $? "differs: make $1.show"
+}
+
 tested=$(<../crates/t5250/src/example_rows.rt)
 
 same_as_tested() {
@@ -45,6 +53,7 @@ for script in *.script; do
     compare "$name.check" check "$name.hex"
     compare "$name.check" check --cut 1 "$name.hex"
     compare "$name.show" show "$name.hex"
+    compare_made "$name"
 done
 
 for hex in *-answers.hex; do

@@ -38,6 +38,13 @@ part() {
 }
 
 [ "${1:-}" != --prove ] || part "rt ci" 160 rt ci
+# The C library comes first: a live session of the program is compared with one of C programs over it.
+if command -v cc >/dev/null && command -v make >/dev/null; then
+    part "C library" 60 tests/build_c_library.sh
+    part "C interface" 30 make -C c check
+else
+    echo "left out: the C interface, since cc or make isn't there" | tee -a "$folder/left_out"
+fi
 part examples 10 examples/run.sh
 for script in tests/run_*.py; do
     part "${script##*/}" 20 python3 "$script"
@@ -45,12 +52,6 @@ done
 part definitions 5 python3 docs/definitions.py
 part paths 5 python3 docs/paths.py
 part callers 20 python3 docs/calling.py --try
-if command -v cc >/dev/null && command -v make >/dev/null; then
-    part "C library" 60 tests/build_c_library.sh
-    part "C interface" 30 make -C c check
-else
-    echo "left out: the C interface, since cc or make isn't there" | tee -a "$folder/left_out"
-fi
 
 echo "== all"
 cat "$folder/left_out"

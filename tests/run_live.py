@@ -9,6 +9,8 @@ many passed and how many failed, and the status is 1 where one failed.
 """
 import os
 import queue
+import re
+import shutil
 import socket
 import struct
 import subprocess
@@ -411,6 +413,23 @@ def lines_at_a_host():
 
 
 @test
+def a_screen_in_color():
+    # A white part, and behind it a part whose attribute is that of the green before the first. The text is awaited as
+    # it stands without sequences.
+    script = "await text HI  A\nshow\nfields\n"
+    shown = "screen\n 1 %s\ncursor 1 1, unlocked, message off, blink off, fields 0\n"
+
+    def play(side):
+        negotiate_as_host(side)
+        side.send(record(3, hexed("04400411000811010122C8C92040C1")))
+        if not side.closed():
+            raise Failure("the station goes on")
+    colored = "\x1b[0;32m \x1b[0;37;1mHI\x1b[0;32m  A\x1b[0m"
+    at_host(play, ["--wait", "5", "--color"], script, 0, shown % colored)
+    at_host(play, ["--wait", "5"], script, 0, shown % " HI  A")
+
+
+@test
 def a_host_that_sends_single_bytes():
     at_host(lambda side: inquiry_as_host(side, 1), ["--wait", "20"], INQUIRY_SCRIPT, 1, INQUIRY_PRINTED)
 
@@ -604,6 +623,7 @@ def wrong_command_lines():
         ["serve", "::1"],
         ["serve", "127.0.0.1:99999"],
         ["serve", "--terminal", "IBM-3179-2", "127.0.0.1:0"],
+        ["serve", "--color", "127.0.0.1:0"],
     ]
     for words in rows:
         run = Run(words, "")
@@ -798,6 +818,77 @@ def a_reset_is_a_fault():
     side.stream.setsockopt(socket.SOL_SOCKET, socket.SO_LINGER, struct.pack("ii", 1, 0))
     side.close()
     serve.end(2, "", "cannot read\n")
+
+
+# The two beside the programs in C.
+
+C = os.path.join(HERE, "..", "c")
+LIBRARY = os.path.join(C, "build", "libribbonscarp.a")
+
+
+def c_program(name, folder):
+    """A program of c/examples, built over the C library."""
+    program = os.path.join(folder, name)
+    source = os.path.join(C, "examples", name + ".c")
+    subprocess.run(["cc", "-std=c11", "-O1", "-I", C, "-o", program, source, LIBRARY], check=True)
+    return program
+
+
+def c_bytes(name, array):
+    """The bytes of an array in a program of c/examples."""
+    with open(os.path.join(C, "examples", name + ".c")) as file:
+        text = re.sub(r"/\*.*?\*/", "", file.read(), flags=re.DOTALL)
+    found = re.search(r"\b%s\[\] = \{(.*?)\}" % array, text, flags=re.DOTALL)
+    return bytes(int(byte, 16) for byte in re.findall(r"0x([0-9a-f]{2})", found.group(1)))
+
+
+def beside_c(function):
+    """A test that is left out where a program in C can't be built."""
+    def looked_for():
+        if shutil.which("cc") is None or not os.path.exists(LIBRARY):
+            print("left out: %s, since cc or c/build/libribbonscarp.a isn't there" % function.__name__)
+        else:
+            function()
+    looked_for.__name__ = function.__name__
+    return test(looked_for)
+
+
+@beside_c
+def a_station_in_c_writes_the_same():
+    """`connect` and c/examples/signon.c get the same bytes and keys."""
+    with tempfile.TemporaryDirectory() as folder:
+        told = subprocess.run([c_program("signon", folder)], stdout=subprocess.PIPE, check=True).stdout.decode()
+    lines = [line.split() for line in told.splitlines()]
+    replies, answers = (hexed("".join(line[1] for line in lines if line[0] == kind)) for kind in ("reply", "answer"))
+
+    def play(side):
+        side.send(c_bytes("signon", "opening"))
+        side.take(replies)
+        side.send(c_bytes("signon", "record"))
+        side.take(answers)
+        if not side.closed():
+            raise Failure("the station goes on")
+
+    script = "await text Sign On\nawait\ntype QUSER\nkey FieldExit\ntype SECRET\nkey Enter\ntype A\n"
+    at_host(play, ["--wait", "10", "--terminal", "IBM-3179-2"], script, 1, "key refused Locked\n")
+
+
+@beside_c
+def an_emulator_in_c_shows_the_same():
+    """What `serve` writes makes the screen in c/examples/emulator.c that `connect` shows."""
+    serve = Run(["serve", "--wait", "10", "127.0.0.1:0"], "await\nsend 3 %s\n" % SIGN_ON)
+    side = station_at(serve)
+    negotiate_as_station(side)
+    wanted = record(3, hexed(SIGN_ON))
+    side.take(wanted)
+    side.close()
+    serve.end(0, "host ready IBM-3179-2\n")
+    with tempfile.TemporaryDirectory() as folder:
+        capture = os.path.join(folder, "capture.hex")
+        with open(capture, "w") as file:
+            file.write(wanted.hex())
+        shown = subprocess.run([c_program("emulator", folder), capture], stdout=subprocess.PIPE, check=True).stdout
+    expect(shown.decode(), SIGN_ON_SCREEN, "the screen in C")
 
 
 def main():

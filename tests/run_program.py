@@ -57,6 +57,30 @@ BOB_SCREEN = """screen
  6                                                     BOB
 cursor 6 56, locked, message off, blink off, fields 1
 """
+# A first part in white, a hidden one, and one in green.
+COLORS = "00 1A 12 A0 00 00 04 00 00 02 04 40 04 11 00 08 11 01 01 22 C8 C9 27 E7 20 C1 FF EF\n"
+COLORS_LINES = """at 27 record flags 0000 opcode 2
+  CLEAR-UNIT
+  WRITE 00 08
+  SBA 1 1
+  PUT 22C8C927E720C1
+screen
+ 1 %s
+cursor 1 1, unlocked, message off, blink off, fields 0
+"""
+COLORS_PLAIN = COLORS_LINES % " HI   A"
+COLORS_COLORED = COLORS_LINES % "\x1b[0;32m \x1b[0;37;1mHI\x1b[0;32m \x1b[0;32m \x1b[0;32m A\x1b[0m"
+BOB_COLORED = """screen
+ 6 \x1b[0;32m                                                    BOB\x1b[0m
+cursor 6 56, locked, message off, blink off, fields 1
+"""
+HELLO_TEXT = """record opcode 2
+  CLEAR-UNIT
+  WRITE 00 08
+  SBA 1 2
+  TEXT HI
+"""
+HELLO_MADE = HELLO.replace(" ", "")
 EMPTY_SCREEN = "screen\ncursor 1 1, locked, message off, blink off, fields 0\n"
 
 # The words, the standard input, and what is wanted: the exit status, standard output, and a line on standard
@@ -74,6 +98,10 @@ RUNS = [
     (["show"], SHORT, 1, SHORT_LINE, ""),
     (["show"], "", 0, EMPTY_SCREEN, ""),
     (["show"], "0g", 2, "", "not hex\n"),
+    (["make"], HELLO_LINES, 0, HELLO_MADE, ""),
+    (["make"], HELLO_TEXT, 0, HELLO_MADE, ""),
+    (["make"], "", 0, "", ""),
+    (["make"], HELLO_TEXT + "nonsense\n", 2, "", "script line 6\n"),
     (["play"], BOB, 0, BOB_LINES, ""),
     (["play"], "", 0, "", ""),
     (["play"], "settle\nsettl\n", 2, "", "script line 2\n"),
@@ -85,6 +113,8 @@ RUNS = [
     (["check", "no such file"], INVITE, 2, "", "cannot read\n"),
     (["check", "."], INVITE, 2, "", "cannot read\n"),
     (["show", "no such file"], INVITE, 2, "", "cannot read\n"),
+    (["make", "@" + HELLO_TEXT], "nonsense", 0, HELLO_MADE, ""),
+    (["make", "no such file"], HELLO_TEXT, 2, "", "cannot read\n"),
     (["play", "@" + BOB], "settl\n", 0, BOB_LINES, ""),
     (["play", "no such file"], BOB, 2, "", "cannot read\n"),
     # each word of the command line
@@ -98,7 +128,16 @@ RUNS = [
     (["show", "--answers"], ANSWER, 0, ANSWER_LINES, ""),
     (["show", "--answers"], HELLO, 1, "refused at 12: reason 43 BadAid\n", ""),
     (["show", "--answers"], "", 0, "", ""),
+    (["show"], COLORS, 0, COLORS_PLAIN, ""),
+    (["show", "--color"], COLORS, 0, COLORS_COLORED, ""),
+    (["show", "--color", "@" + COLORS], "", 0, COLORS_COLORED, ""),
+    (["show", "--color"], "", 0, EMPTY_SCREEN, ""),
+    (["show", "--color"], QUERY, 1, QUERY_LINE, ""),
+    (["show", "--answers", "--color"], ANSWER, 0, ANSWER_LINES, ""),
     (["play", "--screen"], BOB, 0, BOB_LINES + BOB_SCREEN, ""),
+    (["play", "--screen", "--color"], BOB, 0, BOB_LINES + BOB_COLORED, ""),
+    (["play", "--color"], BOB, 0, BOB_LINES, ""),
+    (["play", "--tcp", "--screen", "--color"], BOB, 0, BOB_LINES + BOB_COLORED, ""),
     (["play", "--screen"], "", 0, EMPTY_SCREEN, ""),
     (["play", "--tcp"], BOB, 0, BOB_LINES, ""),
     (["play", "--tcp", "--screen", "@" + BOB], "", 0, BOB_LINES + BOB_SCREEN, ""),
@@ -106,6 +145,7 @@ RUNS = [
     (["--help"], "", 0, None, ""),
     (["check", "--help"], "", 0, None, ""),
     (["show", "--help"], "", 0, None, ""),
+    (["make", "--help"], "", 0, None, ""),
     (["play", "--help"], "", 0, None, ""),
     (["help"], "", 0, None, ""),
     (["--version"], "", 0, "t5250 0.1.0\n", ""),
@@ -116,10 +156,14 @@ RUNS = [
     (["check", "--cut", "65536"], INVITE, 2, "", None),
     (["check", "--cut"], INVITE, 2, "", None),
     (["check", "--other"], INVITE, 2, "", None),
+    (["check", "--color"], INVITE, 2, "", None),
+    (["make", "--color"], HELLO_TEXT, 2, "", None),
     (["check", "a", "b"], INVITE, 2, "", None),
     (["play", "--cut", "1"], BOB, 2, "", None),
     (["play", "--answers"], BOB, 2, "", None),
     (["play", "a", "b"], BOB, 2, "", None),
+    (["make", "a", "b"], HELLO_TEXT, 2, "", None),
+    (["make", "--answers"], HELLO_TEXT, 2, "", None),
 ]
 
 
@@ -170,15 +214,16 @@ def plain_runs(runs, folder):
 
 def full_runs(runs):
     """Standard output takes nothing."""
-    for words in ["check"], ["show"], ["play"], ["play", "--tcp"], ["--help"]:
+    texts = {"play": BOB, "make": HELLO_TEXT}
+    for words in ["check"], ["show"], ["make"], ["play"], ["play", "--tcp"], ["--help"]:
         with open("/dev/full", "w") as full:
-            done = run(words, BOB if words[0] == "play" else INVITE, stdout=full)
+            done = run(words, texts.get(words[0], INVITE), stdout=full)
         runs.expect(f"{words} into a full device", done, 2, "", "cannot write\n")
 
 
 def folder_runs(runs, folder):
     """Standard input can't be read: it is a folder."""
-    for words in ["check"], ["show"], ["play"]:
+    for words in ["check"], ["show"], ["make"], ["play"]:
         descriptor = os.open(folder, os.O_RDONLY)
         done = run(words, stdin=descriptor)
         os.close(descriptor)
@@ -236,7 +281,7 @@ def write_runs(runs, folder):
         return
     session = "settle\n" + (BOB.partition("\n")[2] * 500)
     shown = (["show"], HELLO * 1000), (["show", "--answers"], ANSWER * 1000)
-    for words, text in (*shown, (["play"], session), (["play", "--screen"], session), (["check"], MANY)):
+    for words, text in (*shown, (["make"], HELLO_TEXT * 1000), (["play"], session), (["play", "--screen"], session), (["check"], MANY)):
         count, length = writes_of(words, text, path)
         runs.count(f"{words}: {count} writes of {length} bytes", 0 < count <= length // 4096 + 1)
 

@@ -25,6 +25,7 @@ WITHIN_MEMORY = [
     "memory_rows::host_end_within_memory",
     "memory_rows::world_within_memory",
     "memory_rows::program_within_memory",
+    "make_rows::made_within_memory",
     "tcp_rows::tcp_without_memory",
 ]
 # Tests of calls that take none: each holds with every allocation refused from any one on.
@@ -50,6 +51,7 @@ RUNS = [
     (["show"], BOB),
     (["show", "@" + BOB], ""),
     (["show"], QUERY),
+    (["make"], "telnet NOP\n"),
     (["play"], PLAY),
     (["play", "@" + PLAY], ""),
     (["play", "--screen"], PLAY),
