@@ -37,7 +37,8 @@ typedef struct {
     char note[200]; /* what the status line tells of the last key, and what is printed at the end */
 } terminal;
 
-/* Signals only say that they came; poll ends, and the loop does the rest. */
+/* Signals only say that they came; a wait ends, and the loop does the rest. */
+static const int caught[] = {SIGINT, SIGTERM, SIGHUP, SIGQUIT, SIGWINCH};
 static volatile sig_atomic_t ending, resized;
 
 static void on_signal(int number)
@@ -46,6 +47,28 @@ static void on_signal(int number)
         resized = 1;
     else
         ending = number;
+}
+
+static void catch_signals(void)
+{
+    struct sigaction action = {.sa_handler = on_signal};
+    sigemptyset(&action.sa_mask);
+    for (size_t at = 0; at < sizeof caught / sizeof caught[0]; at++)
+        sigaction(caught[at], &action, NULL);
+}
+
+/* Waits for a line or a signal. Signals are let in only by ppoll, so that none falls between the look at `ending` and
+ * the wait, which it would then not end. A window's new size ends the wait only where the caller draws it. */
+static int wait_for(struct pollfd *lines, nfds_t count, bool draws)
+{
+    sigset_t held, before;
+    sigemptyset(&held);
+    for (size_t at = 0; at < sizeof caught / sizeof caught[0]; at++)
+        sigaddset(&held, caught[at]);
+    sigprocmask(SIG_BLOCK, &held, &before);
+    int ready = ending || (draws && resized) ? -1 : ppoll(lines, count, NULL, &before);
+    sigprocmask(SIG_SETMASK, &before, NULL);
+    return ready;
 }
 
 static void tell(terminal *t, const char *format, ...)
@@ -66,16 +89,17 @@ static void end(terminal *t, int status)
 
 static void send_all(terminal *t, const uint8_t *bytes, size_t count)
 {
-    while (count > 0 && !t->is_over) {
-        ssize_t sent = send(t->line, bytes, count, MSG_NOSIGNAL);
+    struct pollfd wait = {.fd = t->line, .events = POLLOUT};
+    while (count > 0 && !t->is_over && !ending) {
+        ssize_t sent = send(t->line, bytes, count, MSG_NOSIGNAL | MSG_DONTWAIT);
         if (sent > 0) {
             bytes += sent;
             count -= (size_t)sent;
+        } else if (errno == EAGAIN || errno == EWOULDBLOCK) {
+            wait_for(&wait, 1, false);
         } else if (errno != EINTR) {
             tell(t, "The line is lost: %s.", strerror(errno));
             end(t, 1);
-        } else if (ending) {
-            return;
         }
     }
 }
@@ -475,7 +499,7 @@ static void menu(terminal *t)
     draw_menu(t);
     int kind;
     while ((kind = get_wch(&code)) == ERR && !ending)
-        if (poll(&wait, 1, -1) > 0 && (wait.revents & POLLIN) == 0)
+        if (wait_for(&wait, 1, false) > 0 && (wait.revents & POLLIN) == 0)
             return;
     t->note[0] = 0;
     if (kind == OK && code == 'q') {
@@ -529,7 +553,7 @@ static void run(terminal *t)
     while (!t->is_over && !ending) {
         draw(t, all);
         all = false;
-        int ready = poll(waits, 2, -1);
+        int ready = wait_for(waits, 2, true);
         if (resized) {
             resize_window();
             all = true;
@@ -552,15 +576,6 @@ static void run(terminal *t)
         tell(t, "Ended by signal %d.", (int)ending);
         end(t, 128 + (int)ending);
     }
-}
-
-static void catch_signals(void)
-{
-    struct sigaction action = {.sa_handler = on_signal};
-    sigemptyset(&action.sa_mask);
-    static const int numbers[] = {SIGINT, SIGTERM, SIGHUP, SIGQUIT, SIGWINCH};
-    for (size_t at = 0; at < sizeof numbers / sizeof numbers[0]; at++)
-        sigaction(numbers[at], &action, NULL);
 }
 
 static int usage(void)
