@@ -11,9 +11,13 @@ names its options. It builds the plain decoder by `rustc -O` into a temporary fo
   and the columns `hex` have it; the columns `less hex` have the ratio of what is left on both sides,
 - prints what a byte of small records costs from 1 KB to 100 MB, less what a run on the empty stream costs,
 - with `--keep` prints instead what `decode_all`, which keeps all items to its end, costs on the four streams beside
-  the plain decoder that keeps all of its own. For that it makes a crate of keep_all.rattle in a temporary folder, over
-  copies of the four crates that it needs, with the work that checks kept in them (two gigabytes), and builds it by
-  `rt`, which proves first what that work lacks.
+  the plain decoder that keeps all of its own,
+- with `--feed` prints instead what `Receiver::feed` costs beside the plain decoder, each over the whole stream, and
+  `Station::feed`, in pieces of 4,096 bytes and with the screen, beside `Receiver::feed`.
+
+For the last two it makes a crate of keep_all.rattle or feed.rattle in a temporary folder, over copies of the crates
+that it needs, with the work that checks kept in them (some gigabytes), and builds it by `rt`, which proves first what
+that work lacks.
 """
 import argparse
 import os
@@ -288,12 +292,12 @@ def print_costs(width, precision, costs, of_hex):
 class Stream:
     """A stream of so many bytes and a small one, and the same two where little more than their text is read."""
 
-    def __init__(self, folder, parts, size):
+    def __init__(self, folder, parts, size, begin=""):
         names = ["stream", "hex", "small", "small_hex"]
         self.whole, self.hex, self.small, self.small_hex = (os.path.join(folder, f"{name}.hex") for name in names)
-        write_stream(self.whole, parts, size)
+        write_stream(self.whole, parts, size, begin)
         write_stream(self.hex, parts, size, REFUSED)
-        self.small_size = write_stream(self.small, parts, 1_000_000)
+        self.small_size = write_stream(self.small, parts, 1_000_000, begin)
         write_stream(self.small_hex, parts, 1_000_000, REFUSED)
 
     def print_costs(self, programs, words, runs, counts):
@@ -356,22 +360,25 @@ def cost_by_size(programs, folder, largest, runs, counts):
             print(f"{cut}: {verdict} from 1 MB on; the dearest size costs {spread:.2f} of the cheapest")
 
 
-def build_keeper(folder):
-    """Builds keep_all.rattle over the repository's crates: the program."""
-    below = ["ws_code", "ws_telnet", "ws_record", "ws_stream"]
-    crate = os.path.join(folder, "crates", "keep_all")
+DECODER = ["ws_code", "ws_telnet", "ws_record", "ws_stream"]
+STATION = [*DECODER, "ws_nego", "ws_screen", "ws_keys", "ws_session"]
+
+
+def build(folder, name, below):
+    """Builds a program of this folder over crates of the repository: where it is."""
+    crate = os.path.join(folder, "crates", name)
     os.makedirs(os.path.join(crate, "src"))
-    shutil.copy(os.path.join(HERE, "keep_all.rattle"), os.path.join(crate, "src", "main.rt"))
-    for name in below:
-        shutil.copytree(os.path.join(CRATES, name), os.path.join(folder, "crates", name))
+    shutil.copy(os.path.join(HERE, f"{name}.rattle"), os.path.join(crate, "src", "main.rt"))
+    for other in below:
+        shutil.copytree(os.path.join(CRATES, other), os.path.join(folder, "crates", other))
     with open(os.path.join(CRATES, "..", "crates.txt")) as crates:
         lines = [line for line in crates if line.split(":")[0] in below]
     with open(os.path.join(folder, "crates.txt"), "w") as crates:
-        crates.write("".join(lines) + "keep_all: " + " ".join(below) + " hex arrayvec\n")
+        crates.write("".join(lines) + f"{name}: {' '.join(below)} hex arrayvec\n")
     built = subprocess.run(["rt", "run"], cwd=crate, input=b"FFF1", capture_output=True)
     if built.returncode != 0:
-        raise Fault(f"keep_all.rattle isn't built:\n{built.stdout.decode()}{built.stderr.decode()}")
-    return os.path.join(crate, "out", "keep_all")
+        raise Fault(f"{name}.rattle isn't built:\n{built.stdout.decode()}{built.stderr.decode()}")
+    return os.path.join(crate, "out", name)
 
 
 def compare_kept(programs, folder, size, runs, counts):
@@ -385,6 +392,25 @@ def compare_kept(programs, folder, size, runs, counts):
         stream.print_costs(programs, [], runs, counts)
 
 
+# What a host sends until records are allowed.
+OPENING = "FFFD18FFFA1801FFF0FFFD19FFFB19FFFD00FFFB00\n"
+
+
+def compare_fed(feeder, plain, folder, size, runs, counts):
+    """What `Receiver::feed` costs beside the plain decoder, and `Station::feed` beside `Receiver::feed`."""
+    receiver, station = [feeder], [feeder, "station"]
+    for title, programs, begin in (("Receiver::feed", [receiver, [plain]], ""),
+                                   ("Station::feed", [station, receiver], OPENING)):
+        print_columns(title, counts)
+        for name in "small records", "long data":
+            stream = Stream(folder, STREAMS[name](random.Random(1205)), size, begin)
+            if begin:
+                with open(stream.small, "rb") as text:
+                    expect_same(programs, [], text.read())
+            print(f"{name:<25}", end="", flush=True)
+            stream.print_costs(programs, [], runs, counts)
+
+
 def main():
     parser = argparse.ArgumentParser(description="What t5250 check costs beside a plain decoder.")
     parser.add_argument("program", nargs="?", default=PROGRAM, help="the program t5250")
@@ -393,6 +419,7 @@ def main():
     parser.add_argument("--runs", type=int, default=5, help="how many runs the lowest time is taken of, 5")
     parser.add_argument("--changed", type=int, default=500, help="how many randomly changed streams, 500")
     parser.add_argument("--keep", action="store_true", help="measure decode_all, which keeps all items, in its place")
+    parser.add_argument("--feed", action="store_true", help="measure Receiver::feed and Station::feed in its place")
     asked = parser.parse_args()
     with tempfile.TemporaryDirectory() as folder:
         plain = os.path.join(folder, "plain_decoder")
@@ -403,8 +430,10 @@ def main():
         counts = shutil.which("valgrind") is not None
         try:
             if asked.keep:
-                kept = [[build_keeper(folder)], [plain, "--keep"]]
+                kept = [[build(folder, "keep_all", DECODER)], [plain, "--keep"]]
                 return compare_kept(kept, folder, size, asked.runs, counts)
+            if asked.feed:
+                return compare_fed(build(folder, "feed", STATION), plain, folder, size, asked.runs, counts)
             compare_changed(programs, asked.changed)
             compare_streams(programs, folder, size, asked.runs, counts)
             cost_by_size(programs, folder, int(asked.largest * 1_000_000), asked.runs, counts)
