@@ -12,6 +12,7 @@ use Rattle.ws_stream.specs.declared.element.Element.{Element}
 use Rattle.ws_keys.specs.declared.key.Key.{Key}
 use Rattle.ws_session.specs.ActLaws.{bytes_came}
 use Rattle.ws_session.specs.Acts.{all_came, as_list, bytes_of}
+use Rattle.ws_session.specs.Ends.{CountsUpTo}
 use Rattle.ws_session.specs.HostFeeds.{HasHostFed, HasHostRefused}
 use Rattle.ws_session.specs.HostLeads.{HostParts, HostLeads}
 use Rattle.ws_session.specs.HostSide.{HostSide}
@@ -22,10 +23,11 @@ use Rattle.ws_session.specs.StationSide.{StationSide}
 use Rattle.ws_session.specs.declared.end_step.Order.{Order}
 use Rattle.ws_session.specs.declared.refusal.Refusal.{Refusal}
 use Rattle.ws_session.specs.declared.refusal.Refusal.TheVariants.{At, Failed, Memory}
+use Rattle.ws_session.proofs.Counts.{counted_on}
 use Rattle.ws_session.proofs.Feedings.{none_come}
 use Rattle.ws_c.specs.declared.host.HeldHost.{HeldHost}
 use Rattle.ws_c.specs.Hosts.{HostTakes, HostRefuses}
-use Rattle.ws_c.specs.Pushes.{StationTakes, StationRefuses, place_refused_at}
+use Rattle.ws_c.specs.Pushes.{StationTakes, StationRefuses, StandsBehind, place_refused_at}
 use Rattle.ws_c.proofs.PushLaws.{come_on}
 
 -- none of the bytes was taken
@@ -36,6 +38,7 @@ station_takes_none station bytes = record {
     none_come element_rules answer_rules station_manner (StationLeads station)
         before items side l,
   );
+  counted = λ fits. omega arith;
   works = λ some e. absurd (omega (arith, some));
   counts = λ some e. absurd (omega (arith, some));
   none = λ e. (refl, refl);
@@ -46,9 +49,11 @@ pub station_takes_on : (old now new : StationParts) (bytes : List ℕ) (n k : �
     → n ≤ length bytes → 0 < k → StationTakes old bytes n written now
     → ((b : List ℕ) (its : List (Item Element)) (s : StationSide) → StationLeads now b its s
     → length b + length (drop n bytes) + 1 < 2 ^ 64 → HasFed new b its s (take k (drop n bytes)) reply ends)
+    → (now.live.taken + k < 2 ^ 64 → new.live.taken ≡ now.live.taken + k)
     → (IsSome now.ended → ⊥) → (now.live.taken + 1 ≡ 2 ^ 64 → ⊥)
     → StationTakes old bytes (n + k) (written ++ reply) new
-station_takes_on old now new bytes n k written reply ends inside some t fed works counts = record {
+station_takes_on old now new bytes n k written reply ends inside some t fed counted works counts = record {
+  counted = counted_on old.live.taken now.live.taken new.live.taken n k t.counted counted;
   taken = λ before items side l fits. (let g = t.taken before items side l fits in (
     g.0 ++ as_list (told_by ends),
     come_on element_rules answer_rules station_manner (StationLeads now) (StationLeads new) bytes n k before items
@@ -64,6 +69,15 @@ station_takes_on old now new bytes n k written reply ends inside some t fed work
   ];
   none = λ z. absurd (omega (arith, z, some));
 }
+
+-- how many stand before the byte at which an end failed, by what it has taken
+stands_behind : (refusal : Refusal) (n before after length : ℕ)
+    → n ≡ min (place_refused_at refusal before after - before) length → CountsUpTo refusal before after length
+    → StandsBehind refusal n before after length
+stands_behind (At place reason) n before after length is up =
+    (omega (arith, is, up), omega (arith, is, up), omega (arith, is, up))
+stands_behind Memory n before after length is up = (omega (arith, is, up), omega (arith, is, up))
+stands_behind Failed n before after length is up = omega (arith, is)
 
 module _ (old new : StationParts) (bytes : List ℕ) (after : ℕ) where
   -- how many bytes stand before a refused one
@@ -87,9 +101,13 @@ module _ (old new : StationParts) (bytes : List ℕ) (after : ℕ) where
       → length b + length bytes + 1 < 2 ^ 64 → HasRefused old new b its s bytes refusal)
       → (old.live.taken + 1 ≡ 2 ^ 64 → refusal ≡ Failed)
       → (IsSome old.ended → (refusal ≡ Failed) × (new ≡ old))
-      → (old.ended ≡ None → new.ended ≡ Some refusal) → new.screen ≡ old.screen
+      → (old.ended ≡ None → new.ended ≡ Some refusal) → new.screen ≡ old.screen → after ≡ new.live.taken
+      → (old.live.taken + length bytes < 2 ^ 64 → CountsUpTo refusal old.live.taken new.live.taken (length bytes))
       → StationRefuses old bytes n refusal new
-  station_refuses refusal n is refused full failed after_it seen = record {
+  station_refuses refusal n is refused full failed after_it seen now up = record {
+    counted = λ fits. stands_behind refusal n old.live.taken new.live.taken (length bytes)
+        (subst (λ (z : ℕ). n ≡ min (place_refused_at refusal old.live.taken z - old.live.taken) (length bytes)) now is)
+        (up fits);
     refused = λ b its s l fits. (let r = refused b its s l fits in (r, is ∙ station_front refusal b its s l r));
     full = full;
     failed = failed;
@@ -104,6 +122,7 @@ pub host_takes_none : (host : HostParts) (bytes : List ℕ) → HostTakes host b
 host_takes_none host bytes = record {
   taken = λ before items side l fits. none_come answer_rules element_rules host_manner (HostLeads host) before items
       side l;
+  counted = λ fits. omega arith;
   works = λ some e. absurd (omega (arith, some));
   counts = λ some e. absurd (omega (arith, some));
   none = λ e. (refl, refl);
@@ -113,9 +132,11 @@ pub host_takes_on : (old now new : HostParts) (bytes : List ℕ) (n k : ℕ) (wr
     → 0 < k → HostTakes old bytes n written now
     → ((b : List ℕ) (its : List (Item AnswerPart)) (s : HostSide) → HostLeads now b its s
     → length b + length (drop n bytes) + 1 < 2 ^ 64 → HasHostFed new b its s (take k (drop n bytes)) reply None)
+    → (now.receiver.live.taken + k < 2 ^ 64 → new.receiver.live.taken ≡ now.receiver.live.taken + k)
     → (IsSome now.ended → ⊥) → (now.receiver.live.taken + 1 ≡ 2 ^ 64 → ⊥)
     → HostTakes old bytes (n + k) (written ++ reply) new
-host_takes_on old now new bytes n k written reply inside some t fed works counts = record {
+host_takes_on old now new bytes n k written reply inside some t fed counted works counts = record {
+  counted = counted_on old.receiver.live.taken now.receiver.live.taken new.receiver.live.taken n k t.counted counted;
   taken = λ before items side l fits. come_on answer_rules element_rules host_manner (HostLeads now) (HostLeads new)
       bytes n k before items side written reply [] [] inside fits (t.taken before items side l fits) fed;
   works = λ _ e. elim (cases_lt 0 n) [
@@ -165,8 +186,12 @@ module _ (old new : HostParts) (bytes : List ℕ) where
       → (old.receiver.live.taken + 1 ≡ 2 ^ 64 → refusal ≡ Failed)
       → (IsSome old.ended → (refusal ≡ Failed) × (new ≡ old))
       → (old.ended ≡ None → new.ended ≡ Some refusal) → new.screen ≡ old.screen
+      → (old.receiver.live.taken + length bytes < 2 ^ 64
+      → CountsUpTo refusal old.receiver.live.taken new.receiver.live.taken (length bytes))
       → HostRefuses old bytes n refusal new
-  host_refuses refusal n is refused full failed after_it seen = record {
+  host_refuses refusal n is refused full failed after_it seen up = record {
+    counted = λ fits. stands_behind refusal n old.receiver.live.taken new.receiver.live.taken (length bytes) is
+        (up fits);
     refused = λ b its s l fits. (let r = refused b its s l fits in (r, is ∙ host_front refusal b its s l r));
     full = full;
     failed = failed;

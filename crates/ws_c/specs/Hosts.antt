@@ -30,7 +30,7 @@ use Rattle.ws_c.specs.declared.told.Told.{Told}
 use Rattle.ws_c.specs.declared.told.PushedTold.{PushedTold}
 use Rattle.ws_c.specs.declared.told.TheConstants.{REPLY_ROOM}
 use Rattle.ws_c.specs.Calls.{holds_front, told_length}
-use Rattle.ws_c.specs.Pushes.{IsPushRefused, pushed_told}
+use Rattle.ws_c.specs.Pushes.{IsPushRefused, StandsBehind, pushed_told}
 
 -- the bytes by which a host asks the station for its terminal type
 abbrev pub opening_bytes : List ℕ
@@ -52,11 +52,12 @@ IsHostNew buffer after told None now NoMemory = (now ≡ None) × (after ≡ buf
 IsHostNew buffer after told None now status = ⊥
 
 -- The first n of these bytes are taken one after another to come from the one host end to the other: none of their
--- items is refused, this is written, and nothing is told. A host end that has ended takes none.
+-- items is refused, this is written, nothing is told, and the host end counts them. One that has ended takes none.
 pub record HostTakes (old : HostParts) (bytes : List ℕ) (n : ℕ) (written : List ℕ) (new : HostParts) : Type 0 where
   pub taken : (before : List ℕ) (items : List (Item AnswerPart)) (side : HostSide) → HostLeads old before items side
       → length before + length bytes + 1 < 2 ^ 64
       → HasHostTakenAll (HostLeads new) before items side (take n bytes) written []
+  pub counted : old.receiver.live.taken + n < 2 ^ 64 → new.receiver.live.taken ≡ old.receiver.live.taken + n
   pub works : 0 < n → IsSome old.ended → ⊥
   pub counts : 0 < n → old.receiver.live.taken + 1 ≡ 2 ^ 64 → ⊥
   pub none : n ≡ 0 → (new ≡ old) × (written ≡ [])
@@ -68,17 +69,21 @@ pub record HostTells (old : HostParts) (bytes : List ℕ) (n : ℕ) (written : L
   pub taken : (before : List ℕ) (items : List (Item AnswerPart)) (side : HostSide) → HostLeads old before items side
       → length before + length bytes + 1 < 2 ^ 64
       → HasHostFed new before items side (take n bytes) written (Some event)
+  pub counted : old.receiver.live.taken + n < 2 ^ 64 → new.receiver.live.taken ≡ old.receiver.live.taken + n
   pub first : (before : List ℕ) (items : List (Item AnswerPart)) (side : HostSide) → HostLeads old before items side
       → length before + length bytes + 1 < 2 ^ 64 → (m : ℕ) → m < n → AreSilent before items side (take m bytes)
   pub works : IsSome old.ended → ⊥
   pub counts : old.receiver.live.taken + 1 ≡ 2 ^ 64 → ⊥
 
--- The host end fails at one of these bytes, of which so many stand before it and bring nothing.
+-- The host end fails at one of these bytes, of which so many stand before it and bring nothing: so it counts them, and
+-- so they are in all bytes that it has taken.
 pub record HostRefuses (old : HostParts) (bytes : List ℕ) (n : ℕ) (refusal : Refusal) (new : HostParts)
     : Type 0 where
   pub refused : (before : List ℕ) (items : List (Item AnswerPart)) (side : HostSide) → HostLeads old before items side
       → length before + length bytes + 1 < 2 ^ 64
       → (r : HasHostRefused old new before items side bytes refusal) × (n ≡ length r.front)
+  pub counted : old.receiver.live.taken + length bytes < 2 ^ 64
+      → StandsBehind refusal n old.receiver.live.taken new.receiver.live.taken (length bytes)
   pub full : old.receiver.live.taken + 1 ≡ 2 ^ 64 → refusal ≡ HasFailed
   pub failed : IsSome old.ended → (refusal ≡ HasFailed) × (new ≡ old)
   pub none : refusal ≡ HasFailed → n ≡ 0

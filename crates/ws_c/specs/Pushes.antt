@@ -45,23 +45,34 @@ place_refused_at (At place reason) before after = place
 place_refused_at Memory before after = after - 1
 place_refused_at HasFailed before after = before
 
+-- So many of these bytes stand before the one at which an end failed that had taken so many before: that one is the last
+-- that it has taken. For no byte of theirs it failed before the first.
+abbrev pub StandsBehind : Refusal → ℕ → ℕ → ℕ → ℕ → Type 0
+StandsBehind (At place reason) n before after length = (place ≡ before + n) × (after ≡ before + n + 1) × (n < length)
+StandsBehind Memory n before after length = (after ≡ before + n + 1) × (n < length)
+StandsBehind HasFailed n before after length = n ≡ 0
+
 -- The first n of these bytes are taken one after another to come from the one station to the other: none of their
--- items is refused, and this is written. A station that has ended takes none.
+-- items is refused, this is written, and the station counts them. A station that has ended takes none.
 pub record StationTakes (old : StationParts) (bytes : List ℕ) (n : ℕ) (written : List ℕ) (new : StationParts)
     : Type 0 where
   pub taken : (before : List ℕ) (items : List (Item Element)) (side : StationSide)
       → StationLeads old before items side → length before + length bytes + 1 < 2 ^ 64
       → (told : List Applied) × HasTakenAll (StationLeads new) before items side (take n bytes) written told
+  pub counted : old.live.taken + n < 2 ^ 64 → new.live.taken ≡ old.live.taken + n
   pub works : 0 < n → IsSome old.ended → ⊥
   pub counts : 0 < n → old.live.taken + 1 ≡ 2 ^ 64 → ⊥
   pub none : n ≡ 0 → (new ≡ old) × (written ≡ [])
 
--- The station refuses one of these bytes, of which so many stand before it and bring nothing.
+-- The station refuses one of these bytes, of which so many stand before it and bring nothing: so it counts them, and so
+-- they are in all bytes that it has taken.
 pub record StationRefuses (old : StationParts) (bytes : List ℕ) (n : ℕ) (refusal : Refusal) (new : StationParts)
     : Type 0 where
   pub refused : (before : List ℕ) (items : List (Item Element)) (side : StationSide)
       → StationLeads old before items side → length before + length bytes + 1 < 2 ^ 64
       → (r : HasRefused old new before items side bytes refusal) × (n ≡ length r.front)
+  pub counted : old.live.taken + length bytes < 2 ^ 64
+      → StandsBehind refusal n old.live.taken new.live.taken (length bytes)
   pub full : old.live.taken + 1 ≡ 2 ^ 64 → refusal ≡ HasFailed
   pub failed : IsSome old.ended → (refusal ≡ HasFailed) × (new ≡ old)
   pub none : refusal ≡ HasFailed → n ≡ 0

@@ -1,6 +1,6 @@
 -- Why an end takes no more bytes, and which of them it has refused
 
-use Rattle.std.specs.Prelude.{ℕ, Option, Some, None}
+use Rattle.std.specs.Prelude.{◌≡◌, ◌<◌, ◌≤◌, ◌+◌, ℕ, Option, Some, None}
 use Rattle.ws_code.specs.declared.reason.Reason.{Reason}
 use Rattle.ws_session.specs.declared.refusal.Refusal.{Refusal}
 use Rattle.ws_session.specs.declared.refusal.Refusal.TheVariants.{At, Failed, Memory}
@@ -12,3 +12,16 @@ refused_byte (Some (At place reason)) = Some (place, reason)
 refused_byte (Some Failed) = None
 refused_byte (Some Memory) = None
 refused_byte None = None
+
+-- a byte that is refused stands at this place
+abbrev pub StandsAt : Refusal → ℕ → Type 0
+StandsAt (At place reason) here = place ≡ here
+StandsAt Memory here = Unit {0}
+StandsAt Failed here = Unit {0}
+
+-- What an end has taken behind a piece of which it refuses a byte, or one at which a growth is refused: the bytes up to
+-- and with that one. Where it fails for no byte of the piece, it has taken no more than the piece has.
+abbrev pub CountsUpTo : Refusal → ℕ → ℕ → ℕ → Type 0
+CountsUpTo (At place reason) before after length = (before ≤ place) × (after ≡ place + 1) × (after ≤ before + length)
+CountsUpTo Memory before after length = (before < after) × (after ≤ before + length)
+CountsUpTo Failed before after length = (before ≤ after) × (after ≤ before + length)

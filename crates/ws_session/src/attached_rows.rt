@@ -1,9 +1,9 @@
 // Ends that are attached to a source and a sink.
-use crate::end_rows::{BOB, BOB_ANSWER, CANCEL, OPENED, OPENING, key, record};
+use crate::end_rows::{BOB, BOB_ANSWER, CANCEL, OPENED, OPENING, key_named, keys_of, record};
 use crate::{Applied, Attached, HostEnd, HostEvent, KeyFault, SendFault, Station};
 use std::test::Fail;
 use ws_code::{FailingSink, Fault, Reason, SliceSource, VecSink};
-use ws_keys::KeyRefusal;
+use ws_keys::{Key, KeyRefusal};
 use ws_nego::TerminalType;
 use ws_record::{Item, Opcode, decode_all};
 use ws_stream::Commands;
@@ -23,11 +23,12 @@ fn a_station_at_its_line(rt: HostRuntime) -> Result<(), Fail> {
     assert_eq!(rt; line.hear(), Ok(Some(Applied)));
     assert_eq!(rt; line.sink().as_slice(), OPENED);
     assert_eq!(rt; (line.end().is_ready(), line.end().records()), (true, 1));
-    for letter in b"BOBe".as_slice() {
-        assert_eq!(rt; line.press(key(&rt, *letter)), Ok(None));
+    for key in keys_of(alloc, "BOB Enter")? {
+        assert_eq!(rt; line.press(key), Ok(None));
     }
+    let enter = key_named("Enter").expect(&rt, "a key");
     let locked = Ok(Some(KeyFault::Key(KeyRefusal::Locked)));
-    assert_eq!(rt; line.press(key(&rt, b'e')), locked);
+    assert_eq!(rt; line.press(enter), locked);
     assert_eq!(rt;
         line.sink().as_slice().get(OPENED.len()..),
         Some(BOB_ANSWER)
@@ -85,7 +86,7 @@ fn lines_that_break(rt: HostRuntime) -> Result<(), Fail> {
         assert_eq!(rt; line.hear(), Err(Fault::Write));
         assert_eq!(rt; Some(line.sink().as_slice()), OPENED.get(..calls));
         assert_eq!(rt; line.hear(), Err(Fault::Failed));
-        assert_eq!(rt; line.press(key(&rt, b'B')), Err(Fault::Failed));
+        assert_eq!(rt; line.press(Key::Char('B')), Err(Fault::Failed));
     }
     let host = HostEnd::new(alloc);
     let source = SliceSource::new(b"\xff\x00\xff");

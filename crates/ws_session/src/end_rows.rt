@@ -28,27 +28,54 @@ pub(crate) const CANCEL: &[u8] = b"\x00\x0a\x12\xa0\x00\x00\x04\x00\x00\x0a\xff\
 // The body of a record that a screen refuses at its end.
 pub(crate) const PAST_END: &[u8] = b"\x04\x11\x00\x00\x11\x18\x50\xc1\xc2";
 
-// A letter's key: a small one is one of these, any other a character.
-pub(crate) fn key(rt: &impl Abort, letter: u8) -> Key {
-    let aid = match letter {
-        b'e' => 0xf1,
-        b'p' => 0x33,
-        b'q' => 0x32,
-        b'h' => 0xf3,
-        b'c' => 0xbd,
-        b'x' => return Key::FieldExit,
-        b'm' => return Key::FieldMinus,
-        b't' => return Key::Tab,
-        b'l' => return Key::Left,
-        b'r' => return Key::Right,
-        b'd' => return Key::Dup,
-        b'i' => return Key::Insert('A'),
-        b'o' => return Key::Char('\u{20ac}'),
-        b'a' => return Key::Attention,
-        b's' => return Key::SystemRequest,
-        _ => return Key::Char(char::from(letter)),
+// The key of this name; Insert inserts an A.
+pub(crate) fn key_named(name: &str) -> Option<Key> {
+    let aid = match name {
+        "Enter" => 0xf1,
+        "F2" => 0x32,
+        "F3" => 0x33,
+        "Help" => 0xf3,
+        "Clear" => 0xbd,
+        "FieldExit" => return Some(Key::FieldExit),
+        "FieldMinus" => return Some(Key::FieldMinus),
+        "Tab" => return Some(Key::Tab),
+        "Left" => return Some(Key::Left),
+        "Right" => return Some(Key::Right),
+        "Dup" => return Some(Key::Dup),
+        "Insert" => return Some(Key::Insert('A')),
+        "Attention" => return Some(Key::Attention),
+        "SystemRequest" => return Some(Key::SystemRequest),
+        _ => return None,
     };
-    Key::Aid(Aid::from_byte(aid).expect(rt, "a key"))
+    match Aid::from_byte(aid) {
+        Some(aid) => Some(Key::Aid(aid)),
+        None => None,
+    }
+}
+
+// The keys of characters.
+pub(crate) fn typed(alloc: Global, text: &str) -> Result<Vec<Key>, Fail> {
+    let mut keys = Vec::new(alloc);
+    for character in text.chars() {
+        keys.push(Key::Char(character))?;
+    }
+    Ok(keys)
+}
+
+// The keys of words: each is a key's name, or else is typed.
+pub(crate) fn keys_of(alloc: Global, words: &str) -> Result<Vec<Key>, Fail> {
+    let mut keys = Vec::new(alloc);
+    for word in words.split(' ') {
+        match key_named(word) {
+            Some(key) => keys.push(key)?,
+            None => {
+                for key in typed(alloc, word)? {
+                    keys.push(key)?;
+                }
+            }
+        }
+    }
+    Ok(keys)
 }
 
 // A record of opcode 3 with this body.

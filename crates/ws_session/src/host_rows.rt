@@ -1,7 +1,7 @@
 // A host end by itself, and what it reads from a station's answers.
 use crate::end_rows::{
-    BOB, BOB_ANSWER, CANCEL, OPENING, key, last_event, push_all, ready_host, ready_station, record,
-    send,
+    BOB, BOB_ANSWER, CANCEL, OPENING, keys_of, last_event, push_all, ready_host, ready_station,
+    record, send,
 };
 use crate::{HostEnd, HostEvent, Refusal, SendFault, Station, run_station};
 use std::alloc::{AllocError, Global};
@@ -28,7 +28,7 @@ fn host_refuses(rt: &impl Abort, host: &mut HostEnd, bytes: &[u8], place: usize,
 }
 
 #[test]
-fn host_refusals(rt: HostRuntime) -> Result<(), Fail> {
+fn sends_are_refused(rt: HostRuntime) {
     let alloc = rt.alloc();
     let mut host = HostEnd::new(alloc);
     assert_eq!(rt;
@@ -44,6 +44,13 @@ fn host_refusals(rt: HostRuntime) -> Result<(), Fail> {
         host.send(Opcode::PutGet, &clear).err(),
         Some(SendFault::ReadOutstanding)
     );
+}
+
+#[test]
+fn an_answer_behind_its_cancel(rt: HostRuntime) -> Result<(), Fail> {
+    let alloc = rt.alloc();
+    let mut host = ready_host(&rt, alloc);
+    send(&rt, alloc, &mut host, record(&rt, alloc, BOB).as_slice());
     let cancelled = host.cancel().expect(&rt, "a cancel");
     assert_eq!(rt; cancelled.as_slice(), CANCEL);
     let mut station = ready_station(&rt, alloc, BOB)?;
@@ -54,18 +61,24 @@ fn host_refusals(rt: HostRuntime) -> Result<(), Fail> {
     assert!(rt; host.asked().is_none());
     host_refuses(&rt, &mut host, BOB_ANSWER, 20, Reason::UnaskedAnswer);
     assert_eq!(rt; host.cancel().err(), Some(SendFault::Failed));
-    // An answer with a byte before its first field.
+    Ok(())
+}
+
+// An answer with a byte before its first field.
+#[test]
+fn an_answer_that_fits_no_read(rt: HostRuntime) {
+    let alloc = rt.alloc();
     let mut host = ready_host(&rt, alloc);
     send(&rt, alloc, &mut host, record(&rt, alloc, BOB).as_slice());
     let mismatched = record(&rt, alloc, b"\x06\x38\xf1\xc1");
-    host_refuses(
-        &rt,
-        &mut host,
-        mismatched.as_slice(),
-        15,
-        Reason::AnswerMismatch,
-    );
-    // A terminal that isn't supported; one that is, in small letters.
+    let reason = Reason::AnswerMismatch;
+    host_refuses(&rt, &mut host, mismatched.as_slice(), 15, reason);
+}
+
+// A terminal that isn't supported; one that is, in small letters.
+#[test]
+fn terminals_are_named(rt: HostRuntime) {
+    let alloc = rt.alloc();
     let mut host = HostEnd::new(alloc);
     host.open();
     let wide = b"\xff\xfb\x18\xff\xfa\x18\x00IBM-3477-FC\xff\xf0";
@@ -75,7 +88,6 @@ fn host_refusals(rt: HostRuntime) -> Result<(), Fail> {
     for byte in b"\xff\xfb\x18\xff\xfa\x18\x00ibm-3179-2\xff\xf0".as_slice() {
         assert!(rt; host.push(*byte).is_ok());
     }
-    Ok(())
 }
 
 // Cursor, AID, and of each field address, length and content.
@@ -89,34 +101,179 @@ fn flat(alloc: Global, answer: &HostAnswer) -> Result<Vec<u8>, AllocError> {
     Ok(bytes)
 }
 
-// A host end sends the body, a station that runs on the same bytes answers the keys, and the host end reads that.
-fn answer_of(
+const SWITCHED: &[u8] =
+    b"\x04\x40\x04\x11\x00\x08\x01\x07\x00\x00\x00\x00\x00\x00\x04\x11\x06\x34\x1d\x40\x00\x20\x00\x0a\x04\x52\x00\x00";
+
+const DESCENDING: &[u8] =
+    b"\x04\x11\x00\x08\x11\x06\x34\x1d\x48\x00\x20\x00\x06\xc1\x00\xc2\x11\x03\x01\x1d\x48\x00\x20\x00\x04\x04\x52\x00\x00";
+
+const ALTERNATE: &[u8] =
+    b"\x04\x11\x00\x08\x11\x06\x34\x1d\x48\x00\x20\x00\x06\xc1\x00\xc2\x11\x03\x01\x1d\x48\x00\x20\x00\x04\x04\x82\x00\x00";
+
+const UNMODIFIED: &[u8] =
+    b"\x04\x11\x00\x08\x11\x06\x34\x1d\x40\x00\x20\x00\x06\xc1\x00\xc2\x11\x03\x01\x1d\x40\x00\x20\x00\x04\x04\x42\x00\x00";
+
+const ALL_INPUT: &[u8] =
+    b"\x04\x11\x00\x08\x11\x06\x34\x1d\x48\x00\x20\x00\x06\xc1\x00\xc2\x11\x03\x01\x1d\x40\x00\x20\x00\x04\x04\x42\x00\x00";
+
+const OF_FF: &[u8] = b"\x04\x11\x00\x08\x11\x06\x34\x1d\x48\x00\x20\x00\x02\xff\x04\x52\x00\x00";
+
+const SIGNED: &[u8] = b"\x04\x11\x00\x08\x11\x06\x34\x1d\x47\x00\x20\x00\x05\x04\x52\x00\x00";
+
+const SIGNED_INPUT: &[u8] = b"\x04\x11\x00\x08\x11\x06\x34\x1d\x47\x00\x20\x00\x05\x04\x42\x00\x00";
+
+const ZERO_FILLED: &[u8] = b"\x04\x11\x00\x08\x11\x06\x34\x1d\x47\x05\x20\x00\x05\x04\x52\x00\x00";
+
+// A form, the keys that answer it, how many of them are refused, the answer as a station writes it,
+// and what a host end reads from it, as `flat` gives it.
+#[derive(Clone, Copy)]
+struct AnsweredForm {
+    body: &'static [u8],
+    keys: &'static str,
+    refused: u32,
+    answer: &'static [u8],
+    read: &'static [u8],
+}
+
+const ANSWERED_FORMS: [AnsweredForm; 15] = [
+    AnsweredForm {
+        body: BOB,
+        keys: "BOB Enter",
+        refused: 0,
+        answer: BOB_ANSWER,
+        read: b"\x06\x38\xf1\x06\x35\xc2\xd6\xc2",
+    },
+    AnsweredForm {
+        body: SWITCHED,
+        keys: "BOB F3",
+        refused: 0,
+        answer: b"\x00\x0d\x12\xa0\x00\x00\x04\x00\x00\x03\x06\x38\x33\xff\xef",
+        read: b"\x06\x38\x33",
+    },
+    AnsweredForm {
+        body: SWITCHED,
+        keys: "BOB F2",
+        refused: 0,
+        answer: b"\x00\x13\x12\xa0\x00\x00\x04\x00\x00\x03\x06\x38\x32\x11\x06\x35\xc2\xd6\xc2\xff\xef",
+        read: b"\x06\x38\x32\x06\x35\xc2\xd6\xc2",
+    },
+    AnsweredForm {
+        body: SWITCHED,
+        keys: "BOB Help",
+        refused: 0,
+        answer: b"\x00\x0d\x12\xa0\x00\x00\x04\x00\x00\x03\x06\x38\xf3\xff\xef",
+        read: b"\x06\x38\xf3",
+    },
+    AnsweredForm {
+        body: DESCENDING,
+        keys: "Enter",
+        refused: 0,
+        answer: b"\x00\x16\x12\xa0\x00\x00\x04\x00\x00\x03\x03\x02\xf1\x11\x03\x02\x11\x06\x35\xc1\x40\xc2\xff\xef",
+        read: b"\x03\x02\xf1\x03\x02\x06\x35\xc1\x40\xc2",
+    },
+    AnsweredForm {
+        body: ALTERNATE,
+        keys: "Enter",
+        refused: 0,
+        answer: b"\x00\x16\x12\xa0\x00\x00\x04\x00\x00\x03\x03\x02\xf1\x11\x03\x02\x11\x06\x35\xc1\x00\xc2\xff\xef",
+        read: b"\x03\x02\xf1\x03\x02\x06\x35\xc1\x00\xc2",
+    },
+    AnsweredForm {
+        body: UNMODIFIED,
+        keys: "Enter",
+        refused: 0,
+        answer: b"\x00\x0d\x12\xa0\x00\x00\x04\x00\x00\x03\x03\x02\xf1\xff\xef",
+        read: b"\x03\x02\xf1",
+    },
+    AnsweredForm {
+        body: ALL_INPUT,
+        keys: "Enter",
+        refused: 0,
+        answer: b"\x00\x17\x12\xa0\x00\x00\x04\x00\x00\x03\x03\x02\xf1\x40\x40\x40\x40\xc1\x40\xc2\x40\x40\x40\xff\xef",
+        read: b"\x03\x02\xf1\x03\x02\x40\x40\x40\x40\x06\x35\xc1\x40\xc2\x40\x40\x40",
+    },
+    AnsweredForm {
+        body: OF_FF,
+        keys: "Enter",
+        refused: 0,
+        answer: b"\x00\x11\x12\xa0\x00\x00\x04\x00\x00\x03\x06\x35\xf1\x11\x06\x35\xff\xff\xff\xef",
+        read: b"\x06\x35\xf1\x06\x35\xff",
+    },
+    AnsweredForm {
+        body: SIGNED,
+        keys: "12 FieldMinus Enter",
+        refused: 0,
+        answer: b"\x00\x14\x12\xa0\x00\x00\x04\x00\x00\x03\x06\x35\xf1\x11\x06\x35\x40\x40\xf1\xd2\xff\xef",
+        read: b"\x06\x35\xf1\x06\x35\x40\x40\xf1\xd2",
+    },
+    AnsweredForm {
+        body: SIGNED,
+        keys: "12 FieldExit Enter",
+        refused: 0,
+        answer: b"\x00\x14\x12\xa0\x00\x00\x04\x00\x00\x03\x06\x35\xf1\x11\x06\x35\x40\x40\xf1\xf2\xff\xef",
+        read: b"\x06\x35\xf1\x06\x35\x40\x40\xf1\xf2",
+    },
+    AnsweredForm {
+        body: SIGNED,
+        keys: "12 Enter",
+        refused: 0,
+        answer: b"\x00\x12\x12\xa0\x00\x00\x04\x00\x00\x03\x06\x37\xf1\x11\x06\x35\xf1\xf2\xff\xef",
+        read: b"\x06\x37\xf1\x06\x35\xf1\xf2",
+    },
+    AnsweredForm {
+        body: SIGNED_INPUT,
+        keys: "12 FieldMinus Enter",
+        refused: 0,
+        answer: b"\x00\x11\x12\xa0\x00\x00\x04\x00\x00\x03\x06\x35\xf1\x40\x40\xf1\xd2\xff\xef",
+        read: b"\x06\x35\xf1\x06\x35\x40\x40\xf1\xd2",
+    },
+    AnsweredForm {
+        body: SIGNED,
+        keys: "12345 FieldMinus Enter",
+        refused: 1,
+        answer: b"\x00\x14\x12\xa0\x00\x00\x04\x00\x00\x03\x06\x35\xf1\x11\x06\x35\xf1\xf2\xf3\xd4\xff\xef",
+        read: b"\x06\x35\xf1\x06\x35\xf1\xf2\xf3\xd4",
+    },
+    AnsweredForm {
+        body: ZERO_FILLED,
+        keys: "12 FieldMinus Enter",
+        refused: 0,
+        answer: b"\x00\x14\x12\xa0\x00\x00\x04\x00\x00\x03\x06\x35\xf1\x11\x06\x35\xf0\xf0\xf1\xd2\xff\xef",
+        read: b"\x06\x35\xf1\x06\x35\xf0\xf0\xf1\xd2",
+    },
+];
+
+// What a station writes that runs on the opening and this record, and then takes the keys; so many are refused.
+fn played(
     rt: &impl Abort,
     alloc: Global,
-    body: &[u8],
-    letters: &[u8],
+    sent: &[u8],
+    keys: &str,
     refused: u32,
-    answer: &[u8],
-    read: &[u8],
-) -> Result<(), Fail> {
-    let sent = record(rt, alloc, body);
-    let mut host = ready_host(rt, alloc);
-    send(rt, alloc, &mut host, sent.as_slice());
+) -> Result<Vec<u8>, Fail> {
     let mut stream = Vec::new(alloc);
     stream.extend_from_slice(OPENING)?;
-    stream.extend_from_slice(sent.as_slice())?;
-    let mut keys: Vec<(u32, Key)> = Vec::new(alloc);
-    for letter in letters {
-        keys.push((1, key(rt, *letter)))?;
+    stream.extend_from_slice(sent)?;
+    let mut due: Vec<(u32, Key)> = Vec::new(alloc);
+    for key in keys_of(alloc, keys)? {
+        due.push((1, key))?;
     }
     let mut source = SliceSource::new(stream.as_slice());
     let mut sink = VecSink::new(alloc);
     let station = Station::new(TerminalType::Ibm3179Model2);
-    let played = run_station(station, &mut source, &mut sink, keys.as_slice()).expect(rt, "played");
+    let played = run_station(station, &mut source, &mut sink, due.as_slice()).expect(rt, "played");
     assert_eq!(rt; played.keys_refused, refused);
-    let written = sink.as_slice();
-    assert!(rt; written.len() >= 31);
-    assert_eq!(rt; &written[31..], answer);
+    Ok(sink.into_inner())
+}
+
+// The host end that asked reads the answer by its parts and by its bytes.
+fn is_read(
+    rt: &impl Abort,
+    alloc: Global,
+    host: &mut HostEnd,
+    answer: &[u8],
+    read: &[u8],
+) -> Result<(), Fail> {
     let parts = decode_all::<Answers>(alloc, answer).expect(rt, "an answer");
     match parts.as_slice() {
         [Item::Record(whole)] => {
@@ -127,7 +284,7 @@ fn answer_of(
         }
         _ => panic!(rt; "a record"),
     }
-    match last_event(rt, &mut host, answer) {
+    match last_event(rt, host, answer) {
         Some(HostEvent::Answer(told)) => assert_eq!(rt; flat(alloc, &told)?.as_slice(), read),
         _ => panic!(rt; "an answer"),
     }
@@ -137,128 +294,14 @@ fn answer_of(
 #[test]
 fn answers_are_written_and_read(rt: HostRuntime) -> Result<(), Fail> {
     let alloc = rt.alloc();
-    let switched =
-        b"\x04\x40\x04\x11\x00\x08\x01\x07\x00\x00\x00\x00\x00\x00\x04\x11\x06\x34\x1d\x40\x00\x20\x00\x0a\x04\x52\x00\x00";
-    let descending =
-        b"\x04\x11\x00\x08\x11\x06\x34\x1d\x48\x00\x20\x00\x06\xc1\x00\xc2\x11\x03\x01\x1d\x48\x00\x20\x00\x04\x04\x52\x00\x00";
-    let alternate =
-        b"\x04\x11\x00\x08\x11\x06\x34\x1d\x48\x00\x20\x00\x06\xc1\x00\xc2\x11\x03\x01\x1d\x48\x00\x20\x00\x04\x04\x82\x00\x00";
-    let unmodified =
-        b"\x04\x11\x00\x08\x11\x06\x34\x1d\x40\x00\x20\x00\x06\xc1\x00\xc2\x11\x03\x01\x1d\x40\x00\x20\x00\x04\x04\x42\x00\x00";
-    let all_input =
-        b"\x04\x11\x00\x08\x11\x06\x34\x1d\x48\x00\x20\x00\x06\xc1\x00\xc2\x11\x03\x01\x1d\x40\x00\x20\x00\x04\x04\x42\x00\x00";
-    let of_ff = b"\x04\x11\x00\x08\x11\x06\x34\x1d\x48\x00\x20\x00\x02\xff\x04\x52\x00\x00";
-    let signed = b"\x04\x11\x00\x08\x11\x06\x34\x1d\x47\x00\x20\x00\x05\x04\x52\x00\x00";
-    let signed_input = b"\x04\x11\x00\x08\x11\x06\x34\x1d\x47\x00\x20\x00\x05\x04\x42\x00\x00";
-    let zero_filled = b"\x04\x11\x00\x08\x11\x06\x34\x1d\x47\x05\x20\x00\x05\x04\x52\x00\x00";
-    for (body, letters, refused, answer, read) in [
-        (
-            BOB,
-            b"BOBe".as_slice(),
-            0,
-            BOB_ANSWER,
-            b"\x06\x38\xf1\x06\x35\xc2\xd6\xc2".as_slice(),
-        ),
-        (
-            switched.as_slice(),
-            b"BOBp".as_slice(),
-            0,
-            b"\x00\x0d\x12\xa0\x00\x00\x04\x00\x00\x03\x06\x38\x33\xff\xef".as_slice(),
-            b"\x06\x38\x33".as_slice(),
-        ),
-        (
-            switched.as_slice(),
-            b"BOBq".as_slice(),
-            0,
-            b"\x00\x13\x12\xa0\x00\x00\x04\x00\x00\x03\x06\x38\x32\x11\x06\x35\xc2\xd6\xc2\xff\xef".as_slice(),
-            b"\x06\x38\x32\x06\x35\xc2\xd6\xc2".as_slice(),
-        ),
-        (
-            switched.as_slice(),
-            b"BOBh".as_slice(),
-            0,
-            b"\x00\x0d\x12\xa0\x00\x00\x04\x00\x00\x03\x06\x38\xf3\xff\xef".as_slice(),
-            b"\x06\x38\xf3".as_slice(),
-        ),
-        (
-            descending.as_slice(),
-            b"e".as_slice(),
-            0,
-            b"\x00\x16\x12\xa0\x00\x00\x04\x00\x00\x03\x03\x02\xf1\x11\x03\x02\x11\x06\x35\xc1\x40\xc2\xff\xef".as_slice(),
-            b"\x03\x02\xf1\x03\x02\x06\x35\xc1\x40\xc2".as_slice(),
-        ),
-        (
-            alternate.as_slice(),
-            b"e".as_slice(),
-            0,
-            b"\x00\x16\x12\xa0\x00\x00\x04\x00\x00\x03\x03\x02\xf1\x11\x03\x02\x11\x06\x35\xc1\x00\xc2\xff\xef".as_slice(),
-            b"\x03\x02\xf1\x03\x02\x06\x35\xc1\x00\xc2".as_slice(),
-        ),
-        (
-            unmodified.as_slice(),
-            b"e".as_slice(),
-            0,
-            b"\x00\x0d\x12\xa0\x00\x00\x04\x00\x00\x03\x03\x02\xf1\xff\xef".as_slice(),
-            b"\x03\x02\xf1".as_slice(),
-        ),
-        (
-            all_input.as_slice(),
-            b"e".as_slice(),
-            0,
-            b"\x00\x17\x12\xa0\x00\x00\x04\x00\x00\x03\x03\x02\xf1\x40\x40\x40\x40\xc1\x40\xc2\x40\x40\x40\xff\xef".as_slice(),
-            b"\x03\x02\xf1\x03\x02\x40\x40\x40\x40\x06\x35\xc1\x40\xc2\x40\x40\x40".as_slice(),
-        ),
-        (
-            of_ff.as_slice(),
-            b"e".as_slice(),
-            0,
-            b"\x00\x11\x12\xa0\x00\x00\x04\x00\x00\x03\x06\x35\xf1\x11\x06\x35\xff\xff\xff\xef".as_slice(),
-            b"\x06\x35\xf1\x06\x35\xff".as_slice(),
-        ),
-        (
-            signed.as_slice(),
-            b"12me".as_slice(),
-            0,
-            b"\x00\x14\x12\xa0\x00\x00\x04\x00\x00\x03\x06\x35\xf1\x11\x06\x35\x40\x40\xf1\xd2\xff\xef".as_slice(),
-            b"\x06\x35\xf1\x06\x35\x40\x40\xf1\xd2".as_slice(),
-        ),
-        (
-            signed.as_slice(),
-            b"12xe".as_slice(),
-            0,
-            b"\x00\x14\x12\xa0\x00\x00\x04\x00\x00\x03\x06\x35\xf1\x11\x06\x35\x40\x40\xf1\xf2\xff\xef".as_slice(),
-            b"\x06\x35\xf1\x06\x35\x40\x40\xf1\xf2".as_slice(),
-        ),
-        (
-            signed.as_slice(),
-            b"12e".as_slice(),
-            0,
-            b"\x00\x12\x12\xa0\x00\x00\x04\x00\x00\x03\x06\x37\xf1\x11\x06\x35\xf1\xf2\xff\xef".as_slice(),
-            b"\x06\x37\xf1\x06\x35\xf1\xf2".as_slice(),
-        ),
-        (
-            signed_input.as_slice(),
-            b"12me".as_slice(),
-            0,
-            b"\x00\x11\x12\xa0\x00\x00\x04\x00\x00\x03\x06\x35\xf1\x40\x40\xf1\xd2\xff\xef".as_slice(),
-            b"\x06\x35\xf1\x06\x35\x40\x40\xf1\xd2".as_slice(),
-        ),
-        (
-            signed.as_slice(),
-            b"12345me".as_slice(),
-            1,
-            b"\x00\x14\x12\xa0\x00\x00\x04\x00\x00\x03\x06\x35\xf1\x11\x06\x35\xf1\xf2\xf3\xd4\xff\xef".as_slice(),
-            b"\x06\x35\xf1\x06\x35\xf1\xf2\xf3\xd4".as_slice(),
-        ),
-        (
-            zero_filled.as_slice(),
-            b"12me".as_slice(),
-            0,
-            b"\x00\x14\x12\xa0\x00\x00\x04\x00\x00\x03\x06\x35\xf1\x11\x06\x35\xf0\xf0\xf1\xd2\xff\xef".as_slice(),
-            b"\x06\x35\xf1\x06\x35\xf0\xf0\xf1\xd2".as_slice(),
-        ),
-    ] {
-        answer_of(&rt, alloc, body, letters, refused, answer, read)?;
+    for form in ANSWERED_FORMS {
+        let sent = record(&rt, alloc, form.body);
+        let mut host = ready_host(&rt, alloc);
+        send(&rt, alloc, &mut host, sent.as_slice());
+        let written = played(&rt, alloc, sent.as_slice(), form.keys, form.refused)?;
+        assert!(rt; written.len() >= 31);
+        assert_eq!(rt; &written.as_slice()[31..], form.answer);
+        is_read(&rt, alloc, &mut host, form.answer, form.read)?;
     }
     Ok(())
 }

@@ -1,7 +1,9 @@
 // Runs of a station over devices.
-use crate::end_rows::{BOB, BOB_ANSWER, OPENED, OPENING, key, record};
+use crate::end_rows::{BOB, BOB_ANSWER, OPENED, OPENING, key_named, keys_of, record};
 use crate::{Station, run_station};
 use arrayvec::ArrayVec;
+use std::alloc::Global;
+use std::process::Abort;
 use std::test::Fail;
 use ws_code::{
     FailingSink, FailingSource, Fault, Reason, SliceSource, StuckSink, VecSink, WriteSink,
@@ -9,22 +11,40 @@ use ws_code::{
 use ws_keys::{Answer, Key};
 use ws_nego::TerminalType;
 
-// The opening and a record, with B, O, B, Enter behind it.
-#[test]
-fn a_run_stops_where_a_device_fails(rt: HostRuntime) -> Result<(), Fail> {
-    let alloc = rt.alloc();
+// The opening and a record.
+fn opening_and_form(rt: &impl Abort, alloc: Global) -> Result<Vec<u8>, Fail> {
     let mut stream = Vec::new(alloc);
     stream.extend_from_slice(OPENING)?;
-    stream.extend_from_slice(record(&rt, alloc, BOB).as_slice())?;
+    stream.extend_from_slice(record(rt, alloc, BOB).as_slice())?;
+    assert_eq!(rt; stream.as_slice().len(), 52);
+    Ok(stream)
+}
+
+// What a station writes at them and at the keys.
+fn opened_and_answered(rt: &impl Abort, alloc: Global) -> Result<Vec<u8>, Fail> {
     let mut text = Vec::new(alloc);
     text.extend_from_slice(OPENED)?;
     text.extend_from_slice(BOB_ANSWER)?;
-    assert_eq!(rt; (stream.as_slice().len(), text.as_slice().len()), (52, 52));
+    assert_eq!(rt; text.as_slice().len(), 52);
+    Ok(text)
+}
+
+// Tab before the first record, and B, O, B, Enter behind it.
+fn keys_due(alloc: Global) -> Result<Vec<(u32, Key)>, Fail> {
     let mut keys: Vec<(u32, Key)> = Vec::new(alloc);
     keys.push((0, Key::Tab))?;
-    for letter in b"BOBe".as_slice() {
-        keys.push((1, key(&rt, *letter)))?;
+    for key in keys_of(alloc, "BOB Enter")? {
+        keys.push((1, key))?;
     }
+    Ok(keys)
+}
+
+#[test]
+fn a_run_stops_where_a_write_fails(rt: HostRuntime) -> Result<(), Fail> {
+    let alloc = rt.alloc();
+    let stream = opening_and_form(&rt, alloc)?;
+    let text = opened_and_answered(&rt, alloc)?;
+    let keys = keys_due(alloc)?;
     for calls in 0..=52u8 {
         let station = Station::new(TerminalType::Ibm3179Model2);
         let mut source = SliceSource::new(stream.as_slice());
@@ -38,7 +58,16 @@ fn a_run_stops_where_a_device_fails(rt: HostRuntime) -> Result<(), Fail> {
             text.as_slice().get(..usize::from(calls))
         );
     }
-    // What is written by so many bytes that are read: replies to the tokens that end there, and the answer.
+    Ok(())
+}
+
+// What is written by so many bytes that are read: replies to the tokens that end there, and the answer.
+#[test]
+fn a_run_stops_where_a_read_fails(rt: HostRuntime) -> Result<(), Fail> {
+    let alloc = rt.alloc();
+    let stream = opening_and_form(&rt, alloc)?;
+    let text = opened_and_answered(&rt, alloc)?;
+    let keys = keys_due(alloc)?;
     let mut written = 0usize;
     for read in 0..=52u64 {
         written = match read {
@@ -98,7 +127,13 @@ fn bob_without_memory(rt: HostRuntime) {
     for part in [OPENING, head, BOB, b"\xff\xef"] {
         assert!(rt; stream.try_extend_from_slice(part).is_ok());
     }
-    let keys = [b'B', b'O', b'B', b'e'].map(|letter| (1u32, key(&rt, letter)));
+    let enter = key_named("Enter").expect(&rt, "a key");
+    let keys = [
+        (1u32, Key::Char('B')),
+        (1, Key::Char('O')),
+        (1, Key::Char('B')),
+        (1, enter),
+    ];
     let mut source = SliceSource::new(stream.as_slice());
     let mut sink = WriteSink::new(ArrayVec::<u8, 52>::new());
     let station = Station::new(TerminalType::Ibm3179Model2);
@@ -117,10 +152,10 @@ fn bob_without_memory(rt: HostRuntime) {
         assert!(rt; replies.try_extend_from_slice(reply.as_slice()).is_ok());
     }
     assert_eq!(rt; replies.as_slice(), OPENED);
-    for letter in [b'B', b'O', b'B'] {
-        assert!(rt; matches!(station.key(key(&rt, letter)), Ok(None)));
+    for letter in ['B', 'O', 'B'] {
+        assert!(rt; matches!(station.key(Key::Char(letter)), Ok(None)));
     }
-    match station.key(key(&rt, b'e')) {
+    match station.key(enter) {
         Ok(Some(Answer::Read(body))) => assert_eq!(rt;
             Some(body.as_slice()),
             BOB_ANSWER.get(10..19)

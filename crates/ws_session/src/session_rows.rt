@@ -1,126 +1,227 @@
-// Whole sessions by their moves. In a script `s` settles, `f` sends a form and a read, `l` turns the message light on,
-// `c` cancels, `e` is Enter, `a` and `u` bring all to the station and to the host end, `5` and `t` five and ten bytes
-// to the station, `1` a byte each way 200 times; a capital letter is typed.
+// Whole sessions by scripts of a move a line, as `t5250 play` reads them, and `trickle`: a byte down
+// and a byte up, 200 times.
 use super::*;
-use std::alloc::{AllocError, Global};
+use crate::end_rows::{key_named, typed};
+use std::alloc::Global;
+use std::process::Abort;
 use std::test::Fail;
-use ws_code::{Address, Aid, Fault, Ffw, List};
-use ws_keys::{Key, KeyRefusal};
+use ws_code::{Address, List};
+use ws_keys::KeyRefusal;
 use ws_nego::TerminalType;
-use ws_record::Opcode;
-use ws_stream::{Element, FieldStart};
+use ws_record::{Opcode, read_body};
+use ws_stream::{Commands, Element};
 
-// Clear Unit, Write to Display, a field of ten cells at 6, 53, Read MDT Fields.
-fn form(alloc: Global) -> Result<List<Element>, AllocError> {
-    let mut body = Vec::new(alloc);
-    body.push(Element::ClearUnit)?;
-    body.push(Element::Write { cc1: 0, cc2: 8 })?;
-    if let Some(before) = Address::new(6, 52) {
-        body.push(Element::Sba(before))?;
+// A form with a field of ten cells at 6, 53 and a read. B, O, B and Enter answer it.
+const BOB: &str = "settle
+send 3 0440041100081106341d400020000a04520000
+settle
+type BOB
+key Enter
+settle";
+
+const BYTE_BY_BYTE: &str = "trickle
+send 3 0440041100081106341d400020000a04520000
+trickle
+type BOB
+key Enter
+trickle";
+
+const CANCELLED: &str = "settle
+send 3 0440041100081106341d400020000a04520000
+cancel
+settle
+key Enter";
+
+// A record that turns the message light on arrives in two parts, O between them.
+const TYPED_WHILE_ARRIVING: &str = "settle
+send 3 0440041100081106341d400020000a04520000
+settle
+type B
+send 11
+down 5
+type O
+down all
+key Enter
+settle";
+
+const TYPED_TOO_EARLY: &str = "settle
+send 3 0440041100081106341d400020000a04520000
+down 10
+type A";
+
+// The elements of a body in hex.
+fn body_of(rt: &impl Abort, alloc: Global, hex: &str) -> Result<Vec<Element>, Fail> {
+    let mut bytes: Vec<u8> = Vec::new(alloc);
+    let mut high: Option<u32> = None;
+    for digit in hex.chars() {
+        let value = digit.to_digit(16).expect(rt, "a digit");
+        match high {
+            None => high = Some(value),
+            Some(first) => {
+                bytes.push((first as u8).wrapping_mul(16).wrapping_add(value as u8))?;
+                high = None;
+            }
+        }
     }
-    if let Some(field) = FieldStart::new(Ffw::new(0x4000), &[], 0x20, 10) {
-        body.push(Element::Sf(field))?;
-    }
-    body.push(Element::ReadMdt { cc1: 0, cc2: 0 })?;
-    Ok(List::of(body))
+    Ok(read_body::<Commands>(alloc, bytes.as_slice()).expect(rt, "a body"))
 }
 
-fn add(moves: &mut Vec<Move>, alloc: Global, letter: u8) -> Result<(), AllocError> {
-    match letter {
-        b's' => {
-            for _i in 0..4u8 {
-                moves.push(Move::ToStation(usize::MAX))?;
-                moves.push(Move::ToHost(usize::MAX))?;
-            }
-        }
-        b'1' => {
-            for _i in 0..200u8 {
-                moves.push(Move::ToStation(1))?;
-                moves.push(Move::ToHost(1))?;
-            }
-        }
-        b'f' => moves.push(Move::Send(Opcode::PutGet, form(alloc)?))?,
-        b'l' => moves.push(Move::Send(Opcode::MessageLightOn, List::of(Vec::new(alloc))))?,
-        b'c' => moves.push(Move::Cancel)?,
-        b'a' => moves.push(Move::ToStation(usize::MAX))?,
-        b'u' => moves.push(Move::ToHost(usize::MAX))?,
-        b'5' => moves.push(Move::ToStation(5))?,
-        b't' => moves.push(Move::ToStation(10))?,
-        b'e' => {
-            if let Some(enter) = Aid::from_byte(0xf1) {
-                moves.push(Move::Key(Key::Aid(enter)))?;
-            }
-        }
-        _ => moves.push(Move::Key(Key::Char(char::from(letter))))?,
+// How many bytes a delivery brings.
+fn count_of(rt: &impl Abort, word: &str) -> usize {
+    match word {
+        "all" => usize::MAX,
+        _ => usize::from_str_radix(word, 10).expect(rt, "a count"),
+    }
+}
+
+// The record that is sent, by its opcode and its body.
+fn sent(rt: &impl Abort, alloc: Global, words: &str) -> Result<Move, Fail> {
+    let (number, hex) = words.split_once(' ').unwrap_or((words, ""));
+    let byte = u8::from_str_radix(number, 10).expect(rt, "a number");
+    let opcode = Opcode::from_byte(byte).expect(rt, "an opcode");
+    Ok(Move::Send(opcode, List::of(body_of(rt, alloc, hex)?)))
+}
+
+// So many bytes go to the station and so many to the host end, again and again.
+fn to_and_fro(moves: &mut Vec<Move>, count: usize, times: u8) -> Result<(), Fail> {
+    for _ in 0..times {
+        moves.push(Move::ToStation(count))?;
+        moves.push(Move::ToHost(count))?;
     }
     Ok(())
 }
 
-fn play(alloc: Global, script: &[u8]) -> Result<Report, Fault> {
-    let mut moves = Vec::new(alloc);
-    for letter in script {
-        if add(&mut moves, alloc, *letter).is_err() {
-            return Err(Fault::Memory);
+fn add_line(rt: &impl Abort, alloc: Global, moves: &mut Vec<Move>, line: &str) -> Result<(), Fail> {
+    let (command, words) = line.split_once(' ').unwrap_or((line, ""));
+    match command {
+        "settle" => to_and_fro(moves, usize::MAX, 4)?,
+        "trickle" => to_and_fro(moves, 1, 200)?,
+        "send" => moves.push(sent(rt, alloc, words)?)?,
+        "cancel" => moves.push(Move::Cancel)?,
+        "down" => moves.push(Move::ToStation(count_of(rt, words)))?,
+        "up" => moves.push(Move::ToHost(count_of(rt, words)))?,
+        "key" => moves.push(Move::Key(key_named(words).expect(rt, "a key")))?,
+        "type" => {
+            for key in typed(alloc, words)? {
+                moves.push(Move::Key(key))?;
+            }
         }
+        _ => panic!(rt; "a line"),
     }
-    World::run(alloc, TerminalType::Ibm3179Model2, moves.as_slice())
+    Ok(())
 }
 
-// An event as a letter: ready, answer, cancelled, a key that is locked.
-fn letter_of(event: &Event) -> u8 {
+fn play(rt: &impl Abort, alloc: Global, script: &str) -> Result<Report, Fail> {
+    let mut moves = Vec::new(alloc);
+    for line in script.lines() {
+        add_line(rt, alloc, &mut moves, line)?;
+    }
+    Ok(World::run(alloc, TerminalType::Ibm3179Model2, moves.as_slice()).expect(rt, "a session"))
+}
+
+// What an event is, in a word.
+fn name_of(event: &Event) -> &'static str {
     match event {
-        Event::Host(HostEvent::Ready(TerminalType::Ibm3179Model2)) => b'R',
-        Event::Host(HostEvent::Answer(_)) => b'A',
-        Event::Host(HostEvent::Cancelled) => b'C',
-        Event::KeyRefused(KeyFault::Key(KeyRefusal::Locked)) => b'L',
-        _ => b'?',
+        Event::Host(HostEvent::Ready(TerminalType::Ibm3179Model2)) => "ready",
+        Event::Host(HostEvent::Answer(_)) => "answer",
+        Event::Host(HostEvent::Cancelled) => "cancelled",
+        Event::KeyRefused(KeyFault::Key(KeyRefusal::Locked)) => "locked",
+        _ => "another",
     }
 }
+
+// A session and the events that it tells.
+#[derive(Clone, Copy)]
+struct Told {
+    name: &'static str,
+    script: &'static str,
+    events: &'static str,
+}
+
+const TOLD: [Told; 5] = [
+    Told {
+        name: "play-bob",
+        script: BOB,
+        events: "ready answer",
+    },
+    Told {
+        name: "play-cancel",
+        script: CANCELLED,
+        events: "ready cancelled locked",
+    },
+    Told {
+        name: "typed-while-arriving",
+        script: TYPED_WHILE_ARRIVING,
+        events: "ready answer",
+    },
+    Told {
+        name: "typed-too-early",
+        script: TYPED_TOO_EARLY,
+        events: "ready locked",
+    },
+    Told {
+        name: "byte-by-byte",
+        script: BYTE_BY_BYTE,
+        events: "ready answer",
+    },
+];
 
 #[test]
 fn sessions_tell_their_events_in_order(rt: HostRuntime) -> Result<(), Fail> {
     let alloc = rt.alloc();
-    for (name, script, events) in [
-        ("play-bob", b"sfsBOBes".as_slice(), b"RA".as_slice()),
-        ("play-cancel", b"sfcse".as_slice(), b"RCL".as_slice()),
-        (
-            "typed-while-arriving",
-            b"sfsBl5Oaes".as_slice(),
-            b"RA".as_slice(),
-        ),
-        ("typed-too-early", b"sftA".as_slice(), b"RL".as_slice()),
-        ("byte-by-byte", b"1f1BOBe1".as_slice(), b"RA".as_slice()),
-    ] {
-        let report = play(alloc, script).expect(&rt, name);
-        let mut told = Vec::new(alloc);
+    for told in TOLD {
+        let report = play(&rt, alloc, told.script)?;
+        let mut names = told.events.split(' ');
         for event in report.events.as_slice() {
-            told.push(letter_of(event))?;
+            assert_eq!(rt; Some(name_of(event)), names.next(), "{}", told.name);
         }
-        assert_eq!(rt; told.as_slice(), events, "{name}");
+        assert_eq!(rt; names.next(), None, "{}", told.name);
     }
     Ok(())
 }
 
-// Cursor, AID and the one field of the only answer.
+// Where the cursor was, and what the one field of the only answer holds.
+#[derive(Clone, Copy)]
+struct Answered {
+    script: &'static str,
+    column: u8,
+    content: &'static [u8],
+}
+
+const ANSWERED: [Answered; 3] = [
+    Answered {
+        script: BOB,
+        column: 56,
+        content: b"\xc2\xd6\xc2",
+    },
+    Answered {
+        script: BYTE_BY_BYTE,
+        column: 56,
+        content: b"\xc2\xd6\xc2",
+    },
+    Answered {
+        script: TYPED_WHILE_ARRIVING,
+        column: 55,
+        content: b"\xc2\xd6",
+    },
+];
+
 #[test]
 fn answers_hold_what_was_typed(rt: HostRuntime) -> Result<(), Fail> {
     let alloc = rt.alloc();
-    for (script, column, content) in [
-        (b"sfsBOBes".as_slice(), 56, b"\xc2\xd6\xc2".as_slice()),
-        (b"1f1BOBe1".as_slice(), 56, b"\xc2\xd6\xc2".as_slice()),
-        (b"sfsBl5Oaes".as_slice(), 55, b"\xc2\xd6".as_slice()),
-    ] {
-        let report = play(alloc, script).expect(&rt, "a session");
+    for row in ANSWERED {
+        let report = play(&rt, alloc, row.script)?;
         let mut answered = false;
         for event in report.events.as_slice() {
             if let Event::Host(HostEvent::Answer(answer)) = event {
                 assert!(rt; !answered);
                 answered = true;
-                assert_eq!(rt; (answer.cursor.row(), answer.cursor.col()), (6, column));
+                let cursor = (answer.cursor.row(), answer.cursor.col());
+                assert_eq!(rt; cursor, (6, row.column));
                 assert_eq!(rt; answer.aid.byte(), 0xf1);
                 for field in answer.fields.as_slice() {
                     assert_eq!(rt; (field.address.row(), field.address.col()), (6, 53));
-                    assert_eq!(rt; field.content.as_slice(), content);
+                    assert_eq!(rt; field.content.as_slice(), row.content);
                 }
                 assert_eq!(rt; answer.fields.as_slice().len(), 1);
             }
@@ -135,10 +236,10 @@ fn answers_hold_what_was_typed(rt: HostRuntime) -> Result<(), Fail> {
     Ok(())
 }
 
-// The screen of `typed-while-arriving`: what was typed while a record was on its way stays.
+// What was typed while a record was on its way stays.
 #[test]
-fn typed_while_arriving_stays_on_the_screen(rt: HostRuntime) {
-    let report = play(rt.alloc(), b"sfsBl5Oaes").expect(&rt, "a session");
+fn typed_while_arriving_stays_on_the_screen(rt: HostRuntime) -> Result<(), Fail> {
+    let report = play(&rt, rt.alloc(), TYPED_WHILE_ARRIVING)?;
     let screen = report.station.screen();
     for row in 1..25u8 {
         let line = screen.line(row);
@@ -150,31 +251,74 @@ fn typed_while_arriving_stays_on_the_screen(rt: HostRuntime) {
     assert_eq!(rt; (screen.cursor().row(), screen.cursor().col()), (6, 55));
     assert!(rt; screen.locked() && screen.message() && !screen.blink());
     assert_eq!(rt; screen.fields().len(), 1);
+    Ok(())
 }
 
-// What is in flight to the station and to the host end behind each delivery of an opening (RFC 4777).
+// What is in flight to the station and to the host end behind so many full deliveries of an opening,
+// first one to the station (RFC 4777).
+#[derive(Clone, Copy)]
+struct InFlight {
+    deliveries: usize,
+    to_station: &'static [u8],
+    to_host: &'static [u8],
+}
+
+const OPENING: [InFlight; 7] = [
+    InFlight {
+        deliveries: 0,
+        to_station: b"\xff\xfd\x18",
+        to_host: b"",
+    },
+    InFlight {
+        deliveries: 1,
+        to_station: b"",
+        to_host: b"\xff\xfb\x18",
+    },
+    InFlight {
+        deliveries: 2,
+        to_station: b"\xff\xfa\x18\x01\xff\xf0",
+        to_host: b"",
+    },
+    InFlight {
+        deliveries: 3,
+        to_station: b"",
+        to_host: b"\xff\xfa\x18\x00IBM-3179-2\xff\xf0",
+    },
+    InFlight {
+        deliveries: 4,
+        to_station: b"\xff\xfd\x19\xff\xfb\x19\xff\xfd\x00\xff\xfb\x00",
+        to_host: b"",
+    },
+    InFlight {
+        deliveries: 5,
+        to_station: b"",
+        to_host: b"\xff\xfb\x19\xff\xfd\x19\xff\xfb\x00\xff\xfd\x00",
+    },
+    InFlight {
+        deliveries: 6,
+        to_station: b"",
+        to_host: b"",
+    },
+];
+
 #[test]
-fn opening_in_full_deliveries(rt: HostRuntime) {
-    let requests = b"\xff\xfd\x19\xff\xfb\x19\xff\xfd\x00\xff\xfb\x00".as_slice();
-    let agreements = b"\xff\xfb\x19\xff\xfd\x19\xff\xfb\x00\xff\xfd\x00".as_slice();
-    let name = b"\xff\xfa\x18\x00IBM-3179-2\xff\xf0".as_slice();
-    for (script, to_station, to_host) in [
-        (b"".as_slice(), b"\xff\xfd\x18".as_slice(), b"".as_slice()),
-        (b"a".as_slice(), b"".as_slice(), b"\xff\xfb\x18".as_slice()),
-        (
-            b"au".as_slice(),
-            b"\xff\xfa\x18\x01\xff\xf0".as_slice(),
-            b"".as_slice(),
-        ),
-        (b"aua".as_slice(), b"".as_slice(), name),
-        (b"auau".as_slice(), requests, b"".as_slice()),
-        (b"auaua".as_slice(), b"".as_slice(), agreements),
-        (b"auauau".as_slice(), b"".as_slice(), b"".as_slice()),
-    ] {
-        let report = play(rt.alloc(), script).expect(&rt, "a session");
-        assert_eq!(rt; report.to_station.as_slice(), to_station);
-        assert_eq!(rt; report.to_host.as_slice(), to_host);
-        let opened = script.len() == 6;
+fn opening_in_full_deliveries(rt: HostRuntime) -> Result<(), Fail> {
+    let alloc = rt.alloc();
+    for row in OPENING {
+        let mut moves = Vec::new(alloc);
+        for delivery in 0..row.deliveries {
+            if delivery % 2 == 0 {
+                moves.push(Move::ToStation(usize::MAX))?;
+            } else {
+                moves.push(Move::ToHost(usize::MAX))?;
+            }
+        }
+        let terminal = TerminalType::Ibm3179Model2;
+        let report = World::run(alloc, terminal, moves.as_slice()).expect(&rt, "a session");
+        assert_eq!(rt; report.to_station.as_slice(), row.to_station);
+        assert_eq!(rt; report.to_host.as_slice(), row.to_host);
+        let opened = row.deliveries == 6;
         assert_eq!(rt; report.events.as_slice().len(), usize::from(opened));
     }
+    Ok(())
 }

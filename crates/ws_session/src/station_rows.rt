@@ -1,34 +1,48 @@
 // A station by itself, by worked examples.
 use crate::end_rows::{
-    BOB, OPENING, PAST_END, key, last_event, push_all, ready_host, ready_station, record,
+    BOB, OPENING, PAST_END, key_named, keys_of, last_event, push_all, ready_host, ready_station,
+    record,
 };
 use crate::{HostEvent, KeyFault, Refusal, Station, write_answer};
+use std::alloc::Global;
 use std::process::Abort;
 use std::test::Fail;
 use ws_code::{Address, Fault, Reason, StuckSink, VecSink};
-use ws_keys::{Key, KeyRefusal};
+use ws_keys::{Answer, KeyRefusal};
 use ws_nego::TerminalType;
 use ws_screen::Screen;
 
-// What keys do, each by a letter: nothing told, an answer, or why it is refused.
-fn press_all(rt: &impl Abort, station: &mut Station, letters: &[u8], outcomes: &[u8]) {
-    assert_eq!(rt; letters.len(), outcomes.len());
-    for (letter, outcome) in letters.iter().zip(outcomes.iter()) {
-        let told = match station.key(key(rt, *letter)) {
-            Ok(None) => b'.',
-            Ok(Some(_)) => b'A',
-            Err(KeyFault::Failed) => b'F',
-            Err(KeyFault::NotReady) => b'n',
-            Err(KeyFault::Key(KeyRefusal::Locked)) => b'L',
-            Err(KeyFault::Key(KeyRefusal::Protected)) => b'P',
-            Err(KeyFault::Key(KeyRefusal::WrongCharacter)) => b'W',
-            Err(KeyFault::Key(KeyRefusal::DupNotAllowed)) => b'D',
-            Err(KeyFault::Key(KeyRefusal::NoRoom)) => b'N',
-            Err(KeyFault::Key(KeyRefusal::NoReadPending)) => b'R',
-            Err(KeyFault::Key(KeyRefusal::MandatoryEnter)) => b'M',
-        };
-        assert_eq!(rt; told, *outcome, "key {letter}");
+// What a key does, in a word: nothing told, an answer, or why it is refused.
+fn outcome_of(pressed: Result<Option<Answer>, KeyFault>) -> &'static str {
+    match pressed {
+        Ok(None) => "silent",
+        Ok(Some(_)) => "answers",
+        Err(KeyFault::Failed) => "failed",
+        Err(KeyFault::NotReady) => "not-ready",
+        Err(KeyFault::Key(KeyRefusal::Locked)) => "locked",
+        Err(KeyFault::Key(KeyRefusal::Protected)) => "protected",
+        Err(KeyFault::Key(KeyRefusal::WrongCharacter)) => "wrong-character",
+        Err(KeyFault::Key(KeyRefusal::DupNotAllowed)) => "no-dup",
+        Err(KeyFault::Key(KeyRefusal::NoRoom)) => "no-room",
+        Err(KeyFault::Key(KeyRefusal::NoReadPending)) => "no-read",
+        Err(KeyFault::Key(KeyRefusal::MandatoryEnter)) => "mandatory",
     }
+}
+
+// Presses keys; each word names a key, or letters to type, and what each of these does.
+fn press_all(
+    rt: &impl Abort,
+    alloc: Global,
+    station: &mut Station,
+    presses: &str,
+) -> Result<(), Fail> {
+    for press in presses.split(' ') {
+        let (keys, outcome) = press.split_once(':').expect(rt, "an outcome");
+        for key in keys_of(alloc, keys)? {
+            assert_eq!(rt; outcome_of(station.key(key)), outcome, "{press}");
+        }
+    }
+    Ok(())
 }
 
 // Where a station refuses a record of this body, counted from the record's first byte, and why.
@@ -123,13 +137,13 @@ fn stations_refuse_records(rt: HostRuntime) -> Result<(), Fail> {
         refused_at(&rt, &mut early, invite),
         (11, Reason::RecordBeforeNegotiation)
     );
-    press_all(&rt, &mut early, b"A", b"F");
+    press_all(&rt, alloc, &mut early, "A:failed")?;
     // A data byte past the screen's end. What was on the screen stays, a letter typed inside the record too.
     let past_end = record(&rt, alloc, PAST_END);
     assert!(rt; past_end.len() == 21);
     let mut station = ready_station(&rt, alloc, BOB)?;
     push_all(&rt, alloc, &mut station, &past_end[..10])?;
-    press_all(&rt, &mut station, b"B", b".");
+    press_all(&rt, alloc, &mut station, "B:silent")?;
     let mut before = Screen::new();
     before.assign(station.screen());
     assert_eq!(rt;
@@ -150,23 +164,19 @@ fn keys_are_refused(rt: HostRuntime) -> Result<(), Fail> {
     let mandatory =
         b"\x04\x40\x04\x11\x00\x08\x11\x06\x34\x1d\x40\x08\x20\x00\x0a\x04\x52\x00\x00".as_slice();
     let mut closed = Station::new(TerminalType::Ibm3179Model2);
-    press_all(&rt, &mut closed, b"east", b"nnnL");
-    for (body, letters, outcomes) in [
-        (b"".as_slice(), b"t".as_slice(), b"L".as_slice()),
+    let unready = "Enter:not-ready Attention:not-ready SystemRequest:not-ready Tab:locked";
+    press_all(&rt, alloc, &mut closed, unready)?;
+    for (body, presses) in [
+        (b"".as_slice(), "Tab:locked"),
         (
             BOB,
-            b"odlArABCDEFGHIJiee".as_slice(),
-            b"WD.P...........NAL".as_slice(),
+            "\u{20ac}:wrong-character Dup:no-dup Left:silent A:protected Right:silent ABCDEFGHIJ:silent Insert:no-room Enter:answers Enter:locked",
         ),
-        (no_read, b"e".as_slice(), b"R".as_slice()),
-        (mandatory, b"ec".as_slice(), b"MA".as_slice()),
+        (no_read, "Enter:no-read"),
+        (mandatory, "Enter:mandatory Clear:answers"),
     ] {
-        press_all(
-            &rt,
-            &mut ready_station(&rt, alloc, body)?,
-            letters,
-            outcomes,
-        );
+        let mut station = ready_station(&rt, alloc, body)?;
+        press_all(&rt, alloc, &mut station, presses)?;
     }
     Ok(())
 }
@@ -196,29 +206,29 @@ fn the_largest_record_is_kept_without_memory(rt: HostRuntime) -> Result<(), Fail
 fn attention_records(rt: HostRuntime) -> Result<(), Fail> {
     let alloc = rt.alloc();
     let mut station = ready_station(&rt, alloc, b"")?;
-    for (letter, written) in [
+    for (name, written) in [
         (
-            b'a',
+            "Attention",
             b"\x00\x0a\x12\xa0\x00\x00\x04\x40\x00\x00\xff\xef".as_slice(),
         ),
         (
-            b's',
+            "SystemRequest",
             b"\x00\x0a\x12\xa0\x00\x00\x04\x04\x00\x00\xff\xef".as_slice(),
         ),
     ] {
-        match station.key(key(&rt, letter)) {
+        match station.key(key_named(name).expect(&rt, "a key")) {
             Ok(Some(answer)) => {
                 let mut sink = VecSink::new(alloc);
                 assert!(rt; write_answer(&mut sink, &answer).is_ok());
                 assert_eq!(rt; sink.as_slice(), written);
                 assert_eq!(rt; write_answer(&mut StuckSink, &answer), Err(Fault::Write));
                 let mut host = ready_host(&rt, alloc);
-                let event = last_event(&rt, &mut host, written);
-                match (letter, event) {
-                    (b'a', Some(HostEvent::Attention)) | (b's', Some(HostEvent::SystemRequest)) =>
-                        {}
-                    _ => panic!(rt; "its event"),
-                }
+                let told = match last_event(&rt, &mut host, written) {
+                    Some(HostEvent::Attention) => "Attention",
+                    Some(HostEvent::SystemRequest) => "SystemRequest",
+                    _ => "another",
+                };
+                assert_eq!(rt; told, name);
             }
             _ => panic!(rt; "a record"),
         }

@@ -1,6 +1,7 @@
 //! What a host end does at an item.
 ghost use Rattle.std.specs.Prelude.{◌≡◌, None, Some, IfOk, IfErr, OnErr};
 ghost use Rattle.ws_nego.specs.Host.{host_answer};
+ghost use Rattle.ws_session.specs.Ends.{StandsAt};
 ghost use Rattle.ws_session.specs.HostLeads.{HostStands, IsReacted};
 ghost use Rattle.ws_session.specs.HostSide.{HostSide, host_takes, host_negotiates, host_takes_record, host_reads_by, host_ends_cancel, ready_event};
 ghost use Rattle.ws_session.specs.HostSide as side_spec;
@@ -32,6 +33,8 @@ impl HostEnd {
     pub(super) fn react(&mut self, item: &Item<AnswerPart>, place: u64) -> Result<HostStep, Refusal>
         ensures reacted { (side : HostSide) → HostStands self.old side
             → IsReacted self.old self.new (host_takes side item.now) place result }
+        ensures same { self.new.receiver ≡ self.old.receiver }
+        ensures at { IfErr result (λ why. StandsAt why place) }
         ensures after { IfErr result (λ why. self.new.ended ≡ Some why) }
         ensures seen { OnErr result (self.new.screen ≡ self.old.screen) }
         ensures quiet { IfOk result (λ step. step.event ≡ None
@@ -53,6 +56,8 @@ impl HostEnd {
         ensures reacted { (side : HostSide) → HostStands self.old side
             → IsReacted self.old self.new
             (host_negotiates side (host_answer side.options token.now)) place result }
+        ensures same { self.new.receiver ≡ self.old.receiver }
+        ensures at { IfErr result (λ why. StandsAt why place) }
         ensures after { IfErr result (λ why. self.new.ended ≡ Some why) }
         ensures seen { OnErr result (self.new.screen ≡ self.old.screen) }
         ensures quiet { IfOk result (λ step. step.event ≡ None
@@ -87,6 +92,8 @@ impl HostEnd {
             → IsReacted self.old self.new
             (host_takes_record side record_.now.flags record_.now.opcode record_.now.body)
             place result }
+        ensures same { self.new.receiver ≡ self.old.receiver }
+        ensures at { IfErr result (λ why. StandsAt why place) }
         ensures after { IfErr result (λ why. self.new.ended ≡ Some why) }
         ensures seen { OnErr result (self.new.screen ≡ self.old.screen) }
         ensures quiet { IfOk result (λ step. step.event ≡ None
@@ -111,6 +118,8 @@ impl HostEnd {
         ensures reacted { (side : HostSide) → HostStands self.old side
             → IsReacted self.old self.new
             (host_reads_by side (side_spec.asked_read side) parts.now) place result }
+        ensures same { self.new.receiver ≡ self.old.receiver }
+        ensures at { IfErr result (λ why. StandsAt why place) }
         ensures after { IfErr result (λ why. self.new.ended ≡ Some why) }
         ensures seen { OnErr result (self.new.screen ≡ self.old.screen) }
         ensures quiet { IfOk result (λ step. step.event ≡ None
@@ -134,6 +143,8 @@ impl HostEnd {
     fn end_cancel(&mut self, place: u64) -> Result<HostStep, Refusal>
         ensures reacted { (side : HostSide) → HostStands self.old side
             → IsReacted self.old self.new (host_ends_cancel side side.cancelling) place result }
+        ensures same { self.new.receiver ≡ self.old.receiver }
+        ensures at { IfErr result (λ why. StandsAt why place) }
         ensures after { IfErr result (λ why. self.new.ended ≡ Some why) }
         ensures seen { OnErr result (self.new.screen ≡ self.old.screen) }
         ensures quiet { IfOk result (λ step. step.event ≡ None

@@ -3,6 +3,7 @@ use Rattle.std.proofs.Common.{◌≡◌, ◌+◌, ◌-◌, ◌<◌, ◌≤◌, �
 use Rattle.std.proofs.Common.{false}
 use Rattle.std.proofs.Common.{length, take, drop, refl, sym, subst, ap, ◌∙◌, arith, add-zero}
 use Rattle.std.proofs.lemmas.List.{length-drop}
+use Rattle.ws_session.specs.Ends.{CountsUpTo}
 use Rattle.ws_session.specs.HostFeeds.{HasHostFed, HasHostRefused, IsHostSilent}
 use Rattle.ws_session.specs.declared.host_event.HostEvent.{HostEvent}
 use Rattle.ws_c.specs.declared.status.Status.TheVariants.{Done, NoRoom}
@@ -69,7 +70,7 @@ loop-told-preserved c =
                 fed.reply o) untold
                 (subst (λ (x : List ℕ). HasHostFed new b its s (take k x) fed.reply fed.event) is
                 (e.fed b its s l (subst (λ (x : List ℕ). length b + length x + 1 < 2 ^ 64) (sym is) fits))))
-                (λ ended. (let x = (e.failed ended).0 in cc)) (λ full. (let x = e.full full in cc)),
+                e.counted (λ ended. (let x = (e.failed ended).0 in cc)) (λ full. (let x = e.full full in cc)),
             f.takes.1,
             f.takes.2,
           ))
@@ -150,7 +151,9 @@ returns-in-Err c =
     host_refuses old new (drop n bytes) refusal m few
     (λ b its s l fits. subst (λ (x : List ℕ). HasHostRefused old new b its s x refusal) is
     (e.refused b its s l (subst (λ (x : List ℕ). length b + length x + 1 < 2 ^ 64) (sym is) fits)))
-    (λ h. (let x = e.full h in cc)) (λ h. ((let x = (e.failed h).0 in cc), (e.failed h).1)) e.after e.seen in
+    (λ h. (let x = e.full h in cc)) (λ h. ((let x = (e.failed h).0 in cc), (e.failed h).1)) e.after e.seen
+    (subst (λ (x : List ℕ). old.receiver.live.taken + length x < 2 ^ 64
+    → CountsUpTo refusal old.receiver.live.taken new.receiver.live.taken (length x)) is e.counted_up) in
     let one = one_left bytes n n c.loop-told-test.true refl in
     record {
       counted = omega (arith, c.tell_push_refusal.ensures.taken, few, length-drop n bytes, f.inside);
@@ -207,6 +210,7 @@ returns-then-is_some c =
           (subst (λ (o : Option HostEvent). HasHostFed new b its s (take k (drop n bytes)) fed.reply o) tells.1
           (subst (λ (x : List ℕ). HasHostFed new b its s (take k x) fed.reply fed.event) is
           (e.fed b its s l (subst (λ (x : List ℕ). length b + length x + 1 < 2 ^ 64) (sym is) fits))));
+      counted = e.counted;
       first = λ b its s l fits m few. subst (λ (x : List ℕ). IsHostSilent b its s (take m x)) is
           (e.first b its s l (subst (λ (x : List ℕ). length b + length x + 1 < 2 ^ 64) (sym is) fits) m few);
       works = λ ended. (let x = (e.failed ended).0 in cc);

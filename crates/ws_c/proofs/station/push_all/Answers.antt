@@ -2,6 +2,7 @@ use Rattle.std.specs.Prelude.{min}
 use Rattle.std.proofs.Common.{◌≡◌, ◌+◌, ◌-◌, ◌<◌, ◌≤◌, ◌^◌, ◌++◌, ℕ, List, [], length, take, drop, refl, sym, subst, ap}
 use Rattle.std.proofs.Common.{◌∙◌, arith}
 use Rattle.std.proofs.lemmas.List.{length-drop}
+use Rattle.ws_session.specs.Ends.{CountsUpTo}
 use Rattle.ws_session.specs.StationFeeds.{HasFed, HasRefused}
 use Rattle.ws_c.specs.declared.status.Status.TheVariants.{Done, NoRoom}
 use Rattle.ws_c.specs.declared.told.PushedTold.{PushedTold}
@@ -54,7 +55,7 @@ loop-told-preserved c =
           (λ b its s l fits. subst
           (λ (x : List ℕ). HasFed c.feed.new.self b its s (take k x) fed.reply fed.ends_record) is
           (e.fed b its s l (subst (λ (x : List ℕ). length b + length x + 1 < 2 ^ 64) (sym is) fits)))
-          (λ ended. (let x = (e.failed ended).0 in cc)) (λ full. (let x = e.full full in cc))))
+          e.counted (λ ended. (let x = (e.failed ended).0 in cc)) (λ full. (let x = e.full full in cc))))
           (c.put_behind.ensures f.written c.args.buffer.now (sym f.replied_is) f.put);
       told = ap (λ (t : PushedTold). record t { taken = t.taken + k; replied = t.replied + length text })
           now.invariant.told;
@@ -121,7 +122,10 @@ returns-in-Err c =
     station_refuses now.station new (drop n bytes) last refusal m few
     (λ b its s l fits. subst (λ (x : List ℕ). HasRefused now.station new b its s x refusal) is
     (e.refused b its s l (subst (λ (x : List ℕ). length b + length x + 1 < 2 ^ 64) (sym is) fits)))
-    (λ h. (let x = e.full h in cc)) (λ h. ((let x = (e.failed h).0 in cc), (e.failed h).1)) e.after e.seen in
+    (λ h. (let x = e.full h in cc)) (λ h. ((let x = (e.failed h).0 in cc), (e.failed h).1)) e.after e.seen
+    c.taken.ensures.count
+    (subst (λ (x : List ℕ). now.station.live.taken + length x < 2 ^ 64
+    → CountsUpTo refusal now.station.live.taken new.live.taken (length x)) is e.counted_up) in
     let one = one_left bytes n n c.loop-told-test.true refl in
     record {
       counted = omega (arith, c.tell_push_refusal.ensures.taken, few, length-drop n bytes, f.inside);

@@ -14,6 +14,7 @@ use Rattle.ws_session.specs.HostLeads.{HostLeads}
 use Rattle.ws_session.specs.Manners.{host_manner}
 use Rattle.ws_stream.specs.AnswerParts.{answer_rules}
 use Rattle.ws_stream.specs.Elements.{element_rules}
+use Rattle.ws_session.proofs.Counts.{counted_on, counted_up}
 use Rattle.ws_session.proofs.Feedings.{quiet_upto}
 use Rattle.ws_session.proofs.HostFeedings.{host_fed_on, host_quiet_on, host_refused_on, host_fed_none, host_silent_none}
 use Rattle.ws_session.proofs.host_end.HostEnd.feed.Goals as goal
@@ -38,6 +39,7 @@ loop-used-init c = (
   refl,
   λ bytes items side l fits.
       (host_fed_none c.args.self.now bytes items side l, host_silent_none bytes items side c.args.piece.now),
+  λ fits. omega arith,
 )
 
 pub returns-in_err-reply-clause-refused : goal.returns-in_err-reply-clause-refused
@@ -59,6 +61,21 @@ returns-in_err-reply-clause-refused c =
     (λ (r : Result HostStep Refusal). IsHostFronted now f.new.self (b ++ take k (left_of piece i)) its s r)
     c.in_err-reply.was (f.ensures.fronted b its s m room))
     f.ensures.first fits c.loop-used.invariant.0)
+
+pub returns-in_err-reply-clause-counted_up : goal.returns-in_err-reply-clause-counted_up
+returns-in_err-reply-clause-counted_up c =
+    let p = err_from_is_err_and c.from_residual.result c.from_residual.ensures.1 in
+    let now = c.loop-used in
+    let f = c.take_front-front in
+    let why : Refusal = c.in_err-reply.field-0.0 in
+    rw (p.1, p.2) (counted_up why c.args.self.now.receiver.live.taken now.self.receiver.live.taken
+    f.new.self.receiver.live.taken now.used f.result.used (length (left_of c.args.piece.now now.used))
+    (length c.args.piece.now) now.invariant.0 f.ensures.within (left_length c.args.piece.now now.used)
+    now.invariant.3 f.ensures.counted
+    (λ other. f.ensures.used
+    (λ e. other (let same : ◌≡◌ {A = Result HostStep Refusal} (Err why) (Err Failed) = sym c.in_err-reply.was
+    ∙ e in cc)))
+    (rw c.in_err-reply.was at f.ensures.at))
 
 pub returns-then-is_some-2-clause-fed : goal.returns-then-is_some-2-clause-fed
 returns-then-is_some-2-clause-fed c = λ bytes items side l fits.
@@ -121,4 +138,7 @@ loop-used-preserved c =
                 (HostLeads f.new.self) k still
                 (host_quiet_on bytes items side piece i now inv.0 k f.ensures.within f.ensures.first inv.1),
           )),
+      counted_on c.args.self.now.receiver.live.taken c.loop-used.self.receiver.live.taken
+          c.take_front-front.new.self.receiver.live.taken c.loop-used.used c.take_front-front.result.used
+          c.loop-used.invariant.3 c.take_front-front.ensures.counted,
     )

@@ -9,6 +9,7 @@ use Rattle.ws_session.specs.declared.refusal.Refusal.TheVariants.{Failed}
 use Rattle.ws_session.specs.declared.station.StationStep.{StationStep}
 use Rattle.ws_session.specs.StationFeeds.{HasFed}
 use Rattle.ws_session.specs.StationFronts.{IsFronted}
+use Rattle.ws_session.proofs.Counts.{counted_on, counted_up}
 use Rattle.ws_session.proofs.StationFeedings.{fed_on, silent_on, still_on, refused_on, fed_none, silent_none}
 use Rattle.ws_session.proofs.station.Station.feed.Goals as goal
 
@@ -28,6 +29,7 @@ loop-used-init c = (
   refl,
   λ bytes items side l fits.
       (fed_none c.args.self.now bytes items side l, silent_none bytes items side c.args.piece.now),
+  λ fits. omega arith,
 )
 
 pub returns-in_err-reply-clause-refused : goal.returns-in_err-reply-clause-refused
@@ -49,6 +51,20 @@ returns-in_err-reply-clause-refused c =
     (λ (r : Result StationStep Refusal). IsFronted now f.new.self (b ++ take k (left_of piece i)) its s r)
     c.in_err-reply.was (f.ensures.fronted b its s m room))
     f.ensures.first fits c.loop-used.invariant.0)
+
+pub returns-in_err-reply-clause-counted_up : goal.returns-in_err-reply-clause-counted_up
+returns-in_err-reply-clause-counted_up c =
+    let p = err_from_is_err_and c.from_residual.result c.from_residual.ensures.1 in
+    let now = c.loop-used in
+    let f = c.take_front-front in
+    let why : Refusal = c.in_err-reply.field-0.0 in
+    rw (p.1, p.2) (counted_up why c.args.self.now.live.taken now.self.live.taken f.new.self.live.taken now.used
+    f.result.used (length (left_of c.args.piece.now now.used)) (length c.args.piece.now) now.invariant.0
+    f.ensures.within (left_length c.args.piece.now now.used) now.invariant.3 f.ensures.counted
+    (λ other. f.ensures.used
+    (λ e. other (let same : ◌≡◌ {A = Result StationStep Refusal} (Err why) (Err Failed) = sym c.in_err-reply.was
+    ∙ e in cc)))
+    (rw c.in_err-reply.was at f.ensures.at))
 
 pub returns-then-ends_record-clause-fed : goal.returns-then-ends_record-clause-fed
 returns-then-ends_record-clause-fed c = λ bytes items side l fits.
@@ -109,4 +125,6 @@ loop-used-preserved c = (
         still_on bytes items side piece i now inv.0 f.new.self k still
             (silent_on bytes items side piece i now inv.0 k f.ensures.within f.ensures.first inv.1),
       )),
+  counted_on c.args.self.now.live.taken c.loop-used.self.live.taken c.take_front-front.new.self.live.taken
+      c.loop-used.used c.take_front-front.result.used c.loop-used.invariant.3 c.take_front-front.ensures.counted,
 )

@@ -13,6 +13,7 @@ invariant-loop-used l = (l.used ≤ length l.piece) × (l.self.screen ≡ l.fn.s
     → length bytes + length l.piece + 1 < 2 ^ 64
     → HasFed l.self bytes items side (take l.used l.piece) [] false
     × ((n : ℕ) → n ≤ l.used → IsSilent bytes items side (take n l.piece)))
+    × (l.fn.self.live.taken + l.used < 2 ^ 64 → l.self.live.taken ≡ l.fn.self.live.taken + l.used)
 
 abbrev pub decreases-loop-used : goal.decreases-loop-used
 decreases-loop-used l = length l.piece - l.used
