@@ -39,12 +39,12 @@ fn shown_char(byte: u8) -> char
     ensures value { result ≡ Spec.shown_char byte }
     ensures latin { result < 256 }
 {
-    match ebcdic::to_char(byte) {
-        Some(character) => character,
-        None => match byte {
-            0x00 | 0x20..=0x3F => ' ',
-            DUP => '*',
-            _ => '.',
+    match byte {
+        0x00 | 0x20..=0x3F => ' ',
+        DUP => '*',
+        _ => match ebcdic::to_char(byte) {
+            Some(character) => character,
+            None => '.',
         },
     }
 }
