@@ -12,7 +12,7 @@ use crate::cell_fields::{fields_behind, index_at, passed};
 use crate::held::{on_held, on_station};
 use crate::{Handle, Machine, Status};
 use std::alloc::Global;
-use ws_code::{Address, CELLS, COLUMNS};
+use ws_code::{Address, COLUMNS};
 use ws_screen::{Screen, Shown};
 use ws_session::Station;
 
@@ -64,13 +64,13 @@ fn tell_cells(screen: &Screen, first: usize, cells: &mut [CellTold])
 {
     screen.known();
     let fields = screen.fields();
-    let mut all = [Shown::default(); CELLS as usize];
-    let shown = &mut all[..cells.len()];
-    screen.show_cells(address(first), shown);
     let (mut field, mut ahead) = fields_behind(fields.as_slice(), first as u16);
+    let mut attribute = screen.attribute_at(address(first));
     for (index, cell) in cells.iter_mut().enumerate() {
         let at = address(first + index);
-        *cell = cell_told(screen, index_at(field, ahead, at), at, shown[index]);
+        let (shown, next) = attribute.show(screen.cell(at));
+        *cell = cell_told(screen, index_at(field, ahead, at), at, shown);
+        attribute = next;
         if let Some(behind) = passed(ahead, at.place() + 1) {
             field += 1;
             ahead = behind;

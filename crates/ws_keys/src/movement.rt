@@ -1,6 +1,5 @@
 //! Where keys move the cursor.
-ghost use Rattle.std.specs.Prelude.{◌≡◌, ◌<◌, ◌+◌, ◌%◌, ◌∷◌, ◌&&◌, [], Some, None, find, nat_lt, if◌then◌else◌};
-ghost use Rattle.ws_screen.specs.Formats.{find_last};
+ghost use Rattle.std.specs.Prelude.{◌≡◌, ◌<◌, ◌+◌, ◌%◌, ◌∷◌, ◌&&◌, [], Some, None, find, nat_lt, reverse};
 ghost use Rattle.ws_screen.specs.Keyed.{cursor_edit};
 ghost use Rattle.ws_screen.specs.ScreenParts.{is_non_bypass};
 ghost use Rattle.ws_keys.specs.Keys as Spec;
@@ -39,7 +38,7 @@ pub fn next_field(screen: &Screen) -> Address
 {
     let fields = screen.fields();
     let cursor = screen.cursor();
-    match first_behind(fields.as_slice(), cursor).or(first_non_bypass(fields.as_slice())) {
+    match first_behind(fields.as_slice(), cursor).or(screen.first_non_bypass()) {
         Some(field) => field.start,
         None => cursor,
     }
@@ -63,27 +62,11 @@ fn opens_before(field: &Field, at: Address) -> bool
 fn first_behind(fields: &[Field], at: Address) -> Option<Field>
     ensures { result ≡ find (λ f. is_non_bypass f && nat_lt at f.start) fields.now }
 {
-    for field in fields {
-        if opens_behind(field, at) {
-            return Some(*field);
-        }
-    }
-    None
-}
-
-// The first field that keys enter.
-fn first_non_bypass(fields: &[Field]) -> Option<Field>
-    ensures { result ≡ find is_non_bypass fields.now }
-{
-    for field in fields {
-        if !field.format.bypass() {
-            return Some(*field);
-        }
-    }
-    None
+    fields.iter().copied().find(|field| opens_behind(field, at))
 }
 
 // The field to go back to.
+#[tactic(auto, using(crate::proofs::SearchLemmas::find_last_is))]
 pub fn field_before(screen: &Screen) -> Address
     ensures { result ≡ Spec.field_before screen.now }
 {
@@ -95,31 +78,24 @@ pub fn field_before(screen: &Screen) -> Address
     }
 }
 
-// The later one of two fields, where it passes.
-fn last_of(last: Option<Field>, passes: bool, field: Field) -> Option<Field>
-    ensures { result ≡ (if passes then Some field else last) }
-{
-    if passes { Some(field) } else { last }
-}
-
 // The last field that starts before a place, of those that keys enter.
 fn last_before(fields: &[Field], at: Address) -> Option<Field>
-    ensures { result ≡ find_last (λ f. is_non_bypass f && nat_lt f.start at) fields.now }
+    ensures { result ≡ find (λ f. is_non_bypass f && nat_lt f.start at) (reverse fields.now) }
 {
-    let mut last = None;
-    for field in fields {
-        last = last_of(last, opens_before(field, at), *field);
-    }
-    last
+    fields
+        .iter()
+        .rev()
+        .copied()
+        .find(|field| opens_before(field, at))
 }
 
 // The last field that keys enter.
 fn last_non_bypass(fields: &[Field]) -> Option<Field>
-    ensures { result ≡ find_last is_non_bypass fields.now }
+    ensures { result ≡ find is_non_bypass (reverse fields.now) }
 {
-    let mut last = None;
-    for field in fields {
-        last = last_of(last, !field.format.bypass(), *field);
-    }
-    last
+    fields
+        .iter()
+        .rev()
+        .copied()
+        .find(|field| !field.format.bypass())
 }

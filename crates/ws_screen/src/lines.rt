@@ -12,16 +12,6 @@ use ws_code::ebcdic;
 /// What the key Dup leaves in a cell (SC30-3533, Dup key); it shows as an asterisk.
 pub const DUP: u8 = 0x1c;
 
-// The attribute in force behind a byte, if the one before it is given.
-fn behind(byte: u8, before: Attribute) -> Attribute
-    ensures { result ≡ (if is_attribute byte then byte else before) }
-{
-    match Attribute::from_byte(byte) {
-        Some(attribute) => attribute,
-        None => before,
-    }
-}
-
 // The last byte of a list that is an attribute.
 fn last_attribute(cells: &[u8]) -> Option<u8>
     ensures { result ≡ find is_attribute (reverse cells.now) }
@@ -39,7 +29,7 @@ pub fn attribute_at(cells: &[u8], at: usize) -> Attribute
     ensures { result ≡ Spec.attribute_at cells.now at }
 {
     match last_attribute(&cells[..at]) {
-        Some(byte) => behind(byte, Attribute::default()),
+        Some(byte) => Attribute::default().show(byte).1,
         None => Attribute::default(),
     }
 }
@@ -70,19 +60,23 @@ fn character_under(attribute: Attribute, byte: u8) -> char
     }
 }
 
-/// What a byte shows under an attribute.
-pub fn shown_under(attribute: Attribute, byte: u8) -> Shown
-    ensures value { result ≡ Spec.shown_under attribute byte }
-    ensures latin { result.character < 256 }
-{
-    let character = character_under(attribute, byte);
-    let attribute = match Attribute::from_byte(byte) {
-        Some(_) => Attribute::default(),
-        None => attribute,
-    };
-    Shown {
-        character,
-        attribute,
+impl Attribute {
+    /// What a cell of this byte shows where the attribute is in force, and the attribute in force
+    /// at the cell behind it.
+    pub fn show(self, byte: u8) -> (Shown, Attribute)
+        ensures value { result.0 ≡ Spec.shown_under self byte }
+        ensures behind { result.1 ≡ (if is_attribute byte then byte else self) }
+        ensures latin { result.0.character < 256 }
+    {
+        let (character, attribute, behind) = match Attribute::from_byte(byte) {
+            Some(own) => (' ', Attribute::default(), own),
+            None => (character_under(self, byte), self, self),
+        };
+        let shown = Shown {
+            character,
+            attribute,
+        };
+        (shown, behind)
     }
 }
 
@@ -95,9 +89,9 @@ pub fn show(cells: &[u8], first: usize, shown: &mut [Shown])
 {
     let mut attribute = attribute_at(cells, first);
     for (index, cell) in shown.iter_mut().enumerate() {
-        let byte = cells[first + index];
-        *cell = shown_under(attribute, byte);
-        attribute = behind(byte, attribute);
+        let (here, behind) = attribute.show(cells[first + index]);
+        *cell = here;
+        attribute = behind;
     }
 }
 

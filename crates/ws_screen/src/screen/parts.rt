@@ -1,10 +1,10 @@
 //! What a screen tells of its parts.
 ghost use Rattle.std.specs.Prelude.{◌≡◌, ◌≤◌, false, length, slice_index, find, is_some};
 ghost use Rattle.ws_code.specs.DataByte.{is_order};
-ghost use Rattle.ws_screen.specs.ScreenParts.{AreApart, IsLegal, holds, home_of};
+ghost use Rattle.ws_screen.specs.ScreenParts.{AreApart, IsLegal, holds, home_of, is_non_bypass};
 
-use crate::format_table::{MAX_FIELDS, copy_of, first_non_bypass};
-use crate::{Field, ReadKind, Screen, searches};
+use crate::format_table::{MAX_FIELDS, copy_of};
+use crate::{Field, ReadKind, Screen, format_table, searches};
 use arrayvec::ArrayVec;
 use ws_code::Address;
 
@@ -48,6 +48,14 @@ impl Screen {
         searches::field_at(self.table.as_slice(), at)
     }
 
+    /// The first input field that keys enter: its format word doesn't make it a bypass field
+    /// (SC30-3533, field format word).
+    pub fn first_non_bypass(&self) -> Option<Field>
+        ensures { result ≡ find is_non_bypass self.now.fields }
+    {
+        format_table::first_non_bypass(self.table.as_slice())
+    }
+
     /// Where the cursor stands.
     pub fn cursor(&self) -> Address
         ensures { result ≡ self.now.cursor }
@@ -62,7 +70,10 @@ impl Screen {
     {
         match self.home_set {
             Some(place) => place,
-            None => first_non_bypass(self.table.as_slice()),
+            None => match self.first_non_bypass() {
+                Some(field) => field.start,
+                None => Address::default(),
+            },
         }
     }
 

@@ -24,8 +24,7 @@ impl Screen {
     pub fn shown(&self, at: Address) -> char
         ensures { result ≡ (Spec.shown_at self.now.cells at).character }
     {
-        let attribute = self.attribute_at(at);
-        lines::shown_under(attribute, self.cell(at)).character
+        self.attribute_at(at).show(self.cell(at)).0.character
     }
 
     /// What the cells from one on show, each looked at once: with 1,920 of them from the first on,

@@ -10,5 +10,5 @@ returns-in-Some c =
     let before = reverse (take c.args.at c.args.cells.now) in
     let found : find is_attribute before ≡ Some byte = sym c.last_attribute.ensures ∙ c.in-Some.is in
     let passes : is_attribute byte ≡ true = find-passes is_attribute before byte found in
-    c.behind.ensures ∙ ap (λ t. if t then byte else c.default.result) passes
+    c.show.ensures.behind ∙ ap (λ t. if t then byte else c.default.result) passes
     ∙ sym (ap (λ o. unwrap_or o 0x20) found)

@@ -16,20 +16,20 @@ loop-index-preserved c =
     let index = c.loop-index.index in
     let at = c.args.first + index in
     let byte = slice_index cells at in
-    let new = c.shown_under.result in
+    let new = c.show-here.result.0 in
     let inside : at < length cells = omega arith in
     let next : c.args.first + (index + 1) ≡ at + 1 = omega arith in
     let written : _ = take_more_set c.loop-index.shown index new (omega arith) in
     let is : new ≡ shown_at cells at =
-    c.shown_under.ensures.value ∙ ap (λ a. shown_under a byte) c.loop-index.invariant.in_force in
+    c.show-here.ensures.value ∙ ap (λ a. shown_under a byte) c.loop-index.invariant.in_force in
     let Latin : List Shown → Type 0 = All (λ s. s.character < 256) in
     record {
       done = written ∙ ap (λ front. front ++ new ∷ []) c.loop-index.invariant.done
           ∙ ap (λ s. map (shown_at cells) (range_with_len c.args.first index) ++ s ∷ []) is
           ∙ sym (map-range_with_len_more (shown_at cells) c.args.first index at refl);
       latin = subst Latin (sym written)
-          (All-push (λ s. s.character < 256) _ new c.loop-index.invariant.latin c.shown_under.ensures.latin);
-      in_force = c.behind-attribute.ensures
+          (All-push (λ s. s.character < 256) _ new c.loop-index.invariant.latin c.show-here.ensures.latin);
+      in_force = c.show-here.ensures.behind
           ∙ ap (λ a. if is_attribute byte then byte else a) c.loop-index.invariant.in_force
           ∙ sym (attribute_at-more cells at inside) ∙ ap (attribute_at cells) (sym next);
     }
