@@ -1,15 +1,12 @@
 // What each key does: cells, MDT, cursor and lock afterwards.
 
-use crate::tests::{aid, apply};
-use crate::{Key, KeyRefusal, press};
+use crate::same;
+use crate::screens::{aid, apply, at};
 use std::process::Abort;
-use ws_code::{Address, DataByte, Ffw};
+use ws_code::{DataByte, Ffw};
+use ws_keys::{Key, KeyRefusal, press};
 use ws_screen::Screen;
 use ws_stream::{Element, FieldStart};
-
-fn at(rt: &impl Abort, row: u8, col: u8) -> Address {
-    Address::new(row, col).expect(rt, "a cell")
-}
 
 // Makes an input field whose first cell is in a row's second column, and fills it.
 fn put_field(rt: &impl Abort, screen: &mut Screen, row: u8, format: u16, cells: &[u8]) {
@@ -38,7 +35,7 @@ fn screen_of(rt: &impl Abort, format: u16, cells: &[u8]) -> Screen {
 fn check_cells(rt: &impl Abort, screen: &Screen, row: u8, cells: &[u8]) {
     for (index, byte) in cells.iter().enumerate() {
         assert!(rt; index < 78);
-        assert_eq!(rt; screen.cell(at(rt, row, index as u8 + 2)), *byte);
+        same(rt, screen.cell(at(rt, row, index as u8 + 2)), *byte);
     }
 }
 
@@ -90,7 +87,7 @@ fn check_entry(rt: &impl Abort, row: KeyRow) {
     check_cells(rt, &screen, 4, &[0xe2, 0xe3]);
     assert!(rt; is_modified(rt, &screen, 2) && is_modified(rt, &screen, 3));
     let (row, col) = row.cursor;
-    assert_eq!(rt; screen.cursor(), at(rt, row, col));
+    same(rt, screen.cursor(), at(rt, row, col));
     assert!(rt; !screen.locked());
 }
 
@@ -257,12 +254,12 @@ fn keys_refused(rt: HostRuntime) {
         let mut screen = screen_of(&rt, format, &A_TO_D);
         screen.move_cursor(at(&rt, 2, 3));
         match press(&mut screen, key) {
-            Err(found) => assert_eq!(rt; found, refusal),
+            Err(found) => same(&rt, found, refusal),
             Ok(_) => panic!(rt; "a refusal"),
         }
         check_cells(&rt, &screen, 2, &A_TO_D);
         assert!(rt; !is_modified(&rt, &screen, 2) && !screen.locked());
-        assert_eq!(rt; screen.cursor(), at(&rt, 2, 3));
+        same(&rt, screen.cursor(), at(&rt, 2, 3));
     }
 }
 
@@ -363,11 +360,11 @@ fn field_on_the_last_cell(rt: HostRuntime) {
         (Key::FieldExit, 0x00),
     ] {
         check_move(&rt, &mut screen, last, key, (2, 2));
-        assert_eq!(rt; screen.cell(at(&rt, 24, 80)), byte);
+        same(&rt, screen.cell(at(&rt, 24, 80)), byte);
     }
     check_move(&rt, &mut screen, last, Key::Insert('B'), (2, 2));
     check_move(&rt, &mut screen, last, Key::Delete, last);
-    assert_eq!(rt; screen.cell(at(&rt, 24, 80)), 0x00);
+    same(&rt, screen.cell(at(&rt, 24, 80)), 0x00);
     check_move(&rt, &mut screen, last, Key::Tab, (2, 2));
     check_move(&rt, &mut screen, (2, 2), Key::BackTab, last);
 }
@@ -376,10 +373,10 @@ fn field_on_the_last_cell(rt: HostRuntime) {
 #[test]
 fn attribute_moved_by_a_key(rt: HostRuntime) {
     let mut screen = screen_of(&rt, 0x4000, &[0xc1, 0xc2, 0x27, 0xc3]);
-    assert_eq!(rt; screen.shown(at(&rt, 2, 3)), 'B');
+    same(&rt, screen.shown(at(&rt, 2, 3)), 'B');
     check_move(&rt, &mut screen, (2, 3), Key::Delete, (2, 3));
     check_cells(&rt, &screen, 2, &[0xc1, 0x27, 0xc3, 0]);
-    assert_eq!(rt; screen.attribute_at(at(&rt, 2, 4)).byte(), 0x27);
-    assert_eq!(rt; screen.shown(at(&rt, 2, 4)), ' ');
-    assert_eq!(rt; screen.shown(at(&rt, 2, 2)), 'A');
+    same(&rt, screen.attribute_at(at(&rt, 2, 4)).byte(), 0x27);
+    same(&rt, screen.shown(at(&rt, 2, 4)), ' ');
+    same(&rt, screen.shown(at(&rt, 2, 2)), 'A');
 }

@@ -1,7 +1,9 @@
-use crate::{Attribute, Color, Screen, Style};
+use crate::screens::{apply, at};
+use crate::{same, same_at};
 use std::process::Abort;
-use ws_code::{Address, Body, Code, DataByte};
-use ws_stream::{Commands, Element};
+use ws_code::{Address, DataByte};
+use ws_screen::{Attribute, Color, Screen, Style};
+use ws_stream::Element;
 
 // The attributes of a colour display (IBM 3179-2): R reversed, U underscored, B blinking, S column separators,
 // H hidden.
@@ -51,12 +53,12 @@ fn attributes_in_colour(rt: HostRuntime) {
             is_blinking: marks.contains('B'),
             has_separators: marks.contains('S'),
         };
-        assert_eq!(rt; attribute.byte(), byte);
-        assert_eq!(rt; attribute.color(), style, "{byte}");
-        assert_eq!(rt; attribute.is_hidden(), marks == "H", "{byte}");
+        same(&rt, attribute.byte(), byte);
+        same_at(&rt, byte, attribute.color(), style);
+        same_at(&rt, byte, attribute.is_hidden(), marks == "H");
     }
-    assert_eq!(rt; Attribute::from_byte(0x1f), None);
-    assert_eq!(rt; Attribute::from_byte(0x40), None);
+    same(&rt, Attribute::from_byte(0x1f), None);
+    same(&rt, Attribute::from_byte(0x40), None);
 }
 
 // Reversed, intense and underscored by the low three bits, the attribute's low digit and the one that blinks.
@@ -81,18 +83,14 @@ fn attributes_in_monochrome(rt: HostRuntime) {
     for (high, blinks, separates) in high_bits {
         for (low, reversed, intense, underscored) in low_bits {
             let attribute = Attribute::from_byte(high + low).expect(&rt, "an attribute");
-            assert_eq!(rt; attribute.is_reversed(), reversed);
-            assert_eq!(rt; attribute.is_intense(), intense);
-            assert_eq!(rt; attribute.is_underscored(), underscored);
-            assert_eq!(rt; attribute.is_blinking(), blinks);
-            assert_eq!(rt; attribute.has_separators(), separates);
-            assert_eq!(rt; attribute.is_hidden(), low == 7);
+            same(&rt, attribute.is_reversed(), reversed);
+            same(&rt, attribute.is_intense(), intense);
+            same(&rt, attribute.is_underscored(), underscored);
+            same(&rt, attribute.is_blinking(), blinks);
+            same(&rt, attribute.has_separators(), separates);
+            same(&rt, attribute.is_hidden(), low == 7);
         }
     }
-}
-
-fn at(rt: &impl Abort, row: u8, col: u8) -> Address {
-    Address::new(row, col).expect(rt, "a cell")
 }
 
 // A new screen on which bytes were put, each run from its row and column on.
@@ -107,12 +105,6 @@ fn screen_with(rt: &impl Abort, runs: &[(u8, u8, &[u8])]) -> Screen {
         }
     }
     screen
-}
-
-fn apply(rt: &impl Abort, screen: &mut Screen, element: &Element) {
-    let may_follow = Commands::may_follow(Commands::first(), element) || screen.writing();
-    assert!(rt; may_follow);
-    assert_eq!(rt; screen.apply(element), Ok(()));
 }
 
 // What some cells show, by their row and column, each with the attribute in force.
@@ -141,10 +133,10 @@ fn dup_in_a_hidden_part(rt: HostRuntime) {
     ];
     check_cells(&rt, &screen, &cells);
     let row = screen.row(2);
-    assert_eq!(rt; row[1].attribute, Attribute::default());
-    assert_eq!(rt; row[2].attribute.byte(), 0x22);
-    assert_eq!(rt; (row[2].character, row[3].character), ('*', 'B'));
-    assert_eq!(rt; screen.line(2).as_str().trim_end(), "  *B");
+    same(&rt, row[1].attribute, Attribute::default());
+    same(&rt, row[2].attribute.byte(), 0x22);
+    same(&rt, (row[2].character, row[3].character), ('*', 'B'));
+    same(&rt, screen.line(2).as_str().trim_end(), "  *B");
 }
 
 // An attribute in the last cell changes nothing at the first.
@@ -160,8 +152,8 @@ fn attribute_in_the_last_cell(rt: HostRuntime) {
     check_cells(&rt, &screen, &cells);
     let mut shown = [Default::default(); 1920];
     screen.show_cells(Address::default(), &mut shown);
-    assert_eq!(rt; shown[0].character, 'A');
-    assert_eq!(rt; shown[1919].attribute.byte(), 0x20);
-    assert_eq!(rt; shown[1918].attribute.byte(), 0x21);
-    assert_eq!(rt; shown[1840], screen.row(24)[0]);
+    same(&rt, shown[0].character, 'A');
+    same(&rt, shown[1919].attribute.byte(), 0x20);
+    same(&rt, shown[1918].attribute.byte(), 0x21);
+    same(&rt, shown[1840], screen.row(24)[0]);
 }

@@ -1,10 +1,11 @@
 // What a host reads from answers, and from the contents of signed numeric fields.
 
-use crate::tests::{ONE_FIELD, apply, one_field, screen_with, two_fields};
-use crate::{HostAnswer, HostFault, decode_signed, split_answer};
+use crate::same;
+use crate::screens::{ONE_FIELD, apply, one_field, screen_with, two_fields};
 use std::alloc::Global;
 use std::process::Abort;
 use ws_code::{Address, Aid, Code, DataByte, Ffw, Push, Reason};
+use ws_keys::{HostAnswer, HostFault, decode_signed, split_answer};
 use ws_screen::{ReadKind, Screen};
 use ws_stream::{AnswerPart, AnswerPlace, Answers, Element, FieldStart};
 
@@ -75,7 +76,7 @@ fn expect_read(rt: &impl Abort, alloc: Global, host: &[u8], answer: &[u8], read:
     let parts = parts_of(rt, alloc, answer);
     let fields = split_answer(alloc, &screen, kind, parts.as_slice()).expect(rt, "an answer");
     let found = listing(rt, alloc, &fields);
-    assert_eq!(rt; found.as_slice(), read);
+    same(rt, found.as_slice(), read);
 }
 
 #[test]
@@ -242,9 +243,9 @@ fn expect_all_read(rt: &impl Abort, alloc: Global, screen: &Screen, kind: ReadKi
         }
     }
     let read = split_answer(alloc, screen, kind, parts.as_slice()).expect(rt, "memory");
-    assert_eq!(rt; read.fields.as_slice().len(), screen.fields().len());
+    same(rt, read.fields.as_slice().len(), screen.fields().len());
     for field in read.fields.as_slice() {
-        assert_eq!(rt; field.content.as_slice().len(), count as usize);
+        same(rt, field.content.as_slice().len(), count as usize);
     }
 }
 
@@ -274,8 +275,8 @@ fn contents_of_each_length(rt: HostRuntime) {
 
 fn expect_number(rt: &impl Abort, bytes: &[u8], negative: bool, digits: &[u8]) {
     let number = decode_signed(bytes).expect(rt, "a number");
-    assert_eq!(rt; number.negative, negative);
-    assert_eq!(rt; number.digits.as_slice(), digits);
+    same(rt, number.negative, negative);
+    same(rt, number.digits.as_slice(), digits);
 }
 
 #[test]

@@ -1,6 +1,7 @@
-use crate::{CellEdit, ReadKind, Screen, apply_elements};
+use crate::{same, same_at};
 use std::process::Abort;
 use ws_code::{Address, Aid, Body, Code, DataByte, Ffw, Reason};
+use ws_screen::{CellEdit, ReadKind, Screen, apply_elements};
 use ws_stream::{Commands, Element, EraseList, FieldStart, SohBytes, is_body};
 
 fn place(rt: &impl Abort, place: u16) -> Address {
@@ -45,7 +46,7 @@ fn apply_all(rt: &impl Abort, screen: &mut Screen, elements: &[Element]) -> Opti
 fn screen_with(rt: &impl Abort, elements: &[Element]) -> Screen {
     let mut screen = Screen::new();
     let refused = apply_all(rt, &mut screen, elements);
-    assert_eq!(rt; refused, None);
+    same(rt, refused, None);
     screen
 }
 
@@ -72,7 +73,7 @@ fn full_table(rt: &impl Abort, descending: bool) -> Screen {
         };
         let field = [Element::Sba(place(rt, at)), input(rt, 0x4000, 0x20, 1)];
         let refused = apply_all(rt, &mut screen, &field);
-        assert_eq!(rt; refused, None);
+        same(rt, refused, None);
     }
     screen
 }
@@ -83,18 +84,18 @@ fn field_limits(rt: HostRuntime) {
         &rt,
         &[begin(), sba(&rt, 24, 79), input(&rt, 0x4000, 0x20, 1)],
     );
-    assert_eq!(rt; screen.cell(place(&rt, 1918)), 0x20);
-    assert_eq!(rt; screen.cell(place(&rt, 1919)), 0x00);
-    assert_eq!(rt; field_at(&rt, &screen, 1919), Some((1, 0x4000)));
+    same(&rt, screen.cell(place(&rt, 1918)), 0x20);
+    same(&rt, screen.cell(place(&rt, 1919)), 0x00);
+    same(&rt, field_at(&rt, &screen, 1919), Some((1, 0x4000)));
     let again = [sba(&rt, 24, 79), input(&rt, 0x4800, 0x20, 0)];
-    assert_eq!(rt; apply_all(&rt, &mut screen, &again), None);
-    assert_eq!(rt; field_at(&rt, &screen, 1919), Some((1, 0x4800)));
-    assert_eq!(rt; screen.field_count(), 1);
+    same(&rt, apply_all(&rt, &mut screen, &again), None);
+    same(&rt, field_at(&rt, &screen, 1919), Some((1, 0x4800)));
+    same(&rt, screen.field_count(), 1);
 
     let too_long = [begin(), sba(&rt, 24, 79), input(&rt, 0x4000, 0x20, 2)];
-    assert_eq!(rt; refusal(&rt, &too_long), Some(Reason::FieldPastEnd));
+    same(&rt, refusal(&rt, &too_long), Some(Reason::FieldPastEnd));
     let empty = [begin(), sba(&rt, 24, 79), input(&rt, 0x4000, 0x20, 0)];
-    assert_eq!(rt; refusal(&rt, &empty), Some(Reason::ZeroLength));
+    same(&rt, refusal(&rt, &empty), Some(Reason::ZeroLength));
     let overlapping = [
         begin(),
         sba(&rt, 6, 52),
@@ -102,25 +103,26 @@ fn field_limits(rt: HostRuntime) {
         sba(&rt, 6, 54),
         input(&rt, 0x4000, 0x20, 4),
     ];
-    assert_eq!(rt; refusal(&rt, &overlapping), Some(Reason::FieldOverlap));
+    same(&rt, refusal(&rt, &overlapping), Some(Reason::FieldOverlap));
 
     let mut full = full_table(&rt, false);
     let one_more = [Element::Sba(place(&rt, 768)), input(&rt, 0x4000, 0x20, 1)];
-    assert_eq!(rt;
+    same(
+        &rt,
         apply_all(&rt, &mut full, &one_more),
-        Some(Reason::TableFull)
+        Some(Reason::TableFull),
     );
     let held = [Element::Sba(place(&rt, 300)), input(&rt, 0x4800, 0x20, 1)];
-    assert_eq!(rt; apply_all(&rt, &mut full, &held), None);
-    assert_eq!(rt; full.field_count(), 256);
+    same(&rt, apply_all(&rt, &mut full, &held), None);
+    same(&rt, full.field_count(), 256);
 }
 
 #[test]
 fn descending_256(rt: HostRuntime) {
     let ascending = full_table(&rt, false).fields();
     let descending = full_table(&rt, true).fields();
-    assert_eq!(rt; descending.len(), 256);
-    assert_eq!(rt; descending.as_slice(), ascending.as_slice());
+    same(&rt, descending.len(), 256);
+    same(&rt, descending.as_slice(), ascending.as_slice());
 }
 
 #[test]
@@ -139,9 +141,9 @@ fn hidden_field_and_dup(rt: HostRuntime) {
     );
     screen.end_write();
     let line = screen.line(1);
-    assert_eq!(rt; line.as_str().len(), 80);
-    assert_eq!(rt; line.as_str().trim_end(), "     *a");
-    assert_eq!(rt; screen.cursor().place(), 1);
+    same(&rt, line.as_str().len(), 80);
+    same(&rt, line.as_str().trim_end(), "     *a");
+    same(&rt, screen.cursor().place(), 1);
     assert!(rt; !screen.locked());
 }
 
@@ -158,9 +160,9 @@ fn modified_nulled_and_locked(rt: HostRuntime) {
         ],
     );
     for (at, byte) in [(0, 0x20), (1, 0x00), (2, 0x00), (3, 0x20)] {
-        assert_eq!(rt; screen.cell(place(&rt, at)), byte, "at {at}");
+        same_at(&rt, at, screen.cell(place(&rt, at)), byte);
     }
-    assert_eq!(rt; field_at(&rt, &screen, 1), Some((2, 0x4000)));
+    same(&rt, field_at(&rt, &screen, 1), Some((2, 0x4000)));
     assert!(rt; screen.locked());
 }
 
@@ -170,9 +172,9 @@ fn backward_address(rt: HostRuntime) {
     let to = place(&rt, 3);
     let byte = DataByte::new(0x40).expect(&rt, "a blank");
     let refused = apply_all(&rt, &mut screen, &[Element::Ra { to, byte }]);
-    assert_eq!(rt; refused, Some(Reason::BackwardAddress));
+    same(&rt, refused, Some(Reason::BackwardAddress));
     for at in 0..6 {
-        assert_eq!(rt; screen.cell(place(&rt, at)), 0, "at {at}");
+        same_at(&rt, at, screen.cell(place(&rt, at)), 0);
     }
 }
 
@@ -200,14 +202,15 @@ fn cc1_codes(rt: HostRuntime) {
         let mut screen = screen_with(&rt, &[begin()]);
         for word in words {
             let field = [input(&rt, word, 0x20, 1), put(&rt, 0xC1), put(&rt, 0x40)];
-            assert_eq!(rt; apply_all(&rt, &mut screen, &field), None);
+            same(&rt, apply_all(&rt, &mut screen, &field), None);
         }
         let cc1 = code * 32 + 31;
-        assert_eq!(rt;
+        same(
+            &rt,
             apply_all(&rt, &mut screen, &[Element::Write { cc1, cc2: 0 }]),
-            None
+            None,
         );
-        assert_eq!(rt; screen.locked(), locked, "code {code}");
+        same_at(&rt, code, screen.locked(), locked);
         for (field, at) in [(0, 1), (1, 4), (2, 7), (3, 10)] {
             let byte = if nulled[field] { 0x00 } else { 0xC1 };
             assert_eq!(rt; screen.cell(place(&rt, at)), byte, "code {code} at {at}");
@@ -238,8 +241,8 @@ fn homes(rt: HostRuntime) {
         ([Element::Soh(header)], 0),
     ];
     for (element, home) in &rows {
-        assert_eq!(rt; apply_all(&rt, &mut screen, element), None);
-        assert_eq!(rt; screen.home().place(), *home);
+        same(&rt, apply_all(&rt, &mut screen, element), None);
+        same(&rt, screen.home().place(), *home);
     }
 }
 
@@ -248,7 +251,7 @@ fn homes(rt: HostRuntime) {
 fn states(rt: HostRuntime) {
     let mut screen = Screen::new();
     assert!(rt; screen.locked() && !screen.message() && !screen.blink() && !screen.writing());
-    assert_eq!(rt; screen.cursor().place(), 0);
+    same(&rt, screen.cursor().place(), 0);
     screen.begin_write(0, 0x19);
     assert!(rt; screen.writing());
     let orders = [
@@ -263,40 +266,48 @@ fn states(rt: HostRuntime) {
             kinds: EraseList::new(&[0xFF]).expect(&rt, "a type"),
         },
     ];
-    assert_eq!(rt; apply_all(&rt, &mut screen, &orders), None);
-    assert_eq!(rt; screen.home().place(), 5);
+    same(&rt, apply_all(&rt, &mut screen, &orders), None);
+    same(&rt, screen.home().place(), 5);
     screen.end_write();
     assert!(rt; !screen.locked() && screen.message() && screen.blink() && !screen.writing());
-    assert_eq!(rt; screen.cursor().place(), 7);
+    same(&rt, screen.cursor().place(), 7);
 
     let read = [Element::ReadMdt { cc1: 0x20, cc2: 0 }];
-    assert_eq!(rt; apply_all(&rt, &mut screen, &read), None);
-    assert_eq!(rt; screen.pending(), Some(ReadKind::Mdt));
+    same(&rt, apply_all(&rt, &mut screen, &read), None);
+    same(&rt, screen.pending(), Some(ReadKind::Mdt));
     let mut other = Screen::new();
     other.assign(&screen);
-    assert_eq!(rt; other.fields().as_slice(), screen.fields().as_slice());
-    assert_eq!(rt; other.pending(), Some(ReadKind::Mdt));
+    same(&rt, other.fields().as_slice(), screen.fields().as_slice());
+    same(&rt, other.pending(), Some(ReadKind::Mdt));
     other.cancel_read();
-    assert_eq!(rt; other.pending(), None);
+    same(&rt, other.pending(), None);
     other.set_message(false);
     assert!(rt; other.locked() && !other.message());
     let read = [Element::ReadInput { cc1: 0, cc2: 0 }];
-    assert_eq!(rt; apply_all(&rt, &mut screen, &read), None);
-    assert_eq!(rt; screen.pending(), Some(ReadKind::Input));
+    same(&rt, apply_all(&rt, &mut screen, &read), None);
+    same(&rt, screen.pending(), Some(ReadKind::Input));
     let read = [Element::ReadMdtAlternate {
         cc1: 0x20,
         cc2: 0x06,
     }];
-    assert_eq!(rt; apply_all(&rt, &mut screen, &read), None);
-    assert_eq!(rt; screen.pending(), Some(ReadKind::MdtAlternate));
+    same(&rt, apply_all(&rt, &mut screen, &read), None);
+    same(&rt, screen.pending(), Some(ReadKind::MdtAlternate));
     assert!(rt; screen.locked() && !screen.message());
-    assert_eq!(rt; apply_all(&rt, &mut screen, &[Element::ClearFormat]), None);
-    assert_eq!(rt; screen.pending(), None);
-    assert_eq!(rt; screen.field_count(), 0);
-    assert_eq!(rt; screen.cursor().place(), 7);
-    assert_eq!(rt; apply_all(&rt, &mut screen, &[Element::ClearUnit]), None);
-    assert_eq!(rt; screen.cursor().place(), 0);
-    assert_eq!(rt; screen.line(1).as_str().trim_end(), "");
+    same(
+        &rt,
+        apply_all(&rt, &mut screen, &[Element::ClearFormat]),
+        None,
+    );
+    same(&rt, screen.pending(), None);
+    same(&rt, screen.field_count(), 0);
+    same(&rt, screen.cursor().place(), 7);
+    same(
+        &rt,
+        apply_all(&rt, &mut screen, &[Element::ClearUnit]),
+        None,
+    );
+    same(&rt, screen.cursor().place(), 0);
+    same(&rt, screen.line(1).as_str().trim_end(), "");
 }
 
 // An edit that leaves the cells as they are.
@@ -324,7 +335,7 @@ fn a_body_and_what_a_key_may_do(rt: HostRuntime) {
     screen.end_write();
     let whole = is_body(&body);
     assert!(rt; whole);
-    assert_eq!(rt; apply_elements(&mut screen, &body), Ok(()));
+    same(&rt, apply_elements(&mut screen, &body), Ok(()));
     screen.known();
     let enter = Aid::from_byte(0xF1).expect(&rt, "Enter");
     assert!(rt; screen.returns_data(enter));
@@ -334,16 +345,16 @@ fn a_body_and_what_a_key_may_do(rt: HostRuntime) {
     let field = screen.open_field().expect(&rt, "an open field");
     let on_screen = field.start.place() as u32 + field.length as u32 <= 1920;
     assert!(rt; on_screen);
-    assert_eq!(rt; screen.field_cells(&field), [0; 10].as_slice());
+    same(&rt, screen.field_cells(&field), [0; 10].as_slice());
     screen.edit_field(&field, &Unchanged, place(&rt, 453));
-    assert_eq!(rt; field_at(&rt, &screen, 452), Some((10, 0x4800)));
-    assert_eq!(rt; screen.cursor().place(), 453);
+    same(&rt, field_at(&rt, &screen, 452), Some((10, 0x4800)));
+    same(&rt, screen.cursor().place(), 453);
     screen.move_cursor(place(&rt, 7));
-    assert_eq!(rt; screen.cursor().place(), 7);
+    same(&rt, screen.cursor().place(), 7);
     screen.erase_input();
-    assert_eq!(rt; field_at(&rt, &screen, 452), Some((10, 0x4000)));
-    assert_eq!(rt; screen.cursor().place(), 452);
+    same(&rt, field_at(&rt, &screen, 452), Some((10, 0x4000)));
+    same(&rt, screen.cursor().place(), 452);
     screen.answer_read();
     assert!(rt; screen.locked());
-    assert_eq!(rt; screen.pending(), None);
+    same(&rt, screen.pending(), None);
 }

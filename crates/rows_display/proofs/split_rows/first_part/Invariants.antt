@@ -1,7 +1,7 @@
 use Rattle.ws_code.specs.Code.{IsUnfinished}
 use Rattle.ws_stream.specs.AnswerMachine.{place_in, begun_in}
 use Rattle.ws_stream.specs.AnswerParts.{answer_rules}
-use Rattle.ws_keys.proofs.split_tests.first_part.Given as goal
+use Rattle.rows_display.proofs.split_rows.first_part.Given as goal
 
 abbrev pub invariant-loop-at : goal.invariant-loop-at
 invariant-loop-at l = IsUnfinished answer_rules (place_in l.machine.phase) (begun_in l.machine.phase)

@@ -1,5 +1,5 @@
 use Rattle.std.proofs.Common.{length}
-use Rattle.ws_keys.proofs.split_tests.parts_of.Given as goal
+use Rattle.rows_display.proofs.screens.screen_with.Given as goal
 
 abbrev pub decreases-loop-rt : goal.decreases-loop-rt
 decreases-loop-rt g l = length l.rest

@@ -1,0 +1,73 @@
+// Screens that a host's bytes make, for rows of several files.
+
+use std::process::Abort;
+use ws_code::{Address, Aid, Body, Code, Push};
+use ws_keys::Key;
+use ws_screen::Screen;
+use ws_stream::{Commands, Element, Place};
+
+pub fn at(rt: &impl Abort, row: u8, col: u8) -> Address {
+    Address::new(row, col).expect(rt, "a cell")
+}
+
+// The element that bytes begin with, and the number of its bytes.
+fn first_element(place: Place, bytes: &[u8]) -> Option<(Element, usize)> {
+    let mut machine = Commands::start(place);
+    for (at, byte) in bytes.iter().enumerate() {
+        match machine.push(*byte) {
+            Push::More => {}
+            Push::Unit(element) => return Some((element, at + 1)),
+            Push::Bad(_) => return None,
+        }
+    }
+    None
+}
+
+pub fn apply(rt: &impl Abort, screen: &mut Screen, element: &Element) {
+    let may_follow = Commands::may_follow(Commands::first(), element) || screen.writing();
+    assert!(rt; may_follow);
+    let applied = screen.apply(element);
+    assert!(rt; applied.is_ok());
+}
+
+// A new screen to which a host's body was applied, and its write ended.
+pub fn screen_with(rt: &impl Abort, body: &[u8]) -> Screen {
+    let mut screen = Screen::new();
+    let mut place = Commands::first();
+    let mut rest = body;
+    while !rest.is_empty() {
+        let (element, count) = first_element(place, rest).expect(rt, "an element");
+        assert!(rt; 1 <= count && count <= rest.len());
+        apply(rt, &mut screen, &element);
+        place = Commands::after(&element);
+        rest = &rest[count..];
+    }
+    screen.end_write();
+    screen
+}
+
+pub fn aid(rt: &impl Abort, byte: u8) -> Key {
+    Key::Aid(Aid::from_byte(byte).expect(rt, "a key"))
+}
+
+// A read of modified fields over one field of ten cells at 6, 53.
+pub const ONE_FIELD: [u8; 19] = [
+    0x04, 0x40, 0x04, 0x11, 0x00, 0x08, 0x11, 0x06, 0x34, 0x1D, 0x40, 0x00, 0x20, 0x00, 0x0A, 0x04,
+    0x52, 0x00, 0x00,
+];
+
+// Two fields, the later one defined first and with C1 00 C2 in it: their format words' first bytes, and the read.
+pub fn two_fields(later: u8, earlier: u8, read: u8) -> [u8; 29] {
+    [
+        0x04, 0x11, 0x00, 0x08, 0x11, 0x06, 0x34, 0x1D, later, 0x00, 0x20, 0x00, 0x06, 0xC1, 0x00,
+        0xC2, 0x11, 0x03, 0x01, 0x1D, earlier, 0x00, 0x20, 0x00, 0x04, 0x04, read, 0x00, 0x00,
+    ]
+}
+
+// One field at 6, 53: its format word, its length and the read.
+pub fn one_field(high: u8, low: u8, cells: u8, read: u8) -> [u8; 17] {
+    [
+        0x04, 0x11, 0x00, 0x08, 0x11, 0x06, 0x34, 0x1D, high, low, 0x20, 0x00, cells, 0x04, read,
+        0x00, 0x00,
+    ]
+}
