@@ -53,7 +53,7 @@ fn answers_from_text(rt: HostRuntime) -> Result<(), Fail> {
         ("record flags 4000 opcode 0", "000A12A0000004400000FFEF\n"),
         (
             "record opcode 3\n  HEAD 1 1 F1\n  BYTES FF00",
-            "001012A00000040000030101F1FFFF00FFEF\n",
+            "000F12A00000040000030101F1FFFF00FFEF\n",
         ),
     ];
     for (text, wanted) in rows {

@@ -1,7 +1,6 @@
 use Rattle.std.proofs.Common.{◌≡◌, ℕ, List, [], ◌∷◌, ◌++◌, refl, sym, subst, arith}
 use Rattle.ws_code.specs.Code.{Rules}
 use Rattle.ws_record.specs.Encode.{CanBeEncoded, CanAllBeEncoded}
-use Rattle.ws_record.specs.declared.opcode.Opcode.{Opcode}
 use Rattle.ws_record.specs.declared.record.Item.{Item}
 use Rattle.ws_record.specs.declared.record.Item.TheVariants as an_item
 use Rattle.ws_record.proofs.Prefixes.{AllByRecursion-front}

@@ -1,11 +1,9 @@
 use Rattle.std.proofs.Common.{◌≡◌, ◌≤◌, ◌<◌, ℕ, zero, suc, ◌+◌, ◌-◌, List, [], ◌∷◌, ◌++◌, Bor, length, map, get_or}
 use Rattle.std.proofs.Common.{take, drop, refl, sym, ap, subst, ◌∙◌, arith, append_assoc, length-append, length-drop}
-use Rattle.std.specs.Prelude.{Option, Some, None, MatchOption, Ok}
+use Rattle.std.specs.Prelude.{Option, Some, None, MatchOption}
 use Rattle.std.specs.Option.{SomeIff}
 use Rattle.std.proofs.Math.Seq.{take-suc, split_at}
 use Rattle.std.proofs.lemmas.List.{map-append, take_all}
-use Rattle.hex.specs.Hex.{decode_of}
-use Rattle.hex.proofs.HexLemmas.{decode_of-same}
 use Rattle.ws_code.specs.FormatWord.{IsFfw}
 use Rattle.ws_stream.specs.FieldOrder.{FieldOrder, IsFieldOrder, HasFormat}
 use Rattle.ws_text.specs.Words.{IsHexPair, IsHexByte, IsNumber}

@@ -1,5 +1,5 @@
 use Rattle.std.proofs.Common.{◌≡◌, ◌⊎◌, inl, inr, ℕ, List, [], ◌∷◌, ◌++◌, length, map, refl, sym, ap, subst, ◌∙◌, arith}
-use Rattle.std.specs.Prelude.{codes, Some, None}
+use Rattle.std.specs.Prelude.{codes}
 use Rattle.ws_record.specs.declared.opcode.Opcode.{Opcode}
 use Rattle.ws_text.specs.Words.{IsHexPair}
 use Rattle.ws_text.specs.declared.line.Part.{Part}

@@ -117,7 +117,7 @@ module _ {Place U : Type 0} (rules : Rules Place U) (ends : EndsEverywhere rules
           ),
         ),
         subst (λ (z : List U). Leads rules w (run_lines runs) (before ++ made flags opcode (us
-        ++ run_units rules w run) ∷ [])
+            ++ run_units rules w run) ∷ [])
             (before ++ made flags opcode z ∷ [])) same
             (leads_runs flags opcode before (us ++ run_units rules w run) runs h.1 all),
       )

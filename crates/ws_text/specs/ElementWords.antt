@@ -1,6 +1,6 @@
 -- The words of a line that is one element: a name and what stands behind it.
 
-use Rattle.std.specs.Prelude.{◌≡◌, ℕ, ◌<◌, List, [], ◌∷◌, ◌++◌, Option, Some, None, map, codes, ◌⊎◌}
+use Rattle.std.specs.Prelude.{◌≡◌, ℕ, ◌<◌, List, [], ◌∷◌, ◌++◌, Option, Some, None, codes, ◌⊎◌}
 use Rattle.ws_code.specs.DataByte.{IsData}
 use Rattle.ws_stream.specs.FieldOrder.{FieldOrder, IsFieldOrder}
 use Rattle.ws_stream.specs.Parts.{IsSoh, IsEraseList}

@@ -1,6 +1,6 @@
 -- The words of a Start of Field say one.
 
-use Rattle.std.specs.Prelude.{◌≡◌, ℕ, ◌+◌, ◌*◌, List, [], ◌∷◌, ◌++◌, Option, Some, None, length, refl}
+use Rattle.std.specs.Prelude.{◌≡◌, ℕ, ◌+◌, List, [], ◌∷◌, ◌++◌, Option, Some, None, length, refl}
 use Rattle.std.proofs.Common.{sym, ap, subst, ◌∙◌, arith, length-append}
 use Rattle.hex.proofs.HexLemmas.{decode_of-same}
 use Rattle.ws_stream.specs.FieldOrder.{FieldOrder, IsFieldOrder, HasFormat}

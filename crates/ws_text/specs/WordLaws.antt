@@ -1,6 +1,6 @@
 -- Words say one thing.
 
-use Rattle.std.specs.Prelude.{◌≡◌, ◌⊎◌, ℕ, List, [], ◌∷◌, Option, Some, codes, length, get_or, refl}
+use Rattle.std.specs.Prelude.{◌≡◌, ℕ, List, [], ◌∷◌, Option, Some, codes, length, get_or}
 use Rattle.std.proofs.Common.{inl, inr, sym, ap, subst, ◌∙◌, arith}
 use Rattle.hex.proofs.HexLemmas.{decode_of-same}
 use Rattle.ws_code.specs.Address.{place_of}

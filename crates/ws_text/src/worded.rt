@@ -1,4 +1,4 @@
-ghost use Rattle.std.specs.Prelude.{◌≡◌, List, ℕ, map, refl, MatchOption};
+ghost use Rattle.std.specs.Prelude.{◌≡◌, map, refl, MatchOption};
 ghost use Rattle.ws_text.specs.AnswerWords.{answer_wording};
 ghost use Rattle.ws_text.specs.ElementWords.{element_wording};
 ghost use Rattle.ws_text.specs.WordLaws.{answers_clear, elements_clear};

@@ -7,8 +7,11 @@ use Rattle.ws_text.proofs.line.read_line.Goals as goal
 
 pub returns-clause-ok : goal.returns-clause-ok
 returns-clause-ok g c = IfOk-weaker c.read_text.result _ _
-    (λ says h. (c.in-Ok.ensures.cases.1, subst (λ
-    (z : List ℕ). Means g.B.Worded.wording z says) c.in-Ok.ensures.cases.0 h))
+    (λ says h. (
+      c.in-Ok.ensures.cases.1,
+      subst (λ
+          (z : List ℕ). Means g.B.Worded.wording z says) c.in-Ok.ensures.cases.0 h,
+    ))
     c.read_text.ensures.ok
 
 pub returns-clause-fault : goal.returns-clause-fault

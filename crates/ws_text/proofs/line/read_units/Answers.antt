@@ -1,7 +1,7 @@
 use Rattle.std.proofs.Common.{◌≡◌, length, ℕ, arith, refl, sym, ◌∙◌, ◌++◌}
 use Rattle.std.proofs.lemmas.Result.{IfOk-weaker, IfErr-weaker}
 use Rattle.std.proofs.lemmas.List.{length-map}
-use Rattle.ws_text.specs.TextLines.{AreUnits, IsRun}
+use Rattle.ws_text.specs.TextLines.{AreUnits}
 use Rattle.ws_text.specs.TextLines.AreUnits.{one, run}
 use Rattle.ws_text.specs.Faults.{IsFault}
 use Rattle.ws_text.proofs.Lists.{texts, no_word, one_word, same_text, differ_from}

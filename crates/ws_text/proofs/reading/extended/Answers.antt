@@ -1,7 +1,7 @@
-use Rattle.std.proofs.Common.{◌≡◌, ◌≤◌, ◌+◌, ◌++◌, ap, sym, subst, refl, List, length}
+use Rattle.std.proofs.Common.{◌≡◌, ◌≤◌, ◌+◌, ◌++◌, sym, subst, refl, List, length}
 use Rattle.ws_code.specs.Code.{IsChain, spelling_of}
 use Rattle.ws_text.specs.Items.{with_more}
-use Rattle.ws_text.specs.Reading.{Follows, record_of}
+use Rattle.ws_text.specs.Reading.{record_of}
 use Rattle.ws_text.proofs.Bodies.{follows_whole, can_be_encoded, must_follow}
 use Rattle.ws_text.proofs.reading.extended.Goals as goal
 
