@@ -11,8 +11,8 @@ ghost use Rattle.ws_live.specs.declared.serve_line.HostLine.{HostLine as AHostLi
 
 use crate::fault::RunFault;
 use std::alloc::Global;
-use std::io::{BufRead, ErrorKind, Lines};
-use std::rt::{Input, Runtime};
+use std::io::{BufRead, ErrorKind, Input, Lines};
+use std::rt::Runtime;
 use ws_code::{Sink, Source};
 use ws_live::{
     BufferedSink, HostLine, LiveLine, LiveMove, Paint, Ran, ScriptFault, StationLine, Watch,
@@ -250,8 +250,7 @@ impl<B: BufRead + Drop> InputLines<B> {
                 return Ok(());
             }
             self.number = self.number.saturating_add(1);
-            let text = inside.extend_from_slice(line.as_bytes());
-            if text.is_err() || inside.push(b'\n').is_err() {
+            if inside.extend_from_slice(line.as_bytes()).is_err() || inside.push(b'\n').is_err() {
                 return Err(RunFault::Memory);
             }
         }

@@ -66,9 +66,10 @@ const BAD: [(&[u8], u64); 30] = [
     ),
 ];
 
-fn sent(line: &HostLine) -> Option<(Opcode, &List<Element>)> {
-    match line {
-        HostLine::Give(Order::Send(opcode, body)) => Some((*opcode, body)),
+// The record that the first line sends.
+fn sent(lines: &[HostLine]) -> Option<(Opcode, &List<Element>)> {
+    match lines {
+        [HostLine::Give(Order::Send(opcode, body)), ..] => Some((*opcode, body)),
         _ => None,
     }
 }
@@ -79,8 +80,8 @@ fn words_are_the_same(rt: HostRuntime) -> Result<(), Fail> {
         let told = read_lines::<HostLine>(rt.alloc(), words).map_err(|_| "bad words")?;
         let wanted = read_lines::<HostLine>(rt.alloc(), hex).map_err(|_| "bad hex")?;
         assert_eq!(rt; told.len(), wanted.len(), "{words:?}");
-        let told = sent(&told[0]).ok_or("no record")?;
-        let wanted = sent(&wanted[0]).ok_or("no record")?;
+        let told = sent(told.as_slice()).ok_or("no record")?;
+        let wanted = sent(wanted.as_slice()).ok_or("no record")?;
         assert!(rt; told == wanted, "{words:?}");
     }
     Ok(())
