@@ -51,6 +51,23 @@ PRICE = "04110008110502D79989838540404B404B404B404B404040F1F24BF5F004520000"
 # A field that the format table can't hold: it ends behind the last cell.
 PAST_END = "0411000811184F1D4000200010"
 
+# The sign-on in words, as `show` prints it, with its texts in characters.
+SIGN_ON_WORDS = """send 3
+  CLEAR-UNIT
+  WRITE 00 08
+  SBA 1 37
+  TEXT Sign On
+  SBA 6 17
+  TEXT User  . . . . . . . . . . . . .
+  SBA 6 52
+  SF 4000 20 10
+  SBA 7 17
+  TEXT Password  . . . . . . . . . . .
+  SBA 7 52
+  SF 4000 27 10
+  READ-MDT 00 00
+"""
+
 SIGN_ON_FIELDS = "field 6 53 10 4000\nfield 7 53 10 4000\n"
 SIGN_ON_SCREEN = """screen
  1                                     Sign On
@@ -589,7 +606,7 @@ def wrong_lines():
             script.flush()
             # Nothing is connected: there is no host.
             Run(["connect", "--wait", "1", "127.0.0.1:1", script.name]).end(2, "", "script line 3\n")
-    words = ["wait", "await record", "await ", "send", "send ", "send x", "send 3 ", "send 3 0", "send 10", "send 256",
+    words = ["wait", "await record", "await ", "  CLEAR-UNIT", "send", "send ", "send x", "send 3 ", "send 3 0", "send 10", "send 256",
              "send 3 0440F3", "type A", "key Enter", "show", "cancel ", "down all", "settle"]
     for line in words:
         with tempfile.NamedTemporaryFile("w", suffix=".serve") as script:
@@ -715,6 +732,73 @@ def a_station_at_a_served_script():
         serve.end(0, "host ready IBM-3179-2\nok\nok\nanswer 7 59 F1\n  field 6 53 D8E4E2C5D9\n  field 7 53 E2C5C3D9C5E3\n"
                   "ok\nok\nanswer 3 24 35\n  field 3 20 F4F7F1F1\nok\nok\nattention\nok\nok\ncancelled\nok\nok\n"
                   "system request\nok\n")
+
+
+@test
+def sends_in_words():
+    text = "await\n" + SIGN_ON_WORDS + "await\nsend 1\nsend 3\n  CLEAR-UNIT\n"
+    printed = "host ready IBM-3179-2\nanswer 6 53 F1\n"
+    with tempfile.NamedTemporaryFile("w", suffix=".serve") as script:
+        script.write(text)
+        script.flush()
+        ready = "host ready IBM-3179-2\nok\nok\nanswer 6 53 F1\nok\nok\nok\n"
+        rows = [(["127.0.0.1:0"], text, printed), (["127.0.0.1:0", script.name], None, printed),
+                (["--ready", "127.0.0.1:0"], text, ready)]
+        for words, given, wanted in rows:
+            serve = Run(["serve", "--wait", "10"] + words, given)
+            side = station_at(serve)
+            negotiate_as_station(side)
+            side.take(record(3, hexed(SIGN_ON)))
+            side.send(record(3, hexed("0635F1")))
+            side.take(record(1) + record(3, hexed("0440")))
+            side.close()
+            serve.end(0, wanted)
+
+
+@test
+def sends_in_words_line_by_line():
+    serve = Run(["serve", "--ready", "--wait", "10", "127.0.0.1:0"], "", keep_open=True)
+    side = station_at(serve)
+    negotiate_as_station(side)
+    expect(serve.asked("await"), "host ready IBM-3179-2\n", "await")
+    for line in SIGN_ON_WORDS.splitlines():
+        serve.tell(line)
+    # An empty line ends the record, and there is one `ok` for both.
+    expect(serve.asked(""), "", "send")
+    side.take(record(3, hexed(SIGN_ON)))
+    side.send(record(3, hexed("0635F1")))
+    expect(serve.asked("await"), "answer 6 53 F1\n", "await")
+    # Any other line ends it too, and is carried out.
+    serve.tell("send 1")
+    expect(serve.asked("cancel"), "", "send")
+    side.take(record(1))
+    expect(serve.line(), "send refused NoReadToCancel\n", "cancel")
+    expect(serve.line(), "ok\n", "cancel")
+    # So does a comment, behind which a line with two blanks belongs to nothing.
+    serve.tell("send 3")
+    serve.tell("  CLEAR-UNIT")
+    expect(serve.asked("# none"), "", "send")
+    side.take(record(3, hexed("0440")))
+    serve.tell("  CLEAR-UNIT")
+    serve.end(2, "", "script line 23\n")
+    side.close()
+
+
+@test
+def bad_lines_of_sends_in_words():
+    rows = [("  CLEAR-UNIT", 1), ("send 3\n  WRITE", 2), ("send 3\n  CLEAR-UNIT\n  WRITE 00 08\n  SBA 25 1", 4),
+            ("send 3 0440\n  CLEAR-UNIT", 2), ("send 3\n  CLEAR-UNIT\n\n  WRITE 00 08", 4),
+            ("send 3\n  WRITE 00 08\n  TEXT \u20ac", 3), ("send 3\n CLEAR-UNIT", 2), ("send x\n  CLEAR-UNIT", 1)]
+    for text, number in rows:
+        with tempfile.NamedTemporaryFile("w", suffix=".serve", encoding="utf-8") as script:
+            script.write("await\n%s\nawait\n" % text)
+            script.flush()
+            Run(["serve", "--wait", "1", "127.0.0.1:0", script.name]).end(2, "", "script line %d\n" % (number + 1))
+        serve = Run(["serve", "--wait", "10", "127.0.0.1:0"], "await\n%s\nawait\n" % text)
+        side = station_at(serve)
+        negotiate_as_station(side)
+        serve.end(2, None, "script line %d\n" % (number + 1))
+        side.close()
 
 
 @test

@@ -66,10 +66,17 @@ const SERVE_EXAMPLES: &str = "\
 It prints `listening ADDRESS`, and takes one connection. Port 0 takes a free
 port. A script has a line for each step, and is read before anything is sent.
 Without one a line of standard input is carried out before the next is read:
-  send K HEX   sends a record of opcode K; HEX may be absent
+  send K HEX   sends a record of opcode K, with the body HEX
+  send K       sends one without a body, or with the elements of the lines
+               behind it, as `show` prints them and `make` reads them:
+    WRITE 00 08
+    TEXT Sign On
   cancel       cancels the read that is asked
   await        goes on until the station has told something, and prints it
                as `play` does
+
+On standard input `send K` is carried out when the next line comes that doesn't
+begin with two blanks; an empty one belongs to it, and has no `ok` of its own.
 
 A refused send is told as `send refused REASON`. A wait that runs out prints
 `late`, and the session goes on; one whose station has closed prints `ended`.

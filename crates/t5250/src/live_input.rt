@@ -10,13 +10,13 @@ ghost use Rattle.ws_live.specs.declared.connect_line.StationLine.{StationLine as
 ghost use Rattle.ws_live.specs.declared.serve_line.HostLine.{HostLine as AHostLine};
 
 use crate::fault::RunFault;
-use std::io;
-use std::io::ErrorKind;
+use std::alloc::Global;
+use std::io::{BufRead, ErrorKind, Input, Lines};
 use std::rt::Runtime;
 use ws_code::{Sink, Source};
 use ws_live::{
-    BufferedSink, HostLine, LineFault, LiveLine, LiveMove, Paint, Ran, StationLine, Watch,
-    answer_on, carry_line, carry_lines,
+    BufferedSink, HostLine, LiveLine, LiveMove, Paint, Ran, ScriptFault, StationLine, Watch,
+    answer_on, carry_line, carry_lines, is_indented,
 };
 use ws_session::{Attached, HostEnd, Station};
 
@@ -136,7 +136,8 @@ where
     }
 }
 
-// Carries out each line of standard input before it reads the next.
+// Carries out each line of standard input, with those that belong to it, before it reads the next, but for the line
+// that ends these.
 fn carry_input<R, E, S, K, L, W, O>(
     rt: &R,
     attached: &mut Attached<E, S, K>,
@@ -162,12 +163,14 @@ where
     ensures held { out.new.held ≡ [] }
 {
     let mut ran = Ran::none();
-    let mut number = 0u64;
-    for line in rt.lines(rt.alloc()) {
-        number = number.saturating_add(1);
-        let line = match read_input_line::<R, L>(rt, line, number) {
-            Ok(line) => line,
+    let mut input = InputLines::new(rt.lines(rt.alloc()));
+    for _ in 0..u64::MAX {
+        let next = match next_line::<R, L>(rt, &mut input) {
+            Ok(next) => next,
             Err(fault) => return Err(fault),
+        };
+        let Some(line) = next else {
+            return Ok(ran);
         };
         let closing = match carry_line(attached, watch, &line, ready, paint, out) {
             Ok(closing) => closing,
@@ -181,21 +184,103 @@ where
     Ok(ran)
 }
 
-fn read_input_line<R: AllocGlobal, L: LiveLine>(
+// Reads the next line of standard input with those that belong to it; `None` behind the last.
+fn next_line<R: Input + AllocGlobal, L: LiveLine>(
     rt: &R,
-    line: io::Result<String>,
-    number: u64,
-) -> Result<L, RunFault> {
-    let line = match line {
-        Ok(line) => line,
-        Err(error) if error.kind() == ErrorKind::InvalidData => {
-            return Err(RunFault::Line(number));
-        }
-        Err(error) => return Err(RunFault::from(error)),
+    input: &mut InputLines<R::Reader>,
+) -> Result<Option<L>, RunFault> {
+    let Some(line) = input.take()? else {
+        return Ok(None);
     };
-    match L::read(rt.alloc(), line.as_bytes()) {
-        Ok(line) => Ok(line),
-        Err(LineFault::Bad) => Err(RunFault::Line(number)),
-        Err(LineFault::Memory) => Err(RunFault::Memory),
+    let number = input.number;
+    let mut inside = Vec::new(rt.alloc());
+    if L::opens(line.as_bytes()) {
+        input.gather(&mut inside)?;
+    }
+    match L::read(rt.alloc(), line.as_bytes(), inside.as_slice()) {
+        Ok(line) => Ok(Some(line)),
+        Err(ScriptFault::Line(at)) => {
+            let behind = at.saturating_sub(1);
+            Err(RunFault::Line(number.saturating_add(behind)))
+        }
+        Err(ScriptFault::Memory) => Err(RunFault::Memory),
+    }
+}
+
+// The lines of standard input, one by one.
+#[derive(Drop)]
+struct InputLines<B> {
+    lines: Lines<B, Global>,
+    // One that was read to see that it belongs to none before it.
+    ahead: Option<String>,
+    // How many were taken.
+    number: u64,
+    // There are no more.
+    is_over: bool,
+}
+
+impl<B: BufRead + Drop> InputLines<B> {
+    fn new(lines: Lines<B, Global>) -> Self {
+        InputLines {
+            lines,
+            ahead: None,
+            number: 0,
+            is_over: false,
+        }
+    }
+
+    // Takes the next line.
+    fn take(&mut self) -> Result<Option<String>, RunFault> {
+        let line = match self.ahead.take() {
+            Some(line) => Some(line),
+            None => self.read()?,
+        };
+        self.number = self.number.saturating_add(1);
+        Ok(line)
+    }
+
+    // Takes the lines that begin with two blanks, and an empty one behind them: their text, each with its line feed.
+    fn gather(&mut self, inside: &mut Vec<u8>) -> Result<(), RunFault> {
+        for _ in 0..u64::MAX {
+            let Some(line) = self.read()? else {
+                return Ok(());
+            };
+            if !is_indented(line.as_bytes()) {
+                self.set_ahead(line);
+                return Ok(());
+            }
+            self.number = self.number.saturating_add(1);
+            if inside.extend_from_slice(line.as_bytes()).is_err() || inside.push(b'\n').is_err() {
+                return Err(RunFault::Memory);
+            }
+        }
+        Ok(())
+    }
+
+    // Keeps a line for the next time, but for an empty one, which is taken.
+    fn set_ahead(&mut self, line: String) {
+        if line.is_empty() {
+            self.number = self.number.saturating_add(1);
+        } else {
+            self.ahead = Some(line);
+        }
+    }
+
+    // Reads a line. Behind the last none is asked for again.
+    fn read(&mut self) -> Result<Option<String>, RunFault> {
+        if self.is_over {
+            return Ok(None);
+        }
+        match self.lines.next() {
+            Some(Ok(line)) => Ok(Some(line)),
+            Some(Err(error)) if error.kind() == ErrorKind::InvalidData => {
+                Err(RunFault::Line(self.number.saturating_add(1)))
+            }
+            Some(Err(error)) => Err(RunFault::from(error)),
+            None => {
+                self.is_over = true;
+                Ok(None)
+            }
+        }
     }
 }

@@ -10,3 +10,4 @@ pub mod Rows
 pub mod ScriptWords
 pub mod Scripts
 pub mod ServeRuns
+pub mod ServeWords

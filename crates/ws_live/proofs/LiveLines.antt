@@ -11,12 +11,11 @@ use Rattle.ws_session.specs.declared.end_step.Order.TheVariants.{Send, Cancel}
 use Rattle.ws_session.specs.declared.world.Move.{Move}
 use Rattle.ws_session.specs.declared.world.Move.TheVariants as moves
 use Rattle.ws_live.specs.ConnectLines.{IsNothing, AreKeysOf, AreNamed, MeansKeys, MeansWait, IsAwaited, IsTextAwaited}
-use Rattle.ws_live.specs.ConnectLines.{IsTextWait, IsCommandSoFar, IsStationLine, BeginsStationLine, Means}
+use Rattle.ws_live.specs.ConnectLines.{IsTextWait, IsCommandSoFar, IsStationLine, IsStationSoFar, Means}
 use Rattle.ws_live.specs.ConnectLines.MeansKeys.{typed, inserted, named}
-use Rattle.ws_live.specs.LiveScript.{IsGoodSoFar}
 use Rattle.ws_live.specs.Script.{IsMove, typed_key}
 use Rattle.ws_live.specs.ScriptFaults.{IsNoComment, IsSendLine, has_no_blank}
-use Rattle.ws_live.specs.ServeLines.{Means as HostMeans, IsHostLine, BeginsHostLine}
+use Rattle.ws_live.specs.ServeLines.{Means as HostMeans, IsOneLine, IsOneSoFar}
 use Rattle.ws_live.specs.declared.connect_line.StationLine.{StationLine}
 use Rattle.ws_live.specs.declared.connect_line.StationLine.TheVariants.{Nothing, Press, Await, Fields, Show}
 use Rattle.ws_live.specs.declared.connect_line.Awaited.{Awaited}
@@ -237,10 +236,10 @@ pub awaits_so_far : (command words : List ℕ) → command ≡ codes "await" →
 awaits_so_far command words e t = inr (words, behind command words (codes "await") e, t)
 
 pub station_so_far : (line text : List ℕ) → text ≡ line → IsUtf8 line → IsCommandSoFar text
-    → IsGoodSoFar IsStationLine BeginsStationLine line
+    → IsStationSoFar line
 station_so_far line text e utf8 (inl m) = inl (m.0, (utf8, subst (λ (z : List ℕ). Means z m.0) e m.1))
 station_so_far line text e utf8 (inr w) = inr (utf8, subst IsTextWait e w)
 
 pub host_so_far : (line text : List ℕ) → text ≡ line → IsUtf8 line → IsSendLine text
-    → IsGoodSoFar IsHostLine BeginsHostLine line
+    → IsOneSoFar line
 host_so_far line text e utf8 s = inr (utf8, subst IsSendLine e s)

@@ -1,73 +1,204 @@
-use Rattle.std.proofs.Common.{◌≡◌, ℕ, ◌+◌, ◌<◌, ◌≤◌, List, [], ◌∷◌, ◌++◌, length, refl, sym, ap, ◌∙◌, subst, arith}
-use Rattle.std.proofs.Common.{append_assoc, length-append}
+use Rattle.std.proofs.Common.{◌≡◌, ℕ, ◌+◌, ◌-◌, ◌^◌, ◌<◌, ◌≤◌, List, [], ◌∷◌, ◌++◌, length, refl, sym, ap, ◌∙◌, subst, arith}
+use Rattle.std.proofs.Common.{append_assoc, length-append, true, false, inl, inr, Bool}
+use Rattle.std.specs.Prelude.{min, ◌⊎◌}
 use Rattle.std.specs.Str.Lines.{lines}
 use Rattle.std.proofs.lemmas.List.{append-nil}
-use Rattle.ws_live.specs.LiveScript.{MeanThese, AreLiveLines, IsFirstBad, IsGoodSoFar, IsReadSoFar}
+use Rattle.ws_live.specs.LiveScript.{is_indented, AreIndented, BeginsFlush, text_of, HasInside, IsBlock, HasBlock}
+use Rattle.ws_live.specs.LiveScript.{MeanThese, AreLiveLines, IsFirstBad, IsGoodSoFar, IsReadSoFar, IsReadingFault}
+use Rattle.ws_live.specs.declared.script.ScriptFault.{ScriptFault}
+use Rattle.ws_live.specs.declared.script.ScriptFault.TheVariants.{Memory}
 
 -- The lines of a live script, one more at a time.
 
-module _ {L : Type 0} (means : List ℕ → L → Type 0) where
-  mean_more : (before : List (List ℕ)) (read : List L) (line : List ℕ) (x : L) → MeanThese means before read
-      → means line x → MeanThese means (before ++ line ∷ []) (read ++ x ∷ [])
-  mean_more [] read line x e m = (x, [], m, refl, ap (λ z. z ++ x ∷ []) e)
-  mean_more (first ∷ before) read line x h m = (
+-- A LINE THAT BELONGS TO ONE BEFORE
+
+text_more : (are : List (List ℕ)) (line : List ℕ) → text_of (are ++ line ∷ []) ≡ text_of are ++ (line ++ 10 ∷ [])
+text_more [] line = refl
+text_more (first ∷ are) line = ap (λ z. first ++ 10 ∷ z) (text_more are line)
+    ∙ sym (append_assoc first (10 ∷ text_of are) (line ++ 10 ∷ []))
+
+indented_more : (are : List (List ℕ)) (line : List ℕ) → AreIndented are → is_indented line ≡ true
+    → AreIndented (are ++ line ∷ [])
+indented_more [] line h e = (e, tt)
+indented_more (first ∷ are) line h e = (h.0, indented_more are line h.1 e)
+
+-- a line and its line feed more
+pub line_fed : (held line between next : List ℕ) → between ≡ held ++ line → next ≡ between ++ (10 ∷ [])
+    → next ≡ held ++ (line ++ 10 ∷ [])
+line_fed held line between next e f = f ∙ ap (λ z. z ++ (10 ∷ [])) e ∙ append_assoc held line (10 ∷ [])
+
+-- so many lines of a text begin with two blanks; the rest is behind them
+pub record Gathers (text rest held : List ℕ) (count : ℕ) : Type 0 where
+  pub are : List (List ℕ)
+  pub split : lines text ≡ are ++ lines rest
+  pub indented : AreIndented are
+  pub is : held ≡ text_of are
+  pub counted : count ≡ length are
+  pub few : count + length rest ≤ length text
+
+pub gathers_none : (text held : List ℕ) → held ≡ [] → Gathers text text held 0
+gathers_none text held e = record { are = []; split = refl; indented = tt; is = e; counted = refl; few = omega arith }
+
+pub gathers_more : (text rest behind line held next : List ℕ) (count : ℕ) → Gathers text rest held count
+    → lines rest ≡ line ∷ lines behind → length behind < length rest → is_indented line ≡ true
+    → next ≡ held ++ (line ++ 10 ∷ []) → Gathers text behind next (count + 1)
+gathers_more text rest behind line held next count r e shorter blank is = record {
+  are = r.are ++ line ∷ [];
+  split = r.split ∙ ap (λ z. r.are ++ z) e ∙ sym (append_assoc r.are (line ∷ []) (lines behind));
+  indented = indented_more r.are line r.indented blank;
+  is = is ∙ ap (λ z. z ++ (line ++ 10 ∷ [])) r.is ∙ sym (text_more r.are line);
+  counted = omega (arith, r.counted, length-append r.are (line ∷ []));
+  few = omega (arith, r.few);
+}
+
+pub gathered_all : (text rest held : List ℕ) (count : ℕ) → Gathers text rest held count → BeginsFlush (lines rest)
+    → HasInside text held count rest
+gathered_all text rest held count r whole = record {
+  are = r.are;
+  split = r.split;
+  indented = r.indented;
+  whole = whole;
+  is = r.is;
+  counted = r.counted;
+  few = r.few;
+}
+
+pub flush_none : (rest : List ℕ) → rest ≡ [] → BeginsFlush (lines rest)
+flush_none rest e = subst (λ (z : List ℕ). BeginsFlush (lines z)) (sym e) tt
+
+pub flush_line : (rest line : List ℕ) (more : List (List ℕ)) → lines rest ≡ line ∷ more → is_indented line ≡ false
+    → BeginsFlush (lines rest)
+flush_line rest line more e blank = subst BeginsFlush (sym e) blank
+
+-- such lines belong to one that lines may belong to, and none to another
+pub block_opened : (opener : List ℕ → Type 0) (line text inside : List ℕ) (count : ℕ) (behind : List ℕ) → opener line
+    → HasInside text inside count behind → HasBlock opener line text inside count behind
+block_opened opener line text inside count behind opened h = record {
+  are = h.are;
+  split = h.split;
+  block = record { indented = h.indented; opened = inr opened; whole = λ o. h.whole };
+  is = h.is;
+  counted = h.counted;
+  few = h.few;
+}
+
+pub block_alone : (opener : List ℕ → Type 0) (line text inside : List ℕ) → inside ≡ [] → (opener line → ⊥)
+    → HasBlock opener line text inside 0 text
+block_alone opener line text inside e other = record {
+  are = [];
+  split = refl;
+  block = record { indented = tt; opened = inl refl; whole = λ o. absurd (other o) };
+  is = e;
+  counted = refl;
+  few = omega arith;
+}
+
+-- THE LINES OF A SCRIPT
+
+module _ {L : Type 0} (means : List ℕ → List ℕ → L → Type 0) (opener : List ℕ → Type 0) where
+  mean_more : (all : List (List ℕ)) (read : List L) (line : List ℕ) (inside after : List (List ℕ)) (x : L)
+      → MeanThese means opener all read (line ∷ (inside ++ after)) → IsBlock opener line inside after
+      → means line (text_of inside) x → MeanThese means opener all (read ++ x ∷ []) after
+  mean_more all [] line inside after x e block m = (line, inside, after, e, block, m, refl)
+  mean_more all (first ∷ read) line inside after x h block m = (
     h.0,
-    h.1 ++ x ∷ [],
+    h.1,
     h.2,
-    mean_more before h.1 line x h.3 m,
-    ap (λ z. z ++ x ∷ []) h.4,
+    h.3,
+    h.4,
+    h.5,
+    mean_more h.2 read line inside after x h.6 block m,
   )
 
   -- so many lines of a text are read; the rest is behind them
   pub record Reads (text rest : List ℕ) (read : List L) (number : ℕ) : Type 0 where
     pub before : List (List ℕ)
     pub split : lines text ≡ before ++ lines rest
-    pub good : MeanThese means before read
+    pub good : MeanThese means opener (lines text) read (lines rest)
     pub counted : number ≡ length before
     pub few : length before + length rest ≤ length text
 
   pub reads_none : (text : List ℕ) → Reads text text [] 0
   reads_none text = record { before = []; split = refl; good = refl; counted = refl; few = omega arith }
 
-  pub reads_more : (text rest behind line : List ℕ) (read next : List L) (x : L) (number : ℕ)
-      → Reads text rest read number → lines rest ≡ line ∷ lines behind → length behind < length rest → means line x
-      → next ≡ read ++ x ∷ [] → Reads text behind next (number + 1)
-  reads_more text rest behind line read next x number r e shorter m is = record {
-    before = r.before ++ line ∷ [];
-    split = r.split ∙ ap (λ z. r.before ++ z) e ∙ sym (append_assoc r.before (line ∷ []) (lines behind));
-    good = subst (MeanThese means (r.before ++ line ∷ [])) (sym is) (mean_more r.before read line x r.good m);
-    counted = omega (arith, r.counted, length-append r.before (line ∷ []));
-    few = omega (arith, r.few, length-append r.before (line ∷ []));
-  }
+  -- the lines that are next
+  ahead : (rest behind line next inside : List ℕ) (count : ℕ) → lines rest ≡ line ∷ lines next
+      → (b : HasBlock opener line next inside count behind) → lines rest ≡ line ∷ (b.are ++ lines behind)
+  ahead rest behind line next inside count e b = e ∙ ap (λ z. line ∷ z) b.split
+
+  pub reads_more : (text rest next behind line inside : List ℕ) (read more : List L) (x : L) (number count : ℕ)
+      → Reads text rest read number → lines rest ≡ line ∷ lines next → length next < length rest
+      → HasBlock opener line next inside count behind → means line inside x → more ≡ read ++ x ∷ []
+      → Reads text behind more (number + (1 + count))
+  reads_more text rest next behind line inside read more x number count r e shorter b m is =
+      let front = ahead rest behind line next inside count e b in
+      record {
+        before = r.before ++ (line ∷ b.are);
+        split = r.split ∙ ap (λ z. r.before ++ z) front ∙ sym (append_assoc r.before (line ∷ b.are) (lines behind));
+        good = subst (λ (z : List L). MeanThese means opener (lines text) z (lines behind)) (sym is)
+            (mean_more (lines text) read line b.are (lines behind) x
+            (subst (MeanThese means opener (lines text) read) front r.good) b.block
+            (subst (λ (z : List ℕ). means line z x) b.is m));
+        counted = omega (arith, r.counted, b.counted, length-append r.before (line ∷ b.are));
+        few = omega (arith, r.few, b.few, b.counted, length-append r.before (line ∷ b.are));
+      }
 
   pub reads_all : (text rest : List ℕ) (read : List L) (number : ℕ) → Reads text rest read number → rest ≡ []
-      → AreLiveLines means text read
-  reads_all text rest read number r e = subst (λ (z : List (List ℕ)). MeanThese means z read)
-      (sym (r.split ∙ ap (λ z. r.before ++ lines z) e ∙ append-nil r.before)) r.good
+      → AreLiveLines means opener text read
+  reads_all text rest read number r e = subst (λ (z : List ℕ). MeanThese means opener (lines text) read (lines z)) e
+      r.good
 
-  pub reads_bad : (text rest behind line : List ℕ) (read : List L) (number : ℕ) → Reads text rest read number
-      → lines rest ≡ line ∷ lines behind → ((x : L) → means line x → ⊥) → IsFirstBad means text (number + 1)
-  reads_bad text rest behind line read number r e bad = record {
-    before = r.before;
+  pub reads_bad : (bad_at : List ℕ → List ℕ → ℕ → Type 0) (text rest next behind line inside : List ℕ) (read : List L)
+      (number count at told : ℕ) → Reads text rest read number → lines rest ≡ line ∷ lines next
+      → HasBlock opener line next inside count behind → ((x : L) → means line inside x → ⊥) → bad_at line inside at
+      → told ≡ min (number + at) (2 ^ 64 - 1) → IsFirstBad means opener bad_at text told
+  reads_bad bad_at text rest next behind line inside read number count at told r e b bad place is =
+      let front = ahead rest behind line next inside count e b in
+      record {
+        before = r.before;
+        line = line;
+        inside = b.are;
+        after = lines behind;
+        split = r.split ∙ ap (λ z. r.before ++ z) front;
+        read = read;
+        good = subst (MeanThese means opener (lines text) read) front r.good;
+        block = b.block;
+        bad = λ x m. bad x (subst (λ (z : List ℕ). means line z x) (sym b.is) m);
+        at = at;
+        place = subst (λ (z : List ℕ). bad_at line z at) b.is place;
+        counted = is ∙ ap (λ n. min (n + at) (2 ^ 64 - 1)) r.counted;
+      }
+
+  -- a growth was refused within a line, or behind it
+  pub reads_begun : (begins : List ℕ → Type 0) (text rest next behind line inside : List ℕ) (read : List L)
+      (number count : ℕ) → Reads text rest read number → lines rest ≡ line ∷ lines next
+      → HasBlock opener line next inside count behind → IsGoodSoFar means begins line inside
+      → IsReadSoFar means begins opener text
+  reads_begun begins text rest next behind line inside read number count r e b good =
+      let front = ahead rest behind line next inside count e b in
+      record {
+        line = line;
+        inside = b.are;
+        after = lines behind;
+        read = read;
+        good = subst (MeanThese means opener (lines text) read) front r.good;
+        so_far = subst (IsGoodSoFar means begins line) b.is good;
+      }
+
+  pub reads_opened : (begins : List ℕ → Type 0) (text rest next line : List ℕ) (read : List L) (number : ℕ)
+      → Reads text rest read number → lines rest ≡ line ∷ lines next → begins line
+      → IsReadSoFar means begins opener text
+  reads_opened begins text rest next line read number r e begun = record {
     line = line;
-    after = lines behind;
-    split = r.split ∙ ap (λ z. r.before ++ z) e;
+    inside = [];
+    after = lines next;
     read = read;
-    good = r.good;
-    bad = bad;
-    counted = ap (λ z. z + 1) r.counted;
+    good = subst (MeanThese means opener (lines text) read) e r.good;
+    so_far = inr begun;
   }
 
-  -- a growth was refused within a line
-  pub reads_begun : (begins : List ℕ → Type 0) (text rest behind line : List ℕ) (read : List L) (number : ℕ)
-      → Reads text rest read number → lines rest ≡ line ∷ lines behind → IsGoodSoFar means begins line
-      → IsReadSoFar means begins text
-  reads_begun begins text rest behind line read number r e good = record {
-    before = r.before;
-    line = line;
-    after = lines behind;
-    split = r.split ∙ ap (λ z. r.before ++ z) e;
-    read = read;
-    good = r.good;
-    so_far = good;
-  }
+  -- no line could be read for want of memory
+  pub only_begun : (begins : List ℕ → Type 0) (bad_at : List ℕ → List ℕ → ℕ → Type 0) (text : List ℕ)
+      (fault : ScriptFault) → fault ≡ Memory → IsReadSoFar means begins opener text
+      → IsReadingFault means opener begins bad_at text fault
+  only_begun begins bad_at text fault e good = rw e good

@@ -69,3 +69,7 @@ IsCommandSoFar line = ((read : StationLine) × Means line read) ⊎ IsTextWait l
 -- a line that waits for a text, which is UTF-8
 abbrev pub BeginsStationLine : List ℕ → Type 0
 BeginsStationLine line = IsUtf8 line × IsTextWait line
+
+-- as far as it was read, a line is good: it is a whole one, or one that waits for a text
+abbrev pub IsStationSoFar : List ℕ → Type 0
+IsStationSoFar line = ((read : StationLine) × IsStationLine line read) ⊎ BeginsStationLine line

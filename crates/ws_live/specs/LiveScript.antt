@@ -1,48 +1,113 @@
--- Scripts of live sessions: a line each, whose meaning is that of the end that it is for.
+-- Scripts of live sessions: a line each, with the lines that belong to it, whose meaning is that of the end that it is
+-- for.
 
-use Rattle.std.specs.Prelude.{◌≡◌, ℕ, ◌+◌, List, [], ◌∷◌, ◌++◌, ◌⊎◌, length}
+use Rattle.std.specs.Prelude.{◌≡◌, ℕ, ◌+◌, ◌-◌, ◌^◌, ◌≤◌, List, [], ◌∷◌, ◌++◌, ◌⊎◌, length, min, Bool, true, false}
+use Rattle.std.specs.Prelude.{◌==◌, ◌&&◌}
 use Rattle.std.specs.Str.Lines.{lines}
 use Rattle.ws_live.specs.declared.script.ScriptFault.{ScriptFault}
 use Rattle.ws_live.specs.declared.script.ScriptFault.TheVariants.{Line, Memory}
 
-module _ {L : Type 0} (means : List ℕ → L → Type 0) where
-  -- each of the lines means one of these, in order
-  abbrev pub MeanThese : List (List ℕ) → List L → Type 0
-  MeanThese [] read = read ≡ []
-  MeanThese (line ∷ more) read = (first : L) × (rest : List L) × means line first × MeanThese more rest
-      × (read ≡ first ∷ rest)
+-- a line begins with two blanks
+abbrev pub is_indented : List ℕ → Bool
+is_indented [] = false
+is_indented (one ∷ []) = false
+is_indented (one ∷ two ∷ text) = (one == 32) && (two == 32)
+
+-- all of the lines do
+abbrev pub AreIndented : List (List ℕ) → Type 0
+AreIndented [] = Unit {0}
+AreIndented (line ∷ more) = (is_indented line ≡ true) × AreIndented more
+
+-- the first of the lines doesn't, or there is none
+abbrev pub BeginsFlush : List (List ℕ) → Type 0
+BeginsFlush [] = Unit {0}
+BeginsFlush (line ∷ more) = is_indented line ≡ false
+
+-- the text of lines, each with its line feed
+abbrev pub text_of : List (List ℕ) → List ℕ
+text_of [] = []
+text_of (line ∷ more) = line ++ 10 ∷ text_of more
+
+-- the lines of a text that begin with two blanks, up to the first that doesn't: their text and number, and what is
+-- behind them
+pub record HasInside (text inside : List ℕ) (count : ℕ) (behind : List ℕ) : Type 0 where
+  pub are : List (List ℕ)
+  pub split : lines text ≡ are ++ lines behind
+  pub indented : AreIndented are
+  pub whole : BeginsFlush (lines behind)
+  pub is : inside ≡ text_of are
+  pub counted : count ≡ length are
+  pub few : count + length behind ≤ length text
+
+module _ (opener : List ℕ → Type 0) where
+  -- a line, those that belong to it, which stand behind one that lines may belong to, and those behind them
+  pub record IsBlock (line : List ℕ) (inside after : List (List ℕ)) : Type 0 where
+    pub indented : AreIndented inside
+    pub opened : (inside ≡ []) ⊎ opener line
+    pub whole : opener line → BeginsFlush after
+
+  -- of a line and the text behind it: the text and number of the lines that belong to it, and what is behind them
+  pub record HasBlock (line text inside : List ℕ) (count : ℕ) (behind : List ℕ) : Type 0 where
+    pub are : List (List ℕ)
+    pub split : lines text ≡ are ++ lines behind
+    pub block : IsBlock line are (lines behind)
+    pub is : inside ≡ text_of are
+    pub counted : count ≡ length are
+    pub few : count + length behind ≤ length text
+
+module _ {L : Type 0} (means : List ℕ → List ℕ → L → Type 0) (opener : List ℕ → Type 0) where
+  -- each of the first lines means one of these, in order, with those that belong to it, and the rest is behind them
+  abbrev pub MeanThese : List (List ℕ) → List L → List (List ℕ) → Type 0
+  MeanThese all [] rest = all ≡ rest
+  MeanThese all (first ∷ read) rest = (line : List ℕ) × (inside : List (List ℕ)) × (after : List (List ℕ))
+      × (all ≡ line ∷ (inside ++ after)) × IsBlock opener line inside after × means line (text_of inside) first
+      × MeanThese after read rest
 
   -- the lines of a text mean these
   abbrev pub AreLiveLines : List ℕ → List L → Type 0
-  AreLiveLines text read = MeanThese (lines text) read
+  AreLiveLines text read = MeanThese (lines text) read []
 
-  -- the first bad line of a script, counted from 1
-  pub record IsFirstBad (text : List ℕ) (number : ℕ) : Type 0 where
-    pub before : List (List ℕ)
-    pub line : List ℕ
-    pub after : List (List ℕ)
-    pub split : lines text ≡ before ++ line ∷ after
-    pub read : List L
-    pub good : MeanThese before read
-    pub bad : (x : L) → means line x → ⊥
-    pub counted : number ≡ length before + 1
-
-  module _ (begins : List ℕ → Type 0) where
-    -- as far as it was read, a line is good: it is a whole one, or one up to what takes memory
-    abbrev pub IsGoodSoFar : List ℕ → Type 0
-    IsGoodSoFar line = ((read : L) × means line read) ⊎ begins line
-
-    -- as far as it was read, a script is good
-    pub record IsReadSoFar (text : List ℕ) : Type 0 where
+  module _ (bad_at : List ℕ → List ℕ → ℕ → Type 0) where
+    -- the first bad line of a script, counted from 1 as far as 64 bits count: it is one, or belongs to one, that means
+    -- nothing
+    pub record IsFirstBad (text : List ℕ) (number : ℕ) : Type 0 where
       pub before : List (List ℕ)
       pub line : List ℕ
+      pub inside : List (List ℕ)
       pub after : List (List ℕ)
-      pub split : lines text ≡ before ++ line ∷ after
+      pub split : lines text ≡ before ++ (line ∷ (inside ++ after))
       pub read : List L
-      pub good : MeanThese before read
-      pub so_far : IsGoodSoFar line
+      pub good : MeanThese (lines text) read (line ∷ (inside ++ after))
+      pub block : IsBlock opener line inside after
+      pub bad : (x : L) → means line (text_of inside) x → ⊥
+      pub at : ℕ
+      pub place : bad_at line (text_of inside) at
+      pub counted : number ≡ min (length before + at) (2 ^ 64 - 1)
 
-    -- why a script isn't read
-    abbrev pub IsReadingFault : List ℕ → ScriptFault → Type 0
-    IsReadingFault text (Line number) = IsFirstBad text number
-    IsReadingFault text Memory = IsReadSoFar text
+module _ {L : Type 0} (means : List ℕ → List ℕ → L → Type 0) (begins : List ℕ → Type 0) where
+  -- as far as it was read, a line is good: it is a whole one with those that belong to it, or one up to what takes
+  -- memory
+  abbrev pub IsGoodSoFar : List ℕ → List ℕ → Type 0
+  IsGoodSoFar line inside = ((read : L) × means line inside read) ⊎ begins line
+
+  -- why a line isn't read: with those that belong to it it means nothing, and this one is bad, counted from 1; or a
+  -- growth was refused
+  abbrev pub IsBlockFault : (List ℕ → List ℕ → ℕ → Type 0) → List ℕ → List ℕ → ScriptFault → Type 0
+  IsBlockFault bad_at line inside (Line at) = ((read : L) → means line inside read → ⊥) × bad_at line inside at
+  IsBlockFault bad_at line inside Memory = IsGoodSoFar line inside
+
+  module _ (opener : List ℕ → Type 0) where
+    -- as far as it was read, a script is good
+    pub record IsReadSoFar (text : List ℕ) : Type 0 where
+      pub line : List ℕ
+      pub inside : List (List ℕ)
+      pub after : List (List ℕ)
+      pub read : List L
+      pub good : MeanThese means opener (lines text) read (line ∷ (inside ++ after))
+      pub so_far : IsGoodSoFar line (text_of inside)
+
+module _ {L : Type 0} (means : List ℕ → List ℕ → L → Type 0) (opener begins : List ℕ → Type 0) where
+  -- why a script isn't read
+  abbrev pub IsReadingFault : (List ℕ → List ℕ → ℕ → Type 0) → List ℕ → ScriptFault → Type 0
+  IsReadingFault bad_at text (Line number) = IsFirstBad means opener bad_at text number
+  IsReadingFault bad_at text Memory = IsReadSoFar means begins opener text

@@ -1,15 +1,24 @@
 -- The lines of a script for a host of one station.
 
-use Rattle.std.specs.Prelude.{◌≡◌, ℕ, List, ◌++◌, codes}
+use Rattle.std.specs.Prelude.{◌≡◌, ◌≢◌, ◌⊎◌, ℕ, List, [], ◌∷◌, ◌++◌, codes}
 use Rattle.std.specs.Str.{IsUtf8}
+use Rattle.ws_record.specs.declared.opcode.Opcode.{Opcode}
+use Rattle.ws_record.specs.declared.record.Item.{Item}
+use Rattle.ws_record.specs.declared.record.Item.TheVariants as an_item
+use Rattle.ws_record.specs.declared.record.Record.{Record}
 use Rattle.ws_session.specs.declared.end_step.Order.TheVariants.{Send, Cancel}
+use Rattle.ws_stream.specs.declared.element.Element.{Element}
+use Rattle.ws_text.specs.Items.{AreItems, IsTextFault}
+use Rattle.ws_text.specs.declared.items.TextFault.TheVariants as items
 use Rattle.ws_live.specs.ConnectLines.{IsNothing}
-use Rattle.ws_live.specs.Script.{IsRecordText}
+use Rattle.ws_live.specs.Script.{IsOpcodeText, IsRecordText}
 use Rattle.ws_live.specs.ScriptFaults.{IsSendLine}
+use Rattle.ws_live.specs.declared.script.ScriptFault.{ScriptFault}
+use Rattle.ws_live.specs.declared.script.ScriptFault.TheVariants.{Line, Memory}
 use Rattle.ws_live.specs.declared.serve_line.HostLine.{HostLine}
 use Rattle.ws_live.specs.declared.serve_line.HostLine.TheVariants.{Nothing, Give, Await}
 
--- what a line means
+-- what a line means by itself
 abbrev pub Means : List ℕ → HostLine → Type 0
 Means line Nothing = IsNothing line
 Means line (Give (Send opcode body)) = (words : List ℕ) × (line ≡ codes "send " ++ words)
@@ -17,10 +26,57 @@ Means line (Give (Send opcode body)) = (words : List ℕ) × (line ≡ codes "se
 Means line (Give Cancel) = line ≡ codes "cancel"
 Means line Await = line ≡ codes "await"
 
--- a line of such a script, which is UTF-8
-abbrev pub IsHostLine : List ℕ → HostLine → Type 0
-IsHostLine line read = IsUtf8 line × Means line read
+-- a line by itself, which is UTF-8
+abbrev pub IsOneLine : List ℕ → HostLine → Type 0
+IsOneLine line read = IsUtf8 line × Means line read
+
+-- a line that sends a record, up to the record's body; or a whole line
+abbrev pub IsOneSoFar : List ℕ → Type 0
+IsOneSoFar line = ((read : HostLine) × IsOneLine line read) ⊎ (IsUtf8 line × IsSendLine line)
+
+-- a line that sends a record, and says no more of it than its opcode
+abbrev pub SendsAlone : List ℕ → List ℕ → Opcode → Type 0
+SendsAlone line number opcode = IsUtf8 line × (line ≡ codes "send " ++ number) × IsOpcodeText number opcode
+
+-- elements may stand behind such a line
+abbrev pub OpensHostBlock : List ℕ → Type 0
+OpensHostBlock line = (number : List ℕ) × (opcode : Opcode) × SendsAlone line number opcode
+
+-- a record with elements, as `show` prints it and `make` reads it
+abbrev pub record_text : List ℕ → List ℕ → List ℕ
+record_text number elements = (codes "record opcode " ++ number) ++ (10 ∷ elements)
+
+-- what a text spells is one record with this body
+abbrev pub IsOneRecord : List ℕ → List Element → Type 0
+IsOneRecord text body = (r : Record Element) × AreItems text (an_item.Record r ∷ []) × (body ≡ r.body)
+
+-- a record is sent with the elements that the text behind its line spells
+abbrev pub SendsInWords : List ℕ → List ℕ → HostLine → Type 0
+SendsInWords line elements read = (number : List ℕ) × (opcode : Opcode) × (body : List Element)
+    × SendsAlone line number opcode × IsOneRecord (record_text number elements) body × (read ≡ Give (Send opcode body))
+
+-- a line of such a script, and the text of the elements behind it
+abbrev pub IsHostLine : List ℕ → List ℕ → HostLine → Type 0
+IsHostLine line elements read = ((elements ≡ []) × IsOneLine line read)
+    ⊎ ((elements ≢ []) × SendsInWords line elements read)
 
 -- a line that sends a record, up to the record's body
 abbrev pub BeginsHostLine : List ℕ → Type 0
-BeginsHostLine line = IsUtf8 line × IsSendLine line
+BeginsHostLine line = (IsUtf8 line × IsSendLine line) ⊎ OpensHostBlock line
+
+-- where elements are bad behind their line: at the first bad line of the text that they are in, as `make` would tell
+-- it; or at the line before them, where they are no elements of its record
+abbrev pub AreBadAt : List ℕ → ℕ → Type 0
+AreBadAt text at = IsTextFault text (items.Line at)
+    ⊎ ((at ≡ 1) × ((told : List (Item Element)) × AreItems text told × ((body : List Element) → IsOneRecord text body → ⊥)))
+
+-- why a text gives no elements of a record: a line of it is bad, or a growth was refused
+abbrev pub IsWordsFault : List ℕ → ScriptFault → Type 0
+IsWordsFault text (Line at) = ((body : List Element) → IsOneRecord text body → ⊥) × AreBadAt text at
+IsWordsFault text Memory = Unit {0}
+
+-- where a line is bad with the elements behind it: at itself, or in these
+abbrev pub IsBadHostLineAt : List ℕ → List ℕ → ℕ → Type 0
+IsBadHostLineAt line elements at = ((at ≡ 1) × ((elements ≡ []) ⊎ (OpensHostBlock line → ⊥)))
+    ⊎ ((number : List ℕ) × (opcode : Opcode) × SendsAlone line number opcode
+    × AreBadAt (record_text number elements) at)

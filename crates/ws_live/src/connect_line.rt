@@ -1,11 +1,12 @@
-ghost use Rattle.std.specs.Prelude.{◌≡◌, ◌++◌, ◌<◌, List as Seq, true, length, codes, IfOk, IfErr};
+ghost use Rattle.std.specs.Prelude.{◌≡◌, ◌++◌, [], ◌<◌, List as Seq, true, length, codes, IfOk, IfErr};
 ghost use Rattle.ws_keys.specs.declared.key.Key.{Key as AKey};
 ghost use Rattle.ws_live.specs.ConnectLines as Spec;
-ghost use Rattle.ws_live.specs.ConnectLines.{BeginsStationLine, IsStationLine};
+ghost use Rattle.ws_live.specs.ConnectLines.{BeginsStationLine, IsStationLine, IsStationSoFar};
 ghost use Rattle.ws_live.specs.ScriptFaults.{IsLineFault, IsNoComment, has_no_blank};
 
 use crate::key_name::key_named;
 use crate::live_line::LiveLine;
+use crate::script::ScriptFault;
 use crate::script_line::{LineFault, add, typed_key};
 use crate::script_move::split_word;
 use std::alloc::Global;
@@ -40,24 +41,48 @@ pub enum Awaited {
 }
 
 impl LiveLine for StationLine {
-    ghost means = { IsStationLine };
+    ghost means = { λ line inside read. (inside ≡ []) × IsStationLine line read };
 
     ghost begins = { BeginsStationLine };
 
-    fn read(alloc: Global, line: &[u8]) -> Result<Self, LineFault> {
-        let Ok(text) = str::from_utf8(line) else {
-            return Err(LineFault::Bad);
-        };
-        if text.is_empty() {
-            return Ok(StationLine::Nothing);
+    ghost opener = { λ line. ⊥ };
+
+    ghost bad_at = { λ line inside at. at ≡ 1 };
+
+    fn opens(_line: &[u8]) -> bool {
+        false
+    }
+
+    fn read(alloc: Global, line: &[u8], inside: &[u8]) -> Result<Self, ScriptFault> {
+        if !inside.is_empty() {
+            return Err(ScriptFault::Line(1));
         }
-        if text.strip_prefix('#').is_some() {
-            return Ok(StationLine::Nothing);
+        match read_line(alloc, line) {
+            Ok(read) => Ok(read),
+            Err(LineFault::Bad) => Err(ScriptFault::Line(1)),
+            Err(LineFault::Memory) => Err(ScriptFault::Memory),
         }
-        match split_word(text) {
-            None => read_word(text),
-            Some((command, words)) => read_command(alloc, command, words),
-        }
+    }
+}
+
+// A line without its line end.
+fn read_line(alloc: Global, line: &[u8]) -> Result<StationLine, LineFault>
+    ensures line { IfOk result (IsStationLine line.now) }
+    ensures fault { IfErr result (IsLineFault (IsStationLine line.now)
+        (IsStationSoFar line.now)) }
+{
+    let Ok(text) = str::from_utf8(line) else {
+        return Err(LineFault::Bad);
+    };
+    if text.is_empty() {
+        return Ok(StationLine::Nothing);
+    }
+    if text.strip_prefix('#').is_some() {
+        return Ok(StationLine::Nothing);
+    }
+    match split_word(text) {
+        None => read_word(text),
+        Some((command, words)) => read_command(alloc, command, words),
     }
 }
 

@@ -23,16 +23,17 @@ mod script_move;
 mod script_rows;
 mod serve;
 mod serve_line;
+#[cfg(test)]
+mod serve_rows;
 
 pub use buffered_sink::BufferedSink;
 pub use connect_line::{Awaited, StationLine};
 pub use live::{Carried, Closing, LiveMove, Ran, Watch, carry_line, carry_lines, hand_on};
-pub use live_line::{LiveLine, read_lines};
+pub use live_line::{LiveLine, is_indented, read_lines};
 pub use paint::Paint;
 pub use place_and_reason::put_place_and_reason;
 pub use play::{play_painted_to, play_to};
 pub use screen_lines::put_screen;
 pub use script::{ScriptFault, read_script};
-pub use script_line::LineFault;
 pub use serve::answer_on;
 pub use serve_line::HostLine;

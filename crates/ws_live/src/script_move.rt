@@ -61,8 +61,8 @@ fn read_send(alloc: Global, words: &str) -> Result<Move, LineFault>
     Ok(Move::Send(opcode, List::of(body)))
 }
 
-// An opcode in decimal; that of Cancel Invite is none.
-fn read_opcode(word: &str) -> Result<Opcode, LineFault>
+/// An opcode in decimal; that of Cancel Invite is none.
+pub fn read_opcode(word: &str) -> Result<Opcode, LineFault>
     ensures ok { IfOk result (Spec.IsOpcodeText word.now) }
     ensures fault { IfErr result (IsLineFault (Spec.IsOpcodeText word.now) ⊥) }
 {

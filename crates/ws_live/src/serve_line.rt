@@ -1,14 +1,24 @@
-ghost use Rattle.std.specs.Prelude.{◌≡◌, ◌++◌, ◌<◌, true, length, codes, IfOk, IfErr};
-ghost use Rattle.ws_live.specs.ServeLines.{BeginsHostLine, IsHostLine};
+ghost use Rattle.std.specs.Prelude.{◌≡◌, ◌≢◌, ◌++◌, ◌∷◌, [], ◌<◌, List as Seq, true, length, codes, IfOk, IfErr, MatchOption};
+ghost use Rattle.ws_record.specs.declared.record.Item.TheVariants as an_item;
+ghost use Rattle.ws_record.specs.declared.record.Record.{Record as ARecord};
+ghost use Rattle.ws_session.specs.declared.end_step.Order.TheVariants.{Send};
+ghost use Rattle.ws_stream.specs.declared.element.Element.{Element as AnElement};
+ghost use Rattle.ws_live.specs.LiveScript.{IsBlockFault, IsGoodSoFar};
+ghost use Rattle.ws_live.specs.ServeLines.{BeginsHostLine, IsBadHostLineAt, IsHostLine, IsOneLine, OpensHostBlock};
 ghost use Rattle.ws_live.specs.ServeLines as Spec;
 ghost use Rattle.ws_live.specs.ScriptFaults.{IsLineFault, IsNoComment, IsSendLine, has_no_blank};
 
 use crate::live_line::LiveLine;
+use crate::script::ScriptFault;
 use crate::script_line::LineFault;
-use crate::script_move::{read_move, split_word};
+use crate::script_move::{read_move, read_opcode, split_word};
 use std::alloc::Global;
 use std::str;
+use ws_code::List;
+use ws_record::{Item, Opcode};
 use ws_session::{Move, Order};
+use ws_stream::Element;
+use ws_text::{TextFault, read_items};
 
 /// A line of a script for a host of one station.
 #[derive(Debug, Drop)]
@@ -26,20 +36,59 @@ impl LiveLine for HostLine {
 
     ghost begins = { BeginsHostLine };
 
-    fn read(alloc: Global, line: &[u8]) -> Result<Self, LineFault> {
-        let Ok(text) = str::from_utf8(line) else {
-            return Err(LineFault::Bad);
-        };
-        if text.is_empty() {
-            return Ok(HostLine::Nothing);
+    ghost opener = { OpensHostBlock };
+
+    ghost bad_at = { IsBadHostLineAt };
+
+    fn opens(line: &[u8]) -> bool {
+        sent_alone(line).is_some()
+    }
+
+    fn read(alloc: Global, line: &[u8], inside: &[u8]) -> Result<Self, ScriptFault> {
+        if inside.is_empty() {
+            return read_alone(alloc, line);
         }
-        if text.strip_prefix('#').is_some() {
-            return Ok(HostLine::Nothing);
+        match sent_alone(line) {
+            Some((opcode, number)) => match read_words(alloc, number, inside) {
+                Ok(body) => Ok(HostLine::Give(Order::Send(opcode, body))),
+                Err(fault) => Err(fault),
+            },
+            None => Err(ScriptFault::Line(1)),
         }
-        match split_word(text) {
-            None => read_word(text),
-            Some((command, words)) => read_command(alloc, command, words),
-        }
+    }
+}
+
+// A line that no other belongs to.
+fn read_alone(alloc: Global, line: &[u8]) -> Result<HostLine, ScriptFault>
+    ensures line { IfOk result (IsHostLine line.now []) }
+    ensures fault { IfErr result
+        (IsBlockFault IsHostLine BeginsHostLine IsBadHostLineAt line.now []) }
+{
+    match read_line(alloc, line) {
+        Ok(read) => Ok(read),
+        Err(LineFault::Bad) => Err(ScriptFault::Line(1)),
+        Err(LineFault::Memory) => Err(ScriptFault::Memory),
+    }
+}
+
+// A line by itself.
+fn read_line(alloc: Global, line: &[u8]) -> Result<HostLine, LineFault>
+    ensures line { IfOk result (IsOneLine line.now) }
+    ensures fault { IfErr result (IsLineFault (IsOneLine line.now)
+        (Spec.IsOneSoFar line.now)) }
+{
+    let Ok(text) = str::from_utf8(line) else {
+        return Err(LineFault::Bad);
+    };
+    if text.is_empty() {
+        return Ok(HostLine::Nothing);
+    }
+    if text.strip_prefix('#').is_some() {
+        return Ok(HostLine::Nothing);
+    }
+    match split_word(text) {
+        None => read_word(text),
+        Some((command, words)) => read_command(alloc, command, words),
     }
 }
 
@@ -74,5 +123,71 @@ fn read_command(alloc: Global, command: &str, words: &str) -> Result<HostLine, L
             Err(fault) => Err(fault),
         },
         _ => Err(LineFault::Bad),
+    }
+}
+
+// The opcode of a line that sends a record and says no more of it, and the number that says it.
+fn sent_alone(line: &[u8]) -> Option<(Opcode, &str)>
+    ensures { MatchOption result (OpensHostBlock line.now → ⊥)
+        (λ found. Spec.SendsAlone line.now found.1.now found.0) }
+{
+    let Ok(text) = str::from_utf8(line) else {
+        return None;
+    };
+    let Some(number) = text.strip_prefix("send ") else {
+        return None;
+    };
+    match read_opcode(number) {
+        Ok(opcode) => Some((opcode, number)),
+        Err(_) => None,
+    }
+}
+
+// The body whose elements a text spells.
+fn read_words(alloc: Global, number: &str, elements: &[u8]) -> Result<List<Element>, ScriptFault>
+    ensures body { IfOk result (Spec.IsOneRecord (Spec.record_text number.now elements.now)) }
+    ensures fault { IfErr result (Spec.IsWordsFault (Spec.record_text number.now elements.now)) }
+{
+    let text = match record_text(alloc, number, elements) {
+        Ok(text) => text,
+        Err(fault) => return Err(fault),
+    };
+    match read_items(alloc, text.as_slice()) {
+        Ok(items) => match only_body(items) {
+            Some(body) => Ok(body),
+            None => Err(ScriptFault::Line(1)),
+        },
+        Err(TextFault::Line(at)) => Err(ScriptFault::Line(at)),
+        Err(TextFault::Memory) => Err(ScriptFault::Memory),
+    }
+}
+
+// A record with these elements, as `show` prints it.
+fn record_text(alloc: Global, number: &str, elements: &[u8]) -> Result<Vec<u8>, ScriptFault>
+    ensures text { IfOk result (λ text. text.items ≡ Spec.record_text number.now elements.now) }
+    ensures fault { IfErr result (λ fault. fault ≡ ScriptFault.Memory) }
+{
+    let mut text = Vec::new(alloc);
+    text.extend_from_slice(b"record opcode ")
+        .map_err(|_| ScriptFault::Memory)?;
+    text.extend_from_slice(number.as_bytes())
+        .map_err(|_| ScriptFault::Memory)?;
+    text.push(b'\n').map_err(|_| ScriptFault::Memory)?;
+    text.extend_from_slice(elements)
+        .map_err(|_| ScriptFault::Memory)?;
+    Ok(text)
+}
+
+// The body of the one record.
+fn only_body(items: Vec<Item<Element>>) -> Option<List<Element>>
+    ensures { MatchOption result
+        ((r : ARecord AnElement) → items.items ≡ an_item.Record r ∷ [] → ⊥)
+        (λ body. (r : ARecord AnElement) × (items.items ≡ an_item.Record r ∷ [])
+        × (body ≡ r.body)) }
+{
+    let mut items = items;
+    match items.pop() {
+        Some(Item::Record(record)) if items.is_empty() => Some(record.body),
+        _ => None,
     }
 }

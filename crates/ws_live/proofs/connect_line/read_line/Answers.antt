@@ -1,13 +1,12 @@
 use Rattle.std.proofs.Common.{◌++◌, List, ℕ, sym, ◌∙◌, subst, inr}
 use Rattle.std.specs.Prelude.{codes}
 use Rattle.std.proofs.lemmas.Result.{IfOk-weaker, IfErr-weaker}
-use Rattle.ws_live.specs.ConnectLines.{Means, IsStationLine, BeginsStationLine, IsCommandSoFar}
+use Rattle.ws_live.specs.ConnectLines.{Means, IsStationLine, IsStationSoFar, IsCommandSoFar}
 use Rattle.ws_live.specs.ScriptFaults.{IsLineFault}
-use Rattle.ws_live.specs.LiveScript.{IsGoodSoFar}
 use Rattle.ws_live.proofs.LiveLines.{station_so_far}
 use Rattle.ws_live.proofs.Scripts.{fault_on}
 use Rattle.ws_live.proofs.ScriptWords.{comment_text, is_no_comment}
-use Rattle.ws_live.proofs.connect_line.StationLineLiveLine.read.Goals as goal
+use Rattle.ws_live.proofs.connect_line.read_line.Goals as goal
 
 pub returns-then-is_some-clause-line : goal.returns-then-is_some-clause-line
 returns-then-is_some-clause-line c =
@@ -31,7 +30,7 @@ returns-in-None-clause-fault c =
     let text = c.in-Ok.text.now in
     let line = c.args.line.now in
     IfErr-weaker c.read_word.result (IsLineFault (Means text) ⊥) (IsLineFault (IsStationLine line)
-    (IsGoodSoFar IsStationLine BeginsStationLine line))
+    (IsStationSoFar line))
     (λ fault h. fault_on (Means text) (IsStationLine line) fault (λ none_is read l. none_is read
     (subst (λ (z : List ℕ). Means z read) (sym c.in-Ok.ensures.cases.0) l.1)) (λ (h : ⊥). absurd h) h)
     c.read_word.ensures.fault
@@ -53,7 +52,7 @@ returns-in-Some-clause-fault c =
     let line = c.args.line.now in
     let same = sym c.in-Some.ensures.0 ∙ c.in-Ok.ensures.cases.0 in
     IfErr-weaker c.read_command.result (IsLineFault (Means text) (IsCommandSoFar text))
-    (IsLineFault (IsStationLine line) (IsGoodSoFar IsStationLine BeginsStationLine line))
+    (IsLineFault (IsStationLine line) (IsStationSoFar line))
     (λ fault h. fault_on (Means text) (IsStationLine line) fault (λ none_is read l. none_is read
     (subst (λ (z : List ℕ). Means z read) (sym same) l.1)) (station_so_far line text same c.in-Ok.ensures.cases.1)
     h) c.read_command.ensures.fault
