@@ -5,7 +5,6 @@ ghost use Rattle.ws_c.specs.Calls.{index_from};
 ghost use Rattle.ws_c.specs.Cells.{AreInOrder, EndsBehind, IsPast, IsPassed};
 
 use crate::NO_FIELD;
-use ws_code::Address;
 use ws_screen::Field;
 
 /// The fields that end behind a place, and the index of the first of them.
@@ -38,13 +37,13 @@ pub fn passed(fields: &[Field], place: u16) -> Option<&[Field]>
 }
 
 /// The index of the field that holds a cell, of fields that end behind it, the first of which has an index.
-pub fn index_at(index: u16, ahead: &[Field], at: Address) -> u16
+pub fn index_at(index: u16, ahead: &[Field], place: u16) -> u16
     requires in_order { AreInOrder ahead.now }
-    requires behind { EndsBehind at ahead.now }
-    ensures { result ≡ index_from index ahead.now at }
+    requires behind { EndsBehind place ahead.now }
+    ensures { result ≡ index_from index ahead.now place }
 {
     match ahead {
-        [field, ..] if field.start.place() <= at.place() => index,
+        [field, ..] if field.start.place() <= place => index,
         _ => NO_FIELD,
     }
 }

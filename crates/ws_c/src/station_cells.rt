@@ -2,9 +2,8 @@
 ghost use Rattle.std.specs.Prelude.{◌≡◌, ◌≤◌, ◌<◌, ◌+◌, ◌*◌, ◌-◌, ◌++◌, drop, length, map};
 ghost use Rattle.std.specs.List.{range_with_len};
 ghost use Rattle.ws_code.specs.declared.address.TheConstants.{CELLS as ALL_CELLS};
-ghost use Rattle.ws_screen.specs.Lines.{shown_at};
 ghost use Rattle.ws_c.specs.declared.status.Status.{Status as AStatus};
-ghost use Rattle.ws_c.specs.Calls.{field_index, status_number};
+ghost use Rattle.ws_c.specs.Calls.{status_number};
 ghost use Rattle.ws_c.specs.Cells.{AreRows, cell_told as told_of, cells_in, rows_told};
 ghost use Rattle.ws_c.specs.Held.{OnStation};
 
@@ -30,18 +29,19 @@ pub struct CellTold {
     pub attribute: u8,
 }
 
-// What is told of a cell that is in the field of this index, or in none.
-fn cell_told(screen: &Screen, field: u16, at: Address, shown: Shown) -> CellTold
-    requires field { field ≡ field_index screen.now.fields at }
-    requires shown { shown ≡ shown_at screen.now.cells at }
-    ensures { result ≡ told_of screen.now at }
+// Tells a cell that is in the field of this index, or in none.
+fn tell_cell(cell: &mut CellTold, field: u16, byte: u8, shown: Shown)
+    ensures { cell.new ≡ record {
+      character = shown.character;
+      field = field;
+      byte = byte;
+      attribute = shown.attribute;
+    } }
 {
-    CellTold {
-        character: shown.character as u32,
-        field,
-        byte: screen.cell(at),
-        attribute: shown.attribute.byte(),
-    }
+    cell.character = shown.character as u32;
+    cell.field = field;
+    cell.byte = byte;
+    cell.attribute = shown.attribute.byte();
 }
 
 // The cell at a place of the screen.
@@ -64,14 +64,16 @@ fn tell_cells(screen: &Screen, first: usize, cells: &mut [CellTold])
 {
     screen.known();
     let fields = screen.fields();
+    let bytes = screen.cells();
     let (mut field, mut ahead) = fields_behind(fields.as_slice(), first as u16);
     let mut attribute = screen.attribute_at(address(first));
     for (index, cell) in cells.iter_mut().enumerate() {
-        let at = address(first + index);
-        let (shown, next) = attribute.show(screen.cell(at));
-        *cell = cell_told(screen, index_at(field, ahead, at), at, shown);
+        let place = first + index;
+        let byte = bytes[place];
+        let (shown, next) = attribute.show(byte);
+        tell_cell(cell, index_at(field, ahead, place as u16), byte, shown);
         attribute = next;
-        if let Some(behind) = passed(ahead, at.place() + 1) {
+        if let Some(behind) = passed(ahead, place as u16 + 1) {
             field += 1;
             ahead = behind;
         }

@@ -24,6 +24,13 @@ impl Screen {
         self.cells[at.place() as usize]
     }
 
+    /// What the 1,920 cells hold, in screen order.
+    pub fn cells(&self) -> &[u8]
+        ensures { result.now ≡ self.now.cells }
+    {
+        &self.cells
+    }
+
     /// The input fields by start. No two share a cell, and all end on the screen.
     pub fn fields(&self) -> ArrayVec<Field, MAX_FIELDS>
         ensures fields { result.items ≡ self.now.fields }
