@@ -6,6 +6,8 @@ use Rattle.ws_record.specs.declared.record.Item.{Item}
 use Rattle.ws_record.specs.declared.record.Item.TheVariants as an_item
 use Rattle.ws_record.specs.declared.record.Record.{Record}
 use Rattle.ws_stream.specs.declared.element.Element.{Element}
+use Rattle.ws_stream.specs.Elements.{element_rules}
+use Rattle.ws_text.specs.ElementWords.{element_wording}
 use Rattle.ws_text.specs.Items.{AreItems, IsTextFault}
 use Rattle.ws_text.specs.declared.items.TextFault.{TextFault}
 use Rattle.ws_text.specs.declared.items.TextFault.TheVariants as items
@@ -19,24 +21,26 @@ use Rattle.ws_live.specs.declared.serve_line.HostLine.{HostLine}
 -- Records that are told in words.
 
 -- what a text spells is told, and is no record of elements
-pub not_one : (text read : List ℕ) (told : List (Item Element)) → read ≡ text → AreItems read told
-    → ((are : List (Item Element)) → AreItems read are → told ≡ are)
+pub not_one : (text read : List ℕ) (told : List (Item Element)) → read ≡ text
+    → AreItems element_rules element_wording read told
+    → ((are : List (Item Element)) → AreItems element_rules element_wording read are → told ≡ are)
     → ((r : Record Element) → told ≡ an_item.Record r ∷ [] → ⊥)
     → ((body : List Element) → IsOneRecord text body → ⊥) × AreBadAt text 1
 not_one text read told e is only other =
     let none_is : (body : List Element) → IsOneRecord text body → ⊥ = λ body one.
     other one.0 (only (an_item.Record one.0 ∷ [])
-    (subst (λ (z : List ℕ). AreItems z (an_item.Record one.0 ∷ [])) (sym e) one.1)) in
-    (none_is, inr (refl, (told, subst (λ (z : List ℕ). AreItems z told) e is, none_is)))
+    (subst (λ (z : List ℕ). AreItems element_rules element_wording z (an_item.Record one.0 ∷ [])) (sym e) one.1)) in
+    (none_is, inr (refl, (told, subst (λ (z : List ℕ). AreItems element_rules element_wording z told) e is, none_is)))
 
 -- a line of the text is bad
-pub bad_words : (text read : List ℕ) (at : ℕ) → read ≡ text → IsTextFault read (items.Line at)
-    → ((are : List (Item Element)) → AreItems read are → items.Line at ≡ items.Memory)
+pub bad_words : (text read : List ℕ) (at : ℕ) → read ≡ text
+    → IsTextFault element_rules element_wording read (items.Line at)
+    → ((are : List (Item Element)) → AreItems element_rules element_wording read are → items.Line at ≡ items.Memory)
     → ((body : List Element) → IsOneRecord text body → ⊥) × AreBadAt text at
 bad_words text read at e bad only = (
   (λ body one. let f : items.Line at ≡ items.Memory = only (an_item.Record one.0 ∷ [])
-      (subst (λ (z : List ℕ). AreItems z (an_item.Record one.0 ∷ [])) (sym e) one.1) in cc),
-  inl (subst (λ (z : List ℕ). IsTextFault z (items.Line at)) e bad),
+      (subst (λ (z : List ℕ). AreItems element_rules element_wording z (an_item.Record one.0 ∷ [])) (sym e) one.1) in cc),
+  inl (subst (λ (z : List ℕ). IsTextFault element_rules element_wording z (items.Line at)) e bad),
 )
 
 pub some_text : (text : List ℕ) → (length text == 0) ≡ false → text ≢ []

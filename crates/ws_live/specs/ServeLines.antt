@@ -8,6 +8,8 @@ use Rattle.ws_record.specs.declared.record.Item.TheVariants as an_item
 use Rattle.ws_record.specs.declared.record.Record.{Record}
 use Rattle.ws_session.specs.declared.end_step.Order.TheVariants.{Send, Cancel}
 use Rattle.ws_stream.specs.declared.element.Element.{Element}
+use Rattle.ws_stream.specs.Elements.{element_rules}
+use Rattle.ws_text.specs.ElementWords.{element_wording}
 use Rattle.ws_text.specs.Items.{AreItems, IsTextFault}
 use Rattle.ws_text.specs.declared.items.TextFault.TheVariants as items
 use Rattle.ws_live.specs.ConnectLines.{IsNothing}
@@ -48,7 +50,7 @@ record_text number elements = (codes "record opcode " ++ number) ++ (10 ∷ elem
 
 -- what a text spells is one record with this body
 abbrev pub IsOneRecord : List ℕ → List Element → Type 0
-IsOneRecord text body = (r : Record Element) × AreItems text (an_item.Record r ∷ []) × (body ≡ r.body)
+IsOneRecord text body = (r : Record Element) × AreItems element_rules element_wording text (an_item.Record r ∷ []) × (body ≡ r.body)
 
 -- a record is sent with the elements that the text behind its line spells
 abbrev pub SendsInWords : List ℕ → List ℕ → HostLine → Type 0
@@ -67,8 +69,8 @@ BeginsHostLine line = (IsUtf8 line × IsSendLine line) ⊎ OpensHostBlock line
 -- where elements are bad behind their line: at the first bad line of the text that they are in, as `make` would tell
 -- it; or at the line before them, where they are no elements of its record
 abbrev pub AreBadAt : List ℕ → ℕ → Type 0
-AreBadAt text at = IsTextFault text (items.Line at)
-    ⊎ ((at ≡ 1) × ((told : List (Item Element)) × AreItems text told × ((body : List Element) → IsOneRecord text body → ⊥)))
+AreBadAt text at = IsTextFault element_rules element_wording text (items.Line at)
+    ⊎ ((at ≡ 1) × ((told : List (Item Element)) × AreItems element_rules element_wording text told × ((body : List Element) → IsOneRecord text body → ⊥)))
 
 -- why a text gives no elements of a record: a line of it is bad, or a growth was refused
 abbrev pub IsWordsFault : List ℕ → ScriptFault → Type 0
