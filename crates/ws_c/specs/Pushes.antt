@@ -45,7 +45,7 @@ place_refused_at (At place reason) before after = place
 place_refused_at Memory before after = after - 1
 place_refused_at HasFailed before after = before
 
--- So many of these bytes stand before the one at which an end failed that had taken so many before: that one is the last
+-- So many of these bytes stand before the one at which an end failed that had taken so many before: it is the last
 -- that it has taken. For no byte of theirs it failed before the first.
 abbrev pub StandsBehind : Refusal → ℕ → ℕ → ℕ → ℕ → Type 0
 StandsBehind (At place reason) n before after length = (place ≡ before + n) × (after ≡ before + n + 1) × (n < length)

@@ -1,4 +1,5 @@
-use Rattle.std.proofs.Common.{◌≡◌, ◌≢◌, ℕ, List, [], ◌∷◌, ◌++◌, ◌==◌, length, false, true, inl, inr, refl, sym, ap, ◌∙◌, subst}
+use Rattle.std.proofs.Common.{◌≡◌, ◌≢◌, ℕ, List, [], ◌∷◌, ◌++◌, ◌==◌, length, false, true, inl, inr}
+use Rattle.std.proofs.Common.{refl, sym, ap, ◌∙◌, subst}
 use Rattle.std.specs.Prelude.{codes}
 use Rattle.std.proofs.lemmas.Bool.{false≢true}
 use Rattle.ws_record.specs.declared.opcode.Opcode.{Opcode}
@@ -39,7 +40,8 @@ pub bad_words : (text read : List ℕ) (at : ℕ) → read ≡ text
     → ((body : List Element) → IsOneRecord text body → ⊥) × AreBadAt text at
 bad_words text read at e bad only = (
   (λ body one. let f : items.Line at ≡ items.Memory = only (an_item.Record one.0 ∷ [])
-      (subst (λ (z : List ℕ). AreItems element_rules element_wording z (an_item.Record one.0 ∷ [])) (sym e) one.1) in cc),
+      (subst (λ (z : List ℕ). AreItems element_rules element_wording z (an_item.Record one.0 ∷ []))
+      (sym e) one.1) in cc),
   inl (subst (λ (z : List ℕ). IsTextFault element_rules element_wording z (items.Line at)) e bad),
 )
 

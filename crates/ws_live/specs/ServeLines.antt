@@ -50,7 +50,8 @@ record_text number elements = (codes "record opcode " ++ number) ++ (10 ∷ elem
 
 -- what a text spells is one record with this body
 abbrev pub IsOneRecord : List ℕ → List Element → Type 0
-IsOneRecord text body = (r : Record Element) × AreItems element_rules element_wording text (an_item.Record r ∷ []) × (body ≡ r.body)
+IsOneRecord text body = (r : Record Element)
+    × AreItems element_rules element_wording text (an_item.Record r ∷ []) × (body ≡ r.body)
 
 -- a record is sent with the elements that the text behind its line spells
 abbrev pub SendsInWords : List ℕ → List ℕ → HostLine → Type 0
@@ -70,7 +71,8 @@ BeginsHostLine line = (IsUtf8 line × IsSendLine line) ⊎ OpensHostBlock line
 -- it; or at the line before them, where they are no elements of its record
 abbrev pub AreBadAt : List ℕ → ℕ → Type 0
 AreBadAt text at = IsTextFault element_rules element_wording text (items.Line at)
-    ⊎ ((at ≡ 1) × ((told : List (Item Element)) × AreItems element_rules element_wording text told × ((body : List Element) → IsOneRecord text body → ⊥)))
+    ⊎ ((at ≡ 1) × ((told : List (Item Element)) × AreItems element_rules element_wording text told
+    × ((body : List Element) → IsOneRecord text body → ⊥)))
 
 -- why a text gives no elements of a record: a line of it is bad, or a growth was refused
 abbrev pub IsWordsFault : List ℕ → ScriptFault → Type 0

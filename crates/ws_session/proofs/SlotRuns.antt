@@ -1,4 +1,4 @@
--- What a run of bytes into an empty slot makes of a body that is carried out: it stops at the first element that is whole.
+-- What a run of bytes into an empty slot makes of a body that is carried out: it stops at the first whole element.
 
 use Rattle.std.proofs.Common.{◌≡◌, ℕ, false, List, [], ◌∷◌, ◌++◌, Option, Some, None, inl, inr, refl, sym, ap, ◌∙◌}
 use Rattle.std.proofs.Common.{subst, append_assoc}
@@ -153,7 +153,8 @@ module _ (from : ScreenParts) (bytes : List ℕ) (now : ScreenParts) (reading : 
         → fault now element ≡ Some reason → (h : History) → Gives h from → body_fault h body ≡ Some reason
     whole_refused body chain more same reason refused h g =
         let stop = whole.stop in
-        applied_fault from (bytes ++ stop.front) now stop.before.place stop.before.begun before body chain stop.last more
+        applied_fault from (bytes ++ stop.front) now stop.before.place stop.before.begun before body chain stop.last
+        more
         element reason (more_is stop more body same) whole.spelled refused h g
 
   -- bytes of a body are never refused
