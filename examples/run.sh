@@ -25,12 +25,13 @@ compare() {
     count $? "differs: $*"
 }
 
-# compare_made NAME: what `make` prints of NAME.show is NAME.hex, but for blanks, line ends and the digits' case.
+# compare_made NAME OPTION..: what `make` prints of NAME.show is NAME.hex, but for blanks, line ends and the digits'
+# case.
 compare_made() {
     local made wanted
-    made=$("$program" make "$1.show") && wanted=$(tr -d ' \t\r\n' <"$1.hex" | tr a-f A-F) \
+    made=$("$program" make "${@:2}" "$1.show") && wanted=$(tr -d ' \t\r\n' <"$1.hex" | tr a-f A-F) \
         && [ "$(tr -d '\n' <<<"$made")" = "$wanted" ]
-    count $? "differs: make $1.show"
+    count $? "differs: make ${*:2} $1.show"
 }
 
 tested=$(<../crates/t5250/src/example_rows.rt)
@@ -60,6 +61,7 @@ for hex in *-answers.hex; do
     name=${hex%.hex}
     compare "$name.check" check --answers "$hex"
     compare "$name.show" show --answers "$hex"
+    compare_made "$name" --answers
 done
 echo "$passed passed, $failed failed"
 [ $failed -eq 0 ]

@@ -81,6 +81,7 @@ HELLO_TEXT = """record opcode 2
   TEXT HI
 """
 HELLO_MADE = HELLO.replace(" ", "")
+ANSWER_MADE = ANSWER.replace(" ", "")
 EMPTY_SCREEN = "screen\ncursor 1 1, locked, message off, blink off, fields 0\n"
 
 # The words, the standard input, and what is wanted: the exit status, standard output, and a line on standard
@@ -128,6 +129,11 @@ RUNS = [
     (["show", "--answers"], ANSWER, 0, ANSWER_LINES, ""),
     (["show", "--answers"], HELLO, 1, "refused at 12: reason 43 BadAid\n", ""),
     (["show", "--answers"], "", 0, "", ""),
+    (["make", "--answers"], ANSWER_LINES, 0, ANSWER_MADE, ""),
+    (["make", "--answers", "@" + ANSWER_LINES], "nonsense", 0, ANSWER_MADE, ""),
+    (["make", "--answers"], ANSWER_LINES + "  SBA 1 1\n", 2, "", f"script line {ANSWER_LINES.count(chr(10)) + 1}\n"),
+    (["make", "--answers"], HELLO_TEXT, 2, "", "script line 2\n"),
+    (["make"], ANSWER_LINES, 2, "", "script line 2\n"),
     (["show"], COLORS, 0, COLORS_PLAIN, ""),
     (["show", "--color"], COLORS, 0, COLORS_COLORED, ""),
     (["show", "--color", "@" + COLORS], "", 0, COLORS_COLORED, ""),
@@ -163,7 +169,6 @@ RUNS = [
     (["play", "--answers"], BOB, 2, "", None),
     (["play", "a", "b"], BOB, 2, "", None),
     (["make", "a", "b"], HELLO_TEXT, 2, "", None),
-    (["make", "--answers"], HELLO_TEXT, 2, "", None),
 ]
 
 

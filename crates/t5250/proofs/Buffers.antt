@@ -42,7 +42,9 @@ module _ {S : Type 0} (takes : MayTake S) (failures : S → ℕ) (count : Buffer
         (h.0, h.1, h.2, h.3, flushed_out takes failures count from empty mid to h.2 h.4 out, h.5)
     done_flushed (Play file screen true paint) input accepted h =
         (h.0, h.1, h.2, h.3, flushed_out takes failures count from empty mid to h.2 h.4 out)
-    done_flushed (Make file) input accepted h =
+    done_flushed (Make file false) input accepted h =
+        (h.0, h.1, flushed_out takes failures count from empty mid to _ h.2 out, h.3)
+    done_flushed (Make file true) input accepted h =
         (h.0, h.1, flushed_out takes failures count from empty mid to _ h.2 out, h.3)
 
     unchanged : mid ≡ from → to ≡ from.sink
@@ -120,15 +122,24 @@ module _ {S : Type 0} (takes : MayTake S) (failures : S → ℕ) (count : Buffer
     fault_flushed (Play file screen true paint) input (Refused place reason) f = absurd f
     fault_flushed (Play file screen true paint) input (Truncated n) f = absurd f
     fault_flushed (Play file screen true paint) input Failed f = absurd f
-    fault_flushed (Make file) input (Line number) f = (unchanged f.0, f.1)
-    fault_flushed (Make file) input Memory f = unchanged f
-    fault_flushed (Make file) input Write f = (f.0, f.1, fails_too _ f.2)
-    fault_flushed (Make file) input NotHex f = absurd f
-    fault_flushed (Make file) input Read f = absurd f
-    fault_flushed (Make file) input (Refused place reason) f = absurd f
-    fault_flushed (Make file) input (Truncated n) f = absurd f
-    fault_flushed (Make file) input NoConnection f = absurd f
-    fault_flushed (Make file) input Failed f = absurd f
+    fault_flushed (Make file false) input (Line number) f = (unchanged f.0, f.1)
+    fault_flushed (Make file false) input Memory f = unchanged f
+    fault_flushed (Make file false) input Write f = (f.0, f.1, fails_too _ f.2)
+    fault_flushed (Make file false) input NotHex f = absurd f
+    fault_flushed (Make file false) input Read f = absurd f
+    fault_flushed (Make file false) input (Refused place reason) f = absurd f
+    fault_flushed (Make file false) input (Truncated n) f = absurd f
+    fault_flushed (Make file false) input NoConnection f = absurd f
+    fault_flushed (Make file false) input Failed f = absurd f
+    fault_flushed (Make file true) input (Line number) f = (unchanged f.0, f.1)
+    fault_flushed (Make file true) input Memory f = unchanged f
+    fault_flushed (Make file true) input Write f = (f.0, f.1, fails_too _ f.2)
+    fault_flushed (Make file true) input NotHex f = absurd f
+    fault_flushed (Make file true) input Read f = absurd f
+    fault_flushed (Make file true) input (Refused place reason) f = absurd f
+    fault_flushed (Make file true) input (Truncated n) f = absurd f
+    fault_flushed (Make file true) input NoConnection f = absurd f
+    fault_flushed (Make file true) input Failed f = absurd f
 
   module _ (none : FailedWithin takes failures mid.sink to mid.held) where
     -- what it did doesn't go out whole
@@ -147,7 +158,9 @@ module _ {S : Type 0} (takes : MayTake S) (failures : S → ℕ) (count : Buffer
         (h.0, h.1, h.2, h.3, flush_fails takes failures count from empty mid to h.2 h.4 none)
     done_unflushed (Play file screen true paint) input accepted h =
         (h.0, h.1, inr (accepted, h.2, h.3, flush_fails takes failures count from empty mid to h.2 h.4 none))
-    done_unflushed (Make file) input accepted h =
+    done_unflushed (Make file false) input accepted h =
+        (h.0, h.1, flush_fails takes failures count from empty mid to _ h.2 none)
+    done_unflushed (Make file true) input accepted h =
         (h.0, h.1, flush_fails takes failures count from empty mid to _ h.2 none)
 
     unheld : {X : Type 0} → mid ≡ from → X
@@ -221,15 +234,24 @@ module _ {S : Type 0} (takes : MayTake S) (failures : S → ℕ) (count : Buffer
     fault_unflushed (Play file screen true paint) input (Refused place reason) f = absurd f
     fault_unflushed (Play file screen true paint) input (Truncated n) f = absurd f
     fault_unflushed (Play file screen true paint) input Failed f = absurd f
-    fault_unflushed (Make file) input (Line number) f = unheld f.0
-    fault_unflushed (Make file) input Memory f = unheld f
-    fault_unflushed (Make file) input Write f = unfailed _ f.2
-    fault_unflushed (Make file) input NotHex f = absurd f
-    fault_unflushed (Make file) input Read f = absurd f
-    fault_unflushed (Make file) input (Refused place reason) f = absurd f
-    fault_unflushed (Make file) input (Truncated n) f = absurd f
-    fault_unflushed (Make file) input NoConnection f = absurd f
-    fault_unflushed (Make file) input Failed f = absurd f
+    fault_unflushed (Make file false) input (Line number) f = unheld f.0
+    fault_unflushed (Make file false) input Memory f = unheld f
+    fault_unflushed (Make file false) input Write f = unfailed _ f.2
+    fault_unflushed (Make file false) input NotHex f = absurd f
+    fault_unflushed (Make file false) input Read f = absurd f
+    fault_unflushed (Make file false) input (Refused place reason) f = absurd f
+    fault_unflushed (Make file false) input (Truncated n) f = absurd f
+    fault_unflushed (Make file false) input NoConnection f = absurd f
+    fault_unflushed (Make file false) input Failed f = absurd f
+    fault_unflushed (Make file true) input (Line number) f = unheld f.0
+    fault_unflushed (Make file true) input Memory f = unheld f
+    fault_unflushed (Make file true) input Write f = unfailed _ f.2
+    fault_unflushed (Make file true) input NotHex f = absurd f
+    fault_unflushed (Make file true) input Read f = absurd f
+    fault_unflushed (Make file true) input (Refused place reason) f = absurd f
+    fault_unflushed (Make file true) input (Truncated n) f = absurd f
+    fault_unflushed (Make file true) input NoConnection f = absurd f
+    fault_unflushed (Make file true) input Failed f = absurd f
 
     pub outcome_unflushed : (asked : Asked) (input : List ℕ) (outcome : Result Bool RunFault)
         → IfOk outcome (λ accepted. HasAnswered (buffered_takes takes failures) count from mid asked input accepted)

@@ -11,6 +11,9 @@ use Rattle.ws_stream.specs.AnswerParts.{answer_rules}
 use Rattle.t5250.specs.HexText.{IsHexOf, without_blanks}
 use Rattle.t5250.specs.CheckLine.{IsVerdict, is_accepted, line_of}
 use Rattle.t5250.specs.Checking.{IsCheckFault}
+use Rattle.ws_text.specs.AnswerWords.{answer_wording}
+use Rattle.ws_text.specs.ElementWords.{element_wording}
+use Rattle.ws_text.specs.Shown.{Shows, ShowsAnswers}
 use Rattle.t5250.specs.Making.{HasMade, IsMakeFault}
 use Rattle.t5250.specs.StreamText.{View, IsShown, IsShowFault}
 use Rattle.t5250.specs.Views.{painted_host_view, answer_view}
@@ -84,7 +87,10 @@ module _ {S : Type 0} (takes : MayTake S) (failures : S → ℕ) (from to : S) w
       × HasShown answer_rules answer_view bytes accepted
   HasAnswered (Play file screen false paint) input accepted = HasPlayed paint screen input accepted
   HasAnswered (Play file screen true paint) input accepted = HasPlayedByTcp paint screen input accepted
-  HasAnswered (Make file) input accepted = HasMade takes failures from to input accepted
+  HasAnswered (Make file false) input accepted =
+      HasMade element_rules element_wording Shows takes failures from to input accepted
+  HasAnswered (Make file true) input accepted =
+      HasMade answer_rules answer_wording ShowsAnswers takes failures from to input accepted
 
   -- what is answered of a hex text where a command answers such faults of its bytes
   abbrev pub IsHexFault : (List ℕ → Fault → Type 0) → List ℕ → RunFault → Type 0
@@ -127,7 +133,10 @@ module _ {S : Type 0} (takes : MayTake S) (failures : S → ℕ) (from to : S) w
       (IsShowFault takes failures from to answer_rules answer_view) input fault
   IsAnswerFault (Play file screen false paint) input fault = IsPlayFault paint screen input fault
   IsAnswerFault (Play file screen true paint) input fault = IsTcpPlayFault paint screen input fault
-  IsAnswerFault (Make file) input fault = IsMakeFault takes failures from to input fault
+  IsAnswerFault (Make file false) input fault =
+      IsMakeFault element_rules element_wording Shows takes failures from to input fault
+  IsAnswerFault (Make file true) input fault =
+      IsMakeFault answer_rules answer_wording ShowsAnswers takes failures from to input fault
 
 -- the exit status: 0 where all was accepted, 1 where it wasn't, 2 on a fault
 abbrev pub status_of : {E : Type 0} → Result Bool E → ℕ

@@ -47,9 +47,10 @@ pub enum Asked<'a> {
         tcp: bool,
         paint: Paint,
     },
-    /// To write the stream whose items a text spells.
+    /// To write the stream whose items a text spells: as a host's commands, or as a station's answers.
     Make {
         file: Option<&'a str>,
+        answers: bool,
     },
 }
 
@@ -60,7 +61,7 @@ impl<'a> Asked<'a> {
             Asked::Check { file, .. }
             | Asked::Show { file, .. }
             | Asked::Play { file, .. }
-            | Asked::Make { file } => file,
+            | Asked::Make { file, .. } => file,
         }
     }
 }
@@ -123,10 +124,16 @@ A text has the lines that `show` prints, and is read before anything is written:
 A place (at P) counts for nothing, nor does an empty line or one that begins
 with #. A line screen ends the text.
 
+A station's answers (--answers) have the lines that `show --answers` prints:
+    HEAD 6 53 F1    the cursor's row and column, and the key
+    AT 6 53         the cell of a field, and
+    BYTES C1C2      its bytes; so too TEXT AB
+
 It prints a line of hex for each item.
 
 Examples:
   t5250 make screen.text
+  t5250 make --answers answers.text
   t5250 show capture.hex | t5250 make";
 
 // The commands that the program knows.
@@ -173,8 +180,9 @@ fn program<'a>(alloc: Global) -> Result<Command<'a>, clap::Error> {
         .help("Items as text; without it, standard input is read")
         .action(ArgAction::Set);
     let make = Command::new(alloc, "make")
-        .about("Prints a host's stream as hex text, from the lines that show prints")
+        .about("Prints a stream as hex text, from the lines that show prints")
         .after_help(MAKE_EXAMPLES)
+        .arg(answers_flag(alloc))?
         .arg(items)?;
     let program = Command::new(alloc, "t5250")
         .version("0.1.0")
@@ -251,6 +259,7 @@ pub fn read_words<'a, S: AsStr>(alloc: Global, words: &'a [S]) -> Result<Task<'a
         })),
         Some(("make", make)) => Ok(Task::Input(Asked::Make {
             file: make.get_str("FILE"),
+            answers: make.get_flag("answers"),
         })),
         Some(("connect", words)) => Ok(Task::Live(Live::Connect(connect_asked(
             &mut program,

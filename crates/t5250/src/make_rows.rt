@@ -37,6 +37,75 @@ fn streams_from_text(rt: HostRuntime) -> Result<(), Fail> {
     Ok(())
 }
 
+// What `show --answers` prints of the example's answers, and other forms.
+#[test]
+fn answers_from_text(rt: HostRuntime) -> Result<(), Fail> {
+    let rows = [
+        ("", ""),
+        (
+            "at 2 telnet WILL 24\nat 18 telnet SB 24 0049424D2D333137392D32\nat 40 record flags 0000 opcode 3\n  HEAD 3 24 35\n  AT 3 20\n  BYTES F4F7F1F1\nat 55 record flags 0000 opcode 3\n  HEAD 3 20 33\n",
+            "FFFB18\nFFFA180049424D2D333137392D32FFF0\n001412A0000004000003031835110314F4F7F1F1FFEF\n000D12A0000004000003031433FFEF\n",
+        ),
+        (
+            "# two runs\r\nrecord opcode 3\r\n  HEAD 24 80 f1\r\n  BYTES c1\r\n  TEXT Bc\r\n\r\nscreen\r\nand more",
+            "001012A00000040000031850F1C1C283FFEF\n",
+        ),
+        ("record flags 4000 opcode 0", "000A12A0000004400000FFEF\n"),
+        (
+            "record opcode 3\n  HEAD 1 1 F1\n  BYTES FF00",
+            "000F12A00000040000030101F1FFFF00FFEF\n",
+        ),
+    ];
+    for (text, wanted) in rows {
+        let Task::Input(asked) = read_words(rt.alloc(), &["t5250", "make", "--answers"])? else {
+            return Err("a live session".into());
+        };
+        let mut sink = VecSink::new(rt.alloc());
+        let outcome = answer(&rt, rt.alloc(), asked, text.as_bytes(), &mut sink);
+        assert_eq!(rt; outcome, Ok(true), "{text}");
+        assert_eq!(rt; sink.as_slice(), wanted.as_bytes(), "{text}");
+    }
+    Ok(())
+}
+
+// The same line rules, and where the parts of an answer can't stand.
+#[test]
+fn bad_lines_of_answers(rt: HostRuntime) -> Result<(), Fail> {
+    let rows = [
+        ("nonsense", 1),
+        ("  HEAD 1 1 F1", 1),
+        ("telnet NOP\n  HEAD 1 1 F1", 2),
+        ("record opcode 3\n  CLEAR-UNIT", 2),
+        ("record opcode 3\n  PUT C1", 2),
+        ("record opcode 3\n  AT 1 1", 2),
+        ("record opcode 3\n  BYTES C1", 2),
+        ("record opcode 3\n  HEAD 1 1 F1\n  HEAD 1 1 F1", 3),
+        ("record opcode 3\n  HEAD 25 1 F1", 2),
+        ("record opcode 3\n  HEAD 1 81 F1", 2),
+        ("record opcode 3\n  HEAD 1 1 F2", 2),
+        ("record opcode 3\n  HEAD 1 1", 2),
+        ("record opcode 3\n  HEAD 1 1 F1 F1", 2),
+        ("record opcode 3\n  HEAD 1 1 F1\n  AT 0 1", 3),
+        ("record opcode 3\n  HEAD 1 1 F1\n  AT 1 1 1", 3),
+        ("record opcode 3\n  HEAD 1 1 F1\n  BYTES", 3),
+        ("record opcode 3\n  HEAD 1 1 F1\n  BYTES 1D", 3),
+        ("record opcode 3\n  HEAD 1 1 F1\n  BYTES C", 3),
+        ("record opcode 3\n  HEAD 1 1 F1\n  BYTES C1 C2", 3),
+        ("record opcode 7", 1),
+        ("# a comment\n\ntelnet DO 256", 3),
+    ];
+    for (text, line) in rows {
+        let Task::Input(asked) = read_words(rt.alloc(), &["t5250", "make", "--answers"])? else {
+            return Err("a live session".into());
+        };
+        let mut sink = VecSink::new(rt.alloc());
+        let outcome = answer(&rt, rt.alloc(), asked, text.as_bytes(), &mut sink);
+        assert_eq!(rt; outcome, Err(RunFault::Line(line)), "{text}");
+        assert_eq!(rt; sink.as_slice().len(), 0, "{text}");
+    }
+    Ok(())
+}
+
 // Nothing is written before a bad line is met.
 #[test]
 fn bad_lines_of_text(rt: HostRuntime) -> Result<(), Fail> {
@@ -90,7 +159,10 @@ fn made_line_fails(rt: HostRuntime) -> Result<(), Fail> {
 #[test]
 fn made_within_memory(rt: HostRuntime) {
     let mut sink = VecSink::new(rt.alloc());
-    let asked = Asked::Make { file: None };
+    let asked = Asked::Make {
+        file: None,
+        answers: false,
+    };
     let text = b"telnet NOP\nrecord opcode 1".as_slice();
     match answer(&rt, rt.alloc(), asked, text, &mut sink) {
         Ok(_) => {

@@ -2,6 +2,9 @@ ghost use Rattle.std.specs.Prelude.{◌≡◌, ◌≢◌, [], IfOk, IfErr};
 ghost use Rattle.ws_stream.specs.AnswerParts.{answer_rules};
 ghost use Rattle.ws_stream.specs.Elements.{element_rules};
 ghost use Rattle.t5250.specs.Answering.{HasPieces, HasAnswered, HasChecked, HasShown, HasPlayed, HasPlayedByTcp, IsAnswerFault, IsHexFault, IsPlayFault, IsTcpPlayFault, status_of};
+ghost use Rattle.ws_text.specs.AnswerWords.{answer_wording};
+ghost use Rattle.ws_text.specs.ElementWords.{element_wording};
+ghost use Rattle.ws_text.specs.Shown.{Shows, ShowsAnswers};
 ghost use Rattle.t5250.specs.HexText.{IsHexOf};
 ghost use Rattle.t5250.specs.Checking.{IsCheckFault};
 ghost use Rattle.t5250.specs.Making.{HasMade, IsMakeFault};
@@ -23,7 +26,7 @@ use ws_live::{BufferedSink, Paint, play_painted_to, read_script};
 use ws_nego::TerminalType;
 use ws_session::World;
 use ws_stream::{Answers, Commands};
-use ws_text::read_items;
+use ws_text::{read_answer_items, read_items};
 
 /// Does what the program was asked for with the whole of its input: true where all was accepted.
 ///
@@ -72,7 +75,13 @@ pub fn answer<R: Net<Listener = TcpListener, Stream = TcpStream>, S: Sink>(
                 play_script(alloc, text, screen, paint, sink)
             }
         }
-        Asked::Make { .. } => make_stream(alloc, text, sink),
+        Asked::Make { answers, .. } => {
+            if answers {
+                make_answers_stream(alloc, text, sink)
+            } else {
+                make_stream(alloc, text, sink)
+            }
+        }
     }
 }
 
@@ -183,13 +192,27 @@ fn play_script_by_tcp<R: Net<Listener = TcpListener, Stream = TcpStream>, S: Sin
     Ok(play_painted_to(&report, paint, screen, sink)?)
 }
 
-// Writes the stream whose items a text spells.
+// Writes the stream of a host whose items a text spells.
 fn make_stream<S: Sink>(alloc: Global, text: &[u8], sink: &mut S) -> Result<bool, RunFault>
-    ensures done { IfOk result (HasMade S.takes S.failures sink.old sink.new text.now) }
-    ensures fault { IfErr result (IsMakeFault S.takes S.failures sink.old sink.new text.now) }
+    ensures done { IfOk result (HasMade element_rules element_wording Shows
+        S.takes S.failures sink.old sink.new text.now) }
+    ensures fault { IfErr result (IsMakeFault element_rules element_wording Shows
+        S.takes S.failures sink.old sink.new text.now) }
 {
     let items = read_items(alloc, text)?;
-    make_to(alloc, items.as_slice(), sink)?;
+    make_to::<Commands, S>(alloc, items.as_slice(), sink)?;
+    Ok(true)
+}
+
+// The same of a station.
+fn make_answers_stream<S: Sink>(alloc: Global, text: &[u8], sink: &mut S) -> Result<bool, RunFault>
+    ensures done { IfOk result (HasMade answer_rules answer_wording ShowsAnswers
+        S.takes S.failures sink.old sink.new text.now) }
+    ensures fault { IfErr result (IsMakeFault answer_rules answer_wording ShowsAnswers
+        S.takes S.failures sink.old sink.new text.now) }
+{
+    let items = read_answer_items(alloc, text)?;
+    make_to::<Answers, S>(alloc, items.as_slice(), sink)?;
     Ok(true)
 }
 

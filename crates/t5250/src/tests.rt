@@ -162,8 +162,20 @@ fn command_lines(rt: HostRuntime) -> Result<(), Fail> {
                 paint: Paint::Color,
             },
         ),
-        (&["t5250", "make"], Asked::Make { file: None }),
-        (&["t5250", "make", "a.hex"], Asked::Make { file }),
+        (
+            &["t5250", "make"],
+            Asked::Make {
+                file: None,
+                answers: false,
+            },
+        ),
+        (
+            &["t5250", "make", "--answers", "a.hex"],
+            Asked::Make {
+                file,
+                answers: true,
+            },
+        ),
     ];
     for (words, asked) in rows {
         assert_eq!(rt; read_words(rt.alloc(), words)?, Task::Input(asked));

@@ -5,8 +5,9 @@ use Rattle.hex.specs.Hex.{encode_upper, upper_digits}
 use Rattle.std.proofs.lemmas.List.{append-nil}
 use Rattle.ws_stream.specs.declared.answer_part.AnswerPart.{AnswerPart}
 use Rattle.ws_stream.specs.declared.answer_part.AnswerPart.TheVariants.{Head, Byte, At}
-use Rattle.ws_text.specs.AnswerLines.{Run, runs_with, runs_of, run_line, is_byte, part_line, part_lines}
-use Rattle.ws_text.specs.AnswerLines.Run.{Bytes, Other}
+use Rattle.ws_text.specs.Wording.{Run}
+use Rattle.ws_text.specs.AnswerLines.{runs_with, runs_of, run_line, is_byte, part_line, part_lines}
+use Rattle.ws_text.specs.Wording.Run.{Bytes, Other}
 use Rattle.ws_text.proofs.Prints.{encode_append}
 
 -- The lines of an answer's parts, one part after another.
@@ -34,7 +35,7 @@ is_byte_last_more before [] e = refl
 is_byte_last_more before (x ∷ es) e = is_byte_last_more (is_byte x) es e
 
 -- what runs add to those lines: bytes behind a byte go on with that one's line
-abbrev runs_behind : Bool → List Run → List ℕ
+abbrev runs_behind : Bool → List (Run AnswerPart) → List ℕ
 runs_behind true (Bytes bytes ∷ runs) = encode_upper bytes ++ flat_map run_line runs
 runs_behind before runs = flat_map run_line runs
 
@@ -44,7 +45,8 @@ begins_run : (byte : ℕ) (bytes rest : List ℕ) → encode_upper (byte ∷ [])
 begins_run byte bytes rest = sym (append_assoc (encode_upper (byte ∷ [])) (encode_upper bytes) rest)
     ∙ ap (λ z. z ++ rest) (sym (encode_append upper_digits (byte ∷ []) bytes))
 
-byte_joins : (before : Bool) (byte : ℕ) (runs : List Run) → part_line before (Byte byte) ++ runs_behind true runs
+byte_joins : (before : Bool) (byte : ℕ) (runs : List (Run AnswerPart)) → part_line before (Byte byte)
+    ++ runs_behind true runs
     ≡ runs_behind before (runs_with (Byte byte) runs)
 byte_joins true byte [] = refl
 byte_joins true byte (Bytes bytes ∷ runs) = begins_run byte bytes (flat_map run_line runs)
@@ -54,12 +56,14 @@ byte_joins false byte (Bytes bytes ∷ runs) = ap (λ z. 10 ∷ codes "  BYTES "
     (begins_run byte bytes (flat_map run_line runs))
 byte_joins false byte (Other e ∷ runs) = refl
 
-other_joins : (before : Bool) (e : AnswerPart) (runs : List Run) → runs_with e runs ≡ Other e ∷ runs → part_line true e
+other_joins : (before : Bool) (e : AnswerPart) (runs : List (Run AnswerPart)) → runs_with e runs ≡ Other e ∷ runs
+    → part_line true e
     ≡ part_line false e → part_line before e ++ flat_map run_line runs ≡ runs_behind before (runs_with e runs)
 other_joins true e runs is line = ap (λ z. z ++ flat_map run_line runs) line ∙ ap (runs_behind true) (sym is)
 other_joins false e runs is line = ap (runs_behind false) (sym is)
 
-joins : (before : Bool) (e : AnswerPart) (runs : List Run) → part_line before e ++ runs_behind (is_byte e) runs
+joins : (before : Bool) (e : AnswerPart) (runs : List (Run AnswerPart)) → part_line before e ++ runs_behind
+    (is_byte e) runs
     ≡ runs_behind before (runs_with e runs)
 joins before (Byte byte) runs = byte_joins before byte runs
 joins before (Head cursor aid) runs = other_joins before (Head cursor aid) runs refl refl

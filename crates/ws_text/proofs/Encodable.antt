@@ -1,47 +1,48 @@
 use Rattle.std.proofs.Common.{◌≡◌, ℕ, List, [], ◌∷◌, ◌++◌, refl, sym, subst, arith}
+use Rattle.ws_code.specs.Code.{Rules}
 use Rattle.ws_record.specs.Encode.{CanBeEncoded, CanAllBeEncoded}
-use Rattle.ws_record.specs.declared.opcode.Opcode.{Opcode}
 use Rattle.ws_record.specs.declared.record.Item.{Item}
 use Rattle.ws_record.specs.declared.record.Item.TheVariants as an_item
 use Rattle.ws_record.proofs.Prefixes.{AllByRecursion-front}
 use Rattle.ws_record.proofs.Streams.{AllByRecursion-append}
-use Rattle.ws_stream.specs.Elements.{element_rules}
-use Rattle.ws_stream.specs.declared.element.Element.{Element}
 use Rattle.ws_text.specs.declared.line.Part.{Part}
-use Rattle.ws_text.specs.declared.line.Part.TheVariants.{Nothing, Head, Command, Elements}
+use Rattle.ws_text.specs.declared.line.Part.TheVariants.{Nothing, Head, Command, Units}
 use Rattle.ws_text.specs.Items.{Adds, AreItems, Leads, with_more}
 use Rattle.ws_text.specs.Reading.{Follows}
+use Rattle.ws_text.specs.Wording.{Wording, EndsEverywhere}
 use Rattle.ws_text.proofs.Bodies.{can_be_encoded}
 
 -- Items that lines spell can be encoded.
 
-none_follow : Follows element_rules.first 0 [] element_rules.first 0
-none_follow = record { chain = tt; leads = refl; counted = refl; fits = omega arith }
+module _ {Place U : Type 0} (rules : Rules Place U) (ends : EndsEverywhere rules) where
+  none_follow : Follows rules rules.first 0 [] rules.first 0
+  none_follow = record { chain = tt; leads = refl; counted = refl; fits = omega arith }
 
-with_last : (from to : List (Item Element)) (last : Item Element) → CanAllBeEncoded element_rules from
-    → CanBeEncoded element_rules last → to ≡ from ++ last ∷ [] → CanAllBeEncoded element_rules to
-with_last from to last can one e =
-    subst (λ (z : List (Item Element)). CanAllBeEncoded element_rules z) (sym e)
-    (AllByRecursion-append (CanBeEncoded element_rules) from (last ∷ []) can (one, tt))
+  with_last : (from to : List (Item U)) (last : Item U) → CanAllBeEncoded rules from
+      → CanBeEncoded rules last → to ≡ from ++ last ∷ [] → CanAllBeEncoded rules to
+  with_last from to last can one e =
+      subst (λ (z : List (Item U)). CanAllBeEncoded rules z) (sym e)
+      (AllByRecursion-append (CanBeEncoded rules) from (last ∷ []) can (one, tt))
 
-adds_encoded : (says : Part) (from to : List (Item Element)) → CanAllBeEncoded element_rules from → Adds says from to
-    → CanAllBeEncoded element_rules to
-adds_encoded Nothing from to can e = subst (λ (z : List (Item Element)). CanAllBeEncoded element_rules z) (sym e) can
-adds_encoded (Head flags opcode) from to can e =
-    with_last from to _ can
-    (can_be_encoded (record { flags = flags; opcode = opcode; body = [] }) element_rules.first 0 none_follow) e
-adds_encoded (Command telnet) from to can e = with_last from to (an_item.Telnet telnet) can tt e
-adds_encoded (Elements elements) from to can h =
-    let before = AllByRecursion-front (CanBeEncoded element_rules) h.0 (an_item.Record h.1 ∷ [])
-    (subst (λ (z : List (Item Element)). CanAllBeEncoded element_rules z) h.2 can) in
-    with_last h.0 to (an_item.Record (with_more h.1 elements)) before h.4 h.3
+  adds_encoded : (says : Part U) (from to : List (Item U)) → CanAllBeEncoded rules from → Adds rules says from to
+      → CanAllBeEncoded rules to
+  adds_encoded Nothing from to can e = subst (λ (z : List (Item U)). CanAllBeEncoded rules z) (sym e) can
+  adds_encoded (Head flags opcode) from to can e =
+      with_last from to _ can
+      (can_be_encoded rules ends (record { flags = flags; opcode = opcode; body = [] }) rules.first 0 none_follow) e
+  adds_encoded (Command telnet) from to can e = with_last from to (an_item.Telnet telnet) can tt e
+  adds_encoded (Units units) from to can h =
+      let before = AllByRecursion-front (CanBeEncoded rules) h.0 (an_item.Record h.1 ∷ [])
+      (subst (λ (z : List (Item U)). CanAllBeEncoded rules z) h.2 can) in
+      with_last h.0 to (an_item.Record (with_more h.1 units)) before h.4 h.3
 
-leads_encoded : (lines : List (List ℕ)) (from to : List (Item Element)) → CanAllBeEncoded element_rules from
-    → Leads lines from to → CanAllBeEncoded element_rules to
-leads_encoded [] from to can e = subst (λ (z : List (Item Element)). CanAllBeEncoded element_rules z) (sym e) can
-leads_encoded (line ∷ lines) from to can h =
-    leads_encoded lines h.0 to (adds_encoded h.2.0 from h.0 can h.2.2) h.3
+  module _ (w : Wording U) where
+    leads_encoded : (lines : List (List ℕ)) (from to : List (Item U)) → CanAllBeEncoded rules from
+        → Leads rules w lines from to → CanAllBeEncoded rules to
+    leads_encoded [] from to can e = subst (λ (z : List (Item U)). CanAllBeEncoded rules z) (sym e) can
+    leads_encoded (line ∷ lines) from to can h =
+        leads_encoded lines h.0 to (adds_encoded h.2.0 from h.0 can h.2.2) h.3
 
-pub items_encoded : (text : List ℕ) (items : List (Item Element)) → AreItems text items
-    → CanAllBeEncoded element_rules items
-items_encoded text items a = leads_encoded a.read [] items tt a.leads
+    pub items_encoded : (text : List ℕ) (items : List (Item U)) → AreItems rules w text items
+        → CanAllBeEncoded rules items
+    items_encoded text items a = leads_encoded a.read [] items tt a.leads

@@ -2,39 +2,42 @@ use Rattle.std.proofs.Common.{◌≡◌, ◌≤◌, ◌<◌, ℕ, ◌+◌, List,
 use Rattle.std.proofs.Common.{append_assoc, length-append}
 use Rattle.std.specs.Str.Lines.{lines}
 use Rattle.std.proofs.lemmas.List.{append-nil}
+use Rattle.ws_code.specs.Code.{Rules}
 use Rattle.ws_record.specs.declared.record.Item.{Item}
-use Rattle.ws_stream.specs.declared.element.Element.{Element}
 use Rattle.ws_text.specs.declared.items.TextFault.TheVariants.{Line, Memory}
 use Rattle.ws_text.specs.Items.{AreItems, EndsHere, IsReadTo, IsScreen, IsTextFault, Leads, Reads}
+use Rattle.ws_text.specs.Wording.{Wording}
 
 -- Items that are read line by line.
 
-leads_more : (before : List (List ℕ)) (line : List ℕ) (from items next : List (Item Element)) → Leads before from items
-    → ¬ IsScreen line → Reads line items next → Leads (before ++ line ∷ []) from next
-leads_more [] line from items next e other h =
-    (next, other, subst (λ (z : List (Item Element)). Reads line z next) e h, refl)
-leads_more (first ∷ before) line from items next l other h =
-    (l.0, l.1, l.2, leads_more before line l.0 items next l.3 other h)
+module _ {Place U : Type 0} (rules : Rules Place U) (w : Wording U) where
+  leads_more : (before : List (List ℕ)) (line : List ℕ) (from items next : List (Item U))
+      → Leads rules w before from items
+      → ¬ IsScreen line → Reads rules w line items next → Leads rules w (before ++ line ∷ []) from next
+  leads_more [] line from items next e other h =
+      (next, other, subst (λ (z : List (Item U)). Reads rules w line z next) e h, refl)
+  leads_more (first ∷ before) line from items next l other h =
+      (l.0, l.1, l.2, leads_more before line l.0 items next l.3 other h)
 
--- so many lines of a text are read, and their items; the rest is behind them
-pub record SoFar (text rest : List ℕ) (items : List (Item Element)) (number : ℕ) : Type 0 where
-  pub before : List (List ℕ)
-  pub split : lines text ≡ before ++ lines rest
-  pub leads : Leads before [] items
-  pub counted : number ≡ length before
-  pub few : length before + length rest ≤ length text
+  -- so many lines of a text are read, and their items; the rest is behind them
+  pub record SoFar (text rest : List ℕ) (items : List (Item U)) (number : ℕ) : Type 0 where
+    pub before : List (List ℕ)
+    pub split : lines text ≡ before ++ lines rest
+    pub leads : Leads rules w before [] items
+    pub counted : number ≡ length before
+    pub few : length before + length rest ≤ length text
 
-pub more_so_far : (text rest behind line : List ℕ) (items next : List (Item Element)) (number : ℕ)
-    → SoFar text rest items number → lines rest ≡ line ∷ lines behind → length behind < length rest → ¬ IsScreen line
-    → Reads line items next → SoFar text behind next (number + 1)
-more_so_far text rest behind line items next number r e shorter other h = record {
-  before = r.before ++ line ∷ [];
-  split = r.split ∙ ap (λ z. r.before ++ z) e ∙ sym (append_assoc r.before (line ∷ []) (lines behind));
-  leads = leads_more r.before line [] items next r.leads other h;
-  counted = omega (arith, r.counted, length-append r.before (line ∷ []));
-  few = omega (arith, r.few, length-append r.before (line ∷ []));
-}
+  pub more_so_far : (text rest behind line : List ℕ) (items next : List (Item U)) (number : ℕ)
+      → SoFar text rest items number → lines rest ≡ line ∷ lines behind → length behind < length rest → ¬ IsScreen line
+      → Reads rules w line items next → SoFar text behind next (number + 1)
+  more_so_far text rest behind line items next number r e shorter other h = record {
+    before = r.before ++ line ∷ [];
+    split = r.split ∙ ap (λ z. r.before ++ z) e ∙ sym (append_assoc r.before (line ∷ []) (lines behind));
+    leads = leads_more r.before line [] items next r.leads other h;
+    counted = omega (arith, r.counted, length-append r.before (line ∷ []));
+    few = omega (arith, r.few, length-append r.before (line ∷ []));
+  }
 
-pub want_of_memory : (text rest : List ℕ) (items : List (Item Element)) (number : ℕ) → SoFar text rest items number
-    → IsTextFault text Memory
-want_of_memory text rest items number r = (r.before, lines rest, items, record { split = r.split; leads = r.leads })
+  pub want_of_memory : (text rest : List ℕ) (items : List (Item U)) (number : ℕ) → SoFar text rest items number
+      → IsTextFault rules w text Memory
+  want_of_memory text rest items number r = (r.before, lines rest, items, record { split = r.split; leads = r.leads })

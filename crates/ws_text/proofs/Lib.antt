@@ -4,7 +4,7 @@ pub mod LineEnds
 pub mod LineWords
 pub mod Lists
 pub mod Numbers
-pub mod OneElement
+pub mod OneUnit
 pub mod OneLine
 pub mod OneReading
 pub mod ItemsRead
@@ -13,6 +13,7 @@ pub mod Bodies
 pub mod Encodable
 pub mod CellBytes
 pub mod ItemWords
+pub mod ShownAnswers
 pub mod ShownItems
 pub mod ShownBytes
 pub mod ShownNumbers
@@ -22,3 +23,4 @@ pub mod ShownTelnet
 pub mod Prints
 pub mod Texts
 pub mod AnswerTexts
+pub mod AnswerWordLaws

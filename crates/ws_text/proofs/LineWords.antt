@@ -3,15 +3,16 @@ use Rattle.std.proofs.Common.{ap, subst, ◌∙◌, arith}
 use Rattle.std.specs.Prelude.{codes, Option, Some, None, MatchOption}
 use Rattle.std.specs.Str.Pattern.{FindsTextPrefix}
 use Rattle.std.proofs.Math.Seq.{take-append_seam}
-use Rattle.ws_stream.specs.declared.element.Element.{Element}
 use Rattle.ws_text.specs.declared.fault.LineFault.{LineFault}
 use Rattle.ws_text.specs.declared.fault.LineFault.TheVariants.{Bad, Memory}
 use Rattle.ws_text.specs.Faults.{IsFault}
 use Rattle.ws_text.specs.declared.line.Part.{Part}
 use Rattle.ws_text.specs.declared.line.Part.TheVariants as part
-use Rattle.ws_text.specs.TextLines.{IsItemLine, AreBehindPlace, AreElements, IsWorded}
+use Rattle.ws_text.specs.TextLines.{IsItemLine, AreBehindPlace, AreUnits, IsWorded}
 use Rattle.ws_text.specs.TextLines.IsWorded.{item, indented}
-use Rattle.ws_text.proofs.Lists.{differ, head_of, tail_of}
+use Rattle.ws_text.specs.WordLaws.{head_of, tail_of}
+use Rattle.ws_text.specs.Wording.{Wording}
+use Rattle.ws_text.proofs.Lists.{differ}
 
 -- The words of a line.
 
@@ -25,25 +26,27 @@ pub fault_by : {X : Type 0} (P : X → Type 0) (fault : LineFault) → (fault �
 fault_by P Bad h = h refl
 fault_by P Memory h = tt
 
--- a line of elements begins no item
-pub indented_item : (words rest : List (List ℕ)) (says : Part) → words ≡ [] ∷ rest → IsItemLine words says → ⊥
+-- a line of units begins no item
+pub indented_item : {U : Type 0} (words rest : List (List ℕ)) (says : Part U) → words ≡ [] ∷ rest
+    → IsItemLine words says → ⊥
 indented_item words rest (part.Head flags opcode) e h = differ [] (codes "record") refl (ap head_of (sym e ∙ h.1))
 indented_item words rest (part.Command telnet) e h = differ [] (codes "telnet") refl (ap head_of (sym e ∙ h.2))
 indented_item words rest part.Nothing e h = h
-indented_item words rest (part.Elements es) e h = h
+indented_item words rest (part.Units us) e h = h
 
-pub no_indented : (words : List (List ℕ)) (name : List ℕ) (rest : List (List ℕ)) → words ≡ [] ∷ [] ∷ name ∷ rest
-    → ((es : List Element) → AreElements name rest es → ⊥) → (says : Part) → IsWorded words says → ⊥
-no_indented words name rest e bad says (item behind (inl at) h) =
+pub no_indented : {U : Type 0} (w : Wording U) (words : List (List ℕ)) (name : List ℕ) (rest : List (List ℕ)) → words
+    ≡ [] ∷ [] ∷ name ∷ rest → ((us : List U) → AreUnits w name rest us → ⊥) → (says : Part U) → IsWorded w words says
+    → ⊥
+no_indented w words name rest e bad says (item behind (inl at) h) =
     differ [] (codes "at") refl (ap head_of (sym e ∙ at.1))
-no_indented words name rest e bad says (item behind (inr all) h) =
+no_indented w words name rest e bad says (item behind (inr all) h) =
     indented_item words ([] ∷ name ∷ rest) says e (subst (λ (z : List (List ℕ)). IsItemLine z says) all.0 h)
-no_indented words name rest e bad says (indented other more es f h g) =
+no_indented w words name rest e bad says (indented other more us f h g) =
     let both : [] ∷ [] ∷ other ∷ more ≡ [] ∷ [] ∷ name ∷ rest = sym f ∙ e in
     let names : other ≡ name = ap (λ z. head_of (tail_of (tail_of z))) both in
     let rests : more ≡ rest = ap (λ z. tail_of (tail_of (tail_of z))) both in
-    bad es (subst (λ (z : List ℕ). AreElements z rest es) names
-    (subst (λ (z : List (List ℕ)). AreElements other z es) rests h))
+    bad us (subst (λ (z : List ℕ). AreUnits w z rest us) names
+    (subst (λ (z : List (List ℕ)). AreUnits w other z us) rests h))
 
 -- the words behind a place are these alone
 pub one_behind : (words a b : List (List ℕ)) → AreBehindPlace words a → AreBehindPlace words b → a ≡ b
@@ -52,12 +55,12 @@ one_behind words a b (inl x) (inr y) = absurd (y.1 x.0 a x.1 x.2)
 one_behind words a b (inr x) (inl y) = absurd (x.1 y.0 b y.1 y.2)
 one_behind words a b (inr x) (inr y) = x.0 ∙ sym y.0
 
-pub no_item : (words behind : List (List ℕ)) → AreBehindPlace words behind
+pub no_item : {U : Type 0} (w : Wording U) (words behind : List (List ℕ)) → AreBehindPlace words behind
     → ((name : List ℕ) (rest : List (List ℕ)) → words ≡ [] ∷ [] ∷ name ∷ rest → ⊥)
-    → ((says : Part) → IsItemLine behind says → ⊥) → (says : Part) → IsWorded words says → ⊥
-no_item words behind are none bad says (item other at h) =
+    → ((says : Part U) → IsItemLine behind says → ⊥) → (says : Part U) → IsWorded w words says → ⊥
+no_item w words behind are none bad says (item other at h) =
     bad says (subst (λ (z : List (List ℕ)). IsItemLine z says) (one_behind words other behind at are) h)
-no_item words behind are none bad says (indented name rest es e h g) = none name rest e
+no_item w words behind are none bad says (indented name rest us e h g) = none name rest e
 
 -- what `strip_prefix` gives at a text
 abbrev pub IsTextStripped : List ℕ → List ℕ → Option (Bor (List ℕ)) → Type 0

@@ -85,15 +85,6 @@ differ a b f e = false≢true (sym f ∙ (bytes_eq-Decides a b).1 e)
 pub same_text : (a b : List ℕ) (r : Bool) → r ≡ bytes_eq a b → r ≡ true → a ≡ b
 same_text a b r e h = (bytes_eq-Decides a b).0 (sym e ∙ h)
 
--- the first word, and what stands behind it
-abbrev pub head_of : List (List ℕ) → List ℕ
-head_of [] = []
-head_of (word ∷ words) = word
-
-abbrev pub tail_of : List (List ℕ) → List (List ℕ)
-tail_of [] = []
-tail_of (word ∷ words) = words
-
 pub with_head : (words : List (List ℕ)) (a b : List ℕ) (rest : List (List ℕ)) → words ≡ a ∷ rest → a ≡ b → words ≡ b
     ∷ rest
 with_head words a b rest e f = e ∙ ap (λ z. z ∷ rest) f

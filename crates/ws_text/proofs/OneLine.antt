@@ -9,24 +9,25 @@ use Rattle.ws_telnet.specs.declared.token.Sub.{Sub as ASub}
 use Rattle.ws_record.specs.declared.opcode.Opcode.{Opcode}
 use Rattle.ws_record.specs.Grammar.{opcode_byte}
 use Rattle.ws_record.proofs.Reading.{opcode_same}
-use Rattle.ws_stream.specs.declared.element.Element.{Element}
 use Rattle.ws_text.specs.Names.{look_up, commands, verbs}
 use Rattle.ws_text.specs.Words.{words_of, IsSmall, IsHexPair}
 use Rattle.ws_text.specs.ElementWords.{AreBytes}
 use Rattle.ws_text.specs.declared.line.Part.{Part}
 use Rattle.ws_text.specs.declared.line.Part.TheVariants as part
-use Rattle.ws_text.specs.TextLines.{IsTelnetText, IsOpcodeText, IsHeadText, IsItemLine, AreElements, AreTyped}
+use Rattle.ws_text.specs.TextLines.{IsTelnetText, IsOpcodeText, IsHeadText, IsItemLine, AreUnits, AreTyped}
 use Rattle.ws_text.specs.TextLines.{AreBehindPlace, IsWorded, Means, IsLine}
 use Rattle.ws_text.specs.TextLines.IsHeadText.{short, long}
 use Rattle.ws_text.specs.TextLines.IsWorded.{item, indented}
 use Rattle.ws_text.specs.TextLines.Means.{empty, comment, typed, worded}
-use Rattle.ws_text.proofs.Lists.{differ, head_of, tail_of}
+use Rattle.ws_text.specs.WordLaws.{head_of, tail_of, small_same, bytes_same, some_same}
+use Rattle.ws_text.specs.FieldLaws.{pair_same}
+use Rattle.ws_text.specs.Wording.{Wording, IsClear}
+use Rattle.ws_text.proofs.Lists.{differ}
 use Rattle.std.specs.List.{onto_first}
 use Rattle.ws_text.proofs.LineEnds.{split_some}
-use Rattle.ws_text.proofs.FieldWords.{pair_same}
-use Rattle.ws_text.proofs.OneElement.{small_same, bytes_same, some_same, elements_same, typed_same}
+use Rattle.ws_text.proofs.OneUnit.{units_same, typed_same}
 use Rattle.ws_text.proofs.LineWords.{indented_item, one_behind}
-use Rattle.ws_text.proofs.TextWords.{first_words, text_is_no_element, behind_seven}
+use Rattle.ws_text.proofs.TextWords.{first_words, text_is_no_unit, behind_seven}
 
 -- A line says one thing.
 
@@ -74,121 +75,127 @@ head_same words f g o p (long s m x e z a) (long t n y h w b) =
       opcode_text_same m n x y o p (ap (λ z. head_of (tail_of (tail_of (tail_of z)))) (sym e ∙ h)) a b,
     )
 
-item_same : (words : List (List ℕ)) (s t : Part) → IsItemLine words s → IsItemLine words t → s ≡ t
-item_same words (part.Head f o) (part.Head g p) a b =
-    let rest : a.0 ≡ b.0 = ap tail_of (sym a.1 ∙ b.1) in
-    let both = head_same b.0 f g o p (subst (λ (z : List (List ℕ)). IsHeadText z f o) rest a.2) b.2 in
-    ap (λ z. part.Head z o) both.0 ∙ ap (λ z. part.Head g z) both.1
-item_same words (part.Head f o) (part.Command u) a b =
-    absurd (differ (codes "record") (codes "telnet") refl (ap head_of (sym a.1 ∙ b.2)))
-item_same words (part.Command t) (part.Head g p) a b =
-    absurd (differ (codes "record") (codes "telnet") refl (ap head_of (sym b.1 ∙ a.2)))
-item_same words (part.Command t) (part.Command u) a b =
-    let name : a.0 ≡ b.0 = ap (λ z. head_of (tail_of z)) (sym a.2 ∙ b.2) in
-    let rest : a.1 ≡ b.1 = ap (λ z. tail_of (tail_of z)) (sym a.2 ∙ b.2) in
-    ap (λ z. part.Command z)
-    (telnet_same b.0 b.1 t u
-    (subst (λ (z : List ℕ). IsTelnetText z b.1 t) name
-    (subst (λ (z : List (List ℕ)). IsTelnetText a.0 z t) rest a.3)) b.3)
-item_same words part.Nothing t a b = absurd a
-item_same words (part.Elements es) t a b = absurd a
-item_same words s part.Nothing a b = absurd b
-item_same words s (part.Elements es) a b = absurd b
+module _ {U : Type 0} where
+  item_same : (words : List (List ℕ)) (s t : Part U) → IsItemLine words s → IsItemLine words t → s ≡ t
+  item_same words (part.Head f o) (part.Head g p) a b =
+      let rest : a.0 ≡ b.0 = ap tail_of (sym a.1 ∙ b.1) in
+      let both = head_same b.0 f g o p (subst (λ (z : List (List ℕ)). IsHeadText z f o) rest a.2) b.2 in
+      ap (λ z. part.Head z o) both.0 ∙ ap (λ z. part.Head g z) both.1
+  item_same words (part.Head f o) (part.Command u) a b =
+      absurd (differ (codes "record") (codes "telnet") refl (ap head_of (sym a.1 ∙ b.2)))
+  item_same words (part.Command t) (part.Head g p) a b =
+      absurd (differ (codes "record") (codes "telnet") refl (ap head_of (sym b.1 ∙ a.2)))
+  item_same words (part.Command t) (part.Command u) a b =
+      let name : a.0 ≡ b.0 = ap (λ z. head_of (tail_of z)) (sym a.2 ∙ b.2) in
+      let rest : a.1 ≡ b.1 = ap (λ z. tail_of (tail_of z)) (sym a.2 ∙ b.2) in
+      ap (λ z. part.Command z)
+      (telnet_same b.0 b.1 t u
+      (subst (λ (z : List ℕ). IsTelnetText z b.1 t) name
+      (subst (λ (z : List (List ℕ)). IsTelnetText a.0 z t) rest a.3)) b.3)
+  item_same words part.Nothing t a b = absurd a
+  item_same words (part.Units us) t a b = absurd a
+  item_same words s part.Nothing a b = absurd b
+  item_same words s (part.Units us) a b = absurd b
 
--- what stands behind two blanks begins no item, with a place before it or without
-no_both : (words behind rest : List (List ℕ)) (says : Part) → words ≡ [] ∷ rest → AreBehindPlace words behind
-    → IsItemLine behind says → ⊥
-no_both words behind rest says e (inl at) h = differ [] (codes "at") refl (ap head_of (sym e ∙ at.1))
-no_both words behind rest says e (inr all) h =
-    indented_item words rest says e (subst (λ (z : List (List ℕ)). IsItemLine z says) all.0 h)
+  -- what stands behind two blanks begins no item, with a place before it or without
+  no_both : (words behind rest : List (List ℕ)) (says : Part U) → words ≡ [] ∷ rest → AreBehindPlace words behind
+      → IsItemLine behind says → ⊥
+  no_both words behind rest says e (inl at) h = differ [] (codes "at") refl (ap head_of (sym e ∙ at.1))
+  no_both words behind rest says e (inr all) h =
+      indented_item words rest says e (subst (λ (z : List (List ℕ)). IsItemLine z says) all.0 h)
 
-pub worded_same : (words : List (List ℕ)) (s t : Part) → IsWorded words s → IsWorded words t → s ≡ t
-worded_same words s t (item x p a) (item y q b) =
-    item_same y s t (subst (λ (z : List (List ℕ)). IsItemLine z s) (one_behind words x y p q) a) b
-worded_same words s t (item x p a) (indented name rest are e b q) = absurd (no_both words x ([] ∷ name ∷ rest) s e p a)
-worded_same words s t (indented name rest are e a p) (item y q b) = absurd (no_both words y ([] ∷ name ∷ rest) t e q b)
-worded_same words s t (indented m xs es e a p) (indented n ys fs f b q) =
-    let name : m ≡ n = ap (λ z. head_of (tail_of (tail_of z))) (sym e ∙ f) in
-    let rest : xs ≡ ys = ap (λ z. tail_of (tail_of (tail_of z))) (sym e ∙ f) in
-    let same = elements_same n ys es fs
-    (subst (λ (z : List ℕ). AreElements z ys es) name (subst (λ (z : List (List ℕ)). AreElements m z es) rest a))
-    b in
-    p ∙ ap (λ z. part.Elements z) same ∙ sym q
+module _ {U : Type 0} (w : Wording U) (clear : IsClear w) where
+  pub worded_same : (words : List (List ℕ)) (s t : Part U) → IsWorded w words s → IsWorded w words t → s ≡ t
+  worded_same words s t (item x p a) (item y q b) =
+      item_same y s t (subst (λ (z : List (List ℕ)). IsItemLine z s) (one_behind words x y p q) a) b
+  worded_same words s t (item x p a) (indented name rest are e b q) = absurd (no_both words x ([] ∷ name
+      ∷ rest) s e p a)
+  worded_same words s t (indented name rest are e a p) (item y q b) = absurd (no_both words y ([] ∷ name
+      ∷ rest) t e q b)
+  worded_same words s t (indented m xs es e a p) (indented n ys fs f b q) =
+      let name : m ≡ n = ap (λ z. head_of (tail_of (tail_of z))) (sym e ∙ f) in
+      let rest : xs ≡ ys = ap (λ z. tail_of (tail_of (tail_of z))) (sym e ∙ f) in
+      let same = units_same w clear n ys es fs
+      (subst (λ (z : List ℕ). AreUnits w z ys es) name (subst (λ (z : List (List ℕ)). AreUnits w m z es) rest a))
+      b in
+      p ∙ ap (λ z. part.Units z) same ∙ sym q
 
--- the words of an empty line, of a comment, and of characters are those of no item and no element
-no_words_item : (words behind : List (List ℕ)) (says : Part) (word : List ℕ) (rest : List (List ℕ)) → words ≡ word
-    ∷ rest → (word ≡ codes "at" → ⊥) → (word ≡ codes "record" → ⊥) → (word ≡ codes "telnet" → ⊥)
-    → AreBehindPlace words behind → IsItemLine behind says → ⊥
-no_words_item words behind says word rest e at record_ telnet (inl p) h = at (ap head_of (sym e ∙ p.1))
-no_words_item words behind says word rest e at record_ telnet (inr all) h =
-    go says (subst (λ (z : List (List ℕ)). IsItemLine z says) all.0 h)
-  where
-    go : (t : Part) → IsItemLine words t → ⊥
-    go (part.Head f o) i = record_ (ap head_of (sym e ∙ i.1))
-    go (part.Command t) i = telnet (ap head_of (sym e ∙ i.2))
-    go part.Nothing i = i
-    go (part.Elements es) i = i
+  -- the words of an empty line, of a comment, and of characters are those of no item and no element
+  no_words_item : (words behind : List (List ℕ)) (says : Part U) (word : List ℕ) (rest : List (List ℕ)) → words ≡ word
+      ∷ rest → (word ≡ codes "at" → ⊥) → (word ≡ codes "record" → ⊥) → (word ≡ codes "telnet" → ⊥)
+      → AreBehindPlace words behind → IsItemLine behind says → ⊥
+  no_words_item words behind says word rest e at record_ telnet (inl p) h = at (ap head_of (sym e ∙ p.1))
+  no_words_item words behind says word rest e at record_ telnet (inr all) h =
+      go says (subst (λ (z : List (List ℕ)). IsItemLine z says) all.0 h)
+    where
+      go : (t : Part U) → IsItemLine words t → ⊥
+      go (part.Head f o) i = record_ (ap head_of (sym e ∙ i.1))
+      go (part.Command t) i = telnet (ap head_of (sym e ∙ i.2))
+      go part.Nothing i = i
+      go (part.Units us) i = i
 
-no_empty : (says : Part) → IsWorded (words_of []) says → ⊥
-no_empty says (item behind p a) = no_words_item (words_of []) behind says [] [] refl (differ [] (codes "at") refl)
-    (differ [] (codes "record") refl) (differ [] (codes "telnet") refl) p a
-no_empty says (indented name rest are e a p) = absurd (omega (arith, ap length e))
+  no_empty : (says : Part U) → IsWorded w (words_of []) says → ⊥
+  no_empty says (item behind p a) = no_words_item (words_of []) behind says [] [] refl (differ [] (codes "at") refl)
+      (differ [] (codes "record") refl) (differ [] (codes "telnet") refl) p a
+  no_empty says (indented name rest are e a p) = absurd (omega (arith, ap length e))
 
-hash_words : (text : List ℕ) → (w : List ℕ) × (rest : List (List ℕ)) × (words_of (codes "#" ++ text) ≡ (35 ∷ w) ∷ rest)
-hash_words text =
-    let behind = split_some (λ b. b == 32) text in
-    (behind.0, behind.1, ap (λ z. onto_first 35 z) behind.2)
+  hash_words : (text : List ℕ) → (w : List ℕ) × (rest : List (List ℕ)) × (words_of (codes "#" ++ text) ≡ (35 ∷ w)
+      ∷ rest)
+  hash_words text =
+      let behind = split_some (λ b. b == 32) text in
+      (behind.0, behind.1, ap (λ z. onto_first 35 z) behind.2)
 
-first_byte : (a b : List ℕ) → (get_or a 0 0 ≡ get_or b 0 0 → ⊥) → a ≡ b → ⊥
-first_byte a b h e = h (ap (λ z. get_or z 0 0) e)
+  first_byte : (a b : List ℕ) → (get_or a 0 0 ≡ get_or b 0 0 → ⊥) → a ≡ b → ⊥
+  first_byte a b h e = h (ap (λ z. get_or z 0 0) e)
 
-no_comment : (text : List ℕ) (says : Part) → IsWorded (words_of (codes "#" ++ text)) says → ⊥
-no_comment text says (item behind p a) =
-    let w = hash_words text in
-    no_words_item (words_of (codes "#" ++ text)) behind says (35 ∷ w.0) w.1 w.2
-    (first_byte (35 ∷ w.0) (codes "at") (λ e. omega (arith, e)))
-    (first_byte (35 ∷ w.0) (codes "record") (λ e. omega (arith, e)))
-    (first_byte (35 ∷ w.0) (codes "telnet") (λ e. omega (arith, e))) p a
-no_comment text says (indented name rest are e a p) =
-    let w = hash_words text in
-    let bad : 35 ≡ 0 = ap (λ z. get_or (head_of z) 0 0) (sym w.2 ∙ e) in
-    absurd (omega (arith, bad))
+  no_comment : (text : List ℕ) (says : Part U) → IsWorded w (words_of (codes "#" ++ text)) says → ⊥
+  no_comment text says (item behind p a) =
+      let w = hash_words text in
+      no_words_item (words_of (codes "#" ++ text)) behind says (35 ∷ w.0) w.1 w.2
+      (first_byte (35 ∷ w.0) (codes "at") (λ e. omega (arith, e)))
+      (first_byte (35 ∷ w.0) (codes "record") (λ e. omega (arith, e)))
+      (first_byte (35 ∷ w.0) (codes "telnet") (λ e. omega (arith, e))) p a
+  no_comment text says (indented name rest are e a p) =
+      let w = hash_words text in
+      let bad : 35 ≡ 0 = ap (λ z. get_or (head_of z) 0 0) (sym w.2 ∙ e) in
+      absurd (omega (arith, bad))
 
-no_characters : (text : List ℕ) (says : Part) → IsWorded (words_of (codes "  TEXT " ++ text)) says → ⊥
-no_characters text says (item behind p a) =
-    no_both (words_of (codes "  TEXT " ++ text)) behind ([] ∷ codes "TEXT" ∷ words_of text) says (first_words text) p a
-no_characters text says (indented name rest are e a p) =
-    let is : name ≡ codes "TEXT" = ap (λ z. head_of (tail_of (tail_of z))) (sym e ∙ first_words text) in
-    text_is_no_element rest are (subst (λ (z : List ℕ). AreElements z rest are) is a)
+  no_characters : (text : List ℕ) (says : Part U) → IsWorded w (words_of (codes "  TEXT " ++ text)) says → ⊥
+  no_characters text says (item behind p a) =
+      no_both (words_of (codes "  TEXT " ++ text)) behind ([] ∷ codes "TEXT" ∷ words_of text) says
+      (first_words text) p a
+  no_characters text says (indented name rest are e a p) =
+      let is : name ≡ codes "TEXT" = ap (λ z. head_of (tail_of (tail_of z))) (sym e ∙ first_words text) in
+      text_is_no_unit w clear rest are (subst (λ (z : List ℕ). AreUnits w z rest are) is a)
 
-with_words : (line other : List ℕ) (says : Part) → line ≡ other → IsWorded (words_of line) says
-    → IsWorded (words_of other) says
-with_words line other says e h = subst (λ (z : List ℕ). IsWorded (words_of z) says) e h
+  with_words : (line other : List ℕ) (says : Part U) → line ≡ other → IsWorded w (words_of line) says
+      → IsWorded w (words_of other) says
+  with_words line other says e h = subst (λ (z : List ℕ). IsWorded w (words_of z) says) e h
 
-no_blank_hash : (text rest : List ℕ) → codes "#" ++ text ≡ codes "  TEXT " ++ rest → ⊥
-no_blank_hash text rest e = first_byte (codes "#" ++ text) (codes "  TEXT " ++ rest) (λ f. omega (arith, f)) e
+  no_blank_hash : (text rest : List ℕ) → codes "#" ++ text ≡ codes "  TEXT " ++ rest → ⊥
+  no_blank_hash text rest e = first_byte (codes "#" ++ text) (codes "  TEXT " ++ rest) (λ f. omega (arith, f)) e
 
-means_same : (line : List ℕ) (s t : Part) → Means line s → Means line t → s ≡ t
-means_same line s t (empty e p) (empty f q) = p ∙ sym q
-means_same line s t (empty e p) (comment x f q) = p ∙ sym q
-means_same line s t (comment x e p) (empty f q) = p ∙ sym q
-means_same line s t (comment x e p) (comment y f q) = p ∙ sym q
-means_same line s t (empty e p) (typed x es f a q) = absurd (omega (arith, ap length (sym e ∙ f)))
-means_same line s t (typed x es f a q) (empty e p) = absurd (omega (arith, ap length (sym e ∙ f)))
-means_same line s t (comment x e p) (typed y es f a q) = absurd (no_blank_hash x y (sym e ∙ f))
-means_same line s t (typed y es f a q) (comment x e p) = absurd (no_blank_hash x y (sym e ∙ f))
-means_same line s t (typed x es e a p) (typed y fs f b q) =
-    let same : x ≡ y = behind_seven x y (sym e ∙ f) in
-    p ∙ ap (λ z. part.Elements z) (typed_same y es fs (subst (λ (z : List ℕ). AreTyped z es) same a) b) ∙ sym q
-means_same line s t (empty e p) (worded h) = absurd (no_empty t (with_words line [] t e h))
-means_same line s t (worded h) (empty e p) = absurd (no_empty s (with_words line [] s e h))
-means_same line s t (comment x e p) (worded h) = absurd (no_comment x t (with_words line (codes "#" ++ x) t e h))
-means_same line s t (worded h) (comment x e p) = absurd (no_comment x s (with_words line (codes "#" ++ x) s e h))
-means_same line s t (typed x es e a p) (worded h) =
-    absurd (no_characters x t (with_words line (codes "  TEXT " ++ x) t e h))
-means_same line s t (worded h) (typed x es e a p) =
-    absurd (no_characters x s (with_words line (codes "  TEXT " ++ x) s e h))
-means_same line s t (worded a) (worded b) = worded_same (words_of line) s t a b
+  means_same : (line : List ℕ) (s t : Part U) → Means w line s → Means w line t → s ≡ t
+  means_same line s t (empty e p) (empty f q) = p ∙ sym q
+  means_same line s t (empty e p) (comment x f q) = p ∙ sym q
+  means_same line s t (comment x e p) (empty f q) = p ∙ sym q
+  means_same line s t (comment x e p) (comment y f q) = p ∙ sym q
+  means_same line s t (empty e p) (typed x es f a q) = absurd (omega (arith, ap length (sym e ∙ f)))
+  means_same line s t (typed x es f a q) (empty e p) = absurd (omega (arith, ap length (sym e ∙ f)))
+  means_same line s t (comment x e p) (typed y es f a q) = absurd (no_blank_hash x y (sym e ∙ f))
+  means_same line s t (typed y es f a q) (comment x e p) = absurd (no_blank_hash x y (sym e ∙ f))
+  means_same line s t (typed x es e a p) (typed y fs f b q) =
+      let same : x ≡ y = behind_seven x y (sym e ∙ f) in
+      p ∙ ap (λ z. part.Units z) (typed_same w y es fs (subst (λ (z : List ℕ). AreTyped w z es) same a) b) ∙ sym q
+  means_same line s t (empty e p) (worded h) = absurd (no_empty t (with_words line [] t e h))
+  means_same line s t (worded h) (empty e p) = absurd (no_empty s (with_words line [] s e h))
+  means_same line s t (comment x e p) (worded h) = absurd (no_comment x t (with_words line (codes "#" ++ x) t e h))
+  means_same line s t (worded h) (comment x e p) = absurd (no_comment x s (with_words line (codes "#" ++ x) s e h))
+  means_same line s t (typed x es e a p) (worded h) =
+      absurd (no_characters x t (with_words line (codes "  TEXT " ++ x) t e h))
+  means_same line s t (worded h) (typed x es e a p) =
+      absurd (no_characters x s (with_words line (codes "  TEXT " ++ x) s e h))
+  means_same line s t (worded a) (worded b) = worded_same (words_of line) s t a b
 
-pub one_line : (line : List ℕ) (s t : Part) → IsLine line s → IsLine line t → s ≡ t
-one_line line s t a b = means_same line s t a.1 b.1
+  pub one_line : (line : List ℕ) (s t : Part U) → IsLine w line s → IsLine w line t → s ≡ t
+  one_line line s t a b = means_same line s t a.1 b.1

@@ -1,7 +1,7 @@
 use Rattle.std.proofs.Common.{◌≡◌, inl, inr, ℕ, ◌+◌, ◌/◌, ◌%◌, ◌<◌, ◌==◌, List, [], ◌∷◌, ◌++◌, true, false, length}
 use Rattle.std.proofs.Common.{map, refl, sym, ap, ◌∙◌, arith, append_assoc}
 use Rattle.std.specs.Prelude.{codes, Option, Some, None, nat_le, nat_lt, ◌||◌}
-use Rattle.std.specs.List.{AllByRecursion, join_with_byte, list_all}
+use Rattle.std.specs.List.{AllByRecursion, flat_map, join_with_byte, list_all}
 use Rattle.std.specs.Fmt.{decimal}
 use Rattle.std.proofs.lemmas.Bool.{and_parts, false≢true, ltb-true}
 use Rattle.std.proofs.lemmas.Bool.Decides.{eqb_tells}
@@ -10,21 +10,29 @@ use Rattle.hex.specs.Hex.{encode_upper}
 use Rattle.ws_code.specs.Code.{AreBytes}
 use Rattle.ws_code.specs.TwoBytes.{two_bytes}
 use Rattle.ws_code.specs.declared.address.TheConstants.{COLUMNS}
-use Rattle.ws_stream.specs.Elements.{IsElement}
+use Rattle.ws_stream.specs.Elements.{element_rules, IsElement}
 use Rattle.ws_stream.specs.FieldOrder.{FieldOrder, IsFieldOrder, HasFormat, is_control}
 use Rattle.ws_stream.specs.Parts.{is_kind}
 use Rattle.ws_stream.specs.declared.element.Element.{Element}
 use Rattle.ws_stream.specs.declared.element.Element.TheVariants.{ClearUnit, ClearFormat, Write, ReadInput, ReadMdt}
 use Rattle.ws_stream.specs.declared.element.Element.TheVariants.{ReadMdtAlternate, Soh, Ra, Ea, Sba, Ic, Mc, Sf, Put}
 use Rattle.ws_text.specs.declared.kind.Kind.TheVariants as kind
+use Rattle.ws_record.specs.declared.record.Item.{Item}
+use Rattle.ws_text.specs.Items.{AreItems}
+use Rattle.ws_text.specs.Shown.{Shows}
+use Rattle.ws_text.specs.Wording.{Run}
+use Rattle.ws_text.specs.Wording.Run.{Bytes, Other}
+use Rattle.ws_text.specs.ItemLines.{item_text, run_line, runs_of, runs_with}
 use Rattle.ws_text.specs.ItemLines.{element_text, field_text, format_text, words_text}
-use Rattle.ws_text.specs.ElementWords.{ArePairs, AreField, format_and_controls}
-use Rattle.ws_text.specs.TextLines.{AreElements}
-use Rattle.ws_text.specs.TextLines.AreElements.{one, run}
+use Rattle.ws_text.specs.ElementWords.{ArePairs, AreField, format_and_controls, element_wording}
+use Rattle.ws_text.specs.TextLines.{AreUnits}
+use Rattle.ws_text.specs.TextLines.AreUnits.{one, run}
 use Rattle.ws_text.proofs.ShownBytes.{AreFrom, AreWords, literal}
 use Rattle.ws_text.proofs.ShownNumbers.{number_back, decimal_from, cell_back, row_from, column_from, hex_from, hex_back}
 use Rattle.ws_text.proofs.ShownNumbers.{byte_back, byte_from, pair_back, pair_from}
 use Rattle.ws_text.proofs.ShownNumbers.{hex_words, hex_words_back, hex_words_from}
+use Rattle.ws_text.proofs.ShownLines.{Printed, run_units, IsRunRight}
+use Rattle.ws_text.proofs.ShownItems.{all_shown_read}
 
 -- Printed elements are read back.
 
@@ -214,7 +222,7 @@ rest_from (Sf f) h = field_from (all_pairs f) (byte_word f.attribute ∷ decimal
 rest_from (Put byte) h = (byte_from byte h.0, tt)
 
 -- and they say the element
-pub element_back : (e : Element) → IsElement e → AreElements (element_name e) (element_rest e) (e ∷ [])
+pub element_back : (e : Element) → IsElement e → AreUnits element_wording (element_name e) (element_rest e) (e ∷ [])
 element_back ClearUnit h = one ClearUnit (kind.ClearUnit, refl, (refl, refl)) refl
 element_back ClearFormat h = one ClearFormat (kind.ClearFormat, refl, (refl, refl)) refl
 element_back (Write c d) h =
@@ -247,3 +255,53 @@ element_back (Mc to) h = one (Mc to) (kind.Mc, refl, (to, (_, _, refl, cell_back
 element_back (Sf f) h = one (Sf f) (kind.Sf, refl, (f, field_back f h, refl)) refl
 element_back (Put byte) h =
     run (byte_word byte) refl refl (byte ∷ [], hex_back (byte ∷ []) (h.0, tt) (omega arith), ((h, tt), refl))
+
+-- their runs
+with_back : (e : Element) (runs : List (Run Element)) → flat_map (run_units element_rules element_wording)
+    (runs_with e runs) ≡ e ∷ flat_map (run_units element_rules element_wording) runs
+with_back (Put b) [] = refl
+with_back (Put b) (Bytes bytes ∷ runs) = refl
+with_back (Put b) (Other e ∷ runs) = refl
+with_back e runs = refl
+
+runs_back : (es : List Element) → flat_map (run_units element_rules element_wording) (runs_of es) ≡ es
+runs_back [] = refl
+runs_back (e ∷ es) = with_back e (runs_of es) ∙ ap (λ z. e ∷ z) (runs_back es)
+
+abbrev AreRight : List (Run Element) → Type 0
+AreRight runs = AllByRecursion (IsRunRight element_rules element_wording) runs
+
+with_right : (e : Element) (runs : List (Run Element)) → IsElement e → AreRight runs → AreRight (runs_with e runs)
+with_right (Put b) [] h r = ((omega arith, (h, tt)), tt)
+with_right (Put b) (Bytes bytes ∷ runs) h r = ((omega arith, (h, r.0.1)), r.1)
+with_right (Put b) (Other e ∷ runs) h r = ((omega arith, (h, tt)), r)
+with_right e runs h r = (h, r)
+
+runs_right : (es : List Element) → AllByRecursion IsElement es → AreRight (runs_of es)
+runs_right [] h = tt
+runs_right (e ∷ es) h = with_right e (runs_of es) h.0 (runs_right es h.1)
+
+elements_printed : Printed element_rules element_wording
+elements_printed = record {
+  name_of = element_name;
+  rest_of = element_rest;
+  name_from = name_from;
+  rest_from = rest_from;
+  says = element_back;
+  bytes_from = literal (codes "PUT") refl;
+  runs_of = runs_of;
+  runs_back = runs_back;
+  runs_right = runs_right;
+  run_line = run_line;
+  bytes_joined = λ bytes. refl;
+  other_joined = λ e. ap (λ z. 10 ∷ 32 ∷ 32 ∷ z) (sym (element_joined e));
+  text_of = item_text;
+  record_is = λ place r. refl;
+  telnet_is = λ place t. refl;
+}
+
+-- and so are the items
+pub shown_read : (text : List ℕ) (items : List (Item Element)) → Shows text items
+    → AreItems element_rules element_wording text items
+unfolding elements_printed
+shown_read text items s = all_shown_read element_rules (λ _. refl) element_wording elements_printed text items s

@@ -1,9 +1,10 @@
-use Rattle.std.proofs.Common.{◌≡◌, inl, ℕ, ◌^◌, ◌<◌, List, [], ◌∷◌, length, map, refl, sym, ap}
+use Rattle.std.proofs.Common.{◌≡◌, inl, ℕ, ◌^◌, ◌<◌, List, [], ◌∷◌, ◌++◌, length, map, refl}
 use Rattle.std.proofs.Common.{arith}
 use Rattle.std.specs.Prelude.{codes}
-use Rattle.std.specs.List.{AllByRecursion}
+use Rattle.std.specs.List.{AllByRecursion, flat_map}
 use Rattle.std.specs.Fmt.{decimal}
 use Rattle.hex.specs.Hex.{encode_upper}
+use Rattle.ws_code.specs.Code.{Rules}
 use Rattle.ws_code.specs.DataByte.{IsData}
 use Rattle.ws_code.specs.TwoBytes.{two_bytes}
 use Rattle.ws_record.specs.Grammar.{opcode_byte}
@@ -11,13 +12,15 @@ use Rattle.ws_record.specs.declared.opcode.Opcode.{Opcode}
 use Rattle.ws_record.specs.declared.opcode.Opcode.TheVariants.{NoOperation, Invite, OutputOnly, PutGet, SaveScreen}
 use Rattle.ws_record.specs.declared.opcode.Opcode.TheVariants.{RestoreScreen, ReadImmediate, ReadScreen, CancelInvite}
 use Rattle.ws_record.specs.declared.opcode.Opcode.TheVariants.{MessageLightOn, MessageLightOff}
-use Rattle.ws_stream.specs.Elements.{IsElement}
-use Rattle.ws_stream.specs.declared.element.Element.{Element}
-use Rattle.ws_stream.specs.declared.element.Element.TheVariants.{Put}
-use Rattle.ws_text.specs.ItemLines.{Run, run_line}
-use Rattle.ws_text.specs.ItemLines.Run.{Bytes, Other}
-use Rattle.ws_text.specs.TextLines.{IsLine, AreElements}
-use Rattle.ws_text.specs.TextLines.AreElements.{run}
+use Rattle.ws_record.specs.declared.record.Item.{Item}
+use Rattle.ws_record.specs.declared.record.Item.TheVariants as an_item
+use Rattle.ws_record.specs.declared.record.Record.{Record}
+use Rattle.ws_telnet.specs.declared.token.Telnet.{Telnet}
+use Rattle.ws_text.specs.ItemLines.{head_text, telnet_text}
+use Rattle.ws_text.specs.Wording.{Wording, Run}
+use Rattle.ws_text.specs.Wording.Run.{Bytes, Other}
+use Rattle.ws_text.specs.TextLines.{IsLine, AreUnits}
+use Rattle.ws_text.specs.TextLines.AreUnits.{run}
 use Rattle.ws_text.specs.TextLines.IsHeadText.{long}
 use Rattle.ws_text.specs.TextLines.IsWorded.{item, indented}
 use Rattle.ws_text.specs.TextLines.Means.{worded}
@@ -25,60 +28,82 @@ use Rattle.ws_text.specs.declared.line.Part.TheVariants as part
 use Rattle.ws_text.proofs.ShownBytes.{line_of, AreFrom, AreWords, literal, words_back, line_from, is_text}
 use Rattle.ws_text.proofs.ShownNumbers.{small_back, place_back, decimal_from, hex_from, hex_back, pair_back, pair_from}
 use Rattle.ws_text.proofs.ShownNumbers.{data_are_bytes}
-use Rattle.ws_text.proofs.ShownElements.{element_name, element_rest, element_joined, name_from, rest_from, element_back}
 
 -- Printed lines are read back.
 
--- a run of elements: its words, which stand behind two blanks
-abbrev run_name : Run → List ℕ
-run_name (Bytes bytes) = codes "PUT"
-run_name (Other e) = element_name e
+module _ {Place U : Type 0} (rules : Rules Place U) (w : Wording U) where
+  abbrev pub run_units : Run U → List U
+  run_units (Bytes bytes) = map w.byte bytes
+  run_units (Other u) = u ∷ []
 
-abbrev run_rest : Run → List (List ℕ)
-run_rest (Bytes bytes) = encode_upper bytes ∷ []
-run_rest (Other e) = element_rest e
+  -- it can be printed
+  abbrev pub IsRunRight : Run U → Type 0
+  IsRunRight (Bytes bytes) = (0 < length bytes) × AllByRecursion IsData bytes
+  IsRunRight (Other u) = rules.is_unit u
 
-abbrev pub run_words : Run → List (List ℕ)
-run_words r = [] ∷ [] ∷ run_name r ∷ run_rest r
+  -- How units are printed. Each is a name and words, which say it; those that are bytes go on in runs.
+  pub record Printed : Type 1 where
+    pub name_of : U → List ℕ
+    pub rest_of : U → List (List ℕ)
+    pub name_from : (u : U) → AreFrom 33 (name_of u)
+    pub rest_from : (u : U) → rules.is_unit u → AreWords (rest_of u)
+    pub says : (u : U) → rules.is_unit u → AreUnits w (name_of u) (rest_of u) (u ∷ [])
+    pub bytes_from : AreFrom 33 w.bytes
+    pub runs_of : List U → List (Run U)
+    pub runs_back : (us : List U) → flat_map run_units (runs_of us) ≡ us
+    pub runs_right : (us : List U) → AllByRecursion rules.is_unit us → AllByRecursion IsRunRight (runs_of us)
+    pub run_line : Run U → List ℕ
+    pub bytes_joined : (bytes : List ℕ) → run_line (Bytes bytes)
+        ≡ 10 ∷ line_of ([] ∷ [] ∷ w.bytes ∷ encode_upper bytes ∷ [])
+    pub other_joined : (u : U) → run_line (Other u) ≡ 10 ∷ line_of ([] ∷ [] ∷ name_of u ∷ rest_of u)
+    pub text_of : ℕ → Item U → List ℕ
+    pub record_is : (place : ℕ) (r : Record U) → text_of place (an_item.Record r)
+        ≡ head_text place r ++ flat_map run_line (runs_of r.body) ++ 10 ∷ []
+    pub telnet_is : (place : ℕ) (t : Telnet) → text_of place (an_item.Telnet t) ≡ telnet_text place t
 
-abbrev pub run_elements : Run → List Element
-run_elements (Bytes bytes) = map (λ b. Put b) bytes
-run_elements (Other e) = e ∷ []
+module _ {Place U : Type 0} (rules : Rules Place U) (w : Wording U) (p : Printed rules w) where
+  -- a run of units: its words, which stand behind two blanks
+  abbrev run_name : Run U → List ℕ
+  run_name (Bytes bytes) = w.bytes
+  run_name (Other u) = p.name_of u
 
--- it can be printed
-abbrev pub IsRunRight : Run → Type 0
-IsRunRight (Bytes bytes) = (0 < length bytes) × AllByRecursion IsData bytes
-IsRunRight (Other e) = IsElement e
+  abbrev run_rest : Run U → List (List ℕ)
+  run_rest (Bytes bytes) = encode_upper bytes ∷ []
+  run_rest (Other u) = p.rest_of u
 
-pub run_joined : (r : Run) → run_line r ≡ 10 ∷ line_of (run_words r)
-run_joined (Bytes bytes) = refl
-run_joined (Other e) = ap (λ z. 10 ∷ 32 ∷ 32 ∷ z) (sym (element_joined e))
+  abbrev pub run_words : Run U → List (List ℕ)
+  run_words r = [] ∷ [] ∷ run_name r ∷ run_rest r
 
-run_name_from : (r : Run) → AreFrom 33 (run_name r)
-run_name_from (Bytes bytes) = literal (codes "PUT") refl
-run_name_from (Other e) = name_from e
+  pub run_joined : (r : Run U) → p.run_line r ≡ 10 ∷ line_of (run_words r)
+  run_joined (Bytes bytes) = p.bytes_joined bytes
+  run_joined (Other u) = p.other_joined u
 
-run_rest_from : (r : Run) → IsRunRight r → AreWords (run_rest r)
-run_rest_from (Bytes bytes) h = (hex_from bytes (data_are_bytes bytes h.1), tt)
-run_rest_from (Other e) h = rest_from e h
+  run_name_from : (r : Run U) → AreFrom 33 (run_name r)
+  run_name_from (Bytes bytes) = p.bytes_from
+  run_name_from (Other u) = p.name_from u
 
-run_back : (r : Run) → IsRunRight r → AreElements (run_name r) (run_rest r) (run_elements r)
-run_back (Bytes bytes) h =
-    run (encode_upper bytes) refl refl (bytes, hex_back bytes (data_are_bytes bytes h.1) h.0, (h.1, refl))
-run_back (Other e) h = element_back e h
+  run_rest_from : (r : Run U) → IsRunRight rules w r → AreWords (run_rest r)
+  run_rest_from (Bytes bytes) h = (hex_from bytes (data_are_bytes bytes h.1), tt)
+  run_rest_from (Other u) h = p.rest_from u h
 
-run_words_from : (r : Run) → IsRunRight r → AreWords ([] ∷ run_name r ∷ run_rest r)
-run_words_from r h = (tt, (run_name_from r, run_rest_from r h))
+  run_back : (r : Run U) → IsRunRight rules w r → AreUnits w (run_name r) (run_rest r) (run_units rules w r)
+  run_back (Bytes bytes) h =
+      run (encode_upper bytes) refl refl (bytes, hex_back bytes (data_are_bytes bytes h.1) h.0, (h.1, refl))
+  run_back (Other u) h = p.says u h
 
-pub run_line_from : (r : Run) → IsRunRight r → AreFrom 32 (line_of (run_words r))
-run_line_from r h = line_from [] ([] ∷ run_name r ∷ run_rest r) tt (run_words_from r h)
+  run_words_from : (r : Run U) → IsRunRight rules w r → AreWords ([] ∷ run_name r ∷ run_rest r)
+  run_words_from r h = (tt, (run_name_from r, run_rest_from r h))
 
-pub run_says : (r : Run) → IsRunRight r → IsLine (line_of (run_words r)) (part.Elements (run_elements r))
-run_says r h = (
-  is_text (line_of (run_words r)) (run_line_from r h),
-  worded (indented (run_name r) (run_rest r) (run_elements r)
-      (words_back [] ([] ∷ run_name r ∷ run_rest r) tt (run_words_from r h)) (run_back r h) refl),
-)
+  pub run_line_from : (r : Run U) → IsRunRight rules w r → AreFrom 32 (line_of (run_words r))
+  run_line_from r h = line_from [] ([] ∷ run_name r ∷ run_rest r) tt (run_words_from r h)
+
+  pub run_says : (r : Run U) → IsRunRight rules w r → IsLine w (line_of (run_words r)) (part.Units
+      (run_units rules w r))
+  run_says r h = (
+    is_text (line_of (run_words r)) (run_line_from r h),
+    worded (indented (run_name r) (run_rest r) (run_units rules w r)
+        (words_back [] ([] ∷ run_name r ∷ run_rest r) tt (run_words_from r h)) (run_back r h) refl),
+  )
 
 -- a record's header
 opcode_small : (o : Opcode) → opcode_byte o < 256
@@ -125,9 +150,9 @@ pub head_line_from : (place flags : ℕ) (opcode : Opcode) → place < 2 ^ 64 �
 head_line_from place flags opcode p f =
     line_from (codes "at") (head_rest place flags opcode) (literal (codes "at") refl) (head_from place flags opcode p f)
 
-pub head_says : (place flags : ℕ) (opcode : Opcode) → place < 2 ^ 64 → flags < 65536
-    → IsLine (line_of (head_words place flags opcode)) (part.Head flags opcode)
-head_says place flags opcode p f = (
+pub head_says : {U : Type 0} (w : Wording U) (place flags : ℕ) (opcode : Opcode) → place < 2 ^ 64 → flags < 65536
+    → IsLine w (line_of (head_words place flags opcode)) (part.Head flags opcode)
+head_says w place flags opcode p f = (
   is_text (line_of (head_words place flags opcode)) (head_line_from place flags opcode p f),
   worded (item (codes "record" ∷ codes "flags" ∷ encode_upper (two_bytes flags) ∷ codes "opcode"
       ∷ decimal (opcode_byte opcode) ∷ [])

@@ -14,6 +14,7 @@ use Rattle.ws_telnet.specs.declared.token.Telnet.TheVariants.{Command, Option as
 use Rattle.ws_text.specs.ItemLines.{hex_behind_blank, command_name, verb_name, telnet_name}
 use Rattle.ws_text.specs.Names.{look_up, commands, verbs}
 use Rattle.ws_text.specs.TextLines.{IsTelnetText, IsLine}
+use Rattle.ws_text.specs.Wording.{Wording}
 use Rattle.ws_text.specs.TextLines.IsWorded.{item}
 use Rattle.ws_text.specs.TextLines.Means.{worded}
 use Rattle.ws_text.specs.declared.line.Part.TheVariants as part
@@ -100,9 +101,9 @@ pub telnet_line_from : (place : ℕ) (t : Telnet) → place < 2 ^ 64 → IsTelne
 telnet_line_from place t p h =
     line_from (codes "at") (behind_at place t) (literal (codes "at") refl) (telnet_from place t p h)
 
-pub telnet_says : (place : ℕ) (t : Telnet) → place < 2 ^ 64 → IsTelnet t
-    → IsLine (line_of (telnet_words place t)) (part.Command t)
-telnet_says place t p h = (
+pub telnet_says : {U : Type 0} (w : Wording U) (place : ℕ) (t : Telnet) → place < 2 ^ 64 → IsTelnet t
+    → IsLine w (line_of (telnet_words place t)) (part.Command t)
+telnet_says w place t p h = (
   is_text (line_of (telnet_words place t)) (telnet_line_from place t p h),
   worded (item (codes "telnet" ∷ telnet_head t ∷ telnet_rest t)
       (inl (

@@ -2,16 +2,14 @@ use Rattle.std.proofs.Common.{◌≡◌, ◌≢◌, ◌⊎◌, inl, inr, ℕ, �
 use Rattle.std.proofs.Common.{length, map, get_or, drop, Bor, refl, sym, ap, subst, ◌∙◌, arith}
 use Rattle.std.specs.Prelude.{codes}
 use Rattle.std.specs.List.{slice_split}
-use Rattle.ws_stream.specs.declared.element.Element.{Element}
-use Rattle.ws_text.specs.Names.{look_up, kinds}
 use Rattle.std.specs.Prelude.{Option, Some, None}
 use Rattle.ws_text.specs.Words.{words_of}
 use Rattle.ws_text.specs.declared.line.Part.{Part}
 use Rattle.ws_text.specs.declared.line.Part.TheVariants as part
-use Rattle.ws_text.specs.TextLines.{AreTyped, AreElements, IsWorded, Means}
-use Rattle.ws_text.specs.TextLines.AreElements.{one, run}
+use Rattle.ws_text.specs.TextLines.{AreTyped, AreUnits, IsWorded, Means}
+use Rattle.ws_text.specs.TextLines.AreUnits.{one, run}
 use Rattle.ws_text.specs.TextLines.Means.{empty, comment, typed, worded}
-use Rattle.ws_text.proofs.Lists.{differ}
+use Rattle.ws_text.specs.Wording.{Wording, IsClear}
 use Rattle.ws_text.proofs.LineWords.{no_indented, IsTextStripped}
 use Rattle.ws_text.proofs.LineEnds.{is_none}
 use Rattle.std.proofs.lemmas.Bool.{false≢true}
@@ -22,35 +20,37 @@ use Rattle.std.proofs.lemmas.Bool.{false≢true}
 pub first_words : (text : List ℕ) → words_of (codes "  TEXT " ++ text) ≡ [] ∷ [] ∷ codes "TEXT" ∷ words_of text
 first_words text = refl
 
-pub text_is_no_element : (rest : List (List ℕ)) (es : List Element) → AreElements (codes "TEXT") rest es → ⊥
-text_is_no_element rest es (one e h f) = cc h.1
-text_is_no_element rest es (run hex f g h) = differ (codes "TEXT") (codes "PUT") refl f
+pub text_is_no_unit : {U : Type 0} (w : Wording U) → IsClear w → (rest : List (List ℕ)) (us : List U)
+    → AreUnits w (codes "TEXT") rest us → ⊥
+text_is_no_unit w clear rest us (one u h f) = clear.no_text rest u h
+text_is_no_unit w clear rest us (run hex f g h) = clear.apart (sym f)
 
 pub behind_seven : (a b : List ℕ) → codes "  TEXT " ++ a ≡ codes "  TEXT " ++ b → a ≡ b
 behind_seven a b e = cc
 
-pub no_typed_line : (line text : List ℕ) → line ≡ codes "  TEXT " ++ text → ((es : List Element) → AreTyped text es → ⊥)
-    → (says : Part) → Means line says → ⊥
-no_typed_line line text e bad says (empty f g) = absurd (omega (arith, ap length (sym f ∙ e)))
-no_typed_line line text e bad says (comment other f g) =
+pub no_typed_line : {U : Type 0} (w : Wording U) → IsClear w → (line text : List ℕ) → line ≡ codes "  TEXT " ++ text
+    → ((us : List U) → AreTyped w text us → ⊥) → (says : Part U) → Means w line says → ⊥
+no_typed_line w clear line text e bad says (empty f g) = absurd (omega (arith, ap length (sym f ∙ e)))
+no_typed_line w clear line text e bad says (comment other f g) =
     let first : 35 ≡ 32 = ap (λ z. get_or z 0 0) (sym f ∙ e) in
     absurd (omega (arith, first))
-no_typed_line line text e bad says (typed other es f h g) =
+no_typed_line w clear line text e bad says (typed other us f h g) =
     let same : other ≡ text = behind_seven other text (sym f ∙ e) in
-    bad es (subst (λ (z : List ℕ). AreTyped z es) same h)
-no_typed_line line text e bad says (worded h) =
-    no_indented (words_of line) (codes "TEXT") (words_of text) (ap words_of e ∙ first_words text)
-    (text_is_no_element (words_of text)) says h
+    bad us (subst (λ (z : List ℕ). AreTyped w z us) same h)
+no_typed_line w clear line text e bad says (worded h) =
+    no_indented w (words_of line) (codes "TEXT") (words_of text) (ap words_of e ∙ first_words text)
+    (text_is_no_unit w clear (words_of text)) says h
 
 -- a line that is neither empty nor a comment nor characters
-pub no_worded : (line : List ℕ) → (line ≡ [] → ⊥) → ((text : List ℕ) → line ≡ codes "#" ++ text → ⊥)
+pub no_worded : {U : Type 0} (w : Wording U) (line : List ℕ) → (line ≡ [] → ⊥) → ((text : List ℕ) → line ≡ codes "#"
+    ++ text → ⊥)
     → ((text : List ℕ) → line ≡ codes "  TEXT " ++ text → ⊥) → (words : List (List ℕ)) → words ≡ words_of line
-    → ((says : Part) → IsWorded words says → ⊥) → (says : Part) → Means line says → ⊥
-no_worded line some plain other words e bad says (empty f g) = some f
-no_worded line some plain other words e bad says (comment text f g) = plain text f
-no_worded line some plain other words e bad says (typed text es f h g) = other text f
-no_worded line some plain other words e bad says (worded h) =
-    bad says (subst (λ (z : List (List ℕ)). IsWorded z says) (sym e) h)
+    → ((says : Part U) → IsWorded w words says → ⊥) → (says : Part U) → Means w line says → ⊥
+no_worded w line some plain other words e bad says (empty f g) = some f
+no_worded w line some plain other words e bad says (comment text f g) = plain text f
+no_worded w line some plain other words e bad says (typed text us f h g) = other text f
+no_worded w line some plain other words e bad says (worded h) =
+    bad says (subst (λ (z : List (List ℕ)). IsWorded w z says) (sym e) h)
 
 pub is_nil_by : (text : List ℕ) (r : Bool) → r ≡ (length text == 0) → r ≡ true → text ≡ []
 is_nil_by text r e h = is_none text (sym e ∙ h)

@@ -9,8 +9,9 @@ use Rattle.ws_record.specs.Grammar.{two_bytes}
 use Rattle.ws_stream.specs.declared.element.Element.{Element}
 use Rattle.ws_stream.specs.declared.element.Element.TheVariants.{ClearUnit, ClearFormat, Write, ReadInput, ReadMdt}
 use Rattle.ws_stream.specs.declared.element.Element.TheVariants.{ReadMdtAlternate, Soh, Ra, Ea, Sba, Ic, Mc, Sf, Put}
-use Rattle.ws_text.specs.ItemLines.{Run, runs_with, runs_of, run_line, is_put, element_line, element_lines}
-use Rattle.ws_text.specs.ItemLines.Run.{Bytes, Other}
+use Rattle.ws_text.specs.Wording.{Run}
+use Rattle.ws_text.specs.ItemLines.{runs_with, runs_of, run_line, is_put, element_line, element_lines}
+use Rattle.ws_text.specs.Wording.Run.{Bytes, Other}
 use Rattle.ws_text.proofs.Prints.{encode_append}
 
 -- Texts in parts.
@@ -51,7 +52,7 @@ is_put_last_more before [] e = refl
 is_put_last_more before (x ∷ es) e = is_put_last_more (is_put x) es e
 
 -- what runs add to those lines: bytes behind a byte go on with that one's line
-abbrev runs_behind : Bool → List Run → List ℕ
+abbrev runs_behind : Bool → List (Run Element) → List ℕ
 runs_behind true (Bytes bytes ∷ runs) = encode_upper bytes ++ flat_map run_line runs
 runs_behind before runs = flat_map run_line runs
 
@@ -61,7 +62,8 @@ begins_run : (byte : ℕ) (bytes rest : List ℕ) → encode_upper (byte ∷ [])
 begins_run byte bytes rest = sym (append_assoc (encode_upper (byte ∷ [])) (encode_upper bytes) rest)
     ∙ ap (λ z. z ++ rest) (sym (encode_append upper_digits (byte ∷ []) bytes))
 
-put_joins : (before : Bool) (byte : ℕ) (runs : List Run) → element_line before (Put byte) ++ runs_behind true runs
+put_joins : (before : Bool) (byte : ℕ) (runs : List (Run Element)) → element_line before (Put byte)
+    ++ runs_behind true runs
     ≡ runs_behind before (runs_with (Put byte) runs)
 put_joins true byte [] = refl
 put_joins true byte (Bytes bytes ∷ runs) = begins_run byte bytes (flat_map run_line runs)
@@ -71,12 +73,13 @@ put_joins false byte (Bytes bytes ∷ runs) = ap (λ z. 10 ∷ codes "  PUT " ++
     (begins_run byte bytes (flat_map run_line runs))
 put_joins false byte (Other e ∷ runs) = refl
 
-other_joins : (before : Bool) (e : Element) (runs : List Run) → runs_with e runs ≡ Other e ∷ runs → element_line true e
+other_joins : (before : Bool) (e : Element) (runs : List (Run Element)) → runs_with e runs ≡ Other e ∷ runs
+    → element_line true e
     ≡ element_line false e → element_line before e ++ flat_map run_line runs ≡ runs_behind before (runs_with e runs)
 other_joins true e runs is line = ap (λ z. z ++ flat_map run_line runs) line ∙ ap (runs_behind true) (sym is)
 other_joins false e runs is line = ap (runs_behind false) (sym is)
 
-joins : (before : Bool) (e : Element) (runs : List Run) → element_line before e ++ runs_behind (is_put e) runs
+joins : (before : Bool) (e : Element) (runs : List (Run Element)) → element_line before e ++ runs_behind (is_put e) runs
     ≡ runs_behind before (runs_with e runs)
 joins before (Put byte) runs = put_joins before byte runs
 joins before ClearUnit runs = other_joins before ClearUnit runs refl refl

@@ -8,6 +8,8 @@ use Rattle.ws_record.specs.declared.record.Item.TheVariants.{Record as RecordIte
 use Rattle.ws_stream.specs.declared.answer_part.AnswerPart.{AnswerPart}
 use Rattle.ws_stream.specs.declared.answer_part.AnswerPart.TheVariants.{Head, Byte, At}
 use Rattle.ws_text.specs.ItemLines.{cell_text, fill_text, head_text, telnet_text}
+use Rattle.ws_text.specs.Wording.{Run}
+use Rattle.ws_text.specs.Wording.Run.{Bytes, Other}
 
 -- a part of an answer
 abbrev pub part_text : AnswerPart → List ℕ
@@ -15,24 +17,19 @@ part_text (Head cursor aid) = codes "HEAD " ++ fill_text cursor (aid ∷ [])
 part_text (At place) = codes "AT " ++ cell_text place
 part_text (Byte byte) = codes "BYTES " ++ encode_upper (byte ∷ [])
 
--- bytes one after another, or another part by itself
-pub data Run : Type 0 where
-  Bytes : List ℕ → Run
-  Other : AnswerPart → Run
-
 -- runs with a part before them: a byte joins the run of bytes that it stands before
-abbrev pub runs_with : AnswerPart → List Run → List Run
+abbrev pub runs_with : AnswerPart → List (Run AnswerPart) → List (Run AnswerPart)
 runs_with (Byte byte) (Bytes bytes ∷ runs) = Bytes (byte ∷ bytes) ∷ runs
 runs_with (Byte byte) runs = Bytes (byte ∷ []) ∷ runs
 runs_with part runs = Other part ∷ runs
 
 -- the runs of parts, as long as they can be
-abbrev pub runs_of : List AnswerPart → List Run
+abbrev pub runs_of : List AnswerPart → List (Run AnswerPart)
 runs_of [] = []
 runs_of (part ∷ parts) = runs_with part (runs_of parts)
 
 -- a run's line, after two blanks
-abbrev pub run_line : Run → List ℕ
+abbrev pub run_line : Run AnswerPart → List ℕ
 run_line (Bytes bytes) = 10 ∷ codes "  BYTES " ++ encode_upper bytes
 run_line (Other part) = 10 ∷ codes "  " ++ part_text part
 

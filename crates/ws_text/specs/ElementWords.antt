@@ -1,6 +1,6 @@
 -- The words of a line that is one element: a name and what stands behind it.
 
-use Rattle.std.specs.Prelude.{◌≡◌, ℕ, ◌<◌, List, [], ◌∷◌, ◌++◌, Option, Some, None, map, ◌⊎◌}
+use Rattle.std.specs.Prelude.{◌≡◌, ℕ, ◌<◌, List, [], ◌∷◌, ◌++◌, Option, Some, None, codes, ◌⊎◌}
 use Rattle.ws_code.specs.DataByte.{IsData}
 use Rattle.ws_stream.specs.FieldOrder.{FieldOrder, IsFieldOrder}
 use Rattle.ws_stream.specs.Parts.{IsSoh, IsEraseList}
@@ -10,6 +10,7 @@ use Rattle.ws_text.specs.declared.kind.Kind.{Kind}
 use Rattle.ws_text.specs.declared.kind.Kind.TheVariants.{ClearUnit, ClearFormat, Write, ReadInput, ReadMdt}
 use Rattle.ws_text.specs.declared.kind.Kind.TheVariants.{ReadMdtAlternate, Soh, Ra, Ea, Sba, Ic, Mc, Sf}
 use Rattle.ws_text.specs.Names.{look_up, kinds}
+use Rattle.ws_text.specs.Wording.{Wording}
 use Rattle.ws_text.specs.Words.{IsHex, IsHexByte, IsHexPair, IsNumber, IsCell}
 
 -- two control characters
@@ -79,3 +80,7 @@ Says Sf words e = (f : FieldOrder) × AreField words f × (e ≡ element.Sf f)
 -- an element: the name of its kind, and what stands behind that
 abbrev pub IsOneElement : List ℕ → List (List ℕ) → Element → Type 0
 IsOneElement name words e = (kind : Kind) × (look_up name kinds ≡ Some kind) × Says kind words e
+
+-- how a host's commands and orders are written
+abbrev pub element_wording : Wording Element
+element_wording = record { bytes = codes "PUT"; byte = λ b. element.Put b; IsOne = IsOneElement }

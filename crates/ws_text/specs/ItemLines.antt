@@ -20,6 +20,8 @@ use Rattle.ws_stream.specs.FieldOrder.{FieldOrder}
 use Rattle.ws_stream.specs.declared.element.Element.{Element}
 use Rattle.ws_stream.specs.declared.element.Element.TheVariants.{ClearUnit, ClearFormat, Write, ReadInput, ReadMdt}
 use Rattle.ws_stream.specs.declared.element.Element.TheVariants.{ReadMdtAlternate, Soh, Ra, Ea, Sba, Ic, Mc, Sf, Put}
+use Rattle.ws_text.specs.Wording.{Run}
+use Rattle.ws_text.specs.Wording.Run.{Bytes, Other}
 
 -- hex behind a blank, and nothing for no bytes
 abbrev pub hex_behind_blank : List ℕ → List ℕ
@@ -68,24 +70,19 @@ element_text (Mc to) = codes "MC " ++ cell_text to
 element_text (Sf f) = codes "SF " ++ field_text f
 element_text (Put byte) = codes "PUT " ++ encode_upper (byte ∷ [])
 
--- bytes one after another, or another element by itself
-pub data Run : Type 0 where
-  Bytes : List ℕ → Run
-  Other : Element → Run
-
 -- runs with an element before them: a byte joins the run of bytes that it stands before
-abbrev pub runs_with : Element → List Run → List Run
+abbrev pub runs_with : Element → List (Run Element) → List (Run Element)
 runs_with (Put byte) (Bytes bytes ∷ runs) = Bytes (byte ∷ bytes) ∷ runs
 runs_with (Put byte) runs = Bytes (byte ∷ []) ∷ runs
 runs_with e runs = Other e ∷ runs
 
 -- the runs of elements, as long as they can be
-abbrev pub runs_of : List Element → List Run
+abbrev pub runs_of : List Element → List (Run Element)
 runs_of [] = []
 runs_of (e ∷ es) = runs_with e (runs_of es)
 
 -- a run's line, after two blanks
-abbrev pub run_line : Run → List ℕ
+abbrev pub run_line : Run Element → List ℕ
 run_line (Bytes bytes) = 10 ∷ codes "  PUT " ++ encode_upper bytes
 run_line (Other e) = 10 ∷ codes "  " ++ element_text e
 

@@ -1,10 +1,14 @@
 pub mod AnswerLines
+pub mod AnswerWords
 pub mod ElementWords
 pub mod Faults
+pub mod FieldLaws
 pub mod ItemLines
 pub mod Items
 pub mod Reading
 pub mod Names
+pub mod WordLaws
+pub mod Wording
 pub mod Words
 pub mod TextLines
 pub mod Shown

@@ -10,13 +10,12 @@ use Rattle.ws_telnet.specs.declared.token.Telnet.{Telnet}
 use Rattle.ws_telnet.specs.declared.token.Telnet.TheVariants.{Command, Option as Negotiate, Sub}
 use Rattle.ws_record.specs.Grammar.{opcode_byte}
 use Rattle.ws_record.specs.declared.opcode.Opcode.{Opcode}
-use Rattle.ws_stream.specs.declared.element.Element.{Element}
-use Rattle.ws_stream.specs.declared.element.Element.TheVariants.{Put}
 use Rattle.ws_text.specs.declared.line.Part.{Part}
 use Rattle.ws_text.specs.declared.line.Part.TheVariants as part
 use Rattle.ws_text.specs.Names.{look_up, commands, verbs}
 use Rattle.ws_text.specs.Words.{words_of, IsHex, IsHexPair, IsSmall}
-use Rattle.ws_text.specs.ElementWords.{AreBytes, IsOneElement}
+use Rattle.ws_text.specs.ElementWords.{AreBytes}
+use Rattle.ws_text.specs.Wording.{Wording}
 
 -- a place in a stream, which is counted in 64 bits
 abbrev pub IsPlace : List ℕ → Type 0
@@ -42,31 +41,12 @@ pub data IsHeadText (words : List (List ℕ)) (flags : ℕ) (opcode : Opcode) : 
       → IsOpcodeText name number opcode → IsHeadText words flags opcode
 
 -- a line that begins an item
-abbrev pub IsItemLine : List (List ℕ) → Part → Type 0
+abbrev pub IsItemLine : {U : Type 0} → List (List ℕ) → Part U → Type 0
 IsItemLine words (part.Head flags opcode) = (rest : List (List ℕ)) × (words ≡ codes "record" ∷ rest)
     × IsHeadText rest flags opcode
 IsItemLine words (part.Command telnet) = (name : List ℕ) × (rest : List (List ℕ))
     × (words ≡ codes "telnet" ∷ name ∷ rest) × IsTelnetText name rest telnet
 IsItemLine words other = ⊥
-
--- bytes for cells
-abbrev pub ArePuts : List ℕ → List Element → Type 0
-ArePuts bytes elements = AllByRecursion IsData bytes × (elements ≡ map (λ b. Put b) bytes)
-
--- a run of bytes for cells
-abbrev pub IsRun : List ℕ → List Element → Type 0
-IsRun hex elements = (bytes : List ℕ) × IsHex hex bytes × ArePuts bytes elements
-
--- the elements of a name and the words behind it: one, or a run of bytes for cells
-pub data AreElements (name : List ℕ) (words : List (List ℕ)) (elements : List Element) : Type 0 where
-  one : (e : Element) → IsOneElement name words e → elements ≡ e ∷ [] → AreElements name words elements
-  run : (hex : List ℕ) → name ≡ codes "PUT" → words ≡ hex ∷ [] → IsRun hex elements → AreElements name words elements
-
--- characters, each of which has a byte in code page 037
-pub record AreTyped (text : List ℕ) (elements : List Element) : Type 0 where
-  pub bytes : List ℕ
-  pub typed : map byte_of (chars text) ≡ map (λ b. Some b) bytes
-  pub puts : ArePuts bytes elements
 
 -- the words behind `at` and a place, where a line begins with them, or all of them
 abbrev pub AreBehindPlace : List (List ℕ) → List (List ℕ) → Type 0
@@ -74,20 +54,39 @@ AreBehindPlace words behind = ((place : List ℕ) × (words ≡ codes "at" ∷ p
     ⊎ ((behind ≡ words) × ((place : List ℕ) (rest : List (List ℕ)) → words ≡ codes "at" ∷ place ∷ rest
     → ¬ IsPlace place))
 
--- what the words of a line say: an item, or elements behind two blanks
-pub data IsWorded (words : List (List ℕ)) (says : Part) : Type 0 where
-  item : (behind : List (List ℕ)) → AreBehindPlace words behind → IsItemLine behind says → IsWorded words says
-  indented : (name : List ℕ) (rest : List (List ℕ)) (are : List Element) → words ≡ [] ∷ [] ∷ name ∷ rest
-      → AreElements name rest are → says ≡ part.Elements are → IsWorded words says
+-- bytes as units
+abbrev pub AreRun : {U : Type 0} → Wording U → List ℕ → List U → Type 0
+AreRun w bytes units = AllByRecursion IsData bytes × (units ≡ map w.byte bytes)
+
+-- a run of bytes in hex
+abbrev pub IsRun : {U : Type 0} → Wording U → List ℕ → List U → Type 0
+IsRun w hex units = (bytes : List ℕ) × IsHex hex bytes × AreRun w bytes units
+
+-- the units of a name and the words behind it: one, or a run of bytes
+pub data AreUnits {U : Type 0} (w : Wording U) (name : List ℕ) (words : List (List ℕ)) (units : List U) : Type 0 where
+  one : (u : U) → w.IsOne name words u → units ≡ u ∷ [] → AreUnits w name words units
+  run : (hex : List ℕ) → name ≡ w.bytes → words ≡ hex ∷ [] → IsRun w hex units → AreUnits w name words units
+
+-- characters, each of which has a byte in code page 037
+pub record AreTyped {U : Type 0} (w : Wording U) (text : List ℕ) (units : List U) : Type 0 where
+  pub bytes : List ℕ
+  pub typed : map byte_of (chars text) ≡ map (λ b. Some b) bytes
+  pub run : AreRun w bytes units
+
+-- what the words of a line say: an item, or units behind two blanks
+pub data IsWorded {U : Type 0} (w : Wording U) (words : List (List ℕ)) (says : Part U) : Type 0 where
+  item : (behind : List (List ℕ)) → AreBehindPlace words behind → IsItemLine behind says → IsWorded w words says
+  indented : (name : List ℕ) (rest : List (List ℕ)) (are : List U) → words ≡ [] ∷ [] ∷ name ∷ rest
+      → AreUnits w name rest are → says ≡ part.Units are → IsWorded w words says
 
 -- what a line says
-pub data Means (line : List ℕ) (says : Part) : Type 0 where
-  empty : line ≡ [] → says ≡ part.Nothing → Means line says
-  comment : (text : List ℕ) → line ≡ codes "#" ++ text → says ≡ part.Nothing → Means line says
-  typed : (text : List ℕ) (are : List Element) → line ≡ codes "  TEXT " ++ text → AreTyped text are
-      → says ≡ part.Elements are → Means line says
-  worded : IsWorded (words_of line) says → Means line says
+pub data Means {U : Type 0} (w : Wording U) (line : List ℕ) (says : Part U) : Type 0 where
+  empty : line ≡ [] → says ≡ part.Nothing → Means w line says
+  comment : (text : List ℕ) → line ≡ codes "#" ++ text → says ≡ part.Nothing → Means w line says
+  typed : (text : List ℕ) (are : List U) → line ≡ codes "  TEXT " ++ text → AreTyped w text are
+      → says ≡ part.Units are → Means w line says
+  worded : IsWorded w (words_of line) says → Means w line says
 
 -- a line, which is UTF-8, and what it says
-abbrev pub IsLine : List ℕ → Part → Type 0
-IsLine line says = IsUtf8 line × Means line says
+abbrev pub IsLine : {U : Type 0} → Wording U → List ℕ → Part U → Type 0
+IsLine w line says = IsUtf8 line × Means w line says

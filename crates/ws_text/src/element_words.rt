@@ -130,8 +130,8 @@ fn read_erase(words: &[&str]) -> Option<(Address, EraseList)>
     Some((to, kinds))
 }
 
-// A cell.
-fn read_place(words: &[&str]) -> Option<Address>
+/// A cell.
+pub fn read_place(words: &[&str]) -> Option<Address>
     ensures { MatchOption result
         ((to : ℕ) → Spec.ArePlace (map (λ w. w.now) words.now) to → ⊥)
         (Spec.ArePlace (map (λ w. w.now) words.now)) }

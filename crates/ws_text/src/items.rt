@@ -1,20 +1,25 @@
 ghost use Rattle.std.specs.Prelude.{◌≡◌, List as Seq, IfOk, IfErr, MatchResult};
 ghost use Rattle.ws_record.specs.declared.record.Item.{Item as AnItem};
 ghost use Rattle.ws_record.specs.Encode.{CanAllBeEncoded};
+ghost use Rattle.ws_stream.specs.AnswerParts.{answer_rules};
 ghost use Rattle.ws_stream.specs.Elements.{element_rules};
+ghost use Rattle.ws_stream.specs.declared.answer_part.AnswerPart.{AnswerPart as APart};
 ghost use Rattle.ws_stream.specs.declared.element.Element.{Element as AnElement};
+ghost use Rattle.ws_text.specs.AnswerWords.{answer_wording};
+ghost use Rattle.ws_text.specs.ElementWords.{element_wording};
 ghost use Rattle.ws_text.specs.Faults.{IsFault};
 ghost use Rattle.ws_text.specs.Reading.{AreSound, so_far};
 ghost use Rattle.ws_text.specs.Items.{AreItems, IsTextFault, Reads};
-ghost use Rattle.ws_text.specs.Shown.{Shows};
+ghost use Rattle.ws_text.specs.Shown.{Shows, ShowsAnswers};
 
 use crate::fault::LineFault;
 use crate::line::read_line;
 use crate::lines::first_line;
 use crate::reading::{Reading, add, finish, start};
+use crate::worded::Worded;
 use std::alloc::Global;
 use ws_record::Item;
-use ws_stream::Element;
+use ws_stream::{AnswerPart, Answers, Commands, Element};
 
 /// Why a text gives no items.
 #[derive(Clone, Copy, Debug, PartialEq, Eq)]
@@ -25,7 +30,7 @@ pub enum TextFault {
     Memory,
 }
 
-/// The items that the lines of a text spell, as `show` prints them, up to a line `screen`.
+/// The items of a host that the lines of a text spell, as `show` prints them, up to a line `screen`.
 ///
 /// `Line` where a line is bad, with the number of the first one: it has no such form, a number is out of range, a
 /// character has no byte in code page 037, or elements can't stand there or make the record too long (RFC 1205,
@@ -34,23 +39,43 @@ pub enum TextFault {
 /// Where the lines spell items, they spell no others: the result is these very items, want of memory aside. Each of
 /// them can be encoded. And whatever items `encode` accepts, the text that `show` prints of them spells them.
 pub fn read_items(alloc: Global, text: &[u8]) -> Result<Vec<Item<Element>>, TextFault>
-    ensures ok { IfOk result (λ items. AreItems text.now items.items) }
+    ensures ok { IfOk result (λ items.
+        AreItems element_rules element_wording text.now items.items) }
     ensures encoded { IfOk result (λ items. CanAllBeEncoded element_rules items.items) }
-    ensures fault { IfErr result (IsTextFault text.now) }
-    ensures only { (items : Seq (AnItem AnElement)) → AreItems text.now items
+    ensures fault { IfErr result (IsTextFault element_rules element_wording text.now) }
+    ensures only { (items : Seq (AnItem AnElement))
+        → AreItems element_rules element_wording text.now items
         → MatchResult result (λ read. read.items ≡ items) (λ fault. fault ≡ TextFault.Memory) }
     ensures shown { (items : Seq (AnItem AnElement)) → Shows text.now items
         → MatchResult result (λ read. read.items ≡ items) (λ fault. fault ≡ TextFault.Memory) }
 {
-    read_lines(alloc, text)
+    read_lines::<Commands>(alloc, text)
+}
+
+/// The items of a station that the lines of a text spell, as `show --answers` prints them, up to a line `screen`.
+///
+/// The rest is as at `read_items`: `Line` where a line is bad, `Memory` where a growth was refused; and whatever items
+/// `encode` accepts, the text that `show --answers` prints of them spells them.
+pub fn read_answer_items(alloc: Global, text: &[u8]) -> Result<Vec<Item<AnswerPart>>, TextFault>
+    ensures ok { IfOk result (λ items.
+        AreItems answer_rules answer_wording text.now items.items) }
+    ensures encoded { IfOk result (λ items. CanAllBeEncoded answer_rules items.items) }
+    ensures fault { IfErr result (IsTextFault answer_rules answer_wording text.now) }
+    ensures only { (items : Seq (AnItem APart))
+        → AreItems answer_rules answer_wording text.now items
+        → MatchResult result (λ read. read.items ≡ items) (λ fault. fault ≡ TextFault.Memory) }
+    ensures shown { (items : Seq (AnItem APart)) → ShowsAnswers text.now items
+        → MatchResult result (λ read. read.items ≡ items) (λ fault. fault ≡ TextFault.Memory) }
+{
+    read_lines::<Answers>(alloc, text)
 }
 
 // The items of a text, line by line.
-fn read_lines(alloc: Global, text: &[u8]) -> Result<Vec<Item<Element>>, TextFault>
-    ensures ok { IfOk result (λ items. AreItems text.now items.items) }
-    ensures fault { IfErr result (IsTextFault text.now) }
+fn read_lines<B: Worded>(alloc: Global, text: &[u8]) -> Result<Vec<Item<B::Unit>>, TextFault>
+    ensures ok { IfOk result (λ items. AreItems B.rules B.wording text.now items.items) }
+    ensures fault { IfErr result (IsTextFault B.rules B.wording text.now) }
 {
-    let mut reading = start(alloc);
+    let mut reading = start::<B>(alloc);
     let mut rest = text;
     let mut number = 0;
     while !rest.is_empty() {
@@ -59,7 +84,7 @@ fn read_lines(alloc: Global, text: &[u8]) -> Result<Vec<Item<Element>>, TextFaul
             return finished(reading);
         }
         number += 1;
-        match read_next(alloc, reading, line) {
+        match read_next::<B>(alloc, reading, line) {
             Ok(next) => reading = next,
             Err(LineFault::Bad) => return Err(TextFault::Line(number)),
             Err(LineFault::Memory) => return Err(TextFault::Memory),
@@ -70,7 +95,7 @@ fn read_lines(alloc: Global, text: &[u8]) -> Result<Vec<Item<Element>>, TextFaul
 }
 
 // The items so far.
-fn finished(reading: Reading) -> Result<Vec<Item<Element>>, TextFault>
+fn finished<P: Copy, U: Drop>(reading: Reading<P, U>) -> Result<Vec<Item<U>>, TextFault>
     ensures ok { IfOk result (λ items. items.items ≡ so_far reading) }
     ensures fault { IfErr result (λ fault. fault ≡ TextFault.Memory) }
 {
@@ -81,14 +106,20 @@ fn finished(reading: Reading) -> Result<Vec<Item<Element>>, TextFault>
 }
 
 // The items with what the line says.
-fn read_next(alloc: Global, reading: Reading, line: &[u8]) -> Result<Reading, LineFault>
-    requires sound { AreSound reading }
-    ensures sound { IfOk result AreSound }
-    ensures given { IfOk result (λ new. Reads line.now (so_far reading) (so_far new)) }
-    ensures fault { IfErr result (IsFault (Reads line.now (so_far reading))) }
+fn read_next<B: Worded>(
+    alloc: Global,
+    reading: Reading<B::Place, B::Unit>,
+    line: &[u8],
+) -> Result<Reading<B::Place, B::Unit>, LineFault>
+    requires sound { AreSound B.rules reading }
+    ensures sound { IfOk result (AreSound B.rules) }
+    ensures given { IfOk result (λ new.
+        Reads B.rules B.wording line.now (so_far reading) (so_far new)) }
+    ensures fault { IfErr result
+        (IsFault (Reads B.rules B.wording line.now (so_far reading))) }
 {
-    match read_line(alloc, line) {
-        Ok(part) => add(alloc, reading, part),
+    match read_line::<B>(alloc, line) {
+        Ok(part) => add::<B>(alloc, reading, part),
         Err(fault) => Err(fault),
     }
 }

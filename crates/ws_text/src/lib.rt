@@ -2,6 +2,7 @@
 #![tactic(auto)]
 
 mod answer_text;
+mod answer_words;
 #[cfg(test)]
 mod command_rows;
 mod element_text;
@@ -20,18 +21,19 @@ mod line;
 mod lines;
 mod number;
 mod output;
-mod puts;
 mod reading;
+mod runs;
 mod telnet_words;
 #[cfg(test)]
 mod tests;
 #[cfg(test)]
 mod vectors;
+mod worded;
 mod words;
 
 pub use answer_text::put_answer_item;
 pub use item_text::put_item;
-pub use items::{TextFault, read_items};
+pub use items::{TextFault, read_answer_items, read_items};
 pub use lines::first_line;
 pub use number::read_number;
 pub use output::{Output, put, put_cell, put_hex, put_hex_behind_blank, put_number, put_text};

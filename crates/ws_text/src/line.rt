@@ -3,71 +3,70 @@ ghost use Rattle.ws_text.specs.declared.line.Part.{Part as APart};
 ghost use Rattle.ws_text.specs.Faults.{IsFault};
 ghost use Rattle.ws_text.specs.TextLines as Spec;
 
-use crate::element_words::read_element;
 use crate::fault::LineFault;
 use crate::head_words::read_head;
-use crate::puts::{puts_of, typed};
+use crate::runs::{run_of, typed};
 use crate::telnet_words::read_telnet;
+use crate::worded::Worded;
 use crate::words::{read_hex, words_of};
 use std::alloc::Global;
 use std::str;
 use ws_code::List;
 use ws_record::Opcode;
-use ws_stream::Element;
 use ws_telnet::Telnet;
 
 /// What a line says.
 #[derive(Debug, Drop)]
-pub enum Part {
+pub enum Part<U> {
     /// An empty line, or a comment.
     Nothing,
     /// A record begins.
     Head { flags: u16, opcode: Opcode },
     /// A Telnet command.
     Command(Telnet),
-    /// Elements of the record before them.
-    Elements(List<Element>),
+    /// Units of the record before them.
+    Units(List<U>),
 }
 
 /// What a line says.
-pub fn read_line(alloc: Global, line: &[u8]) -> Result<Part, LineFault>
-    ensures ok { IfOk result (Spec.IsLine line.now) }
-    ensures fault { IfErr result (IsFault (Spec.IsLine line.now)) }
+pub fn read_line<B: Worded>(alloc: Global, line: &[u8]) -> Result<Part<B::Unit>, LineFault>
+    ensures ok { IfOk result (Spec.IsLine B.wording line.now) }
+    ensures fault { IfErr result (IsFault (Spec.IsLine B.wording line.now)) }
 {
     let Ok(text) = str::from_utf8(line) else {
         return Err(LineFault::Bad);
     };
-    read_text(alloc, text)
+    read_text::<B>(alloc, text)
 }
 
 // What a line of characters says.
-fn read_text(alloc: Global, text: &str) -> Result<Part, LineFault>
-    ensures ok { IfOk result (Spec.Means text.now) }
-    ensures fault { IfErr result (IsFault (Spec.Means text.now)) }
+fn read_text<B: Worded>(alloc: Global, text: &str) -> Result<Part<B::Unit>, LineFault>
+    ensures ok { IfOk result (Spec.Means B.wording text.now) }
+    ensures fault { IfErr result (IsFault (Spec.Means B.wording text.now)) }
 {
     if text.is_empty() || text.starts_with('#') {
         return Ok(Part::Nothing);
     }
     match text.strip_prefix("  TEXT ") {
-        Some(behind) => match typed(alloc, behind) {
-            Ok(elements) => Ok(Part::Elements(List::of(elements))),
+        Some(behind) => match typed::<B>(alloc, behind) {
+            Ok(units) => Ok(Part::Units(List::of(units))),
             Err(fault) => Err(fault),
         },
         None => match words_of(alloc, text) {
-            Ok(words) => read_words(alloc, words.as_slice()),
+            Ok(words) => read_words::<B>(alloc, words.as_slice()),
             Err(_) => Err(LineFault::Memory),
         },
     }
 }
 
 // What the words of a line say.
-fn read_words(alloc: Global, words: &[&str]) -> Result<Part, LineFault>
-    ensures ok { IfOk result (Spec.IsWorded (map (λ w. w.now) words.now)) }
-    ensures fault { IfErr result (IsFault (Spec.IsWorded (map (λ w. w.now) words.now))) }
+fn read_words<B: Worded>(alloc: Global, words: &[&str]) -> Result<Part<B::Unit>, LineFault>
+    ensures ok { IfOk result (Spec.IsWorded B.wording (map (λ w. w.now) words.now)) }
+    ensures fault { IfErr result (IsFault (Spec.IsWorded B.wording (map (λ w. w.now) words.now))) }
 {
     match indented(words) {
-        Some((name, rest)) => match read_elements(alloc, name, rest) {
-            Ok(elements) => Ok(Part::Elements(List::of(elements))),
+        Some((name, rest)) => match read_units::<B>(alloc, name, rest) {
+            Ok(units) => Ok(Part::Units(List::of(units))),
             Err(fault) => Err(fault),
         },
         None => match read_item(behind_place(words)) {
@@ -110,52 +109,56 @@ fn is_place(word: &str) -> bool
     !word.starts_with('+') && word.parse::<u64>().is_ok()
 }
 
-// The elements of a name and the words behind it.
-fn read_elements(alloc: Global, name: &str, words: &[&str]) -> Result<Vec<Element>, LineFault>
-    ensures ok { IfOk result (λ elements.
-        Spec.AreElements name.now (map (λ w. w.now) words.now) elements.items) }
+// The units of a name and the words behind it.
+fn read_units<B: Worded>(
+    alloc: Global,
+    name: &str,
+    words: &[&str],
+) -> Result<Vec<B::Unit>, LineFault>
+    ensures ok { IfOk result (λ units.
+        Spec.AreUnits B.wording name.now (map (λ w. w.now) words.now) units.items) }
     ensures fault { IfErr result
-        (IsFault (Spec.AreElements name.now (map (λ w. w.now) words.now))) }
+        (IsFault (Spec.AreUnits B.wording name.now (map (λ w. w.now) words.now))) }
 {
-    if name == "PUT" {
+    if name == B::bytes_name() {
         if words.len() != 1 {
             return Err(LineFault::Bad);
         }
-        return read_run(alloc, words[0]);
+        return read_run::<B>(alloc, words[0]);
     }
-    match read_element(name, words) {
-        Some(element) => alone(alloc, element),
+    match B::read_unit(name, words) {
+        Some(unit) => alone(alloc, unit),
         None => Err(LineFault::Bad),
     }
 }
 
-// A run of bytes for cells, in hex.
-fn read_run(alloc: Global, hex: &str) -> Result<Vec<Element>, LineFault>
-    ensures ok { IfOk result (λ elements. Spec.IsRun hex.now elements.items) }
-    ensures fault { IfErr result (IsFault (Spec.IsRun hex.now)) }
+// A run of bytes, in hex.
+fn read_run<B: Worded>(alloc: Global, hex: &str) -> Result<Vec<B::Unit>, LineFault>
+    ensures ok { IfOk result (λ units. Spec.IsRun B.wording hex.now units.items) }
+    ensures fault { IfErr result (IsFault (Spec.IsRun B.wording hex.now)) }
 {
     match read_hex(alloc, hex) {
-        Ok(bytes) => puts_of(alloc, bytes.as_slice()),
+        Ok(bytes) => run_of::<B>(alloc, bytes.as_slice()),
         Err(fault) => Err(fault),
     }
 }
 
-// The list of one element.
-fn alone(alloc: Global, element: Element) -> Result<Vec<Element>, LineFault>
-    ensures ok { IfOk result (λ elements. elements.items ≡ element ∷ []) }
+// The list of one unit.
+fn alone<U: Drop>(alloc: Global, unit: U) -> Result<Vec<U>, LineFault>
+    ensures ok { IfOk result (λ units. units.items ≡ unit ∷ []) }
     ensures fault { IfErr result (λ fault. fault ≡ LineFault.Memory) }
 {
-    let mut elements = Vec::new(alloc);
-    match elements.push(element) {
-        Ok(()) => Ok(elements),
+    let mut units = Vec::new(alloc);
+    match units.push(unit) {
+        Ok(()) => Ok(units),
         Err(_) => Err(LineFault::Memory),
     }
 }
 
 // An item that a line begins.
-fn read_item(words: &[&str]) -> Option<Part>
+fn read_item<U>(words: &[&str]) -> Option<Part<U>>
     ensures { MatchOption result
-        ((says : APart) → Spec.IsItemLine (map (λ w. w.now) words.now) says → ⊥)
+        ((says : APart U) → Spec.IsItemLine (map (λ w. w.now) words.now) says → ⊥)
         (Spec.IsItemLine (map (λ w. w.now) words.now)) }
 {
     match words {

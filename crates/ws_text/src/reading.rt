@@ -3,43 +3,41 @@ ghost use Rattle.ws_code.specs.Code.{IsChain, spelling_of};
 ghost use Rattle.ws_record.specs.Encode.{CanBeEncoded};
 ghost use Rattle.ws_record.specs.declared.record.Item.{Item as AnItem};
 ghost use Rattle.ws_record.specs.declared.record.Item.TheVariants as an_item;
-ghost use Rattle.ws_stream.specs.Elements.{element_rules};
-ghost use Rattle.ws_stream.specs.declared.element.Element.{Element as AnElement};
 ghost use Rattle.ws_text.specs.Items.{Adds, with_more};
 ghost use Rattle.ws_text.specs.Reading.{Follows, IsSound, AreSound, record_of, so_far};
 
 use crate::fault::LineFault;
 use crate::line::Part;
+use crate::worded::Worded;
 use arrayvec::ArrayVec;
 use std::alloc::Global;
-use ws_code::{Body, Code, List};
+use ws_code::{Body, List};
 use ws_record::{Item, Opcode, Record};
-use ws_stream::{Commands, Element, Place};
 
 /// The bytes that a record has for its body (RFC 1205, section 3).
 const MOST_BYTES: usize = 65_525;
 
-/// A record to which elements may be added.
+/// A record to which units may be added.
 #[derive(Drop)]
-pub struct OpenRecord {
+pub struct OpenRecord<P, U> {
     pub flags: u16,
     pub opcode: Opcode,
-    pub body: Vec<Element>,
-    pub place: Place,
+    pub body: Vec<U>,
+    pub place: P,
     pub size: usize,
 }
 
 /// The items so far, the last of which may be open.
 #[derive(Drop)]
-pub struct Reading {
-    pub items: Vec<Item<Element>>,
-    pub last: Option<OpenRecord>,
+pub struct Reading<P, U> {
+    pub items: Vec<Item<U>>,
+    pub last: Option<OpenRecord<P, U>>,
 }
 
 /// No items so far.
-pub fn start(alloc: Global) -> Reading
+pub fn start<B: Body>(alloc: Global) -> Reading<B::Place, B::Unit>
     ensures none { so_far result ≡ [] }
-    ensures sound { AreSound result }
+    ensures sound { AreSound B.rules result }
 {
     Reading {
         items: Vec::new(alloc),
@@ -48,19 +46,23 @@ pub fn start(alloc: Global) -> Reading
 }
 
 /// The items with what a line says.
-pub fn add(alloc: Global, reading: Reading, part: Part) -> Result<Reading, LineFault>
-    requires { AreSound reading }
-    ensures sound { IfOk result AreSound }
-    ensures added { IfOk result (λ new. Adds part (so_far reading) (so_far new)) }
+pub fn add<B: Worded>(
+    alloc: Global,
+    reading: Reading<B::Place, B::Unit>,
+    part: Part<B::Unit>,
+) -> Result<Reading<B::Place, B::Unit>, LineFault>
+    requires { AreSound B.rules reading }
+    ensures sound { IfOk result (AreSound B.rules) }
+    ensures added { IfOk result (λ new. Adds B.rules part (so_far reading) (so_far new)) }
     ensures fault { IfErr result (λ fault. fault ≡ LineFault.Bad
-        → (to : Seq (AnItem AnElement)) → Adds part (so_far reading) to → ⊥) }
+        → (to : Seq (AnItem B.Unit)) → Adds B.rules part (so_far reading) to → ⊥) }
 {
     match part {
         Part::Nothing => Ok(reading),
         Part::Head { flags, opcode } => match finish(reading) {
             Ok(items) => Ok(Reading {
                 items,
-                last: Some(begin(alloc, flags, opcode)),
+                last: Some(begin::<B>(alloc, flags, opcode)),
             }),
             Err(fault) => Err(fault),
         },
@@ -71,10 +73,10 @@ pub fn add(alloc: Global, reading: Reading, part: Part) -> Result<Reading, LineF
             },
             Err(fault) => Err(fault),
         },
-        Part::Elements(elements) => {
+        Part::Units(units) => {
             let Reading { items, last } = reading;
             match last {
-                Some(record) => match extended(record, elements.into_inner()) {
+                Some(record) => match extended::<B>(record, units.into_inner()) {
                     Ok(record) => Ok(Reading {
                         items,
                         last: Some(record),
@@ -88,7 +90,7 @@ pub fn add(alloc: Global, reading: Reading, part: Part) -> Result<Reading, LineF
 }
 
 /// The items so far.
-pub fn finish(reading: Reading) -> Result<Vec<Item<Element>>, LineFault>
+pub fn finish<P: Copy, U: Drop>(reading: Reading<P, U>) -> Result<Vec<Item<U>>, LineFault>
     ensures ok { IfOk result (λ items. items.items ≡ so_far reading) }
     ensures fault { IfErr result (λ fault. fault ≡ LineFault.Memory) }
 {
@@ -107,7 +109,7 @@ pub fn finish(reading: Reading) -> Result<Vec<Item<Element>>, LineFault>
 }
 
 // The items and one more.
-fn pushed(items: Vec<Item<Element>>, item: Item<Element>) -> Result<Vec<Item<Element>>, LineFault>
+fn pushed<U: Drop>(items: Vec<Item<U>>, item: Item<U>) -> Result<Vec<Item<U>>, LineFault>
     ensures ok { IfOk result (λ new. new.items ≡ items.items ++ item ∷ []) }
     ensures fault { IfErr result (λ fault. fault ≡ LineFault.Memory) }
 {
@@ -118,31 +120,34 @@ fn pushed(items: Vec<Item<Element>>, item: Item<Element>) -> Result<Vec<Item<Ele
     }
 }
 
-// A record without elements.
-fn begin(alloc: Global, flags: u16, opcode: Opcode) -> OpenRecord
-    ensures sound { IsSound result }
+// A record without units.
+fn begin<B: Body>(alloc: Global, flags: u16, opcode: Opcode) -> OpenRecord<B::Place, B::Unit>
+    ensures sound { IsSound B.rules result }
     ensures empty { record_of result ≡ record { flags = flags; opcode = opcode; body = [] } }
 {
     OpenRecord {
         flags,
         opcode,
         body: Vec::new(alloc),
-        place: Commands::first(),
+        place: B::first(),
         size: 0,
     }
 }
 
-// The record with elements behind its own.
-fn extended(begun: OpenRecord, elements: Vec<Element>) -> Result<OpenRecord, LineFault>
-    requires { IsSound begun }
-    ensures sound { IfOk result IsSound }
-    ensures more { IfOk result (λ new. record_of new ≡ with_more (record_of begun) elements.items) }
+// The record with units behind its own.
+fn extended<B: Worded>(
+    begun: OpenRecord<B::Place, B::Unit>,
+    units: Vec<B::Unit>,
+) -> Result<OpenRecord<B::Place, B::Unit>, LineFault>
+    requires { IsSound B.rules begun }
+    ensures sound { IfOk result (IsSound B.rules) }
+    ensures more { IfOk result (λ new. record_of new ≡ with_more (record_of begun) units.items) }
     ensures encoded { IfOk result (λ new.
-        CanBeEncoded element_rules (an_item.Record (record_of new))) }
+        CanBeEncoded B.rules (an_item.Record (record_of new))) }
     ensures fault { IfErr result (λ fault. fault ≡ LineFault.Bad
-        → CanBeEncoded element_rules (an_item.Record (with_more (record_of begun) elements.items)) → ⊥) }
+        → CanBeEncoded B.rules (an_item.Record (with_more (record_of begun) units.items)) → ⊥) }
 {
-    match follow(begun.place, begun.size, elements.as_slice()) {
+    match follow::<B>(begun.place, begun.size, units.as_slice()) {
         Some((place, size)) => {
             let OpenRecord {
                 flags,
@@ -151,8 +156,8 @@ fn extended(begun: OpenRecord, elements: Vec<Element>) -> Result<OpenRecord, Lin
                 ..
             } = begun;
             let mut body = body;
-            let mut elements = elements;
-            match body.append(&mut elements) {
+            let mut units = units;
+            match body.append(&mut units) {
                 Ok(()) => Ok(OpenRecord {
                     flags,
                     opcode,
@@ -167,28 +172,28 @@ fn extended(begun: OpenRecord, elements: Vec<Element>) -> Result<OpenRecord, Lin
     }
 }
 
-// Where the next element stands behind these, and how many bytes a body of so many has with them.
-fn follow(place: Place, size: usize, elements: &[Element]) -> Option<(Place, usize)>
+// Where the next unit stands behind these, and how many bytes a body of so many has with them.
+fn follow<B: Body>(place: B::Place, size: usize, units: &[B::Unit]) -> Option<(B::Place, usize)>
     requires { size ≤ 65525 }
     ensures { MatchOption result
-        (IsChain element_rules place elements.now
-        → size + length (spelling_of element_rules elements.now) ≤ 65525 → ⊥)
-        (λ end. Follows place size elements.now end.0 end.1) }
+        (IsChain B.rules place units.now
+        → size + length (spelling_of B.rules units.now) ≤ 65525 → ⊥)
+        (λ end. Follows B.rules place size units.now end.0 end.1) }
 {
     let mut next = place;
     let mut total = size;
     let mut spelling = ArrayVec::new();
-    for element in elements {
-        if !Commands::may_follow(next, element) {
+    for unit in units {
+        if !B::may_follow(next, unit) {
             return None;
         }
-        Commands::known(element);
-        Commands::spell(element, &mut spelling);
+        B::known(unit);
+        B::spell(unit, &mut spelling);
         total += spelling.len();
         if total > MOST_BYTES {
             return None;
         }
-        next = Commands::after(element);
+        next = B::after(unit);
     }
     Some((next, total))
 }

@@ -4,4 +4,4 @@ use Rattle.t5250.proofs.make.hex_lines.Given as goal
 
 -- the lines of the items so far
 abbrev pub invariant-loop-item : goal.invariant-loop-item
-invariant-loop-item l = l.text.items ≡ made_text (take l.item-index l.items)
+invariant-loop-item g l = l.text.items ≡ made_text g.B.Code.rules (take l.item-index l.items)

@@ -4,19 +4,19 @@ use Rattle.ws_text.proofs.ItemWords.{no_record}
 use Rattle.ws_text.proofs.line.read_item.Goals as goal
 
 pub returns-in_err-flags-in-len1-up : goal.returns-in_err-flags-in-len1-up
-returns-in_err-flags-in-len1-up c =
+returns-in_err-flags-in-len1-up g c =
     let cut = behind_one no_word c.args.words.now c.in-len1-up.len_at_least in
     rw c.from_residual.ensures
     (no_record (texts c.args.words.now) _ _ cut (same_text _ _ c.eq.result c.eq.ensures c.if-eq.true)
     c.in_err-flags-in-len1-up.ensures)
 
 pub returns-in_ok-flags-in-len1-up : goal.returns-in_ok-flags-in-len1-up
-returns-in_ok-flags-in-len1-up c =
+returns-in_ok-flags-in-len1-up g c =
     let cut = behind_one no_word c.args.words.now c.in-len1-up.len_at_least in
     (_, with_head _ _ _ _ cut (same_text _ _ c.eq.result c.eq.ensures c.if-eq.true), c.in_ok-flags-in-len1-up.ensures)
 
 pub returns-in_ok-read_telnet-in-len2-up : goal.returns-in_ok-read_telnet-in-len2-up
-returns-in_ok-read_telnet-in-len2-up c =
+returns-in_ok-read_telnet-in-len2-up g c =
     let cut = behind_two no_word c.args.words.now c.in-len2-up.len_at_least in (
       _,
       _,

@@ -6,13 +6,18 @@ use Rattle.ws_text.proofs.LineWords.{fault_on}
 use Rattle.ws_text.proofs.line.read_line.Goals as goal
 
 pub returns-clause-ok : goal.returns-clause-ok
-returns-clause-ok c = IfOk-weaker c.read_text.result _ _
-    (λ says h. (c.in-Ok.ensures.cases.1, subst (λ (z : List ℕ). Means z says) c.in-Ok.ensures.cases.0 h))
+returns-clause-ok g c = IfOk-weaker c.read_text.result _ _
+    (λ says h. (
+      c.in-Ok.ensures.cases.1,
+      subst (λ
+          (z : List ℕ). Means g.B.Worded.wording z says) c.in-Ok.ensures.cases.0 h,
+    ))
     c.read_text.ensures.ok
 
 pub returns-clause-fault : goal.returns-clause-fault
-returns-clause-fault c =
-    IfErr-weaker c.read_text.result _ (IsFault (IsLine c.args.line.now))
-    (λ fault h. fault_on _ (IsLine c.args.line.now) fault
-    (λ bad says l. bad says (subst (λ (z : List ℕ). Means z says) (sym c.in-Ok.ensures.cases.0) l.1)) h)
+returns-clause-fault g c =
+    IfErr-weaker c.read_text.result _ (IsFault (IsLine g.B.Worded.wording c.args.line.now))
+    (λ fault h. fault_on _ (IsLine g.B.Worded.wording c.args.line.now) fault
+    (λ bad says l. bad says (subst (λ (z : List ℕ). Means g.B.Worded.wording z says)
+    (sym c.in-Ok.ensures.cases.0) l.1)) h)
     c.read_text.ensures.fault

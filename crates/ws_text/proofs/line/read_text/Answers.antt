@@ -15,7 +15,7 @@ use Rattle.ws_text.proofs.line.read_text.Goals.{then-is_empty-via-then-is_empty}
 use Rattle.ws_text.proofs.line.read_text.Goals.{then-is_empty-via-else-is_empty+then-starts_with}
 
 pub returns-then-is_empty-clause-ok : goal.returns-then-is_empty-clause-ok
-returns-then-is_empty-clause-ok c = elim c.then-is_empty.branch [
+returns-then-is_empty-clause-ok g c = elim c.then-is_empty.branch [
   | then-is_empty-via-then-is_empty w ↦ empty
       (is_nil_by c.args.text.now c.is_empty.result c.is_empty.ensures w.if-is_empty.true) refl
   | then-is_empty-via-else-is_empty+then-starts_with w ↦ comment (drop 1 c.args.text.now)
@@ -25,28 +25,29 @@ returns-then-is_empty-clause-ok c = elim c.then-is_empty.branch [
 ]
 
 pub returns-in-Ok-clause-ok : goal.returns-in-Ok-clause-ok
-returns-in-Ok-clause-ok c =
+returns-in-Ok-clause-ok g c =
     typed _ _ (stripped (codes "  TEXT ") c.args.text.now c.strip_prefix.result c.in-Some.behind
-    c.strip_prefix.ensures.cases c.in-Some.is) c.in-Ok.ensures.ok (ap (λ z. part.Elements z) c.of.ensures)
+    c.strip_prefix.ensures.cases c.in-Some.is) c.in-Ok.ensures.ok (ap (λ z. part.Units z) c.of.ensures)
 
 pub returns-in-Err-clause-fault : goal.returns-in-Err-clause-fault
-returns-in-Err-clause-fault c =
-    fault_on _ (Means c.args.text.now) c.in-Err.fault
-    (no_typed_line c.args.text.now c.in-Some.behind.now
+returns-in-Err-clause-fault g c =
+    fault_on _ (Means g.B.Worded.wording c.args.text.now) c.in-Err.fault
+    (no_typed_line g.B.Worded.wording g.met.B.Worded.clear c.args.text.now c.in-Some.behind.now
     (stripped (codes "  TEXT ") c.args.text.now c.strip_prefix.result c.in-Some.behind c.strip_prefix.ensures.cases
     c.in-Some.is)) c.in-Err.ensures.fault
 
 pub returns-in-Ok-words_of-clause-ok : goal.returns-in-Ok-words_of-clause-ok
-returns-in-Ok-words_of-clause-ok c =
+returns-in-Ok-words_of-clause-ok g c =
     IfOk-weaker c.read_words.result _ _
-    (λ says h. worded (subst (λ (z : List (List ℕ)). IsWorded z says)
+    (λ says h. worded (subst (λ (z : List (List ℕ)). IsWorded g.B.Worded.wording z says)
     (ap texts c.as_slice.ensures.value ∙ c.in-Ok-words_of.ensures) h)) c.read_words.ensures.ok
 
 pub returns-in-Ok-words_of-clause-fault : goal.returns-in-Ok-words_of-clause-fault
-returns-in-Ok-words_of-clause-fault c =
-    IfErr-weaker c.read_words.result _ (IsFault (Means c.args.text.now))
-    (λ fault h. fault_on _ (Means c.args.text.now) fault
-    (no_worded c.args.text.now (not_nil_by c.args.text.now c.is_empty.result c.is_empty.ensures c.if-is_empty.false)
+returns-in-Ok-words_of-clause-fault g c =
+    IfErr-weaker c.read_words.result _ (IsFault (Means g.B.Worded.wording c.args.text.now))
+    (λ fault h. fault_on _ (Means g.B.Worded.wording c.args.text.now) fault
+    (no_worded g.B.Worded.wording c.args.text.now
+    (not_nil_by c.args.text.now c.is_empty.result c.is_empty.ensures c.if-is_empty.false)
     (no_hash c.args.text.now
     (not_from_Decides c.starts_with.result
     (starts_char 35 c.args.text.now c.starts_with.result c.starts_with.ensures.cases (lit< tt) (lit< tt))

@@ -1,5 +1,5 @@
 use Rattle.std.proofs.Common.{◌≡◌, refl, sym, ap, ◌∙◌}
-use Rattle.ws_text.specs.TextLines.{AreElements, IsWorded}
+use Rattle.ws_text.specs.TextLines.{IsWorded}
 use Rattle.ws_text.specs.TextLines.IsWorded.{item, indented}
 use Rattle.ws_text.proofs.Lists.{texts}
 use Rattle.ws_text.proofs.LineWords.{fault_on, no_indented, no_item}
@@ -7,12 +7,12 @@ use Rattle.ws_text.specs.declared.line.Part.TheVariants as part
 use Rattle.ws_text.proofs.line.read_words.Goals as goal
 
 pub returns-in-Ok-clause-ok : goal.returns-in-Ok-clause-ok
-returns-in-Ok-clause-ok c = indented _ _ _ c.in-Some.ensures c.in-Ok.ensures.ok (ap (λ z. part.Elements z) c.of.ensures)
+returns-in-Ok-clause-ok g c = indented _ _ _ c.in-Some.ensures c.in-Ok.ensures.ok (ap (λ z. part.Units z) c.of.ensures)
 
 pub returns-in-Err-clause-fault : goal.returns-in-Err-clause-fault
-returns-in-Err-clause-fault c =
-    fault_on _ (IsWorded (texts c.args.words.now)) c.in-Err.fault
-    (no_indented (texts c.args.words.now) _ _ c.in-Some.ensures) c.in-Err.ensures.fault
+returns-in-Err-clause-fault g c =
+    fault_on _ (IsWorded g.B.Worded.wording (texts c.args.words.now)) c.in-Err.fault
+    (no_indented g.B.Worded.wording (texts c.args.words.now) _ _ c.in-Some.ensures) c.in-Err.ensures.fault
 
 pub returns-in-Some-read_item-clause-ok : goal.returns-in-Some-read_item-clause-ok
-returns-in-Some-read_item-clause-ok c = item _ c.behind_place.ensures c.in-Some-read_item.ensures
+returns-in-Some-read_item-clause-ok g c = item _ c.behind_place.ensures c.in-Some-read_item.ensures

@@ -1,27 +1,33 @@
-use Rattle.std.proofs.Common.{◌≡◌, ◌⊎◌, inl, inr, ℕ, ◌+◌, ◌-◌, ◌*◌, List, [], ◌∷◌, ◌++◌, length, map, refl, sym, ap}
-use Rattle.std.proofs.Common.{subst, ◌∙◌, arith}
-use Rattle.std.specs.Prelude.{codes, Option, Some, None, Ok}
-use Rattle.std.specs.Str.{chars}
+-- Words say one thing.
+
+use Rattle.std.specs.Prelude.{◌≡◌, ℕ, List, [], ◌∷◌, Option, Some, codes, length, get_or}
+use Rattle.std.proofs.Common.{inl, inr, sym, ap, subst, ◌∙◌, arith}
 use Rattle.hex.proofs.HexLemmas.{decode_of-same}
-use Rattle.ws_code.specs.Ebcdic.{byte_of}
 use Rattle.ws_code.specs.Address.{place_of}
-use Rattle.ws_stream.specs.FieldOrder.{FieldOrder}
+use Rattle.ws_stream.specs.declared.answer_part.AnswerPart.{AnswerPart}
+use Rattle.ws_stream.specs.declared.answer_part.AnswerPart.TheVariants.{Head, Byte, At}
 use Rattle.ws_stream.specs.declared.element.Element.{Element}
 use Rattle.ws_stream.specs.declared.element.Element.TheVariants as element
 use Rattle.ws_text.specs.declared.kind.Kind.{Kind}
 use Rattle.ws_text.specs.declared.kind.Kind.TheVariants.{ClearUnit, ClearFormat, Write, ReadInput, ReadMdt}
 use Rattle.ws_text.specs.declared.kind.Kind.TheVariants.{ReadMdtAlternate, Soh, Ra, Ea, Sba, Ic, Mc, Sf}
 use Rattle.ws_text.specs.Names.{look_up, kinds}
-use Rattle.ws_text.specs.Words.{IsNumber, IsSmall, IsHex, IsHexByte, IsCell}
-use Rattle.ws_text.specs.ElementWords.{AreControls, AreBytes, ArePlace, AreFill, AreRepeat, AreErase, AreField, Says}
+use Rattle.ws_text.specs.Words.{IsSmall, IsHex, IsHexByte, IsCell}
+use Rattle.ws_text.specs.ElementWords.{AreControls, AreBytes, ArePlace, AreFill, AreRepeat, AreErase, Says}
 use Rattle.ws_text.specs.ElementWords.{IsOneElement}
-use Rattle.ws_text.specs.TextLines.{ArePuts, IsRun, AreElements, AreTyped}
-use Rattle.ws_text.specs.TextLines.AreElements.{one, run}
-use Rattle.ws_text.proofs.Lists.{head_of, tail_of}
-use Rattle.ws_text.proofs.FieldWords.{byte_same, one_field}
-use Rattle.ws_text.proofs.ItemWords.{put_is_no_kind}
+use Rattle.ws_text.specs.ElementWords.{element_wording}
+use Rattle.ws_text.specs.AnswerWords.{IsOnePart, answer_wording}
+use Rattle.ws_text.specs.FieldLaws.{byte_same, one_field}
+use Rattle.ws_text.specs.Wording.{IsClear}
 
--- Words say one thing.
+-- the first word, and what stands behind it
+abbrev pub head_of : List (List ℕ) → List ℕ
+head_of [] = []
+head_of (word ∷ words) = word
+
+abbrev pub tail_of : List (List ℕ) → List (List ℕ)
+tail_of [] = []
+tail_of (word ∷ words) = words
 
 pub small_same : (word : List ℕ) (m n : ℕ) → IsSmall word m → IsSmall word n → m ≡ n
 small_same word m n a b = a.0.2 ∙ sym b.0.2
@@ -121,25 +127,51 @@ one_same name words e f a b =
     let kind = some_same a.0 b.0 (look_up name kinds) a.1 b.1 in
     says_same b.0 words e f (subst (λ (z : Kind). Says z words e) kind a.2) b.2
 
-pub elements_same : (name : List ℕ) (words : List (List ℕ)) (es fs : List Element) → AreElements name words es
-    → AreElements name words fs → es ≡ fs
-elements_same name words es fs (one e a p) (one f b q) = p ∙ ap (λ z. z ∷ []) (one_same name words e f a b) ∙ sym q
-elements_same name words es fs (one e a p) (run hex n w r) = absurd (put_is_no_kind name words e n a)
-elements_same name words es fs (run hex n w r) (one f b q) = absurd (put_is_no_kind name words f n b)
-elements_same name words es fs (run x n w r) (run y m v s) =
-    let hex : x ≡ y = ap head_of (sym w ∙ v) in
-    let bytes = hex_same y r.0 s.0 (subst (λ (z : List ℕ). IsHex z r.0) hex r.1) s.1 in
-    r.2.1 ∙ ap (λ z. map (λ b. element.Put b) z) bytes ∙ sym s.2.1
+-- those of a host's commands and orders
+text_is_no_kind : (words : List (List ℕ)) (e : Element) → IsOneElement (codes "TEXT") words e → ⊥
+text_is_no_kind words e h = cc h.1
 
-somes_same : (m n : List ℕ) → map (λ b. Some b) m ≡ map (λ b. Some b) n → m ≡ n
-somes_same [] [] e = refl
-somes_same [] (y ∷ n) e = cc e
-somes_same (x ∷ m) [] e = cc e
-somes_same (x ∷ m) (y ∷ n) e =
-    let firsts : x ≡ y = cc in
-    let rests : map (λ b. Some b) m ≡ map (λ b. Some b) n = cc in
-    ap (λ z. z ∷ m) firsts ∙ ap (λ z. y ∷ z) (somes_same m n rests)
+put_is_no_kind : (words : List (List ℕ)) (e : Element) → IsOneElement (codes "PUT") words e → ⊥
+put_is_no_kind words e h = cc h.1
 
-pub typed_same : (text : List ℕ) (es fs : List Element) → AreTyped text es → AreTyped text fs → es ≡ fs
-typed_same text es fs a b =
-    a.puts.1 ∙ ap (λ z. map (λ x. element.Put x) z) (somes_same a.bytes b.bytes (sym a.typed ∙ b.typed)) ∙ sym b.puts.1
+pub elements_clear : IsClear element_wording
+elements_clear = record {
+  no_text = text_is_no_kind;
+  no_bytes = put_is_no_kind;
+  apart = λ e. omega (arith, ap length e);
+  one = one_same;
+}
+
+-- those of a station's answers
+first_byte : (a b : List ℕ) → (get_or a 0 0 ≡ get_or b 0 0 → ⊥) → a ≡ b → ⊥
+first_byte a b h e = h (ap (λ z. get_or z 0 0) e)
+
+text_is_no_part : (words : List (List ℕ)) (u : AnswerPart) → IsOnePart (codes "TEXT") words u → ⊥
+text_is_no_part words (Head cursor aid) h = first_byte (codes "TEXT") (codes "HEAD") (λ e. omega (arith, e)) h.0
+text_is_no_part words (At place) h = omega (arith, ap length h.0)
+text_is_no_part words (Byte byte) h = h
+
+bytes_is_no_part : (words : List (List ℕ)) (u : AnswerPart) → IsOnePart (codes "BYTES") words u → ⊥
+bytes_is_no_part words (Head cursor aid) h = omega (arith, ap length h.0)
+bytes_is_no_part words (At place) h = omega (arith, ap length h.0)
+bytes_is_no_part words (Byte byte) h = h
+
+one_part : (name : List ℕ) (words : List (List ℕ)) (u v : AnswerPart) → IsOnePart name words u → IsOnePart name words v
+    → u ≡ v
+one_part name words (Head p x) (Head q y) a b =
+    let fills = fill_same words p q a.1.0 b.1.0 a.1.1 b.1.1 in
+    let key = byte_same b.1.0 x y (subst (λ (z : List ℕ). IsHexByte z x) fills.1 a.1.2) b.1.2 in
+    ap (λ n. Head n x) fills.0 ∙ ap (λ n. Head q n) key
+one_part name words (Head p x) (At q) a b = absurd (omega (arith, ap length (sym a.0 ∙ b.0)))
+one_part name words (At p) (Head q y) a b = absurd (omega (arith, ap length (sym b.0 ∙ a.0)))
+one_part name words (At p) (At q) a b = ap (λ n. At n) (place_same words p q a.1 b.1)
+one_part name words (Byte x) v a b = absurd a
+one_part name words u (Byte y) a b = absurd b
+
+pub answers_clear : IsClear answer_wording
+answers_clear = record {
+  no_text = text_is_no_part;
+  no_bytes = bytes_is_no_part;
+  apart = λ e. omega (arith, ap length e);
+  one = one_part;
+}

@@ -1,0 +1,115 @@
+use Rattle.std.proofs.Common.{◌≡◌, ℕ, ◌+◌, ◌/◌, ◌%◌, List, [], ◌∷◌, ◌++◌, refl, sym, ap, ◌∙◌, arith, append_assoc}
+use Rattle.std.specs.Prelude.{codes}
+use Rattle.std.specs.List.{AllByRecursion, flat_map, join_with_byte}
+use Rattle.std.specs.Fmt.{decimal}
+use Rattle.hex.specs.Hex.{encode_upper}
+use Rattle.ws_code.specs.declared.address.TheConstants.{COLUMNS}
+use Rattle.ws_record.specs.declared.record.Item.{Item}
+use Rattle.ws_stream.specs.AnswerParts.{answer_rules, IsPart}
+use Rattle.ws_stream.specs.declared.answer_part.AnswerPart.{AnswerPart}
+use Rattle.ws_stream.specs.declared.answer_part.AnswerPart.TheVariants.{Head, Byte, At}
+use Rattle.ws_text.specs.AnswerLines.{answer_text, part_text, run_line, runs_of, runs_with}
+use Rattle.ws_text.specs.AnswerWords.{answer_wording}
+use Rattle.ws_text.specs.Items.{AreItems}
+use Rattle.ws_text.specs.Shown.{ShowsAnswers}
+use Rattle.ws_text.specs.TextLines.{AreUnits}
+use Rattle.ws_text.specs.TextLines.AreUnits.{one, run}
+use Rattle.ws_text.specs.Wording.{Run}
+use Rattle.ws_text.specs.Wording.Run.{Bytes, Other}
+use Rattle.ws_text.proofs.ShownBytes.{AreFrom, AreWords, literal}
+use Rattle.ws_text.proofs.ShownNumbers.{cell_back, row_from, column_from, hex_back, byte_back, byte_from}
+use Rattle.ws_text.proofs.ShownLines.{Printed, run_units, IsRunRight}
+use Rattle.ws_text.proofs.ShownItems.{all_shown_read}
+
+-- Printed parts of answers are read back.
+
+-- the name of a printed part, and the words behind it
+abbrev part_name : AnswerPart → List ℕ
+part_name (Head cursor aid) = codes "HEAD"
+part_name (At place) = codes "AT"
+part_name (Byte byte) = codes "BYTES"
+
+abbrev cell_words : ℕ → List (List ℕ) → List (List ℕ)
+cell_words place more = decimal (place / COLUMNS + 1) ∷ decimal (place % COLUMNS + 1) ∷ more
+
+abbrev part_rest : AnswerPart → List (List ℕ)
+part_rest (Head cursor aid) = cell_words cursor (encode_upper (aid ∷ []) ∷ [])
+part_rest (At place) = cell_words place []
+part_rest (Byte byte) = encode_upper (byte ∷ []) ∷ []
+
+-- their line
+part_joined : (u : AnswerPart) → join_with_byte 32 (part_name u ∷ part_rest u) ≡ part_text u
+part_joined (Head cursor aid) = ap (λ z. codes "HEAD " ++ z) (sym (simp append_assoc))
+part_joined (At place) = ap (λ z. codes "AT " ++ z)
+    (sym (append_assoc (decimal (place / COLUMNS + 1)) (32 ∷ []) (decimal (place % COLUMNS + 1))))
+part_joined (Byte byte) = refl
+
+-- each word is printed
+name_from : (u : AnswerPart) → AreFrom 33 (part_name u)
+name_from (Head cursor aid) = literal (codes "HEAD") refl
+name_from (At place) = literal (codes "AT") refl
+name_from (Byte byte) = literal (codes "BYTES") refl
+
+rest_from : (u : AnswerPart) → IsPart u → AreWords (part_rest u)
+rest_from (Head cursor aid) h = (row_from cursor h.0, (column_from cursor, (byte_from aid h.1.0, tt)))
+rest_from (At place) h = (row_from place h, (column_from place, tt))
+rest_from (Byte byte) h = (byte_from byte h.0, tt)
+
+-- and they say the part
+part_back : (u : AnswerPart) → IsPart u → AreUnits answer_wording (part_name u) (part_rest u) (u ∷ [])
+part_back (Head cursor aid) h =
+    one (Head cursor aid)
+    (refl, (encode_upper (aid ∷ []), (_, _, refl, cell_back cursor h.0), byte_back aid h.1.0, h.1)) refl
+part_back (At place) h = one (At place) (refl, (_, _, refl, cell_back place h)) refl
+part_back (Byte byte) h =
+    run (encode_upper (byte ∷ [])) refl refl (byte ∷ [], hex_back (byte ∷ []) (h.0, tt) (omega arith), ((h, tt), refl))
+
+-- their runs
+with_back : (u : AnswerPart) (runs : List (Run AnswerPart)) → flat_map (run_units answer_rules answer_wording)
+    (runs_with u runs) ≡ u ∷ flat_map (run_units answer_rules answer_wording) runs
+with_back (Byte b) [] = refl
+with_back (Byte b) (Bytes bytes ∷ runs) = refl
+with_back (Byte b) (Other u ∷ runs) = refl
+with_back u runs = refl
+
+runs_back : (us : List AnswerPart) → flat_map (run_units answer_rules answer_wording) (runs_of us) ≡ us
+runs_back [] = refl
+runs_back (u ∷ us) = with_back u (runs_of us) ∙ ap (λ z. u ∷ z) (runs_back us)
+
+abbrev AreRight : List (Run AnswerPart) → Type 0
+AreRight runs = AllByRecursion (IsRunRight answer_rules answer_wording) runs
+
+with_right : (u : AnswerPart) (runs : List (Run AnswerPart)) → IsPart u → AreRight runs → AreRight (runs_with u runs)
+with_right (Byte b) [] h r = ((omega arith, (h, tt)), tt)
+with_right (Byte b) (Bytes bytes ∷ runs) h r = ((omega arith, (h, r.0.1)), r.1)
+with_right (Byte b) (Other u ∷ runs) h r = ((omega arith, (h, tt)), r)
+with_right u runs h r = (h, r)
+
+runs_right : (us : List AnswerPart) → AllByRecursion IsPart us → AreRight (runs_of us)
+runs_right [] h = tt
+runs_right (u ∷ us) h = with_right u (runs_of us) h.0 (runs_right us h.1)
+
+answers_printed : Printed answer_rules answer_wording
+answers_printed = record {
+  name_of = part_name;
+  rest_of = part_rest;
+  name_from = name_from;
+  rest_from = rest_from;
+  says = part_back;
+  bytes_from = literal (codes "BYTES") refl;
+  runs_of = runs_of;
+  runs_back = runs_back;
+  runs_right = runs_right;
+  run_line = run_line;
+  bytes_joined = λ bytes. refl;
+  other_joined = λ u. ap (λ z. 10 ∷ 32 ∷ 32 ∷ z) (sym (part_joined u));
+  text_of = answer_text;
+  record_is = λ place r. refl;
+  telnet_is = λ place t. refl;
+}
+
+-- and so are the items
+pub shown_answers_read : (text : List ℕ) (items : List (Item AnswerPart)) → ShowsAnswers text items
+    → AreItems answer_rules answer_wording text items
+unfolding answers_printed
+shown_answers_read text items s = all_shown_read answer_rules (λ _. refl) answer_wording answers_printed text items s

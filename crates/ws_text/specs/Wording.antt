@@ -1,0 +1,29 @@
+-- How the units of a body are written in words.
+
+use Rattle.std.specs.Prelude.{◌≡◌, ◌≢◌, ℕ, List, true, codes}
+use Rattle.ws_code.specs.Code.{Rules}
+
+-- Bytes stand in runs, in hex behind a name or as characters. Any other unit has a name of its own, and words behind
+-- it.
+pub record Wording (U : Type 0) : Type 1 where
+  -- the name of a run of bytes, and the unit that a byte is
+  pub bytes : List ℕ
+  pub byte : ℕ → U
+  -- another unit, by its name and the words behind that
+  pub IsOne : List ℕ → List (List ℕ) → U → Type 0
+
+-- words say one thing: `TEXT` and the name of a run are no other unit's names, and a name with words says one unit
+pub record IsClear {U : Type 0} (w : Wording U) : Type 0 where
+  pub no_text : (words : List (List ℕ)) (u : U) → ¬ w.IsOne (codes "TEXT") words u
+  pub no_bytes : (words : List (List ℕ)) (u : U) → ¬ w.IsOne w.bytes words u
+  pub apart : w.bytes ≢ codes "TEXT"
+  pub one : (name : List ℕ) (words : List (List ℕ)) (u v : U) → w.IsOne name words u → w.IsOne name words v → u ≡ v
+
+-- a body that may end behind any unit, so that each line of it is right or wrong by itself
+abbrev pub EndsEverywhere : {Place U : Type 0} → Rules Place U → Type 0
+EndsEverywhere {Place} rules = (place : Place) → rules.may_end place ≡ true
+
+-- bytes one after another, or another unit by itself
+pub data Run (U : Type 0) : Type 0 where
+  Bytes : List ℕ → Run U
+  Other : U → Run U
