@@ -5,6 +5,7 @@ ghost use Rattle.ws_stream.specs.declared.answer_part.AnswerPart.{AnswerPart as 
 ghost use Rattle.ws_session.specs.HostLeads.{HostStands, HostLeads, IsSent, IsSendFault};
 ghost use Rattle.ws_session.specs.HostSide.{HostSide, RefusesSend, host_send, host_cancel, is_outstanding};
 
+use crate::apply::CANCEL;
 use crate::body::{body_spelling, is_too_big};
 use crate::{HostEnd, SendFault};
 use arrayvec::ArrayVec;
@@ -94,10 +95,7 @@ impl HostEnd {
             return Err(SendFault::NoReadToCancel);
         }
         self.cancelling = true;
-        let record = [
-            0x00, 0x0a, 0x12, 0xa0, 0x00, 0x00, 0x04, 0x00, 0x00, 0x0a, 0xff, 0xef,
-        ];
-        Ok(ArrayVec::from(record))
+        Ok(ArrayVec::from(CANCEL))
     }
 
     // Whether the body would disturb a read or a cancel.
