@@ -759,8 +759,11 @@ def sends_in_words():
 def sends_in_words_line_by_line():
     serve = Run(["serve", "--ready", "--wait", "10", "127.0.0.1:0"], "", keep_open=True)
     side = station_at(serve)
+    # A host end takes bytes while it waits.
+    serve.tell("await")
     negotiate_as_station(side)
-    expect(serve.asked("await"), "host ready IBM-3179-2\n", "await")
+    expect(serve.line(), "host ready IBM-3179-2\n", "await")
+    expect(serve.line(), "ok\n", "await")
     for line in SIGN_ON_WORDS.splitlines():
         serve.tell(line)
     # An empty line ends the record, and there is one `ok` for both.
