@@ -2,8 +2,6 @@
 use crate::calling::{Ended, ask, await_event, feed_piece, hear, screen_of, see, strike};
 use crate::end_rows::{BOB, BOB_ANSWER, OPENED, OPENING, PAST_END, record};
 use crate::{HostEnd, HostEvent, KeyFault, Refusal, Station};
-use std::alloc::Global;
-use std::process::Abort;
 use std::test::Fail;
 use ws_code::{Address, Aid, Fault, Reason, StuckSink, VecSink};
 use ws_keys::{Key, KeyRefusal};
@@ -47,35 +45,36 @@ fn pieces_give_items_and_a_screen(rt: HostRuntime) -> Result<(), Fail> {
     Ok(())
 }
 
-// A host end that has asked for the form, and the record that it sent.
-fn asked_host(rt: &impl Abort, alloc: Global) -> (HostEnd, Vec<u8>) {
+#[test]
+fn an_emulator_and_a_harness(rt: HostRuntime) -> Result<(), Fail> {
+    let alloc = rt.alloc();
     let mut host = HostEnd::new(alloc);
     host.open();
     let mut down = VecSink::new(alloc);
-    let heard = await_event(&mut host, OPENED, &mut down).expect(rt, "told");
-    let ready = HostEvent::Ready(TerminalType::Ibm3179Model2);
-    assert_eq!(rt; (heard.event, heard.used), (Some(ready), OPENED.len()));
-    let bob = record(rt, alloc, BOB);
-    let items = decode_all::<Commands>(alloc, bob.as_slice()).expect(rt, "a stream");
+    let heard = await_event(&mut host, OPENED, &mut down).expect(&rt, "told");
+    assert!(rt;
+        matches!(
+            heard.event,
+            Some(HostEvent::Ready(TerminalType::Ibm3179Model2))
+        )
+    );
+    assert_eq!(rt; heard.used, OPENED.len());
+
+    let bob = record(&rt, alloc, BOB);
+    let items = decode_all::<Commands>(alloc, bob.as_slice()).expect(&rt, "a stream");
     let [Item::Record(whole)] = items.as_slice() else {
         panic!(rt; "a record")
     };
     let mut down = VecSink::new(alloc);
     assert!(rt; ask(&mut host, whole.body.as_slice(), &mut down).is_ok());
     assert_eq!(rt; down.as_slice(), bob.as_slice());
-    (host, down.into_inner())
-}
 
-#[test]
-fn an_emulator(rt: HostRuntime) {
-    let alloc = rt.alloc();
-    let (_host, asked) = asked_host(&rt, alloc);
     let mut station = Station::new(TerminalType::Ibm3179Model2);
     let mut up = VecSink::new(alloc);
     assert_eq!(rt; hear(&mut station, OPENING, &mut up), Ok(()));
     assert_eq!(rt; up.as_slice(), OPENED);
     let mut up = VecSink::new(alloc);
-    assert_eq!(rt; hear(&mut station, asked.as_slice(), &mut up), Ok(()));
+    assert_eq!(rt; hear(&mut station, down.as_slice(), &mut up), Ok(()));
     for letter in ['B', 'O', 'B'] {
         assert_eq!(rt; strike(&mut station, Key::Char(letter), &mut up), Ok(None));
     }
@@ -86,20 +85,8 @@ fn an_emulator(rt: HostRuntime) {
     );
     let locked = Some(KeyFault::Key(KeyRefusal::Locked));
     assert_eq!(rt; strike(&mut station, enter, &mut up), Ok(locked));
-    let refused = Refusal::At {
-        place: 53,
-        reason: Reason::StraySe,
-    };
-    let heard = hear(&mut station, b"\xff\xf0", &mut up);
-    assert_eq!(rt; heard, Err(Ended::Refused(refused)));
-}
 
-// Two events in what came, and a record that ends with a later piece.
-#[test]
-fn a_harness(rt: HostRuntime) -> Result<(), Fail> {
-    let alloc = rt.alloc();
-    let (mut host, _asked) = asked_host(&rt, alloc);
-    let mut down = VecSink::new(alloc);
+    // Two events in what came, and a record that ends with a later piece.
     let mut came = Vec::new(alloc);
     came.extend_from_slice(BOB_ANSWER)?;
     came.extend_from_slice(b"\x00\x0a\x12\xa0\x00\x00\x04\x40\x00\x00\xff\xef")?;
@@ -120,5 +107,11 @@ fn a_harness(rt: HostRuntime) -> Result<(), Fail> {
     };
     assert_eq!(rt; Some(field.address), Address::new(6, 53));
     assert_eq!(rt; field.content.as_slice(), b"\xc2\xd6\xc2".as_slice());
+    let refused = Refusal::At {
+        place: 53,
+        reason: Reason::StraySe,
+    };
+    let heard = hear(&mut station, b"\xff\xf0", &mut up);
+    assert_eq!(rt; heard, Err(Ended::Refused(refused)));
     Ok(())
 }

@@ -58,7 +58,7 @@ fn body_of(rt: &impl Abort, alloc: Global, hex: &str) -> Result<Vec<Element>, Fa
         match high {
             None => high = Some(value),
             Some(first) => {
-                bytes.push((first as u8).wrapping_mul(16).wrapping_add(value as u8))?;
+                bytes.push((first % 16 * 16 + value % 16) as u8)?;
                 high = None;
             }
         }
