@@ -1,6 +1,8 @@
+use crate::check::check_to;
 use crate::show::show_to;
 use std::test::Fail;
 use ws_code::VecSink;
+use ws_stream::Commands;
 
 type Row<'a> = (&'a str, &'a [u8], &'a str, bool);
 
@@ -71,5 +73,22 @@ fn show_lines(rt: HostRuntime) -> Result<(), Fail> {
         let text = String::from_utf8(sink.into_inner()).or(Err("no text"))?;
         assert_eq!(rt; text.as_str(), *wanted, "{row}");
     }
+    Ok(())
+}
+
+// `show-past-end`: the grammar accepts what the screen refuses.
+#[test]
+fn check_past_end(rt: HostRuntime) -> Result<(), Fail> {
+    let bytes =
+        b"\x00\x13\x12\xa0\x00\x00\x04\x00\x00\x03\x04\x11\x00\x00\x11\x18\x50\xc1\xc2\xff\xef";
+    let mut sink = VecSink::new(rt.alloc());
+    assert_eq!(rt;
+        check_to::<Commands, _>(rt.alloc(), bytes, 7, &mut sink),
+        Ok(true)
+    );
+    assert_eq!(rt;
+        sink.as_slice(),
+        b"accepted: 1 records, 0 commands, 21 bytes\n".as_slice()
+    );
     Ok(())
 }

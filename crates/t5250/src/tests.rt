@@ -213,7 +213,7 @@ fn wrong_command_lines(rt: HostRuntime) -> Result<(), Fail> {
         ["t5250", "play", "a.hex", "b.hex"].as_slice(),
         ["t5250", "play", "--screen", "--screen"].as_slice(),
         ["t5250", "play", "--tcp=1"].as_slice(),
-        ["t5250", "make", "--answers"].as_slice(),
+        ["t5250", "make", "--answers", "--answers"].as_slice(),
         ["t5250", "make", "a.hex", "b.hex"].as_slice(),
     ];
     for words in wrong {
@@ -386,22 +386,5 @@ fn check_lines(rt: HostRuntime) -> Result<(), Fail> {
             assert_eq!(rt; sink.as_slice(), wanted.as_bytes());
         }
     }
-    Ok(())
-}
-
-// `show-past-end`: the grammar accepts what the screen refuses.
-#[test]
-fn check_past_end(rt: HostRuntime) -> Result<(), Fail> {
-    let bytes =
-        b"\x00\x13\x12\xa0\x00\x00\x04\x00\x00\x03\x04\x11\x00\x00\x11\x18\x50\xc1\xc2\xff\xef";
-    let mut sink = VecSink::new(rt.alloc());
-    assert_eq!(rt;
-        check_to::<Commands, _>(rt.alloc(), bytes, 7, &mut sink),
-        Ok(true)
-    );
-    assert_eq!(rt;
-        sink.as_slice(),
-        b"accepted: 1 records, 0 commands, 21 bytes\n".as_slice()
-    );
     Ok(())
 }
