@@ -8,7 +8,6 @@ use std::test::Fail;
 use ws_code::{FailingSink, Fault, Reason, VecSink};
 use ws_live::Paint;
 use ws_record::RawBody;
-use ws_stream::Commands;
 use ws_text::TextFault as ItemsFault;
 
 #[test]
