@@ -1,5 +1,5 @@
 #!/usr/bin/env python3
-"""Checks that the programs of docs/CALLING.md call what stands in crates/ws_session/src/calling.rt, word for word.
+"""Checks that the programs of docs/CALLING.md call what stands in crates/rows_session/src/calling.rt, word for word.
 
 Run it from anywhere. With --try it also makes a crate of each program, as the page says, in a copy of the repository, and
 builds it by `rt try` without proving it; with --check it proves it. Its last line counts what was looked at, and its
@@ -14,7 +14,7 @@ import tempfile
 
 ROOT = pathlib.Path(__file__).resolve().parent.parent
 PAGE = ROOT / "docs/CALLING.md"
-PROVED = ROOT / "crates/ws_session/src/calling.rt"
+PROVED = ROOT / "crates/rows_session/src/calling.rt"
 # An example has to stand before the programs can run on it.
 INPUT = ROOT / "examples/inquiry.hex"
 

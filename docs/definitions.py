@@ -132,7 +132,7 @@ def main():
     missing, count = {}, 0
     for path in sorted(ROOT.glob("crates/*/src/**/*.rt")):
         crate = ROOT / "crates" / path.relative_to(ROOT / "crates").parts[0]
-        if crate.name.startswith("rows_") or path.stem.endswith(("tests", "rows")) or path.stem in ("calling", "vectors"):
+        if crate.name.startswith("rows_") or path.stem.endswith(("tests", "rows")):
             continue
         source = path.read_text()
         names, modules = imported(source)

@@ -16,7 +16,7 @@ import sys
 
 CRATE = os.path.join(os.path.dirname(os.path.abspath(__file__)), "..", "crates", "t5250")
 PROGRAM = os.path.abspath(os.path.join(CRATE, "out", "t5250"))
-VECTORS = os.path.join(CRATE, "..", "ws_text", "src", "vectors.rt")
+VECTORS = os.path.join(CRATE, "..", "rows_decoder", "src", "vectors.rt")
 
 # What a host sends, and what a station does.
 SIDES = [[], ["--answers"]]

@@ -1,10 +1,8 @@
-use Rattle.std.proofs.Common.{◌≡◌, ◌≢◌, ℕ, ◌<◌, List, [], ◌∷◌, ◌++◌, length, take, drop, refl, sym, ap, ◌∙◌, subst}
-use Rattle.std.proofs.Common.{arith, append_assoc, take-append-drop, inl, inr}
+use Rattle.std.proofs.Common.{◌≡◌, ◌≢◌, ℕ, ◌<◌, List, [], ◌∷◌, ◌++◌, length, refl, sym, ap, ◌∙◌, subst}
+use Rattle.std.proofs.Common.{arith, inl, inr}
 use Rattle.std.specs.Prelude.{Bool, true, false, Option, Some, None, Result, Ok, Err, ◌⊎◌, IfOk, IfErr}
-use Rattle.std.proofs.lemmas.List.{append-nil}
-use Rattle.ws_code.specs.Device.{MayTake, Taken, bytes_taken, Writes, WentOut, FailedAfter, FailedWithin}
+use Rattle.ws_code.specs.Device.{MayTake, Taken, Writes, WentOut, FailedAfter, FailedWithin}
 use Rattle.ws_code.specs.Device.{IsWriteFailure}
-use Rattle.ws_code.proofs.DeviceLaws.{went_out_none, went_out_both, failed_within_both}
 use Rattle.ws_code.specs.declared.fault.Fault.TheVariants as device
 use Rattle.ws_live.specs.Buffering.{Buffering, buffered_takes}
 use Rattle.ws_live.proofs.Buffers.{flushed_out, flush_fails, fails_behind}

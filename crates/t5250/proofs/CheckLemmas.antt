@@ -144,14 +144,3 @@ refused_on rules bytes front n place reason e r =
     subst (λ (x : List ℕ). IsRefused rules x place reason) (take-append-drop n bytes)
     (refused_append rules (take n bytes) (drop n bytes) place reason
     (subst (λ (x : List ℕ). IsRefused rules x place reason) e r))
-
--- a text of one kind is one of another
-pub text_fault_weaker : {S : Type 0} (takes : MayTake S) (failures : S → ℕ) (from to : S) (P Q : List ℕ → Type 0)
-    → ((text : List ℕ) → P text → Q text) → (fault : Fault) → IsTextFault takes failures from to P fault
-    → IsTextFault takes failures from to Q fault
-text_fault_weaker takes failures from to P Q on (Refused place reason) f = absurd f
-text_fault_weaker takes failures from to P Q on (Truncated n) f = absurd f
-text_fault_weaker takes failures from to P Q on Memory f = f
-text_fault_weaker takes failures from to P Q on Read f = absurd f
-text_fault_weaker takes failures from to P Q on Write f = (f.0, on f.0 f.1, f.2)
-text_fault_weaker takes failures from to P Q on Failed f = absurd f

@@ -18,6 +18,7 @@ use Rattle.ws_text.specs.Printing.{IsTextFault}
 abbrev pub one_record : Tally → Tally
 one_record tally = record tally { records = min (tally.records + 1) (2 ^ 64 - 1) }
 
+-- a tally with one more Telnet command in it; the count stays at the highest number that it can hold
 abbrev pub one_command : Tally → Tally
 one_command tally = record tally { commands = min (tally.commands + 1) (2 ^ 64 - 1) }
 

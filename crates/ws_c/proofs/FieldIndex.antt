@@ -37,10 +37,6 @@ passes_first i c f fs ends = rw (le-ltb c (f.start + f.length) ends) (go (nat_le
     go true = refl
     go false = refl
 
--- before any field is passed
-pub past_none : (all : List Field) (place : ℕ) → AreApart 0 all → length all ≤ 256 → IsPast all place 0 all
-past_none all place apart few = record { in_order = (0, apart); few = omega (arith, few); same = λ c h. refl }
-
 -- one field more is passed
 pub past_one : (all ahead behind : List Field) (place next index : ℕ) → IsPast all place index ahead
     → place ≤ next → IsPassed next ahead behind → IsPast all next (index + 1) behind

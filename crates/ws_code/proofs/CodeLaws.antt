@@ -1,5 +1,7 @@
-use Rattle.std.proofs.Common.{true, ◌≡◌, ℕ, ◌+◌, ◌<◌, List, [], ◌∷◌, ◌++◌, ◌⊎◌, inl, inr, length, take, get_or, refl}
+use Rattle.std.proofs.Common.{true, ◌≡◌, ℕ, zero, suc, ◌+◌, ◌<◌, List, [], ◌∷◌, ◌++◌, ◌⊎◌, inl, inr, length, take, get_or}
+use Rattle.std.proofs.Common.{refl}
 use Rattle.std.proofs.Common.{sym, ap, ◌∙◌, subst, arith, append_assoc, length-append}
+use Rattle.std.proofs.Math.ListN.{replicate}
 use Rattle.std.proofs.lemmas.List.{append_cancel_left, append-nil, take_more}
 use Rattle.std.proofs.lemmas.Grind.{flat_map-append}
 use Rattle.ws_code.specs.Code.{Rules, Stands, IsSpelled, IsPrefix, IsUnfinished, IsChain, IsCut, IsWhole, IsPrefixFree}
@@ -9,6 +11,10 @@ use Rattle.ws_code.specs.Code.{AreBytes, place_after, spelling_of}
 pub AreBytes-append : (xs ys : List ℕ) → AreBytes xs → AreBytes ys → AreBytes (xs ++ ys)
 AreBytes-append [] ys h k = k
 AreBytes-append (x ∷ xs) ys h k = (h.0, AreBytes-append xs ys h.1 k)
+
+pub zeros_are : (n : ℕ) → AreBytes (replicate n 0)
+zeros_are zero = tt
+zeros_are (suc n) = (omega arith, zeros_are n)
 
 pub AreBytes-front : (xs ys : List ℕ) → AreBytes (xs ++ ys) → AreBytes xs
 AreBytes-front [] ys h = tt

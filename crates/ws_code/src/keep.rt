@@ -33,6 +33,9 @@ pub trait Keep<U>: Drop {
             → holds self.new units (told ++ values.now) };
 }
 
+// Room for so many units comes with the first one, so that short records don't grow their list unit by unit.
+const FIRST_UNITS: usize = 8;
+
 /// A list keeps all units.
 impl<U: Drop> Keep<U> for Vec<U> {
     ghost holds = { λ vec units told. vec.items ≡ units };
@@ -40,6 +43,9 @@ impl<U: Drop> Keep<U> for Vec<U> {
     ghost may_answer = { λ kept. kept ≡ Kept.Enough → ⊥ };
 
     fn keep(&mut self, unit: U) -> Kept {
+        if self.capacity() == 0 && self.reserve(FIRST_UNITS).is_err() {
+            return Kept::NoMemory;
+        }
         if self.push(unit).is_err() {
             return Kept::NoMemory;
         }

@@ -1,6 +1,6 @@
 use Rattle.std.proofs.Common.{◌≡◌, ℕ, ◌<◌, List, [], ◌++◌, true, false, length, inl, inr, refl, sym, ap, ◌∙◌, subst}
 use Rattle.std.proofs.Common.{arith}
-use Rattle.std.specs.Prelude.{codes, string_bytes, ◌⊎◌, Bool, map}
+use Rattle.std.specs.Prelude.{codes, ◌⊎◌, Bool, map}
 use Rattle.std.specs.Str.{IsUtf8, chars}
 use Rattle.std.proofs.lemmas.Str.{scalars-chars, encodes-chars}
 use Rattle.std.proofs.lemmas.Bool.{false≢true}
@@ -152,12 +152,6 @@ pub no_awaited_line : (command words : List ℕ) → has_no_blank command ≡ tr
 no_awaited_line command words free plain e none_is line m = awaited_says words none_is line
     (subst (λ (z : List ℕ). Says z words line) e (says command words free plain line m))
 
-pub nothing_awaited : (words : List ℕ) → (words ≡ codes "record" → ⊥) → ((rest : List ℕ) → words ≡ codes "text "
-    ++ rest → rest ≡ []) → (a : Awaited) → IsAwaited words a → ⊥
-nothing_awaited words nr nt Unlocked h = h
-nothing_awaited words nr nt Record h = nr h
-nothing_awaited words nr nt (Text text) h = h.1 (nt (string_bytes text) h.0)
-
 -- THE LINES OF A HOST
 
 pub no_host_word : (word : List ℕ) → 0 < length word → has_no_blank word ≡ true → IsNoComment word
@@ -185,19 +179,6 @@ no_send_line command words free plain none_is host.Nothing (inr c) = plain c.0 c
 no_send_line command words free plain none_is (host.Give (Send opcode body)) m = none_is (moves.Send opcode body) m
 no_send_line command words free plain none_is (host.Give Cancel) m = blank_inside command words (ap has_no_blank m)
 no_send_line command words free plain none_is host.Await m = blank_inside command words (ap has_no_blank m)
-
--- no other move is a line that sends
-pub sends_only : (command words : List ℕ) → has_no_blank command ≡ true → command ≡ codes "send" → (step : Move)
-    → IsMove ((command ++ codes " ") ++ words) step → ((opcode : Opcode) (body : List Element) → step
-    ≡ moves.Send opcode body → ⊥) → ⊥
-sends_only command words free e (moves.Send opcode body) m other = other opcode body refl
-sends_only command words free e moves.Cancel m other = blank_inside command words (ap has_no_blank m)
-sends_only command words free e (moves.ToStation n) m other = differ (codes "send") (codes "down") refl
-    (sym e ∙ (split_unique command (codes "down") words m.0 free refl m.1).0)
-sends_only command words free e (moves.ToHost n) m other = differ (codes "send") (codes "up") refl
-    (sym e ∙ (split_unique command (codes "up") words m.0 free refl m.1).0)
-sends_only command words free e (moves.Key key) m other = differ (codes "send") (codes "key") refl
-    (sym e ∙ (split_unique command (codes "key") words m.0 free refl m.1).0)
 
 -- WHAT WAS READ WHEN A GROWTH WAS REFUSED
 

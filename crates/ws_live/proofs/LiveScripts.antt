@@ -1,9 +1,8 @@
 use Rattle.std.proofs.Common.{◌≡◌, ℕ, ◌+◌, ◌-◌, ◌^◌, ◌<◌, ◌≤◌, List, [], ◌∷◌, ◌++◌, length}
 use Rattle.std.proofs.Common.{refl, sym, ap, ◌∙◌, subst, arith}
-use Rattle.std.proofs.Common.{append_assoc, length-append, true, false, inl, inr, Bool}
+use Rattle.std.proofs.Common.{append_assoc, length-append, true, inr, Bool}
 use Rattle.std.specs.Prelude.{min, ◌⊎◌}
 use Rattle.std.specs.Str.Lines.{lines}
-use Rattle.std.proofs.lemmas.List.{append-nil}
 use Rattle.ws_live.specs.LiveScript.{is_indented, AreIndented, BeginsFlush, text_of, HasInside, IsBlock, HasBlock}
 use Rattle.ws_live.specs.LiveScript.{MeanThese, AreLiveLines, IsFirstBad, IsGoodSoFar, IsReadSoFar, IsReadingFault}
 use Rattle.ws_live.specs.declared.script.ScriptFault.{ScriptFault}
@@ -37,9 +36,6 @@ pub record Gathers (text rest held : List ℕ) (count : ℕ) : Type 0 where
   pub counted : count ≡ length are
   pub few : count + length rest ≤ length text
 
-pub gathers_none : (text held : List ℕ) → held ≡ [] → Gathers text text held 0
-gathers_none text held e = record { are = []; split = refl; indented = tt; is = e; counted = refl; few = omega arith }
-
 pub gathers_more : (text rest behind line held next : List ℕ) (count : ℕ) → Gathers text rest held count
     → lines rest ≡ line ∷ lines behind → length behind < length rest → is_indented line ≡ true
     → next ≡ held ++ (line ++ 10 ∷ []) → Gathers text behind next (count + 1)
@@ -50,48 +46,6 @@ gathers_more text rest behind line held next count r e shorter blank is = record
   is = is ∙ ap (λ z. z ++ (line ++ 10 ∷ [])) r.is ∙ sym (text_more r.are line);
   counted = omega (arith, r.counted, length-append r.are (line ∷ []));
   few = omega (arith, r.few);
-}
-
-pub gathered_all : (text rest held : List ℕ) (count : ℕ) → Gathers text rest held count → BeginsFlush (lines rest)
-    → HasInside text held count rest
-gathered_all text rest held count r whole = record {
-  are = r.are;
-  split = r.split;
-  indented = r.indented;
-  whole = whole;
-  is = r.is;
-  counted = r.counted;
-  few = r.few;
-}
-
-pub flush_none : (rest : List ℕ) → rest ≡ [] → BeginsFlush (lines rest)
-flush_none rest e = subst (λ (z : List ℕ). BeginsFlush (lines z)) (sym e) tt
-
-pub flush_line : (rest line : List ℕ) (more : List (List ℕ)) → lines rest ≡ line ∷ more → is_indented line ≡ false
-    → BeginsFlush (lines rest)
-flush_line rest line more e blank = subst BeginsFlush (sym e) blank
-
--- such lines belong to one that lines may belong to, and none to another
-pub block_opened : (opener : List ℕ → Type 0) (line text inside : List ℕ) (count : ℕ) (behind : List ℕ) → opener line
-    → HasInside text inside count behind → HasBlock opener line text inside count behind
-block_opened opener line text inside count behind opened h = record {
-  are = h.are;
-  split = h.split;
-  block = record { indented = h.indented; opened = inr opened; whole = λ o. h.whole };
-  is = h.is;
-  counted = h.counted;
-  few = h.few;
-}
-
-pub block_alone : (opener : List ℕ → Type 0) (line text inside : List ℕ) → inside ≡ [] → (opener line → ⊥)
-    → HasBlock opener line text inside 0 text
-block_alone opener line text inside e other = record {
-  are = [];
-  split = refl;
-  block = record { indented = tt; opened = inl refl; whole = λ o. absurd (other o) };
-  is = e;
-  counted = refl;
-  few = omega arith;
 }
 
 -- THE LINES OF A SCRIPT

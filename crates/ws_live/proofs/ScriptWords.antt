@@ -71,33 +71,6 @@ digits_have_no_blank (c ∷ cs) h = elim (eqb_tells c 32) [
   | inr p ↦ ap (λ b. not b && has_no_blank cs) p.0 ∙ digits_have_no_blank cs h.1
 ]
 
--- an opcode by its byte
-pub is_cancel : (o : Opcode) → opcode_byte o ≡ 10 → o ≡ CancelInvite
-is_cancel NoOperation e = cc
-is_cancel Invite e = cc
-is_cancel OutputOnly e = cc
-is_cancel PutGet e = cc
-is_cancel SaveScreen e = cc
-is_cancel RestoreScreen e = cc
-is_cancel ReadImmediate e = cc
-is_cancel ReadScreen e = cc
-is_cancel CancelInvite e = refl
-is_cancel MessageLightOn e = cc
-is_cancel MessageLightOff e = cc
-
-pub opcode_small : (o : Opcode) → opcode_byte o < 256
-opcode_small NoOperation = omega arith
-opcode_small Invite = omega arith
-opcode_small OutputOnly = omega arith
-opcode_small PutGet = omega arith
-opcode_small SaveScreen = omega arith
-opcode_small RestoreScreen = omega arith
-opcode_small ReadImmediate = omega arith
-opcode_small ReadScreen = omega arith
-opcode_small CancelInvite = omega arith
-opcode_small MessageLightOn = omega arith
-opcode_small MessageLightOff = omega arith
-
 -- a word that writes a number writes no opcode of another
 pub no_opcode : (word : List ℕ) (n : ℕ) → IsNumber word n → ((o : Opcode) → opcode_byte o ≡ n → o ≢ CancelInvite → ⊥)
     → (o : Opcode) → IsOpcodeText word o → ⊥

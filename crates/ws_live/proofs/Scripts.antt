@@ -214,13 +214,6 @@ pub no_key : (command words : List ℕ) → command ≡ codes "key" → key_name
 no_key command words e none_is step m = key_says words none_is step (says (codes "key") words refl step
     (subst (λ (z : List ℕ). IsMove ((z ++ codes " ") ++ words) step) e m))
 
-record_alone : (words : List ℕ) → has_no_blank words ≡ true → (opcode : Opcode) (body : List Element)
-    → IsRecordText words opcode body → IsOpcodeText words opcode
-record_alone words free opcode body r = elim r.rest [
-  | inl p ↦ subst (λ (z : List ℕ). IsOpcodeText z opcode) (sym p.0) r.sent
-  | inr p ↦ absurd (blank_inside r.number p.0 (ap has_no_blank (sym p.1) ∙ free))
-]
-
 send_says : (words : List ℕ) → ((opcode : Opcode) (body : List Element) → IsRecordText words opcode body → ⊥)
     → (step : Move) → Says (codes "send") words step → ⊥
 send_says words none_is (Send opcode body) h = none_is opcode body h.1
@@ -228,12 +221,6 @@ send_says words none_is Cancel h = h
 send_says words none_is (ToStation n) h = differ (codes "send") (codes "down") refl h.0
 send_says words none_is (ToHost n) h = differ (codes "send") (codes "up") refl h.0
 send_says words none_is (Press key) h = differ (codes "send") (codes "key") refl h.0
-
--- one word behind `send` is an opcode
-pub no_send_alone : (words : List ℕ) → has_no_blank words ≡ true → ((opcode : Opcode) → IsOpcodeText words opcode → ⊥)
-    → (step : Move) → IsMove (codes "send " ++ words) step → ⊥
-no_send_alone words free none_is step m = send_says words (λ opcode body r. none_is opcode
-    (record_alone words free opcode body r)) step (says (codes "send") words refl step m)
 
 -- two are an opcode and a body
 pub record_parts : (number hex : List ℕ) → has_no_blank number ≡ true → (opcode : Opcode) (body : List Element)
@@ -269,7 +256,3 @@ sends words number hex opcode body e sent some text = (
     rest = inr (hex, e, some, text);
   },
 )
-
-pub sends_alone : (words : List ℕ) (opcode : Opcode) → IsOpcodeText words opcode → IsMove (codes "send " ++ words)
-    (Send opcode [])
-sends_alone words opcode sent = (words, refl, record { number = words; sent = sent; rest = inl (refl, refl) })

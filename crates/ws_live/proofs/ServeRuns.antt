@@ -13,7 +13,7 @@ use Rattle.ws_record.specs.declared.opcode.Opcode.TheVariants.{NoOperation, Invi
 use Rattle.ws_record.specs.declared.opcode.Opcode.TheVariants.{RestoreScreen, ReadImmediate, ReadScreen, CancelInvite}
 use Rattle.ws_record.specs.declared.opcode.Opcode.TheVariants.{MessageLightOn, MessageLightOff}
 use Rattle.ws_session.specs.Acts.{Did}
-use Rattle.ws_session.specs.Attachments.{AttachedParts, HaveLed, HaveLedUnwritten, IsSendFailure, breaks}
+use Rattle.ws_session.specs.Attachments.{AttachedParts, HaveLed, HaveLedUnwritten, IsSendFailure}
 use Rattle.ws_session.specs.HostLeads.{HostParts}
 use Rattle.ws_session.specs.Manners.{HostGoes, HostRefuses, IsSendRefusal, IsSendTaken}
 use Rattle.ws_session.specs.declared.end_step.Order.{Order}
@@ -21,7 +21,7 @@ use Rattle.ws_session.specs.declared.end_step.Order.TheVariants.{Send}
 use Rattle.ws_session.specs.declared.send_fault.SendFault.{SendFault}
 use Rattle.ws_stream.specs.declared.element.Element.{Element}
 use Rattle.ws_live.specs.LiveText.{HaveRun, IsLiveText, stops}
-use Rattle.ws_live.specs.ServeText.{deed_of, reaction_to, unheard_outcome, is_told, AnswersOn, HasAnsweredOnce}
+use Rattle.ws_live.specs.ServeText.{deed_of, reaction_to, is_told, AnswersOn, HasAnsweredOnce}
 use Rattle.ws_live.specs.ServeText.{HasAnsweredOn, IsAnswerFault, HostRuns, HearsOne, IsDone, IsGiven, IsAnsweringText}
 use Rattle.ws_live.specs.ServeText.{IsAnswerOnFault, IsServeText}
 use Rattle.ws_text.specs.Printing.{IsOut}
@@ -49,27 +49,6 @@ other_deed ReadScreen body other = refl
 other_deed CancelInvite body other = absurd (other refl)
 other_deed MessageLightOn body other = refl
 other_deed MessageLightOff body other = refl
-
--- a fault that is no refusal, and late where a read failed
-pub unheard_other : (why : Fault) → ((place : ℕ) → (reason : _) → why ≡ fault.Refused place reason → ⊥)
-    → (why ≡ fault.Read → ⊥) → Err why ≡ unheard_outcome false why
-unheard_other (fault.Refused place reason) no_refusal no_read = absurd (no_refusal place reason refl)
-unheard_other fault.Read no_refusal no_read = refl
-unheard_other fault.Memory no_refusal no_read = refl
-unheard_other fault.Write no_refusal no_read = refl
-unheard_other fault.Failed no_refusal no_read = refl
-unheard_other (fault.Truncated at) no_refusal no_read = refl
-
--- a line that a fault doesn't stop leaves the end at work
-pub unheard_works : (late : Bool) (why : Fault) (broken : Bool) → broken ≡ breaks why → IfOk (unheard_outcome late why)
-    (λ closing. stops closing ≡ false → broken ≡ false)
-unheard_works late (fault.Refused place reason) broken e = λ stopped. absurd (false≢true (sym stopped))
-unheard_works true fault.Read broken e = λ _. e
-unheard_works false fault.Read broken e = tt
-unheard_works late fault.Memory broken e = tt
-unheard_works late fault.Write broken e = tt
-unheard_works late fault.Failed broken e = tt
-unheard_works late (fault.Truncated at) broken e = tt
 
 told_done : (closing : Closing) → is_told closing ≡ true → closing ≡ Done
 told_done Nothing e = absurd (false≢true e)

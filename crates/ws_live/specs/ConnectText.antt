@@ -56,6 +56,7 @@ waited_outcome HasEnded = Ok Ended
 waited_outcome (Failed (fault.Refused place reason)) = Ok Stopped
 waited_outcome (Failed why) = Err why
 
+-- what a wait prints: the station's refusal of a byte, or nothing
 abbrev pub waited_text : Waited → List ℕ
 waited_text (Failed (fault.Refused place reason)) = event_text (StationRefused place reason)
 waited_text waited = []
@@ -84,9 +85,11 @@ closing_of_both Done next = next
 closing_of_both closing next = closing
 
 module _ {S K : Type 0} (takes : MayTake K) (failures : K → ℕ) (gives : MayGive S) (misses : S → ℕ) where
+  -- a station on a source and a sink
   abbrev pub Parts : Type 0
   Parts = AttachedParts StationParts S K
 
+  -- one call of `hear` leads from there to there, and tells this
   abbrev pub Hears : Parts → Option Applied → Parts → Type 0
   Hears from heard to = HasHeard StationGoes StationRefuses takes failures gives misses from to heard
 

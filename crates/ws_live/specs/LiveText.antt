@@ -26,6 +26,7 @@ ready_word true Nothing = []
 ready_word true Stopped = []
 ready_word true closing = codes "ok\n"
 
+-- what ends the output of a line: how its wait ended, and `ok` where that was asked for
 abbrev pub closing_text : Bool → Closing → List ℕ
 closing_text ready closing = closing_word closing ++ ready_word ready closing
 
@@ -40,12 +41,15 @@ abbrev pub stops : Closing → Bool
 stops Stopped = true
 stops closing = false
 
+-- what stands before the first line has run
 abbrev pub ran_none : Ran
 ran_none = record { all_well = true; is_over = false }
 
+-- what a line that closes in this way makes of a run
 abbrev pub ran_by : Closing → Ran
 ran_by closing = record { all_well = is_well closing; is_over = stops closing }
 
+-- two runs, one behind the other
 abbrev pub ran_and : Ran → Ran → Ran
 ran_and a b = record { all_well = a.all_well && b.all_well; is_over = b.is_over }
 

@@ -32,6 +32,7 @@ given_outcome (Ok None) = Ok Done
 given_outcome (Ok (Some why)) = Ok Declined
 given_outcome (Err why) = Err why
 
+-- what an order to the host end prints: why the record couldn't be sent, or nothing
 abbrev pub given_text : Result (Option SendFault) Fault → List ℕ
 given_text (Ok (Some why)) = event_text (SendRefused why)
 given_text given = []
@@ -47,6 +48,7 @@ unheard_outcome late (fault.Refused place reason) = Ok Stopped
 unheard_outcome true fault.Read = Ok Late
 unheard_outcome late why = Err why
 
+-- what the host end's fault prints: the byte that it refused, or nothing
 abbrev pub unheard_text : Fault → List ℕ
 unheard_text (fault.Refused place reason) = event_text (HostRefused place reason)
 unheard_text why = []
@@ -56,11 +58,13 @@ abbrev pub deed_of : Order → Order
 deed_of (Send CancelInvite body) = Cancel
 deed_of order = order
 
+-- what the host end makes of an order: a record to be sent, or a cancel of the read that is out
 abbrev pub reaction_to : Order → HostSide → SendReaction
 reaction_to (Send opcode body) side = host_send side opcode body
 reaction_to Cancel side = host_cancel side
 
 module _ {S K : Type 0} (takes : MayTake K) (failures : K → ℕ) (gives : MayGive S) (misses : S → ℕ) where
+  -- a host end on a source and a sink
   abbrev pub Parts : Type 0
   Parts = AttachedParts HostParts S K
 

@@ -4,8 +4,6 @@
 
 mod buffered_sink;
 mod colored_cells;
-#[cfg(test)]
-mod colored_rows;
 mod connect;
 mod connect_line;
 mod field_lines;
@@ -19,12 +17,8 @@ mod screen_lines;
 mod script;
 mod script_line;
 mod script_move;
-#[cfg(test)]
-mod script_rows;
 mod serve;
 mod serve_line;
-#[cfg(test)]
-mod serve_rows;
 
 pub use buffered_sink::BufferedSink;
 pub use connect_line::{Awaited, StationLine};

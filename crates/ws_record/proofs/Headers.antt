@@ -7,7 +7,7 @@ use Rattle.std.proofs.lemmas.List.{get_or-drop}
 use Rattle.std.proofs.lemmas.Bool.{cases_lt}
 use Rattle.std.proofs.lemmas.List.{length-replicate}
 use Rattle.ws_code.specs.Code.{AreBytes}
-use Rattle.ws_code.proofs.CodeLaws.{AreBytes-append}
+use Rattle.ws_code.proofs.CodeLaws.{AreBytes-append, zeros_are}
 use Rattle.ws_record.specs.declared.opcode.Opcode.{Opcode}
 use Rattle.ws_record.specs.declared.opcode.Opcode.TheVariants.{Invite}
 use Rattle.ws_record.specs.Grammar.{IsFramed, header, opcode_byte}
@@ -162,10 +162,6 @@ header_more xs b h p1 p2 p3 p4 p5 p6 p9 =
             (let e : length xs ≡ 9 = omega arith in let o = p9 e in (o.0, o.1 ∙ sym (new 9 e)))
       ];
     }
-
-pub zeros_are : (n : ℕ) → AreBytes (replicate n 0)
-zeros_are zero = tt
-zeros_are (suc n) = (omega arith, zeros_are n)
 
 pub AreBytes-drop : (n : ℕ) (xs : List ℕ) → AreBytes xs → AreBytes (drop n xs)
 AreBytes-drop zero xs h = h

@@ -7,7 +7,7 @@ use Rattle.std.proofs.lemmas.List.{length-replicate}
 use Rattle.std.proofs.lemmas.List.{append-nil, drop-append-le}
 use Rattle.ws_code.specs.Code.{Rules, IsPrefix, IsChain, IsCut, IsSpelled, AreBytes, spelling_of}
 use Rattle.ws_code.specs.declared.reason.Reason.{Reason}
-use Rattle.ws_code.proofs.CodeLaws.{AreBytes-append, CanEnd, cut_ends, one_cut}
+use Rattle.ws_code.proofs.CodeLaws.{AreBytes-append, CanEnd, zeros_are, cut_ends, one_cut}
 use Rattle.ws_telnet.specs.Token.{token_rules}
 use Rattle.ws_telnet.specs.TokenLaws.{token_prefix_free}
 use Rattle.ws_telnet.specs.declared.token.Token.{Token}
@@ -19,7 +19,6 @@ use Rattle.ws_record.specs.Grammar.{header, record_bytes}
 use Rattle.ws_record.specs.Refusal.{Layer, IsRight, IsOpen, IsRefused, IsTruncated, EndsWith}
 use Rattle.ws_record.specs.Refusal.Layer.{Tokens, Header, Body}
 use Rattle.ws_record.specs.OpenRecord.{CanBeFramed, IsDataRefused, IsEndRefused}
-use Rattle.ws_record.proofs.Headers.{zeros_are}
 use Rattle.ws_record.proofs.Reading.{one_join, parts_no_eor}
 use Rattle.ws_record.proofs.Streams.{open_stream, bad_token, bad_data, bad_eor, AllByRecursion-append, joined_eor}
 use Rattle.ws_record.proofs.Steps.{parts_of, token_more, holds_data}

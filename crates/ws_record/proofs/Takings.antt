@@ -19,15 +19,6 @@ use Rattle.ws_record.specs.Taking.{ArePlain, KeepsTold, IsTaken, IsHeaderStep, g
 use Rattle.ws_record.proofs.OpenRecords.{body_run, body_bad, body_drops}
 use Rattle.ws_record.proofs.Prefixes.{AllByRecursion-front}
 
-module _ {U : Type 0} where
-  -- a record that grew twice
-  pub grown_twice : (so_far : RecordSoFar U) (v w : List ℕ) (more : List U)
-      → grown (record { bytes = so_far.bytes ++ v; head = so_far.head; units = so_far.units }) w more
-      ≡ grown so_far (v ++ w) more
-  grown_twice so_far v w more =
-      ap (λ (x : List ℕ). let s : RecordSoFar U =
-      record { bytes = x; head = so_far.head; units = so_far.units ++ more } in s) (append_assoc so_far.bytes v w)
-
 module _ {U K : Type 0} where
   pub told_none : (holds : K → List U → List ℕ → Type 0) (keep : K) → KeepsTold holds keep keep [] []
   told_none holds keep units told h =
@@ -67,15 +58,6 @@ module _ {Place U K : Type 0} (rules : Rules Place U) (holds : K → List U → 
     AreBytes-front stop.front (stop.last ∷ []) (subst (λ (x : List ℕ). AreBytes x) stop.split are),
     omega (arith, ap length stop.split, length-append stop.front (stop.last ∷ [])),
   )
-
-  before_stop : (stop : StopsAtLast rules holds may_answer (record { place = reader.place; begun = reader.begun }) old
-      v) → Keeping Place
-  before_stop stop = record {
-    header = reader.header;
-    left = reader.left - length stop.front;
-    place = stop.before.place;
-    begun = stop.before.begun;
-  }
 
   -- with a unit at which it stops
   unit_read : Begins rules

@@ -16,6 +16,7 @@ abbrev pub record_spelling : List ℕ → List ℕ
 record_spelling bytes = flat_map doubled bytes ++ 0xff ∷ 0xef ∷ []
 
 module _ {Place U : Type 0} where
+  -- the bytes of an item: a record to its IAC EOR, or a Telnet command between records
   abbrev pub item_spelling : Rules Place U → Item U → List ℕ
   item_spelling rules (RecordItem r) = record_spelling (record_bytes rules r)
   item_spelling rules (TelnetItem t) = telnet_spelling t
@@ -30,6 +31,7 @@ module _ {Place U : Type 0} where
   CanBeEncoded rules (RecordItem r) = IsWhole rules r.body × (length (record_bytes rules r) < 2 ^ 16)
   CanBeEncoded rules (TelnetItem t) = Unit {0}
 
+  -- each item of a list can be encoded
   abbrev pub CanAllBeEncoded : Rules Place U → List (Item U) → Type 0
   CanAllBeEncoded rules items = AllByRecursion (CanBeEncoded rules) items
 

@@ -16,6 +16,7 @@ use Rattle.ws_record.specs.declared.record.Record.{Record}
 use Rattle.ws_record.specs.declared.record.Item.{Item}
 use Rattle.ws_record.specs.declared.record.Item.TheVariants.{Record as RecordItem, Telnet as TelnetItem}
 
+-- the byte of an opcode (RFC 1205, section 4)
 abbrev pub opcode_byte : Opcode → ℕ
 opcode_byte NoOperation = 0x00
 opcode_byte Invite = 0x01
@@ -53,6 +54,7 @@ module _ {Place U : Type 0} where
   abbrev pub record_bytes : Rules Place U → Record U → List ℕ
   record_bytes rules r = header (10 + length (spelling_of rules r.body)) r.flags r.opcode ++ spelling_of rules r.body
 
+  -- a record that the grammar has: a whole body, and flags and a length that two bytes can say (RFC 1205, section 3)
   pub record IsRecord (rules : Rules Place U) (r : Record U) : Type 0 where
     pub body : IsWhole rules r.body
     pub flags_fit : r.flags < 2 ^ 16
@@ -66,17 +68,21 @@ data_of (Data b) = b ∷ []
 data_of Eor = []
 data_of (TelnetToken t) = []
 
+-- the Telnet command that a token is, if it is one
 abbrev pub command_of : Token → List Telnet
 command_of (Data b) = []
 command_of Eor = []
 command_of (TelnetToken t) = t ∷ []
 
+-- the data bytes that tokens carry, without their escapes
 abbrev pub carried : List Token → List ℕ
 carried tokens = flat_map data_of tokens
 
+-- the Telnet commands among tokens, in order, as items
 abbrev pub commands : {U : Type 0} → List Token → List (Item U)
 commands tokens = map TelnetItem (flat_map command_of tokens)
 
+-- none of the tokens ends a record
 abbrev pub HasNoEor : List Token → Type 0
 HasNoEor tokens = AllByRecursion (λ t. t ≢ Eor) tokens
 

@@ -15,4 +15,3 @@ pub mod Receiver
 pub mod Refusal
 pub mod Steps
 pub mod Taking
-pub mod Tests

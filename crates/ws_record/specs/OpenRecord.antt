@@ -16,6 +16,7 @@ pub record RecordSoFar (U : Type 0) : Type 0 where
   pub head : Option Head
   pub units : List U
 
+-- no byte of a next record has come
 abbrev pub no_record : {U : Type 0} → RecordSoFar U
 no_record = record { bytes = []; head = None; units = [] }
 

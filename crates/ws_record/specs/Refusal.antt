@@ -62,6 +62,7 @@ module _ {Place U : Type 0} where
       × (reason ≡ rules.reason (place_after rules rules.first units) begun b)
   IsBodyReason rules bytes end reason = reason ≡ EndedInside
 
+  -- why a layer refuses a byte: the token, the header, the body and the end of a record each have their reasons
   abbrev pub IsReason : Rules Place U → Layer → List ℕ → ℕ → Reason → Type 0
   IsReason rules Tokens before b reason = (tokens : List Token) × (begun : List ℕ)
       × IsCut token_rules before tokens begun × (reason ≡ token_rules.reason tt begun b)

@@ -34,16 +34,3 @@ pub use ws_code::{
     VecSink, WriteSink, write_whole,
 };
 pub use ws_telnet::{CommandCode, Sub, Telnet, Verb};
-
-#[cfg(test)]
-mod body_tests;
-#[cfg(test)]
-mod encode_tests;
-#[cfg(test)]
-mod escaped;
-#[cfg(test)]
-mod feed_tests;
-#[cfg(test)]
-mod size_tests;
-#[cfg(test)]
-mod tests;

@@ -113,8 +113,3 @@ written_back bytes at n h =
     ap (λ k. take at bytes ++ take n (drop at bytes) ++ drop (at + k) bytes) long
     ∙ ap (λ l. l ++ drop (at + n) bytes) (sym (take-add at n bytes))
     ∙ take-append-drop (at + n) bytes
-
-pub range_is : (bytes : List ℕ) (at n : ℕ) → take ((at + n) - at) (drop at bytes) ≡ take n (drop at bytes)
-range_is bytes at n =
-    let e : (at + n) - at ≡ n = omega arith in
-    ap (λ k. take k (drop at bytes)) e

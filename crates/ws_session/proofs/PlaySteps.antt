@@ -1,11 +1,10 @@
 use Rattle.std.specs.Prelude.{nat_lt, if◌then◌else◌}
 use Rattle.std.proofs.Common.{◌≡◌, ℕ, ◌+◌, ◌-◌, ◌<◌, ◌≤◌, ◌^◌, min, inl, inr, Bool, true, false, List, [], ◌∷◌, ◌++◌}
-use Rattle.std.proofs.Common.{Ok, Err, length, take, drop, get_or, refl, ap, ◌∙◌, sym, subst, arith, append_assoc}
+use Rattle.std.proofs.Common.{length, take, drop, get_or, refl, ap, ◌∙◌, sym, subst, arith, append_assoc}
 use Rattle.std.proofs.Common.{length-append, take-append-drop}
 use Rattle.std.proofs.lemmas.List.{append-nil, take_more}
 use Rattle.ws_code.specs.declared.fault.Fault.{Fault}
 use Rattle.ws_code.specs.declared.fault.Fault.TheVariants.{Refused, Truncated, Memory, Read, Write, Failed}
-use Rattle.ws_code.specs.declared.reason.Reason.{Reason}
 use Rattle.ws_code.specs.Device.{MayTake, WentOut, FailedWithin}
 use Rattle.ws_code.proofs.DeviceLaws.{went_out_none, went_out_both, failed_within_both}
 use Rattle.ws_nego.specs.declared.terminal.TerminalType.{TerminalType}
@@ -14,15 +13,21 @@ use Rattle.ws_record.specs.declared.record.Item.TheVariants.{Record as RecordIte
 use Rattle.ws_stream.specs.declared.element.Element.{Element}
 use Rattle.ws_keys.specs.declared.key.Key.{Key}
 use Rattle.ws_session.specs.declared.player.Player.{Player}
-use Rattle.ws_session.specs.declared.refusal.Refusal.TheVariants.{At}
-use Rattle.ws_session.specs.declared.station.StationStep.{StationStep}
+use Rattle.ws_session.specs.declared.end_step.Applied.{Applied}
+use Rattle.ws_session.specs.declared.refusal.Refusal.{Refusal}
+use Rattle.ws_session.specs.declared.refusal.Refusal.TheVariants.{At, Failed as NoMore, Memory as NoMemory}
+use Rattle.ws_session.specs.Acts.{Came}
+use Rattle.ws_session.specs.Attachments.{fault_of}
+use Rattle.ws_session.specs.Manners.{applied_by, StationGoes, StationRefuses}
+use Rattle.ws_session.specs.Written.{IsUntaken}
 use Rattle.ws_session.specs.Moments.{Moment, Arrives, Presses, Outcome, idle_outcome, outcome_of_both, at_item}
 use Rattle.ws_session.specs.Moments.{at_moment, outcome, goes_on, AreTaken, due, later, one_record, moments_from}
 use Rattle.ws_session.specs.Moments.{moments}
 use Rattle.ws_session.specs.Playing.{HasDone, HasCome, records_from, keys_left_from}
-use Rattle.ws_session.specs.StationLeads.{StationParts, StationLeads, IsInside, IsTaken, IsStepped, is_record}
-use Rattle.ws_session.specs.StationRun.{refusal_count, behind, run_text, RunRefuses, RunUnwritten, IsRunFault}
+use Rattle.ws_session.specs.StationLeads.{StationParts, StationLeads, IsTaken}
+use Rattle.ws_session.specs.StationRun.{refusal_count, behind, run_text, RunUnwritten, IsRunFault}
 use Rattle.ws_session.specs.StationSide.{StationSide, new_station_side}
+use Rattle.ws_session.proofs.EndSteps.{Went, station_went}
 use Rattle.ws_session.proofs.Plays.{text_of, text_append, outcome_append, none_due, later_by}
 
 -- What a byte makes of a run's player.
@@ -79,13 +84,14 @@ keys_taken s n (k ∷ ks) = by_test (nat_lt n k.0) (keys_taken (at_moment s (Pre
     by_test true rest = tt
     by_test false rest = (refl, rest)
 
-one_of : (item : Item Element) → is_record item ≡ false → one_record item ≡ 0
+-- a record is told, and nothing else
+one_of : (item : Item Element) → [] ≡ applied_by item → one_record item ≡ 0
 one_of (RecordItem r) e = cc
 one_of (TelnetItem token) e = refl
 
-one_of_record : (item : Item Element) → is_record item ≡ true → one_record item ≡ 1
-one_of_record (RecordItem r) e = refl
-one_of_record (TelnetItem token) e = cc
+one_of_record : (item : Item Element) (event : Applied) → event ∷ [] ≡ applied_by item → one_record item ≡ 1
+one_of_record (RecordItem r) event e = refl
+one_of_record (TelnetItem token) event e = cc
 
 module _ {S : Type 0} (takes : MayTake S) (failures : S → ℕ) (t : TerminalType) (keys : List (ℕ × Key)) (start now : S)
     (old : Player) (before : StationParts) (bytes : List ℕ) (items : List (Item Element)) (byte : ℕ)
@@ -97,15 +103,15 @@ module _ {S : Type 0} (takes : MayTake S) (failures : S → ℕ) (t : TerminalTy
   longer = bytes ++ byte ∷ []
 
   -- no item is complete
-  inside_comes : (reply : List ℕ) (to : S) → IsInside before old.station bytes items so_far.side byte reply
+  inside_comes : (reply : List ℕ) (to : S) → reply ≡ [] → StationLeads old.station longer items so_far.side
       → WentOut takes failures now to reply → HasCome takes failures t keys start old to longer items
-  inside_comes reply to i went = record {
-    is_behind = record { leads = i.leads; taken = c.is_behind.taken };
+  inside_comes reply to silent leads went = record {
+    is_behind = record { leads = leads; taken = c.is_behind.taken };
     refused = c.refused;
     records = c.records;
     left = c.left;
     few = omega (arith, c.few, length-append bytes (byte ∷ []));
-    wrote = subst (WentOut takes failures start to) (ap (λ z. run_text t keys items ++ z) i.silent
+    wrote = subst (WentOut takes failures start to) (ap (λ z. run_text t keys items ++ z) silent
         ∙ append-nil (run_text t keys items)) (went_out_both takes failures start now to
         (run_text t keys items) reply c.wrote went);
   }
@@ -202,119 +208,136 @@ module _ {S : Type 0} (takes : MayTake S) (failures : S → ℕ) (t : TerminalTy
         unwritten to (subst (FailedWithin takes failures start to) text (failed_within_both takes failures start mid to
         (xs ++ reply) ys [] (went_out_both takes failures start now mid xs reply c.wrote went) failed))
 
-  -- ---- by what the byte gives
-  module _ (step : StationStep) (few : length bytes + 2 < 2 ^ 64) where
-    abbrev Steps : Type 0
-    Steps = IsStepped before old.station bytes items so_far.side byte (Ok step)
+  -- ---- by what the byte has done
+  module _ (few : length bytes + 2 < 2 ^ 64) where
+    module _ (reply : List ℕ) (told : List Applied)
+        (goes : StationGoes before (Came byte ∷ []) reply told old.station) where
+      went_by : Went old.station bytes items so_far.side byte reply told
+      went_by = station_went old.station bytes items so_far.side byte reply told
+          (goes bytes items so_far.side c.is_behind.leads (omega (arith, few)))
 
-    -- the reply isn't written
-    pub reply_fails : (to : S) → FailedWithin takes failures now to step.reply → Steps
-        → RunUnwritten t keys takes failures start to longer
-    reply_fails to failed (inl i) =
-        let none = subst (FailedWithin takes failures now to) i.0.silent failed in
-        absurd (let e : 0 < 0 = omega (arith, none.within) in omega (arith, e))
-    reply_fails to failed (inr taken) = reply_unwritten step.reply taken.0 to failed
+      -- the reply isn't written
+      reply_fails : (to : S) → FailedWithin takes failures now to reply
+          → RunUnwritten t keys takes failures start to longer
+      reply_fails to failed = elim went_by [
+        | inl i ↦
+            (let none = subst (FailedWithin takes failures now to) i.0 failed in
+            absurd (let e : 0 < 0 = omega (arith, none.within) in omega (arith, e)))
+        | inr taken ↦ reply_unwritten reply taken.0 to failed
+      ]
 
-    -- it ends no record
-    pub no_record : (to : S) → step.ends_record ≡ false → WentOut takes failures now to step.reply → Steps
-        → (next : List (Item Element)) × HasCome takes failures t keys start old to longer next
-    no_record to e went (inl i) = (items, inside_comes step.reply to i.0 went)
-    no_record to e went (inr taken) =
-        let item : Item Element = taken.0.item in
-        let one : one_record item ≡ 0 = one_of item (sym taken.1 ∙ e) in
-        let same : records_from 0 items + one_record item ≡ records_from 0 items = omega (arith, one) in
-        let settled = left_settled 0 keys items in
-        let none : due (records_from 0 items + one_record item) (keys_left_from 0 keys items)
-        ≡ [] = ap (λ n. due n (keys_left_from 0 keys items)) same ∙ settled.0 in
-        let side : StationSide = taken.0.next in
-        let done : HasDone takes failures longer (items ++ item ∷ []) (record old { records = old.records }) old to to
-        (idle_outcome side) = record {
-          leads = taken.0.leads;
-          refused = λ n is. is ∙ ap refusal_count (let f : n ≡ n + 0 = omega arith in f);
-          records = refl;
-          wrote = went_out_none takes failures to;
-        } in (
-          items ++ item ∷ [],
-          item_comes step.reply taken.0 old.records old to to (omega (arith, one)) went
-              (subst (λ (ms : List Moment). HasDone takes failures longer (items ++ item ∷ [])
-              (record old { records = old.records }) old to to (outcome side ms)) (sym none) done)
-              (c.left ∙ sym settled.1 ∙ ap (λ n. later n (keys_left_from 0 keys items)) (sym same))
-              (omega (arith, one)),
-        )
+      -- it ends no record
+      pub no_record : (to : S) → told ≡ [] → WentOut takes failures now to reply
+          → (next : List (Item Element)) × HasCome takes failures t keys start old to longer next
+      no_record to e went = elim went_by [
+        | inl i ↦ (items, inside_comes reply to i.0 i.2 went)
+        | inr taken ↦
+            (let item : Item Element = taken.0.item in
+            let one : one_record item ≡ 0 = one_of item (sym e ∙ taken.1) in
+            let same : records_from 0 items + one_record item ≡ records_from 0 items = omega (arith, one) in
+            let settled = left_settled 0 keys items in
+            let none : due (records_from 0 items + one_record item) (keys_left_from 0 keys items)
+            ≡ [] = ap (λ n. due n (keys_left_from 0 keys items)) same ∙ settled.0 in
+            let side : StationSide = taken.0.next in
+            let done : HasDone takes failures longer (items ++ item ∷ []) (record old { records = old.records }) old to
+            to (idle_outcome side) = record {
+              leads = taken.0.leads;
+              refused = λ n is. is ∙ ap refusal_count (let f : n ≡ n + 0 = omega arith in f);
+              records = refl;
+              wrote = went_out_none takes failures to;
+            } in (
+              items ++ item ∷ [],
+              item_comes reply taken.0 old.records old to to (omega (arith, one)) went
+                  (subst (λ (ms : List Moment). HasDone takes failures longer (items ++ item ∷ [])
+                  (record old { records = old.records }) old to to (outcome side ms)) (sym none) done)
+                  (c.left ∙ sym settled.1 ∙ ap (λ n. later n (keys_left_from 0 keys items)) (sym same))
+                  (omega (arith, one)),
+            ))
+      ]
 
-    -- it ends one
-    module _ (ends : step.ends_record ≡ true) (records : ℕ) (is : records ≡ min (old.records + 1) (2 ^ 64 - 1))
-        (mid : S) (went : WentOut takes failures now mid step.reply) where
-      counts : (item : Item Element) → is_record item ≡ true → (records ≡ old.records + one_record item)
-          × (records ≡ records_from 0 items + one_record item)
-      counts item e =
-          let one : one_record item ≡ 1 = one_of_record item e in
-          let f : records ≡ old.records + one_record item = omega (arith, one, is, c.few, few) in
-          (f, f ∙ ap (λ n. n + one_record item) c.records)
+      -- it ends one
+      module _ (event : Applied) (ends : told ≡ event ∷ []) (records : ℕ)
+          (is : records ≡ min (old.records + 1) (2 ^ 64 - 1)) (mid : S) (went : WentOut takes failures now mid reply)
+        where
+          counts : (item : Item Element) → told ≡ applied_by item → (one_record item ≡ 1)
+              × (records ≡ old.records + one_record item) × (records ≡ records_from 0 items + one_record item)
+          counts item e =
+              let one : one_record item ≡ 1 = one_of_record item event (sym ends ∙ e) in
+              let f : records ≡ old.records + one_record item = omega (arith, one, is, c.few, few) in
+              (one, f, f ∙ ap (λ n. n + one_record item) c.records)
 
-      pub record_comes : (new : Player) (to : S)
-          → ((bytes : List ℕ) (items : List (Item Element)) (side : StationSide)
-          → StationLeads old.station bytes items side → length bytes + 1 < 2 ^ 64
-          → HasDone takes failures bytes items (record old { records = records }) new mid to
-          (outcome side (due records (drop old.pressed keys))))
-          → drop new.pressed keys ≡ later records (drop old.pressed keys) → Steps → (next : List (Item Element))
-          × HasCome takes failures t keys start new to longer next
-      record_comes new to done left (inl i) = absurd (let e : true ≡ false = sym ends ∙ i.1 in cc)
-      record_comes new to done left (inr taken) =
-          let item : Item Element = taken.0.item in
-          let n = counts item (sym taken.1 ∙ ends) in
-          let one : one_record item ≡ 1 = one_of_record item (sym taken.1 ∙ ends) in
-          let at : due records (drop old.pressed keys) ≡ due (records_from 0 items + one_record item)
-          (keys_left_from 0 keys items) = ap (λ z. due z (drop old.pressed keys)) n.1
-          ∙ ap (due (records_from 0 items + one_record item)) c.left in (
-            items ++ item ∷ [],
-            item_comes step.reply taken.0 records new mid to n.0 went
-                (subst (λ (ms : List Moment). HasDone takes failures longer (items ++ item ∷ [])
-                (record old { records = records }) new mid to (outcome taken.0.next ms)) at
-                (done longer (items ++ item ∷ []) taken.0.next taken.0.leads
+          now_due : (item : Item Element) → told ≡ applied_by item → due records (drop old.pressed keys)
+              ≡ due (records_from 0 items + one_record item) (keys_left_from 0 keys items)
+          now_due item e = ap (λ z. due z (drop old.pressed keys)) (counts item e).2
+              ∙ ap (due (records_from 0 items + one_record item)) c.left
+
+          pub record_comes : (new : Player) (to : S)
+              → ((bytes : List ℕ) (items : List (Item Element)) (side : StationSide)
+              → StationLeads old.station bytes items side → length bytes + 1 < 2 ^ 64
+              → HasDone takes failures bytes items (record old { records = records }) new mid to
+              (outcome side (due records (drop old.pressed keys))))
+              → drop new.pressed keys ≡ later records (drop old.pressed keys) → (next : List (Item Element))
+              × HasCome takes failures t keys start new to longer next
+          record_comes new to done left = elim went_by [
+            | inl i ↦ absurd (let e : event ∷ [] ≡ [] = sym ends ∙ i.1 in cc)
+            | inr taken ↦
+                (let item : Item Element = taken.0.item in
+                let n = counts item taken.1 in (
+                  items ++ item ∷ [],
+                  item_comes reply taken.0 records new mid to n.1 went
+                      (subst (λ (ms : List Moment). HasDone takes failures longer (items ++ item ∷ [])
+                      (record old { records = records }) new mid to (outcome taken.0.next ms)) (now_due item taken.1)
+                      (done longer (items ++ item ∷ []) taken.0.next taken.0.leads
+                      (omega (arith, few, length-append bytes (byte ∷ [])))))
+                      (left ∙ ap (λ z. later z (drop old.pressed keys)) n.2
+                      ∙ ap (later (records_from 0 items + one_record item)) c.left) (omega (arith, n.0)),
+                ))
+          ]
+
+          pub keys_fail : (to : S)
+              → ((bytes : List ℕ) (items : List (Item Element)) (side : StationSide)
+              → StationLeads old.station bytes items side → length bytes + 1 < 2 ^ 64
+              → FailedWithin takes failures mid to
+              (text_of (outcome side (due records (drop old.pressed keys))).written))
+              → RunUnwritten t keys takes failures start to longer
+          keys_fail to failed = elim went_by [
+            | inl i ↦ absurd (let e : event ∷ [] ≡ [] = sym ends ∙ i.1 in cc)
+            | inr taken ↦
+                keys_unwritten reply taken.0 mid to went (subst (λ (ms : List Moment). FailedWithin takes failures mid to
+                (text_of (outcome taken.0.next ms).written)) (now_due taken.0.item taken.1)
+                (failed longer (items ++ taken.0.item ∷ []) taken.0.next taken.0.leads
                 (omega (arith, few, length-append bytes (byte ∷ [])))))
-                (left ∙ ap (λ z. later z (drop old.pressed keys)) n.1
-                ∙ ap (later (records_from 0 items + one_record item)) c.left) (omega (arith, one)),
-          )
+          ]
 
-      pub keys_fail : (to : S)
-          → ((bytes : List ℕ) (items : List (Item Element)) (side : StationSide)
-          → StationLeads old.station bytes items side → length bytes + 1 < 2 ^ 64
-          → FailedWithin takes failures mid to
-          (text_of (outcome side (due records (drop old.pressed keys))).written))
-          → Steps → RunUnwritten t keys takes failures start to longer
-      keys_fail to failed (inl i) = absurd (let e : true ≡ false = sym ends ∙ i.1 in cc)
-      keys_fail to failed (inr taken) =
-          let item : Item Element = taken.0.item in
-          let n = counts item (sym taken.1 ∙ ends) in
-          let at : due records (drop old.pressed keys) ≡ due (records_from 0 items + one_record item)
-          (keys_left_from 0 keys items) = ap (λ z. due z (drop old.pressed keys)) n.1
-          ∙ ap (due (records_from 0 items + one_record item)) c.left in
-          keys_unwritten step.reply taken.0 mid to went
-          (subst (λ (ms : List Moment). FailedWithin takes failures mid to (text_of (outcome taken.0.next ms).written))
-          at (failed longer (items ++ item ∷ []) taken.0.next taken.0.leads
-          (omega (arith, few, length-append bytes (byte ∷ [])))))
+    -- the byte is refused, or its item
+    refused_as : (to : S) → to ≡ now → (refusal : Refusal) → StationRefuses before byte refusal old.station
+        → IsRunFault t keys takes failures start to (length bytes) longer (fault_of refusal)
+    refused_as to unwritten (At place reason) refuses =
+        let is = refuses bytes items so_far.side c.is_behind.leads (omega (arith, few)) in
+        record {
+          before = bytes;
+          byte = byte;
+          after = [];
+          split = refl;
+          at_place = is.0;
+          prompt = omega (arith, is.0);
+          items = items;
+          station = before;
+          is_behind = c.is_behind;
+          why = is.2;
+          wrote = subst (λ (z : S). WentOut takes failures start z (run_text t keys items)) (sym unwritten) c.wrote;
+        }
+    refused_as to unwritten NoMore refuses = refuses bytes items so_far.side c.is_behind.leads (omega (arith, few))
+    refused_as to unwritten NoMemory refuses = refuses bytes items so_far.side c.is_behind.leads (omega (arith, few))
 
--- the byte is refused, or its item
-module _ {S : Type 0} (takes : MayTake S) (failures : S → ℕ) (t : TerminalType) (keys : List (ℕ × Key)) (start now : S)
-    (old : Player) (bytes : List ℕ) (items : List (Item Element)) (byte : ℕ)
-    (c : HasCome takes failures t keys start old now bytes items) where
-  pub byte_refused : (station : StationParts) (place : ℕ) (reason : Reason) → IsStepped old.station station bytes items
-      (behind t keys items).side byte (Err (At place reason)) → RunRefuses t keys takes failures start now
-      (length bytes) (bytes ++ byte ∷ []) place reason
-  byte_refused station place reason is = record {
-    before = bytes;
-    byte = byte;
-    after = [];
-    split = refl;
-    at_place = is.0;
-    prompt = omega (arith, is.0);
-    items = items;
-    station = old.station;
-    is_behind = c.is_behind;
-    why = is.2;
-    wrote = c.wrote;
-  }
+    -- it doesn't come through
+    pub byte_fails : (to : S) (fault : Fault)
+        → IsUntaken StationGoes StationRefuses takes failures before old.station now to byte fault
+        → IsRunFault t keys takes failures start to (length bytes) longer fault
+    byte_fails to fault (inl h) = subst (IsRunFault t keys takes failures start to (length bytes) longer) (sym h.0)
+        (reply_fails h.1.written h.1.told h.1.led to h.1.failed)
+    byte_fails to fault (inr h) = subst (IsRunFault t keys takes failures start to (length bytes) longer) (sym h.is)
+        (refused_as to h.unwritten h.refusal h.refused)
 
 -- a fault within some bytes is one within more
 pub fault_within : (t : TerminalType) (keys : List (ℕ × Key)) {S : Type 0} (takes : MayTake S) (failures : S → ℕ)

@@ -1,31 +1,31 @@
 use Rattle.std.specs.Prelude.{nat_lt, if◌then◌else◌}
-use Rattle.std.proofs.Common.{◌≡◌, ℕ, suc, ◌+◌, ◌-◌, ◌<◌, ◌≤◌, ◌^◌, min, Bool, true, false, List, [], ◌∷◌, ◌++◌, Some}
-use Rattle.std.proofs.Common.{None, Ok, Err, length, drop, get_or, refl, ap, ◌∙◌, sym, subst, arith, append_assoc}
+use Rattle.std.proofs.Common.{◌≡◌, ℕ, suc, ◌+◌, ◌-◌, ◌<◌, ◌≤◌, ◌^◌, min, Bool, true, false, List, [], ◌∷◌, ◌++◌}
+use Rattle.std.proofs.Common.{length, drop, get_or, refl, ap, ◌∙◌, sym, subst, arith, append_assoc}
 use Rattle.std.proofs.Common.{drop-cons, add-one}
 use Rattle.std.proofs.lemmas.List.{append-nil, drop_all}
 use Rattle.std.proofs.lemmas.Bool.Decides.{nat_tests}
 use Rattle.std.proofs.lemmas.Grind.{flat_map-append}
 use Rattle.ws_code.specs.Device.{MayTake, WentOut, FailedWithin}
 use Rattle.ws_code.proofs.DeviceLaws.{went_out_none, went_out_both, failed_within_both}
-use Rattle.ws_record.specs.declared.opcode.Opcode.TheVariants.{PutGet}
 use Rattle.ws_record.specs.declared.record.Item.{Item}
-use Rattle.ws_record.specs.Encode.{item_spelling, plain_spelling, record_spelling}
-use Rattle.ws_record.specs.Grammar.{header}
+use Rattle.ws_record.specs.Encode.{item_spelling, plain_spelling}
 use Rattle.ws_stream.specs.AnswerParts.{answer_rules}
 use Rattle.ws_stream.specs.declared.answer_part.AnswerPart.{AnswerPart}
 use Rattle.ws_stream.specs.declared.element.Element.{Element}
-use Rattle.ws_keys.specs.declared.answer.Answer.{Answer}
-use Rattle.ws_keys.specs.declared.answer.Answer.TheVariants.{Read, Attention, SystemRequest}
 use Rattle.ws_keys.specs.declared.key.Key.{Key}
-use Rattle.ws_session.specs.AnswerSpelling.{answer_spelling}
 use Rattle.ws_session.specs.declared.player.Player.{Player}
 use Rattle.ws_session.specs.declared.key_fault.KeyFault.{KeyFault}
 use Rattle.ws_session.specs.Moments.{Moment, Presses, Outcome, idle_outcome, outcome_of_both, at_key, at_moment}
 use Rattle.ws_session.specs.Moments.{outcome, due, later}
 use Rattle.ws_session.specs.Playing.{HasDone}
-use Rattle.ws_session.specs.StationLeads.{StationParts, StationLeads, IsKeyed}
+use Rattle.ws_session.specs.StationLeads.{StationParts, StationLeads}
 use Rattle.ws_session.specs.StationRun.{refusal_count}
-use Rattle.ws_session.specs.StationSide.{StationSide, KeyReaction}
+use Rattle.ws_session.specs.StationSide.{StationSide, station_key, KeyReaction, RefusesKey, Silent, Answers, Signals}
+use Rattle.ws_session.specs.Acts.{Did}
+use Rattle.ws_session.specs.Manners.{station_at_key, StationGoes, IsKeyRefusal, IsKeyTaken}
+use Rattle.ws_session.specs.Written.{HasWritten, HasWrittenFront}
+use Rattle.ws_session.specs.declared.end_step.Applied.{Applied}
+use Rattle.ws_session.proofs.EndDeeds.{key_did}
 
 -- What the keys of a run make of its player.
 
@@ -71,69 +71,69 @@ outcome_append s (m ∷ ms) ns =
     ap (outcome_of_both a) (outcome_append a.side ms ns)
     ∙ sym (followed_assoc a (outcome a.side ms) (outcome (outcome a.side ms).side ns))
 
--- what an answer is spelled as
-abbrev Sends : StationParts → List ℕ → List (Item Element) → List ℕ → Outcome → Type 0
-Sends station bytes items text o = (text ≡ text_of o.written) × StationLeads station bytes items o.side
-    × (o.refused ≡ 0)
+-- ---- a key, as an act and at its moment
 
-pub key_sends : (old station : StationParts) (bytes : List ℕ) (items : List (Item Element)) (side : StationSide)
-    (key : Key) (answer : Answer) → IsKeyed old station bytes items side key (Ok (Some answer))
-    → Sends station bytes items (answer_spelling answer) (at_moment side (Presses key))
-key_sends old station bytes items side key (Read body) k =
-    subst (λ (z : KeyReaction). Sends station bytes items (answer_spelling (Read body)) (at_key side z)) (sym k.3)
-    (ap (λ z. record_spelling (header (10 + length z) 0 PutGet ++ z)) k.4 ∙ sym (append-nil _), k.5, refl)
-key_sends old station bytes items side key Attention k =
-    subst (λ (z : KeyReaction). Sends station bytes items (answer_spelling Attention) (at_key side z)) (sym k.0)
-    (refl, k.1, refl)
-key_sends old station bytes items side key SystemRequest k =
-    subst (λ (z : KeyReaction). Sends station bytes items (answer_spelling SystemRequest) (at_key side z)) (sym k.0)
-    (refl, k.1, refl)
+-- it has written this text, and come here
+abbrev Comes : StationParts → List ℕ → List (Item Element) → List ℕ → List (Item AnswerPart) → StationSide → Type 0
+Comes station bytes items text written side = (text ≡ text_of written) × StationLeads station bytes items side
+
+by_act : (station : StationParts) (bytes : List ℕ) (items : List (Item Element)) (side : StationSide) (text : List ℕ)
+    (z : KeyReaction)
+    → Comes station bytes items text (station_at_key side z).written (station_at_key side z).side
+    → Comes station bytes items text (at_key side z).written (at_key side z).side
+by_act station bytes items side text (RefusesKey fault) p = p
+by_act station bytes items side text (Silent next) p = p
+by_act station bytes items side text (Answers next kind aid) p = p
+by_act station bytes items side text (Signals opcode flags) p = p
+
+unrefused : (side : StationSide) (z : KeyReaction) → ((fault : KeyFault) → z ≡ RefusesKey fault → ⊥)
+    → (at_key side z).refused ≡ 0
+unrefused side (RefusesKey fault) taken = absurd (taken fault refl)
+unrefused side (Silent next) taken = refl
+unrefused side (Answers next kind aid) taken = refl
+unrefused side (Signals opcode flags) taken = refl
 
 add_none : (n m : ℕ) (before : ℕ) → m ≡ 0 → n ≡ refusal_count before → n ≡ refusal_count (before + m)
 add_none n m before e is = is ∙ ap refusal_count (let f : before ≡ before + m = omega (arith, e) in f)
 
 module _ {S : Type 0} (takes : MayTake S) (failures : S → ℕ) (old : Player) (bytes : List ℕ)
-    (items : List (Item Element)) (side : StationSide) (key : Key) (station : StationParts) where
-  abbrev Done : Player → S → S → KeyReaction → Type 0
-  Done new from to z = HasDone takes failures bytes items old new from to (at_key side z)
+    (items : List (Item Element)) (side : StationSide) (key : Key) (station : StationParts) (from to : S)
+    (l : StationLeads old.station bytes items side) (few : length bytes + 1 < 2 ^ 64) where
+  pressed : (text : List ℕ) (told : List Applied) → StationGoes old.station (Did key ∷ []) text told station
+      → Comes station bytes items text (at_moment side (Presses key)).written (at_moment side (Presses key)).side
+  pressed text told goes = by_act station bytes items side text (station_key side key)
+      (key_did station bytes items side key text told (goes bytes items side l (omega (arith, few))))
 
-  pub silent_done : (now : S) → IsKeyed old.station station bytes items side key (Ok None)
-      → HasDone takes failures bytes items old (record old { station = station }) now now (at_moment side (Presses key))
-  silent_done now k = subst (Done (record old { station = station }) now now) (sym k.1) (record {
-    leads = k.2;
-    refused = λ before is. add_none old.keys_refused 0 before refl is;
-    records = refl;
-    wrote = went_out_none takes failures now;
-  })
-
-  pub sent_done : (from to : S) (answer : Answer) → IsKeyed old.station station bytes items side key (Ok (Some answer))
-      → WentOut takes failures from to (answer_spelling answer)
+  pub taken_done : HasWritten StationGoes takes failures old.station station from to (Did key ∷ []) []
+      → IsKeyTaken old.station key
       → HasDone takes failures bytes items old (record old { station = station }) from to (at_moment side (Presses key))
-  sent_done from to answer k went =
-      let s = key_sends old.station station bytes items side key answer k in
+  taken_done h taken =
+      let p = pressed h.written [] h.led in
       record {
-        leads = s.1;
-        refused = λ before is. add_none old.keys_refused (at_moment side (Presses key)).refused before s.2 is;
+        leads = p.1;
+        refused = λ before is. add_none old.keys_refused (at_moment side (Presses key)).refused before
+            (unrefused side (station_key side key) (taken bytes items side l few)) is;
         records = refl;
-        wrote = subst (WentOut takes failures from to) s.0 went;
+        wrote = subst (WentOut takes failures from to) p.0 h.wrote;
       }
 
-  pub sent_failed : (from to : S) (answer : Answer) → IsKeyed old.station station bytes items side key
-      (Ok (Some answer)) → FailedWithin takes failures from to (answer_spelling answer)
+  pub press_failed : HasWrittenFront StationGoes takes failures old.station station from to (Did key ∷ [])
       → FailedWithin takes failures from to (text_of (at_moment side (Presses key)).written)
-  sent_failed from to answer k failed =
-      subst (FailedWithin takes failures from to) (key_sends old.station station bytes items side key answer k).0 failed
+  press_failed h = subst (FailedWithin takes failures from to) (pressed h.written h.told h.led).0 h.failed
 
-  pub refused_done : (now : S) (fault : KeyFault) (count : ℕ) → StationLeads old.station bytes items side
-      → IsKeyed old.station station bytes items side key (Err fault) → count ≡ min (old.keys_refused + 1) (2 ^ 32 - 1)
-      → HasDone takes failures bytes items old (record old { station = station; keys_refused = count }) now now
+  pub refused_done : (fault : KeyFault) (count : ℕ) → station ≡ old.station → to ≡ from
+      → IsKeyRefusal old.station key fault → count ≡ min (old.keys_refused + 1) (2 ^ 32 - 1)
+      → HasDone takes failures bytes items old (record old { station = station; keys_refused = count }) from to
       (at_moment side (Presses key))
-  refused_done now fault count l k is = subst (Done (record old { station = station; keys_refused = count }) now now)
-      (sym k.0) (record {
-        leads = subst (λ (z : StationParts). StationLeads z bytes items side) (sym k.1) l;
+  refused_done fault count same unwritten refusal is =
+      subst (λ (z : KeyReaction). HasDone takes failures bytes items old
+      (record old { station = station; keys_refused = count }) from to (at_key side z))
+      (sym (refusal bytes items side l few)) (record {
+        leads = subst (λ (z : StationParts). StationLeads z bytes items side) (sym same) l;
         refused = λ before e. (let f : count ≡ refusal_count (before + 1) = omega (arith, e, is) in f);
         records = refl;
-        wrote = went_out_none takes failures now;
+        wrote = subst (λ (z : S). WentOut takes failures from z []) (sym unwritten)
+            (went_out_none takes failures from);
       })
 
 -- one after another

@@ -50,6 +50,7 @@ module _ {S R : Type 0} (takes : MayTake S) (failures : S → ℕ) (gives : MayG
 module _ {S R T Q : Type 0} (takes : MayTake S) (failures : S → ℕ) (gives : MayGive R) (misses : R → ℕ)
     (takes' : MayTake
     T) (failures' : T → ℕ) (gives' : MayGive Q) (misses' : Q → ℕ) where
+  -- a line failed in this way, on its way in or out; what crossed until then did cross
   abbrev pub AreEnded : Line S R → Line S R → Line T Q → Line T Q → Fault → Type 0
   AreEnded from to from' to' fault =
       ((fault ≡ Memory) × HasCrossed takes failures gives misses from to

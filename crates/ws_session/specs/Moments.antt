@@ -10,6 +10,7 @@ use Rattle.ws_session.specs.Reaction.{Reaction, Refuses, GoesOn, empty_record}
 use Rattle.ws_session.specs.StationSide.{StationSide, screen_at, station_takes, KeyReaction, RefusesKey, Silent}
 use Rattle.ws_session.specs.StationSide.{Answers, Signals, station_key, answer_record}
 
+-- what happens to a station: an item arrives, or a key is pressed
 pub data Moment : Type 0 where
   Arrives : Item Element → Moment
   Presses : Key → Moment
@@ -20,9 +21,11 @@ pub record Outcome : Type 0 where
   pub written : List (Item AnswerPart)
   pub refused : ℕ
 
+-- nothing comes of it
 abbrev pub idle_outcome : StationSide → Outcome
 idle_outcome s = record { side = s; written = []; refused = 0 }
 
+-- what comes of one moment and then of another
 abbrev pub outcome_of_both : Outcome → Outcome → Outcome
 outcome_of_both a b = record { side = b.side; written = a.written ++ b.written; refused = a.refused + b.refused }
 
@@ -39,6 +42,7 @@ at_key s (Answers next kind aid) =
     record { side = next; written = answer_record (screen_at s) kind aid ∷ []; refused = 0 }
 at_key s (Signals opcode flags) = record { side = s; written = empty_record flags opcode ∷ []; refused = 0 }
 
+-- what comes of a moment
 abbrev pub at_moment : StationSide → Moment → Outcome
 at_moment s (Arrives item) = at_item s (station_takes s item)
 at_moment s (Presses key) = at_key s (station_key s key)
@@ -53,10 +57,12 @@ abbrev pub goes_on : Reaction StationSide (List (Item AnswerPart)) → Bool
 goes_on (Refuses reason) = false
 goes_on (GoesOn next items) = true
 
+-- the station doesn't refuse what arrives
 abbrev pub is_taken : StationSide → Moment → Bool
 is_taken s (Arrives item) = goes_on (station_takes s item)
 is_taken s (Presses key) = true
 
+-- the station refuses none of what arrives in these moments
 abbrev pub AreTaken : StationSide → List Moment → Type 0
 AreTaken s [] = Unit {0}
 AreTaken s (m ∷ ms) = (is_taken s m ≡ true) × AreTaken (at_moment s m).side ms
@@ -68,10 +74,12 @@ abbrev pub due : ℕ → List (ℕ × Key) → List Moment
 due n [] = []
 due n (k ∷ ks) = if nat_lt n k.0 then [] else Presses k.1 ∷ due n ks
 
+-- the keys that are pressed behind more than so many records
 abbrev pub later : ℕ → List (ℕ × Key) → List (ℕ × Key)
 later n [] = []
 later n (k ∷ ks) = if nat_lt n k.0 then k ∷ ks else later n ks
 
+-- one for a record, none for a Telnet command
 abbrev pub one_record : Item Element → ℕ
 one_record (RecordItem r) = 1
 one_record (TelnetItem token) = 0
@@ -82,5 +90,6 @@ moments_from n keys [] = due n keys
 moments_from n keys (item ∷ items) =
     due n keys ++ Arrives item ∷ moments_from (n + one_record item) (later n keys) items
 
+-- keys and items in the order in which they happen: each key behind as many records as it names
 abbrev pub moments : List (ℕ × Key) → List (Item Element) → List Moment
 moments keys items = moments_from 0 keys items

@@ -10,5 +10,6 @@ is_refusal (StationRefused place reason) = true
 is_refusal (HostRefused place reason) = true
 is_refusal event = false
 
+-- the refusals among events, in order
 abbrev pub refusals_in : List Event → List Event
 refusals_in events = filter is_refusal events

@@ -37,7 +37,7 @@ IsNewsTaken old news.More new result = (result ≡ Ok still) × (new ≡ old)
 IsNewsTaken old news.Unit new result = (result ≡ Ok still) × (new ≡ old)
 IsNewsTaken old (news.Open head) new result = (result ≡ Ok still) × (new ≡ old)
 IsNewsTaken old (news.Close head) new result = (side : StationSide) (units : List Element)
-    → IsChain element_rules element_rules.first units → old.kept ≡ spelling_of element_rules units
+    → IsChain element_rules element_rules.first units → old.body_bytes ≡ spelling_of element_rules units
     → old.options ≡ side.options → Gives side.happened old.screen
     → IsClosed old new side (record_of head units) (old.live.taken - 1) result
 IsNewsTaken old (news.Command code) new result = IsAnswered old (telnet.Command code) new result

@@ -66,6 +66,7 @@ pub record IsBegun (terminal : TerminalType) (now : TwoEnds) : Type 0 where
 abbrev pub all_sent : List Crossing → List ℕ
 all_sent crossings = flat_map (λ (c : Crossing). c.sent) crossings
 
+-- all bytes that crossings have read, in order
 abbrev pub all_read : List Crossing → List ℕ
 all_read crossings = flat_map (λ (c : Crossing). c.read) crossings
 
@@ -96,6 +97,7 @@ abbrev pub key_told : KeyReaction → List Event
 key_told (RefusesKey fault) = KeyRefused fault ∷ []
 key_told reaction = []
 
+-- the event that a send tells: why it was refused, or none
 abbrev pub send_told : SendReaction → List Event
 send_told (RefusesSend fault) = SendRefused fault ∷ []
 send_told reaction = []
@@ -128,6 +130,7 @@ pub record HasOrdered (old : HostParts) (order : Order) (new : HostParts) (writt
 
 -- What each act makes of both ends: what an end writes is in flight to the other, behind what was.
 
+-- a key is pressed at the station; the host end and what is on its way to the station stay
 abbrev pub Presses : TwoEnds → Key → TwoEnds → Type 0
 Presses old key new = (written : List ℕ) × (told : List Event)
     × HasPressed old.station key new.station written told
@@ -137,6 +140,7 @@ Presses old key new = (written : List ℕ) × (told : List Event)
       events = old.events ++ told;
     })
 
+-- the host end carries out an order; the station and what is on its way to the host end stay
 abbrev pub Orders : TwoEnds → Order → TwoEnds → Type 0
 Orders old order new = (written : List ℕ) × (told : List Event)
     × HasOrdered old.host order new.host written told
@@ -146,6 +150,7 @@ Orders old order new = (written : List ℕ) × (told : List Event)
       events = old.events ++ told;
     })
 
+-- so many bytes come down to the station, in these pieces; the host end stays
 abbrev pub ComesDown : TwoEnds → ℕ → List Crossing → TwoEnds → Type 0
 ComesDown old count crossings new = (written : List ℕ) × (told : List Event)
     × StationHears count crossings old.to_station new.to_station old.station new.station written told
@@ -156,6 +161,7 @@ ComesDown old count crossings new = (written : List ℕ) × (told : List Event)
       events = old.events ++ told;
     })
 
+-- so many bytes come up to the host end, in these pieces; the station stays
 abbrev pub ComesUp : TwoEnds → ℕ → List Crossing → TwoEnds → Type 0
 ComesUp old count crossings new = (written : List ℕ) × (told : List Event)
     × HostHears count crossings old.to_host new.to_host old.host new.host written told
@@ -193,6 +199,7 @@ abbrev pub StationIsLed : StationParts → List ℕ → Type 0
 StationIsLed station bytes = ((items : List (Item Element)) × (side : StationSide)
     × StationLeads station bytes items side) ⊎ IsSome station.ended
 
+-- the host end is the one that these bytes and its orders lead to, or it has ended
 abbrev pub HostIsLed : HostParts → List ℕ → Type 0
 HostIsLed host bytes = ((items : List (Item AnswerPart)) × (side : HostSide) × HostLeads host bytes items side)
     ⊎ IsSome host.ended
@@ -201,6 +208,7 @@ HostIsLed host bytes = ((items : List (Item AnswerPart)) × (side : HostSide) ×
 abbrev pub down_wire : WorldParts → WireParts
 down_wire w = record { bytes = w.down; at = w.at_station }
 
+-- the line from the station up to the host end: all that was written to it, and how much has arrived
 abbrev pub up_wire : WorldParts → WireParts
 up_wire w = record { bytes = w.up; at = w.at_host }
 
@@ -212,6 +220,7 @@ IsDeliveredDown old count new =
     old.station new.station (down_wire old) (down_wire new) (up_wire old) (up_wire new) old.events new.events count
     × (new.host ≡ old.host)
 
+-- so many bytes are delivered to the host end
 abbrev pub IsDeliveredUp : WorldParts → ℕ → WorldParts → Type 0
 IsDeliveredUp old count new =
     AreDelivered HostGoes HostRefuses (λ (h : HostParts). IsSome h.ended)

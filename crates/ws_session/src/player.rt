@@ -1,4 +1,4 @@
-ghost use Rattle.std.specs.Prelude.{◌≡◌, ◌<◌, ◌+◌, ◌^◌, ◌++◌, ◌∷◌, [], List, ℕ, Ok, length, drop, IfOk, IfErr, OnOk};
+ghost use Rattle.std.specs.Prelude.{◌≡◌, ◌<◌, ◌+◌, ◌^◌, ◌++◌, ◌∷◌, [], List, ℕ, length, drop, IfOk, IfErr, OnOk};
 ghost use Rattle.ws_code.specs.Device.{FailedWithin};
 ghost use Rattle.ws_nego.specs.declared.terminal.TerminalType.{TerminalType as ATerminal};
 ghost use Rattle.ws_record.specs.declared.record.Item.{Item};
@@ -10,13 +10,13 @@ ghost use Rattle.ws_stream.specs.Elements.{element_rules};
 ghost use Rattle.ws_stream.specs.declared.element.Element.{Element};
 ghost use Rattle.ws_session.specs.Moments.{Presses, at_moment, outcome, due, later};
 ghost use Rattle.ws_session.specs.Playing.{HasDone, HasCome};
-ghost use Rattle.ws_session.specs.StationLeads.{StationParts, StationLeads, IsStepped};
-ghost use Rattle.ws_session.specs.StationRun.{IsRunFault, RunUnwritten, behind};
+ghost use Rattle.ws_session.specs.StationLeads.{StationLeads};
+ghost use Rattle.ws_session.specs.StationRun.{IsRunFault};
 ghost use Rattle.ws_session.specs.StationSide.{StationSide};
 
-use crate::station::StationStep;
-use crate::{Played, Refusal, Station, write_answer};
-use ws_code::{Fault, Sink, write_whole};
+use crate::writing::{press_key, take_byte};
+use crate::{Applied, Played, Station};
+use ws_code::{Fault, Sink};
 use ws_keys::Key;
 
 // A station in a run, how many records it has applied, how many keys were pressed, and how many of these it refused.
@@ -43,13 +43,13 @@ impl Player {
             → FailedWithin S.takes S.failures sink.old sink.new
             (plain_spelling answer_rules (at_moment side (Presses key)).written))) }
     {
-        match self.station.key(key) {
+        match press_key(&mut self.station, sink, key) {
             Ok(None) => Ok(()),
-            Ok(Some(answer)) => write_answer(sink, &answer),
-            Err(_) => {
+            Ok(Some(_)) => {
                 self.keys_refused = self.keys_refused.saturating_add(1);
                 Ok(())
             }
+            Err(fault) => Err(fault),
         }
     }
 
@@ -82,42 +82,7 @@ impl Player {
         Ok(())
     }
 
-    // Writes what a byte gives, and behind a record presses the keys that are due.
-    fn answer<S: Sink>(
-        &mut self,
-        sink: &mut S,
-        keys: &[(u32, Key)],
-        step: &StationStep,
-    ) -> Result<(), Fault>
-        ensures come { OnOk result ((start : S) (terminal : ATerminal) (before : StationParts) (bytes : List ℕ)
-            (items : List (Item Element)) (byte : ℕ)
-            → HasCome S.takes S.failures terminal keys.now start
-            (record self.old { station = before }) sink.old bytes items
-            → length bytes + 2 < 2 ^ 64
-            → IsStepped before self.old.station bytes items
-            (behind terminal keys.now items).side byte (Ok step.now)
-            → (next : List (Item Element)) × HasCome S.takes S.failures terminal keys.now
-            start self.new sink.new (bytes ++ byte ∷ []) next) }
-        ensures fault { IfErr result (λ fault. (fault ≡ Fault.Write) × ((start : S)
-            (terminal : ATerminal) (before : StationParts) (bytes : List ℕ) (items : List (Item Element)) (byte : ℕ)
-            → HasCome S.takes S.failures terminal keys.now start
-            (record self.old { station = before }) sink.old bytes items
-            → length bytes + 2 < 2 ^ 64
-            → IsStepped before self.old.station bytes items
-            (behind terminal keys.now items).side byte (Ok step.now)
-            → RunUnwritten terminal keys.now S.takes S.failures start sink.new
-            (bytes ++ byte ∷ []))) }
-    {
-        write_whole(sink, step.reply.as_slice())?;
-        if !step.ends_record {
-            return Ok(());
-        }
-        self.records = self.records.saturating_add(1);
-        self.press_due(sink, keys)?;
-        Ok(())
-    }
-
-    // Takes a byte.
+    // Takes a byte, writes what it gives, and behind a record presses the keys that are due.
     fn take<S: Sink>(&mut self, sink: &mut S, keys: &[(u32, Key)], byte: u8) -> Result<(), Fault>
         ensures come { OnOk result ((start : S) (terminal : ATerminal) (bytes : List ℕ) (items : List (Item Element))
             → HasCome S.takes S.failures terminal keys.now start self.old sink.old bytes items
@@ -131,11 +96,14 @@ impl Player {
             → IsRunFault terminal keys.now S.takes S.failures start sink.new
             (length bytes) (bytes ++ byte ∷ []) fault) }
     {
-        match self.station.step(byte) {
-            Ok(step) => self.answer(sink, keys, &step),
-            Err(Refusal::At { place, reason }) => Err(Fault::Refused { place, reason }),
-            Err(Refusal::Failed) => Err(Fault::Failed),
-            Err(Refusal::Memory) => Err(Fault::Memory),
+        match take_byte(&mut self.station, sink, byte) {
+            Ok(None) => Ok(()),
+            Ok(Some(Applied)) => {
+                self.records = self.records.saturating_add(1);
+                self.press_due(sink, keys)?;
+                Ok(())
+            }
+            Err(fault) => Err(fault),
         }
     }
 

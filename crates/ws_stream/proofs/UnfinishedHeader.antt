@@ -3,7 +3,7 @@ use Rattle.std.specs.Prelude.{slice_index, true, refl}
 use Rattle.std.proofs.Common.{sym, ap, ◌∙◌, subst, arith, length-append}
 use Rattle.std.proofs.lemmas.List.{length-replicate}
 use Rattle.ws_code.specs.Code.{IsSpelled, IsUnfinished, AreBytes}
-use Rattle.ws_code.proofs.CodeLaws.{AreBytes-append, AreBytes-front}
+use Rattle.ws_code.proofs.CodeLaws.{AreBytes-append, AreBytes-front, zeros_are}
 use Rattle.ws_stream.specs.Parts.{IsSoh}
 use Rattle.ws_stream.specs.Elements.{element_rules, spelling, IsElement, allows_orders}
 use Rattle.ws_stream.specs.ElementLaws.{first, no_code}
@@ -29,10 +29,6 @@ zeros : (n i : ℕ) → slice_index (replicate n 0) i ≡ 0
 zeros zero i = refl
 zeros (suc n) zero = refl
 zeros (suc n) (suc i) = zeros n i
-
-zeros_bytes : (n : ℕ) → AreBytes (replicate n 0)
-zeros_bytes zero = tt
-zeros_bytes (suc n) = (omega arith, zeros_bytes n)
 
 third_front : (xs ys : List ℕ) → slice_index (xs ++ ys) 2 ≡ 0 → slice_index xs 2 ≡ 0
 third_front [] ys h = refl
@@ -94,7 +90,7 @@ soh_goes_on place count xs allowed known =
       stands = record {
         is_unit = (
           (omega (arith, all, known.few), third_filled xs (suc k) known.third),
-          AreBytes-append xs (replicate (suc k) 0) known.bytes (zeros_bytes (suc k)),
+          AreBytes-append xs (replicate (suc k) 0) known.bytes (zeros_are (suc k)),
         );
         may_follow = allowed;
       };

@@ -28,6 +28,7 @@ iac_or_not b = elim (eqb_tells b 0xff) [ inl h ↦ inl h.1 | inr h ↦ inr (h.1,
 pub doubled_plain : (b : ℕ) → (b == 0xff) ≡ false → doubled b ≡ b ∷ []
 doubled_plain b h = rw h
 
+-- a command's code is F1 or above (RFC 854)
 pub command_low : (code : CommandCode) → 0xf1 ≤ command_byte code
 command_low Nop = omega arith
 command_low DataMark = omega arith
@@ -39,6 +40,7 @@ command_low EraseCharacter = omega arith
 command_low EraseLine = omega arith
 command_low GoAhead = omega arith
 
+-- a command's code is F9 or below (RFC 854)
 pub command_high : (code : CommandCode) → command_byte code ≤ 0xf9
 command_high Nop = omega arith
 command_high DataMark = omega arith
@@ -50,12 +52,14 @@ command_high EraseCharacter = omega arith
 command_high EraseLine = omega arith
 command_high GoAhead = omega arith
 
+-- the code of WILL, WONT, DO or DONT is FB or above (RFC 854)
 pub verb_low : (verb : Verb) → 0xfb ≤ verb_byte verb
 verb_low Will = omega arith
 verb_low Wont = omega arith
 verb_low Do = omega arith
 verb_low Dont = omega arith
 
+-- the code of WILL, WONT, DO or DONT is FE or below (RFC 854)
 pub verb_high : (verb : Verb) → verb_byte verb ≤ 0xfe
 verb_high Will = omega arith
 verb_high Wont = omega arith
@@ -184,6 +188,7 @@ content_bytes [] h = tt
 content_bytes (x
     ∷ xs) h = AreBytes-append (doubled x) (flat_map doubled xs) (doubled_bytes x h.0) (content_bytes xs h.1)
 
+-- each token is spelled by at least one byte
 pub token_nonempty : (t : Token) → IsToken t → token_spelling t ≢ []
 token_nonempty (Data b) h e = elim (iac_or_not b) [
   | inl k ↦ let f : ◌≡◌ {A = List ℕ} (0xff ∷ 0xff ∷ []) [] = ap doubled (sym k) ∙ e in cc
@@ -194,6 +199,7 @@ token_nonempty (TelnetToken (Command code)) h e = cc
 token_nonempty (TelnetToken (Negotiate verb option)) h e = cc
 token_nonempty (TelnetToken (Subnegotiate sub)) h e = cc
 
+-- a token's spelling is of bytes
 pub token_bytes_are : (t : Token) → IsToken t → AreBytes (token_spelling t)
 token_bytes_are (Data b) h = doubled_bytes b h
 token_bytes_are Eor h = (omega arith, (omega arith, tt))
@@ -226,6 +232,7 @@ same_sub s t rest e =
     sym (ap (λ (o : ℕ). let r : Sub = record { option = o; data_ = t.data_ } in
     r) option ∙ ap (λ (d : List ℕ). let r : Sub = record { option = s.option; data_ = d } in r) same)
 
+-- no token's spelling begins another's
 pub token_prefix_free : IsPrefixFree token_rules
 token_prefix_free place (Data b)
     (Data c) rest hu hv e = ap Data (same_data b c rest [] (sym e ∙ sym (append-nil (doubled c)))).0
@@ -288,6 +295,7 @@ token_prefix_free place (TelnetToken (Subnegotiate s))
 token_prefix_free place (TelnetToken (Subnegotiate s))
     (TelnetToken (Subnegotiate t)) rest hu hv e = ap (λ x. TelnetToken (Subnegotiate x)) (same_sub s t rest e)
 
+-- behind any tokens a next one can come
 pub token_begins : (place : Unit {0}) → IsUnfinished token_rules place []
 token_begins place = record {
   unit = Eor;

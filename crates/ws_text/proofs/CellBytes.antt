@@ -1,9 +1,8 @@
-use Rattle.std.proofs.Common.{◌≡◌, ◌≤◌, ◌<◌, ℕ, zero, suc, ◌+◌, List, [], ◌∷◌, ◌++◌, length, map, get_or, take, refl}
+use Rattle.std.proofs.Common.{◌≡◌, ◌≤◌, ◌<◌, ℕ, zero, suc, ◌+◌, List, [], ◌∷◌, ◌++◌, length, map, get_or, refl}
 use Rattle.std.proofs.Common.{sym, ap, subst, ◌∙◌, arith}
 use Rattle.std.specs.Prelude.{Option, Some, None}
 use Rattle.std.specs.List.{AllByRecursion}
 use Rattle.std.specs.Str.{chars}
-use Rattle.std.proofs.Math.Seq.{take-suc}
 use Rattle.std.proofs.lemmas.List.{map-append}
 use Rattle.ws_code.specs.DataByte.{IsData}
 use Rattle.ws_code.specs.Ebcdic.{byte_of}
@@ -21,11 +20,6 @@ some_same x y e = cc
 all_more : (bytes : List ℕ) (b : ℕ) → AllByRecursion IsData bytes → IsData b → AllByRecursion IsData (bytes ++ b ∷ [])
 all_more [] b h is = (is, tt)
 all_more (x ∷ bytes) b h is = (h.0, all_more bytes b h.1 is)
-
-all_at : (bytes : List ℕ) (i : ℕ) → AllByRecursion IsData bytes → i < length bytes → IsData (get_or bytes i 0)
-all_at [] i h k = absurd (omega (arith, k))
-all_at (x ∷ bytes) zero h k = h.0
-all_at (x ∷ bytes) (suc i) h k = all_at bytes i h.1 (omega (arith, k))
 
 pub run_more : {U : Type 0} (w : Wording U) (bytes : List ℕ) (b : ℕ) (units next : List U) → AreRun w bytes units
     → IsData b → next ≡ units ++ w.byte b ∷ [] → AreRun w (bytes ++ b ∷ []) next

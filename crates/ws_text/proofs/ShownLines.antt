@@ -9,9 +9,6 @@ use Rattle.ws_code.specs.DataByte.{IsData}
 use Rattle.ws_code.specs.TwoBytes.{two_bytes}
 use Rattle.ws_record.specs.Grammar.{opcode_byte}
 use Rattle.ws_record.specs.declared.opcode.Opcode.{Opcode}
-use Rattle.ws_record.specs.declared.opcode.Opcode.TheVariants.{NoOperation, Invite, OutputOnly, PutGet, SaveScreen}
-use Rattle.ws_record.specs.declared.opcode.Opcode.TheVariants.{RestoreScreen, ReadImmediate, ReadScreen, CancelInvite}
-use Rattle.ws_record.specs.declared.opcode.Opcode.TheVariants.{MessageLightOn, MessageLightOff}
 use Rattle.ws_record.specs.declared.record.Item.{Item}
 use Rattle.ws_record.specs.declared.record.Item.TheVariants as an_item
 use Rattle.ws_record.specs.declared.record.Record.{Record}
@@ -25,6 +22,7 @@ use Rattle.ws_text.specs.TextLines.IsHeadText.{long}
 use Rattle.ws_text.specs.TextLines.IsWorded.{item, indented}
 use Rattle.ws_text.specs.TextLines.Means.{worded}
 use Rattle.ws_text.specs.declared.line.Part.TheVariants as part
+use Rattle.ws_record.proofs.Encodings.{opcode_fits}
 use Rattle.ws_text.proofs.ShownBytes.{line_of, AreFrom, AreWords, literal, words_back, line_from, is_text}
 use Rattle.ws_text.proofs.ShownNumbers.{small_back, place_back, decimal_from, hex_from, hex_back, pair_back, pair_from}
 use Rattle.ws_text.proofs.ShownNumbers.{data_are_bytes}
@@ -105,20 +103,6 @@ module _ {Place U : Type 0} (rules : Rules Place U) (w : Wording U) (p : Printed
         (words_back [] ([] ∷ run_name r ∷ run_rest r) tt (run_words_from r h)) (run_back r h) refl),
   )
 
--- a record's header
-opcode_small : (o : Opcode) → opcode_byte o < 256
-opcode_small NoOperation = omega arith
-opcode_small Invite = omega arith
-opcode_small OutputOnly = omega arith
-opcode_small PutGet = omega arith
-opcode_small SaveScreen = omega arith
-opcode_small RestoreScreen = omega arith
-opcode_small ReadImmediate = omega arith
-opcode_small ReadScreen = omega arith
-opcode_small CancelInvite = omega arith
-opcode_small MessageLightOn = omega arith
-opcode_small MessageLightOff = omega arith
-
 abbrev head_rest : ℕ → ℕ → Opcode → List (List ℕ)
 head_rest place flags opcode = decimal place ∷ codes "record" ∷ codes "flags" ∷ encode_upper (two_bytes flags)
     ∷ codes "opcode" ∷ decimal (opcode_byte opcode) ∷ []
@@ -138,7 +122,7 @@ head_from place flags opcode p f = (
         pair_from flags f,
         (
           literal (codes "opcode") refl,
-          (decimal_from (opcode_byte opcode) (omega (arith, opcode_small opcode)), tt),
+          (decimal_from (opcode_byte opcode) (omega (arith, opcode_fits opcode)), tt),
         ),
       ),
     ),
@@ -165,6 +149,6 @@ head_says w place flags opcode p f = (
         codes "flags" ∷ encode_upper (two_bytes flags) ∷ codes "opcode" ∷ decimal (opcode_byte opcode) ∷ [],
         refl,
         long (encode_upper (two_bytes flags)) (codes "opcode") (decimal (opcode_byte opcode)) refl (pair_back flags f)
-            (refl, small_back (opcode_byte opcode) (opcode_small opcode)),
+            (refl, small_back (opcode_byte opcode) (opcode_fits opcode)),
       )),
 )

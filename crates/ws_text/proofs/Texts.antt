@@ -21,10 +21,6 @@ pub flat_map_more : {X : Type 0} (f : X → List ℕ) (xs : List X) (i : ℕ) (d
 flat_map_more f xs i d k = ap (flat_map f) (take_more xs i d k) ∙ flat_map-append f (take i xs) (get_or xs i d ∷ [])
     ∙ ap (λ z. flat_map f (take i xs) ++ z) (append-nil (f (get_or xs i d)))
 
--- three parts behind what was there
-pub four_parts : (a b c d : List ℕ) → ((a ++ b) ++ c) ++ d ≡ a ++ (b ++ (c ++ d))
-four_parts a b c d = simp append_assoc
-
 pub two_bytes_of : (w : ℕ) → w < 2 ^ 16 → w / 256 % 256 ∷ w % 256 ∷ [] ≡ two_bytes w
 two_bytes_of w h = ap (λ n. n ∷ w % 256 ∷ []) (omega arith)
 

@@ -37,6 +37,7 @@ run_line (Other part) = 10 ∷ codes "  " ++ part_text part
 abbrev pub part_lines : List AnswerPart → List ℕ
 part_lines parts = flat_map run_line (runs_of parts)
 
+-- the part is a byte of a field, which a run of bytes on one line can hold
 abbrev pub is_byte : AnswerPart → Bool
 is_byte (Byte byte) = true
 is_byte part = false

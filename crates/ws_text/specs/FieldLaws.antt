@@ -7,9 +7,11 @@ use Rattle.ws_stream.specs.FieldOrder.{FieldOrder, IsFieldOrder, HasFormat}
 use Rattle.ws_text.specs.Words.{IsHexPair, IsHexByte, IsNumber}
 use Rattle.ws_text.specs.ElementWords.{ArePairs, AreField, format_and_controls}
 
+-- a word of two hex digits names one byte
 pub byte_same : (word : List ℕ) (m n : ℕ) → IsHexByte word m → IsHexByte word n → m ≡ n
 byte_same word m n a b = let e : m ∷ [] ≡ n ∷ [] = decode_of-same word (m ∷ []) (n ∷ []) a b in cc
 
+-- a word of four hex digits names one number
 pub pair_same : (word : List ℕ) (m n : ℕ) → IsHexPair word m → IsHexPair word n → m ≡ n
 pair_same word m n a b =
     let e : a.0 ∷ a.1 ∷ [] ≡ b.0 ∷ b.1 ∷ [] = decode_of-same word (a.0 ∷ a.1 ∷ []) (b.0 ∷ b.1 ∷ []) a.2 b.2 in
@@ -17,6 +19,7 @@ pair_same word m n a b =
     let low : a.1 ≡ b.1 = cc in
     omega (arith, high, low, a.3, b.3)
 
+-- words of four hex digits name one list of numbers
 pub pairs_same : (words : List (List ℕ)) (m n : List ℕ) → ArePairs words m → ArePairs words n → m ≡ n
 pairs_same [] m n a b = a ∙ sym b
 pairs_same (word ∷ words) m n a b =
@@ -24,6 +27,7 @@ pairs_same (word ∷ words) m n a b =
     let tail : a.1 ≡ b.1 = pairs_same words a.1 b.1 a.3 b.3 in
     a.4 ∙ ap (λ z. z ∷ a.1) head ∙ ap (λ z. b.0 ∷ z) tail ∙ sym b.4
 
+-- the last two words of a list, and those before them, are what they are in one way
 pub split_two : (xs ys : List (List ℕ)) (a b c d : List ℕ) → xs ++ a ∷ b ∷ [] ≡ ys ++ c ∷ d ∷ [] → (xs ≡ ys) × (a ≡ c)
     × (b ≡ d)
 split_two [] [] a b c d e = (refl, cc, cc)
@@ -47,6 +51,7 @@ pub record Parts (front : List (List ℕ)) (a l : List ℕ) (f : FieldOrder) : T
   pub length : IsNumber l f.length
   pub legal : IsFieldOrder f
 
+-- the words of a field are its pairs, its attribute and its length
 pub field_parts : (words front : List (List ℕ)) (a l : List ℕ) (f : FieldOrder) → words ≡ front ++ a ∷ l ∷ []
     → AreField words f → Parts front a l f
 field_parts words front a l f e h =
@@ -58,6 +63,7 @@ field_parts words front a l f e h =
       legal = h.legal;
     }
 
+-- a format word and control words stand in this order among the pairs
 pub one_format : (o : Option ℕ) (controls pairs : List ℕ) → HasFormat o controls → format_and_controls o controls
     ≡ pairs → Fits pairs o controls
 one_format None controls [] h e = (refl, h)
@@ -65,10 +71,12 @@ one_format None controls (w ∷ pairs) h e = let bad : [] ≡ w ∷ pairs = sym 
 one_format (Some f) controls [] h e = cc e
 one_format (Some f) controls (w ∷ pairs) h e = let same : f ≡ w = cc in (ap (λ z. Some z) same, cc)
 
+-- the pairs say in one way what is the format word and what are control words
 pub same_format : (pairs : List ℕ) (o p : Option ℕ) (c d : List ℕ) → Fits pairs o c → Fits pairs p d → (o ≡ p) × (c ≡ d)
 same_format [] o p c d a b = (a.0 ∙ sym b.0, a.1 ∙ sym b.1)
 same_format (w ∷ pairs) o p c d a b = (a.0 ∙ sym b.0, a.1 ∙ sym b.1)
 
+-- two field orders with the same four parts are the same
 pub same_order : (f g : FieldOrder) → f.format ≡ g.format → f.controls ≡ g.controls → f.attribute ≡ g.attribute
     → f.length
     ≡ g.length → f ≡ g

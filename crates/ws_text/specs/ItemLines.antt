@@ -49,6 +49,7 @@ abbrev pub format_text : Option ℕ → List ℕ
 format_text None = []
 format_text (Some w) = words_text (w ∷ [])
 
+-- the words of a field behind `SF`: the format word, control words, attribute and length
 abbrev pub field_text : FieldOrder → List ℕ
 field_text f = format_text f.format ++ words_text f.controls ++ encode_upper (f.attribute ∷ []) ++ codes " "
     ++ decimal f.length
@@ -90,6 +91,7 @@ run_line (Other e) = 10 ∷ codes "  " ++ element_text e
 abbrev pub element_lines : List Element → List ℕ
 element_lines es = flat_map run_line (runs_of es)
 
+-- the element puts a byte into a cell, which a run of bytes on one line can hold
 abbrev pub is_put : Element → Bool
 is_put (Put byte) = true
 is_put e = false
@@ -120,12 +122,14 @@ command_name EraseCharacter = codes "EC"
 command_name EraseLine = codes "EL"
 command_name GoAhead = codes "GA"
 
+-- the name of WILL, WONT, DO or DONT
 abbrev pub verb_name : Verb → List ℕ
 verb_name Will = codes "WILL"
 verb_name Wont = codes "WONT"
 verb_name Do = codes "DO"
 verb_name Dont = codes "DONT"
 
+-- the words of a Telnet command
 abbrev pub telnet_name : Telnet → List ℕ
 telnet_name (Command code) = command_name code
 telnet_name (Negotiate verb option) = verb_name verb ++ codes " " ++ decimal option

@@ -29,5 +29,6 @@ commands = (codes "NOP", Nop) ∷ (codes "DM", DataMark) ∷ (codes "BRK", Break
     ∷ (codes "AO", AbortOutput) ∷ (codes "AYT", AreYouThere) ∷ (codes "EC", EraseCharacter)
     ∷ (codes "EL", EraseLine) ∷ (codes "GA", GoAhead) ∷ []
 
+-- the verbs of a negotiation by their names
 abbrev pub verbs : List (List ℕ × Verb)
 verbs = (codes "WILL", Will) ∷ (codes "WONT", Wont) ∷ (codes "DO", Do) ∷ (codes "DONT", Dont) ∷ []

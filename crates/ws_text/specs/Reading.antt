@@ -27,6 +27,7 @@ module _ {Place U : Type 0} where
   abbrev pub IsSound : Rules Place U → OpenRecord Place U → Type 0
   IsSound rules o = Follows rules rules.first 0 o.body.items o.place o.size
 
+  -- the record that the lines so far have begun, as an item, if there is one
   abbrev pub open_items : Option (OpenRecord Place U) → List (Item U)
   open_items None = []
   open_items (Some o) = an_item.Record (record_of o) ∷ []
@@ -41,9 +42,11 @@ EndsInNoRecord {U} items = (items ≡ [])
     ⊎ ((before : List (Item U)) × (t : Telnet) × (items ≡ before ++ an_item.Telnet t ∷ []))
 
 module _ {Place U : Type 0} (rules : Rules Place U) where
+  -- the open record is one that can be encoded so far; without one the last item isn't a record
   abbrev pub IsOpenSound : List (Item U) → Option (OpenRecord Place U) → Type 0
   IsOpenSound items None = EndsInNoRecord items
   IsOpenSound items (Some o) = IsSound rules o
 
+  -- what was read so far can be encoded, all but what its open record still lacks
   abbrev pub AreSound : Reading Place U → Type 0
   AreSound r = IsOpenSound r.items.items r.last

@@ -25,16 +25,20 @@ abbrev pub head_of : List (List ℕ) → List ℕ
 head_of [] = []
 head_of (word ∷ words) = word
 
+-- the words behind the first one
 abbrev pub tail_of : List (List ℕ) → List (List ℕ)
 tail_of [] = []
 tail_of (word ∷ words) = words
 
+-- a word of decimal digits names one number
 pub small_same : (word : List ℕ) (m n : ℕ) → IsSmall word m → IsSmall word n → m ≡ n
 small_same word m n a b = a.0.2 ∙ sym b.0.2
 
+-- a word of hex digits names one list of bytes
 pub hex_same : (word m n : List ℕ) → IsHex word m → IsHex word n → m ≡ n
 hex_same word m n a b = decode_of-same word m n a.1 b.1
 
+-- a row and a column name one cell
 pub cell_same : (row column : List ℕ) (p q : ℕ) → IsCell row column p → IsCell row column q → p ≡ q
 cell_same row column p q a b = a.5 ∙ ap (λ z. place_of z a.1) (small_same row a.0 b.0 a.2 b.2)
     ∙ ap (λ z. place_of b.0 z) (small_same column a.1 b.1 a.3 b.3) ∙ sym b.5
@@ -45,6 +49,7 @@ first_of words a b xs ys e f = ap head_of (sym e ∙ f)
 rest_of : (words : List (List ℕ)) (a b : List ℕ) (xs ys : List (List ℕ)) → words ≡ a ∷ xs → words ≡ b ∷ ys → xs ≡ ys
 rest_of words a b xs ys e f = ap tail_of (sym e ∙ f)
 
+-- two words name one cell
 pub place_same : (words : List (List ℕ)) (p q : ℕ) → ArePlace words p → ArePlace words q → p ≡ q
 place_same words p q a b =
     let rows : a.0 ≡ b.0 = ap head_of (sym a.2 ∙ b.2) in
@@ -62,6 +67,7 @@ fill_same words p q x y a b =
       lasts,
     )
 
+-- words name one list of bytes
 pub bytes_same : (words : List (List ℕ)) (m n : List ℕ) → AreBytes words m → AreBytes words n → m ≡ n
 bytes_same words m n (inl a) (inl b) = a.1 ∙ sym b.1
 bytes_same words m n (inl a) (inr b) = absurd (omega (arith, ap length (sym a.0 ∙ b.1)))
@@ -118,6 +124,7 @@ says_same Ic words e f a b = single (λ x. element.Ic x) a.0 b.0 e f (place_same
 says_same Mc words e f a b = single (λ x. element.Mc x) a.0 b.0 e f (place_same words a.0 b.0 a.1 b.1) a.2 b.2
 says_same Sf words e f a b = single (λ x. element.Sf x) a.0 b.0 e f (one_field words a.0 b.0 a.1 b.1) a.2 b.2
 
+-- an option holds one thing
 pub some_same : {A : Type 0} (x y : A) (o : Option A) → o ≡ Some x → o ≡ Some y → x ≡ y
 some_same x y o e f = let both : Some x ≡ Some y = sym e ∙ f in cc
 
@@ -134,6 +141,7 @@ text_is_no_kind words e h = cc h.1
 put_is_no_kind : (words : List (List ℕ)) (e : Element) → IsOneElement (codes "PUT") words e → ⊥
 put_is_no_kind words e h = cc h.1
 
+-- a line of an element's words names one element or one run of bytes
 pub elements_clear : IsClear element_wording
 elements_clear = record {
   no_text = text_is_no_kind;
@@ -168,6 +176,7 @@ one_part name words (At p) (At q) a b = ap (λ n. At n) (place_same words p q a.
 one_part name words (Byte x) v a b = absurd a
 one_part name words u (Byte y) a b = absurd b
 
+-- a line of an answer's words names one part or one run of bytes
 pub answers_clear : IsClear answer_wording
 answers_clear = record {
   no_text = text_is_no_part;

@@ -3,17 +3,11 @@
 
 mod answer_text;
 mod answer_words;
-#[cfg(test)]
-mod command_rows;
 mod element_text;
 mod element_words;
-#[cfg(test)]
-mod encoding_rows;
 mod fault;
 mod field_words;
 mod head_words;
-#[cfg(test)]
-mod hostile_rows;
 mod item_text;
 mod items;
 mod kind;
@@ -24,10 +18,6 @@ mod output;
 mod reading;
 mod runs;
 mod telnet_words;
-#[cfg(test)]
-mod tests;
-#[cfg(test)]
-mod vectors;
 mod worded;
 mod words;
 

@@ -1,4 +1,4 @@
-use Rattle.std.proofs.Common.{◌≡◌, ◌++◌, ◌∷◌, [], Bool, List, ℕ, refl, sym, ap, ◌∙◌, subst, inl, inr}
+use Rattle.std.proofs.Common.{◌≡◌, ◌++◌, ◌∷◌, [], Bool, List, ℕ, refl, sym, ap, ◌∙◌, subst, inl}
 use Rattle.ws_code.proofs.DeviceLaws.{went_out_none}
 use Rattle.ws_live.specs.LiveText.{HaveRun, HasRun, ran_and, ran_by}
 use Rattle.ws_live.specs.declared.live.Ran.{Ran}

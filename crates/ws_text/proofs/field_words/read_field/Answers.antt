@@ -1,4 +1,4 @@
-use Rattle.std.proofs.Common.{◌≡◌, length, arith, refl}
+use Rattle.std.proofs.Common.{◌≡◌, length}
 use Rattle.ws_text.proofs.Lists.{texts, no_word}
 use Rattle.ws_text.specs.FieldLaws.{field_parts}
 use Rattle.ws_text.proofs.FieldWords.{last_two, few_pairs, no_format, made_field, first_of, fits_none}

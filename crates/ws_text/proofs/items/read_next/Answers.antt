@@ -1,4 +1,4 @@
-use Rattle.std.proofs.Common.{◌≡◌, sym, subst, List}
+use Rattle.std.proofs.Common.{◌≡◌, subst, List}
 use Rattle.std.proofs.lemmas.Result.{IfErr-weaker}
 use Rattle.ws_text.specs.declared.line.Part.{Part}
 use Rattle.ws_text.specs.Faults.{IsFault}

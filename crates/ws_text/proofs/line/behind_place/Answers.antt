@@ -1,5 +1,5 @@
-use Rattle.std.proofs.Common.{◌≡◌, inl, ap, ◌∙◌, ◌∷◌}
-use Rattle.ws_text.proofs.Lists.{texts, no_word, behind_two, same_text, with_head}
+use Rattle.std.proofs.Common.{◌≡◌, inl, ◌∙◌, ◌∷◌}
+use Rattle.ws_text.proofs.Lists.{no_word, behind_two, same_text, with_head}
 use Rattle.ws_text.proofs.line.behind_place.Goals as goal
 
 pub returns-in-len2-up : goal.returns-in-len2-up

@@ -1,4 +1,4 @@
-use Rattle.std.proofs.Common.{◌≡◌, ◌∷◌, ap, ◌∙◌}
+use Rattle.std.proofs.Common.{◌≡◌, ◌∷◌, ◌∙◌}
 use Rattle.ws_text.proofs.Lists.{texts, no_word, behind_one, behind_two, same_text, with_head}
 use Rattle.ws_text.proofs.ItemWords.{no_record}
 use Rattle.ws_text.proofs.line.read_item.Goals as goal

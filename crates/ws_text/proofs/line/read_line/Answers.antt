@@ -1,4 +1,4 @@
-use Rattle.std.proofs.Common.{◌≡◌, refl, sym, subst, List, ℕ}
+use Rattle.std.proofs.Common.{◌≡◌, sym, subst, List, ℕ}
 use Rattle.std.proofs.lemmas.Result.{IfOk-weaker, IfErr-weaker}
 use Rattle.ws_text.specs.Faults.{IsFault}
 use Rattle.ws_text.specs.TextLines.{Means, IsLine}

@@ -1,8 +1,8 @@
-use Rattle.std.proofs.Common.{◌≡◌, refl, sym, ap, ◌∙◌}
+use Rattle.std.proofs.Common.{◌≡◌, ap, ◌∙◌}
 use Rattle.ws_text.specs.TextLines.{IsWorded}
 use Rattle.ws_text.specs.TextLines.IsWorded.{item, indented}
 use Rattle.ws_text.proofs.Lists.{texts}
-use Rattle.ws_text.proofs.LineWords.{fault_on, no_indented, no_item}
+use Rattle.ws_text.proofs.LineWords.{fault_on, no_indented}
 use Rattle.ws_text.specs.declared.line.Part.TheVariants as part
 use Rattle.ws_text.proofs.line.read_words.Goals as goal
 

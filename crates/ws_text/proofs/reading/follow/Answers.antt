@@ -1,4 +1,4 @@
-use Rattle.std.proofs.Common.{◌≡◌, ◌+◌, ◌∙◌, ap, sym, length, arith, true, false}
+use Rattle.std.proofs.Common.{◌≡◌, ◌+◌, ◌∙◌, ap, sym, length, true, false}
 use Rattle.std.proofs.lemmas.Bool.{false≢true}
 use Rattle.ws_text.proofs.Bodies.{follows_step, no_follow, no_room}
 use Rattle.ws_text.proofs.reading.follow.Goals as goal

@@ -1,4 +1,4 @@
-use Rattle.std.proofs.Common.{◌≡◌, ◌≤◌, List, ℕ, length, refl, ap, ◌∙◌, sym, subst, get_or, take, drop, ◌-◌}
+use Rattle.std.proofs.Common.{◌≡◌, ◌≤◌, List, ℕ, length, ap, ◌∙◌, sym, subst, get_or, take, drop, ◌-◌}
 use Rattle.ws_text.specs.Words.{IsSmall}
 use Rattle.ws_text.specs.ElementWords.{AreBytes}
 use Rattle.ws_text.proofs.Lists.{texts, no_word, behind_one, unequal_not}

@@ -1,4 +1,4 @@
-use Rattle.std.proofs.Common.{rules, ◌≡◌, ◌<◌, ℕ}
+use Rattle.std.proofs.Common.{◌≡◌, ◌<◌, ℕ}
 use Rattle.ws_text.proofs.HexWords.{one_byte, no_byte}
 use Rattle.ws_text.proofs.words.read_byte.Goals as goal
 

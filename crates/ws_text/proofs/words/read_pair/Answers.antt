@@ -1,4 +1,4 @@
-use Rattle.std.proofs.Common.{rules, ◌≡◌, ◌<◌, ℕ, refl, ap, ◌+◌, ◌*◌, ◌∙◌, arith}
+use Rattle.std.proofs.Common.{◌≡◌, ◌<◌, ℕ, ap, ◌+◌, ◌*◌, ◌∙◌, arith}
 use Rattle.std.specs.Prelude.{slice_index}
 use Rattle.ws_text.proofs.HexWords.{two_bytes, no_pair}
 use Rattle.ws_text.proofs.words.read_pair.Goals as goal

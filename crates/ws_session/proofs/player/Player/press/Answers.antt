@@ -1,33 +1,29 @@
-use Rattle.std.proofs.lemmas.Result.{on_ok_weaker, IfErr-weaker}
-use Rattle.ws_session.proofs.Plays.{silent_done, sent_done, sent_failed, refused_done}
+use Rattle.std.specs.Prelude.{IfNone}
+use Rattle.std.proofs.Common.{subst}
+use Rattle.ws_session.specs.Manners.{IsKeyTaken}
+use Rattle.ws_session.proofs.Plays.{taken_done, press_failed, refused_done}
 use Rattle.ws_session.proofs.player.Player.press.Goals as goal
 
 pub returns-in-Ok-None-clause-done : goal.returns-in-Ok-None-clause-done
 returns-in-Ok-None-clause-done g c =
-    let p = rw c.in-Ok-None.field-0-is at c.in-Ok-None.ensures.keyed in
-    λ bytes items side l few. silent_done g.S.Sink.takes g.S.Sink.failures c.args.self.now bytes items side c.args.key
-    c.key.new.self c.args.sink.now (p bytes items side l few)
+    let taken = subst (λ o. IfNone o (IsKeyTaken c.args.self.now.station c.args.key)) c.in-Ok-None.field-0-is
+    c.in-Ok-None.ensures.taken in
+    λ bytes items side l few.
+    taken_done g.S.Sink.takes g.S.Sink.failures c.args.self.now bytes items side c.args.key c.press_key.new.station
+    c.args.sink.now c.press_key.new.sink l few c.in-Ok-None.ensures.pressed taken
 
 pub returns-in-Ok-Some-clause-done : goal.returns-in-Ok-Some-clause-done
 returns-in-Ok-Some-clause-done g c =
-    let p = rw c.in-Ok-Some.field-0-is at c.in-Ok-Some.ensures.keyed in
-    on_ok_weaker c.write_answer.result (λ went bytes items side l few.
-    sent_done g.S.Sink.takes g.S.Sink.failures c.args.self.now bytes items side c.args.key c.key.new.self
-    c.args.sink.now c.write_answer.new.sink c.in-Ok-Some.answer (p bytes items side l few) went)
-    c.write_answer.ensures.ok
+    let same = rw c.in-Ok-Some.field-0-is at c.in-Ok-Some.ensures.refused in
+    let refusal = rw c.in-Ok-Some.field-0-is at c.in-Ok-Some.ensures.told in
+    λ bytes items side l few.
+    refused_done g.S.Sink.takes g.S.Sink.failures c.args.self.now bytes items side c.args.key c.press_key.new.station
+    c.args.sink.now c.press_key.new.sink l few c.in-Ok-Some.field-0-0 c.saturating_add-self.result same.0 same.1
+    refusal c.saturating_add-self.ensures
 
-pub returns-in-Ok-Some-clause-fault : goal.returns-in-Ok-Some-clause-fault
-returns-in-Ok-Some-clause-fault g c =
-    let p = rw c.in-Ok-Some.field-0-is at c.in-Ok-Some.ensures.keyed in
-    IfErr-weaker c.write_answer.result _ _ (λ fault failed. (
-      failed.0,
-      (λ bytes items side l few. sent_failed g.S.Sink.takes g.S.Sink.failures c.args.self.now bytes items side
-          c.args.key c.key.new.self c.args.sink.now c.write_answer.new.sink c.in-Ok-Some.answer
-          (p bytes items side l few) failed.1),
-    )) c.write_answer.ensures.err
-
-pub returns-in-Err-clause-done : goal.returns-in-Err-clause-done
-returns-in-Err-clause-done g c = λ bytes items side l few.
-    refused_done g.S.Sink.takes g.S.Sink.failures c.args.self.now bytes items side c.args.key c.key.new.self
-    c.args.sink.now c.in-Err.field-0 c.saturating_add-self.result l (c.in-Err.ensures.keyed bytes items side l few)
-    c.saturating_add-self.ensures
+pub returns-in-Err-clause-fault : goal.returns-in-Err-clause-fault
+returns-in-Err-clause-fault g c = (
+  c.in-Err.ensures.fault.0,
+  λ bytes items side l few. press_failed g.S.Sink.takes g.S.Sink.failures c.args.self.now bytes items side c.args.key
+      c.press_key.new.station c.args.sink.now c.press_key.new.sink l few c.in-Err.ensures.fault.1,
+)

@@ -1,39 +1,46 @@
-use Rattle.std.proofs.Common.{◌++◌, ◌∷◌, [], length, sym, subst, arith}
-use Rattle.std.proofs.lemmas.Result.{on_ok_weaker, IfErr-weaker}
-use Rattle.ws_session.specs.StationRun.{IsRunFault, behind}
-use Rattle.ws_session.proofs.PlaySteps.{byte_refused}
+use Rattle.std.proofs.Common.{◌++◌, ◌∷◌, [], length, ap, sym, subst}
+use Rattle.std.proofs.lemmas.Result.{err_from_is_err_and}
+use Rattle.ws_session.specs.Acts.{as_list}
+use Rattle.ws_session.specs.StationRun.{IsRunFault}
+use Rattle.ws_session.proofs.PlaySteps.{no_record, record_comes, keys_fail, byte_fails}
 use Rattle.ws_session.proofs.player.Player.take.Goals as goal
 
-pub returns-in-Ok-clause-come : goal.returns-in-Ok-clause-come
-returns-in-Ok-clause-come g c =
-    on_ok_weaker c.answer.result (λ p start t bytes items h few.
-    p start t c.args.self.now.station bytes items c.args.byte h few (c.in-Ok.ensures.stepped bytes items
-    (behind t c.args.keys.now items).side h.is_behind.leads (omega (arith, few)))) c.answer.ensures.come
-
-pub returns-in-Ok-clause-fault : goal.returns-in-Ok-clause-fault
-returns-in-Ok-clause-fault g c =
-    IfErr-weaker c.answer.result _ _ (λ fault p start t bytes items h few.
-    subst (IsRunFault t c.args.keys.now g.S.Sink.takes g.S.Sink.failures start c.answer.new.sink (length bytes)
-    (bytes ++ c.args.byte ∷ [])) (sym p.0)
-    (p.1 start t c.args.self.now.station bytes items c.args.byte h few (c.in-Ok.ensures.stepped bytes items
-    (behind t c.args.keys.now items).side h.is_behind.leads (omega (arith, few))))) c.answer.ensures.fault
-
-pub returns-in-Err-At-clause-fault : goal.returns-in-Err-At-clause-fault
-returns-in-Err-At-clause-fault g c =
-    let p = rw c.in-Err-At.field-0-is at c.in-Err-At.ensures.stepped in
+pub returns-in-Ok-None-clause-come : goal.returns-in-Ok-None-clause-come
+returns-in-Ok-None-clause-come g c =
+    let w = c.in-Ok-None.ensures.taken in
     λ start t bytes items h few.
-    byte_refused g.S.Sink.takes g.S.Sink.failures t c.args.keys.now start c.args.sink.now c.args.self.now bytes items
-    c.args.byte h c.step.new.self c.in-Err-At.place c.in-Err-At.reason
-    (p bytes items (behind t c.args.keys.now items).side h.is_behind.leads (omega (arith, few)))
+    no_record g.S.Sink.takes g.S.Sink.failures t c.args.keys.now start c.args.sink.now
+    (record c.args.self.now { station = c.take_byte.new.end }) c.args.self.now.station bytes items c.args.byte h few
+    w.written (as_list c.in-Ok-None.field-0) w.led c.take_byte.new.sink
+    (ap (λ z. as_list z) c.in-Ok-None.field-0-is) w.wrote
 
-pub returns-in-Err-Failed-clause-fault : goal.returns-in-Err-Failed-clause-fault
-returns-in-Err-Failed-clause-fault g c =
-    let p = rw c.in-Err-Failed.field-0-is at c.in-Err-Failed.ensures.stepped in
-    λ start t bytes items h few. p bytes items (behind t c.args.keys.now items).side h.is_behind.leads
-    (omega (arith, few))
+pub returns-in_ok-press_due-in-Ok-Some-clause-come : goal.returns-in_ok-press_due-in-Ok-Some-clause-come
+returns-in_ok-press_due-in-Ok-Some-clause-come g c =
+    let w = c.in-Ok-Some.ensures.taken in
+    λ start t bytes items h few.
+    record_comes g.S.Sink.takes g.S.Sink.failures t c.args.keys.now start c.args.sink.now
+    (record c.args.self.now { station = c.take_byte.new.end }) c.args.self.now.station bytes items c.args.byte h few
+    w.written (as_list c.in-Ok-Some.field-0) w.led c.in-Ok-Some.field-0-0
+    (ap (λ z. as_list z) c.in-Ok-Some.field-0-is) c.saturating_add-self.result c.saturating_add-self.ensures
+    c.take_byte.new.sink w.wrote c.press_due.new.self c.press_due.new.sink
+    c.in_ok-press_due-in-Ok-Some.ensures.done c.in_ok-press_due-in-Ok-Some.ensures.left
 
-pub returns-in-Err-Memory-clause-fault : goal.returns-in-Err-Memory-clause-fault
-returns-in-Err-Memory-clause-fault g c =
-    let p = rw c.in-Err-Memory.field-0-is at c.in-Err-Memory.ensures.stepped in
-    λ start t bytes items h few. p bytes items (behind t c.args.keys.now items).side h.is_behind.leads
-    (omega (arith, few))
+pub returns-in_err-press_due-in-Ok-Some-clause-fault : goal.returns-in_err-press_due-in-Ok-Some-clause-fault
+returns-in_err-press_due-in-Ok-Some-clause-fault g c =
+    let p = err_from_is_err_and c.from_residual.result c.from_residual.ensures.1 in
+    let w = c.in-Ok-Some.ensures.taken in
+    let failed = c.in_err-press_due-in-Ok-Some.ensures.fault in
+    rw (p.1, p.2) (λ start t bytes items h few.
+    subst (IsRunFault t c.args.keys.now g.S.Sink.takes g.S.Sink.failures start c.press_due.new.sink (length bytes)
+    (bytes ++ c.args.byte ∷ [])) (sym failed.0)
+    (keys_fail g.S.Sink.takes g.S.Sink.failures t c.args.keys.now start c.args.sink.now
+    (record c.args.self.now { station = c.take_byte.new.end }) c.args.self.now.station bytes items c.args.byte h few
+    w.written (as_list c.in-Ok-Some.field-0) w.led c.in-Ok-Some.field-0-0
+    (ap (λ z. as_list z) c.in-Ok-Some.field-0-is) c.saturating_add-self.result c.saturating_add-self.ensures
+    c.take_byte.new.sink w.wrote c.press_due.new.sink failed.1))
+
+pub returns-in-Err-clause-fault : goal.returns-in-Err-clause-fault
+returns-in-Err-clause-fault g c = λ start t bytes items h few.
+    byte_fails g.S.Sink.takes g.S.Sink.failures t c.args.keys.now start c.args.sink.now
+    (record c.args.self.now { station = c.take_byte.new.end }) c.args.self.now.station bytes items c.args.byte h few
+    c.take_byte.new.sink c.in-Err.fault c.in-Err.ensures.fault

@@ -27,7 +27,7 @@ returns-clause-fronted c =
     let old : StationParts =
     record {
       live = s.live;
-      kept = s.kept;
+      body_bytes = s.body_bytes;
       options = s.options;
       screen = s.screen;
       records = s.records;
@@ -52,7 +52,7 @@ returns-clause-first c =
     let old : StationParts =
     record {
       live = s.live;
-      kept = s.kept;
+      body_bytes = s.body_bytes;
       options = s.options;
       screen = s.screen;
       records = s.records;

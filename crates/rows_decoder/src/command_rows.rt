@@ -1,0 +1,256 @@
+use crate::vectors::{INVITE, PUT_FF, REFUSED_BODIES, Side, VECTORS};
+use std::alloc::{AllocError, Global};
+use std::str;
+use std::test::Fail;
+use ws_code::{Fault, SliceSource, VecSink};
+use ws_record::{Fed, Item, Live, Receiver, Step, decode_all, decode_from};
+use ws_stream::{Answers, Commands, Element};
+use ws_text::{Output, put_answer_item, put_item};
+
+// A row, its bytes, the places of its items' last bytes, and the items as they are shown.
+type Accepted<'a> = (&'a str, &'a [u8], &'a [u64], &'a str);
+
+pub const PUT_FF_SHOWN: &str = "at 17 record flags 0000 opcode 3\n  WRITE 00 08\n  PUT FF\n";
+
+const ACCEPTED: [Accepted; 9] = [
+    ("empty-stream", b"", &[], ""),
+    (
+        "empty-stream, a command",
+        b"\xff\xf1",
+        &[1],
+        "at 1 telnet NOP\n",
+    ),
+    (
+        "invite",
+        INVITE,
+        &[11],
+        "at 11 record flags 0000 opcode 1\n",
+    ),
+    ("put-ff", PUT_FF, &[17], PUT_FF_SHOWN),
+    (
+        "nop-inside-a-header",
+        b"\x00\x0a\xff\xf1\x12\xa0\x00\x00\x04\x00\x00\x01\xff\xef",
+        &[3, 13],
+        "at 3 telnet NOP\nat 13 record flags 0000 opcode 1\n",
+    ),
+    (
+        "a clear",
+        b"\x00\x0c\x12\xa0\x00\x00\x04\x00\x00\x03\x04\x40\xff\xef",
+        &[13],
+        "at 13 record flags 0000 opcode 3\n  CLEAR-UNIT\n",
+    ),
+    (
+        "alternate-refused",
+        b"\x00\x0e\x12\xa0\x00\x00\x04\x00\x00\x03\x04\x82\x00\x00\xff\xef",
+        &[15],
+        "at 15 record flags 0000 opcode 3\n  READ-MDT-ALTERNATE 00 00\n",
+    ),
+    (
+        "past-end",
+        b"\x00\x13\x12\xa0\x00\x00\x04\x00\x00\x03\x04\x11\x00\x00\x11\x18\x50\xc1\xc2\xff\xef",
+        &[20],
+        "at 20 record flags 0000 opcode 3\n  WRITE 00 00\n  SBA 24 80\n  PUT C1C2\n",
+    ),
+    (
+        "invite-twice",
+        b"\x00\x0a\x12\xa0\x00\x00\x04\x00\x00\x01\xff\xef\x00\x0a\x12\xa0\x00\x00\x04\x00\x00\x01\xff\xef",
+        &[11, 23],
+        "at 11 record flags 0000 opcode 1\nat 23 record flags 0000 opcode 1\n",
+    ),
+];
+
+// The lines of an item.
+fn item_text(alloc: Global, place: u64, item: &Item<Element>) -> Result<String, AllocError> {
+    let mut sink = VecSink::new(alloc);
+    match put_item(&mut sink, Output::Open, place, item) {
+        Output::Open => String::from_str(alloc, str::from_utf8(sink.as_slice()).unwrap_or("?")),
+        Output::Failed => Err(AllocError),
+    }
+}
+
+// What the bytes decode to, as text: the items as they are shown with their places, or the fault.
+pub fn told(
+    alloc: Global,
+    found: Result<Vec<Item<Element>>, Fault>,
+    places: &[u64],
+) -> Result<String, AllocError> {
+    match found {
+        Ok(items) if items.len() == places.len() => {
+            let mut text = String::new(alloc);
+            for (item, place) in items.iter().zip(places) {
+                text.push_str(item_text(alloc, *place, item)?.as_str())?;
+            }
+            Ok(text)
+        }
+        Ok(items) => {
+            let count = items.len();
+            format!(in alloc; "{count} items")
+        }
+        Err(fault) => fault_told(alloc, fault),
+    }
+}
+
+fn fault_told(alloc: Global, fault: Fault) -> Result<String, AllocError> {
+    match fault {
+        Fault::Refused { place, reason } => {
+            let number = reason.number();
+            format!(in alloc; "refused at {place}: {number}")
+        }
+        Fault::Truncated { at } => format!(in alloc; "truncated at {at}"),
+        other => format!(in alloc; "{other:?}"),
+    }
+}
+
+// Feeds a piece up to its end, behind so many bytes, and adds what it gives to the text.
+fn hear(
+    alloc: Global,
+    receiver: &mut Receiver<Commands>,
+    before: usize,
+    piece: &[u8],
+    text: &mut String,
+) -> Result<(), AllocError> {
+    let mut taken = before as u64;
+    let mut rest = piece;
+    for _ in 0..9 {
+        match receiver.feed(rest) {
+            Ok(Fed { used, item }) => {
+                taken = taken.saturating_add(used as u64);
+                rest = &rest[used..];
+                match &item {
+                    Some(item) => {
+                        let place = taken.saturating_sub(1);
+                        text.push_str(item_text(alloc, place, item)?.as_str())?;
+                    }
+                    None => return Ok(()),
+                }
+            }
+            Err(fault) => return text.push_str(fault_told(alloc, fault)?.as_str()),
+        }
+    }
+    Ok(())
+}
+
+#[test]
+fn commands_decode(rt: HostRuntime) -> Result<(), Fail> {
+    let alloc = rt.alloc();
+    for (row, bytes, places, wanted) in &ACCEPTED {
+        let found = told(alloc, decode_all::<Commands>(alloc, bytes), places)?;
+        assert_eq!(rt; found.as_str(), *wanted, "{row}");
+        let mut source = SliceSource::new(bytes);
+        let found = decode_from::<Commands, SliceSource>(alloc, &mut source);
+        let found = told(alloc, found, places)?;
+        assert_eq!(rt; found.as_str(), *wanted, "{row} from a source");
+        let mut receiver = Receiver::<Commands>::new(alloc);
+        let mut text = String::new(alloc);
+        hear(alloc, &mut receiver, 0, bytes, &mut text)?;
+        assert_eq!(rt; text.as_str(), *wanted, "{row} by a receiver");
+    }
+    Ok(())
+}
+
+// The fault of a stream that is pushed byte by byte. A refusal comes with the byte that it names, and is the last
+// step that says anything.
+fn live_fault(bytes: &[u8]) -> Option<Fault> {
+    let mut live = Live::<Commands>::new();
+    for (at, byte) in bytes.iter().enumerate() {
+        if let Step::Refused { place, reason } = live.push(*byte) {
+            if place != at as u64 || !matches!(live.push(0), Step::Failed) {
+                return Some(Fault::Failed);
+            }
+            return Some(Fault::Refused { place, reason });
+        }
+    }
+    live.finish().err()
+}
+
+#[test]
+fn live_refusals(rt: HostRuntime) -> Result<(), Fail> {
+    for vector in VECTORS.iter().chain(REFUSED_BODIES.iter()) {
+        if vector.side == Side::FromHost {
+            let name = vector.name;
+            assert_eq!(rt; live_fault(vector.bytes), vector.outcome.err(), "{name}");
+        }
+    }
+    let mut receiver = Receiver::<Commands>::new(rt.alloc());
+    let query = b"\x00\x11\x12\xa0\x00\x00\x04\x00\x00\x03\x04\xf3";
+    assert!(rt;
+        matches!(receiver.feed(query), Err(Fault::Refused { place: 11, .. })),
+        "feed-query"
+    );
+    Ok(())
+}
+
+// `alternate-refused`, which is accepted: the record ends with its last byte, and its header with the tenth.
+#[test]
+fn alternate_by_live(rt: HostRuntime) {
+    let mut live = Live::<Commands>::new();
+    let bytes = b"\x00\x0e\x12\xa0\x00\x00\x04\x00\x00\x03\x04\x82\x00\x00\xff\xef";
+    for (at, byte) in bytes.iter().enumerate() {
+        let step = live.push(*byte);
+        let is_wanted = match at {
+            9 => matches!(step, Step::Open(_)),
+            13 => matches!(
+                step,
+                Step::Unit(Element::ReadMdtAlternate { cc1: 0, cc2: 0 })
+            ),
+            15 => matches!(step, Step::Close),
+            _ => matches!(step, Step::More),
+        };
+        assert!(rt; is_wanted, "byte {at}");
+    }
+    assert!(rt; live.finish().is_ok());
+}
+
+// `answer-keys`: two answers with the cursor at 17, 5, which differ in the key alone.
+#[test]
+fn answer_keys(rt: HostRuntime) -> Result<(), Fail> {
+    let rows: [(&[u8], &str); 2] = [
+        (
+            b"\x00\x0d\x12\xa0\x00\x00\x04\x00\x00\x03\x11\x05\x31\xff\xef",
+            "at 14 record flags 0000 opcode 3\n  HEAD 17 5 31\n",
+        ),
+        (
+            b"\x00\x0d\x12\xa0\x00\x00\x04\x00\x00\x03\x11\x05\x32\xff\xef",
+            "at 14 record flags 0000 opcode 3\n  HEAD 17 5 32\n",
+        ),
+    ];
+    for (bytes, wanted) in rows {
+        let items = decode_all::<Answers>(rt.alloc(), bytes).expect(&rt, wanted);
+        let mut sink = VecSink::new(rt.alloc());
+        for item in items.iter() {
+            assert_eq!(rt;
+                put_answer_item(&mut sink, Output::Open, 14, item),
+                Output::Open
+            );
+        }
+        assert_eq!(rt; sink.as_slice(), wanted.as_bytes());
+    }
+    Ok(())
+}
+
+// `put-ff-in-pieces`: cut in two at each place, and into pieces of each size.
+#[test]
+fn put_ff_in_pieces(rt: HostRuntime) -> Result<(), Fail> {
+    let alloc = rt.alloc();
+    let (bytes, wanted) = (PUT_FF, PUT_FF_SHOWN);
+    for size in 1..19 {
+        let mut receiver = Receiver::<Commands>::new(alloc);
+        let mut text = String::new(alloc);
+        let mut before = 0usize;
+        for piece in bytes.chunks(size) {
+            hear(alloc, &mut receiver, before, piece, &mut text)?;
+            before = before.wrapping_add(piece.len());
+        }
+        assert!(rt; receiver.finish().is_ok());
+        assert_eq!(rt; text.as_str(), wanted, "in pieces of {size}");
+    }
+    for size in 0..19 {
+        let mut receiver = Receiver::<Commands>::new(alloc);
+        let mut text = String::new(alloc);
+        let (first, second) = bytes.split_at(size);
+        hear(alloc, &mut receiver, 0, first, &mut text)?;
+        hear(alloc, &mut receiver, size, second, &mut text)?;
+        assert_eq!(rt; text.as_str(), wanted, "cut behind {size}");
+    }
+    Ok(())
+}

@@ -1,0 +1,269 @@
+use crate::decoder_rows::{INVITE, PUT_FF, Wanted, made, steps_of};
+use std::alloc::{AllocError, Global};
+use std::test::Fail;
+use ws_code::{Fault, Reason};
+use ws_record::{Fed, Item, Live, Opcode, RawBody, Receiver, Step, Stepped};
+use ws_telnet::{CommandCode, Telnet};
+
+// Where a list of bytes is cut.
+#[derive(Clone, Copy, Debug)]
+enum Cut {
+    // Into pieces of a size.
+    Pieces(usize),
+    // In two, behind so many bytes.
+    Two(usize),
+    // Behind the bytes whose bits are set, the first byte's the lowest.
+    Bits(u32),
+}
+
+impl Cut {
+    fn is_behind(self, at: usize) -> bool {
+        let count = at.wrapping_add(1);
+        match self {
+            Cut::Pieces(size) => count.checked_rem(size) == Some(0),
+            Cut::Two(first) => count == first,
+            Cut::Bits(bits) => bits.wrapping_shr(at.min(31) as u32) & 1 == 1,
+        }
+    }
+}
+
+// A receiver, how many bytes it has taken, and what it gave: each item behind the place of its last byte, and a fault.
+#[derive(Drop)]
+struct Listener {
+    receiver: Receiver<RawBody>,
+    taken: u64,
+    items: Vec<(u64, Item<u8>)>,
+    fault: Option<Fault>,
+}
+
+impl Listener {
+    // Feeds the piece up to its end, at last an empty one: false after a fault.
+    fn hear(&mut self, piece: &[u8]) -> Result<bool, AllocError> {
+        let mut rest = piece;
+        for _ in 0..20 {
+            match self.receiver.feed(rest) {
+                Ok(Fed { used, item }) => {
+                    self.taken = self.taken.saturating_add(used as u64);
+                    rest = &rest[used..];
+                    match item {
+                        Some(item) => self.items.push((self.taken.saturating_sub(1), item))?,
+                        None => return Ok(true),
+                    }
+                }
+                Err(fault) => {
+                    self.fault = Some(fault);
+                    return Ok(false);
+                }
+            }
+        }
+        Ok(true)
+    }
+
+    // Asks for the end: the number of bytes, or the fault.
+    fn end(&mut self) -> Result<u64, Fault> {
+        if let Some(fault) = self.fault {
+            return Err(fault);
+        }
+        self.receiver.finish()?;
+        Ok(self.taken)
+    }
+}
+
+// What a receiver has heard of the bytes, cut so.
+fn heard(alloc: Global, bytes: &[u8], cut: Cut) -> Result<Listener, AllocError> {
+    let mut listener = Listener {
+        receiver: Receiver::new(alloc),
+        taken: 0,
+        items: Vec::new(alloc),
+        fault: None,
+    };
+    let mut piece = Vec::new(alloc);
+    for (at, byte) in bytes.iter().enumerate() {
+        piece.push(*byte)?;
+        if cut.is_behind(at) {
+            if !listener.hear(piece.as_slice())? {
+                return Ok(listener);
+            }
+            piece.clear();
+        }
+    }
+    listener.hear(piece.as_slice())?;
+    Ok(listener)
+}
+
+// Bytes by name, the items that they give with their places, and how many bytes they are or the fault.
+type Row<'a> = (
+    &'a str,
+    &'a [u8],
+    &'a [(u64, Wanted<'a>)],
+    Result<u64, Fault>,
+);
+
+const ONE_FF: &[u8] = b"\x00\x0b\x12\xa0\x00\x00\x04\x00\x00\x03\xff\xff\xff\xef";
+
+const CUT: [Row; 6] = [
+    (
+        "put-ff-in-pieces",
+        b"\x00\x0f\x12\xa0\x00\x00\x04\x00\x00\x03\x04\x11\x00\x08\xff\xff\xff\xef",
+        &[(17, PUT_FF)],
+        Ok(18),
+    ),
+    (
+        "ff-in-every-cut",
+        ONE_FF,
+        &[(13, Wanted::Record(Opcode::PutGet, b"\xff"))],
+        Ok(14),
+    ),
+    (
+        "sub-inside-a-record",
+        b"\x00\x0b\x12\xa0\x00\x00\x04\x00\x00\x03\xff\xfa\x18\x01\xff\xf0\x41\xff\xef",
+        &[
+            (15, Wanted::Sub(0x18, b"\x01")),
+            (18, Wanted::Record(Opcode::PutGet, b"\x41")),
+        ],
+        Ok(19),
+    ),
+    (
+        "one-byte-short",
+        b"\x00\x0b\x12\xa0\x00\x00\x04\x00\x00\x03\xff\xef",
+        &[],
+        Err(Fault::Refused {
+            place: 11,
+            reason: Reason::TooShort,
+        }),
+    ),
+    (
+        "header-too-early",
+        b"\x00\x0a\x12",
+        &[],
+        Err(Fault::Truncated { at: 3 }),
+    ),
+    (
+        "invite before a refusal",
+        b"\x00\x0a\x12\xa0\x00\x00\x04\x00\x00\x01\xff\xef\x00\x09",
+        &[(11, INVITE)],
+        Err(Fault::Refused {
+            place: 13,
+            reason: Reason::LengthBelowHeader,
+        }),
+    ),
+];
+
+fn all_made(alloc: Global, wanted: &[(u64, Wanted)]) -> Result<Vec<(u64, Item<u8>)>, Fail> {
+    let mut items = Vec::new(alloc);
+    for (place, item) in wanted {
+        items.push((*place, made(alloc, *item)?))?;
+    }
+    Ok(items)
+}
+
+// The same items at the same places, and the same end, however the bytes are cut.
+#[test]
+fn every_cut(rt: HostRuntime) -> Result<(), Fail> {
+    for (row, bytes, wanted, end) in &CUT {
+        let wanted = all_made(rt.alloc(), wanted)?;
+        for size in 0..20 {
+            for cut in [Cut::Pieces(size), Cut::Two(size)] {
+                let mut found = heard(rt.alloc(), bytes, cut)?;
+                assert_eq!(rt; found.items, wanted, "{row}, {cut:?}");
+                assert_eq!(rt; found.end(), *end, "{row}, {cut:?}");
+            }
+        }
+    }
+    let wanted = all_made(rt.alloc(), &[(13, Wanted::Record(Opcode::PutGet, b"\xff"))])?;
+    for bits in 0..0x2000 {
+        let mut found = heard(rt.alloc(), ONE_FF, Cut::Bits(bits))?;
+        assert_eq!(rt; found.items, wanted, "{bits:x}");
+        assert_eq!(rt; found.end(), Ok(14), "{bits:x}");
+    }
+    Ok(())
+}
+
+#[test]
+fn failed_after_refusal(rt: HostRuntime) -> Result<(), Fail> {
+    let mut receiver = Receiver::<RawBody>::new(rt.alloc());
+    assert!(rt;
+        matches!(
+            receiver.feed(b"\x00\x09"),
+            Err(Fault::Refused { place: 1, .. })
+        )
+    );
+    assert!(rt; matches!(receiver.feed(b""), Err(Fault::Failed)));
+    assert!(rt; matches!(receiver.feed(b"\x00"), Err(Fault::Failed)));
+    assert!(rt; matches!(receiver.finish(), Err(Fault::Failed)));
+    let mut live = Live::<RawBody>::new();
+    assert!(rt; matches!(live.push(0xff), Step::More));
+    assert!(rt; matches!(live.finish(), Err(Fault::Truncated { at: 1 })));
+    assert!(rt; matches!(live.push(0xef), Step::Failed));
+    Ok(())
+}
+
+// A decoder, how many bytes it has taken, and its steps other than `More`, each behind the place of its last byte.
+#[derive(Drop)]
+struct Watcher {
+    live: Live<RawBody>,
+    taken: usize,
+    steps: Vec<(usize, Step<u8>)>,
+}
+
+impl Watcher {
+    // Feeds the piece up to its end.
+    fn watch(&mut self, piece: &[u8]) -> Result<(), AllocError> {
+        let mut rest = piece;
+        for _ in 0..20 {
+            if rest.is_empty() {
+                return Ok(());
+            }
+            let Stepped { used, step } = self.live.feed(rest);
+            self.taken = self.taken.saturating_add(used);
+            rest = &rest[used..];
+            if !matches!(step, Step::More) {
+                self.steps.push((self.taken.saturating_sub(1), step))?;
+            }
+        }
+        Ok(())
+    }
+}
+
+// The steps of the bytes, cut so.
+fn watched(alloc: Global, bytes: &[u8], cut: Cut) -> Result<Vec<(usize, Step<u8>)>, AllocError> {
+    let mut watcher = Watcher {
+        live: Live::new(),
+        taken: 0,
+        steps: Vec::new(alloc),
+    };
+    let mut piece = Vec::new(alloc);
+    for (at, byte) in bytes.iter().enumerate() {
+        piece.push(*byte)?;
+        if cut.is_behind(at) {
+            watcher.watch(piece.as_slice())?;
+            piece.clear();
+        }
+    }
+    watcher.watch(piece.as_slice())?;
+    Ok(watcher.steps)
+}
+
+// The steps of single bytes, at the same places, however the bytes are cut; and bytes behind a step are left.
+#[test]
+fn steps_of_every_cut(rt: HostRuntime) -> Result<(), Fail> {
+    for (row, bytes, _wanted, _end) in &CUT {
+        let wanted = steps_of(rt.alloc(), bytes)?;
+        for size in 0..20 {
+            for cut in [Cut::Pieces(size), Cut::Two(size)] {
+                let found = watched(rt.alloc(), bytes, cut)?;
+                assert_eq!(rt; found, wanted, "{row}, {cut:?}");
+            }
+        }
+    }
+    let mut live = Live::<RawBody>::new();
+    let fed = live.feed(b"\xff\xf1\x00\x09");
+    assert_eq!(rt; fed.used, 2);
+    assert_eq!(rt; fed.step, Step::Telnet(Telnet::Command(CommandCode::Nop)));
+    let fed = live.feed(b"\x00\x09");
+    assert_eq!(rt; fed.used, 2);
+    let reason = Reason::LengthBelowHeader;
+    assert_eq!(rt; fed.step, Step::Refused { place: 3, reason });
+    assert_eq!(rt; live.feed(b"").step, Step::Failed);
+    Ok(())
+}

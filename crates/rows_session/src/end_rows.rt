@@ -1,0 +1,149 @@
+// What the rows of both ends share: the opening of a session, one form with its answer, and ends that are ready.
+use std::alloc::Global;
+use std::process::Abort;
+use std::test::Fail;
+use ws_code::{Aid, VecSink};
+use ws_keys::Key;
+use ws_nego::TerminalType;
+use ws_record::{Item, Opcode, decode_all, write_record};
+use ws_session::{HostEnd, HostEvent, Station};
+use ws_stream::Commands;
+
+// A host end's opening: DO 18, SEND, and the four requests. What a station answers.
+pub(crate) const OPENING: &[u8] =
+    b"\xff\xfd\x18\xff\xfa\x18\x01\xff\xf0\xff\xfd\x19\xff\xfb\x19\xff\xfd\x00\xff\xfb\x00";
+
+pub(crate) const OPENED: &[u8] =
+    b"\xff\xfb\x18\xff\xfa\x18\x00IBM-3179-2\xff\xf0\xff\xfb\x19\xff\xfd\x19\xff\xfb\x00\xff\xfd\x00";
+
+// Clear Unit, Write to Display, a field of ten cells at 6, 53, Read MDT Fields; and B, O, B, Enter.
+pub(crate) const BOB: &[u8] =
+    b"\x04\x40\x04\x11\x00\x08\x11\x06\x34\x1d\x40\x00\x20\x00\x0a\x04\x52\x00\x00";
+
+pub(crate) const BOB_ANSWER: &[u8] =
+    b"\x00\x13\x12\xa0\x00\x00\x04\x00\x00\x03\x06\x38\xf1\x11\x06\x35\xc2\xd6\xc2\xff\xef";
+
+pub(crate) const CANCEL: &[u8] = b"\x00\x0a\x12\xa0\x00\x00\x04\x00\x00\x0a\xff\xef";
+
+// The body of a record that a screen refuses at its end.
+pub(crate) const PAST_END: &[u8] = b"\x04\x11\x00\x00\x11\x18\x50\xc1\xc2";
+
+// The key of this name; Insert inserts an A.
+pub(crate) fn key_named(name: &str) -> Option<Key> {
+    let aid = match name {
+        "Enter" => 0xf1,
+        "F2" => 0x32,
+        "F3" => 0x33,
+        "Help" => 0xf3,
+        "Clear" => 0xbd,
+        "FieldExit" => return Some(Key::FieldExit),
+        "FieldMinus" => return Some(Key::FieldMinus),
+        "Tab" => return Some(Key::Tab),
+        "Left" => return Some(Key::Left),
+        "Right" => return Some(Key::Right),
+        "Dup" => return Some(Key::Dup),
+        "Insert" => return Some(Key::Insert('A')),
+        "Attention" => return Some(Key::Attention),
+        "SystemRequest" => return Some(Key::SystemRequest),
+        _ => return None,
+    };
+    match Aid::from_byte(aid) {
+        Some(aid) => Some(Key::Aid(aid)),
+        None => None,
+    }
+}
+
+// The keys of characters.
+pub(crate) fn typed(alloc: Global, text: &str) -> Result<Vec<Key>, Fail> {
+    let mut keys = Vec::new(alloc);
+    for character in text.chars() {
+        keys.push(Key::Char(character))?;
+    }
+    Ok(keys)
+}
+
+// The keys of words: each is a key's name, or else is typed.
+pub(crate) fn keys_of(alloc: Global, words: &str) -> Result<Vec<Key>, Fail> {
+    let mut keys = Vec::new(alloc);
+    for word in words.split(' ') {
+        match key_named(word) {
+            Some(key) => keys.push(key)?,
+            None => {
+                for key in typed(alloc, word)? {
+                    keys.push(key)?;
+                }
+            }
+        }
+    }
+    Ok(keys)
+}
+
+// A record of opcode 3 with this body.
+pub(crate) fn record(rt: &impl Abort, alloc: Global, body: &[u8]) -> Vec<u8> {
+    let mut sink = VecSink::new(alloc);
+    assert!(rt; body.len() <= 65525);
+    assert!(rt; write_record(&mut sink, 0, Opcode::PutGet, body).is_ok());
+    sink.into_inner()
+}
+
+// What a station takes and writes by bytes that it doesn't refuse.
+pub(crate) fn push_all(
+    rt: &impl Abort,
+    alloc: Global,
+    station: &mut Station,
+    bytes: &[u8],
+) -> Result<Vec<u8>, Fail> {
+    let mut written = Vec::new(alloc);
+    for byte in bytes {
+        let reply = station.push(*byte).expect(rt, "a byte");
+        written.extend_from_slice(reply.as_slice())?;
+    }
+    Ok(written)
+}
+
+pub(crate) fn ready_station(rt: &impl Abort, alloc: Global, body: &[u8]) -> Result<Station, Fail> {
+    let mut station = Station::new(TerminalType::Ibm3179Model2);
+    let opened = push_all(rt, alloc, &mut station, OPENING)?;
+    assert_eq!(rt; opened.as_slice(), OPENED);
+    if !body.is_empty() {
+        push_all(rt, alloc, &mut station, record(rt, alloc, body).as_slice())?;
+    }
+    Ok(station)
+}
+
+// A host end to which a station has answered.
+pub(crate) fn ready_host(rt: &impl Abort, alloc: Global) -> HostEnd {
+    let mut host = HostEnd::new(alloc);
+    assert_eq!(rt; host.open().as_slice(), b"\xff\xfd\x18".as_slice());
+    match last_event(rt, &mut host, OPENED) {
+        Some(HostEvent::Ready(TerminalType::Ibm3179Model2)) => host,
+        _ => panic!(rt; "ready"),
+    }
+}
+
+// What the last of the bytes tells; the others tell nothing.
+pub(crate) fn last_event(rt: &impl Abort, host: &mut HostEnd, bytes: &[u8]) -> Option<HostEvent> {
+    let mut told = None;
+    for byte in bytes {
+        assert!(rt; told.is_none());
+        match host.push(*byte) {
+            Ok(step) => told = step.event,
+            Err(_) => panic!(rt; "a byte that is taken"),
+        }
+    }
+    told
+}
+
+// The host end sends this record.
+pub(crate) fn send(rt: &impl Abort, alloc: Global, host: &mut HostEnd, bytes: &[u8]) {
+    let items = decode_all::<Commands>(alloc, bytes).expect(rt, "a stream");
+    match items.as_slice() {
+        [Item::Record(whole)] => {
+            let sent = host
+                .send(Opcode::PutGet, whole.body.as_slice())
+                .expect(rt, "sent");
+            assert_eq!(rt; sent.as_slice(), bytes);
+        }
+        _ => panic!(rt; "a record"),
+    }
+}

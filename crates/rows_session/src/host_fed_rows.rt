@@ -1,0 +1,137 @@
+// A host end that is fed pieces, beside one that is pushed each byte.
+use crate::end_rows::{BOB, BOB_ANSWER, CANCEL, OPENED, ready_host, record, send};
+use std::alloc::{AllocError, Global};
+use std::process::Abort;
+use std::test::Fail;
+use ws_code::VecSink;
+use ws_record::{Opcode, write_record};
+use ws_session::{ATN, HostEnd, HostEvent, HostFed, HostStep};
+
+// A host end, how many bytes it has taken, all that it wrote and told, and behind how many bytes it did.
+#[derive(Drop)]
+struct Heard {
+    host: HostEnd,
+    taken: usize,
+    written: Vec<u8>,
+    told: Vec<HostEvent>,
+    places: Vec<usize>,
+}
+
+impl Heard {
+    fn new(alloc: Global, host: HostEnd) -> Self {
+        Heard {
+            host,
+            taken: 0,
+            written: Vec::new(alloc),
+            told: Vec::new(alloc),
+            places: Vec::new(alloc),
+        }
+    }
+
+    // What came with the last byte taken.
+    fn note(&mut self, reply: &[u8], event: Option<HostEvent>) -> Result<(), AllocError> {
+        if event.is_some() || !reply.is_empty() {
+            self.written.extend_from_slice(reply)?;
+            self.places.push(self.taken)?;
+        }
+        if let Some(event) = event {
+            self.told.push(event)?;
+        }
+        Ok(())
+    }
+
+    // Takes the bytes one after another, up to the first that is refused.
+    fn push(&mut self, bytes: &[u8]) -> Result<(), AllocError> {
+        for byte in bytes {
+            match self.host.push(*byte) {
+                Ok(HostStep { reply, event }) => {
+                    self.taken = self.taken.saturating_add(1);
+                    self.note(reply.as_slice(), event)?;
+                }
+                Err(_) => return Ok(()),
+            }
+        }
+        Ok(())
+    }
+
+    // Takes a piece whole, unless a byte of it is refused.
+    fn feed(&mut self, piece: &[u8]) -> Result<(), AllocError> {
+        let mut rest = piece;
+        for _ in 0..20u8 {
+            match self.host.feed(rest) {
+                Ok(HostFed { used, reply, event }) => {
+                    rest = &rest[used..];
+                    self.taken = self.taken.saturating_add(used);
+                    self.note(reply.as_slice(), event)?;
+                }
+                Err(_) => return Ok(()),
+            }
+        }
+        Ok(())
+    }
+}
+
+// A host end that has asked for the terminal type; where it is to be ready, one that has sent a form.
+fn host_end(rt: &impl Abort, alloc: Global, is_ready: bool) -> HostEnd {
+    if is_ready {
+        let mut host = ready_host(rt, alloc);
+        send(rt, alloc, &mut host, record(rt, alloc, BOB).as_slice());
+        return host;
+    }
+    let mut host = HostEnd::new(alloc);
+    host.open();
+    host
+}
+
+// The same is written and told behind the same bytes, whatever pieces come, and the same byte is refused.
+fn feeds_as_pushed(
+    rt: &impl Abort,
+    alloc: Global,
+    is_ready: bool,
+    bytes: &[u8],
+) -> Result<(), Fail> {
+    let mut pushed = Heard::new(alloc, host_end(rt, alloc, is_ready));
+    pushed.push(bytes)?;
+    for size in [1, 2, 3, 5, 8, 13, 64, 4096] {
+        let mut fed = Heard::new(alloc, host_end(rt, alloc, is_ready));
+        let mut piece = Vec::new(alloc);
+        for byte in bytes {
+            piece.push(*byte)?;
+            if piece.len() == size {
+                fed.feed(piece.as_slice())?;
+                piece.clear();
+            }
+        }
+        fed.feed(piece.as_slice())?;
+        assert_eq!(rt; fed.written.as_slice(), pushed.written.as_slice(), "{size}");
+        assert_eq!(rt; fed.told.as_slice(), pushed.told.as_slice(), "{size}");
+        assert_eq!(rt; fed.places.as_slice(), pushed.places.as_slice(), "{size}");
+        assert_eq!(rt; fed.host.refused(), pushed.host.refused(), "{size}");
+        assert_eq!(rt; fed.host.taken(), pushed.host.taken(), "{size}");
+    }
+    Ok(())
+}
+
+#[test]
+fn pieces_are_fed_to_a_host_end(rt: HostRuntime) -> Result<(), Fail> {
+    let alloc = rt.alloc();
+    let mut sink = VecSink::new(alloc);
+    assert!(rt; write_record(&mut sink, ATN, Opcode::NoOperation, &[]).is_ok());
+    let attention = sink.into_inner();
+    let silent = b"\xff\xf1\xff\xfc\x21".as_slice();
+    for (is_ready, rows) in [
+        (false, [OPENED, silent, b"", b""]),
+        (false, [silent, BOB_ANSWER, b"", b""]),
+        (true, [silent, attention.as_slice(), BOB_ANSWER, silent]),
+        (true, [BOB_ANSWER, BOB_ANSWER, b"", b""]),
+        (true, [attention.as_slice(), CANCEL, b"", b""]),
+        (true, [b"\xff\x02", CANCEL, b"", b""]),
+    ] {
+        let mut bytes = Vec::new(alloc);
+        for row in rows {
+            bytes.extend_from_slice(row)?;
+        }
+        feeds_as_pushed(&rt, alloc, is_ready, bytes.as_slice())?;
+    }
+    Ok(())
+}

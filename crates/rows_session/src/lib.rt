@@ -1,0 +1,43 @@
+//! The tests of sessions, and of sessions by lines: `ws_session` and `ws_live`. They call what these crates hand out,
+//! and nothing else.
+#![tactic(auto)]
+
+// What the rows of ws_session share, and the callers that docs/CALLING.md shows.
+#[cfg(test)]
+mod calling;
+#[cfg(test)]
+mod end_rows;
+
+// Rows of ws_session.
+#[cfg(test)]
+mod attached_rows;
+#[cfg(test)]
+mod calling_tests;
+#[cfg(test)]
+mod carried_rows;
+#[cfg(test)]
+mod carry_rows;
+#[cfg(test)]
+mod fault_rows;
+#[cfg(test)]
+mod fed_rows;
+#[cfg(test)]
+mod host_fed_rows;
+#[cfg(test)]
+mod host_rows;
+#[cfg(test)]
+mod run_rows;
+#[cfg(test)]
+mod session_rows;
+#[cfg(test)]
+mod size_rows;
+#[cfg(test)]
+mod station_rows;
+
+// Rows of ws_live.
+#[cfg(test)]
+mod colored_rows;
+#[cfg(test)]
+mod script_rows;
+#[cfg(test)]
+mod serve_rows;

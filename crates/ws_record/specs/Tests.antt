@@ -1,2 +1,0 @@
--- What the tests alone cite. No contract of the library names it.
-pub mod Escaped

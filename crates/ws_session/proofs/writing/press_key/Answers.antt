@@ -1,0 +1,60 @@
+use Rattle.std.proofs.Common.{[], Some, None}
+use Rattle.std.proofs.lemmas.Result.{err_from_is_err_and}
+use Rattle.ws_code.proofs.DeviceLaws.{went_out_none}
+use Rattle.ws_session.specs.AnswerSpelling.{answer_spelling}
+use Rattle.ws_session.proofs.EndDeeds.{key_silent_goes, key_sent_goes, key_refused_goes, key_taken}
+use Rattle.ws_session.proofs.writing.press_key.Goals as goal
+
+pub returns-in_err-write_answer-in-Ok-Some-clause-fault : goal.returns-in_err-write_answer-in-Ok-Some-clause-fault
+returns-in_err-write_answer-in-Ok-Some-clause-fault g c =
+    let p = err_from_is_err_and c.from_residual.result c.from_residual.ensures.1 in
+    let answer = c.in-Ok-Some.answer in
+    let failed = c.in_err-write_answer-in-Ok-Some.ensures.err in
+    rw (p.1, p.2) (
+      failed.0,
+      record {
+        written = answer_spelling answer;
+        told = [];
+        led = key_sent_goes c.args.station.now c.key.new.self c.args.key answer
+            (rw c.in-Ok-Some.field-0-is at c.in-Ok-Some.ensures.keyed);
+        failed = failed.1;
+      },
+    )
+
+pub returns-in-Ok-None-clause-pressed : goal.returns-in-Ok-None-clause-pressed
+returns-in-Ok-None-clause-pressed g c = record {
+  written = [];
+  led = key_silent_goes c.args.station.now c.key.new.self c.args.key
+      (rw c.in-Ok-None.field-0-is at c.in-Ok-None.ensures.keyed);
+  wrote = went_out_none g.K.Sink.takes g.K.Sink.failures c.args.sink.now;
+}
+
+pub returns-in-Ok-None-clause-taken : goal.returns-in-Ok-None-clause-taken
+returns-in-Ok-None-clause-taken g c = λ bytes items side l few.
+    key_taken c.args.station.now c.key.new.self bytes items side c.args.key None
+    ((rw c.in-Ok-None.field-0-is at c.in-Ok-None.ensures.keyed) bytes items side l few)
+
+pub returns-in_ok-write_answer-in-Ok-Some-clause-pressed : goal.returns-in_ok-write_answer-in-Ok-Some-clause-pressed
+returns-in_ok-write_answer-in-Ok-Some-clause-pressed g c =
+    let answer = c.in-Ok-Some.answer in
+    record {
+      written = answer_spelling answer;
+      led = key_sent_goes c.args.station.now c.key.new.self c.args.key answer
+          (rw c.in-Ok-Some.field-0-is at c.in-Ok-Some.ensures.keyed);
+      wrote = c.in_ok-write_answer-in-Ok-Some.ensures.ok;
+    }
+
+pub returns-in_ok-write_answer-in-Ok-Some-clause-taken : goal.returns-in_ok-write_answer-in-Ok-Some-clause-taken
+returns-in_ok-write_answer-in-Ok-Some-clause-taken g c = λ bytes items side l few.
+    key_taken c.args.station.now c.key.new.self bytes items side c.args.key (Some c.in-Ok-Some.answer)
+    ((rw c.in-Ok-Some.field-0-is at c.in-Ok-Some.ensures.keyed) bytes items side l few)
+
+pub returns-in-Err-clause-pressed : goal.returns-in-Err-clause-pressed
+returns-in-Err-clause-pressed g c = record {
+  written = [];
+  led = key_refused_goes c.args.station.now c.key.new.self c.args.key c.in-Err.fault c.in-Err.ensures.keyed;
+  wrote = went_out_none g.K.Sink.takes g.K.Sink.failures c.args.sink.now;
+}
+
+pub returns-in-Err-clause-told : goal.returns-in-Err-clause-told
+returns-in-Err-clause-told g c = λ bytes items side l few. (c.in-Err.ensures.keyed bytes items side l few).0

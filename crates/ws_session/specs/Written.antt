@@ -1,0 +1,40 @@
+-- What an end wrote into a sink
+
+use Rattle.std.specs.Prelude.{◌≡◌, ◌⊎◌, ℕ, List, [], ◌∷◌}
+use Rattle.ws_code.specs.declared.fault.Fault.{Fault}
+use Rattle.ws_code.specs.declared.fault.Fault.TheVariants.{Write}
+use Rattle.ws_code.specs.Device.{MayTake, WentOut, FailedWithin}
+use Rattle.ws_session.specs.declared.refusal.Refusal.{Refusal}
+use Rattle.ws_session.specs.Acts.{Act, Came}
+use Rattle.ws_session.specs.Attachments.{fault_of}
+
+module _ {E K Deed Event : Type 0} (goes : E → List (Act Deed) → List ℕ → List Event → E → Type 0) (takes : MayTake K)
+    (failures : K → ℕ) (old new : E) (from to : K) where
+  -- these acts led on, and what the end wrote in them went out
+  pub record HasWritten (acts : List (Act Deed)) (told : List Event) : Type 0 where
+    pub written : List ℕ
+    pub led : goes old acts written told new
+    pub wrote : WentOut takes failures from to written
+
+  -- these acts led on, and of what the end wrote in them only the front went out
+  pub record HasWrittenFront (acts : List (Act Deed)) : Type 0 where
+    pub written : List ℕ
+    pub told : List Event
+    pub led : goes old acts written told new
+    pub failed : FailedWithin takes failures from to written
+
+-- the end refused the byte, and nothing was written
+pub record RefusesByte {E K : Type 0} (refuses : E → ℕ → Refusal → E → Type 0) (old new : E) (from to : K) (byte : ℕ)
+    (why : Fault) : Type 0 where
+  pub refusal : Refusal
+  pub refused : refuses old byte refusal new
+  pub is : why ≡ fault_of refusal
+  pub unwritten : to ≡ from
+
+-- a byte doesn't come through: a write failed, or the end refused the byte
+abbrev pub IsUntaken : {E K Deed Event : Type 0} (goes : E → List (Act Deed) → List ℕ → List Event → E → Type 0)
+    (refuses : E → ℕ → Refusal → E → Type 0) (takes : MayTake K) (failures : K → ℕ) (old new : E) (from to : K)
+    (byte : ℕ) → Fault → Type 0
+IsUntaken goes refuses takes failures old new from to byte why =
+    ((why ≡ Write) × HasWrittenFront goes takes failures old new from to (Came byte ∷ []))
+    ⊎ RefusesByte refuses old new from to byte why

@@ -1,0 +1,72 @@
+// What an end does at a byte or a key, and writes at once into a sink: the steps of `Attached` and of `run_station`.
+
+ghost use Rattle.std.specs.Prelude.{◌≡◌, ◌∷◌, [], true, IfOk, IfErr, IfSome, IfNone};
+ghost use Rattle.ws_session.specs.Acts.{Came, Did, as_list};
+ghost use Rattle.ws_session.specs.Attachments as spec;
+ghost use Rattle.ws_session.specs.Attachments.{breaks};
+ghost use Rattle.ws_session.specs.Manners.{StationGoes, IsKeyRefusal, IsKeyTaken};
+ghost use Rattle.ws_session.specs.Written.{HasWritten, HasWrittenFront, IsUntaken};
+
+use crate::end::End;
+use crate::{KeyFault, Refusal, Station, write_answer};
+use ws_code::{Fault, Sink, write_whole};
+use ws_keys::Key;
+
+// Takes a byte, and writes what the end answers.
+pub(crate) fn take_byte<E: End, K: Sink>(
+    end: &mut E,
+    sink: &mut K,
+    byte: u8,
+) -> Result<Option<E::Event>, Fault>
+    ensures taken { IfOk result (λ told. HasWritten E.goes K.takes K.failures
+        end.old end.new sink.old sink.new (Came byte ∷ []) (as_list told)) }
+    ensures fault { IfErr result (IsUntaken E.goes E.refuses K.takes K.failures
+        end.old end.new sink.old sink.new byte) }
+    ensures breaks { IfErr result (λ fault. breaks fault ≡ true) }
+{
+    match end.take(byte) {
+        Ok(step) => {
+            write_whole(sink, step.reply.as_slice())?;
+            Ok(step.event)
+        }
+        Err(refusal) => Err(fault_of(refusal)),
+    }
+}
+
+// A refusal as a fault.
+fn fault_of(refusal: Refusal) -> Fault
+    ensures { result ≡ spec.fault_of refusal }
+{
+    match refusal {
+        Refusal::At { place, reason } => Fault::Refused { place, reason },
+        Refusal::Failed => Fault::Failed,
+        Refusal::Memory => Fault::Memory,
+    }
+}
+
+// Presses a key, and writes what it sends. A key that is refused has no effect, and the answer tells why. `Write` is
+// the only fault: the key has had its effect, and a prefix of what it sends went out.
+pub(crate) fn press_key<K: Sink>(
+    station: &mut Station,
+    sink: &mut K,
+    key: Key,
+) -> Result<Option<KeyFault>, Fault>
+    ensures pressed { IfOk result (λ refused. HasWritten StationGoes K.takes K.failures
+        station.old station.new sink.old sink.new (Did key ∷ []) []) }
+    ensures refused { IfOk result (λ refused. IfSome refused
+        (λ fault. (station.new ≡ station.old) × (sink.new ≡ sink.old))) }
+    ensures told { IfOk result (λ refused. IfSome refused (IsKeyRefusal station.old key)) }
+    ensures taken { IfOk result (λ refused. IfNone refused (IsKeyTaken station.old key)) }
+    ensures fault { IfErr result (λ fault. (fault ≡ Fault.Write)
+        × HasWrittenFront StationGoes K.takes K.failures
+        station.old station.new sink.old sink.new (Did key ∷ [])) }
+{
+    match station.key(key) {
+        Ok(None) => Ok(None),
+        Ok(Some(answer)) => {
+            write_answer(sink, &answer)?;
+            Ok(None)
+        }
+        Err(fault) => Ok(Some(fault)),
+    }
+}
