@@ -37,7 +37,7 @@ part() {
     echo "== $name took $((SECONDS - begun)) seconds"
 }
 
-[ "${1:-}" != --prove ] || part "rt ci" 160 rt ci
+[ "${1:-}" != --prove ] || part "rt ci" 168 rt ci
 # The C library comes first: a live session of the program is compared with one of C programs over it.
 if command -v cc >/dev/null && command -v make >/dev/null; then
     part "C library" 60 tests/build_c_library.sh

@@ -60,13 +60,11 @@ fn an_emulator(rt: HostRuntime) -> Result<(), Fail> {
     for letter in ['B', 'O', 'B'] {
         assert_eq!(rt; strike(&mut station, Key::Char(letter), &mut up), Ok(None));
     }
-    let enter = Key::Aid(Aid::from_byte(0xf1).expect(&rt, "Enter"));
-    assert_eq!(rt;
-        strike(&mut station, enter, &mut StuckSink),
-        Err(Fault::Write)
-    );
+    let enter = Aid::from_byte(0xf1).expect(&rt, "Enter");
+    let unwritten = strike(&mut station, Key::Aid(enter), &mut StuckSink);
+    assert_eq!(rt; unwritten, Err(Fault::Write));
     let locked = Some(KeyFault::Key(KeyRefusal::Locked));
-    assert_eq!(rt; strike(&mut station, enter, &mut up), Ok(locked));
+    assert_eq!(rt; strike(&mut station, Key::Aid(enter), &mut up), Ok(locked));
 
     let refused = Refusal::At {
         place: 53,

@@ -50,7 +50,8 @@ module _ {S R : Type 0} (takes : MayTake S) (failures : S → ℕ) (gives : MayG
 module _ {S R T Q : Type 0} (takes : MayTake S) (failures : S → ℕ) (gives : MayGive R) (misses : R → ℕ)
     (takes' : MayTake
     T) (failures' : T → ℕ) (gives' : MayGive Q) (misses' : Q → ℕ) where
-  -- a line failed in this way, on its way in or out; what crossed until then did cross
+  -- why no more crosses either: memory is wanting, and whatever went into them has crossed; or a piece of one did
+  -- not cross, and whatever went into the other has
   abbrev pub AreEnded : Line S R → Line S R → Line T Q → Line T Q → Fault → Type 0
   AreEnded from to from' to' fault =
       ((fault ≡ Memory) × HasCrossed takes failures gives misses from to
