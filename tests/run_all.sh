@@ -1,7 +1,7 @@
 #!/usr/bin/env bash
 # Runs all that is looked at beside the proofs, on the programs in the crates' out/ folders: the examples, each
-# tests/run_*.py, the documents, and the C interface. `rt ci` leaves these programs, and so do `rt run` and `rt test` in
-# crates/t5250; with --prove `rt ci` is the first part.
+# tests/run_*.py, the documents, and the C interface. `rt ci` leaves these programs, and so do `rt run` in crates/t5250
+# and `rt test` in crates/rows_program; with --prove `rt ci` is the first part.
 #
 # A part ends with a line `N passed, N failed`; one without counts as one, by its status. What a part leaves out for want
 # of a tool, it tells on a line that begins with `left out: `; these come again at the end. The last line is the sum, and
@@ -37,7 +37,9 @@ part() {
     echo "== $name took $((SECONDS - begun)) seconds"
 }
 
-[ "${1:-}" != --prove ] || part "rt ci" 168 rt ci
+# One job for each check, and as many checks as there are processors: a check that is shared out among copies of the
+# prover takes a quarter more processor time.
+[ "${1:-}" != --prove ] || part "rt ci" 168 env RT_JOBS="$(nproc)" rt ci
 # The C library comes first: a live session of the program is compared with one of C programs over it.
 if command -v cc >/dev/null && command -v make >/dev/null; then
     part "C library" 60 tests/build_c_library.sh
