@@ -34,7 +34,7 @@ compare_made() {
     count $? "differs: make ${*:2} $1.show"
 }
 
-tested=$(<../crates/t5250/src/example_rows.rt)
+tested=$(<../crates/rows_program/src/example_rows.rt)
 
 same_as_tested() {
     local text

@@ -1,9 +1,9 @@
 #!/usr/bin/env python3
 """Refuses each allocation in turn: of the tests of want of memory, and of the built program.
 
-Build both first (`cd crates/t5250 && rt test && rt run -- check < stdin`), then call this script from anywhere:
-`python3 tests/run_without_memory.py`. It needs a C compiler (`cc`, or what CC names). It tells of each run that went
-otherwise. Its last line counts the runs, and its own status is 1 where one went otherwise.
+Build both first (`rt run -- check < stdin` in crates/t5250, `rt test` in crates/rows_program), then call this script
+from anywhere: `python3 tests/run_without_memory.py`. It needs a C compiler (`cc`, or what CC names). It tells of each
+run that went otherwise. Its last line counts the runs, and its own status is 1 where one went otherwise.
 
 A test or the program is run with its first allocation refused, then with its second, and so on, until a run ends in
 which none was. `rt try --test --fail-alloc N` refuses the same ones, but builds anew for each N.
@@ -15,9 +15,9 @@ import sys
 import tempfile
 
 TESTS = os.path.dirname(os.path.abspath(__file__))
-CRATE = os.path.join(TESTS, "..", "crates", "t5250")
-PROGRAM = os.path.abspath(os.path.join(CRATE, "out", "t5250"))
-TEST_PROGRAM = os.path.abspath(os.path.join(CRATE, "out", "t5250_tests"))
+CRATES = os.path.join(TESTS, "..", "crates")
+PROGRAM = os.path.abspath(os.path.join(CRATES, "t5250", "out", "t5250"))
+TEST_PROGRAM = os.path.abspath(os.path.join(CRATES, "rows_program", "out", "rows_program_tests"))
 
 # Tests of calls that take memory: each holds with any one allocation refused.
 WITHIN_MEMORY = [

@@ -1,9 +1,11 @@
 use crate::vectors::{INVITE, PUT_FF, REFUSED_BODIES, Side, VECTORS};
+use crate::{holds, same, same_at, same_bytes};
 use std::alloc::{AllocError, Global};
+use std::process::Abort;
 use std::str;
 use std::test::Fail;
-use ws_code::{Fault, SliceSource, VecSink};
-use ws_record::{Fed, Item, Live, Receiver, Step, decode_all, decode_from};
+use ws_code::{Fault, Reason, SliceSource, VecSink};
+use ws_record::{Fed, Head, Item, Live, Opcode, Receiver, Step, decode_all, decode_from};
 use ws_stream::{Answers, Commands, Element};
 use ws_text::{Output, put_answer_item, put_item};
 
@@ -101,6 +103,17 @@ fn fault_told(alloc: Global, fault: Fault) -> Result<String, AllocError> {
     }
 }
 
+// Adds the lines of an item that ends before this place.
+fn add_item(
+    alloc: Global,
+    end: u64,
+    item: &Item<Element>,
+    text: &mut String,
+) -> Result<(), AllocError> {
+    let lines = item_text(alloc, end.saturating_sub(1), item)?;
+    text.push_str(lines.as_str())
+}
+
 // Feeds a piece up to its end, behind so many bytes, and adds what it gives to the text.
 fn hear(
     alloc: Global,
@@ -113,37 +126,47 @@ fn hear(
     let mut rest = piece;
     for _ in 0..9 {
         match receiver.feed(rest) {
-            Ok(Fed { used, item }) => {
+            Ok(
+                Fed {
+                    used,
+                    item: Some(item),
+                },
+            ) => {
                 taken = taken.saturating_add(used as u64);
                 rest = &rest[used..];
-                match &item {
-                    Some(item) => {
-                        let place = taken.saturating_sub(1);
-                        text.push_str(item_text(alloc, place, item)?.as_str())?;
-                    }
-                    None => return Ok(()),
-                }
+                add_item(alloc, taken, &item, text)?;
             }
+            Ok(_) => return Ok(()),
             Err(fault) => return text.push_str(fault_told(alloc, fault)?.as_str()),
         }
     }
     Ok(())
 }
 
+// What is told of the bytes by a source, and by a receiver.
+fn told_by_source(alloc: Global, bytes: &[u8], places: &[u64]) -> Result<String, AllocError> {
+    let mut source = SliceSource::new(bytes);
+    let found = decode_from::<Commands, SliceSource>(alloc, &mut source);
+    told(alloc, found, places)
+}
+
+fn told_by_receiver(alloc: Global, bytes: &[u8]) -> Result<String, AllocError> {
+    let mut receiver = Receiver::<Commands>::new(alloc);
+    let mut text = String::new(alloc);
+    hear(alloc, &mut receiver, 0, bytes, &mut text)?;
+    Ok(text)
+}
+
 #[test]
 fn commands_decode(rt: HostRuntime) -> Result<(), Fail> {
     let alloc = rt.alloc();
     for (row, bytes, places, wanted) in &ACCEPTED {
-        let found = told(alloc, decode_all::<Commands>(alloc, bytes), places)?;
-        assert_eq!(rt; found.as_str(), *wanted, "{row}");
-        let mut source = SliceSource::new(bytes);
-        let found = decode_from::<Commands, SliceSource>(alloc, &mut source);
-        let found = told(alloc, found, places)?;
-        assert_eq!(rt; found.as_str(), *wanted, "{row} from a source");
-        let mut receiver = Receiver::<Commands>::new(alloc);
-        let mut text = String::new(alloc);
-        hear(alloc, &mut receiver, 0, bytes, &mut text)?;
-        assert_eq!(rt; text.as_str(), *wanted, "{row} by a receiver");
+        let at_once = told(alloc, decode_all::<Commands>(alloc, bytes), places)?;
+        same_at(&rt, row, at_once.as_str(), *wanted);
+        let by_source = told_by_source(alloc, bytes, places)?;
+        same_at(&rt, row, by_source.as_str(), *wanted);
+        let by_receiver = told_by_receiver(alloc, bytes)?;
+        same_at(&rt, row, by_receiver.as_str(), *wanted);
     }
     Ok(())
 }
@@ -164,20 +187,39 @@ fn live_fault(bytes: &[u8]) -> Option<Fault> {
 }
 
 #[test]
-fn live_refusals(rt: HostRuntime) -> Result<(), Fail> {
+fn live_refusals(rt: HostRuntime) {
     for vector in VECTORS.iter().chain(REFUSED_BODIES.iter()) {
         if vector.side == Side::FromHost {
             let name = vector.name;
-            assert_eq!(rt; live_fault(vector.bytes), vector.outcome.err(), "{name}");
+            same_at(&rt, name, live_fault(vector.bytes), vector.outcome.err());
         }
     }
-    let mut receiver = Receiver::<Commands>::new(rt.alloc());
+    query_is_refused(&rt, rt.alloc());
+}
+
+// `feed-query`.
+fn query_is_refused(rt: &impl Abort, alloc: Global) {
+    let mut receiver = Receiver::<Commands>::new(alloc);
     let query = b"\x00\x11\x12\xa0\x00\x00\x04\x00\x00\x03\x04\xf3";
-    assert!(rt;
-        matches!(receiver.feed(query), Err(Fault::Refused { place: 11, .. })),
-        "feed-query"
-    );
-    Ok(())
+    let wanted = Fault::Refused {
+        place: 11,
+        reason: Reason::StructuredField,
+    };
+    same(rt, receiver.feed(query).err(), Some(wanted));
+}
+
+// The step of `alternate-refused` with the byte at a place.
+fn alternate_step(at: usize) -> Step<Element> {
+    match at {
+        9 => Step::Open(Head {
+            flags: 0,
+            opcode: Opcode::PutGet,
+            length: 14,
+        }),
+        13 => Step::Unit(Element::ReadMdtAlternate { cc1: 0, cc2: 0 }),
+        15 => Step::Close,
+        _ => Step::More,
+    }
 }
 
 // `alternate-refused`, which is accepted: the record ends with its last byte, and its header with the tenth.
@@ -186,71 +228,71 @@ fn alternate_by_live(rt: HostRuntime) {
     let mut live = Live::<Commands>::new();
     let bytes = b"\x00\x0e\x12\xa0\x00\x00\x04\x00\x00\x03\x04\x82\x00\x00\xff\xef";
     for (at, byte) in bytes.iter().enumerate() {
-        let step = live.push(*byte);
-        let is_wanted = match at {
-            9 => matches!(step, Step::Open(_)),
-            13 => matches!(
-                step,
-                Step::Unit(Element::ReadMdtAlternate { cc1: 0, cc2: 0 })
-            ),
-            15 => matches!(step, Step::Close),
-            _ => matches!(step, Step::More),
-        };
-        assert!(rt; is_wanted, "byte {at}");
+        same_at(&rt, at, live.push(*byte), alternate_step(at));
     }
-    assert!(rt; live.finish().is_ok());
+    holds(&rt, live.finish().is_ok());
+}
+
+fn expect_answer(rt: &impl Abort, alloc: Global, bytes: &[u8], wanted: &str) {
+    let items = decode_all::<Answers>(alloc, bytes).expect(rt, wanted);
+    let mut sink = VecSink::new(alloc);
+    for item in items.iter() {
+        let output = put_answer_item(&mut sink, Output::Open, 14, item);
+        same(rt, output, Output::Open);
+    }
+    same_bytes(rt, sink.as_slice(), wanted.as_bytes());
 }
 
 // `answer-keys`: two answers with the cursor at 17, 5, which differ in the key alone.
 #[test]
-fn answer_keys(rt: HostRuntime) -> Result<(), Fail> {
-    let rows: [(&[u8], &str); 2] = [
-        (
-            b"\x00\x0d\x12\xa0\x00\x00\x04\x00\x00\x03\x11\x05\x31\xff\xef",
-            "at 14 record flags 0000 opcode 3\n  HEAD 17 5 31\n",
-        ),
-        (
-            b"\x00\x0d\x12\xa0\x00\x00\x04\x00\x00\x03\x11\x05\x32\xff\xef",
-            "at 14 record flags 0000 opcode 3\n  HEAD 17 5 32\n",
-        ),
-    ];
-    for (bytes, wanted) in rows {
-        let items = decode_all::<Answers>(rt.alloc(), bytes).expect(&rt, wanted);
-        let mut sink = VecSink::new(rt.alloc());
-        for item in items.iter() {
-            assert_eq!(rt;
-                put_answer_item(&mut sink, Output::Open, 14, item),
-                Output::Open
-            );
-        }
-        assert_eq!(rt; sink.as_slice(), wanted.as_bytes());
+fn answer_keys(rt: HostRuntime) {
+    expect_answer(
+        &rt,
+        rt.alloc(),
+        b"\x00\x0d\x12\xa0\x00\x00\x04\x00\x00\x03\x11\x05\x31\xff\xef",
+        "at 14 record flags 0000 opcode 3\n  HEAD 17 5 31\n",
+    );
+    expect_answer(
+        &rt,
+        rt.alloc(),
+        b"\x00\x0d\x12\xa0\x00\x00\x04\x00\x00\x03\x11\x05\x32\xff\xef",
+        "at 14 record flags 0000 opcode 3\n  HEAD 17 5 32\n",
+    );
+}
+
+// What is told of `put-ff` in pieces of a size.
+fn put_ff_by(rt: &impl Abort, alloc: Global, size: usize) -> Result<String, AllocError> {
+    let mut receiver = Receiver::<Commands>::new(alloc);
+    let mut text = String::new(alloc);
+    let mut before = 0usize;
+    for piece in PUT_FF.chunks(size.max(1)) {
+        hear(alloc, &mut receiver, before, piece, &mut text)?;
+        before = before.wrapping_add(piece.len());
     }
-    Ok(())
+    holds(rt, receiver.finish().is_ok());
+    Ok(text)
+}
+
+// What is told of it in two pieces, the first of so many bytes.
+fn put_ff_in_two(alloc: Global, size: usize) -> Result<String, AllocError> {
+    let mut receiver = Receiver::<Commands>::new(alloc);
+    let mut text = String::new(alloc);
+    let (first, second) = PUT_FF.split_at(size.min(18));
+    hear(alloc, &mut receiver, 0, first, &mut text)?;
+    hear(alloc, &mut receiver, size, second, &mut text)?;
+    Ok(text)
 }
 
 // `put-ff-in-pieces`: cut in two at each place, and into pieces of each size.
 #[test]
 fn put_ff_in_pieces(rt: HostRuntime) -> Result<(), Fail> {
-    let alloc = rt.alloc();
-    let (bytes, wanted) = (PUT_FF, PUT_FF_SHOWN);
     for size in 1..19 {
-        let mut receiver = Receiver::<Commands>::new(alloc);
-        let mut text = String::new(alloc);
-        let mut before = 0usize;
-        for piece in bytes.chunks(size) {
-            hear(alloc, &mut receiver, before, piece, &mut text)?;
-            before = before.wrapping_add(piece.len());
-        }
-        assert!(rt; receiver.finish().is_ok());
-        assert_eq!(rt; text.as_str(), wanted, "in pieces of {size}");
+        let text = put_ff_by(&rt, rt.alloc(), size)?;
+        same_at(&rt, size, text.as_str(), PUT_FF_SHOWN);
     }
     for size in 0..19 {
-        let mut receiver = Receiver::<Commands>::new(alloc);
-        let mut text = String::new(alloc);
-        let (first, second) = bytes.split_at(size);
-        hear(alloc, &mut receiver, 0, first, &mut text)?;
-        hear(alloc, &mut receiver, size, second, &mut text)?;
-        assert_eq!(rt; text.as_str(), wanted, "cut behind {size}");
+        let text = put_ff_in_two(rt.alloc(), size)?;
+        same_at(&rt, size, text.as_str(), PUT_FF_SHOWN);
     }
     Ok(())
 }

@@ -1,4 +1,6 @@
 use crate::escaped::Escaped;
+use crate::vectors::LENGTH_255;
+use crate::{same, same_at};
 use std::alloc::{AllocError, Global};
 use std::process::Abort;
 use std::test::Fail;
@@ -172,10 +174,10 @@ fn expect_both_ways(
     wanted: Result<Vec<Item<u8>>, Fault>,
 ) {
     let found = decode_all::<RawBody>(alloc, bytes);
-    assert_eq!(rt; found, wanted, "{row}");
+    same_at(rt, row, &found, &wanted);
     let mut source = SliceSource::new(bytes);
     let found = decode_from::<RawBody, SliceSource>(alloc, &mut source);
-    assert_eq!(rt; found, wanted, "{row} from a source");
+    same_at(rt, row, found, wanted);
 }
 
 #[test]
@@ -227,15 +229,15 @@ fn bad_tokens(rt: HostRuntime) -> Result<(), Fail> {
         match refused_at {
             Some(place) => {
                 let reason = Reason::SubTooLong;
-                assert_eq!(rt; found, Err(Fault::Refused { place, reason }));
+                same(&rt, found, Err(Fault::Refused { place, reason }));
                 let wanted = [(place as usize, Step::Refused { place, reason })];
-                assert_eq!(rt; steps.as_slice(), wanted.as_slice());
+                same(&rt, steps.as_slice(), wanted.as_slice());
             }
             None => {
                 let item = Item::Telnet(sub(0x18, &[0x41; 64])?);
-                assert_eq!(rt; found, Ok(vec![in rt.alloc(); item]?));
+                same(&rt, found, Ok(vec![in rt.alloc(); item]?));
                 let wanted = [(68, Step::Telnet(sub(0x18, &[0x41; 64])?))];
-                assert_eq!(rt; steps.as_slice(), wanted.as_slice());
+                same(&rt, steps.as_slice(), wanted.as_slice());
             }
         }
     }
@@ -245,19 +247,12 @@ fn bad_tokens(rt: HostRuntime) -> Result<(), Fail> {
 // `length-255`: the length's FF is doubled too.
 #[test]
 fn length_255(rt: HostRuntime) -> Result<(), Fail> {
-    let mut bytes = Vec::new(rt.alloc());
-    bytes.extend_from_slice(b"\x00\xff\xff\x12\xa0\x00\x00\x04\x00\x00\x03\x04\x11\x00\x00")?;
-    for _ in 0..241 {
-        bytes.push(0x40)?;
-    }
-    bytes.extend_from_slice(b"\xff\xef")?;
-    assert_eq!(rt; bytes.len(), 258);
-    let items = decode_all::<RawBody>(rt.alloc(), bytes.as_slice()).or(Err("refused"))?;
-    assert_eq!(rt; items.len(), 1);
-    match &items[0] {
-        Item::Record(record) => assert_eq!(rt; record.body.as_slice().len(), 245),
-        Item::Telnet(_) => assert!(rt; false),
-    }
+    let items = decode_all::<RawBody>(rt.alloc(), LENGTH_255).or(Err("refused"))?;
+    same(&rt, LENGTH_255.len(), 258);
+    let [Item::Record(record)] = items.as_slice() else {
+        panic!(rt; "a record")
+    };
+    same(&rt, record.body.as_slice().len(), 245);
     Ok(())
 }
 
@@ -278,7 +273,7 @@ fn another_body(rt: HostRuntime) -> Result<(), Fail> {
     ];
     for (row, bytes, wanted) in &accepted {
         let found = decode_all::<Escaped>(rt.alloc(), bytes);
-        assert_eq!(rt; found, Ok(all_made(rt.alloc(), wanted)?), "{row}");
+        same_at(&rt, row, found, Ok(all_made(rt.alloc(), wanted)?));
     }
     let refused: [Refused; 2] = [
         (
@@ -300,7 +295,7 @@ fn another_body(rt: HostRuntime) -> Result<(), Fail> {
             reason: *reason,
         };
         let found = decode_all::<Escaped>(rt.alloc(), bytes);
-        assert_eq!(rt; found, Err(wanted), "{row}");
+        same_at(&rt, row, found, Err(wanted));
     }
     Ok(())
 }
@@ -313,7 +308,7 @@ fn expect_steps(
     wanted: &[(usize, Step<u8>)],
 ) -> Result<(), AllocError> {
     let found = steps_of(alloc, bytes)?;
-    assert_eq!(rt; found.as_slice(), wanted);
+    same(rt, found.as_slice(), wanted);
     Ok(())
 }
 
@@ -325,18 +320,20 @@ fn open(opcode: Opcode, length: u16) -> Step<u8> {
     })
 }
 
-#[test]
-fn live_steps(rt: HostRuntime) -> Result<(), Fail> {
+fn expect_invite_steps(rt: &impl Abort, alloc: Global) -> Result<(), AllocError> {
     let invite = b"\x00\x0a\x12\xa0\x00\x00\x04\x00\x00\x01\xff\xef";
     let wanted = [(9, open(Opcode::Invite, 10)), (11, Step::Close)];
-    expect_steps(&rt, rt.alloc(), invite, &wanted)?;
+    expect_steps(rt, alloc, invite, &wanted)?;
     let with_nop = b"\x00\x0a\xff\xf1\x12\xa0\x00\x00\x04\x00\x00\x01\xff\xef";
     let wanted = [
         (3, Step::Telnet(Telnet::Command(CommandCode::Nop))),
         (11, open(Opcode::Invite, 10)),
         (13, Step::Close),
     ];
-    expect_steps(&rt, rt.alloc(), with_nop, &wanted)?;
+    expect_steps(rt, alloc, with_nop, &wanted)
+}
+
+fn expect_put_steps(rt: &impl Abort, alloc: Global) -> Result<(), AllocError> {
     let put_ff = b"\x00\x0f\x12\xa0\x00\x00\x04\x00\x00\x03\x04\x11\x00\x08\xff\xff\xff\xef";
     let wanted = [
         (9, open(Opcode::PutGet, 15)),
@@ -347,7 +344,13 @@ fn live_steps(rt: HostRuntime) -> Result<(), Fail> {
         (15, Step::Unit(0xff)),
         (17, Step::Close),
     ];
-    expect_steps(&rt, rt.alloc(), put_ff, &wanted)?;
+    expect_steps(rt, alloc, put_ff, &wanted)
+}
+
+#[test]
+fn live_steps(rt: HostRuntime) -> Result<(), Fail> {
+    expect_invite_steps(&rt, rt.alloc())?;
+    expect_put_steps(&rt, rt.alloc())?;
     let with_sub = b"\x00\x0b\x12\xa0\x00\x00\x04\x00\x00\x03\xff\xfa\x18\x01\xff\xf0\x41\xff\xef";
     let wanted = [
         (9, open(Opcode::PutGet, 11)),

@@ -1,5 +1,7 @@
 use crate::escaped::Escaped;
+use crate::{holds, same, same_at, same_bytes};
 use std::alloc::{AllocError, Global};
+use std::process::Abort;
 use std::test::Fail;
 use ws_code::{FailingSink, Fault, List, VecSink};
 use ws_record::{
@@ -60,27 +62,31 @@ fn fault_of<B: ws_code::Body<Unit = u8>>(
     }
 }
 
+// The ways to bytes write `put-ff` of the items, and of the body.
+fn expect_put_ff(rt: &impl Abort, alloc: Global, items: &[Item<u8>], body: &[u8; 5]) {
+    let mut sink = VecSink::new(alloc);
+    let written = encode_to::<RawBody, VecSink>(items, &mut sink);
+    same(rt, written, Ok(()));
+    same_bytes(rt, sink.as_slice(), &PUT_FF);
+    let mut sink = VecSink::new(alloc);
+    let written = write_record(&mut sink, 0, Opcode::PutGet, body);
+    same(rt, written, Ok(()));
+    same_bytes(rt, sink.as_slice(), &PUT_FF);
+}
+
 #[test]
 fn put_ff(rt: HostRuntime) -> Result<(), Fail> {
     let body = [0x04, 0x11, 0x00, 0x08, 0xff];
     let items = vec![in rt.alloc(); item(rt.alloc(), Opcode::PutGet, &body)?]?;
     let encoded = encode::<RawBody>(rt.alloc(), items.as_slice())?;
-    assert_eq!(rt; encoded.as_slice(), PUT_FF.as_slice());
-    let mut sink = VecSink::new(rt.alloc());
-    assert_eq!(rt;
-        encode_to::<RawBody, VecSink>(items.as_slice(), &mut sink),
-        Ok(())
-    );
-    assert_eq!(rt; sink.as_slice(), PUT_FF.as_slice());
-    let mut sink = VecSink::new(rt.alloc());
-    assert_eq!(rt; write_record(&mut sink, 0, Opcode::PutGet, &body), Ok(()));
-    assert_eq!(rt; sink.as_slice(), PUT_FF.as_slice());
+    same_bytes(&rt, encoded.as_slice(), &PUT_FF);
+    expect_put_ff(&rt, rt.alloc(), items.as_slice(), &body);
     let found = encode_and_decode::<RawBody>(rt.alloc(), items.as_slice())?;
-    assert_eq!(rt; found.len(), 1);
+    same(&rt, found.len(), 1);
     match &found[0] {
         Item::Record(record) => {
-            assert_eq!(rt; record.opcode, Opcode::PutGet);
-            assert_eq!(rt; record.body.as_slice(), body.as_slice());
+            same(&rt, record.opcode, Opcode::PutGet);
+            same_bytes(&rt, record.body.as_slice(), &body);
         }
         Item::Telnet(_) => assert!(rt; false),
     }
@@ -88,29 +94,37 @@ fn put_ff(rt: HostRuntime) -> Result<(), Fail> {
     Ok(())
 }
 
+// What a sink holds that takes so many writes of `put-ff`.
+fn expect_front(rt: &impl Abort, written: &[u8], writes: usize) {
+    same(rt, written.len(), writes.min(18));
+    holds(rt, PUT_FF.starts_with(written));
+}
+
+fn expect_encode_fault(rt: &impl Abort, alloc: Global, items: &[Item<u8>], writes: usize) {
+    let mut sink = FailingSink::new(alloc, writes as u64);
+    let written = encode_to::<RawBody, FailingSink>(items, &mut sink);
+    expect_front(rt, sink.as_slice(), writes);
+    let (wanted, failures) = if writes < 18 {
+        (Err(EncodeFault::Write), 1)
+    } else {
+        (Ok(()), 0)
+    };
+    same_at(rt, writes, written, wanted);
+    same_at(rt, writes, sink.failures(), failures);
+}
+
 #[test]
 fn encode_sink_fails(rt: HostRuntime) -> Result<(), Fail> {
     let body = [0x04, 0x11, 0x00, 0x08, 0xff];
     let items = vec![in rt.alloc(); item(rt.alloc(), Opcode::PutGet, &body)?]?;
     for writes in 0..19usize {
-        let mut sink = FailingSink::new(rt.alloc(), writes as u64);
-        let written = encode_to::<RawBody, FailingSink>(items.as_slice(), &mut sink);
-        assert_eq!(rt; sink.as_slice().len(), writes.min(18));
-        assert!(rt; PUT_FF.starts_with(sink.as_slice()));
-        if writes < 18 {
-            assert_eq!(rt; written, Err(EncodeFault::Write), "after {writes}");
-            assert_eq!(rt; sink.failures(), 1);
-        } else {
-            assert_eq!(rt; written, Ok(()));
-            assert_eq!(rt; sink.failures(), 0);
-        }
+        expect_encode_fault(&rt, rt.alloc(), items.as_slice(), writes);
     }
     for writes in 0..19usize {
         let mut sink = FailingSink::new(rt.alloc(), writes as u64);
         let written = write_record(&mut sink, 0, Opcode::PutGet, &body);
-        assert_eq!(rt; sink.as_slice().len(), writes.min(18));
-        assert!(rt; PUT_FF.starts_with(sink.as_slice()));
-        assert_eq!(rt; written.is_ok(), writes == 18, "after {writes}");
+        expect_front(&rt, sink.as_slice(), writes);
+        same_at(&rt, writes, written.is_ok(), writes == 18);
     }
     Ok(())
 }
@@ -119,12 +133,12 @@ fn encode_sink_fails(rt: HostRuntime) -> Result<(), Fail> {
 fn largest_raw_record(rt: HostRuntime) -> Result<(), Fail> {
     let items = vec![in rt.alloc(); repeated(rt.alloc(), 0x40, 65_525)?]?;
     let encoded = encode::<RawBody>(rt.alloc(), items.as_slice())?;
-    assert_eq!(rt; encoded.len(), 65_539);
-    assert!(rt; encoded.starts_with(b"\xff\xff\xff\xff\x12\xa0"));
-    assert!(rt; encoded.ends_with(b"\x40\x40\xff\xef"));
+    same(&rt, encoded.len(), 65_539);
+    holds(&rt, encoded.starts_with(b"\xff\xff\xff\xff\x12\xa0"));
+    holds(&rt, encoded.ends_with(b"\x40\x40\xff\xef"));
     let items = vec![in rt.alloc(); repeated(rt.alloc(), 0x40, 65_526)?]?;
     let fault = fault_of::<RawBody>(rt.alloc(), items.as_slice())?;
-    assert_eq!(rt; fault, EncodeFault::TooBig { index: 0 });
+    same(&rt, fault, EncodeFault::TooBig { index: 0 });
     Ok(())
 }
 
@@ -169,12 +183,12 @@ fn bad_sequence_first(rt: HostRuntime) -> Result<(), Fail> {
         ),
     ];
     for (row, items, wanted) in &rows {
-        assert_eq!(rt; fault_of::<Escaped>(alloc, items)?, *wanted, "{row}");
+        same_at(&rt, row, fault_of::<Escaped>(alloc, items)?, *wanted);
     }
     let items = vec![in alloc; escaped(alloc, 1)?]?;
     let encoded = encode::<Escaped>(alloc, items.as_slice())?;
     let wanted = b"\x00\x0c\x12\xa0\x00\x00\x04\x00\x00\x03\x04\x41\xff\xef";
-    assert_eq!(rt; encoded.as_slice(), wanted.as_slice());
+    same_bytes(&rt, encoded.as_slice(), wanted.as_slice());
     Ok(())
 }
 
@@ -182,7 +196,7 @@ fn bad_sequence_first(rt: HostRuntime) -> Result<(), Fail> {
 #[test]
 fn commands_between_records(rt: HostRuntime) -> Result<(), Fail> {
     let none: [Item<u8>; 0] = [];
-    assert!(rt; encode::<RawBody>(rt.alloc(), &none)?.is_empty());
+    holds(&rt, encode::<RawBody>(rt.alloc(), &none)?.is_empty());
     let mut items = Vec::new(rt.alloc());
     items.push(Item::Telnet(Telnet::Command(CommandCode::Nop)))?;
     items.push(item(rt.alloc(), Opcode::Invite, &[0x41])?)?;
@@ -194,23 +208,25 @@ fn commands_between_records(rt: HostRuntime) -> Result<(), Fail> {
     wanted.extend_from_slice(b"\xff\xf1")?;
     wanted.extend_from_slice(&short_spelling(1, 0x41))?;
     wanted.extend_from_slice(b"\xff\xfb\x19\xff\xfa\x18\x01\xff\xff\xff\xf0")?;
-    assert_eq!(rt; encoded.as_slice(), wanted.as_slice());
+    same_bytes(&rt, encoded.as_slice(), wanted.as_slice());
     Ok(())
 }
 
 #[test]
 fn flags_and_an_empty_body(rt: HostRuntime) {
     let mut sink = VecSink::new(rt.alloc());
-    assert_eq!(rt;
+    same(
+        &rt,
         write_record(&mut sink, 0x80ff, Opcode::CancelInvite, &[]),
-        Ok(())
+        Ok(()),
     );
     let wanted = b"\x00\x0a\x12\xa0\x00\x00\x04\x80\xff\xff\x0a\xff\xef";
-    assert_eq!(rt; sink.as_slice(), wanted.as_slice());
+    same_bytes(&rt, sink.as_slice(), wanted.as_slice());
     let mut stuck = ws_code::StuckSink;
-    assert_eq!(rt;
+    same(
+        &rt,
         write_record(&mut stuck, 0, Opcode::Invite, &[]),
-        Err(Fault::Write)
+        Err(Fault::Write),
     );
 }
 
@@ -229,7 +245,7 @@ fn faults_have_their_texts(rt: HostRuntime) -> Result<(), Fail> {
         (EncodeFault::Write, "cannot write"),
     ];
     for (fault, text) in texts {
-        assert_eq!(rt; format!(in rt.alloc(); "{fault}")?.as_str(), text);
+        same(&rt, fault.to_string(rt.alloc())?.as_str(), text);
     }
     Ok(())
 }

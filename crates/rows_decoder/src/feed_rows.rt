@@ -1,5 +1,7 @@
 use crate::decoder_rows::{INVITE, PUT_FF, Wanted, made, steps_of};
+use crate::same;
 use std::alloc::{AllocError, Global};
+use std::process::Abort;
 use std::test::Fail;
 use ws_code::{Fault, Reason};
 use ws_record::{Fed, Item, Live, Opcode, RawBody, Receiver, Step, Stepped};
@@ -157,45 +159,59 @@ fn all_made(alloc: Global, wanted: &[(u64, Wanted)]) -> Result<Vec<(u64, Item<u8
     Ok(items)
 }
 
+// What is heard of the bytes, cut so: the items, and the end.
+fn expect_heard(
+    rt: &impl Abort,
+    alloc: Global,
+    cut: Cut,
+    bytes: &[u8],
+    wanted: &[(u64, Item<u8>)],
+    end: Result<u64, Fault>,
+) -> Result<(), AllocError> {
+    let mut found = heard(alloc, bytes, cut)?;
+    assert_eq!(rt; found.items.as_slice(), wanted, "{bytes:?}, {cut:?}");
+    assert_eq!(rt; found.end(), end, "{bytes:?}, {cut:?}");
+    Ok(())
+}
+
 // The same items at the same places, and the same end, however the bytes are cut.
 #[test]
 fn every_cut(rt: HostRuntime) -> Result<(), Fail> {
-    for (row, bytes, wanted, end) in &CUT {
+    for (_row, bytes, wanted, end) in &CUT {
         let wanted = all_made(rt.alloc(), wanted)?;
         for size in 0..20 {
             for cut in [Cut::Pieces(size), Cut::Two(size)] {
-                let mut found = heard(rt.alloc(), bytes, cut)?;
-                assert_eq!(rt; found.items, wanted, "{row}, {cut:?}");
-                assert_eq!(rt; found.end(), *end, "{row}, {cut:?}");
+                expect_heard(&rt, rt.alloc(), cut, bytes, wanted.as_slice(), *end)?;
             }
         }
     }
     let wanted = all_made(rt.alloc(), &[(13, Wanted::Record(Opcode::PutGet, b"\xff"))])?;
     for bits in 0..0x2000 {
-        let mut found = heard(rt.alloc(), ONE_FF, Cut::Bits(bits))?;
-        assert_eq!(rt; found.items, wanted, "{bits:x}");
-        assert_eq!(rt; found.end(), Ok(14), "{bits:x}");
+        let cut = Cut::Bits(bits);
+        expect_heard(&rt, rt.alloc(), cut, ONE_FF, wanted.as_slice(), Ok(14))?;
     }
     Ok(())
 }
 
 #[test]
-fn failed_after_refusal(rt: HostRuntime) -> Result<(), Fail> {
+fn failed_after_refusal(rt: HostRuntime) {
     let mut receiver = Receiver::<RawBody>::new(rt.alloc());
-    assert!(rt;
-        matches!(
-            receiver.feed(b"\x00\x09"),
-            Err(Fault::Refused { place: 1, .. })
-        )
-    );
-    assert!(rt; matches!(receiver.feed(b""), Err(Fault::Failed)));
-    assert!(rt; matches!(receiver.feed(b"\x00"), Err(Fault::Failed)));
-    assert!(rt; matches!(receiver.finish(), Err(Fault::Failed)));
+    let refusal = Fault::Refused {
+        place: 1,
+        reason: Reason::LengthBelowHeader,
+    };
+    same(&rt, receiver.feed(b"\x00\x09").err(), Some(refusal));
+    same(&rt, receiver.feed(b"").err(), Some(Fault::Failed));
+    same(&rt, receiver.feed(b"\x00").err(), Some(Fault::Failed));
+    same(&rt, receiver.finish(), Err(Fault::Failed));
+    failed_after_an_end(&rt);
+}
+
+fn failed_after_an_end(rt: &impl Abort) {
     let mut live = Live::<RawBody>::new();
-    assert!(rt; matches!(live.push(0xff), Step::More));
-    assert!(rt; matches!(live.finish(), Err(Fault::Truncated { at: 1 })));
-    assert!(rt; matches!(live.push(0xef), Step::Failed));
-    Ok(())
+    same(rt, live.push(0xff), Step::More);
+    same(rt, live.finish(), Err(Fault::Truncated { at: 1 }));
+    same(rt, live.push(0xef), Step::Failed);
 }
 
 // A decoder, how many bytes it has taken, and its steps other than `More`, each behind the place of its last byte.
@@ -256,14 +272,19 @@ fn steps_of_every_cut(rt: HostRuntime) -> Result<(), Fail> {
             }
         }
     }
+    bytes_behind_a_step_are_left(&rt);
+    Ok(())
+}
+
+fn bytes_behind_a_step_are_left(rt: &impl Abort) {
     let mut live = Live::<RawBody>::new();
     let fed = live.feed(b"\xff\xf1\x00\x09");
-    assert_eq!(rt; fed.used, 2);
-    assert_eq!(rt; fed.step, Step::Telnet(Telnet::Command(CommandCode::Nop)));
+    same(rt, fed.used, 2);
+    let nop = Telnet::Command(CommandCode::Nop);
+    same(rt, fed.step, Step::Telnet(nop));
     let fed = live.feed(b"\x00\x09");
-    assert_eq!(rt; fed.used, 2);
+    same(rt, fed.used, 2);
     let reason = Reason::LengthBelowHeader;
-    assert_eq!(rt; fed.step, Step::Refused { place: 3, reason });
-    assert_eq!(rt; live.feed(b"").step, Step::Failed);
-    Ok(())
+    same(rt, fed.step, Step::Refused { place: 3, reason });
+    same(rt, live.feed(b"").step, Step::Failed);
 }

@@ -1,7 +1,9 @@
 // Streams that are cut short, and streams in which a byte is another: all decoders say the same of them, and
 // what is accepted comes back from its encoding.
 use crate::vectors::{INVITE, LENGTH_255, REFUSED_BODIES, Side, VECTORS, Vector};
+use crate::{holds, same, same_at};
 use std::alloc::{AllocError, Global};
+use std::process::Abort;
 use std::test::Fail;
 use ws_code::{Body, Code, Fault, List, Reason};
 use ws_record::{Item, Live, Receiver, Record, Step, decode_all, encode};
@@ -120,7 +122,7 @@ fn truncation(rt: HostRuntime) {
             assert_eq!(rt; found, wanted, "{count} bytes of {name}");
         }
         let found = answer_from(vector.side, rt.alloc(), vector.bytes);
-        assert_eq!(rt; found, Some(vector.outcome), "{name}");
+        same_at(&rt, name, found, Some(vector.outcome));
     }
 }
 
@@ -173,7 +175,7 @@ fn change(rt: HostRuntime) -> Result<(), Fail> {
 fn change_of_length_255(rt: HostRuntime) -> Result<(), Fail> {
     for vector in &VECTORS {
         if vector.bytes == LENGTH_255 {
-            assert_eq!(rt; difference(rt.alloc(), vector)?, None);
+            same(&rt, difference(rt.alloc(), vector)?, None);
         }
     }
     Ok(())
@@ -196,11 +198,9 @@ const CHANGED_INVITES: [(usize, u8, u64, Reason); 10] = [
 #[test]
 fn changed_invites(rt: HostRuntime) -> Result<(), Fail> {
     let alloc = rt.alloc();
-    for (at, value, place, reason) in CHANGED_INVITES {
-        let mut bytes = Vec::new(alloc);
-        for (place, byte) in INVITE.iter().enumerate() {
-            bytes.push(if place == at { value } else { *byte })?;
-        }
+    for (at, value, place, reason) in &CHANGED_INVITES {
+        let (place, reason) = (*place, *reason);
+        let bytes = invite_with(alloc, *at, *value)?;
         let found = answer::<Commands>(alloc, bytes.as_slice());
         assert_eq!(rt;
             found,
@@ -208,18 +208,26 @@ fn changed_invites(rt: HostRuntime) -> Result<(), Fail> {
             "{at} to {value}"
         );
     }
-    // With F1 for its last byte a command is told, and the record is still open.
+    command_in_an_open_record(&rt, alloc)
+}
+
+// `invite` with another value for one byte.
+fn invite_with(alloc: Global, at: usize, value: u8) -> Result<Vec<u8>, AllocError> {
+    let mut bytes = Vec::new(alloc);
+    for (place, byte) in INVITE.iter().enumerate() {
+        bytes.push(if place == at { value } else { *byte })?;
+    }
+    Ok(bytes)
+}
+
+// With F1 for its last byte a command is told, and the record is still open.
+fn command_in_an_open_record(rt: &impl Abort, alloc: Global) -> Result<(), Fail> {
     let mut receiver = Receiver::<Commands>::new(alloc);
     for byte in INVITE.iter().take(11) {
-        assert!(rt; receiver.feed(&[*byte])?.item.is_none());
+        holds(rt, receiver.feed(&[*byte])?.item.is_none());
     }
-    let told = receiver.feed(b"\xf1")?;
-    assert!(rt;
-        matches!(
-            told.item,
-            Some(Item::Telnet(Telnet::Command(CommandCode::Nop)))
-        )
-    );
-    assert_eq!(rt; receiver.finish(), Err(Fault::Truncated { at: 12 }));
+    let nop = Item::Telnet(Telnet::Command(CommandCode::Nop));
+    same(rt, receiver.feed(b"\xf1")?.item, Some(nop));
+    same(rt, receiver.finish(), Err(Fault::Truncated { at: 12 }));
     Ok(())
 }

@@ -31,3 +31,33 @@ mod encoding_rows;
 mod hostile_rows;
 #[cfg(test)]
 mod line_rows;
+
+// Expects two values to be the same, and shows both where they aren't. One call of it is proved sooner than an
+// `assert_eq!`.
+#[cfg(test)]
+fn same<T: PartialEq + std::fmt::Debug + Drop>(rt: &impl std::process::Abort, found: T, wanted: T) {
+    assert_eq!(rt; found, wanted);
+}
+
+// The same, and tells the row.
+#[cfg(test)]
+fn same_at<N: std::fmt::Display + Drop, T: PartialEq + std::fmt::Debug + Drop>(
+    rt: &impl std::process::Abort,
+    row: N,
+    found: T,
+    wanted: T,
+) {
+    assert_eq!(rt; found, wanted, "{row}");
+}
+
+// Expects the same bytes.
+#[cfg(test)]
+fn same_bytes(rt: &impl std::process::Abort, found: &[u8], wanted: &[u8]) {
+    assert_eq!(rt; found, wanted);
+}
+
+// Expects that something holds.
+#[cfg(test)]
+fn holds(rt: &impl std::process::Abort, fact: bool) {
+    assert!(rt; fact);
+}

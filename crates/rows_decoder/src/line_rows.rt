@@ -1,3 +1,6 @@
+use crate::{same_at, same_bytes};
+use std::alloc::Global;
+use std::process::Abort;
 use ws_record::encode;
 use ws_stream::Commands;
 use ws_text::{TextFault, read_items};
@@ -22,15 +25,20 @@ const STREAM: &[u8] =
 \xd5\x81\x94\x85\x40\x40\x4b\x40\x4b\x40\x4b\x11\x06\x34\x1d\x40\x00\x20\x00\x0a\x04\x52\x00\x00\xff\xef\
 \x00\x0a\x12\xa0\x00\x00\x04\x00\x00\x0a\xff\xef";
 
-#[test]
-fn shown_lines_give_their_stream(rt: HostRuntime) {
-    match read_items(rt.alloc(), SHOWN) {
-        Ok(items) => match encode::<Commands>(rt.alloc(), items.as_slice()) {
-            Ok(bytes) => assert_eq!(rt; bytes.as_slice(), STREAM),
+// The items of the text make up the bytes.
+fn expect_stream(rt: &impl Abort, alloc: Global, text: &[u8], wanted: &[u8]) {
+    match read_items(alloc, text) {
+        Ok(items) => match encode::<Commands>(alloc, items.as_slice()) {
+            Ok(bytes) => same_bytes(rt, bytes.as_slice(), wanted),
             Err(_) => assert!(rt; false),
         },
         Err(_) => assert!(rt; false),
     }
+}
+
+#[test]
+fn shown_lines_give_their_stream(rt: HostRuntime) {
+    expect_stream(&rt, rt.alloc(), SHOWN, STREAM);
 }
 
 // Forms that `show` doesn't print: no flags, lower case, characters, comments, blank lines and CR.
@@ -39,41 +47,35 @@ fn lines_by_hand(rt: HostRuntime) {
     let text = b"# a comment\r\n\nrecord opcode 3\r\n  WRITE 00 08\n  TEXT Ab 1\ntelnet DO 024";
     let wanted =
         b"\x00\x12\x12\xa0\x00\x00\x04\x00\x00\x03\x04\x11\x00\x08\xc1\x82\x40\xf1\xff\xef\xff\xfd\x18";
-    match read_items(rt.alloc(), text.as_slice()) {
-        Ok(items) => match encode::<Commands>(rt.alloc(), items.as_slice()) {
-            Ok(bytes) => assert_eq!(rt; bytes.as_slice(), wanted.as_slice()),
-            Err(_) => assert!(rt; false),
-        },
-        Err(_) => assert!(rt; false),
-    }
+    expect_stream(&rt, rt.alloc(), text, wanted);
 }
+
+// Texts, and the line of each that is refused.
+const BAD_LINES: [(&str, u64); 18] = [
+    ("nonsense", 1),
+    ("  SBA 1 1", 1),
+    ("telnet NOP\n  CLEAR-UNIT", 2),
+    ("record opcode 7", 1),
+    ("record opcode 3\n  SBA 1 1", 2),
+    ("record opcode 3\n  WRITE 00 08\n  SBA 25 1", 3),
+    ("record opcode 3\n  WRITE 00 08\n  SBA 1 81", 3),
+    ("record opcode 3\n  WRITE 00 08\n  PUT 04", 3),
+    ("record opcode 3\n  WRITE 00 08\n  PUT C", 3),
+    ("record opcode 3\n  WRITE 00 08\n  TEXT \u{20ac}", 3),
+    ("record opcode 3\n  WRITE 00", 2),
+    ("record opcode 3\n  WRITE 00 08 ", 2),
+    ("record opcode 3\n  READ-MDT 00 00\n  PUT C1", 3),
+    ("record opcode 3\n  WRITE 00 08\n  SF 3000 20 1", 3),
+    ("record opcode 3\n  WRITE 00 08\n  SF 20 65536", 3),
+    ("record flags 0 opcode 3", 1),
+    ("telnet DO 256", 1),
+    ("at 18446744073709551616 telnet NOP", 1),
+];
 
 #[test]
 fn bad_lines(rt: HostRuntime) {
-    let rows: [(&str, u64); 18] = [
-        ("nonsense", 1),
-        ("  SBA 1 1", 1),
-        ("telnet NOP\n  CLEAR-UNIT", 2),
-        ("record opcode 7", 1),
-        ("record opcode 3\n  SBA 1 1", 2),
-        ("record opcode 3\n  WRITE 00 08\n  SBA 25 1", 3),
-        ("record opcode 3\n  WRITE 00 08\n  SBA 1 81", 3),
-        ("record opcode 3\n  WRITE 00 08\n  PUT 04", 3),
-        ("record opcode 3\n  WRITE 00 08\n  PUT C", 3),
-        ("record opcode 3\n  WRITE 00 08\n  TEXT \u{20ac}", 3),
-        ("record opcode 3\n  WRITE 00", 2),
-        ("record opcode 3\n  WRITE 00 08 ", 2),
-        ("record opcode 3\n  READ-MDT 00 00\n  PUT C1", 3),
-        ("record opcode 3\n  WRITE 00 08\n  SF 3000 20 1", 3),
-        ("record opcode 3\n  WRITE 00 08\n  SF 20 65536", 3),
-        ("record flags 0 opcode 3", 1),
-        ("telnet DO 256", 1),
-        ("at 18446744073709551616 telnet NOP", 1),
-    ];
-    for (text, line) in rows {
-        match read_items(rt.alloc(), text.as_bytes()) {
-            Ok(_) => assert!(rt; false, "{text}"),
-            Err(fault) => assert_eq!(rt; fault, TextFault::Line(line), "{text}"),
-        }
+    for (text, line) in &BAD_LINES {
+        let fault = read_items(rt.alloc(), text.as_bytes()).err();
+        same_at(&rt, text, fault, Some(TextFault::Line(*line)));
     }
 }

@@ -1,5 +1,6 @@
 // Want of memory is answered only where a growth was refused. No clause says when one was, so these tests, in
 // which none is, go through the sizes at which lists grow and counters turn.
+use crate::{holds, same, same_at};
 use std::alloc::{AllocError, Global};
 use std::test::Fail;
 use ws_code::{FailingSource, Fault, List, SliceSource};
@@ -83,11 +84,11 @@ fn bodies_of_each_size(rt: HostRuntime) -> Result<(), Fail> {
         let items = vec![in rt.alloc(); put_get(rt.alloc(), count)?]?;
         let bytes = encode::<RawBody>(rt.alloc(), items.as_slice())?;
         let found = answer(rt.alloc(), bytes.as_slice());
-        assert_eq!(rt; found, Some(Ok(1)), "a body of {count}");
+        same_at(&rt, count, found, Some(Ok(1)));
         let again = encode_and_decode::<RawBody>(rt.alloc(), items.as_slice())?;
         match again.as_slice() {
             [Item::Record(record)] => {
-                assert_eq!(rt; record.body.as_slice().len(), count);
+                same(&rt, record.body.as_slice().len(), count);
             }
             _ => assert!(rt; false, "a body of {count}"),
         }
@@ -109,7 +110,7 @@ fn streams_of_each_length(rt: HostRuntime) -> Result<(), Fail> {
             Err(Fault::Truncated { at: length as u64 })
         };
         let found = answer(rt.alloc(), &bytes.as_slice()[..length.min(bytes.len())]);
-        assert_eq!(rt; found, Some(wanted), "a stream of {length}");
+        same_at(&rt, length, found, Some(wanted));
     }
     Ok(())
 }
@@ -126,9 +127,9 @@ fn lists_of_each_length(rt: HostRuntime) -> Result<(), Fail> {
         }
         for (items, size) in [(records.as_slice(), 13), (commands.as_slice(), 2)] {
             let bytes = encode::<RawBody>(rt.alloc(), items)?;
-            assert_eq!(rt; bytes.len() / size, length, "{size} bytes each");
+            same_at(&rt, size, bytes.len() / size, length);
             let found = answer(rt.alloc(), bytes.as_slice());
-            assert_eq!(rt; found, Some(Ok(length)), "{size} bytes each");
+            same_at(&rt, size, found, Some(Ok(length)));
         }
     }
     Ok(())
@@ -143,14 +144,14 @@ fn decode_source_fails(rt: HostRuntime) -> Result<(), Fail> {
         let found = decode_from::<RawBody, FailingSource>(rt.alloc(), &mut source);
         let found = found.map(|items| items.len());
         if reads < 13 {
-            assert_eq!(rt; found, Err(Fault::Read), "after {reads} reads");
-            assert_eq!(rt; source.failures(), 1, "after {reads} reads");
+            same_at(&rt, reads, found, Err(Fault::Read));
+            same_at(&rt, reads, source.failures(), 1);
         } else {
-            assert_eq!(rt; found, Ok(1));
-            assert_eq!(rt; source.failures(), 0);
+            same(&rt, found, Ok(1));
+            same(&rt, source.failures(), 0);
         }
     }
     let (at_once, from_source) = decode_both_ways::<RawBody>(rt.alloc(), invite);
-    assert!(rt; at_once.is_ok() && from_source.is_ok());
+    holds(&rt, at_once.is_ok() && from_source.is_ok());
     Ok(())
 }

@@ -1,101 +1,157 @@
 // Ends that are attached to a source and a sink.
-use crate::end_rows::{BOB, BOB_ANSWER, CANCEL, OPENED, OPENING, key_named, keys_of, record};
-use std::test::Fail;
-use ws_code::{FailingSink, Fault, Reason, SliceSource, VecSink};
+use crate::end_rows::{
+    BOB, BOB_ANSWER, CANCEL, OPENED, OPENING, joined, key_named, keys_of, new_station, record,
+};
+use crate::same;
+use std::alloc::Global;
+use std::process::Abort;
+use ws_code::{FailingSink, Fault, Reason, Sink, SliceSource, VecSink};
 use ws_keys::{Key, KeyRefusal};
 use ws_nego::TerminalType;
 use ws_record::{Item, Opcode, decode_all};
 use ws_session::{Applied, Attached, HostEnd, HostEvent, KeyFault, SendFault, Station};
-use ws_stream::Commands;
+use ws_stream::{Commands, Element};
 
 const ATTENTION: &[u8] = b"\x00\x0a\x12\xa0\x00\x00\x04\x40\x00\x00\xff\xef";
 
+type StationLine<'a, K> = Attached<Station, SliceSource<'a>, K>;
+
+type HostLine<'a> = Attached<HostEnd, SliceSource<'a>, VecSink>;
+
+fn station_hears<K: Sink>(
+    rt: &impl Abort,
+    line: &mut StationLine<'_, K>,
+    wanted: Result<Option<Applied>, Fault>,
+) {
+    same(rt, line.hear(), wanted);
+}
+
+fn presses<K: Sink>(
+    rt: &impl Abort,
+    line: &mut StationLine<'_, K>,
+    key: Key,
+    wanted: Result<Option<KeyFault>, Fault>,
+) {
+    same(rt, line.press(key), wanted);
+}
+
+fn is_ready(rt: &impl Abort, station: &Station) {
+    same(rt, (station.is_ready(), station.records()), (true, 1));
+}
+
 #[test]
-fn a_station_at_its_line(rt: HostRuntime) -> Result<(), Fail> {
+fn a_station_at_its_line(rt: HostRuntime) {
     let alloc = rt.alloc();
-    let mut stream = Vec::new(alloc);
-    stream.extend_from_slice(OPENING)?;
-    stream.extend_from_slice(record(&rt, alloc, BOB).as_slice())?;
-    let source = SliceSource::new(stream.as_slice());
-    let station = Station::new(TerminalType::Ibm3179Model2);
+    let form = record(&rt, alloc, BOB);
+    let stream = joined(&rt, alloc, &[OPENING, form.as_slice()]);
+    let station = new_station();
     assert!(rt; !station.is_ready() && station.refused().is_none());
+    let source = SliceSource::new(stream.as_slice());
     let mut line = Attached::new(station, source, VecSink::new(alloc));
-    assert_eq!(rt; line.hear(), Ok(Some(Applied)));
-    assert_eq!(rt; line.sink().as_slice(), OPENED);
-    assert_eq!(rt; (line.end().is_ready(), line.end().records()), (true, 1));
-    for key in keys_of(alloc, "BOB Enter")? {
-        assert_eq!(rt; line.press(key), Ok(None));
+    station_hears(&rt, &mut line, Ok(Some(Applied)));
+    same(&rt, line.sink().as_slice(), OPENED);
+    is_ready(&rt, line.end());
+    for key in keys_of(&rt, alloc, "BOB Enter") {
+        presses(&rt, &mut line, key, Ok(None));
     }
     let enter = key_named("Enter").expect(&rt, "a key");
-    let locked = Ok(Some(KeyFault::Key(KeyRefusal::Locked)));
-    assert_eq!(rt; line.press(enter), locked);
-    assert_eq!(rt;
-        line.sink().as_slice().get(OPENED.len()..),
-        Some(BOB_ANSWER)
-    );
-    assert_eq!(rt; line.hear(), Ok(None));
-    Ok(())
+    let locked = KeyFault::Key(KeyRefusal::Locked);
+    presses(&rt, &mut line, enter, Ok(Some(locked)));
+    let answer = line.sink().as_slice().get(OPENED.len()..);
+    same(&rt, answer, Some(BOB_ANSWER));
+    station_hears(&rt, &mut line, Ok(None));
+}
+
+fn host_hears(rt: &impl Abort, line: &mut HostLine, wanted: Result<Option<HostEvent>, Fault>) {
+    same(rt, line.hear(), wanted);
+}
+
+fn hears_an_answer(rt: &impl Abort, line: &mut HostLine) {
+    let heard = line.hear();
+    assert!(rt; matches!(heard, Ok(Some(HostEvent::Answer(_)))));
+}
+
+fn sends(
+    rt: &impl Abort,
+    line: &mut HostLine,
+    body: &[Element],
+    wanted: Result<Option<SendFault>, Fault>,
+) {
+    same(rt, line.send(Opcode::PutGet, body), wanted);
+}
+
+fn cancels(rt: &impl Abort, line: &mut HostLine, wanted: Result<Option<SendFault>, Fault>) {
+    same(rt, line.cancel(), wanted);
+}
+
+// A host end that has asked for the terminal type, at its line.
+fn opened_line<'a>(rt: &impl Abort, alloc: Global, stream: &'a [u8]) -> HostLine<'a> {
+    let mut host = HostEnd::new(alloc);
+    host.open();
+    assert!(rt; !host.is_ready() && host.terminal().is_none() && host.refused().is_none());
+    Attached::new(host, SliceSource::new(stream), VecSink::new(alloc))
+}
+
+fn gets_ready(rt: &impl Abort, line: &mut HostLine) {
+    let terminal = TerminalType::Ibm3179Model2;
+    host_hears(rt, line, Ok(Some(HostEvent::Ready(terminal))));
+    same(rt, line.end().terminal(), Some(terminal));
+}
+
+// A form is sent and cancelled once, and refused the second time.
+fn sends_and_cancels(rt: &impl Abort, line: &mut HostLine, body: &[Element]) {
+    sends(rt, line, body, Ok(None));
+    same(rt, line.end().screen().fields().len(), 1);
+    sends(rt, line, body, Ok(Some(SendFault::ReadOutstanding)));
+    cancels(rt, line, Ok(None));
+    cancels(rt, line, Ok(Some(SendFault::NoReadToCancel)));
 }
 
 // Both events stand in what one read gives.
 #[test]
-fn a_host_end_at_its_line(rt: HostRuntime) -> Result<(), Fail> {
+fn a_host_end_at_its_line(rt: HostRuntime) {
     let alloc = rt.alloc();
     let bob = record(&rt, alloc, BOB);
     let items = decode_all::<Commands>(alloc, bob.as_slice()).expect(&rt, "a stream");
     let [Item::Record(whole)] = items.as_slice() else {
         panic!(rt; "a record")
     };
-    let mut stream = Vec::new(alloc);
-    stream.extend_from_slice(OPENED)?;
-    stream.extend_from_slice(ATTENTION)?;
-    stream.extend_from_slice(BOB_ANSWER)?;
-    let mut host = HostEnd::new(alloc);
-    host.open();
-    assert!(rt; !host.is_ready() && host.terminal().is_none() && host.refused().is_none());
-    let source = SliceSource::new(stream.as_slice());
-    let mut line = Attached::new(host, source, VecSink::new(alloc));
-    let ready = HostEvent::Ready(TerminalType::Ibm3179Model2);
-    assert_eq!(rt; line.hear(), Ok(Some(ready)));
-    assert_eq!(rt; line.end().terminal(), Some(TerminalType::Ibm3179Model2));
+    let stream = joined(&rt, alloc, &[OPENED, ATTENTION, BOB_ANSWER]);
+    let mut line = opened_line(&rt, alloc, stream.as_slice());
+    gets_ready(&rt, &mut line);
     let opened = line.sink().as_slice().len();
-    let body = whole.body.as_slice();
-    assert_eq!(rt; line.send(Opcode::PutGet, body), Ok(None));
-    assert_eq!(rt; line.end().screen().fields().len(), 1);
-    let outstanding = Ok(Some(SendFault::ReadOutstanding));
-    assert_eq!(rt; line.send(Opcode::PutGet, body), outstanding);
-    assert_eq!(rt; line.cancel(), Ok(None));
-    assert_eq!(rt; line.cancel(), Ok(Some(SendFault::NoReadToCancel)));
-    let mut sent = bob;
-    sent.extend_from_slice(CANCEL)?;
-    assert_eq!(rt; line.sink().as_slice().get(opened..), Some(sent.as_slice()));
-    assert_eq!(rt; line.hear(), Ok(Some(HostEvent::Attention)));
-    assert!(rt; matches!(line.hear(), Ok(Some(HostEvent::Answer(_)))));
-    assert_eq!(rt; line.hear(), Ok(None));
-    Ok(())
+    sends_and_cancels(&rt, &mut line, whole.body.as_slice());
+    let sent = joined(&rt, alloc, &[bob.as_slice(), CANCEL]);
+    let written = line.sink().as_slice().get(opened..);
+    same(&rt, written, Some(sent.as_slice()));
+    host_hears(&rt, &mut line, Ok(Some(HostEvent::Attention)));
+    hears_an_answer(&rt, &mut line);
+    host_hears(&rt, &mut line, Ok(None));
+}
+
+// A station whose sink takes so many bytes, and then fails.
+fn breaks_behind(rt: &impl Abort, alloc: Global, calls: usize) {
+    let sink = FailingSink::new(alloc, calls as u64);
+    let mut line = Attached::new(new_station(), SliceSource::new(OPENING), sink);
+    station_hears(rt, &mut line, Err(Fault::Write));
+    same(rt, Some(line.sink().as_slice()), OPENED.get(..calls));
+    station_hears(rt, &mut line, Err(Fault::Failed));
+    presses(rt, &mut line, Key::Char('B'), Err(Fault::Failed));
 }
 
 // A write that fails, and a byte that is refused: every later call answers that the end has failed.
 #[test]
-fn lines_that_break(rt: HostRuntime) -> Result<(), Fail> {
+fn lines_that_break(rt: HostRuntime) {
     let alloc = rt.alloc();
     for calls in 0..OPENED.len() {
-        let station = Station::new(TerminalType::Ibm3179Model2);
-        let sink = FailingSink::new(alloc, calls as u64);
-        let mut line = Attached::new(station, SliceSource::new(OPENING), sink);
-        assert_eq!(rt; line.hear(), Err(Fault::Write));
-        assert_eq!(rt; Some(line.sink().as_slice()), OPENED.get(..calls));
-        assert_eq!(rt; line.hear(), Err(Fault::Failed));
-        assert_eq!(rt; line.press(Key::Char('B')), Err(Fault::Failed));
+        breaks_behind(&rt, alloc, calls);
     }
-    let host = HostEnd::new(alloc);
     let source = SliceSource::new(b"\xff\x00\xff");
-    let mut line = Attached::new(host, source, VecSink::new(alloc));
+    let mut line = Attached::new(HostEnd::new(alloc), source, VecSink::new(alloc));
     let (place, reason) = (1, Reason::BadCommand);
-    assert_eq!(rt; line.hear(), Err(Fault::Refused { place, reason }));
-    assert_eq!(rt; line.end().refused(), Some((place, reason)));
-    assert_eq!(rt; line.hear(), Err(Fault::Failed));
-    assert_eq!(rt; line.cancel(), Err(Fault::Failed));
-    assert_eq!(rt; line.send(Opcode::PutGet, &[]), Err(Fault::Failed));
-    Ok(())
+    host_hears(&rt, &mut line, Err(Fault::Refused { place, reason }));
+    same(&rt, line.end().refused(), Some((place, reason)));
+    host_hears(&rt, &mut line, Err(Fault::Failed));
+    cancels(&rt, &mut line, Err(Fault::Failed));
+    sends(&rt, &mut line, &[], Err(Fault::Failed));
 }

@@ -1,130 +1,165 @@
 // The callers of `calling.rt`, at work.
-use crate::calling::{Ended, ask, await_event, feed_piece, hear, screen_of, see, strike};
-use crate::end_rows::{BOB, BOB_ANSWER, OPENED, OPENING, PAST_END, record};
-use std::alloc::Global;
+use crate::calling::{Ended, Heard, ask, await_event, feed_piece, hear, screen_of, see, strike};
+use crate::end_rows::{
+    BOB, BOB_ANSWER, OPENED, OPENING, PAST_END, joined, key_named, new_station, record,
+};
+use crate::same;
+use std::alloc::{AllocError, Global};
 use std::process::Abort;
-use std::test::Fail;
-use ws_code::{Address, Aid, Fault, Reason, StuckSink, VecSink};
-use ws_keys::{Key, KeyRefusal};
+use ws_code::{Address, Fault, Reason, Sink, StuckSink, VecSink};
+use ws_keys::{HostAnswer, Key, KeyRefusal};
 use ws_nego::TerminalType;
 use ws_record::{Item, Receiver, decode_all};
 use ws_session::{HostEnd, HostEvent, KeyFault, Refusal, Station};
 use ws_stream::{Commands, Element};
 
 #[test]
-fn elements_are_seen_before_a_refusal(rt: HostRuntime) -> Result<(), Fail> {
-    let alloc = rt.alloc();
+fn elements_are_seen_before_a_refusal(rt: HostRuntime) -> Result<(), AllocError> {
     // Write to Display, then a Set Buffer Address to column 81.
     let bytes = b"\x00\x11\x12\xa0\x00\x00\x04\x00\x00\x03\x04\x11\x00\x00\x11\x18\x51\xff\xef";
-    let seen = see(alloc, bytes)?;
-    assert!(rt;
-        matches!(
-            seen.elements.as_slice(),
-            [Element::Write { cc1: 0, cc2: 0 }]
-        )
-    );
-    assert_eq!(rt; seen.refused, Some((16, Reason::BadAddress)));
+    let seen = see(rt.alloc(), bytes)?;
+    let wanted = [Element::Write { cc1: 0, cc2: 0 }];
+    same(&rt, seen.elements.as_slice(), wanted.as_slice());
+    same(&rt, seen.refused, Some((16, Reason::BadAddress)));
     Ok(())
 }
 
+// The items of a stream that comes in pieces of this length.
+fn items_of(rt: &impl Abort, alloc: Global, bytes: &[u8], size: usize) -> Vec<Item<Element>> {
+    let mut receiver = Receiver::<Commands>::new(alloc);
+    let mut items = Vec::new(alloc);
+    assert!(rt; size > 0);
+    for piece in bytes.chunks(size) {
+        let fed = feed_piece(&mut receiver, piece, &mut items);
+        same(rt, fed, Ok(()));
+    }
+    assert!(rt; receiver.finish().is_ok());
+    items
+}
+
 #[test]
-fn pieces_give_items_and_a_screen(rt: HostRuntime) -> Result<(), Fail> {
+fn pieces_give_items_and_a_screen(rt: HostRuntime) {
     let alloc = rt.alloc();
     let bob = record(&rt, alloc, BOB);
     for size in [1usize, 2, 7, 40] {
-        let mut receiver = Receiver::<Commands>::new(alloc);
-        let mut items = Vec::new(alloc);
-        for piece in bob.as_slice().chunks(size) {
-            assert!(rt; feed_piece(&mut receiver, piece, &mut items).is_ok());
-        }
-        assert!(rt; receiver.finish().is_ok());
+        let items = items_of(&rt, alloc, bob.as_slice(), size);
         let screen = screen_of(items.as_slice()).expect(&rt, "a screen");
-        assert_eq!(rt; screen.fields().len(), 1);
+        same(&rt, screen.fields().len(), 1);
     }
     let past_end = record(&rt, alloc, PAST_END);
     let items = decode_all::<Commands>(alloc, past_end.as_slice()).expect(&rt, "a stream");
-    assert_eq!(rt; screen_of(items.as_slice()).err(), Some(Reason::PastEnd));
-    Ok(())
+    let refused = screen_of(items.as_slice()).err();
+    same(&rt, refused, Some(Reason::PastEnd));
+}
+
+fn hears(
+    rt: &impl Abort,
+    station: &mut Station,
+    bytes: &[u8],
+    up: &mut VecSink,
+    wanted: Result<(), Ended>,
+) {
+    same(rt, hear(station, bytes, up), wanted);
+}
+
+fn strikes<S: Sink>(
+    rt: &impl Abort,
+    station: &mut Station,
+    key: Key,
+    up: &mut S,
+    wanted: Result<Option<KeyFault>, Fault>,
+) {
+    same(rt, strike(station, key, up), wanted);
+}
+
+fn enter(rt: &impl Abort) -> Key {
+    key_named("Enter").expect(rt, "a key")
 }
 
 #[test]
-fn an_emulator(rt: HostRuntime) -> Result<(), Fail> {
+fn an_emulator(rt: HostRuntime) {
     let alloc = rt.alloc();
-    let mut station = Station::new(TerminalType::Ibm3179Model2);
+    let mut station = new_station();
     let mut up = VecSink::new(alloc);
-    assert_eq!(rt; hear(&mut station, OPENING, &mut up), Ok(()));
-    assert_eq!(rt; up.as_slice(), OPENED);
+    hears(&rt, &mut station, OPENING, &mut up, Ok(()));
+    same(&rt, up.as_slice(), OPENED);
     let bob = record(&rt, alloc, BOB);
-    let mut up = VecSink::new(alloc);
-    assert_eq!(rt; hear(&mut station, bob.as_slice(), &mut up), Ok(()));
+    hears(&rt, &mut station, bob.as_slice(), &mut up, Ok(()));
     for letter in ['B', 'O', 'B'] {
-        assert_eq!(rt; strike(&mut station, Key::Char(letter), &mut up), Ok(None));
+        let key = Key::Char(letter);
+        strikes(&rt, &mut station, key, &mut up, Ok(None));
     }
-    let enter = Aid::from_byte(0xf1).expect(&rt, "Enter");
-    let unwritten = strike(&mut station, Key::Aid(enter), &mut StuckSink);
-    assert_eq!(rt; unwritten, Err(Fault::Write));
-    let locked = Some(KeyFault::Key(KeyRefusal::Locked));
-    assert_eq!(rt; strike(&mut station, Key::Aid(enter), &mut up), Ok(locked));
+    let unwritten = Err(Fault::Write);
+    strikes(&rt, &mut station, enter(&rt), &mut StuckSink, unwritten);
+    let locked = KeyFault::Key(KeyRefusal::Locked);
+    strikes(&rt, &mut station, enter(&rt), &mut up, Ok(Some(locked)));
 
-    let refused = Refusal::At {
-        place: 53,
-        reason: Reason::StraySe,
+    let (place, reason) = (53, Reason::StraySe);
+    let refused = Ended::Refused(Refusal::At { place, reason });
+    hears(&rt, &mut station, b"\xff\xf0", &mut up, Err(refused));
+}
+
+fn heard(rt: &impl Abort, alloc: Global, host: &mut HostEnd, bytes: &[u8]) -> Heard {
+    let mut down = VecSink::new(alloc);
+    await_event(host, bytes, &mut down).expect(rt, "told")
+}
+
+// Sends a form by its elements, and asks for its fields.
+fn asks(rt: &impl Abort, alloc: Global, host: &mut HostEnd, bytes: &[u8]) {
+    let items = decode_all::<Commands>(alloc, bytes).expect(rt, "a stream");
+    let [Item::Record(whole)] = items.as_slice() else {
+        panic!(rt; "a record")
     };
-    let heard = hear(&mut station, b"\xff\xf0", &mut up);
-    assert_eq!(rt; heard, Err(Ended::Refused(refused)));
-    Ok(())
+    let mut down = VecSink::new(alloc);
+    let asked = ask(host, whole.body.as_slice(), &mut down);
+    same(rt, asked, Ok(()));
+    same(rt, down.as_slice(), bytes);
 }
 
 // A host end that has sent a record and asked for its fields.
 fn asking_host(rt: &impl Abort, alloc: Global) -> HostEnd {
     let mut host = HostEnd::new(alloc);
     host.open();
-    let mut down = VecSink::new(alloc);
-    let heard = await_event(&mut host, OPENED, &mut down).expect(rt, "told");
-    assert!(rt;
-        matches!(
-            heard.event,
-            Some(HostEvent::Ready(TerminalType::Ibm3179Model2))
-        )
-    );
-    assert_eq!(rt; heard.used, OPENED.len());
-
+    let told = heard(rt, alloc, &mut host, OPENED);
+    let ready = HostEvent::Ready(TerminalType::Ibm3179Model2);
+    same(rt, told.event, Some(ready));
+    same(rt, told.used, OPENED.len());
     let bob = record(rt, alloc, BOB);
-    let items = decode_all::<Commands>(alloc, bob.as_slice()).expect(rt, "a stream");
-    let [Item::Record(whole)] = items.as_slice() else {
-        panic!(rt; "a record")
-    };
-    let mut down = VecSink::new(alloc);
-    assert!(rt; ask(&mut host, whole.body.as_slice(), &mut down).is_ok());
-    assert_eq!(rt; down.as_slice(), bob.as_slice());
+    asks(rt, alloc, &mut host, bob.as_slice());
     host
 }
 
-#[test]
-fn a_harness(rt: HostRuntime) -> Result<(), Fail> {
-    let alloc = rt.alloc();
-    let mut host = asking_host(&rt, alloc);
-    let mut down = VecSink::new(alloc);
-    // Two events in what came, and a record that ends with a later piece.
-    let mut came = Vec::new(alloc);
-    came.extend_from_slice(BOB_ANSWER)?;
-    came.extend_from_slice(b"\x00\x0a\x12\xa0\x00\x00\x04\x40\x00\x00\xff\xef")?;
-    let first = came.as_slice().get(..10).expect(&rt, "ten bytes");
-    let rest = came.as_slice().get(10..).expect(&rt, "the others");
-    let heard = await_event(&mut host, first, &mut down).expect(&rt, "told");
-    assert!(rt; heard.used == 10 && heard.event.is_none());
-    let heard = await_event(&mut host, rest, &mut down).expect(&rt, "told");
-    assert_eq!(rt; heard.used.checked_add(10), Some(BOB_ANSWER.len()));
-    let rest = rest.get(heard.used..).expect(&rt, "what was not used");
-    let behind = await_event(&mut host, rest, &mut down).expect(&rt, "told");
-    assert!(rt; behind.used == 12 && matches!(behind.event, Some(HostEvent::Attention)));
-    let Some(HostEvent::Answer(answer)) = heard.event else {
-        panic!(rt; "an answer")
-    };
+fn is_bob(rt: &impl Abort, answer: &HostAnswer) {
     let [field] = answer.fields.as_slice() else {
         panic!(rt; "a field")
     };
-    assert_eq!(rt; Some(field.address), Address::new(6, 53));
-    assert_eq!(rt; field.content.as_slice(), b"\xc2\xd6\xc2".as_slice());
-    Ok(())
+    same(rt, Some(field.address), Address::new(6, 53));
+    same(rt, field.content.as_slice(), b"\xc2\xd6\xc2".as_slice());
+}
+
+fn tells_bob(rt: &impl Abort, event: &Option<HostEvent>) {
+    match event {
+        Some(HostEvent::Answer(answer)) => is_bob(rt, answer),
+        _ => panic!(rt; "an answer"),
+    }
+}
+
+// Two events in what came, and a record that ends with a later piece.
+#[test]
+fn a_harness(rt: HostRuntime) {
+    let alloc = rt.alloc();
+    let mut host = asking_host(&rt, alloc);
+    let attention = b"\x00\x0a\x12\xa0\x00\x00\x04\x40\x00\x00\xff\xef";
+    let came = joined(&rt, alloc, &[BOB_ANSWER, attention]);
+    let first = came.as_slice().get(..10).expect(&rt, "ten bytes");
+    let rest = came.as_slice().get(10..).expect(&rt, "the others");
+    let piece = heard(&rt, alloc, &mut host, first);
+    same(&rt, (piece.used, piece.event), (10, None));
+    let answer = heard(&rt, alloc, &mut host, rest);
+    tells_bob(&rt, &answer.event);
+    same(&rt, answer.used.checked_add(10), Some(BOB_ANSWER.len()));
+    let rest = rest.get(answer.used..).expect(&rt, "what was not used");
+    let behind = heard(&rt, alloc, &mut host, rest);
+    let attended = (12, Some(HostEvent::Attention));
+    same(&rt, (behind.used, behind.event), attended);
 }

@@ -1,6 +1,6 @@
+use crate::{same, same_at};
 use std::alloc::Global;
 use std::process::Abort;
-use std::test::Fail;
 use ws_code::{Address, Body, Code, DataByte, VecSink};
 use ws_live::{Paint, put_screen};
 use ws_screen::Screen;
@@ -101,7 +101,7 @@ const STATE: &str = "cursor 1 1, locked, message off, blink off, fields 0\n";
 fn apply(rt: &impl Abort, screen: &mut Screen, element: &Element) {
     let may_follow = Commands::may_follow(Commands::first(), element) || screen.writing();
     assert!(rt; may_follow);
-    assert_eq!(rt; screen.apply(element), Ok(()));
+    same(rt, screen.apply(element), Ok(()));
 }
 
 // A new screen on which bytes were put.
@@ -119,17 +119,15 @@ fn screen_with(rt: &impl Abort, runs: &[Run]) -> Screen {
     screen
 }
 
-fn printed(alloc: Global, paint: Paint, screen: &Screen) -> Result<String, Fail> {
+fn printed(rt: &impl Abort, alloc: Global, paint: Paint, screen: &Screen) -> String {
     let mut sink = VecSink::new(alloc);
     let output = put_screen(&mut sink, Output::Open, paint, screen);
-    if output == Output::Failed {
-        return Err(Fail::from("not written"));
-    }
-    Ok(String::from_utf8(sink.into_inner()).or(Err("no text"))?)
+    assert!(rt; output != Output::Failed);
+    String::from_utf8(sink.into_inner()).expect(rt, "a text")
 }
 
 // A text without its sequences, each of which ends in an m.
-fn without_sequences(alloc: Global, text: &str) -> Result<String, Fail> {
+fn without_sequences(rt: &impl Abort, alloc: Global, text: &str) -> String {
     let mut rest = String::new(alloc);
     let mut is_inside = false;
     for character in text.chars() {
@@ -138,48 +136,49 @@ fn without_sequences(alloc: Global, text: &str) -> Result<String, Fail> {
         } else if is_inside {
             is_inside = character != 'm';
         } else {
-            rest.push(character)?;
+            rest.push(character).expect(rt, "memory");
         }
     }
-    Ok(rest)
+    rest
+}
+
+// A screen that shows these rows in colour, and the same text without colours.
+fn is_shown(rt: &impl Abort, alloc: Global, row: &str, screen: &Screen, wanted: &str) {
+    let text = printed(rt, alloc, Paint::Color, screen);
+    let wanted = format!(in alloc; "screen\n{wanted}{STATE}").expect(rt, "memory");
+    same_at(rt, row, text.as_str(), wanted.as_str());
+    let plain = printed(rt, alloc, Paint::Plain, screen);
+    let rest = without_sequences(rt, alloc, text.as_str());
+    same_at(rt, row, rest.as_str(), plain.as_str());
 }
 
 #[test]
-fn colored_rows(rt: HostRuntime) -> Result<(), Fail> {
-    let alloc = rt.alloc();
+fn colored_rows(rt: HostRuntime) {
     for (row, runs, wanted) in &ROWS {
         let screen = screen_with(&rt, runs);
-        let text = printed(alloc, Paint::Color, &screen)?;
-        let wanted = format!(in alloc; "screen\n{wanted}{STATE}")?;
-        assert_eq!(rt; text.as_str(), wanted.as_str(), "{row}");
-        let plain = printed(alloc, Paint::Plain, &screen)?;
-        assert_eq!(rt;
-            without_sequences(alloc, text.as_str())?.as_str(),
-            plain.as_str(),
-            "{row}"
-        );
+        is_shown(&rt, rt.alloc(), row, &screen, wanted);
     }
-    Ok(())
 }
 
-// Each attribute between two characters, the second of which is green again.
+// Row 1 with an attribute of these codes between two characters, the second of which is green again.
+fn row_of(rt: &impl Abort, alloc: Global, byte: u8, codes: Option<&str>) -> String {
+    if byte == 0x20 {
+        return format!(in alloc; " 1 \x1b[0;32m X Y\x1b[0m\n").expect(rt, "memory");
+    }
+    let (codes, character) = match codes {
+        Some(codes) => (codes, 'X'),
+        None => ("32", ' '),
+    };
+    let row = format!(in alloc; " 1 \x1b[0;32m \x1b[0;{codes}m{character}\x1b[0;32m Y\x1b[0m\n");
+    row.expect(rt, "memory")
+}
+
 #[test]
-fn colored_attributes(rt: HostRuntime) -> Result<(), Fail> {
+fn colored_attributes(rt: HostRuntime) {
     let alloc = rt.alloc();
     for (byte, codes) in CODES {
         let screen = screen_with(&rt, &[(1, 1, &[byte, 0xe7, 0x20, 0xe8])]);
-        let text = printed(alloc, Paint::Color, &screen)?;
-        let (codes, character) = match codes {
-            Some(codes) => (codes, 'X'),
-            None => ("32", ' '),
-        };
-        let row = if byte == 0x20 {
-            format!(in alloc; "\x1b[0;32m X Y\x1b[0m")?
-        } else {
-            format!(in alloc; "\x1b[0;32m \x1b[0;{codes}m{character}\x1b[0;32m Y\x1b[0m")?
-        };
-        let wanted = format!(in alloc; "screen\n 1 {row}\n{STATE}")?;
-        assert_eq!(rt; text.as_str(), wanted.as_str(), "{byte}");
+        let row = row_of(&rt, alloc, byte, codes);
+        is_shown(&rt, alloc, row.as_str(), &screen, row.as_str());
     }
-    Ok(())
 }

@@ -1,7 +1,7 @@
 // What the rows of both ends share: the opening of a session, one form with its answer, and ends that are ready.
+use crate::same;
 use std::alloc::Global;
 use std::process::Abort;
-use std::test::Fail;
 use ws_code::{Aid, VecSink};
 use ws_keys::Key;
 use ws_nego::TerminalType;
@@ -53,29 +53,39 @@ pub(crate) fn key_named(name: &str) -> Option<Key> {
     }
 }
 
+// Pieces, one behind another. A test ends where memory is wanting, here and below, so that its callers have no error to
+// hand on.
+pub(crate) fn joined(rt: &impl Abort, alloc: Global, pieces: &[&[u8]]) -> Vec<u8> {
+    let mut bytes = Vec::new(alloc);
+    for piece in pieces {
+        bytes.extend_from_slice(piece).expect(rt, "memory");
+    }
+    bytes
+}
+
 // The keys of characters.
-pub(crate) fn typed(alloc: Global, text: &str) -> Result<Vec<Key>, Fail> {
+pub(crate) fn typed(rt: &impl Abort, alloc: Global, text: &str) -> Vec<Key> {
     let mut keys = Vec::new(alloc);
     for character in text.chars() {
-        keys.push(Key::Char(character))?;
+        keys.push(Key::Char(character)).expect(rt, "memory");
     }
-    Ok(keys)
+    keys
 }
 
 // The keys of words: each is a key's name, or else is typed.
-pub(crate) fn keys_of(alloc: Global, words: &str) -> Result<Vec<Key>, Fail> {
+pub(crate) fn keys_of(rt: &impl Abort, alloc: Global, words: &str) -> Vec<Key> {
     let mut keys = Vec::new(alloc);
     for word in words.split(' ') {
         match key_named(word) {
-            Some(key) => keys.push(key)?,
+            Some(key) => keys.push(key).expect(rt, "memory"),
             None => {
-                for key in typed(alloc, word)? {
-                    keys.push(key)?;
+                for key in typed(rt, alloc, word) {
+                    keys.push(key).expect(rt, "memory");
                 }
             }
         }
     }
-    Ok(keys)
+    keys
 }
 
 // A record of opcode 3 with this body.
@@ -92,29 +102,47 @@ pub(crate) fn push_all(
     alloc: Global,
     station: &mut Station,
     bytes: &[u8],
-) -> Result<Vec<u8>, Fail> {
+) -> Vec<u8> {
     let mut written = Vec::new(alloc);
     for byte in bytes {
         let reply = station.push(*byte).expect(rt, "a byte");
-        written.extend_from_slice(reply.as_slice())?;
+        written
+            .extend_from_slice(reply.as_slice())
+            .expect(rt, "memory");
     }
-    Ok(written)
+    written
 }
 
-pub(crate) fn ready_station(rt: &impl Abort, alloc: Global, body: &[u8]) -> Result<Station, Fail> {
-    let mut station = Station::new(TerminalType::Ibm3179Model2);
-    let opened = push_all(rt, alloc, &mut station, OPENING)?;
-    assert_eq!(rt; opened.as_slice(), OPENED);
+// A station writes this by these bytes.
+pub(crate) fn replies(
+    rt: &impl Abort,
+    alloc: Global,
+    station: &mut Station,
+    bytes: &[u8],
+    wanted: &[u8],
+) {
+    let written = push_all(rt, alloc, station, bytes);
+    same(rt, written.as_slice(), wanted);
+}
+
+pub(crate) fn new_station() -> Station {
+    Station::new(TerminalType::Ibm3179Model2)
+}
+
+pub(crate) fn ready_station(rt: &impl Abort, alloc: Global, body: &[u8]) -> Station {
+    let mut station = new_station();
+    replies(rt, alloc, &mut station, OPENING, OPENED);
     if !body.is_empty() {
-        push_all(rt, alloc, &mut station, record(rt, alloc, body).as_slice())?;
+        let form = record(rt, alloc, body);
+        push_all(rt, alloc, &mut station, form.as_slice());
     }
-    Ok(station)
+    station
 }
 
 // A host end to which a station has answered.
 pub(crate) fn ready_host(rt: &impl Abort, alloc: Global) -> HostEnd {
     let mut host = HostEnd::new(alloc);
-    assert_eq!(rt; host.open().as_slice(), b"\xff\xfd\x18".as_slice());
+    same(rt, host.open().as_slice(), b"\xff\xfd\x18".as_slice());
     match last_event(rt, &mut host, OPENED) {
         Some(HostEvent::Ready(TerminalType::Ibm3179Model2)) => host,
         _ => panic!(rt; "ready"),
@@ -142,8 +170,20 @@ pub(crate) fn send(rt: &impl Abort, alloc: Global, host: &mut HostEnd, bytes: &[
             let sent = host
                 .send(Opcode::PutGet, whole.body.as_slice())
                 .expect(rt, "sent");
-            assert_eq!(rt; sent.as_slice(), bytes);
+            same(rt, sent.as_slice(), bytes);
         }
         _ => panic!(rt; "a record"),
     }
+}
+
+// The host end sends a record of this body.
+pub(crate) fn send_body(rt: &impl Abort, alloc: Global, host: &mut HostEnd, body: &[u8]) {
+    send(rt, alloc, host, record(rt, alloc, body).as_slice());
+}
+
+// A host end that has sent a form and waits for its answer.
+pub(crate) fn waiting_host(rt: &impl Abort, alloc: Global) -> HostEnd {
+    let mut host = ready_host(rt, alloc);
+    send_body(rt, alloc, &mut host, BOB);
+    host
 }

@@ -1,53 +1,64 @@
 // The texts of the faults of a session.
 
-use std::test::Fail;
+use crate::same;
+use std::alloc::Global;
+use std::fmt::Display;
+use std::process::Abort;
 use ws_session::{KeyFault, KeyRefusal, Reason, Refusal, SendFault};
 
-#[test]
-fn sending_faults_have_their_texts(rt: HostRuntime) -> Result<(), Fail> {
-    let texts = [
-        (SendFault::Failed, "failed"),
-        (SendFault::NotAllowed, "records aren't allowed yet"),
-        (
-            SendFault::ReadOutstanding,
-            "a read or a cancel is unanswered",
-        ),
-        (SendFault::NoReadToCancel, "no read can be cancelled"),
-        (SendFault::BadSequence, "the elements are no body"),
-        (
-            SendFault::Screen(Reason::FieldOverlap),
-            "the screen refuses an element: reason 54 FieldOverlap",
-        ),
-        (SendFault::TooBig, "the record is of more than 65,535 bytes"),
-        (SendFault::Memory, "memory"),
-    ];
-    for (fault, text) in texts {
-        assert_eq!(rt; format!(in rt.alloc(); "{fault}")?.as_str(), text);
-    }
-    Ok(())
+fn says<T: Display + Drop>(rt: &impl Abort, alloc: Global, fault: T, text: &str) {
+    let found = format!(in alloc; "{fault}").expect(rt, "memory");
+    same(rt, found.as_str(), text);
 }
 
+const SENDING_FAULTS: [(SendFault, &str); 8] = [
+    (SendFault::Failed, "failed"),
+    (SendFault::NotAllowed, "records aren't allowed yet"),
+    (
+        SendFault::ReadOutstanding,
+        "a read or a cancel is unanswered",
+    ),
+    (SendFault::NoReadToCancel, "no read can be cancelled"),
+    (SendFault::BadSequence, "the elements are no body"),
+    (
+        SendFault::Screen(Reason::FieldOverlap),
+        "the screen refuses an element: reason 54 FieldOverlap",
+    ),
+    (SendFault::TooBig, "the record is of more than 65,535 bytes"),
+    (SendFault::Memory, "memory"),
+];
+
 #[test]
-fn refusals_have_their_texts(rt: HostRuntime) -> Result<(), Fail> {
-    let refused = Refusal::At {
-        place: 20,
-        reason: Reason::PastEnd,
-    };
-    let refusals = [
-        (refused, "refused at 20: reason 51 PastEnd"),
-        (Refusal::Failed, "failed"),
-        (Refusal::Memory, "memory"),
-    ];
-    for (refusal, text) in refusals {
-        assert_eq!(rt; format!(in rt.alloc(); "{refusal}")?.as_str(), text);
+fn sending_faults_have_their_texts(rt: HostRuntime) {
+    for (fault, text) in SENDING_FAULTS {
+        says(&rt, rt.alloc(), fault, text);
     }
-    let faults = [
-        (KeyFault::Failed, "failed"),
-        (KeyFault::NotReady, "records aren't allowed yet"),
-        (KeyFault::Key(KeyRefusal::Locked), "the keyboard is locked"),
-    ];
-    for (fault, text) in faults {
-        assert_eq!(rt; format!(in rt.alloc(); "{fault}")?.as_str(), text);
+}
+
+const REFUSALS: [(Refusal, &str); 3] = [
+    (
+        Refusal::At {
+            place: 20,
+            reason: Reason::PastEnd,
+        },
+        "refused at 20: reason 51 PastEnd",
+    ),
+    (Refusal::Failed, "failed"),
+    (Refusal::Memory, "memory"),
+];
+
+const KEY_FAULTS: [(KeyFault, &str); 3] = [
+    (KeyFault::Failed, "failed"),
+    (KeyFault::NotReady, "records aren't allowed yet"),
+    (KeyFault::Key(KeyRefusal::Locked), "the keyboard is locked"),
+];
+
+#[test]
+fn refusals_have_their_texts(rt: HostRuntime) {
+    for (refusal, text) in REFUSALS {
+        says(&rt, rt.alloc(), refusal, text);
     }
-    Ok(())
+    for (fault, text) in KEY_FAULTS {
+        says(&rt, rt.alloc(), fault, text);
+    }
 }

@@ -1,9 +1,8 @@
 // A station that is fed pieces, beside one that is pushed each byte.
-use crate::end_rows::{BOB, CANCEL, OPENING, PAST_END, record};
+use crate::end_rows::{BOB, CANCEL, OPENING, PAST_END, joined, new_station, record};
+use crate::same_at;
 use std::alloc::{AllocError, Global};
 use std::process::Abort;
-use std::test::Fail;
-use ws_nego::TerminalType;
 use ws_session::Station;
 
 // A station, how many bytes it has taken, all that it wrote, and behind how many bytes it wrote or a record ended.
@@ -18,7 +17,7 @@ struct Heard {
 impl Heard {
     fn new(alloc: Global) -> Self {
         Heard {
-            station: Station::new(TerminalType::Ibm3179Model2),
+            station: new_station(),
             taken: 0,
             written: Vec::new(alloc),
             places: Vec::new(alloc),
@@ -67,31 +66,33 @@ impl Heard {
     }
 }
 
-// The same is written and ends behind the same bytes, whatever pieces come, and the same byte is refused.
-fn feeds_as_pushed(rt: &impl Abort, alloc: Global, bytes: &[u8]) -> Result<(), Fail> {
-    let mut pushed = Heard::new(alloc);
-    pushed.push(bytes)?;
-    for size in [1, 2, 3, 5, 8, 13, 64, 4096] {
-        let mut fed = Heard::new(alloc);
-        let mut piece = Vec::new(alloc);
-        for byte in bytes {
-            piece.push(*byte)?;
-            if piece.len() == size {
-                fed.feed(piece.as_slice())?;
-                piece.clear();
-            }
-        }
-        fed.feed(piece.as_slice())?;
-        assert_eq!(rt; fed.written.as_slice(), pushed.written.as_slice(), "{size}");
-        assert_eq!(rt; fed.places.as_slice(), pushed.places.as_slice(), "{size}");
-        assert_eq!(rt; fed.station.refused(), pushed.station.refused(), "{size}");
-        assert_eq!(rt; fed.station.records(), pushed.station.records(), "{size}");
+fn feed_all(rt: &impl Abort, fed: &mut Heard, bytes: &[u8], size: usize) {
+    assert!(rt; size > 0);
+    for piece in bytes.chunks(size) {
+        assert!(rt; fed.feed(piece).is_ok());
     }
-    Ok(())
+}
+
+fn same_heard(rt: &impl Abort, size: usize, fed: &Heard, pushed: &Heard) {
+    same_at(rt, size, fed.written.as_slice(), pushed.written.as_slice());
+    same_at(rt, size, fed.places.as_slice(), pushed.places.as_slice());
+    same_at(rt, size, fed.station.refused(), pushed.station.refused());
+    same_at(rt, size, fed.station.records(), pushed.station.records());
+}
+
+// The same is written and ends behind the same bytes, whatever pieces come, and the same byte is refused.
+fn feeds_as_pushed(rt: &impl Abort, alloc: Global, bytes: &[u8]) {
+    let mut pushed = Heard::new(alloc);
+    assert!(rt; pushed.push(bytes).is_ok());
+    for size in [1usize, 2, 3, 5, 8, 13, 64, 4096] {
+        let mut fed = Heard::new(alloc);
+        feed_all(rt, &mut fed, bytes, size);
+        same_heard(rt, size, &fed, &pushed);
+    }
 }
 
 #[test]
-fn pieces_are_fed_as_bytes_are_pushed(rt: HostRuntime) -> Result<(), Fail> {
+fn pieces_are_fed_as_bytes_are_pushed(rt: HostRuntime) {
     let alloc = rt.alloc();
     let bob = record(&rt, alloc, BOB);
     let refused = record(&rt, alloc, PAST_END);
@@ -103,11 +104,7 @@ fn pieces_are_fed_as_bytes_are_pushed(rt: HostRuntime) -> Result<(), Fail> {
         [CANCEL, OPENING, b"", b""],
         [OPENING, b"\xff\x02", CANCEL, b""],
     ] {
-        let mut bytes = Vec::new(alloc);
-        for row in rows {
-            bytes.extend_from_slice(row)?;
-        }
-        feeds_as_pushed(&rt, alloc, bytes.as_slice())?;
+        let bytes = joined(&rt, alloc, &rows);
+        feeds_as_pushed(&rt, alloc, bytes.as_slice());
     }
-    Ok(())
 }

@@ -1,8 +1,8 @@
 // A host end that is fed pieces, beside one that is pushed each byte.
-use crate::end_rows::{BOB, BOB_ANSWER, CANCEL, OPENED, ready_host, record, send};
+use crate::end_rows::{BOB_ANSWER, CANCEL, OPENED, joined, waiting_host};
+use crate::same_at;
 use std::alloc::{AllocError, Global};
 use std::process::Abort;
-use std::test::Fail;
 use ws_code::VecSink;
 use ws_record::{Opcode, write_record};
 use ws_session::{ATN, HostEnd, HostEvent, HostFed, HostStep};
@@ -74,46 +74,41 @@ impl Heard {
 // A host end that has asked for the terminal type; where it is to be ready, one that has sent a form.
 fn host_end(rt: &impl Abort, alloc: Global, is_ready: bool) -> HostEnd {
     if is_ready {
-        let mut host = ready_host(rt, alloc);
-        send(rt, alloc, &mut host, record(rt, alloc, BOB).as_slice());
-        return host;
+        return waiting_host(rt, alloc);
     }
     let mut host = HostEnd::new(alloc);
     host.open();
     host
 }
 
-// The same is written and told behind the same bytes, whatever pieces come, and the same byte is refused.
-fn feeds_as_pushed(
-    rt: &impl Abort,
-    alloc: Global,
-    is_ready: bool,
-    bytes: &[u8],
-) -> Result<(), Fail> {
-    let mut pushed = Heard::new(alloc, host_end(rt, alloc, is_ready));
-    pushed.push(bytes)?;
-    for size in [1, 2, 3, 5, 8, 13, 64, 4096] {
-        let mut fed = Heard::new(alloc, host_end(rt, alloc, is_ready));
-        let mut piece = Vec::new(alloc);
-        for byte in bytes {
-            piece.push(*byte)?;
-            if piece.len() == size {
-                fed.feed(piece.as_slice())?;
-                piece.clear();
-            }
-        }
-        fed.feed(piece.as_slice())?;
-        assert_eq!(rt; fed.written.as_slice(), pushed.written.as_slice(), "{size}");
-        assert_eq!(rt; fed.told.as_slice(), pushed.told.as_slice(), "{size}");
-        assert_eq!(rt; fed.places.as_slice(), pushed.places.as_slice(), "{size}");
-        assert_eq!(rt; fed.host.refused(), pushed.host.refused(), "{size}");
-        assert_eq!(rt; fed.host.taken(), pushed.host.taken(), "{size}");
+fn feed_all(rt: &impl Abort, fed: &mut Heard, bytes: &[u8], size: usize) {
+    assert!(rt; size > 0);
+    for piece in bytes.chunks(size) {
+        assert!(rt; fed.feed(piece).is_ok());
     }
-    Ok(())
+}
+
+fn same_heard(rt: &impl Abort, size: usize, fed: &Heard, pushed: &Heard) {
+    same_at(rt, size, fed.written.as_slice(), pushed.written.as_slice());
+    same_at(rt, size, fed.told.as_slice(), pushed.told.as_slice());
+    same_at(rt, size, fed.places.as_slice(), pushed.places.as_slice());
+    same_at(rt, size, fed.host.refused(), pushed.host.refused());
+    same_at(rt, size, fed.host.taken(), pushed.host.taken());
+}
+
+// The same is written and told behind the same bytes, whatever pieces come, and the same byte is refused.
+fn feeds_as_pushed(rt: &impl Abort, alloc: Global, is_ready: bool, bytes: &[u8]) {
+    let mut pushed = Heard::new(alloc, host_end(rt, alloc, is_ready));
+    assert!(rt; pushed.push(bytes).is_ok());
+    for size in [1usize, 2, 3, 5, 8, 13, 64, 4096] {
+        let mut fed = Heard::new(alloc, host_end(rt, alloc, is_ready));
+        feed_all(rt, &mut fed, bytes, size);
+        same_heard(rt, size, &fed, &pushed);
+    }
 }
 
 #[test]
-fn pieces_are_fed_to_a_host_end(rt: HostRuntime) -> Result<(), Fail> {
+fn pieces_are_fed_to_a_host_end(rt: HostRuntime) {
     let alloc = rt.alloc();
     let mut sink = VecSink::new(alloc);
     assert!(rt; write_record(&mut sink, ATN, Opcode::NoOperation, &[]).is_ok());
@@ -127,11 +122,7 @@ fn pieces_are_fed_to_a_host_end(rt: HostRuntime) -> Result<(), Fail> {
         (true, [attention.as_slice(), CANCEL, b"", b""]),
         (true, [b"\xff\x02", CANCEL, b"", b""]),
     ] {
-        let mut bytes = Vec::new(alloc);
-        for row in rows {
-            bytes.extend_from_slice(row)?;
-        }
-        feeds_as_pushed(&rt, alloc, is_ready, bytes.as_slice())?;
+        let bytes = joined(&rt, alloc, &rows);
+        feeds_as_pushed(&rt, alloc, is_ready, bytes.as_slice());
     }
-    Ok(())
 }

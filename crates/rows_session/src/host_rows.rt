@@ -1,24 +1,24 @@
 // A host end by itself, and what it reads from a station's answers.
 use crate::end_rows::{
-    BOB, BOB_ANSWER, CANCEL, OPENING, keys_of, last_event, push_all, ready_host, ready_station,
-    record, send,
+    BOB, BOB_ANSWER, CANCEL, OPENING, joined, keys_of, last_event, ready_host, ready_station,
+    record, replies, send, send_body, waiting_host,
 };
-use std::alloc::{AllocError, Global};
+use crate::same;
+use std::alloc::Global;
 use std::process::Abort;
-use std::test::Fail;
 use ws_code::{Reason, SliceSource, VecSink};
 use ws_keys::{HostAnswer, Key};
 use ws_nego::TerminalType;
 use ws_record::{Item, Opcode, decode_all};
 use ws_session::{HostEnd, HostEvent, Refusal, SendFault, Station, run_station};
-use ws_stream::{Answers, Element};
+use ws_stream::{AnswerPart, Answers, Element};
 
 fn host_refuses(rt: &impl Abort, host: &mut HostEnd, bytes: &[u8], place: usize, why: Reason) {
     for (at, byte) in bytes.iter().enumerate() {
         match host.push(*byte) {
             Ok(_) => assert!(rt; at < place),
             Err(Refusal::At { reason, .. }) => {
-                assert_eq!(rt; (at, reason), (place, why));
+                same(rt, (at, reason), (place, why));
                 return;
             }
             Err(_) => panic!(rt; "a place"),
@@ -27,78 +27,95 @@ fn host_refuses(rt: &impl Abort, host: &mut HostEnd, bytes: &[u8], place: usize,
     panic!(rt; "a refusal")
 }
 
-#[test]
-fn sends_are_refused(rt: HostRuntime) {
-    let alloc = rt.alloc();
-    let mut host = HostEnd::new(alloc);
-    assert_eq!(rt;
-        host.send(Opcode::PutGet, &[]).err(),
-        Some(SendFault::NotAllowed)
-    );
-    let mut host = ready_host(&rt, alloc);
-    assert_eq!(rt; host.cancel().err(), Some(SendFault::NoReadToCancel));
-    send(&rt, alloc, &mut host, record(&rt, alloc, BOB).as_slice());
-    assert_eq!(rt; host.fields().as_slice().len(), 1);
-    let clear = [Element::ClearUnit];
-    assert_eq!(rt;
-        host.send(Opcode::PutGet, &clear).err(),
-        Some(SendFault::ReadOutstanding)
-    );
+fn sends_not(rt: &impl Abort, host: &mut HostEnd, body: &[Element], why: SendFault) {
+    same(rt, host.send(Opcode::PutGet, body).err(), Some(why));
+}
+
+fn cancels_not(rt: &impl Abort, host: &mut HostEnd, why: SendFault) {
+    same(rt, host.cancel().err(), Some(why));
 }
 
 #[test]
-fn an_answer_behind_its_cancel(rt: HostRuntime) -> Result<(), Fail> {
+fn sends_are_refused(rt: HostRuntime) {
     let alloc = rt.alloc();
+    sends_not(&rt, &mut HostEnd::new(alloc), &[], SendFault::NotAllowed);
     let mut host = ready_host(&rt, alloc);
-    send(&rt, alloc, &mut host, record(&rt, alloc, BOB).as_slice());
-    let cancelled = host.cancel().expect(&rt, "a cancel");
-    assert_eq!(rt; cancelled.as_slice(), CANCEL);
-    let mut station = ready_station(&rt, alloc, BOB)?;
-    let ended = push_all(&rt, alloc, &mut station, cancelled.as_slice())?;
-    assert_eq!(rt; ended.as_slice(), CANCEL);
-    let told = last_event(&rt, &mut host, ended.as_slice());
+    cancels_not(&rt, &mut host, SendFault::NoReadToCancel);
+    send_body(&rt, alloc, &mut host, BOB);
+    same(&rt, host.fields().as_slice().len(), 1);
+    let clear = [Element::ClearUnit];
+    sends_not(&rt, &mut host, &clear, SendFault::ReadOutstanding);
+}
+
+fn cancels(rt: &impl Abort, host: &mut HostEnd) {
+    let cancelled = host.cancel().expect(rt, "a cancel");
+    same(rt, cancelled.as_slice(), CANCEL);
+}
+
+fn hears_of_its_cancel(rt: &impl Abort, host: &mut HostEnd) {
+    let told = last_event(rt, host, CANCEL);
     assert!(rt; matches!(&told, Some(HostEvent::Cancelled)));
     assert!(rt; host.asked().is_none());
+}
+
+#[test]
+fn an_answer_behind_its_cancel(rt: HostRuntime) {
+    let alloc = rt.alloc();
+    let mut station = ready_station(&rt, alloc, BOB);
+    replies(&rt, alloc, &mut station, CANCEL, CANCEL);
+    let mut host = waiting_host(&rt, alloc);
+    cancels(&rt, &mut host);
+    hears_of_its_cancel(&rt, &mut host);
     host_refuses(&rt, &mut host, BOB_ANSWER, 20, Reason::UnaskedAnswer);
-    assert_eq!(rt; host.cancel().err(), Some(SendFault::Failed));
-    Ok(())
+    cancels_not(&rt, &mut host, SendFault::Failed);
 }
 
 // An answer with a byte before its first field.
 #[test]
 fn an_answer_that_fits_no_read(rt: HostRuntime) {
     let alloc = rt.alloc();
-    let mut host = ready_host(&rt, alloc);
-    send(&rt, alloc, &mut host, record(&rt, alloc, BOB).as_slice());
+    let mut host = waiting_host(&rt, alloc);
     let mismatched = record(&rt, alloc, b"\x06\x38\xf1\xc1");
     let reason = Reason::AnswerMismatch;
     host_refuses(&rt, &mut host, mismatched.as_slice(), 15, reason);
+}
+
+// A host end that has asked for the terminal type.
+fn opened_host(alloc: Global) -> HostEnd {
+    let mut host = HostEnd::new(alloc);
+    host.open();
+    host
 }
 
 // A terminal that isn't supported; one that is, in small letters.
 #[test]
 fn terminals_are_named(rt: HostRuntime) {
     let alloc = rt.alloc();
-    let mut host = HostEnd::new(alloc);
-    host.open();
     let wide = b"\xff\xfb\x18\xff\xfa\x18\x00IBM-3477-FC\xff\xf0";
-    host_refuses(&rt, &mut host, wide, 19, Reason::UnsupportedTerminal);
-    let mut host = HostEnd::new(alloc);
-    host.open();
+    let reason = Reason::UnsupportedTerminal;
+    host_refuses(&rt, &mut opened_host(alloc), wide, 19, reason);
+    let mut host = opened_host(alloc);
     for byte in b"\xff\xfb\x18\xff\xfa\x18\x00ibm-3179-2\xff\xf0".as_slice() {
         assert!(rt; host.push(*byte).is_ok());
     }
 }
 
 // Cursor, AID, and of each field address, length and content.
-fn flat(alloc: Global, answer: &HostAnswer) -> Result<Vec<u8>, AllocError> {
-    let mut bytes = Vec::new(alloc);
-    bytes.extend_from_slice(&[answer.cursor.row(), answer.cursor.col(), answer.aid.byte()])?;
+fn flat(rt: &impl Abort, alloc: Global, answer: &HostAnswer) -> Vec<u8> {
+    let head = [answer.cursor.row(), answer.cursor.col(), answer.aid.byte()];
+    let mut bytes = joined(rt, alloc, &[&head]);
     for field in answer.fields.as_slice() {
-        bytes.extend_from_slice(&[field.address.row(), field.address.col()])?;
-        bytes.extend_from_slice(field.content.as_slice())?;
+        let place = [field.address.row(), field.address.col()];
+        bytes.extend_from_slice(&place).expect(rt, "memory");
+        bytes
+            .extend_from_slice(field.content.as_slice())
+            .expect(rt, "memory");
     }
-    Ok(bytes)
+    bytes
+}
+
+fn reads(rt: &impl Abort, alloc: Global, answer: &HostAnswer, wanted: &[u8]) {
+    same(rt, flat(rt, alloc, answer).as_slice(), wanted);
 }
 
 const SWITCHED: &[u8] =
@@ -243,65 +260,76 @@ const ANSWERED_FORMS: [AnsweredForm; 15] = [
     },
 ];
 
-// What a station writes that runs on the opening and this record, and then takes the keys; so many are refused.
-fn played(
+// The keys, each of which is pressed behind the first record.
+fn behind_a_record(rt: &impl Abort, alloc: Global, keys: &[Key]) -> Vec<(u32, Key)> {
+    let mut due = Vec::new(alloc);
+    for key in keys {
+        due.push((1, *key)).expect(rt, "memory");
+    }
+    due
+}
+
+// What a station writes that runs on these bytes, and then takes the keys; so many are refused.
+fn run_on(
     rt: &impl Abort,
     alloc: Global,
-    sent: &[u8],
-    keys: &str,
+    bytes: &[u8],
+    keys: &[(u32, Key)],
     refused: u32,
-) -> Result<Vec<u8>, Fail> {
-    let mut stream = Vec::new(alloc);
-    stream.extend_from_slice(OPENING)?;
-    stream.extend_from_slice(sent)?;
-    let mut due: Vec<(u32, Key)> = Vec::new(alloc);
-    for key in keys_of(alloc, keys)? {
-        due.push((1, key))?;
-    }
-    let mut source = SliceSource::new(stream.as_slice());
+) -> Vec<u8> {
+    let mut source = SliceSource::new(bytes);
     let mut sink = VecSink::new(alloc);
+    // Made here, since a run requires a station that is seen to be new.
     let station = Station::new(TerminalType::Ibm3179Model2);
-    let played = run_station(station, &mut source, &mut sink, due.as_slice()).expect(rt, "played");
-    assert_eq!(rt; played.keys_refused, refused);
-    Ok(sink.into_inner())
+    let played = run_station(station, &mut source, &mut sink, keys).expect(rt, "played");
+    same(rt, played.keys_refused, refused);
+    sink.into_inner()
+}
+
+// What a station writes behind the opening that takes a record and the keys.
+fn is_answered(rt: &impl Abort, alloc: Global, sent: &[u8], form: &AnsweredForm) {
+    let stream = joined(rt, alloc, &[OPENING, sent]);
+    let keys = keys_of(rt, alloc, form.keys);
+    let keys = behind_a_record(rt, alloc, keys.as_slice());
+    let written = run_on(rt, alloc, stream.as_slice(), keys.as_slice(), form.refused);
+    same(rt, written.as_slice().get(31..), Some(form.answer));
+}
+
+fn fields_are_read(
+    rt: &impl Abort,
+    alloc: Global,
+    host: &HostEnd,
+    parts: &[AnswerPart],
+    wanted: &[u8],
+) {
+    assert!(rt; host.asked().is_some());
+    let told = host.read_fields(parts).expect(rt, "fields");
+    reads(rt, alloc, &told, wanted);
 }
 
 // The host end that asked reads the answer by its parts and by its bytes.
-fn is_read(
-    rt: &impl Abort,
-    alloc: Global,
-    host: &mut HostEnd,
-    answer: &[u8],
-    read: &[u8],
-) -> Result<(), Fail> {
-    let parts = decode_all::<Answers>(alloc, answer).expect(rt, "an answer");
+fn is_read(rt: &impl Abort, alloc: Global, host: &mut HostEnd, form: &AnsweredForm) {
+    let parts = decode_all::<Answers>(alloc, form.answer).expect(rt, "an answer");
     match parts.as_slice() {
         [Item::Record(whole)] => {
-            if host.asked().is_some() {
-                let told = host.read_fields(whole.body.as_slice()).expect(rt, "fields");
-                assert_eq!(rt; flat(alloc, &told)?.as_slice(), read);
-            }
+            fields_are_read(rt, alloc, host, whole.body.as_slice(), form.read);
         }
         _ => panic!(rt; "a record"),
     }
-    match last_event(rt, host, answer) {
-        Some(HostEvent::Answer(told)) => assert_eq!(rt; flat(alloc, &told)?.as_slice(), read),
+    match last_event(rt, host, form.answer) {
+        Some(HostEvent::Answer(told)) => reads(rt, alloc, &told, form.read),
         _ => panic!(rt; "an answer"),
     }
-    Ok(())
 }
 
 #[test]
-fn answers_are_written_and_read(rt: HostRuntime) -> Result<(), Fail> {
+fn answers_are_written_and_read(rt: HostRuntime) {
     let alloc = rt.alloc();
     for form in ANSWERED_FORMS {
         let sent = record(&rt, alloc, form.body);
         let mut host = ready_host(&rt, alloc);
         send(&rt, alloc, &mut host, sent.as_slice());
-        let written = played(&rt, alloc, sent.as_slice(), form.keys, form.refused)?;
-        assert!(rt; written.len() >= 31);
-        assert_eq!(rt; &written.as_slice()[31..], form.answer);
-        is_read(&rt, alloc, &mut host, form.answer, form.read)?;
+        is_answered(&rt, alloc, sent.as_slice(), &form);
+        is_read(&rt, alloc, &mut host, &form);
     }
-    Ok(())
 }

@@ -41,3 +41,21 @@ mod colored_rows;
 mod script_rows;
 #[cfg(test)]
 mod serve_rows;
+
+// Expects two values to be the same, and shows both where they aren't. One call of it is proved sooner than an
+// `assert_eq!`.
+#[cfg(test)]
+fn same<T: PartialEq + std::fmt::Debug + Drop>(rt: &impl std::process::Abort, found: T, wanted: T) {
+    assert_eq!(rt; found, wanted);
+}
+
+// The same, and tells the row.
+#[cfg(test)]
+fn same_at<N: std::fmt::Display + Drop, T: PartialEq + std::fmt::Debug + Drop>(
+    rt: &impl std::process::Abort,
+    row: N,
+    found: T,
+    wanted: T,
+) {
+    assert_eq!(rt; found, wanted, "{row}");
+}

@@ -1,10 +1,12 @@
-use std::alloc::Global;
-use std::test::Fail;
-use ws_code::Aid;
+use crate::same;
+use std::alloc::{AllocError, Global};
+use std::process::Abort;
+use ws_code::{Aid, List};
 use ws_keys::Key;
 use ws_live::{ScriptFault, read_script};
 use ws_record::Opcode;
 use ws_session::Move;
+use ws_stream::Element;
 
 // Scripts, and their first bad line.
 const BAD: [(&[u8], u64); 57] = [
@@ -68,117 +70,134 @@ const BAD: [(&[u8], u64); 57] = [
 ];
 
 #[test]
-fn bad_lines(rt: HostRuntime) -> Result<(), Fail> {
+fn bad_lines(rt: HostRuntime) {
     for (text, number) in BAD {
         let fault = read_script(rt.alloc(), text).err();
         assert_eq!(rt; fault, Some(ScriptFault::Line(number)), "{text:?}");
     }
-    let line = format!(in rt.alloc(); "{fault}", fault = ScriptFault::Line(12))?;
-    assert_eq!(rt; line.as_str(), "script line 12");
-    Ok(())
+    let fault = ScriptFault::Line(12);
+    let line = format!(in rt.alloc(); "{fault}").expect(&rt, "memory");
+    same(&rt, line.as_str(), "script line 12");
 }
 
-fn is_all_up(step: &Move) -> bool {
-    matches!(step, Move::ToHost(count) if *count == usize::MAX)
+fn moves_of(rt: &impl Abort, alloc: Global, text: &[u8]) -> Vec<Move> {
+    read_script(alloc, text).expect(rt, "moves")
 }
 
-fn is_all_down(step: &Move) -> bool {
-    matches!(step, Move::ToStation(count) if *count == usize::MAX)
+// A move in words: a count of bytes that are delivered, or all; what a record has; the letter of a key.
+fn told(alloc: Global, step: &Move) -> Result<String, AllocError> {
+    match step {
+        Move::ToStation(usize::MAX) => format!(in alloc; "down all"),
+        Move::ToStation(count) => format!(in alloc; "down {count}"),
+        Move::ToHost(usize::MAX) => format!(in alloc; "up all"),
+        Move::ToHost(count) => format!(in alloc; "up {count}"),
+        Move::Send(opcode, body) => told_record(alloc, *opcode, body),
+        Move::Cancel => format!(in alloc; "cancel"),
+        Move::Key(Key::Insert(letter)) => format!(in alloc; "insert {letter}"),
+        Move::Key(_) => format!(in alloc; "another key"),
+    }
 }
+
+fn told_record(alloc: Global, opcode: Opcode, body: &List<Element>) -> Result<String, AllocError> {
+    let count = body.as_slice().len();
+    format!(in alloc; "{opcode:?} of {count}")
+}
+
+const GOOD: &[u8] =
+    b"cancel\r\ndown 000000007\nup all\nsend 03 04400411AbfFc1\nsend 12\ntype \ninsert \xc3\xa4 \n#\nsettle";
+
+const GOOD_MOVES: [&str; 15] = [
+    "cancel",
+    "down 7",
+    "up all",
+    "PutGet of 3",
+    "MessageLightOff of 0",
+    "insert \u{e4}",
+    "insert  ",
+    "down all",
+    "up all",
+    "down all",
+    "up all",
+    "down all",
+    "up all",
+    "down all",
+    "up all",
+];
 
 #[test]
-fn good_lines(rt: HostRuntime) -> Result<(), Fail> {
+fn good_lines(rt: HostRuntime) {
+    let alloc = rt.alloc();
     let text =
         "# a comment, \u{e4}\n\ncancel\r\ndown 000000007\nup all\nsend 03 0440c1\n".as_bytes();
-    assert_eq!(rt;
-        read_script(rt.alloc(), text).err(),
-        Some(ScriptFault::Line(6))
-    );
-    let text =
-        b"cancel\r\ndown 000000007\nup all\nsend 03 04400411AbfFc1\nsend 12\ntype \ninsert \xc3\xa4 \n#\nsettle";
-    let moves = read_script(rt.alloc(), text).map_err(|_| "bad")?;
-    assert_eq!(rt; moves.len(), 15);
-    assert!(rt; matches!(&moves[0], Move::Cancel));
-    assert!(rt; matches!(&moves[1], Move::ToStation(7)));
-    assert!(rt; is_all_up(&moves[2]));
-    match &moves[3] {
-        Move::Send(Opcode::PutGet, body) => {
-            assert_eq!(rt; body.as_slice().len(), 3);
-        }
-        _ => panic!(rt; "no record"),
+    let fault = read_script(alloc, text).err();
+    same(&rt, fault, Some(ScriptFault::Line(6)));
+    let moves = moves_of(&rt, alloc, GOOD);
+    let mut wanted = GOOD_MOVES.iter();
+    for step in moves.as_slice() {
+        let words = told(alloc, step).expect(&rt, "memory");
+        same(&rt, Some(words.as_str()), wanted.next().copied());
     }
-    match &moves[4] {
-        Move::Send(Opcode::MessageLightOff, body) => {
-            assert!(rt; body.as_slice().is_empty());
-        }
-        _ => panic!(rt; "no record"),
-    }
-    assert!(rt; matches!(&moves[5], Move::Key(Key::Insert('\u{e4}'))));
-    assert!(rt; matches!(&moves[6], Move::Key(Key::Insert(' '))));
-    for at in 0..4 {
-        assert!(rt; is_all_down(&moves[7 + 2 * at]));
-        assert!(rt; is_all_up(&moves[8 + 2 * at]));
-    }
+    same(&rt, wanted.next(), None);
     for empty in [b"".as_slice(), b"\n\r\n".as_slice(), b"#".as_slice()] {
-        let moves = read_script(rt.alloc(), empty).map_err(|_| "bad")?;
-        assert!(rt; moves.is_empty());
+        assert!(rt; moves_of(&rt, alloc, empty).is_empty());
     }
-    Ok(())
 }
 
-// The key that a script's line presses by this name.
-fn key_named(alloc: Global, name: &str) -> Result<Option<Key>, Fail> {
-    let line = format!(in alloc; "key {name}")?;
-    let moves = read_script(alloc, line.as_bytes()).map_err(|_| "bad")?;
-    match moves.as_slice() {
-        [Move::Key(key)] => Ok(Some(*key)),
-        _ => Ok(None),
+// A script's line presses this key by its name.
+fn is_named(rt: &impl Abort, alloc: Global, name: &str, wanted: Key) {
+    let line = format!(in alloc; "key {name}").expect(rt, "memory");
+    match moves_of(rt, alloc, line.as_bytes()).as_slice() {
+        [Move::Key(key)] => same(rt, *key, wanted),
+        _ => panic!(rt; "a key"),
     }
 }
+
+const KEYS: [(&str, Key); 14] = [
+    ("Left", Key::Left),
+    ("Right", Key::Right),
+    ("Up", Key::Up),
+    ("Down", Key::Down),
+    ("Home", Key::Home),
+    ("Tab", Key::Tab),
+    ("BackTab", Key::BackTab),
+    ("FieldExit", Key::FieldExit),
+    ("FieldMinus", Key::FieldMinus),
+    ("Dup", Key::Dup),
+    ("Delete", Key::Delete),
+    ("EraseInput", Key::EraseInput),
+    ("Attention", Key::Attention),
+    ("SystemRequest", Key::SystemRequest),
+];
+
+// Keys that answer, by their attention identifiers.
+const ANSWERING: [(&str, u8); 12] = [
+    ("Enter", 0xf1),
+    ("Clear", 0xbd),
+    ("Help", 0xf3),
+    ("RollDown", 0xf4),
+    ("RollUp", 0xf5),
+    ("Print", 0xf6),
+    ("RecordBackspace", 0xf8),
+    ("F1", 0x31),
+    ("F9", 0x39),
+    ("F12", 0x3c),
+    ("F13", 0xb1),
+    ("F24", 0xbc),
+];
 
 #[test]
-fn key_names(rt: HostRuntime) -> Result<(), Fail> {
-    let keys = [
-        ("Left", Key::Left),
-        ("Right", Key::Right),
-        ("Up", Key::Up),
-        ("Down", Key::Down),
-        ("Home", Key::Home),
-        ("Tab", Key::Tab),
-        ("BackTab", Key::BackTab),
-        ("FieldExit", Key::FieldExit),
-        ("FieldMinus", Key::FieldMinus),
-        ("Dup", Key::Dup),
-        ("Delete", Key::Delete),
-        ("EraseInput", Key::EraseInput),
-        ("Attention", Key::Attention),
-        ("SystemRequest", Key::SystemRequest),
-    ];
-    for (name, key) in keys {
-        assert_eq!(rt; key_named(rt.alloc(), name)?, Some(key));
+fn key_names(rt: HostRuntime) {
+    let alloc = rt.alloc();
+    for (name, key) in KEYS {
+        is_named(&rt, alloc, name, key);
     }
-    let answering = [
-        ("Enter", 0xf1),
-        ("Clear", 0xbd),
-        ("Help", 0xf3),
-        ("RollDown", 0xf4),
-        ("RollUp", 0xf5),
-        ("Print", 0xf6),
-        ("RecordBackspace", 0xf8),
-        ("F1", 0x31),
-        ("F9", 0x39),
-        ("F12", 0x3c),
-        ("F13", 0xb1),
-        ("F24", 0xbc),
-    ];
-    for (name, byte) in answering {
-        let aid = Aid::from_byte(byte).ok_or("no AID")?;
-        assert_eq!(rt; key_named(rt.alloc(), name)?, Some(Key::Aid(aid)));
+    for (name, byte) in ANSWERING {
+        let aid = Aid::from_byte(byte).expect(&rt, "a key");
+        is_named(&rt, alloc, name, Key::Aid(aid));
     }
     for number in 1..=24u8 {
-        let name = format!(in rt.alloc(); "F{number}")?;
-        let aid = Aid::function(number).ok_or("no AID")?;
-        assert_eq!(rt; key_named(rt.alloc(), name.as_str())?, Some(Key::Aid(aid)));
+        let name = format!(in alloc; "F{number}").expect(&rt, "memory");
+        let aid = Aid::function(number).expect(&rt, "a key");
+        is_named(&rt, alloc, name.as_str(), Key::Aid(aid));
     }
-    Ok(())
 }

@@ -1,5 +1,7 @@
 //! Rows of scripts for a host: records that are sent in words.
-use std::test::Fail;
+use crate::same;
+use std::alloc::Global;
+use std::process::Abort;
 use ws_code::List;
 use ws_live::{HostLine, ScriptFault, read_lines};
 use ws_record::Opcode;
@@ -64,32 +66,36 @@ const BAD: [(&[u8], u64); 30] = [
     ),
 ];
 
+fn lines_of(rt: &impl Abort, alloc: Global, text: &[u8]) -> Vec<HostLine> {
+    read_lines::<HostLine>(alloc, text).expect(rt, "lines")
+}
+
 // The record that the first line sends.
-fn sent(lines: &[HostLine]) -> Option<(Opcode, &List<Element>)> {
+fn sent<'a>(rt: &impl Abort, lines: &'a [HostLine]) -> (Opcode, &'a List<Element>) {
     match lines {
-        [HostLine::Give(Order::Send(opcode, body)), ..] => Some((*opcode, body)),
-        _ => None,
+        [HostLine::Give(Order::Send(opcode, body)), ..] => (*opcode, body),
+        _ => panic!(rt; "a record"),
     }
 }
 
 #[test]
-fn words_are_the_same(rt: HostRuntime) -> Result<(), Fail> {
+fn words_are_the_same(rt: HostRuntime) {
     for (words, hex) in SAME {
-        let told = read_lines::<HostLine>(rt.alloc(), words).map_err(|_| "bad words")?;
-        let wanted = read_lines::<HostLine>(rt.alloc(), hex).map_err(|_| "bad hex")?;
-        assert_eq!(rt; told.len(), wanted.len(), "{words:?}");
-        let told = sent(told.as_slice()).ok_or("no record")?;
-        let wanted = sent(wanted.as_slice()).ok_or("no record")?;
-        assert!(rt; told == wanted, "{words:?}");
+        let told = lines_of(&rt, rt.alloc(), words);
+        let wanted = lines_of(&rt, rt.alloc(), hex);
+        same(&rt, told.len(), wanted.len());
+        same(
+            &rt,
+            sent(&rt, told.as_slice()),
+            sent(&rt, wanted.as_slice()),
+        );
     }
-    Ok(())
 }
 
 #[test]
-fn bad_lines(rt: HostRuntime) -> Result<(), Fail> {
+fn bad_lines(rt: HostRuntime) {
     for (text, number) in BAD {
         let fault = read_lines::<HostLine>(rt.alloc(), text).err();
         assert_eq!(rt; fault, Some(ScriptFault::Line(number)), "{text:?}");
     }
-    Ok(())
 }

@@ -1,15 +1,16 @@
 // Whole sessions by scripts of a move a line, as `t5250 play` reads them, and `trickle`: a byte down
 // and a byte up, 200 times.
 use crate::end_rows::{key_named, typed};
+use crate::{same, same_at};
 use std::alloc::Global;
 use std::process::Abort;
-use std::test::Fail;
 use ws_code::{Address, List};
-use ws_keys::KeyRefusal;
+use ws_keys::{HostAnswer, KeyRefusal};
 use ws_nego::TerminalType;
 use ws_record::{Opcode, read_body};
+use ws_screen::Screen;
 use ws_session::{Event, HostEvent, KeyFault, Move, Report, World};
-use ws_stream::{Commands, Element};
+use ws_stream::Commands;
 
 // A form with a field of ten cells at 6, 53 and a read. B, O, B and Enter answer it.
 const BOB: &str = "settle
@@ -49,74 +50,99 @@ send 3 0440041100081106341d400020000a04520000
 down 10
 type A";
 
-// The elements of a body in hex.
-fn body_of(rt: &impl Abort, alloc: Global, hex: &str) -> Result<Vec<Element>, Fail> {
-    let mut bytes: Vec<u8> = Vec::new(alloc);
+// The bytes of pairs of digits.
+fn bytes_of(rt: &impl Abort, alloc: Global, hex: &str) -> Vec<u8> {
+    let mut bytes = Vec::new(alloc);
     let mut high: Option<u32> = None;
     for digit in hex.chars() {
         let value = digit.to_digit(16).expect(rt, "a digit");
         match high {
             None => high = Some(value),
             Some(first) => {
-                bytes.push((first % 16 * 16 + value % 16) as u8)?;
+                let byte = (first % 16 * 16 + value % 16) as u8;
+                bytes.push(byte).expect(rt, "memory");
                 high = None;
             }
         }
     }
-    Ok(read_body::<Commands>(alloc, bytes.as_slice()).expect(rt, "a body"))
+    bytes
+}
+
+fn number_of(rt: &impl Abort, word: &str) -> usize {
+    usize::from_str_radix(word, 10).expect(rt, "a number")
 }
 
 // How many bytes a delivery brings.
 fn count_of(rt: &impl Abort, word: &str) -> usize {
-    match word {
-        "all" => usize::MAX,
-        _ => usize::from_str_radix(word, 10).expect(rt, "a count"),
+    if word == "all" {
+        return usize::MAX;
     }
+    number_of(rt, word)
 }
 
-// The record that is sent, by its opcode and its body.
-fn sent(rt: &impl Abort, alloc: Global, words: &str) -> Result<Move, Fail> {
+fn opcode_of(rt: &impl Abort, word: &str) -> Opcode {
+    let byte = number_of(rt, word) % 256;
+    Opcode::from_byte(byte as u8).expect(rt, "an opcode")
+}
+
+// The record that is sent, by its opcode and its body in hex.
+fn sent(rt: &impl Abort, alloc: Global, words: &str) -> Move {
     let (number, hex) = words.split_once(' ').unwrap_or((words, ""));
-    let byte = u8::from_str_radix(number, 10).expect(rt, "a number");
-    let opcode = Opcode::from_byte(byte).expect(rt, "an opcode");
-    Ok(Move::Send(opcode, List::of(body_of(rt, alloc, hex)?)))
+    let bytes = bytes_of(rt, alloc, hex);
+    let body = read_body::<Commands>(alloc, bytes.as_slice()).expect(rt, "a body");
+    Move::Send(opcode_of(rt, number), List::of(body))
+}
+
+fn add(rt: &impl Abort, moves: &mut Vec<Move>, step: Move) {
+    moves.push(step).expect(rt, "memory");
 }
 
 // So many bytes go to the station and so many to the host end, again and again.
-fn to_and_fro(moves: &mut Vec<Move>, count: usize, times: u8) -> Result<(), Fail> {
+fn to_and_fro(rt: &impl Abort, moves: &mut Vec<Move>, count: usize, times: u8) {
     for _ in 0..times {
-        moves.push(Move::ToStation(count))?;
-        moves.push(Move::ToHost(count))?;
+        add(rt, moves, Move::ToStation(count));
+        add(rt, moves, Move::ToHost(count));
     }
-    Ok(())
 }
 
-fn add_line(rt: &impl Abort, alloc: Global, moves: &mut Vec<Move>, line: &str) -> Result<(), Fail> {
-    let (command, words) = line.split_once(' ').unwrap_or((line, ""));
+fn add_keys(rt: &impl Abort, alloc: Global, moves: &mut Vec<Move>, text: &str) {
+    for key in typed(rt, alloc, text) {
+        add(rt, moves, Move::Key(key));
+    }
+}
+
+// The move of a line that is one.
+fn step_of(rt: &impl Abort, alloc: Global, command: &str, words: &str) -> Move {
     match command {
-        "settle" => to_and_fro(moves, usize::MAX, 4)?,
-        "trickle" => to_and_fro(moves, 1, 200)?,
-        "send" => moves.push(sent(rt, alloc, words)?)?,
-        "cancel" => moves.push(Move::Cancel)?,
-        "down" => moves.push(Move::ToStation(count_of(rt, words)))?,
-        "up" => moves.push(Move::ToHost(count_of(rt, words)))?,
-        "key" => moves.push(Move::Key(key_named(words).expect(rt, "a key")))?,
-        "type" => {
-            for key in typed(alloc, words)? {
-                moves.push(Move::Key(key))?;
-            }
-        }
+        "send" => sent(rt, alloc, words),
+        "cancel" => Move::Cancel,
+        "down" => Move::ToStation(count_of(rt, words)),
+        "up" => Move::ToHost(count_of(rt, words)),
+        "key" => Move::Key(key_named(words).expect(rt, "a key")),
         _ => panic!(rt; "a line"),
     }
-    Ok(())
 }
 
-fn play(rt: &impl Abort, alloc: Global, script: &str) -> Result<Report, Fail> {
+fn add_line(rt: &impl Abort, alloc: Global, moves: &mut Vec<Move>, line: &str) {
+    let (command, words) = line.split_once(' ').unwrap_or((line, ""));
+    match command {
+        "settle" => to_and_fro(rt, moves, usize::MAX, 4),
+        "trickle" => to_and_fro(rt, moves, 1, 200),
+        "type" => add_keys(rt, alloc, moves, words),
+        _ => add(rt, moves, step_of(rt, alloc, command, words)),
+    }
+}
+
+fn run(rt: &impl Abort, alloc: Global, moves: &[Move]) -> Report {
+    World::run(alloc, TerminalType::Ibm3179Model2, moves).expect(rt, "a session")
+}
+
+fn play(rt: &impl Abort, alloc: Global, script: &str) -> Report {
     let mut moves = Vec::new(alloc);
     for line in script.lines() {
-        add_line(rt, alloc, &mut moves, line)?;
+        add_line(rt, alloc, &mut moves, line);
     }
-    Ok(World::run(alloc, TerminalType::Ibm3179Model2, moves.as_slice()).expect(rt, "a session"))
+    run(rt, alloc, moves.as_slice())
 }
 
 // What an event is, in a word.
@@ -166,18 +192,20 @@ const TOLD: [Told; 5] = [
     },
 ];
 
-#[test]
-fn sessions_tell_their_events_in_order(rt: HostRuntime) -> Result<(), Fail> {
-    let alloc = rt.alloc();
-    for told in TOLD {
-        let report = play(&rt, alloc, told.script)?;
-        let mut names = told.events.split(' ');
-        for event in report.events.as_slice() {
-            assert_eq!(rt; Some(name_of(event)), names.next(), "{}", told.name);
-        }
-        assert_eq!(rt; names.next(), None, "{}", told.name);
+fn tells(rt: &impl Abort, name: &str, events: &[Event], words: &str) {
+    let mut names = words.split(' ');
+    for event in events {
+        same_at(rt, name, Some(name_of(event)), names.next());
     }
-    Ok(())
+    same_at(rt, name, names.next(), None);
+}
+
+#[test]
+fn sessions_tell_their_events_in_order(rt: HostRuntime) {
+    for told in TOLD {
+        let report = play(&rt, rt.alloc(), told.script);
+        tells(&rt, told.name, report.events.as_slice(), told.events);
+    }
 }
 
 // Where the cursor was, and what the one field of the only answer holds.
@@ -206,52 +234,64 @@ const ANSWERED: [Answered; 3] = [
     },
 ];
 
-#[test]
-fn answers_hold_what_was_typed(rt: HostRuntime) -> Result<(), Fail> {
-    let alloc = rt.alloc();
-    for row in ANSWERED {
-        let report = play(&rt, alloc, row.script)?;
-        let mut answered = false;
-        for event in report.events.as_slice() {
-            if let Event::Host(HostEvent::Answer(answer)) = event {
-                assert!(rt; !answered);
-                answered = true;
-                let cursor = (answer.cursor.row(), answer.cursor.col());
-                assert_eq!(rt; cursor, (6, row.column));
-                assert_eq!(rt; answer.aid.byte(), 0xf1);
-                for field in answer.fields.as_slice() {
-                    assert_eq!(rt; (field.address.row(), field.address.col()), (6, 53));
-                    assert_eq!(rt; field.content.as_slice(), row.content);
-                }
-                assert_eq!(rt; answer.fields.as_slice().len(), 1);
-            }
-        }
-        assert!(rt; answered);
-        assert!(rt; report.host.asked().is_none());
-        assert_eq!(rt;
-            report.to_station.as_slice().len() + report.to_host.as_slice().len(),
-            0
-        );
+fn is_place(rt: &impl Abort, place: Address, row: u8, column: u8) {
+    same(rt, (place.row(), place.col()), (row, column));
+}
+
+fn holds(rt: &impl Abort, answer: &HostAnswer, row: &Answered) {
+    is_place(rt, answer.cursor, 6, row.column);
+    same(rt, answer.aid.byte(), 0xf1);
+    same(rt, answer.fields.as_slice().len(), 1);
+    for field in answer.fields.as_slice() {
+        is_place(rt, field.address, 6, 53);
+        same(rt, field.content.as_slice(), row.content);
     }
-    Ok(())
+}
+
+// One of the events is an answer, and holds what was typed.
+fn is_answered(rt: &impl Abort, events: &[Event], row: &Answered) {
+    let mut answers = 0u8;
+    for event in events {
+        if let Event::Host(HostEvent::Answer(answer)) = event {
+            answers = answers.saturating_add(1);
+            holds(rt, answer, row);
+        }
+    }
+    same(rt, answers, 1);
+}
+
+#[test]
+fn answers_hold_what_was_typed(rt: HostRuntime) {
+    for row in ANSWERED {
+        let report = play(&rt, rt.alloc(), row.script);
+        is_answered(&rt, report.events.as_slice(), &row);
+        assert!(rt; report.host.asked().is_none());
+        assert!(rt; report.to_station.as_slice().is_empty());
+        assert!(rt; report.to_host.as_slice().is_empty());
+    }
+}
+
+// The screen's lines are blank but for this one.
+fn only_line_is(rt: &impl Abort, screen: &Screen, wanted: u8, text: &str) {
+    for row in 1..25u8 {
+        let line = screen.line(row);
+        let text = if row == wanted { text } else { "" };
+        same_at(rt, row, line.as_str().trim(), text);
+    }
 }
 
 // What was typed while a record was on its way stays.
 #[test]
-fn typed_while_arriving_stays_on_the_screen(rt: HostRuntime) -> Result<(), Fail> {
-    let report = play(&rt, rt.alloc(), TYPED_WHILE_ARRIVING)?;
+fn typed_while_arriving_stays_on_the_screen(rt: HostRuntime) {
+    let report = play(&rt, rt.alloc(), TYPED_WHILE_ARRIVING);
     let screen = report.station.screen();
-    for row in 1..25u8 {
-        let line = screen.line(row);
-        let text = if row == 6 { "BO" } else { "" };
-        assert_eq!(rt; line.as_str().trim(), text, "row {row}");
-    }
+    only_line_is(&rt, screen, 6, "BO");
     let typed = Address::at(452).expect(&rt, "a cell");
-    assert_eq!(rt; screen.cell(typed), 0xc2);
-    assert_eq!(rt; (screen.cursor().row(), screen.cursor().col()), (6, 55));
-    assert!(rt; screen.locked() && screen.message() && !screen.blink());
-    assert_eq!(rt; screen.fields().len(), 1);
-    Ok(())
+    same(&rt, screen.cell(typed), 0xc2);
+    is_place(&rt, screen.cursor(), 6, 55);
+    let lights = (screen.locked(), screen.message(), screen.blink());
+    same(&rt, lights, (true, true, false));
+    same(&rt, screen.fields().len(), 1);
 }
 
 // What is in flight to the station and to the host end behind so many full deliveries of an opening,
@@ -301,24 +341,28 @@ const OPENING: [InFlight; 7] = [
     },
 ];
 
+// Deliveries of all that is in flight, the first one to the station.
+fn deliveries(rt: &impl Abort, alloc: Global, count: usize) -> Vec<Move> {
+    let mut moves = Vec::new(alloc);
+    for delivery in 0..count {
+        if delivery % 2 == 0 {
+            add(rt, &mut moves, Move::ToStation(usize::MAX));
+        } else {
+            add(rt, &mut moves, Move::ToHost(usize::MAX));
+        }
+    }
+    moves
+}
+
 #[test]
-fn opening_in_full_deliveries(rt: HostRuntime) -> Result<(), Fail> {
+fn opening_in_full_deliveries(rt: HostRuntime) {
     let alloc = rt.alloc();
     for row in OPENING {
-        let mut moves = Vec::new(alloc);
-        for delivery in 0..row.deliveries {
-            if delivery % 2 == 0 {
-                moves.push(Move::ToStation(usize::MAX))?;
-            } else {
-                moves.push(Move::ToHost(usize::MAX))?;
-            }
-        }
-        let terminal = TerminalType::Ibm3179Model2;
-        let report = World::run(alloc, terminal, moves.as_slice()).expect(&rt, "a session");
-        assert_eq!(rt; report.to_station.as_slice(), row.to_station);
-        assert_eq!(rt; report.to_host.as_slice(), row.to_host);
+        let moves = deliveries(&rt, alloc, row.deliveries);
+        let report = run(&rt, alloc, moves.as_slice());
+        same(&rt, report.to_station.as_slice(), row.to_station);
+        same(&rt, report.to_host.as_slice(), row.to_host);
         let opened = row.deliveries == 6;
-        assert_eq!(rt; report.events.as_slice().len(), usize::from(opened));
+        same(&rt, report.events.as_slice().len(), usize::from(opened));
     }
-    Ok(())
 }

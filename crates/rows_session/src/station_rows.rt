@@ -1,14 +1,13 @@
 // A station by itself, by worked examples.
 use crate::end_rows::{
-    BOB, OPENING, PAST_END, key_named, keys_of, last_event, push_all, ready_host, ready_station,
-    record,
+    BOB, OPENING, PAST_END, key_named, keys_of, last_event, new_station, push_all, ready_host,
+    ready_station, record, replies,
 };
+use crate::{same, same_at};
 use std::alloc::Global;
 use std::process::Abort;
-use std::test::Fail;
 use ws_code::{Address, Fault, Reason, StuckSink, VecSink};
 use ws_keys::{Answer, KeyRefusal};
-use ws_nego::TerminalType;
 use ws_screen::Screen;
 use ws_session::{HostEvent, KeyFault, Refusal, Station, write_answer};
 
@@ -29,20 +28,18 @@ fn outcome_of(pressed: Result<Option<Answer>, KeyFault>) -> &'static str {
     }
 }
 
-// Presses keys; each word names a key, or letters to type, and what each of these does.
-fn press_all(
-    rt: &impl Abort,
-    alloc: Global,
-    station: &mut Station,
-    presses: &str,
-) -> Result<(), Fail> {
-    for press in presses.split(' ') {
-        let (keys, outcome) = press.split_once(':').expect(rt, "an outcome");
-        for key in keys_of(alloc, keys)? {
-            assert_eq!(rt; outcome_of(station.key(key)), outcome, "{press}");
-        }
+fn presses(rt: &impl Abort, alloc: Global, station: &mut Station, keys: &str, outcome: &str) {
+    for key in keys_of(rt, alloc, keys) {
+        same_at(rt, keys, outcome_of(station.key(key)), outcome);
     }
-    Ok(())
+}
+
+// Presses keys; each word names a key, or letters to type, and what each of these does.
+fn press_all(rt: &impl Abort, alloc: Global, station: &mut Station, words: &str) {
+    for word in words.split(' ') {
+        let (keys, outcome) = word.split_once(':').expect(rt, "an outcome");
+        presses(rt, alloc, station, keys, outcome);
+    }
 }
 
 // Where a station refuses a record of this body, counted from the record's first byte, and why.
@@ -58,180 +55,216 @@ fn refused_at(rt: &impl Abort, station: &mut Station, bytes: &[u8]) -> (usize, R
     panic!(rt; "a refusal")
 }
 
+const NAMED: &[u8] = b"\xff\xfa\x18\x00IBM-3179-2\xff\xf0";
+
+// What a station takes and what it writes by that, one after another.
+const OPENED_BY: [(&[u8], &[u8]); 6] = [
+    (b"\xff\xfd\x18", b"\xff\xfb\x18"),
+    (b"\xff\xfa\x18\x01\xff\xf0", NAMED),
+    (b"\xff\xfa\x18\x01\xff\xf0", NAMED),
+    (b"\xff\xfd\x18", b""),
+    (b"\xff\xfd\x27", b"\xff\xfc\x27"),
+    (
+        b"\xff\xfd\x19\xff\xfb\x19\xff\xfd\x00\xff\xfb\x00",
+        b"\xff\xfb\x19\xff\xfd\x19\xff\xfb\x00\xff\xfd\x00",
+    ),
+];
+
 #[test]
-fn station_opening(rt: HostRuntime) -> Result<(), Fail> {
+fn station_opening(rt: HostRuntime) {
     let alloc = rt.alloc();
-    let mut station = Station::new(TerminalType::Ibm3179Model2);
-    let named = b"\xff\xfa\x18\x00IBM-3179-2\xff\xf0".as_slice();
-    for (taken, written) in [
-        (b"\xff\xfd\x18".as_slice(), b"\xff\xfb\x18".as_slice()),
-        (b"\xff\xfa\x18\x01\xff\xf0".as_slice(), named),
-        (b"\xff\xfa\x18\x01\xff\xf0".as_slice(), named),
-        (b"\xff\xfd\x18".as_slice(), b"".as_slice()),
-        (b"\xff\xfd\x27".as_slice(), b"\xff\xfc\x27".as_slice()),
-        (
-            b"\xff\xfd\x19\xff\xfb\x19\xff\xfd\x00\xff\xfb\x00".as_slice(),
-            b"\xff\xfb\x19\xff\xfd\x19\xff\xfb\x00\xff\xfd\x00".as_slice(),
-        ),
-    ] {
-        let reply = push_all(&rt, alloc, &mut station, taken)?;
-        assert_eq!(rt; reply.as_slice(), written);
+    let mut station = new_station();
+    for (taken, written) in OPENED_BY {
+        replies(&rt, alloc, &mut station, taken, written);
     }
-    Ok(())
 }
+
+// What a new station takes, and what it writes by that the first time and each later time.
+#[derive(Clone, Copy)]
+struct Flood {
+    taken: &'static [u8],
+    first: &'static [u8],
+    later: &'static [u8],
+}
+
+const FLOODS: [Flood; 3] = [
+    Flood {
+        taken: b"\xff\xfd\x27",
+        first: b"\xff\xfc\x27",
+        later: b"\xff\xfc\x27",
+    },
+    Flood {
+        taken: b"\xff\xfd\x00",
+        first: b"\xff\xfb\x00",
+        later: b"",
+    },
+    Flood {
+        taken: b"\xff\xfd\x00\xff\xfe\x00",
+        first: b"\xff\xfb\x00\xff\xfc\x00",
+        later: b"\xff\xfb\x00\xff\xfc\x00",
+    },
+];
 
 // Option commands over and over: what is refused is refused each time, what is in effect isn't acknowledged again, and
 // what changes each time is answered each time (RFC 854, "GENERAL CONSIDERATIONS").
 #[test]
-fn floods_are_answered(rt: HostRuntime) -> Result<(), Fail> {
+fn floods_are_answered(rt: HostRuntime) {
     let alloc = rt.alloc();
-    for (taken, first, later) in [
-        (
-            b"\xff\xfd\x27".as_slice(),
-            b"\xff\xfc\x27".as_slice(),
-            b"\xff\xfc\x27".as_slice(),
-        ),
-        (b"\xff\xfd\x00", b"\xff\xfb\x00", b""),
-        (
-            b"\xff\xfd\x00\xff\xfe\x00",
-            b"\xff\xfb\x00\xff\xfc\x00",
-            b"\xff\xfb\x00\xff\xfc\x00",
-        ),
-    ] {
-        let mut station = Station::new(TerminalType::Ibm3179Model2);
-        let reply = push_all(&rt, alloc, &mut station, taken)?;
-        assert_eq!(rt; reply.as_slice(), first);
+    for flood in FLOODS {
+        let mut station = new_station();
+        replies(&rt, alloc, &mut station, flood.taken, flood.first);
         for _ in 1..10_000u16 {
-            let reply = push_all(&rt, alloc, &mut station, taken)?;
-            assert_eq!(rt; reply.as_slice(), later);
+            replies(&rt, alloc, &mut station, flood.taken, flood.later);
         }
     }
-    Ok(())
 }
 
-// All cells, fields, cursor, lock and lights of two screens are the same.
-fn same_screen(rt: &impl Abort, one: &Screen, other: &Screen) {
+fn same_cells(rt: &impl Abort, one: &Screen, other: &Screen) {
     for row in 1..=24u8 {
         for column in 1..=80u8 {
             let at = Address::new(row, column).expect(rt, "a cell");
             assert_eq!(rt; one.cell(at), other.cell(at), "{row} {column}");
         }
     }
-    assert!(rt; one.fields().as_slice() == other.fields().as_slice());
-    assert_eq!(rt; (one.cursor(), one.home()), (other.cursor(), other.home()));
-    let lights = (one.message(), one.blink());
-    assert_eq!(rt; lights, (other.message(), other.blink()));
-    assert_eq!(rt;
-        (one.locked(), one.pending()),
-        (other.locked(), other.pending())
-    );
 }
 
-#[test]
-fn stations_refuse_records(rt: HostRuntime) -> Result<(), Fail> {
-    let alloc = rt.alloc();
-    // A record before negotiation.
-    let mut early = Station::new(TerminalType::Ibm3179Model2);
+fn same_lights(rt: &impl Abort, one: &Screen, other: &Screen) {
+    same(rt, one.message(), other.message());
+    same(rt, one.blink(), other.blink());
+    same(rt, one.locked(), other.locked());
+}
+
+// All cells, fields, cursor, lock and lights of two screens are the same.
+fn same_screen(rt: &impl Abort, one: &Screen, other: &Screen) {
+    same_cells(rt, one, other);
+    same(rt, one.fields().as_slice(), other.fields().as_slice());
+    same(rt, one.cursor(), other.cursor());
+    same(rt, one.home(), other.home());
+    same(rt, one.pending(), other.pending());
+    same_lights(rt, one, other);
+}
+
+// A record before negotiation.
+fn refuses_early_records(rt: &impl Abort, alloc: Global) {
+    let mut early = new_station();
     let invite = b"\x00\x0a\x12\xa0\x00\x00\x04\x00\x00\x01\xff\xef";
-    assert_eq!(rt;
-        refused_at(&rt, &mut early, invite),
-        (11, Reason::RecordBeforeNegotiation)
-    );
-    press_all(&rt, alloc, &mut early, "A:failed")?;
-    // A data byte past the screen's end. What was on the screen stays, a letter typed inside the record too.
-    let past_end = record(&rt, alloc, PAST_END);
-    assert!(rt; past_end.len() == 21);
-    let mut station = ready_station(&rt, alloc, BOB)?;
-    push_all(&rt, alloc, &mut station, &past_end[..10])?;
-    press_all(&rt, alloc, &mut station, "B:silent")?;
+    let refused = refused_at(rt, &mut early, invite);
+    same(rt, refused, (11, Reason::RecordBeforeNegotiation));
+    press_all(rt, alloc, &mut early, "A:failed");
+}
+
+// What was on the screen stays, and the station takes no byte more.
+fn refuses_past_end(rt: &impl Abort, station: &mut Station, bytes: &[u8]) {
     let mut before = Screen::new();
     before.assign(station.screen());
-    assert_eq!(rt;
-        refused_at(&rt, &mut station, &past_end[10..]),
-        (10, Reason::PastEnd)
-    );
-    same_screen(&rt, &before, station.screen());
-    assert_eq!(rt; station.push(0).err(), Some(Refusal::Failed));
-    let first = Address::new(6, 53).expect(&rt, "a cell");
-    assert_eq!(rt; station.screen().cell(first), 0xc2);
-    Ok(())
+    let refused = refused_at(rt, station, bytes);
+    same(rt, refused, (10, Reason::PastEnd));
+    same_screen(rt, &before, station.screen());
+    same(rt, station.push(0).err(), Some(Refusal::Failed));
 }
 
 #[test]
-fn keys_are_refused(rt: HostRuntime) -> Result<(), Fail> {
+fn stations_refuse_records(rt: HostRuntime) {
     let alloc = rt.alloc();
-    let no_read = b"\x04\x40\x04\x11\x00\x08\x11\x06\x34\x1d\x40\x00\x20\x00\x0a".as_slice();
-    let mandatory =
-        b"\x04\x40\x04\x11\x00\x08\x11\x06\x34\x1d\x40\x08\x20\x00\x0a\x04\x52\x00\x00".as_slice();
-    let mut closed = Station::new(TerminalType::Ibm3179Model2);
+    refuses_early_records(&rt, alloc);
+    // A data byte past the screen's end. A letter that is typed inside the record stays too.
+    let past_end = record(&rt, alloc, PAST_END);
+    assert!(rt; past_end.len() == 21);
+    let mut station = ready_station(&rt, alloc, BOB);
+    push_all(&rt, alloc, &mut station, &past_end[..10]);
+    press_all(&rt, alloc, &mut station, "B:silent");
+    refuses_past_end(&rt, &mut station, &past_end[10..]);
+    let first = Address::new(6, 53).expect(&rt, "a cell");
+    same(&rt, station.screen().cell(first), 0xc2);
+}
+
+const NO_READ: &[u8] = b"\x04\x40\x04\x11\x00\x08\x11\x06\x34\x1d\x40\x00\x20\x00\x0a";
+
+const MANDATORY: &[u8] =
+    b"\x04\x40\x04\x11\x00\x08\x11\x06\x34\x1d\x40\x08\x20\x00\x0a\x04\x52\x00\x00";
+
+// What a station is sent, and keys that it is pressed.
+const KEYS_REFUSED: [(&[u8], &str); 4] = [
+    (b"", "Tab:locked"),
+    (
+        BOB,
+        "\u{20ac}:wrong-character Dup:no-dup Left:silent A:protected Right:silent ABCDEFGHIJ:silent Insert:no-room Enter:answers Enter:locked",
+    ),
+    (NO_READ, "Enter:no-read"),
+    (MANDATORY, "Enter:mandatory Clear:answers"),
+];
+
+#[test]
+fn keys_are_refused(rt: HostRuntime) {
+    let alloc = rt.alloc();
     let unready = "Enter:not-ready Attention:not-ready SystemRequest:not-ready Tab:locked";
-    press_all(&rt, alloc, &mut closed, unready)?;
-    for (body, presses) in [
-        (b"".as_slice(), "Tab:locked"),
-        (
-            BOB,
-            "\u{20ac}:wrong-character Dup:no-dup Left:silent A:protected Right:silent ABCDEFGHIJ:silent Insert:no-room Enter:answers Enter:locked",
-        ),
-        (no_read, "Enter:no-read"),
-        (mandatory, "Enter:mandatory Clear:answers"),
-    ] {
-        let mut station = ready_station(&rt, alloc, body)?;
-        press_all(&rt, alloc, &mut station, presses)?;
+    press_all(&rt, alloc, &mut new_station(), unready);
+    for (body, presses) in KEYS_REFUSED {
+        let mut station = ready_station(&rt, alloc, body);
+        press_all(&rt, alloc, &mut station, presses);
     }
-    Ok(())
+}
+
+fn takes(rt: &impl Abort, station: &mut Station, bytes: &[u8]) {
+    for byte in bytes {
+        assert!(rt; station.push(*byte).is_ok());
+    }
 }
 
 // No allocator is passed to the station, nor to its keys.
 #[test]
-fn the_largest_record_is_kept_without_memory(rt: HostRuntime) -> Result<(), Fail> {
-    let mut station = Station::new(TerminalType::Ibm3179Model2);
-    for byte in OPENING {
-        assert!(rt; station.push(*byte).is_ok());
+fn the_largest_record_is_kept_without_memory(rt: HostRuntime) {
+    let mut station = new_station();
+    takes(&rt, &mut station, OPENING);
+    let head = b"\xff\xff\xff\xff\x12\xa0\x00\x00\x04\x00\x00\x03";
+    takes(&rt, &mut station, head);
+    for _ in 0..32_760u16 {
+        takes(&rt, &mut station, b"\x04\x40");
     }
-    for byte in b"\xff\xff\xff\xff\x12\xa0\x00\x00\x04\x00\x00\x03".as_slice() {
-        assert!(rt; station.push(*byte).is_ok());
-    }
-    for _i in 0..32_760u16 {
-        assert!(rt; station.push(0x04).is_ok());
-        assert!(rt; station.push(0x40).is_ok());
-    }
-    for byte in b"\x04\x11\x00\x08\xc1\xff\xef".as_slice() {
-        assert!(rt; station.push(*byte).is_ok());
-    }
-    assert_eq!(rt; station.screen().cell(Address::default()), 0xc1);
-    Ok(())
+    takes(&rt, &mut station, b"\x04\x11\x00\x08\xc1\xff\xef");
+    same(&rt, station.screen().cell(Address::default()), 0xc1);
 }
 
+// An answer is written as these bytes, and not by a sink that takes none.
+fn is_written(rt: &impl Abort, alloc: Global, answer: &Answer, wanted: &[u8]) {
+    let mut sink = VecSink::new(alloc);
+    same(rt, write_answer(&mut sink, answer), Ok(()));
+    same(rt, sink.as_slice(), wanted);
+    let unwritten = write_answer(&mut StuckSink, answer);
+    same(rt, unwritten, Err(Fault::Write));
+}
+
+fn word_of(told: Option<HostEvent>) -> &'static str {
+    match told {
+        Some(HostEvent::Attention) => "Attention",
+        Some(HostEvent::SystemRequest) => "SystemRequest",
+        _ => "another",
+    }
+}
+
+// A key of a station, and the record that it sends.
+const ATTENTION_RECORDS: [(&str, &[u8]); 2] = [
+    (
+        "Attention",
+        b"\x00\x0a\x12\xa0\x00\x00\x04\x40\x00\x00\xff\xef",
+    ),
+    (
+        "SystemRequest",
+        b"\x00\x0a\x12\xa0\x00\x00\x04\x04\x00\x00\xff\xef",
+    ),
+];
+
 #[test]
-fn attention_records(rt: HostRuntime) -> Result<(), Fail> {
+fn attention_records(rt: HostRuntime) {
     let alloc = rt.alloc();
-    let mut station = ready_station(&rt, alloc, b"")?;
-    for (name, written) in [
-        (
-            "Attention",
-            b"\x00\x0a\x12\xa0\x00\x00\x04\x40\x00\x00\xff\xef".as_slice(),
-        ),
-        (
-            "SystemRequest",
-            b"\x00\x0a\x12\xa0\x00\x00\x04\x04\x00\x00\xff\xef".as_slice(),
-        ),
-    ] {
-        match station.key(key_named(name).expect(&rt, "a key")) {
-            Ok(Some(answer)) => {
-                let mut sink = VecSink::new(alloc);
-                assert!(rt; write_answer(&mut sink, &answer).is_ok());
-                assert_eq!(rt; sink.as_slice(), written);
-                assert_eq!(rt; write_answer(&mut StuckSink, &answer), Err(Fault::Write));
-                let mut host = ready_host(&rt, alloc);
-                let told = match last_event(&rt, &mut host, written) {
-                    Some(HostEvent::Attention) => "Attention",
-                    Some(HostEvent::SystemRequest) => "SystemRequest",
-                    _ => "another",
-                };
-                assert_eq!(rt; told, name);
-            }
+    let mut station = ready_station(&rt, alloc, b"");
+    for (name, written) in ATTENTION_RECORDS {
+        let key = key_named(name).expect(&rt, "a key");
+        match station.key(key) {
+            Ok(Some(answer)) => is_written(&rt, alloc, &answer, written),
             _ => panic!(rt; "a record"),
         }
+        let mut host = ready_host(&rt, alloc);
+        same(&rt, word_of(last_event(&rt, &mut host, written)), name);
     }
-    Ok(())
 }

@@ -6,50 +6,16 @@
 //! order: the command line, reading, hex text or lines, the connection, and then those met in running.
 #![tactic(auto)]
 
-mod check;
-mod command_line;
-#[cfg(test)]
-mod example_rows;
-mod fault;
-mod hex_text;
-mod input;
-mod live_address;
-mod live_command;
-mod live_input;
-mod live_session;
-mod live_socket;
-mod make;
-#[cfg(test)]
-mod make_rows;
-#[cfg(test)]
-mod memory_rows;
-#[cfg(test)]
-mod play_rows;
-mod program;
-mod show;
-#[cfg(test)]
-mod show_rows;
-mod shown;
-#[cfg(test)]
-mod size_rows;
-mod tcp;
-#[cfg(test)]
-mod tcp_rows;
-#[cfg(test)]
-mod tests;
-mod verdict;
-
-use crate::command_line::{Task, given_words, read_words};
-use crate::fault::{CommandFault, RunFault};
-use crate::input::read_input;
-use crate::live_session::run_live;
-use crate::program::{answer_buffered, status};
 use std::io;
 use std::net::{Net, TcpListener, TcpStream};
 use std::process::ExitCode;
 use std::rt::Runtime;
 use ws_code::WriteSink;
 use ws_live::BufferedSink;
+use ws_program::{
+    CommandFault, RunFault, Task, answer_buffered, given_words, read_input, read_words, run_live,
+    status,
+};
 
 // Reads the command line and the input, and writes what is asked for: true where all was accepted.
 fn run<R: Runtime + AllocGlobal + Net<Listener = TcpListener, Stream = TcpStream>>(

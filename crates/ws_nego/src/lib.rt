@@ -16,6 +16,3 @@ pub use host::HostOptions;
 pub use options::Reply;
 pub use station::StationOptions;
 pub use terminal::TerminalType;
-
-#[cfg(test)]
-mod tests;

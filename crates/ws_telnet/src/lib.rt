@@ -12,6 +12,3 @@ pub use token::{CommandCode, Sub, Telnet, Token, Verb};
 pub use tokens::Tokens;
 pub use word::Word;
 pub use write::{spell, write_telnet, write_token};
-
-#[cfg(test)]
-mod tests;

@@ -1,0 +1,53 @@
+//! The tests of what the program `t5250` does: `ws_program`, and of each call of the libraries below that takes memory.
+//! They call what these crates hand out, and nothing else.
+#![tactic(auto)]
+
+// The program's answers, for rows of any command.
+#[cfg(test)]
+mod answers;
+#[cfg(test)]
+mod example_rows;
+#[cfg(test)]
+mod make_rows;
+#[cfg(test)]
+mod memory_rows;
+#[cfg(test)]
+mod play_rows;
+#[cfg(test)]
+mod program_rows;
+#[cfg(test)]
+mod show_rows;
+#[cfg(test)]
+mod size_rows;
+#[cfg(test)]
+mod tcp_rows;
+
+// Expects two values to be the same, and shows both where they aren't. One call of it is proved sooner than an
+// `assert_eq!`.
+#[cfg(test)]
+fn same<T: PartialEq + std::fmt::Debug + Drop>(rt: &impl std::process::Abort, found: T, wanted: T) {
+    assert_eq!(rt; found, wanted);
+}
+
+// The same, and tells the row.
+#[cfg(test)]
+fn same_at<N: std::fmt::Display + Drop, T: PartialEq + std::fmt::Debug + Drop>(
+    rt: &impl std::process::Abort,
+    row: N,
+    found: T,
+    wanted: T,
+) {
+    assert_eq!(rt; found, wanted, "{row}");
+}
+
+// Expects the same bytes.
+#[cfg(test)]
+fn same_bytes(rt: &impl std::process::Abort, found: &[u8], wanted: &[u8]) {
+    assert_eq!(rt; found, wanted);
+}
+
+// Expects that something holds.
+#[cfg(test)]
+fn holds(rt: &impl std::process::Abort, fact: bool) {
+    assert!(rt; fact);
+}

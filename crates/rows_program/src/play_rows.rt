@@ -1,0 +1,212 @@
+ghost use Rattle.ws_program.specs.Answering.{HasPieces};
+
+use crate::{holds, same, same_at, same_bytes};
+use std::alloc::{AllocError, Global};
+use std::test::Fail;
+use ws_code::{FailingSink, Fault, List, Reason, VecSink};
+use ws_keys::KeyRefusal;
+use ws_live::{Paint, play_to};
+use ws_nego::TerminalType;
+use ws_program::{Asked, RunFault, answer, status};
+use ws_session::{Event, HostEnd, KeyFault, Report, SendFault, Station};
+
+// A script, whether the screen is asked for, and what is written.
+pub type Row<'a> = (&'a str, &'a str, bool, &'a str);
+
+pub const PLAY_BOB: Row = (
+    "play-bob",
+    "settle\nsend 3 0440041100081106341D400020000A04520000\nsettle\ntype BOB\nkey Enter\nsettle\n",
+    false,
+    "host ready IBM-3179-2\nanswer 6 56 F1\n  field 6 53 C2D6C2\n",
+);
+
+pub const PLAYED: [Row; 13] = [
+    PLAY_BOB,
+    (
+        "play-cancel",
+        "settle\nsend 3 0440041100081106341D400020000A04520000\ncancel\nsettle\nkey Enter\n",
+        false,
+        "host ready IBM-3179-2\ncancelled\nkey refused Locked\n",
+    ),
+    (
+        "typed-while-arriving",
+        "settle\nsend 3 0440041100081106341D400020000A04520000\nsettle\ntype B\nsend 11\ndown 5\ntype O\ndown all\nkey Enter\nsettle\n",
+        true,
+        "host ready IBM-3179-2\nanswer 6 55 F1\n  field 6 53 C2D6\nscreen\n 6                                                     BO\ncursor 6 55, locked, message on, blink off, fields 1\n",
+    ),
+    (
+        "typed-too-early",
+        "settle\nsend 3 0440041100081106341D400020000A04520000\ndown 10\ntype A\n",
+        false,
+        "host ready IBM-3179-2\nkey refused Locked\n",
+    ),
+    (
+        "descending-fields: a field without content",
+        "settle\nsend 3 041100081106341D4800200006C100C21103011D480020000404520000\nsettle\nkey Enter\nsettle",
+        false,
+        "host ready IBM-3179-2\nanswer 3 2 F1\n  field 3 2\n  field 6 53 C140C2\n",
+    ),
+    (
+        "attention-records",
+        "settle\nkey Attention\nkey SystemRequest\nsettle\n",
+        false,
+        "host ready IBM-3179-2\nattention\nsystem request\n",
+    ),
+    (
+        "not-ready",
+        "key Enter\nkey Tab\nsend 3 0440\ncancel\n",
+        false,
+        "key refused NotReady\nkey refused Locked\nsend refused NotAllowed\nsend refused NotAllowed\n",
+    ),
+    (
+        "key-refusals",
+        "settle\nkey Tab\nsend 3 0440041100081106341D400020000A04520000\nsettle\ntype \u{20ac}\nkey Dup\nkey Left\ntype A\nkey Right\ntype ABCDEFGHIJ\ninsert A\nkey Enter\nkey Enter\nsettle\n",
+        false,
+        "host ready IBM-3179-2\nkey refused Locked\nkey refused WrongCharacter\nkey refused DupNotAllowed\nkey refused Protected\nkey refused NoRoom\nkey refused Locked\nanswer 6 53 F1\n  field 6 53 C1C2C3C4C5C6C7C8C9D1\n",
+    ),
+    (
+        "key-refusals: no read, and a field that has to be entered",
+        "settle\nsend 3 0440041100081106341D400020000A\nsettle\nkey Enter\nsend 3 0440041100081106341D400820000A04520000\nsettle\nkey Enter\nkey Clear\nsettle\n",
+        false,
+        "host ready IBM-3179-2\nkey refused NoReadPending\nkey refused MandatoryEnter\nanswer 6 53 BD\n",
+    ),
+    (
+        "host-refusals",
+        "settle\ncancel\nsend 3 04110000111850C1C2\nsend 3 0440041100081106341D400020000A04520000\nsend 2 0440\ncancel\ncancel\nsettle\n",
+        false,
+        "host ready IBM-3179-2\nsend refused NoReadToCancel\nsend refused Screen 51\nsend refused ReadOutstanding\nsend refused NoReadToCancel\ncancelled\n",
+    ),
+    (
+        "three deliveries each way open the session",
+        "down all\nup all\ndown all\nup all\ndown all\nsend 1\nup all\nsend 1\n",
+        false,
+        "send refused NotAllowed\nhost ready IBM-3179-2\n",
+    ),
+    (
+        "nothing",
+        "",
+        true,
+        "screen\ncursor 1 1, locked, message off, blink off, fields 0\n",
+    ),
+    (
+        "blanks, a comment and CR LF",
+        "# a session\r\n\r\nsettle\r\nkey Attention\nup 12\r\n",
+        false,
+        "host ready IBM-3179-2\nattention\n",
+    ),
+];
+
+// What is asked of a play without a file.
+fn asked(screen: bool, tcp: bool) -> Asked<'static>
+    ensures { HasPieces result }
+{
+    Asked::Play {
+        file: None,
+        screen,
+        tcp,
+        paint: Paint::Plain,
+    }
+}
+
+#[test]
+fn played(rt: HostRuntime) -> Result<(), Fail> {
+    for (name, script, screen, wanted) in &PLAYED {
+        for tcp in [false, true] {
+            let mut sink = VecSink::new(rt.alloc());
+            let play = asked(*screen, tcp);
+            let outcome = answer(&rt, rt.alloc(), play, script.as_bytes(), &mut sink);
+            same_at(&rt, name, status(&outcome), 0);
+            same_at(&rt, name, sink.as_slice(), wanted.as_bytes());
+        }
+    }
+    Ok(())
+}
+
+// `play-bob`, each settling in 200 deliveries of a byte each way.
+fn bob_in_bytes(alloc: Global) -> Result<String, AllocError> {
+    let mut script = String::new(alloc);
+    for part in [
+        "",
+        "send 3 0440041100081106341D400020000A04520000\n",
+        "type BOB\nkey Enter\n",
+    ] {
+        script.push_str(part)?;
+        for _ in 0..200 {
+            script.push_str("down 1\nup 1\n")?;
+        }
+    }
+    Ok(script)
+}
+
+// `byte-by-byte`.
+#[test]
+fn byte_by_byte(rt: HostRuntime) -> Result<(), Fail> {
+    let script = bob_in_bytes(rt.alloc())?;
+    let mut sink = VecSink::new(rt.alloc());
+    let play = asked(false, false);
+    let outcome = answer(&rt, rt.alloc(), play, script.as_bytes(), &mut sink);
+    same(&rt, outcome, Ok(true));
+    same_bytes(&rt, sink.as_slice(), PLAY_BOB.3.as_bytes());
+    Ok(())
+}
+
+// A bad line ends the program before anything is run; a sink that fails holds a part of the text.
+#[test]
+fn unplayed(rt: HostRuntime) -> Result<(), Fail> {
+    let mut sink = VecSink::new(rt.alloc());
+    let screen = asked(true, false);
+    let outcome = answer(&rt, rt.alloc(), screen, b"settle\nhello\n", &mut sink);
+    same(&rt, status(&outcome), 2);
+    same(&rt, outcome, Err(RunFault::Line(2)));
+    holds(&rt, sink.as_slice().is_empty());
+    let line = RunFault::Line(2).to_string(rt.alloc())?;
+    same(&rt, line.as_str(), "script line 2");
+    let mut sink = FailingSink::new(rt.alloc(), 30);
+    let screen = asked(true, false);
+    let bob = PLAY_BOB.1.as_bytes();
+    let outcome = answer(&rt, rt.alloc(), screen, bob, &mut sink);
+    same(&rt, outcome, Err(RunFault::Write));
+    Ok(())
+}
+
+// Events that no script brings out, and their lines: ends that refuse, and names of faults that no session of these two
+// ends has.
+fn refusals(alloc: Global) -> Result<Vec<Event>, AllocError> {
+    let refusals = vec![in alloc;
+        Event::KeyRefused(KeyFault::Failed),
+        Event::KeyRefused(KeyFault::Key(KeyRefusal::Locked)),
+        Event::SendRefused(SendFault::Failed),
+        Event::SendRefused(SendFault::BadSequence),
+        Event::SendRefused(SendFault::TooBig),
+        Event::SendRefused(SendFault::Memory),
+        Event::StationRefused {
+            place: 20,
+            reason: Reason::PastEnd,
+        },
+        Event::HostRefused {
+            place: u64::MAX,
+            reason: Reason::UnaskedAnswer,
+        },
+    ]?;
+    Ok(refusals)
+}
+
+const REFUSED: &str =
+    "key refused Failed\nkey refused Locked\nsend refused Failed\nsend refused BadSequence\nsend refused TooBig\nsend refused Memory\nstation refused at 20: reason 51 PastEnd\nhost refused at 18446744073709551615: reason 62 UnaskedAnswer\n";
+
+#[test]
+fn reported(rt: HostRuntime) -> Result<(), Fail> {
+    let report = Report {
+        events: List::of(refusals(rt.alloc())?),
+        station: Station::new(TerminalType::default()),
+        host: HostEnd::new(rt.alloc()),
+        to_station: List::of(Vec::new(rt.alloc())),
+        to_host: List::of(Vec::new(rt.alloc())),
+    };
+    let mut sink = VecSink::new(rt.alloc());
+    same(&rt, play_to(&report, false, &mut sink), Ok(false));
+    same_bytes(&rt, sink.as_slice(), REFUSED.as_bytes());
+    let mut sink = FailingSink::new(rt.alloc(), 5);
+    same(&rt, play_to(&report, false, &mut sink), Err(Fault::Write));
+    Ok(())
+}

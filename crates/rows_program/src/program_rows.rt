@@ -1,0 +1,398 @@
+use crate::answers::{answer_words, expect_answer};
+use crate::{holds, same, same_at, same_bytes};
+use std::alloc::Global;
+use std::io;
+use std::process::Abort;
+use std::test::Fail;
+use ws_code::{FailingSink, Fault, Reason, VecSink};
+use ws_live::Paint;
+use ws_program::{Asked, RunFault, Task, TextFault, check_to, hex_bytes, read_words, status};
+use ws_record::RawBody;
+use ws_text::TextFault as ItemsFault;
+
+#[test]
+fn hex_texts(rt: HostRuntime) -> Result<(), Fail> {
+    let read = hex_bytes(rt.alloc(), b" 00 0A\tfF\r\n1\n2")?;
+    same_bytes(&rt, read.as_slice(), &[0x00, 0x0a, 0xff, 0x12]);
+    holds(&rt, hex_bytes(rt.alloc(), b" \n")?.is_empty());
+    for text in [b"0".as_slice(), b"0g".as_slice(), b"00\x0b00".as_slice()] {
+        let fault = hex_bytes(rt.alloc(), text).err();
+        same(&rt, fault, Some(TextFault::NotHex));
+    }
+    Ok(())
+}
+
+const FILE: Option<&str> = Some("a.hex");
+
+// What is asked of a check without any word.
+const CHECK: Asked = Asked::Check {
+    file: None,
+    cut: u16::MAX,
+    answers: false,
+};
+
+// Words, and what they ask for.
+const COMMAND_LINES: [(&[&str], Asked); 18] = [
+    (&["t5250", "check"], CHECK),
+    (
+        &["t5250", "check", "a.hex"],
+        Asked::Check {
+            file: FILE,
+            cut: u16::MAX,
+            answers: false,
+        },
+    ),
+    (
+        &["t5250", "check", "--cut", "1"],
+        Asked::Check {
+            file: None,
+            cut: 1,
+            answers: false,
+        },
+    ),
+    (
+        &["t5250", "check", "--cut=65535", "a.hex"],
+        Asked::Check {
+            file: FILE,
+            cut: 65535,
+            answers: false,
+        },
+    ),
+    (
+        &["t5250", "check", "a.hex", "--cut", "7"],
+        Asked::Check {
+            file: FILE,
+            cut: 7,
+            answers: false,
+        },
+    ),
+    (
+        &["t5250", "check", "--answers"],
+        Asked::Check {
+            file: None,
+            cut: u16::MAX,
+            answers: true,
+        },
+    ),
+    (
+        &["t5250", "check", "--cut", "7", "--answers", "a.hex"],
+        Asked::Check {
+            file: FILE,
+            cut: 7,
+            answers: true,
+        },
+    ),
+    (
+        &["t5250", "check", "--", "--answers"],
+        Asked::Check {
+            file: Some("--answers"),
+            cut: u16::MAX,
+            answers: false,
+        },
+    ),
+    (
+        &["t5250", "show"],
+        Asked::Show {
+            file: None,
+            answers: false,
+            paint: Paint::Plain,
+        },
+    ),
+    (
+        &["t5250", "show", "--answers", "a.hex"],
+        Asked::Show {
+            file: FILE,
+            answers: true,
+            paint: Paint::Plain,
+        },
+    ),
+    (
+        &["t5250", "play"],
+        Asked::Play {
+            file: None,
+            screen: false,
+            tcp: false,
+            paint: Paint::Plain,
+        },
+    ),
+    (
+        &["t5250", "play", "a.hex"],
+        Asked::Play {
+            file: FILE,
+            screen: false,
+            tcp: false,
+            paint: Paint::Plain,
+        },
+    ),
+    (
+        &["t5250", "play", "--screen", "a.hex"],
+        Asked::Play {
+            file: FILE,
+            screen: true,
+            tcp: false,
+            paint: Paint::Plain,
+        },
+    ),
+    (
+        &["t5250", "play", "a.hex", "--tcp"],
+        Asked::Play {
+            file: FILE,
+            screen: false,
+            tcp: true,
+            paint: Paint::Plain,
+        },
+    ),
+    (
+        &["t5250", "show", "--color", "a.hex"],
+        Asked::Show {
+            file: FILE,
+            answers: false,
+            paint: Paint::Color,
+        },
+    ),
+    (
+        &["t5250", "play", "--color", "--screen"],
+        Asked::Play {
+            file: None,
+            screen: true,
+            tcp: false,
+            paint: Paint::Color,
+        },
+    ),
+    (
+        &["t5250", "make"],
+        Asked::Make {
+            file: None,
+            answers: false,
+        },
+    ),
+    (
+        &["t5250", "make", "--answers", "a.hex"],
+        Asked::Make {
+            file: FILE,
+            answers: true,
+        },
+    ),
+];
+
+#[test]
+fn command_lines(rt: HostRuntime) -> Result<(), Fail> {
+    for (words, asked) in &COMMAND_LINES {
+        same(&rt, read_words(rt.alloc(), words)?, Task::Input(*asked));
+    }
+    let show = Asked::Show {
+        file: FILE,
+        answers: false,
+        paint: Paint::Plain,
+    };
+    same(&rt, show.file(), FILE);
+    same(&rt, CHECK.file(), None);
+    Ok(())
+}
+
+const WRONG_COMMAND_LINES: [&[&str]; 19] = [
+    &["t5250"],
+    &["t5250", "other"],
+    &["t5250", "check", "a.hex", "b.hex"],
+    &["t5250", "check", "--other"],
+    &["t5250", "check", "--cut", "0"],
+    &["t5250", "check", "--cut", "65536"],
+    &["t5250", "check", "--cut", "one"],
+    &["t5250", "check", "--cut", "1", "--cut", "2"],
+    &["t5250", "check", "--cut"],
+    &["t5250", "check", "--answers", "--answers"],
+    &["t5250", "check", "--answers=1"],
+    &["t5250", "show", "--cut", "1"],
+    &["t5250", "play", "--answers"],
+    &["t5250", "show", "a.hex", "b.hex"],
+    &["t5250", "play", "a.hex", "b.hex"],
+    &["t5250", "play", "--screen", "--screen"],
+    &["t5250", "play", "--tcp=1"],
+    &["t5250", "make", "--answers", "--answers"],
+    &["t5250", "make", "a.hex", "b.hex"],
+];
+
+const HELP: [&[&str]; 2] = [&["t5250", "--help"], &["t5250", "show", "--help"]];
+
+// Whether the words are refused with an error, or with help, which is none.
+fn is_error(alloc: Global, words: &[&str]) -> Option<bool> {
+    read_words(alloc, words)
+        .err()
+        .map(|fault| fault.use_stderr())
+}
+
+#[test]
+fn wrong_command_lines(rt: HostRuntime) {
+    for words in &WRONG_COMMAND_LINES {
+        assert_eq!(rt; is_error(rt.alloc(), words), Some(true), "{words:?}");
+    }
+    for words in &HELP {
+        same(&rt, is_error(rt.alloc(), words), Some(false));
+    }
+}
+
+fn expect_line(rt: &impl Abort, alloc: Global, fault: RunFault, line: &str) -> Result<(), Fail> {
+    let text = fault.to_string(alloc)?;
+    same(rt, text.as_str(), line);
+    Ok(())
+}
+
+const FAULTS: [(Fault, &str); 6] = [
+    (
+        Fault::Refused {
+            place: 7,
+            reason: Reason::BadSub,
+        },
+        "refused at 7: reason 3 BadSub",
+    ),
+    (Fault::Truncated { at: 9 }, "truncated at 9"),
+    (Fault::Memory, "memory"),
+    (Fault::Read, "cannot read"),
+    (Fault::Write, "cannot write"),
+    (Fault::Failed, "failed"),
+];
+
+// The lines of status 2, and the fault that each comes from.
+#[test]
+fn fault_lines(rt: HostRuntime) -> Result<(), Fail> {
+    let alloc = rt.alloc();
+    expect_line(&rt, alloc, RunFault::Read, "cannot read")?;
+    expect_line(&rt, alloc, RunFault::from(TextFault::NotHex), "not hex")?;
+    expect_line(&rt, alloc, RunFault::from(TextFault::Memory), "memory")?;
+    let bad_line = RunFault::from(ItemsFault::Line(7));
+    expect_line(&rt, alloc, bad_line, "script line 7")?;
+    expect_line(&rt, alloc, RunFault::from(ItemsFault::Memory), "memory")?;
+    for (fault, line) in &FAULTS {
+        expect_line(&rt, alloc, RunFault::from(*fault), line)?;
+    }
+    let missing = io::Error::from(io::ErrorKind::NotFound);
+    expect_line(&rt, alloc, RunFault::from(missing), "cannot read")?;
+    let wanting = io::Error::from(io::ErrorKind::OutOfMemory);
+    expect_line(&rt, alloc, RunFault::from(wanting), "memory")?;
+    Ok(())
+}
+
+const CHECK_ANSWERS: &[&str] = &["t5250", "check", "--answers"];
+
+const CUT_ANSWERS: &[&str] = &["t5250", "check", "--answers", "--cut", "1"];
+
+const SHOW_ANSWERS: &[&str] = &["t5250", "show", "--answers"];
+
+const BOB_ANSWER: &str = "00 13 12 A0 00 00 04 00 00 03 06 38 F1 11 06 35 C2 D6 C2 FF EF";
+
+const NO_ESCAPE: &str = "refused at 10: reason 20 NoEscape\n";
+
+// The words and a hex text, what is written, and the status. The first text is `bob`'s answer, the second `invite`.
+const ANSWERED: [(&[&str], &str, &str, u8); 12] = [
+    (
+        CHECK_ANSWERS,
+        BOB_ANSWER,
+        "accepted: 1 records, 0 commands, 21 bytes\n",
+        0,
+    ),
+    (
+        SHOW_ANSWERS,
+        BOB_ANSWER,
+        "at 20 record flags 0000 opcode 3\n  HEAD 6 56 F1\n  AT 6 53\n  BYTES C2D6C2\n",
+        0,
+    ),
+    (
+        SHOW_ANSWERS,
+        "FFF1 000A12A0000004000001FFEF FFEF",
+        "at 1 telnet NOP\nat 13 record flags 0000 opcode 1\nrefused at 15: reason 16 TooShort\n",
+        1,
+    ),
+    (
+        SHOW_ANSWERS,
+        "FFF1FF",
+        "at 1 telnet NOP\ntruncated at 3\n",
+        1,
+    ),
+    (SHOW_ANSWERS, "", "", 0),
+    (
+        CUT_ANSWERS,
+        BOB_ANSWER,
+        "accepted: 1 records, 0 commands, 21 bytes\n",
+        0,
+    ),
+    (
+        &["t5250", "check"],
+        "00 0A 12 A0 00 00 04 00 00 01 FF EF",
+        "accepted: 1 records, 0 commands, 12 bytes\n",
+        0,
+    ),
+    (&["t5250", "check"], BOB_ANSWER, NO_ESCAPE, 1),
+    (&["t5250", "show"], BOB_ANSWER, NO_ESCAPE, 1),
+    (
+        &["t5250", "show"],
+        "FFF1",
+        "at 1 telnet NOP\nscreen\ncursor 1 1, locked, message off, blink off, fields 0\n",
+        0,
+    ),
+    (&["t5250", "check"], "000a12a", "", 2),
+    (&["t5250", "show"], "0g", "", 2),
+];
+
+#[test]
+fn answered(rt: HostRuntime) -> Result<(), Fail> {
+    for (words, text, wanted, exit) in &ANSWERED {
+        let outcome = match *exit {
+            0 => Ok(true),
+            1 => Ok(false),
+            _ => Err(RunFault::NotHex),
+        };
+        same_at(&rt, text, status(&outcome), *exit);
+        expect_answer(&rt, words, text, outcome, wanted)?;
+    }
+    let mut sink = FailingSink::new(rt.alloc(), 40);
+    let outcome = answer_words(&rt, CUT_ANSWERS, BOB_ANSWER.as_bytes(), &mut sink)?;
+    same(&rt, outcome, Err(RunFault::Write));
+    Ok(())
+}
+
+const CHECKED: [(&[u8], &str, bool); 10] = [
+    (b"", "accepted: 0 records, 0 commands, 0 bytes\n", true),
+    (
+        b"\xff\xf1",
+        "accepted: 0 records, 1 commands, 2 bytes\n",
+        true,
+    ),
+    (
+        b"\x00\x0a\x12\xa0\x00\x00\x04\x00\x00\x01\xff\xef",
+        "accepted: 1 records, 0 commands, 12 bytes\n",
+        true,
+    ),
+    (
+        b"\x00\x0a\x12\xa0\x00\x00\x04\x00\x00\x01\xff\xef\x00\x0a\x12\xa0\x00\x00\x04\x00\x00\x01\xff\xef",
+        "accepted: 2 records, 0 commands, 24 bytes\n",
+        true,
+    ),
+    (
+        b"\x00\x09",
+        "refused at 1: reason 10 LengthBelowHeader\n",
+        false,
+    ),
+    (b"\xff\x00", "refused at 1: reason 1 BadCommand\n", false),
+    (b"\xff\xef", "refused at 1: reason 16 TooShort\n", false),
+    (
+        b"\x00\x0b\x12\xa0\x00\x00\x04\x00\x00\x03\xff\xef",
+        "refused at 11: reason 16 TooShort\n",
+        false,
+    ),
+    (b"\x00\x0a\x12", "truncated at 3\n", false),
+    (b"\xff", "truncated at 1\n", false),
+];
+
+// The line that is written of a stream, in pieces of every size up to its own, and the status.
+#[test]
+fn check_lines(rt: HostRuntime) -> Result<(), Fail> {
+    for (bytes, wanted, accepted) in &CHECKED {
+        for cut in 1..26u16 {
+            let mut sink = VecSink::new(rt.alloc());
+            let found = check_to::<RawBody, _>(rt.alloc(), bytes, cut, &mut sink);
+            same_at(&rt, wanted, found, Ok(*accepted));
+            same_bytes(&rt, sink.as_slice(), wanted.as_bytes());
+        }
+    }
+    Ok(())
+}

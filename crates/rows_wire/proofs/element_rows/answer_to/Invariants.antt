@@ -1,0 +1,7 @@
+use Rattle.ws_code.specs.Code.{IsUnfinished}
+use Rattle.ws_stream.specs.Elements.{element_rules}
+use Rattle.ws_stream.specs.UnfinishedElement.{unfinished_of}
+use Rattle.rows_wire.proofs.element_rows.answer_to.Given as goal
+
+abbrev pub invariant-loop-at : goal.invariant-loop-at
+invariant-loop-at l = IsUnfinished element_rules l.machine.place (unfinished_of l.machine)

@@ -1,0 +1,215 @@
+ghost use Rattle.std.specs.Prelude.{◌≡◌, List, ℕ, length, IfOk};
+ghost use Rattle.ws_code.specs.Device.{GaveAll};
+
+use crate::{holds, same, same_at, same_bytes};
+use std::alloc::{AllocError, Global};
+use std::io;
+use std::io::{ErrorKind, Read, Write};
+use std::test::Fail;
+use ws_code::{
+    DeviceFailed, FailingSink, FailingSource, Fault, ReadSource, SliceSource, Source, StuckSink,
+    VecSink, WriteSink, write_whole,
+};
+
+// Counts the bytes of a source by small reads.
+fn count_all<S: Source>(source: &mut S) -> Result<u64, Fault>
+    ensures ok { IfOk result (λ n. (bytes : List ℕ) × (n ≡ length bytes)
+        × GaveAll S.gives S.failures source.old source.new bytes) }
+{
+    let mut into = [0u8; 4];
+    let mut count = 0;
+    for _ in 0..4_294_967_296u64 {
+        match source.read(&mut into) {
+            Ok(0) => return Ok(count),
+            Ok(given) => count += given as u64,
+            Err(DeviceFailed) => return Err(Fault::Read),
+        }
+    }
+    Err(Fault::Read)
+}
+
+// The bytes by way of a sink.
+fn kept(alloc: Global, bytes: &[u8]) -> Result<Vec<u8>, Fault>
+    ensures ok { IfOk result (λ kept. kept.items ≡ bytes.now) }
+{
+    let mut sink = VecSink::new(alloc);
+    write_whole(&mut sink, bytes)?;
+    Ok(sink.into_inner())
+}
+
+#[test]
+fn sources_give_their_bytes(rt: HostRuntime) -> Result<(), Fail> {
+    let mut source = SliceSource::new(b"hello");
+    let mut into = [0u8; 3];
+    same(&rt, source.read(&mut into), Ok(3));
+    same_bytes(&rt, into.as_slice(), b"hel");
+    same_bytes(&rt, source.rest(), b"lo");
+    same(&rt, source.read(&mut into), Ok(2));
+    same(&rt, source.read(&mut into), Ok(0));
+    same(&rt, count_all(&mut SliceSource::new(b"some bytes")), Ok(10));
+    let mut reader = ReadSource::new(b"some bytes".as_slice());
+    same(&rt, count_all(&mut reader), Ok(10));
+    same(&rt, reader.failures(), 0);
+    holds(&rt, reader.into_inner().is_empty());
+    Ok(())
+}
+
+#[test]
+fn a_source_fails_at_each_read(rt: HostRuntime) {
+    for reads in 0..7 {
+        let mut source = FailingSource::new(b"bytes", reads);
+        let counted = count_all(&mut source);
+        if reads < 6 {
+            same_at(&rt, reads, counted, Err(Fault::Read));
+            same(&rt, source.failures(), 1);
+        } else {
+            same(&rt, counted, Ok(5));
+            same(&rt, source.failures(), 0);
+        }
+    }
+}
+
+#[test]
+fn sinks_keep_their_bytes(rt: HostRuntime) -> Result<(), Fail> {
+    let mut sink = VecSink::new(rt.alloc());
+    same(&rt, write_whole(&mut sink, b"one "), Ok(()));
+    same(&rt, write_whole(&mut sink, b""), Ok(()));
+    same(&rt, write_whole(&mut sink, b"two"), Ok(()));
+    same_bytes(&rt, sink.as_slice(), b"one two");
+    same(&rt, sink.failures(), 0);
+    same_bytes(&rt, kept(rt.alloc(), b"three")?.as_slice(), b"three");
+    let mut writer = WriteSink::new(Vec::new(rt.alloc()));
+    same(&rt, write_whole(&mut writer, b"four"), Ok(()));
+    same(&rt, writer.failures(), 0);
+    same_bytes(&rt, writer.into_inner().as_slice(), b"four");
+    Ok(())
+}
+
+#[test]
+fn a_sink_fails_at_each_write(rt: HostRuntime) {
+    for writes in 0..6usize {
+        let mut sink = FailingSink::new(rt.alloc(), writes as u64);
+        let written = write_whole(&mut sink, b"bytes");
+        same_bytes(&rt, sink.as_slice(), &b"bytes"[..writes]);
+        if writes < 5 {
+            same_at(&rt, writes, written, Err(Fault::Write));
+            same(&rt, sink.failures(), 1);
+        } else {
+            same(&rt, written, Ok(()));
+            same(&rt, sink.failures(), 0);
+        }
+    }
+    same(
+        &rt,
+        write_whole(&mut StuckSink, b"bytes"),
+        Err(Fault::Write),
+    );
+    same(&rt, write_whole(&mut StuckSink, b""), Ok(()));
+}
+
+// A reader that gives one byte a read. The read after `before_failure` ones fails, and no other.
+#[derive(Drop)]
+struct FailsOnceReader {
+    rest: &'static [u8],
+    before_failure: Option<usize>,
+}
+
+impl Read for FailsOnceReader {
+    fn read(&mut self, into: &mut [u8]) -> io::Result<usize> {
+        if let Some(left) = self.before_failure {
+            self.before_failure = left.checked_sub(1);
+            if left == 0 {
+                return Err(io::Error::from(ErrorKind::ConnectionReset));
+            }
+        }
+        let given = self.rest.len().min(into.len()).min(1);
+        into[..given].copy_from_slice(&self.rest[..given]);
+        self.rest = &self.rest[given..];
+        Ok(given)
+    }
+}
+
+#[test]
+fn a_reader_fails_once(rt: HostRuntime) {
+    for reads in 0..6usize {
+        let mut source = ReadSource::new(FailsOnceReader {
+            rest: b"bytes",
+            before_failure: Some(reads),
+        });
+        same_at(&rt, reads, count_all(&mut source), Err(Fault::Read));
+        same(&rt, source.failures(), 1);
+        same_at(&rt, reads, count_all(&mut source), Ok(5 - reads as u64));
+        same(&rt, source.failures(), 1);
+    }
+}
+
+// A writer that takes one byte a write. The write after `before_failure` ones fails, and no other.
+#[derive(Drop)]
+struct FailsOnceWriter {
+    held: Vec<u8>,
+    before_failure: Option<usize>,
+}
+
+impl Write for FailsOnceWriter {
+    fn write(&mut self, bytes: &[u8]) -> io::Result<usize> {
+        if let Some(left) = self.before_failure {
+            self.before_failure = left.checked_sub(1);
+            if left == 0 {
+                return Err(io::Error::from(ErrorKind::ConnectionReset));
+            }
+        }
+        let taken = bytes.len().min(1);
+        if self.held.extend_from_slice(&bytes[..taken]).is_err() {
+            return Err(io::Error::from(ErrorKind::OutOfMemory));
+        }
+        Ok(taken)
+    }
+
+    fn flush(&mut self) -> io::Result<()> {
+        Ok(())
+    }
+}
+
+#[test]
+fn a_writer_fails_once(rt: HostRuntime) {
+    let text = b"bytes".as_slice();
+    for writes in 0..5usize {
+        let mut sink = WriteSink::new(FailsOnceWriter {
+            held: Vec::new(rt.alloc()),
+            before_failure: Some(writes),
+        });
+        same_at(&rt, writes, write_whole(&mut sink, text), Err(Fault::Write));
+        same(&rt, sink.failures(), 1);
+        same_at(&rt, writes, write_whole(&mut sink, &text[writes..]), Ok(()));
+        same(&rt, sink.failures(), 1);
+        let writer = sink.into_inner();
+        same_bytes(&rt, writer.held.as_slice(), text);
+    }
+}
+
+// Whether a sink keeps a text of this length.
+fn is_kept(alloc: Global, length: usize) -> Result<bool, AllocError> {
+    let text = vec![in alloc; 0x40u8; length]?;
+    match kept(alloc, text.as_slice()) {
+        Ok(held) => Ok(held.as_slice() == text.as_slice()),
+        Err(_) => Ok(false),
+    }
+}
+
+// With ample memory no growth is refused.
+#[test]
+fn a_sink_with_memory_never_fails(rt: HostRuntime) -> Result<(), Fail> {
+    for length in 0..=300usize {
+        same_at(&rt, length, is_kept(rt.alloc(), length)?, true);
+    }
+    for length in [4_095, 4_096, 4_097, 65_525, 65_535] {
+        same_at(&rt, length, is_kept(rt.alloc(), length)?, true);
+    }
+    let mut bytewise = VecSink::new(rt.alloc());
+    for _ in 0..65_535u32 {
+        same(&rt, write_whole(&mut bytewise, &[0x40]), Ok(()));
+    }
+    same(&rt, bytewise.as_slice().len(), 65_535);
+    same(&rt, bytewise.failures(), 0);
+    Ok(())
+}

@@ -1,0 +1,73 @@
+use Rattle.std.proofs.Common.{◌++◌, ◌&&◌, Bool, List, ℕ, sym, ap, ◌∙◌, subst, inl}
+use Rattle.std.specs.Option.{is_some}
+use Rattle.ws_code.proofs.DeviceLaws.{went_out_both}
+use Rattle.ws_live.specs.ServeText.{IsServeText}
+use Rattle.ws_live.proofs.ServeRuns.{stopped_text, answered_text}
+use Rattle.ws_program.proofs.LiveFaults.{unanswered}
+use Rattle.ws_program.proofs.live_input.carry_at_host.Goals as goal
+
+pub returns-in-Err-clause-fault : goal.returns-in-Err-clause-fault
+returns-in-Err-clause-fault g c = let e = c.in-Err.ensures.fault in (e.0, e.1, inl e.2)
+
+pub returns-then-ran-clause-ran : goal.returns-then-ran-clause-ran
+returns-then-ran-clause-ran g c =
+    let e = c.in-Ok.ensures.ran in (
+      e.0,
+      e.2.0,
+      e.1,
+      stopped_text g.K.Sink.takes g.K.Sink.failures g.S.Source.gives g.S.Source.failures
+          (g.W.Watch.tells c.args.watch.now) c.args.ready c.args.attached.now c.carry_session.new.attached e.0
+          c.in-Ok.ran e.2.0 e.2.1 c.if-ran.true,
+      e.2.2,
+    )
+
+pub returns-then-ran-2-clause-ran : goal.returns-then-ran-2-clause-ran
+returns-then-ran-2-clause-ran g c =
+    let e = c.in-Ok.ensures.ran in
+    let a = c.in-Ok-answer_on.ensures.answered in
+    let well = c.in-Ok-answer_on.is_well in
+    let text : List ℕ = e.2.0 ++ a.0 in (
+      e.0,
+      text,
+      e.1,
+      subst (λ (b : Bool). IsServeText g.K.Sink.takes g.K.Sink.failures g.S.Source.gives g.S.Source.failures
+          (g.W.Watch.tells c.args.watch.now) c.args.ready c.args.attached.now e.0 b text c.answer_on.new.attached)
+          (ap (λ (b : Bool). b && well) c.if-ran-2.true)
+          (answered_text g.K.Sink.takes g.K.Sink.failures g.S.Source.gives g.S.Source.failures
+          (g.W.Watch.tells c.args.watch.now) c.args.ready c.args.attached.now c.carry_session.new.attached e.0
+          c.in-Ok.ran e.2.0 e.2.1 c.answer_on.new.attached well a.0 c.if-ran.false a.1),
+      went_out_both g.O.Sink.takes g.O.Sink.failures c.args.out.now.sink c.carry_session.new.out.sink
+          c.answer_on.new.out.sink e.2.0 a.0 e.2.2 a.2,
+    )
+
+pub returns-else-ran-2-clause-ran : goal.returns-else-ran-2-clause-ran
+returns-else-ran-2-clause-ran g c =
+    let e = c.in-Ok.ensures.ran in
+    let a = c.in-Ok-answer_on.ensures.answered in
+    let well = c.in-Ok-answer_on.is_well in
+    let text : List ℕ = e.2.0 ++ a.0 in (
+      e.0,
+      text,
+      e.1,
+      subst (λ (b : Bool). IsServeText g.K.Sink.takes g.K.Sink.failures g.S.Source.gives g.S.Source.failures
+          (g.W.Watch.tells c.args.watch.now) c.args.ready c.args.attached.now e.0 b text c.answer_on.new.attached)
+          (ap (λ (b : Bool). b && well) c.if-ran-2.false ∙ sym c.if-ran-2.false)
+          (answered_text g.K.Sink.takes g.K.Sink.failures g.S.Source.gives g.S.Source.failures
+          (g.W.Watch.tells c.args.watch.now) c.args.ready c.args.attached.now c.carry_session.new.attached e.0
+          c.in-Ok.ran e.2.0 e.2.1 c.answer_on.new.attached well a.0 c.if-ran.false a.1),
+      went_out_both g.O.Sink.takes g.O.Sink.failures c.args.out.now.sink c.carry_session.new.out.sink
+          c.answer_on.new.out.sink e.2.0 a.0 e.2.2 a.2,
+    )
+
+pub returns-in-Err-answer_on-clause-fault : goal.returns-in-Err-answer_on-clause-fault
+returns-in-Err-answer_on-clause-fault g c =
+    let e = c.in-Ok.ensures.ran in (
+      e.0,
+      e.1,
+      unanswered g.K.Sink.takes g.K.Sink.failures g.S.Source.gives g.S.Source.failures
+          (g.W.Watch.tells c.args.watch.now) c.args.ready c.args.attached.now c.carry_session.new.attached e.0
+          c.in-Ok.ran e.2.0 e.2.1 g.O.Sink.takes g.O.Sink.failures c.answer_on.new.attached c.args.out.now.sink
+          c.carry_session.new.out.sink c.answer_on.new.out.sink
+          (is_some c.args.script) c.from.result c.in-Err-answer_on.fault c.from.ensures c.if-ran.false e.2.2
+          c.in-Err-answer_on.ensures.fault,
+    )

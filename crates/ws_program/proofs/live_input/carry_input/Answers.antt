@@ -1,0 +1,72 @@
+use Rattle.std.proofs.Common.{◌≡◌, ◌++◌, ◌∷◌, [], Bool, List, ℕ, refl, sym, ap, ◌∙◌, subst, inl}
+use Rattle.ws_code.proofs.DeviceLaws.{went_out_none}
+use Rattle.ws_live.specs.LiveText.{HaveRun, HasRun, ran_and, ran_by}
+use Rattle.ws_live.specs.declared.live.Ran.{Ran}
+use Rattle.ws_live.proofs.LiveRuns.{goes_on, ends_here, breaks}
+use Rattle.ws_program.proofs.live_input.carry_input.Goals as goal
+
+pub loop-init : goal.loop-init
+loop-init g c = (
+  [],
+  [],
+  (refl, ap (λ (r : Ran). r.all_well) c.none-ran.ensures, refl),
+  went_out_none g.O.Sink.takes g.O.Sink.failures c.args.out.now.sink,
+  ap (λ (r : Ran). r.is_over) c.none-ran.ensures,
+  c.requires.works,
+  c.requires.empty,
+)
+
+pub returns-in-Err-carry_line-clause-fault : goal.returns-in-Err-carry_line-clause-fault
+returns-in-Err-carry_line-clause-fault g c =
+    let so_far = c.loop.invariant in
+    let lines : List g.row.L.Denot = so_far.0 ++ c.in-Some.line ∷ [] in (
+      lines,
+      inl (
+        c.in-Err-carry_line.fault,
+        breaks (g.L.LiveMove.runs (g.W.Watch.tells c.args.watch.now) c.args.paint) c.args.ready g.O.Sink.takes
+            g.O.Sink.failures c.args.attached.now c.loop.attached c.carry_line.new.attached c.args.out.now.sink
+            c.loop.out.sink c.carry_line.new.out.sink
+            so_far.0 c.in-Some.line c.loop.ran so_far.1 so_far.2 so_far.3
+            [] lines refl c.in-Err-carry_line.fault c.in-Err-carry_line.ensures.fault,
+        c.from.ensures,
+      ),
+    )
+
+pub returns-then-ran-clause-ran : goal.returns-then-ran-clause-ran
+returns-then-ran-clause-ran g c =
+    let so_far = c.loop.invariant in
+    let lines : List g.row.L.Denot = so_far.0 ++ c.in-Some.line ∷ [] in
+    let runs = g.L.LiveMove.runs (g.W.Watch.tells c.args.watch.now) c.args.paint in
+    let same : c.and-ran.result ≡ ran_and c.loop.ran (ran_by c.in-Ok-carry_line.closing) = c.and-ran.ensures
+    ∙ ap (λ (r : Ran). ran_and c.loop.ran r) c.ran.ensures in (
+      lines,
+      subst (HasRun runs c.args.ready g.O.Sink.takes g.O.Sink.failures c.args.attached.now c.carry_line.new.attached
+          c.args.out.now.sink c.carry_line.new.out.sink lines) (sym same)
+          (ends_here runs c.args.ready g.O.Sink.takes g.O.Sink.failures c.args.attached.now c.loop.attached
+          c.carry_line.new.attached c.args.out.now.sink c.loop.out.sink c.carry_line.new.out.sink
+          so_far.0 c.in-Some.line c.loop.ran so_far.1 so_far.2 so_far.3
+          [] lines refl c.in-Ok-carry_line.closing c.in-Ok-carry_line.ensures.done
+          (ap (λ (r : Ran). r.is_over) (sym same) ∙ c.if-ran.true)),
+    )
+
+pub loop-preserved : goal.loop-preserved
+loop-preserved g c =
+    let so_far = c.loop.invariant in
+    let lines : List g.row.L.Denot = so_far.0 ++ c.in-Some.line ∷ [] in
+    let runs = g.L.LiveMove.runs (g.W.Watch.tells c.args.watch.now) c.args.paint in
+    let same : c.and-ran.result ≡ ran_and c.loop.ran (ran_by c.in-Ok-carry_line.closing) = c.and-ran.ensures
+    ∙ ap (λ (r : Ran). ran_and c.loop.ran r) c.ran.ensures in
+    let going = ap (λ (r : Ran). r.is_over) (sym same) ∙ c.if-ran.false in
+    let more = goes_on runs c.args.ready g.O.Sink.takes g.O.Sink.failures c.args.attached.now c.loop.attached
+    c.carry_line.new.attached c.args.out.now.sink c.loop.out.sink c.carry_line.new.out.sink
+    so_far.0 c.in-Some.line c.loop.ran so_far.1 so_far.2 so_far.3 c.in-Ok-carry_line.closing
+    c.in-Ok-carry_line.ensures.done going in (
+      lines,
+      more.0,
+      subst (λ (b : Bool). HaveRun runs c.args.ready c.args.attached.now lines b more.0 c.carry_line.new.attached)
+          (ap (λ (r : Ran). r.all_well) (sym same)) more.1,
+      more.2,
+      c.if-ran.false,
+      c.in-Ok-carry_line.ensures.works going,
+      c.carry_line.ensures.held,
+    )

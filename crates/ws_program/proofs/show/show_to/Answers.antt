@@ -1,0 +1,6 @@
+use Rattle.std.proofs.Common.{arith}
+use Rattle.ws_program.proofs.ReadBack.{shows_items}
+use Rattle.ws_program.proofs.show.show_to.Goals as goal
+
+pub returns-clause-read_back : goal.returns-clause-read_back
+returns-clause-read_back g c = λ text s. shows_items c.args.bytes.now text (omega arith) s

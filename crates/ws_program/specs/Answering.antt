@@ -1,0 +1,145 @@
+-- What the program makes of an input: what it writes, and what it answers where that isn't all.
+
+use Rattle.std.specs.Prelude.{◌≡◌, ◌≢◌, ℕ, List, Bool, true, false, Result, Ok, Err, IsErr, ◌⊎◌, length}
+use Rattle.hex.specs.Hex.{decode_of}
+use Rattle.ws_code.specs.Code.{Rules}
+use Rattle.ws_code.specs.Device.{MayTake, WentOut, FailedWithin}
+use Rattle.ws_code.specs.declared.fault.Fault.{Fault}
+use Rattle.ws_code.specs.declared.fault.Fault.TheVariants as device
+use Rattle.ws_stream.specs.Elements.{element_rules}
+use Rattle.ws_stream.specs.AnswerParts.{answer_rules}
+use Rattle.ws_program.specs.HexText.{IsHexOf, without_blanks}
+use Rattle.ws_program.specs.CheckLine.{IsVerdict, is_accepted, line_of}
+use Rattle.ws_program.specs.Checking.{IsCheckFault}
+use Rattle.ws_text.specs.AnswerWords.{answer_wording}
+use Rattle.ws_text.specs.ElementWords.{element_wording}
+use Rattle.ws_text.specs.Shown.{Shows, ShowsAnswers}
+use Rattle.ws_program.specs.Making.{HasMade, IsMakeFault}
+use Rattle.ws_program.specs.StreamText.{View, IsShown, IsShowFault}
+use Rattle.ws_program.specs.Views.{painted_host_view, answer_view}
+use Rattle.ws_live.specs.declared.paint.Paint.{Paint}
+use Rattle.ws_program.specs.declared.command_line.Asked.{Asked}
+use Rattle.ws_program.specs.declared.command_line.Asked.TheVariants.{Check, Show, Play, Make}
+use Rattle.ws_program.specs.declared.fault.RunFault.{RunFault}
+use Rattle.ws_program.specs.declared.fault.RunFault.TheVariants.{Read, NotHex, Line, Memory, Write, NoConnection}
+use Rattle.ws_program.specs.declared.verdict.Verdict.{Verdict}
+use Rattle.ws_nego.specs.declared.terminal.TerminalType.TheVariants.{Ibm3179Model2}
+use Rattle.ws_session.specs.declared.world.Move.{Move}
+use Rattle.ws_session.specs.Crossings.{Crossing}
+use Rattle.ws_session.specs.TwoLines.{TwoEnds, HasRun}
+use Rattle.ws_session.specs.World.{World, new_world, after_moves}
+use Rattle.ws_session.specs.StationSide.{screen_at}
+use Rattle.ws_live.specs.Script.{IsScript, IsFirstBad}
+use Rattle.ws_live.specs.PlayLines.{IsPaintedPlayText, no_end_refuses}
+
+-- bytes are read in pieces, which aren't empty
+abbrev pub HasPieces : Asked → Type 0
+HasPieces (Check file cut answers) = cut ≢ 0
+HasPieces asked = Unit {0}
+
+-- what is told of a session, and its screen in a paint where it is asked for
+abbrev pub IsSessionText : Paint → World → Bool → List ℕ → Type 0
+IsSessionText paint w screen text = IsPaintedPlayText paint w.events (screen_at w.station) screen text
+
+-- What is told of a session of these moves whose bytes go over a connection, and whether no end refuses in it. What a
+-- connection does isn't known: some pieces crossed it, and what came out of it arrived.
+pub record IsToldText (paint : Paint) (moves : List Move) (screen all_well : Bool) (text : List ℕ) : Type 0 where
+  pub downs : List Crossing
+  pub ups : List Crossing
+  pub now : TwoEnds
+  pub ran : HasRun Ibm3179Model2 moves downs ups now
+  pub told : IsPaintedPlayText paint now.events now.station.screen screen text
+  pub well : all_well ≡ no_end_refuses now.events
+
+module _ {S : Type 0} (takes : MayTake S) (failures : S → ℕ) (from to : S) where
+  -- the line of a check went out
+  abbrev pub HasChecked : {Place U : Type 0} → Rules Place U → List ℕ → Bool → Type 0
+  HasChecked rules bytes accepted = (verdict : Verdict) × IsVerdict rules bytes verdict
+      × (accepted ≡ is_accepted verdict) × WentOut takes failures from to (line_of verdict (length bytes))
+
+  -- what is shown of a stream went out
+  abbrev pub HasShown : {Place U : Type 0} → Rules Place U → View U → List ℕ → Bool → Type 0
+  HasShown rules view bytes accepted = (text : List ℕ) × IsShown rules view bytes accepted text
+      × WentOut takes failures from to text
+
+  -- what a session tells after a script's moves went out; its terminal is the default one
+  abbrev pub HasPlayed : Paint → Bool → List ℕ → Bool → Type 0
+  HasPlayed paint screen script all_well = (moves : List Move) × IsScript script moves × (text : List ℕ)
+      × IsSessionText paint (after_moves (new_world Ibm3179Model2) moves) screen text
+      × WentOut takes failures from to text
+      × (all_well ≡ no_end_refuses (after_moves (new_world Ibm3179Model2) moves).events)
+
+  -- a script was played over a connection, and what is told of its session went out
+  abbrev pub HasPlayedByTcp : Paint → Bool → List ℕ → Bool → Type 0
+  HasPlayedByTcp paint screen script all_well = (moves : List Move) × IsScript script moves
+      × (text : List ℕ) × IsToldText paint moves screen all_well text × WentOut takes failures from to text
+
+  -- the program did what it was asked for with its input: with the commands of a host, or the answers of a
+  -- station, that a hex text tells, with a script, or with items as text
+  abbrev pub HasAnswered : Asked → List ℕ → Bool → Type 0
+  HasAnswered (Check file cut false) input accepted = (bytes : List ℕ) × IsHexOf bytes input
+      × HasChecked element_rules bytes accepted
+  HasAnswered (Check file cut true) input accepted = (bytes : List ℕ) × IsHexOf bytes input
+      × HasChecked answer_rules bytes accepted
+  HasAnswered (Show file false paint) input accepted = (bytes : List ℕ) × IsHexOf bytes input
+      × HasShown element_rules (painted_host_view paint) bytes accepted
+  HasAnswered (Show file true paint) input accepted = (bytes : List ℕ) × IsHexOf bytes input
+      × HasShown answer_rules answer_view bytes accepted
+  HasAnswered (Play file screen false paint) input accepted = HasPlayed paint screen input accepted
+  HasAnswered (Play file screen true paint) input accepted = HasPlayedByTcp paint screen input accepted
+  HasAnswered (Make file false) input accepted =
+      HasMade element_rules element_wording Shows takes failures from to input accepted
+  HasAnswered (Make file true) input accepted =
+      HasMade answer_rules answer_wording ShowsAnswers takes failures from to input accepted
+
+  -- what is answered of a hex text where a command answers such faults of its bytes
+  abbrev pub IsHexFault : (List ℕ → Fault → Type 0) → List ℕ → RunFault → Type 0
+  IsHexFault IsFault input NotHex = (to ≡ from) × IsErr (decode_of (without_blanks input))
+  IsHexFault IsFault input Memory = (bytes : List ℕ) × IsHexOf bytes input
+      × ((to ≡ from) ⊎ IsFault bytes device.Memory)
+  IsHexFault IsFault input Write = (bytes : List ℕ) × IsHexOf bytes input × IsFault bytes device.Write
+  IsHexFault IsFault input fault = ⊥
+
+  -- what is answered of a script that isn't played, or whose lines don't go out
+  abbrev pub IsPlayFault : Paint → Bool → List ℕ → RunFault → Type 0
+  IsPlayFault paint screen script (Line number) = (to ≡ from) × IsFirstBad script number
+  IsPlayFault paint screen script Memory = to ≡ from
+  IsPlayFault paint screen script Write = (moves : List Move) × IsScript script moves × (text : List ℕ)
+      × IsSessionText paint (after_moves (new_world Ibm3179Model2) moves) screen text
+      × FailedWithin takes failures from to text
+  IsPlayFault paint screen script fault = ⊥
+
+  -- the same over a connection: it may fail where the script is good, and then nothing was written
+  abbrev pub IsTcpPlayFault : Paint → Bool → List ℕ → RunFault → Type 0
+  IsTcpPlayFault paint screen script (Line number) = (to ≡ from) × IsFirstBad script number
+  IsTcpPlayFault paint screen script Memory = to ≡ from
+  IsTcpPlayFault paint screen script NoConnection = (to ≡ from) × ((moves : List Move) × IsScript script moves)
+  IsTcpPlayFault paint screen script Read = (to ≡ from) × ((moves : List Move) × IsScript script moves)
+  IsTcpPlayFault paint screen script Write = (moves : List Move) × IsScript script moves
+      × ((to ≡ from)
+      ⊎ ((all_well : Bool) × (text : List ℕ) × IsToldText paint moves screen all_well text
+      × FailedWithin takes failures from to text))
+  IsTcpPlayFault paint screen script fault = ⊥
+
+  -- what the program answers where it didn't do all that it was asked for
+  abbrev pub IsAnswerFault : Asked → List ℕ → RunFault → Type 0
+  IsAnswerFault (Check file cut false) input fault = IsHexFault
+      (IsCheckFault element_rules takes failures from to) input fault
+  IsAnswerFault (Check file cut true) input fault = IsHexFault
+      (IsCheckFault answer_rules takes failures from to) input fault
+  IsAnswerFault (Show file false paint) input fault = IsHexFault
+      (IsShowFault takes failures from to element_rules (painted_host_view paint)) input fault
+  IsAnswerFault (Show file true paint) input fault = IsHexFault
+      (IsShowFault takes failures from to answer_rules answer_view) input fault
+  IsAnswerFault (Play file screen false paint) input fault = IsPlayFault paint screen input fault
+  IsAnswerFault (Play file screen true paint) input fault = IsTcpPlayFault paint screen input fault
+  IsAnswerFault (Make file false) input fault =
+      IsMakeFault element_rules element_wording Shows takes failures from to input fault
+  IsAnswerFault (Make file true) input fault =
+      IsMakeFault answer_rules answer_wording ShowsAnswers takes failures from to input fault
+
+-- the exit status: 0 where all was accepted, 1 where it wasn't, 2 on a fault
+abbrev pub status_of : {E : Type 0} → Result Bool E → ℕ
+status_of (Ok true) = 0
+status_of (Ok false) = 1
+status_of (Err fault) = 2

@@ -1,0 +1,51 @@
+-- How a check counts the items that come, and what it answers where it prints no line.
+
+use Rattle.std.specs.Prelude.{◌≡◌, ℕ, ◌+◌, ◌-◌, ◌^◌, ◌≤◌, min, List, length}
+use Rattle.ws_code.specs.Code.{Rules}
+use Rattle.ws_code.specs.Device.{MayTake}
+use Rattle.ws_code.specs.declared.fault.Fault.{Fault}
+use Rattle.ws_record.specs.declared.record.Item.{Item}
+use Rattle.ws_record.specs.declared.news.News.{News}
+use Rattle.ws_record.specs.declared.news.News.TheVariants.{Close, Command, Option, Sub}
+use Rattle.ws_record.specs.Live.{Watching, Leads}
+use Rattle.ws_record.specs.OpenRecord.{RecordSoFar}
+use Rattle.ws_program.specs.declared.check.Tally.{Tally}
+use Rattle.ws_program.specs.declared.verdict.Verdict.{Verdict}
+use Rattle.ws_program.specs.CheckLine.{IsVerdict, line_of, record_count, command_count}
+use Rattle.ws_text.specs.Printing.{IsTextFault}
+
+-- the tally after one record more, and after one Telnet command more
+abbrev pub one_record : Tally → Tally
+one_record tally = record tally { records = min (tally.records + 1) (2 ^ 64 - 1) }
+
+-- a tally with one more Telnet command in it; the count stays at the highest number that it can hold
+abbrev pub one_command : Tally → Tally
+one_command tally = record tally { commands = min (tally.commands + 1) (2 ^ 64 - 1) }
+
+-- the tally after the news of a front
+abbrev pub tally_after : Tally → News → Tally
+tally_after tally (Close head) = one_record tally
+tally_after tally (Command code) = one_command tally
+tally_after tally (Option verb option) = one_command tally
+tally_after tally Sub = one_command tally
+tally_after tally news = tally
+
+-- the bytes lead to the decoder, and the tally is of their items
+pub record Counts {Place U : Type 0} (rules : Rules Place U) (live : Watching Place) (tally : Tally)
+    (bytes : List ℕ) : Type 0 where
+  pub items : List (Item U)
+  pub so_far : RecordSoFar U
+  pub leads : Leads rules live bytes items so_far
+  pub records : tally.records ≡ record_count items
+  pub commands : tally.commands ≡ command_count items
+  pub few : tally.records + tally.commands ≤ length bytes
+
+-- the line of what holds of the bytes
+abbrev pub IsCheckText : {Place U : Type 0} → Rules Place U → List ℕ → List ℕ → Type 0
+IsCheckText rules bytes text = (verdict : Verdict) × IsVerdict rules bytes verdict
+    × (text ≡ line_of verdict (length bytes))
+
+-- what a check answers where it doesn't print its line: nothing went out, or a part of the line
+abbrev pub IsCheckFault : {Place U S : Type 0} → Rules Place U → MayTake S → (S → ℕ) → S → S → List ℕ → Fault → Type 0
+IsCheckFault rules takes failures from to bytes fault = IsTextFault takes failures from to
+    (IsCheckText rules bytes) fault

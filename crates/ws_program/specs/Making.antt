@@ -1,0 +1,49 @@
+-- A stream as hex text: what `make` writes of the items that a text spells.
+
+use Rattle.std.specs.Prelude.{◌≡◌, ℕ, List, [], ◌∷◌, ◌++◌, Bool, true}
+use Rattle.std.specs.List.{flat_map}
+use Rattle.hex.specs.Hex.{encode_upper}
+use Rattle.ws_code.specs.Code.{Rules}
+use Rattle.ws_code.specs.Device.{MayTake, WentOut, FailedWithin}
+use Rattle.ws_record.specs.Encode.{plain_spelling}
+use Rattle.ws_record.specs.declared.record.Item.{Item}
+use Rattle.ws_text.specs.Items.{AreItems, IsTextFault}
+use Rattle.ws_text.specs.Wording.{Wording}
+use Rattle.ws_text.specs.declared.items.TextFault.TheVariants as items
+use Rattle.ws_program.specs.declared.fault.RunFault.{RunFault}
+use Rattle.ws_program.specs.declared.fault.RunFault.TheVariants.{Line, Memory, Write}
+
+module _ {Place U : Type 0} (rules : Rules Place U) where
+  -- an item's line: its plain spelling in upper case hex (RFC 1205, section 3; RFC 854; RFC 885)
+  abbrev pub made_line : Item U → List ℕ
+  made_line item = encode_upper (plain_spelling rules (item ∷ [])) ++ 10 ∷ []
+
+  -- the lines of items
+  abbrev pub made_text : List (Item U) → List ℕ
+  made_text items = flat_map made_line items
+
+-- Of an end whose units are written so: texts may show its items, as `show` prints them.
+module _ {Place U : Type 0} (rules : Rules Place U) (w : Wording U) (IsShowing : List ℕ → List (Item U) → Type 0) where
+  -- the items that a text spells; where it shows items, they are these
+  abbrev pub AreTold : List ℕ → List (Item U) → Type 0
+  AreTold text items = AreItems rules w text items × ((shown : List (Item U)) → IsShowing text shown → items ≡ shown)
+
+  -- the first bad line of a text, which shows no items
+  abbrev pub IsBadLine : List ℕ → ℕ → Type 0
+  IsBadLine text number = IsTextFault rules w text (items.Line number)
+      × ((shown : List (Item U)) → ¬ IsShowing text shown)
+
+  module _ {S : Type 0} (takes : MayTake S) (failures : S → ℕ) (from to : S) where
+    -- the stream of the items that a text spells went out
+    abbrev pub HasMade : List ℕ → Bool → Type 0
+    HasMade text accepted = (items : List (Item U)) × AreTold text items
+        × WentOut takes failures from to (made_text rules items) × (accepted ≡ true)
+
+    -- What is answered where it didn't: a bad line, or want of memory, before anything was written; or the sink
+    -- failed.
+    abbrev pub IsMakeFault : List ℕ → RunFault → Type 0
+    IsMakeFault text (Line number) = (to ≡ from) × IsBadLine text number
+    IsMakeFault text Memory = to ≡ from
+    IsMakeFault text Write = (items : List (Item U)) × AreTold text items
+        × FailedWithin takes failures from to (made_text rules items)
+    IsMakeFault text fault = ⊥

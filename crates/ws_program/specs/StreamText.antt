@@ -1,0 +1,162 @@
+-- What is shown of a stream: the lines of its items, and what stands behind them: a screen, or the line of a refusal.
+
+use Rattle.std.specs.Prelude.{◌≡◌, ℕ, ◌+◌, ◌<◌, List, [], ◌∷◌, ◌++◌, ◌⊎◌, Bool, true, false, Option, None, Some, IfSome}
+use Rattle.std.specs.Prelude.{Result, Ok, Err}
+use Rattle.std.specs.Prelude.{length, take, map}
+use Rattle.std.specs.List.{flat_map}
+use Rattle.ws_code.specs.Code.{Rules, IsChain}
+use Rattle.ws_code.specs.Device.{MayTake, WentOut, FailedWithin}
+use Rattle.ws_code.specs.declared.fault.Fault.{Fault}
+use Rattle.ws_code.specs.declared.fault.Fault.TheVariants.{Memory, Write}
+use Rattle.ws_code.specs.declared.fault.Fault.TheVariants as faults
+use Rattle.ws_code.specs.declared.reason.Reason.{Reason}
+use Rattle.ws_record.specs.Grammar.{Holds, IsInGrammar}
+use Rattle.ws_record.specs.Refusal.{Layer, IsOpen, IsRefused, IsTruncated}
+use Rattle.ws_record.specs.Receiver.{Receiving, HasReceived}
+use Rattle.ws_record.specs.declared.record.Item.{Item}
+use Rattle.ws_record.specs.declared.record.Item.TheVariants.{Record as RecordItem, Telnet as TelnetItem}
+use Rattle.ws_program.specs.CheckLine.{line_of, is_accepted}
+use Rattle.ws_program.specs.declared.verdict.Verdict.{Verdict}
+use Rattle.ws_program.specs.declared.verdict.Verdict.TheVariants.{Refused, Truncated}
+
+-- How items of some body are shown: an item's lines, why one isn't carried out behind others, and what stands behind
+-- all of them where the stream is accepted.
+pub record View (U : Type 0) : Type 1 where
+  pub lines : ℕ → Item U → List ℕ
+  pub fault : List (Item U) → Item U → Option Reason
+  pub Ends : List (Item U) → List ℕ → Type 0
+
+-- an item with the place of its last byte
+abbrev pub Placed : Type 0 → Type 0
+Placed U = ℕ × Item U
+
+module _ {U : Type 0} where
+  -- the items without their places
+  abbrev pub items_of : List (Placed U) → List (Item U)
+  items_of placed = map (λ x. x.1) placed
+
+  -- the lines of items, one after another
+  abbrev pub lines_of : View U → List (Placed U) → List ℕ
+  lines_of view placed = flat_map (λ x. view.lines x.0 x.1) placed
+
+  -- the lines of the first items, the last of which may not be carried out
+  abbrev pub lines_with : View U → List (Placed U) → Option (Placed U) → List ℕ
+  lines_with view placed None = lines_of view placed
+  lines_with view placed (Some x) = lines_of view placed ++ view.lines x.0 x.1
+
+module _ {Place U : Type 0} where
+  -- the bytes hold the items, and perhaps a part of one more
+  abbrev pub HoldsItems : Rules Place U → List ℕ → List (Item U) → Type 0
+  HoldsItems rules bytes items = (so_far : List ℕ) × (begun : List ℕ) × Holds rules bytes items so_far begun
+
+  -- behind the items before, the item is complete with the byte at its place, and not before, and no layer refuses
+  -- a byte up to that one
+  pub record IsComplete (rules : Rules Place U) (bytes : List ℕ) (before : List (Item U)) (x : Placed U)
+      : Type 0 where
+    pub within : x.0 < length bytes
+    pub opened : (layer : Layer) → IsOpen rules layer (take (x.0 + 1) bytes)
+    pub not_before : HoldsItems rules (take x.0 bytes) before
+    pub with_it : HoldsItems rules (take (x.0 + 1) bytes) (before ++ x.1 ∷ [])
+
+  -- the units of a record's body may stand one after another
+  abbrev pub IsWholeItem : Rules Place U → Item U → Type 0
+  IsWholeItem rules (RecordItem r) = IsChain rules rules.first r.body
+  IsWholeItem rules (TelnetItem telnet) = Unit {0}
+
+  -- each of the items is, one after another, and each is carried out
+  abbrev pub AreShown : Rules Place U → View U → List ℕ → List (Item U) → List (Placed U) → Type 0
+  AreShown rules view bytes before [] = Unit {0}
+  AreShown rules view bytes before (x ∷ xs) = IsComplete rules bytes before x × (view.fault before x.1 ≡ None)
+      × AreShown rules view bytes (before ++ x.1 ∷ []) xs
+
+  -- The ends. The bytes are accepted, and what stands behind all items is shown.
+  abbrev pub IsAcceptedEnd : Rules Place U → View U → List ℕ → List (Placed U) → List ℕ → Type 0
+  IsAcceptedEnd rules view bytes placed text = IsInGrammar rules bytes (items_of placed)
+      × view.Ends (items_of placed) text
+
+  -- A byte is refused behind the items.
+  abbrev pub IsRefusedEnd : Rules Place U → List ℕ → List (Placed U) → List ℕ → Type 0
+  IsRefusedEnd rules bytes placed text = (place : ℕ) × (reason : Reason) × IsRefused rules bytes place reason
+      × HoldsItems rules (take place bytes) (items_of placed)
+      × (text ≡ line_of (Refused place reason) (length bytes))
+
+  -- The bytes end too early behind them.
+  abbrev pub IsTruncatedEnd : Rules Place U → List ℕ → List (Placed U) → List ℕ → Type 0
+  IsTruncatedEnd rules bytes placed text = IsTruncated rules bytes × HoldsItems rules bytes (items_of placed)
+      × (text ≡ line_of (Truncated (length bytes)) (length bytes))
+
+  -- The next item isn't carried out, and is shown too.
+  abbrev pub IsUnappliedEnd : Rules Place U → View U → List ℕ → List (Placed U) → List ℕ → Type 0
+  IsUnappliedEnd rules view bytes placed text = (x : Placed U) × (reason : Reason)
+      × IsComplete rules bytes (items_of placed) x × (view.fault (items_of placed) x.1 ≡ Some reason)
+      × (text ≡ view.lines x.0 x.1 ++ line_of (Refused x.0 reason) (length bytes))
+
+  -- what stands behind the items: that of an accepted stream, or the line of one that is not
+  abbrev pub IsEnd : Rules Place U → View U → List ℕ → List (Placed U) → Bool → List ℕ → Type 0
+  IsEnd rules view bytes placed true text = IsAcceptedEnd rules view bytes placed text
+  IsEnd rules view bytes placed false text = IsRefusedEnd rules bytes placed text
+      ⊎ (IsTruncatedEnd rules bytes placed text ⊎ IsUnappliedEnd rules view bytes placed text)
+
+  -- the whole text
+  pub record IsShown (rules : Rules Place U) (view : View U) (bytes : List ℕ) (accepted : Bool) (text : List ℕ)
+      : Type 0 where
+    pub placed : List (Placed U)
+    pub shown : AreShown rules view bytes [] placed
+    pub end : List ℕ
+    pub ends : IsEnd rules view bytes placed accepted end
+    pub lines : text ≡ lines_of view placed ++ end
+
+  -- the lines of the first items, perhaps with one more that is complete
+  pub record AreFirstLines (rules : Rules Place U) (view : View U) (bytes : List ℕ) (text : List ℕ) : Type 0 where
+    pub placed : List (Placed U)
+    pub shown : AreShown rules view bytes [] placed
+    pub last : Option (Placed U)
+    pub complete : IfSome last (IsComplete rules bytes (items_of placed))
+    pub lines : text ≡ lines_with view placed last
+
+  -- a receiver has taken the first of the bytes, and has given these items
+  abbrev pub HasTaken : Rules Place U → List ℕ → Receiving Place U → List (Item U) → Type 0
+  HasTaken rules bytes receiver items = HasReceived rules receiver (take receiver.live.taken bytes) items
+
+  -- a receiver that has taken the first of the bytes
+  abbrev pub HasBegun : Rules Place U → List ℕ → Receiving Place U → Type 0
+  HasBegun rules bytes receiver = (items : List (Item U)) × HasTaken rules bytes receiver items
+
+  -- the item is complete next, and the receiver has taken the bytes up to its last one
+  pub record IsNextItem (rules : Rules Place U) (bytes : List ℕ) (items : List (Item U))
+      (old new : Receiving Place U) (x : Placed U) : Type 0 where
+    pub complete : IsComplete rules bytes items x
+    pub further : old.live.taken < new.live.taken
+    pub taken : HasTaken rules bytes new (items ++ x.1 ∷ [])
+
+  -- what comes next: an item, or none in all the bytes
+  abbrev pub IsNext : Rules Place U → List ℕ → Receiving Place U → Receiving Place U → Option (Placed U) → Type 0
+  IsNext rules bytes old new None = (items : List (Item U)) → HasTaken rules bytes old items
+      → HasReceived rules new bytes items
+  IsNext rules bytes old new (Some x) = (items : List (Item U)) → HasTaken rules bytes old items
+      → IsNextItem rules bytes items old new x
+
+  -- why nothing comes next: a byte is refused, before which no item more is complete, or a growth was
+  abbrev pub IsNextFault : Rules Place U → List ℕ → Receiving Place U → Fault → Type 0
+  IsNextFault rules bytes old (faults.Refused place reason) = IsRefused rules bytes place reason
+      × ((items : List (Item U)) → HasTaken rules bytes old items → HoldsItems rules (take place bytes) items)
+  IsNextFault rules bytes old Memory = Unit {0}
+  IsNextFault rules bytes old fault = ⊥
+
+  module _ {S : Type 0} (takes : MayTake S) (failures : S → ℕ) (from to : S) (rules : Rules Place U)
+      (view : View U) where
+    -- what is answered where not all is shown: the first lines went out, or a part of them
+    abbrev pub IsShowFault : List ℕ → Fault → Type 0
+    IsShowFault bytes Memory = (text : List ℕ) × AreFirstLines rules view bytes text
+        × WentOut takes failures from to text
+    IsShowFault bytes Write = (text : List ℕ) × (AreFirstLines rules view bytes text
+        ⊎ ((accepted : Bool) × IsShown rules view bytes accepted text)) × FailedWithin takes failures from to text
+    IsShowFault bytes fault = ⊥
+
+    -- what is answered where not all items are carried out: the items' lines went out, and the line of a verdict
+    -- goes on behind them, or there was a fault
+    abbrev pub IsStop : List ℕ → Result Verdict Fault → Type 0
+    IsStop bytes (Ok verdict) = (is_accepted verdict ≡ false) × ((lines : List ℕ) × AreFirstLines rules view bytes lines
+        × WentOut takes failures from to lines
+        × IsShown rules view bytes false (lines ++ line_of verdict (length bytes)))
+    IsStop bytes (Err fault) = IsShowFault bytes fault

@@ -1,0 +1,66 @@
+-- How the items of a host and those of a station are shown.
+
+use Rattle.std.specs.Prelude.{◌≡◌, ℕ, List, [], ◌∷◌, Option, None}
+use Rattle.ws_code.specs.declared.reason.Reason.{Reason}
+use Rattle.ws_record.specs.declared.record.Item.{Item}
+use Rattle.ws_record.specs.declared.record.Item.TheVariants.{Record as RecordItem, Telnet as TelnetItem}
+use Rattle.ws_stream.specs.declared.element.Element.{Element}
+use Rattle.ws_stream.specs.declared.answer_part.AnswerPart.{AnswerPart}
+use Rattle.ws_screen.specs.Bodies.{body_fault}
+use Rattle.ws_screen.specs.Events.{History}
+use Rattle.ws_screen.specs.Given.{Gives}
+use Rattle.ws_screen.specs.ScreenParts.{ScreenParts}
+use Rattle.ws_session.specs.StationSide.{after_record}
+use Rattle.ws_text.specs.AnswerLines.{answer_text}
+use Rattle.ws_text.specs.ItemLines.{item_text}
+use Rattle.ws_live.specs.ScreenLines.{IsScreenText}
+use Rattle.ws_live.specs.declared.paint.Paint.{Paint}
+use Rattle.ws_live.specs.declared.paint.Paint.TheVariants.{Plain}
+use Rattle.ws_program.specs.StreamText.{View}
+
+-- the events so far and those of an item: a record is applied as a station does, a Telnet command has no effect
+abbrev pub after_item : History → Item Element → History
+after_item h (RecordItem r) = after_record h r
+after_item h (TelnetItem telnet) = h
+
+-- why the screen refuses an item
+abbrev pub item_fault : History → Item Element → Option Reason
+item_fault h (RecordItem r) = body_fault h r.body
+item_fault h (TelnetItem telnet) = None
+
+-- the events so far and those of the items
+abbrev pub after_items : History → List (Item Element) → History
+after_items h [] = h
+after_items h (x ∷ xs) = after_items (after_item h x) xs
+
+-- a screen that the items give, where no write is open
+abbrev pub MakesScreen : List (Item Element) → ScreenParts → Type 0
+MakesScreen items screen = Gives (after_items [] items) screen × (screen.writing ≡ None)
+
+-- what stands behind the items of a host: the screen that they give
+abbrev pub IsScreenEnd : Paint → List (Item Element) → List ℕ → Type 0
+IsScreenEnd paint items text = (s : ScreenParts) × Gives (after_items [] items) s × IsScreenText paint s text
+
+-- a host's items, and the screen behind them in a paint
+abbrev pub painted_host_view : Paint → View Element
+painted_host_view paint = record {
+  lines = item_text;
+  fault = λ before item. item_fault (after_items [] before) item;
+  Ends = IsScreenEnd paint;
+}
+
+-- the same in plain text
+abbrev pub host_view : View Element
+host_view = painted_host_view Plain
+
+-- nothing stands behind a station's answers
+abbrev pub IsNoEnd : List (Item AnswerPart) → List ℕ → Type 0
+IsNoEnd items text = text ≡ []
+
+-- a station's answers
+abbrev pub answer_view : View AnswerPart
+answer_view = record { lines = answer_text; fault = λ _ _. None; Ends = IsNoEnd }
+
+-- the same items, with what stands behind them in a paint
+abbrev pub in_paint : {U : Type 0} → View U → (Paint → List (Item U) → List ℕ → Type 0) → Paint → View U
+in_paint view Ends paint = record { lines = view.lines; fault = view.fault; Ends = Ends paint }

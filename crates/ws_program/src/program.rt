@@ -1,0 +1,228 @@
+ghost use Rattle.std.specs.Prelude.{◌≡◌, ◌≢◌, [], IfOk, IfErr};
+ghost use Rattle.ws_stream.specs.AnswerParts.{answer_rules};
+ghost use Rattle.ws_stream.specs.Elements.{element_rules};
+ghost use Rattle.ws_program.specs.Answering.{HasPieces, HasAnswered, HasChecked, HasShown, HasPlayed, HasPlayedByTcp, IsAnswerFault, IsHexFault, IsPlayFault, IsTcpPlayFault, status_of};
+ghost use Rattle.ws_text.specs.AnswerWords.{answer_wording};
+ghost use Rattle.ws_text.specs.ElementWords.{element_wording};
+ghost use Rattle.ws_text.specs.Shown.{Shows, ShowsAnswers};
+ghost use Rattle.ws_program.specs.HexText.{IsHexOf};
+ghost use Rattle.ws_program.specs.Checking.{IsCheckFault};
+ghost use Rattle.ws_program.specs.Making.{HasMade, IsMakeFault};
+ghost use Rattle.ws_program.specs.StreamText.{IsShowFault};
+ghost use Rattle.ws_program.specs.Views.{painted_host_view, answer_view};
+ghost use Rattle.std.specs.Prelude.{List as Seq, ℕ};
+
+use crate::check::check_to;
+use crate::command_line::Asked;
+use crate::fault::RunFault;
+use crate::hex_text::hex_bytes;
+use crate::make::make_to;
+use crate::show::{show_answers_to, show_painted_to};
+use crate::tcp::play_tcp;
+use std::alloc::Global;
+use std::net::{Net, TcpListener, TcpStream};
+use ws_code::{Body, Sink};
+use ws_live::{BufferedSink, Paint, play_painted_to, read_script};
+use ws_nego::TerminalType;
+use ws_session::World;
+use ws_stream::{Answers, Commands};
+use ws_text::{read_answer_items, read_items};
+
+/// Does what the program was asked for with the whole of its input: true where all was accepted.
+///
+/// What is asked for by `asked` is written to the sink; a file that it names was read before. `NotHex` comes
+/// where the input had to be hex text and isn't, `Line` where a line of a script or of items as text is bad,
+/// `NoConnection` or `Read` where a script was to be played over a connection and can't, and then nothing was
+/// written; `Memory` where a growth was refused, and `Write` where the sink failed, or the connection, and then the
+/// first part of the text may have gone out.
+pub fn answer<R: Net<Listener = TcpListener, Stream = TcpStream>, S: Sink>(
+    rt: &R,
+    alloc: Global,
+    asked: Asked<'_>,
+    text: &[u8],
+    sink: &mut S,
+) -> Result<bool, RunFault>
+    requires { HasPieces asked }
+    ensures done { IfOk result (λ accepted.
+        HasAnswered S.takes S.failures sink.old sink.new asked.entry text.now accepted) }
+    ensures fault { IfErr result (λ fault.
+        IsAnswerFault S.takes S.failures sink.old sink.new asked.entry text.now fault) }
+{
+    match asked {
+        Asked::Check { cut, answers, .. } => {
+            if answers {
+                check_text::<Answers, S>(alloc, text, cut, sink)
+            } else {
+                check_text::<Commands, S>(alloc, text, cut, sink)
+            }
+        }
+        Asked::Show { answers, paint, .. } => {
+            if answers {
+                show_answers_text(alloc, text, sink)
+            } else {
+                show_text(alloc, text, paint, sink)
+            }
+        }
+        Asked::Play {
+            screen,
+            tcp,
+            paint,
+            ..
+        } => {
+            if tcp {
+                play_script_by_tcp(rt, alloc, text, screen, paint, sink)
+            } else {
+                play_script(alloc, text, screen, paint, sink)
+            }
+        }
+        Asked::Make { answers, .. } => {
+            if answers {
+                make_answers_stream(alloc, text, sink)
+            } else {
+                make_stream(alloc, text, sink)
+            }
+        }
+    }
+}
+
+/// Does the same, and hands on what the buffer before the sink holds at the end, also behind a fault.
+///
+/// `Write` comes where the sink failed, at the end too.
+pub fn answer_buffered<R: Net<Listener = TcpListener, Stream = TcpStream>, S: Sink>(
+    rt: &R,
+    alloc: Global,
+    asked: Asked<'_>,
+    text: &[u8],
+    sink: &mut BufferedSink<S>,
+) -> Result<bool, RunFault>
+    requires pieces { HasPieces asked }
+    requires empty { sink.old.held ≡ [] }
+    ensures done { IfOk result (λ accepted. HasAnswered
+        S.takes S.failures sink.old.sink sink.new.sink asked.entry text.now accepted) }
+    ensures fault { IfErr result (λ fault. IsAnswerFault
+        S.takes S.failures sink.old.sink sink.new.sink asked.entry text.now fault) }
+{
+    let outcome = answer(rt, alloc, asked, text, sink);
+    match sink.flush() {
+        Ok(()) => outcome,
+        Err(_) => Err(RunFault::Write),
+    }
+}
+
+// Writes the line of a check of the bytes that a hex text tells.
+fn check_text<B: Body, S: Sink>(
+    alloc: Global,
+    text: &[u8],
+    cut: u16,
+    sink: &mut S,
+) -> Result<bool, RunFault>
+    requires { cut ≢ 0 }
+    ensures done { IfOk result (λ accepted. (bytes : Seq ℕ) × IsHexOf bytes text.now
+        × HasChecked S.takes S.failures sink.old sink.new B.rules bytes accepted) }
+    ensures fault { IfErr result (IsHexFault S.takes S.failures sink.old sink.new
+        (IsCheckFault B.rules S.takes S.failures sink.old sink.new) text.now) }
+{
+    let bytes = hex_bytes(alloc, text)?;
+    Ok(check_to::<B, S>(alloc, bytes.as_slice(), cut, sink)?)
+}
+
+// Writes what is shown of the bytes that a hex text tells, as a host's.
+fn show_text<S: Sink>(
+    alloc: Global,
+    text: &[u8],
+    paint: Paint,
+    sink: &mut S,
+) -> Result<bool, RunFault>
+    ensures done { IfOk result (λ accepted. (bytes : Seq ℕ) × IsHexOf bytes text.now
+        × HasShown S.takes S.failures sink.old sink.new
+        element_rules (painted_host_view paint) bytes accepted) }
+    ensures fault { IfErr result (IsHexFault S.takes S.failures sink.old sink.new
+        (IsShowFault S.takes S.failures sink.old sink.new
+        element_rules (painted_host_view paint)) text.now) }
+{
+    let bytes = hex_bytes(alloc, text)?;
+    Ok(show_painted_to(alloc, paint, bytes.as_slice(), sink)?)
+}
+
+// The same as a station's.
+fn show_answers_text<S: Sink>(alloc: Global, text: &[u8], sink: &mut S) -> Result<bool, RunFault>
+    ensures done { IfOk result (λ accepted. (bytes : Seq ℕ) × IsHexOf bytes text.now
+        × HasShown S.takes S.failures sink.old sink.new answer_rules answer_view bytes accepted) }
+    ensures fault { IfErr result (IsHexFault S.takes S.failures sink.old sink.new
+        (IsShowFault S.takes S.failures sink.old sink.new answer_rules answer_view) text.now) }
+{
+    let bytes = hex_bytes(alloc, text)?;
+    Ok(show_answers_to(alloc, bytes.as_slice(), sink)?)
+}
+
+// Plays a script, and writes what its session tells.
+fn play_script<S: Sink>(
+    alloc: Global,
+    script: &[u8],
+    screen: bool,
+    paint: Paint,
+    sink: &mut S,
+) -> Result<bool, RunFault>
+    ensures done { IfOk result
+        (HasPlayed S.takes S.failures sink.old sink.new paint screen script.now) }
+    ensures fault { IfErr result
+        (IsPlayFault S.takes S.failures sink.old sink.new paint screen script.now) }
+{
+    let moves = read_script(alloc, script)?;
+    let report = World::run(alloc, TerminalType::Ibm3179Model2, moves.as_slice())?;
+    Ok(play_painted_to(&report, paint, screen, sink)?)
+}
+
+// The same over a connection.
+fn play_script_by_tcp<R: Net<Listener = TcpListener, Stream = TcpStream>, S: Sink>(
+    rt: &R,
+    alloc: Global,
+    script: &[u8],
+    screen: bool,
+    paint: Paint,
+    sink: &mut S,
+) -> Result<bool, RunFault>
+    ensures done { IfOk result
+        (HasPlayedByTcp S.takes S.failures sink.old sink.new paint screen script.now) }
+    ensures fault { IfErr result
+        (IsTcpPlayFault S.takes S.failures sink.old sink.new paint screen script.now) }
+{
+    let moves = read_script(alloc, script)?;
+    let report = play_tcp(rt, alloc, TerminalType::Ibm3179Model2, moves.as_slice())?;
+    Ok(play_painted_to(&report, paint, screen, sink)?)
+}
+
+// Writes the stream of a host whose items a text spells.
+fn make_stream<S: Sink>(alloc: Global, text: &[u8], sink: &mut S) -> Result<bool, RunFault>
+    ensures done { IfOk result (HasMade element_rules element_wording Shows
+        S.takes S.failures sink.old sink.new text.now) }
+    ensures fault { IfErr result (IsMakeFault element_rules element_wording Shows
+        S.takes S.failures sink.old sink.new text.now) }
+{
+    let items = read_items(alloc, text)?;
+    make_to::<Commands, S>(alloc, items.as_slice(), sink)?;
+    Ok(true)
+}
+
+// The same of a station.
+fn make_answers_stream<S: Sink>(alloc: Global, text: &[u8], sink: &mut S) -> Result<bool, RunFault>
+    ensures done { IfOk result (HasMade answer_rules answer_wording ShowsAnswers
+        S.takes S.failures sink.old sink.new text.now) }
+    ensures fault { IfErr result (IsMakeFault answer_rules answer_wording ShowsAnswers
+        S.takes S.failures sink.old sink.new text.now) }
+{
+    let items = read_answer_items(alloc, text)?;
+    make_to::<Answers, S>(alloc, items.as_slice(), sink)?;
+    Ok(true)
+}
+
+/// The exit status of an outcome: 0 where all was accepted, 1 where it wasn't, 2 on a fault.
+pub fn status<E>(outcome: &Result<bool, E>) -> u8
+    ensures { result ≡ status_of outcome.now }
+{
+    match outcome {
+        Ok(true) => 0,
+        Ok(false) => 1,
+        Err(_) => 2,
+    }
+}

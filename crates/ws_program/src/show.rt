@@ -1,0 +1,185 @@
+ghost use Rattle.std.specs.Prelude.{◌≡◌, ◌++◌, [], Bool, List, ℕ, true, IfOk, IfErr, OnOk};
+ghost use Rattle.ws_code.specs.Device.{WentOut, FailedWithin};
+ghost use Rattle.ws_record.specs.Grammar.{IsInGrammar};
+ghost use Rattle.ws_record.specs.declared.record.Item.{Item as AnItem};
+ghost use Rattle.ws_stream.specs.AnswerParts.{answer_rules};
+ghost use Rattle.ws_stream.specs.Elements.{element_rules};
+ghost use Rattle.ws_stream.specs.declared.element.Element.{Element as AnElement};
+ghost use Rattle.ws_text.specs.Shown.{Shows};
+ghost use Rattle.ws_program.specs.CheckLine.{verdict_by};
+ghost use Rattle.ws_program.specs.StreamText.{IsShown, AreFirstLines, IsShowFault, IsStop, HasBegun, IsNext, IsNextFault};
+ghost use Rattle.ws_live.specs.declared.paint.Paint.{Paint as APaint};
+ghost use Rattle.ws_program.specs.Views.{host_view, painted_host_view, answer_view, in_paint};
+
+use crate::shown::Shown;
+use crate::verdict::verdict_by_fault;
+use std::alloc::Global;
+use ws_code::{Body, Fault, Sink};
+use ws_live::Paint;
+use ws_record::{Item, Receiver};
+use ws_stream::{Answers, Commands};
+use ws_text::Output;
+
+/// Writes the items of a host's stream, and the screen that its records make: true where the stream is accepted.
+///
+/// A record is written and then applied. Where the stream is accepted, what is written shows its items, as
+/// `ws_text::read_items` reads them back. The rest is said at `show_body_to`.
+pub fn show_to<S: Sink>(alloc: Global, bytes: &[u8], sink: &mut S) -> Result<bool, Fault>
+    ensures printed { IfOk result (λ accepted. (text : List ℕ)
+        × IsShown element_rules host_view bytes.now accepted text
+        × WentOut S.takes S.failures sink.old sink.new text) }
+    ensures fault { IfErr result (λ fault. IsShowFault
+        S.takes S.failures sink.old sink.new element_rules host_view bytes.now fault) }
+    ensures parts_begin { (accepted : Bool) (whole part : List ℕ)
+        → IsShown element_rules host_view bytes.now accepted whole
+        → AreFirstLines element_rules host_view bytes.now part
+        → (rest : List ℕ) × (whole ≡ part ++ rest) }
+    ensures read_back { (text : List ℕ) → IsShown element_rules host_view bytes.now true text
+        → (items : List (AnItem AnElement)) × IsInGrammar element_rules bytes.now items
+        × Shows text items }
+{
+    show_painted_to(alloc, Paint::Plain, bytes, sink)
+}
+
+/// Does the same, with the screen in a paint.
+pub fn show_painted_to<S: Sink>(
+    alloc: Global,
+    paint: Paint,
+    bytes: &[u8],
+    sink: &mut S,
+) -> Result<bool, Fault>
+    ensures printed { IfOk result (λ accepted. (text : List ℕ)
+        × IsShown element_rules (painted_host_view paint) bytes.now accepted text
+        × WentOut S.takes S.failures sink.old sink.new text) }
+    ensures fault { IfErr result (λ fault. IsShowFault S.takes S.failures sink.old sink.new
+        element_rules (painted_host_view paint) bytes.now fault) }
+    ensures parts_begin { (accepted : Bool) (whole part : List ℕ)
+        → IsShown element_rules (painted_host_view paint) bytes.now accepted whole
+        → AreFirstLines element_rules (painted_host_view paint) bytes.now part
+        → (rest : List ℕ) × (whole ≡ part ++ rest) }
+{
+    show_body_to::<Commands, S>(alloc, paint, bytes, sink)
+}
+
+/// Writes the items of a station's stream: true where it is accepted. No screen stands behind them.
+///
+/// The rest is said at `show_body_to`.
+pub fn show_answers_to<S: Sink>(alloc: Global, bytes: &[u8], sink: &mut S) -> Result<bool, Fault>
+    ensures printed { IfOk result (λ accepted. (text : List ℕ)
+        × IsShown answer_rules answer_view bytes.now accepted text
+        × WentOut S.takes S.failures sink.old sink.new text) }
+    ensures fault { IfErr result (λ fault. IsShowFault
+        S.takes S.failures sink.old sink.new answer_rules answer_view bytes.now fault) }
+    ensures parts_begin { (accepted : Bool) (whole part : List ℕ)
+        → IsShown answer_rules answer_view bytes.now accepted whole
+        → AreFirstLines answer_rules answer_view bytes.now part
+        → (rest : List ℕ) × (whole ≡ part ++ rest) }
+{
+    show_body_to::<Answers, S>(alloc, Paint::Plain, bytes, sink)
+}
+
+/// Writes the items of a stream, and in a paint what stands behind them: true where the stream is accepted.
+///
+/// Of a host's stream that is the screen that its records make; of a station's nothing. An item is written and then
+/// carried out. Where the stream is refused or ends too early, or an item can't be carried out, the line of a check is
+/// the last. `Memory` where a growth was refused, and then the lines before went out; `Write` where the sink failed,
+/// and then a proper prefix of the lines. The lines that went out begin all of them.
+pub fn show_body_to<B: Shown, S: Sink>(
+    alloc: Global,
+    paint: Paint,
+    bytes: &[u8],
+    sink: &mut S,
+) -> Result<bool, Fault>
+    ensures printed { IfOk result (λ accepted. (text : List ℕ)
+        × IsShown B.rules (in_paint B.view B.Ends paint) bytes.now accepted text
+        × WentOut S.takes S.failures sink.old sink.new text) }
+    ensures fault { IfErr result (λ fault. IsShowFault S.takes S.failures sink.old sink.new
+        B.rules (in_paint B.view B.Ends paint) bytes.now fault) }
+    ensures parts_begin { (accepted : Bool) (whole part : List ℕ)
+        → IsShown B.rules (in_paint B.view B.Ends paint) bytes.now accepted whole
+        → AreFirstLines B.rules (in_paint B.view B.Ends paint) bytes.now part
+        → (rest : List ℕ) × (whole ≡ part ++ rest) }
+{
+    let mut made = B::before_any();
+    match show_items::<B, S>(alloc, bytes, &mut made, sink) {
+        Ok(()) => write_end::<B, S>(paint, &made, sink),
+        Err(fault) => verdict_by_fault(fault)?.write_to(bytes.len(), sink),
+    }
+}
+
+// Writes the items, and carries them out. `Refused` and `Truncated` where the stream isn't accepted, or an item can't
+// be carried out: at that item's last byte. In no paint does an item show otherwise.
+fn show_items<B: Shown, S: Sink>(
+    alloc: Global,
+    bytes: &[u8],
+    made: &mut B::Made,
+    sink: &mut S,
+) -> Result<(), Fault>
+    requires given { B.makes [] made.old }
+    ensures ok { OnOk result ((paint : APaint) → (lines : List ℕ)
+        × AreFirstLines B.rules (in_paint B.view B.Ends paint) bytes.now lines
+        × WentOut S.takes S.failures sink.old sink.new lines
+        × ((text : List ℕ) → ((items : List (AnItem B.Unit)) → B.makes items made.new
+        → B.Ends paint items text)
+        → IsShown B.rules (in_paint B.view B.Ends paint) bytes.now true (lines ++ text))) }
+    ensures err { IfErr result (λ fault. (paint : APaint)
+        → IsStop S.takes S.failures sink.old sink.new B.rules (in_paint B.view B.Ends paint)
+        bytes.now (verdict_by fault)) }
+{
+    let mut receiver = Receiver::<B>::new(alloc);
+    while let Some((place, item)) = next_item::<B>(&mut receiver, bytes)? {
+        write_item::<B, S>(place, &item, sink)?;
+        if let Err(reason) = B::carry_out(made, &item) {
+            return Err(Fault::Refused { place, reason });
+        }
+    }
+    receiver.finish()
+}
+
+// The item that is complete next behind the bytes that were taken, with the place of its last byte.
+fn next_item<B: Body>(
+    receiver: &mut Receiver<B>,
+    bytes: &[u8],
+) -> Result<Option<(u64, Item<B::Unit>)>, Fault>
+    requires { HasBegun B.rules bytes.now receiver.old }
+    ensures next { IfOk result (IsNext B.rules bytes.now receiver.old receiver.new) }
+    ensures fault { IfErr result (IsNextFault B.rules bytes.now receiver.old) }
+{
+    let rest = bytes.split_at(receiver.taken() as usize).1;
+    let Some(item) = receiver.feed(rest)?.item else {
+        return Ok(None);
+    };
+    Ok(Some((receiver.taken() - 1, item)))
+}
+
+// Writes an item's lines.
+fn write_item<B: Shown, S: Sink>(
+    place: u64,
+    item: &Item<B::Unit>,
+    sink: &mut S,
+) -> Result<(), Fault>
+    ensures ok { OnOk result (WentOut S.takes S.failures sink.old sink.new
+        (B.view.lines place item.now)) }
+    ensures err { IfErr result (λ fault. (fault ≡ Fault.Write)
+        × FailedWithin S.takes S.failures sink.old sink.new (B.view.lines place item.now)) }
+{
+    match B::put_lines(sink, Output::Open, place, item) {
+        Output::Open => Ok(()),
+        Output::Failed => Err(Fault::Write),
+    }
+}
+
+// Writes what stands behind all items.
+fn write_end<B: Shown, S: Sink>(paint: Paint, made: &B::Made, sink: &mut S) -> Result<bool, Fault>
+    ensures ok { IfOk result (λ accepted. (accepted ≡ true) × ((text : List ℕ)
+        × ((items : List (AnItem B.Unit)) → B.makes items made.now → B.Ends paint items text)
+        × WentOut S.takes S.failures sink.old sink.new text)) }
+    ensures err { IfErr result (λ fault. (fault ≡ Fault.Write) × ((text : List ℕ)
+        × ((items : List (AnItem B.Unit)) → B.makes items made.now → B.Ends paint items text)
+        × FailedWithin S.takes S.failures sink.old sink.new text)) }
+{
+    match B::put_end(sink, Output::Open, paint, made) {
+        Output::Open => Ok(true),
+        Output::Failed => Err(Fault::Write),
+    }
+}

@@ -1,0 +1,124 @@
+ghost use Rattle.std.specs.Prelude.{◌≡◌, ◌++◌, ◌∷◌, [], List, ℕ, OnOk};
+ghost use Rattle.ws_record.specs.declared.record.Item.{Item as AnItem};
+ghost use Rattle.ws_screen.specs.Faults.{refusal};
+ghost use Rattle.ws_text.specs.Printing.{Prints};
+ghost use Rattle.ws_program.specs.StreamText.{View, IsWholeItem};
+ghost use Rattle.ws_program.specs.Views.{host_view, answer_view, IsNoEnd, IsScreenEnd, MakesScreen};
+ghost use Rattle.ws_live.specs.declared.paint.Paint.{Paint as APaint};
+
+use ws_code::{Body, Reason, Sink};
+use ws_live::{Paint, put_screen};
+use ws_record::Item;
+use ws_screen::Screen;
+use ws_session::apply_record;
+use ws_stream::{AnswerPart, Answers, Commands, Element};
+use ws_text::{Output, put_answer_item, put_item, put_text};
+
+/// A body whose items are shown, and carried out one after another.
+pub trait Shown: Body {
+    /// What the items make.
+    type Made: Drop;
+
+    // How they are shown.
+    ghost view: { View Self.Unit };
+
+    // What stands behind them in a paint.
+    ghost Ends: { APaint → List (AnItem Self.Unit) → List ℕ → Type 0 };
+
+    // The items make it.
+    ghost makes: { List (AnItem Self.Unit) → Self.Made → Type 0 };
+
+    /// What there is before the first item.
+    fn before_any() -> Self::Made
+        ensures { makes [] result };
+
+    /// Carries out an item, or tells why it can't be.
+    fn carry_out(made: &mut Self::Made, item: &Item<Self::Unit>) -> Result<(), Reason>
+        requires whole { IsWholeItem Self.rules item.now }
+        requires known { (items : List (AnItem Self.Unit)) × makes items made.old }
+        ensures fault { (items : List (AnItem Self.Unit)) → makes items made.old
+            → refusal result ≡ view.fault items item.now }
+        ensures after { OnOk result ((items : List (AnItem Self.Unit)) → makes items made.old
+            → makes (items ++ item.now ∷ []) made.new) };
+
+    /// Writes an item's lines.
+    fn put_lines<S: Sink>(
+        sink: &mut S,
+        output: Output,
+        place: u64,
+        item: &Item<Self::Unit>,
+    ) -> Output
+        ensures { Prints S.takes S.failures sink.old sink.new output result
+            (view.lines place item.now) };
+
+    /// Writes what stands behind all items of a stream that is accepted.
+    fn put_end<S: Sink>(sink: &mut S, output: Output, paint: Paint, made: &Self::Made) -> Output
+        ensures { (text : List ℕ)
+            × ((items : List (AnItem Self.Unit)) → makes items made.now → Ends paint items text)
+            × Prints S.takes S.failures sink.old sink.new output result text };
+}
+
+// A host's records make a screen, which stands behind them.
+impl Shown for Commands {
+    type Made = Screen;
+
+    ghost view = { host_view };
+
+    ghost Ends = { IsScreenEnd };
+
+    ghost makes = { MakesScreen };
+
+    fn before_any() -> Screen {
+        Screen::new()
+    }
+
+    fn carry_out(screen: &mut Screen, item: &Item<Element>) -> Result<(), Reason> {
+        match item {
+            Item::Record(record) => apply_record(screen, record),
+            Item::Telnet(_) => Ok(()),
+        }
+    }
+
+    fn put_lines<S: Sink>(
+        sink: &mut S,
+        output: Output,
+        place: u64,
+        item: &Item<Element>,
+    ) -> Output {
+        put_item(sink, output, place, item)
+    }
+
+    fn put_end<S: Sink>(sink: &mut S, output: Output, paint: Paint, screen: &Screen) -> Output {
+        put_screen(sink, output, paint, screen)
+    }
+}
+
+// A station's answers make nothing that is shown.
+impl Shown for Answers {
+    type Made = ();
+
+    ghost view = { answer_view };
+
+    ghost Ends = { λ _. IsNoEnd };
+
+    ghost makes = { λ _ _. Unit {0} };
+
+    fn before_any() {}
+
+    fn carry_out(_made: &mut (), _item: &Item<AnswerPart>) -> Result<(), Reason> {
+        Ok(())
+    }
+
+    fn put_lines<S: Sink>(
+        sink: &mut S,
+        output: Output,
+        place: u64,
+        item: &Item<AnswerPart>,
+    ) -> Output {
+        put_answer_item(sink, output, place, item)
+    }
+
+    fn put_end<S: Sink>(sink: &mut S, output: Output, _paint: Paint, _made: &()) -> Output {
+        put_text(sink, output, "")
+    }
+}

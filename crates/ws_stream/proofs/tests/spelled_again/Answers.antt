@@ -1,9 +1,0 @@
-use Rattle.std.proofs.Common.{ℕ, List, sym, subst}
-use Rattle.ws_code.specs.Code.{IsUnfinished}
-use Rattle.ws_stream.specs.Elements.{element_rules}
-use Rattle.ws_stream.specs.ElementLaws.{element_begins}
-use Rattle.ws_stream.proofs.tests.spelled_again.Goals as goal
-
-pub loop-byte-init : goal.loop-byte-init
-loop-byte-init c = subst (λ (l : List ℕ). IsUnfinished element_rules c.start-machine.result.place l)
-    (sym c.start-machine.ensures.fresh) (element_begins c.start-machine.result.place)
