@@ -1,11 +1,7 @@
-use Rattle.std.proofs.Common.{true, ◌≡◌, ℕ, List, [], ◌∷◌, ◌++◌, take, drop, refl, sym, ap, ◌∙◌, subst}
-use Rattle.std.proofs.Common.{append_assoc}
-use Rattle.std.proofs.lemmas.List.{append-nil, take-append-drop}
-use Rattle.ws_code.specs.Code.{Rules, IsSpelled, IsPrefix, IsPrefixFree, IsChain, IsUnfinished, place_after}
-use Rattle.ws_code.specs.Code.{spelling_of}
-use Rattle.ws_code.specs.Run.{Reading, HasRun}
-use Rattle.ws_code.proofs.CodeLaws.{Begins, one_cut, cut_bad, cut_unit}
-use Rattle.ws_record.specs.Body.{IsBody, HasUnitSoFar}
+use Rattle.ws_record.proofs.Common as C
+use C.{true, ◌≡◌, ℕ, List, [], ◌∷◌, ◌++◌, take, drop, refl, sym, ap, ◌∙◌, append_assoc, append-nil, take-append-drop}
+use C.{Rules, IsSpelled, IsPrefix, IsPrefixFree, place_after, spelling_of, Reading, HasRun, Begins, one_cut, cut_bad}
+use C.{cut_unit, IsBody, HasUnitSoFar}
 
 -- a run from where a body begins
 pub from_first : {Place U : Type 0} (rules : Rules Place U) (from to : Reading Place) (values : List ℕ)
@@ -14,7 +10,7 @@ pub from_first : {Place U : Type 0} (rules : Rules Place U) (from to : Reading P
 from_first {Place} {U} rules from to values run ep eb = (
   record {
     units = run.units;
-    chain = subst (λ (p : Place). IsChain rules p run.units) ep run.chain;
+    chain = rw ep at run.chain;
     behind = run.behind ∙ ap (λ (p : Place). place_after rules p run.units) ep;
     unfinished = run.unfinished;
     spelled = run.spelled ∙ ap (λ x. x ++ values) eb;
@@ -27,20 +23,20 @@ module _ {Place U : Type 0} (rules : Rules Place U) (bytes : List ℕ) (to : Rea
   -- at the end the units are the body, if one may end there
   pub ended : (run : HasRun rules (record { place = rules.first; begun = [] }) bytes to) → to.begun ≡ []
       → rules.may_end to.place ≡ true → (units : List U) → units ≡ run.units → IsBody rules bytes units
-  ended run fresh ends units same = subst (λ (us : List U). IsBody rules bytes us) (sym same) (record {
-    whole = record { chain = run.chain; ends = ap rules.may_end (sym run.behind) ∙ ends };
-    spelled = sym (append-nil (spelling_of rules run.units)) ∙ ap (λ x. spelling_of rules run.units ++ x) (sym fresh)
-        ∙ run.spelled;
-  })
+  ended run fresh ends units same =
+      rw same (record {
+        whole = record { chain = run.chain; ends = ap rules.may_end (sym run.behind) ∙ ends };
+        spelled = sym (append-nil (spelling_of rules run.units))
+            ∙ ap (λ x. spelling_of rules run.units ++ x) (sym fresh) ∙ run.spelled;
+      })
 
   -- inside a unit, or where none may, they are not
-  pub not_ended : IsPrefixFree rules → Begins rules → HasRun rules (record { place = rules.first; begun = [] }) bytes to
+  pub not_ended : IsPrefixFree rules → Begins rules
+      → HasRun rules (record { place = rules.first; begun = [] }) bytes to
       → (to.begun ≡ [] → rules.may_end to.place ≡ true → ⊥) → (body : List U) → IsBody rules bytes body → ⊥
   not_ended free begins run other body is =
-      let same : (run.units ≡ body) × (to.begun ≡ []) =
-      one_cut rules free rules.first run.units body to.begun [] run.chain is.whole.chain
-      (subst (λ (p : Place). IsUnfinished rules p to.begun) run.behind run.unfinished)
-      (begins (place_after rules rules.first body))
+      let same : (run.units ≡ body) × (to.begun ≡ []) = one_cut rules free rules.first run.units body to.begun []
+      run.chain is.whole.chain (rw run.behind at run.unfinished) (begins (place_after rules rules.first body))
       (run.spelled ∙ sym is.spelled ∙ sym (append-nil (spelling_of rules body))) in
       other same.1 (ap rules.may_end (run.behind ∙ ap (place_after rules rules.first) same.0) ∙ is.whole.ends)
 
@@ -53,12 +49,10 @@ module _ {Place U : Type 0} (rules : Rules Place U) (bytes : List ℕ) (used : �
   no_body free begins bad body is =
       let all : spelling_of rules body ≡ spelling_of rules run.units ++ (before.begun ++ last ∷ drop used bytes) =
       is.spelled ∙ sym (take-append-drop used bytes) ∙ ap (λ x. x ++ drop used bytes) split
-      ∙ append_assoc front (last ∷ []) (drop used bytes)
-      ∙ ap (λ x. x ++ last ∷ drop used bytes) (sym run.spelled)
+      ∙ append_assoc front (last ∷ []) (drop used bytes) ∙ ap (λ x. x ++ last ∷ drop used bytes) (sym run.spelled)
       ∙ append_assoc (spelling_of rules run.units) before.begun (last ∷ drop used bytes) in
-      cut_bad rules free begins rules.first run.units body before.begun last (drop used bytes) run.chain is.whole.chain
-      (subst (λ (p : Place). IsUnfinished rules p before.begun) run.behind run.unfinished)
-      (subst (λ (p : Place). IsPrefix rules p (before.begun ++ last ∷ []) → ⊥) run.behind bad) all
+      cut_bad rules free begins rules.first run.units body before.begun last (drop used bytes) run.chain
+      is.whole.chain (rw run.behind at run.unfinished) (rw run.behind at bad) all
 
   -- a unit is complete in a front
   pub unit_so_far : Begins rules → (unit : U) → IsSpelled rules before.place (before.begun ++ last ∷ []) unit
@@ -70,11 +64,6 @@ module _ {Place U : Type 0} (rules : Rules Place U) (bytes : List ℕ) (used : �
     before = run.units;
     unit = unit;
     cut = cut_unit rules begins front run.units before.begun last unit
-        (record {
-          chain = run.chain;
-          more = subst (λ (p : Place). IsUnfinished rules p before.begun) run.behind run.unfinished;
-          spelled =
-              run.spelled;
-        })
-        (subst (λ (p : Place). IsSpelled rules p (before.begun ++ last ∷ []) unit) run.behind spelled);
+        (record { chain = run.chain; more = rw run.behind at run.unfinished; spelled = run.spelled })
+        (rw run.behind at spelled);
   }

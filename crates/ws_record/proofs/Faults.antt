@@ -1,23 +1,11 @@
-use Rattle.std.proofs.Common.{◌≡◌, ℕ, List, [], ◌∷◌, ◌++◌, ◌⊎◌, inl, inr, length, drop, refl, sym, ap, ◌∙◌, subst}
-use Rattle.std.proofs.Common.{append_assoc}
-use Rattle.std.specs.List.{AllByRecursion}
-use Rattle.std.proofs.lemmas.List.{append-nil}
-use Rattle.ws_code.specs.Code.{Rules, IsPrefixFree, place_after}
-use Rattle.ws_code.specs.declared.reason.Reason.{Reason}
-use Rattle.ws_code.specs.declared.fault.Fault.{Fault}
-use Rattle.ws_code.specs.declared.fault.Fault.TheVariants.{Refused, Truncated, Memory, Read, Write, Failed}
-use Rattle.ws_code.proofs.CodeLaws.{one_begins, one_cut, one_list, no_end}
-use Rattle.ws_telnet.specs.Token.{token_rules}
-use Rattle.ws_telnet.specs.TokenLaws.{token_prefix_free, token_begins}
-use Rattle.ws_telnet.specs.declared.token.Token.{Token}
-use Rattle.ws_telnet.specs.declared.token.Token.TheVariants.{Data, Eor, Telnet as TelnetToken}
-use Rattle.ws_record.specs.Grammar.{IsStream, carried, joined}
-use Rattle.ws_record.specs.Refusal.{EndsWith, Layer, header_reason, IsRight, IsOpen, IsFirstClosed, IsBodyReason}
-use Rattle.ws_record.specs.Refusal.{IsReason, IsRefused, IsTruncated}
-use Rattle.ws_record.specs.Refusal.Layer.{Tokens, Header, Body}
-use Rattle.ws_record.specs.Receiver.{IsDecodeFault}
+use Rattle.ws_record.proofs.Common as C
+use C.{◌≡◌, ℕ, List, [], ◌∷◌, ◌++◌, ◌⊎◌, inl, inr, length, drop, refl, sym, ap, ◌∙◌, append_assoc, append-nil, Rules}
+use C.{IsPrefixFree, Reason, Fault, Refused, Truncated, Memory, one_begins, one_cut, one_list, no_end, token_rules}
+use C.{token_prefix_free, token_begins, Token, Data, carried, joined, EndsWith, Layer, IsOpen, IsFirstClosed}
+use C.{IsBodyReason, IsReason, IsRefused, IsTruncated, Tokens, Header, Body, IsDecodeFault}
 use Rattle.ws_record.proofs.Decodes.{closed_is_not}
 use Rattle.ws_record.proofs.Reading.{one_join}
+use Rattle.ws_record.proofs.Streams.{all_right}
 
 -- Bytes are refused at one place and for one reason, or truncated, and not both.
 
@@ -34,43 +22,30 @@ same_last (a ∷ xs) (b ∷ ys) x y e =
 one_end : (bytes so_far other : List ℕ) (s t : Token) → EndsWith bytes so_far s → EndsWith bytes other t
     → (so_far ≡ other) × (s ≡ t)
 one_end bytes so_far other s t e f =
-    let tokens : joined e.parts e.rest ++ s ∷ [] ≡ joined f.parts f.rest ++ t ∷ [] =
-    one_list token_rules token_prefix_free token_begins _ _ e.tokens.chain f.tokens.chain
-    (sym e.spelled ∙ f.spelled) in
-    let last = same_last (joined e.parts e.rest) (joined f.parts f.rest) s t tokens in
-    let joins = one_join e.parts f.parts e.rest f.rest e.no_eor.0 f.no_eor.0 e.no_eor.1 f.no_eor.1 last.0 in
+    let tokens : joined e.parts e.rest ++ s ∷ [] ≡ joined f.parts f.rest ++ t ∷ [] = one_list token_rules
+    token_prefix_free token_begins _ _ e.tokens.chain f.tokens.chain (sym e.spelled ∙ f.spelled) in
+    let last = same_last _ _ s t tokens in
+    let joins = one_join _ _ _ _ e.no_eor.0 f.no_eor.0 e.no_eor.1 f.no_eor.1 last.0 in
     (e.is_open ∙ ap carried joins.1 ∙ sym f.is_open, last.1)
-
-all_right : (parts : List (List Token)) → AllByRecursion (λ part. Unit {0}) parts
-all_right [] = tt
-all_right (part ∷ parts) = (tt, all_right parts)
 
 module _ {Place U : Type 0} (rules : Rules Place U) where
   one_body_reason : IsPrefixFree rules → (bytes : List ℕ) (t : Token) (r s : Reason) → IsBodyReason rules bytes t r
       → IsBodyReason rules bytes t s → r ≡ s
   one_body_reason free bytes (Data b) r s p q =
-      let cut = one_cut rules free rules.first p.0 q.0 p.1 q.1 p.2.chain q.2.chain p.2.more q.2.more
-      (p.2.spelled ∙ sym q.2.spelled) in
-      p.3 ∙ ap (λ (us : List U). rules.reason (place_after rules rules.first us) p.1 b) cut.0
-      ∙ ap (λ (x : List ℕ). rules.reason (place_after rules rules.first q.0) x b) cut.1 ∙ sym q.3
-  one_body_reason free bytes Eor r s p q = p ∙ sym q
-  one_body_reason free bytes (TelnetToken t) r s p q = p ∙ sym q
+      let cut = one_cut rules free rules.first _ _ _ _ p.2.chain q.2.chain p.2.more q.2.more
+      (p.2.spelled ∙ sym q.2.spelled) in rw (p.3, q.3, cut.0, cut.1)
+  one_body_reason free bytes t r s p q = p ∙ sym q
 
   one_reason : IsPrefixFree rules → (layer : Layer) (before : List ℕ) (b : ℕ) (r s : Reason)
       → IsReason rules layer before b r → IsReason rules layer before b s → r ≡ s
   one_reason free Tokens before b r s p q =
-      let cut = one_cut token_rules token_prefix_free tt p.0 q.0 p.1 q.1 p.2.chain q.2.chain p.2.more q.2.more
-      (p.2.spelled ∙ sym q.2.spelled) in
-      p.3 ∙ ap (λ (x : List ℕ). token_rules.reason tt x b) cut.1 ∙ sym q.3
-  one_reason free Header before b r s p q =
-      let last = one_end (before ++ b ∷ []) p.0 q.0 p.1 q.1 p.2 q.2 in
-      p.3 ∙ ap (λ (x : List ℕ). header_reason x p.1) last.0 ∙ ap (header_reason q.0) last.1 ∙ sym q.3
+      let cut = one_cut token_rules token_prefix_free tt _ _ _ _ p.2.chain q.2.chain p.2.more q.2.more
+      (p.2.spelled ∙ sym q.2.spelled) in rw (p.3, q.3, cut.1)
+  one_reason free Header before b r s p q = let last = one_end _ _ _ _ _ p.2 q.2 in rw (p.3, q.3, last.0, last.1)
   one_reason free Body before b r s p q =
-      let last = one_end (before ++ b ∷ []) p.0 q.0 p.1 q.1 p.2 q.2 in
-      let moved : IsBodyReason rules (drop 10 q.0) p.1 r =
-      subst (λ (x : List ℕ). IsBodyReason rules (drop 10 x) p.1 r) last.0 p.3 in
-      one_body_reason free (drop 10 q.0) q.1 r s
-      (subst (λ (t : Token). IsBodyReason rules (drop 10 q.0) t r) last.1 moved) q.3
+      let last = one_end _ _ _ _ _ p.2 q.2 in
+      let moved : IsBodyReason rules (drop 10 q.0) p.1 r = rw last.0 at p.3 in
+      one_body_reason free _ _ r s (rw last.1 at moved) q.3
 
   -- to the lowest layer all bytes are a record
   open_tokens : (bytes : List ℕ) → IsOpen rules Header bytes → IsOpen rules Tokens bytes
@@ -78,26 +53,25 @@ module _ {Place U : Type 0} (rules : Rules Place U) where
       let s = o.stream in
       record {
         more = o.more;
-        stream =
-            record {
-              parts = s.parts;
-              rest = s.rest;
-              no_eor = s.no_eor;
-              each = all_right s.parts;
-              closed = s.closed;
-              tokens = s.tokens;
-              spelled = s.spelled;
-            };
+        stream = record {
+          parts = s.parts;
+          rest = s.rest;
+          no_eor = s.no_eor;
+          each = all_right s.parts;
+          closed = s.closed;
+          tokens = s.tokens;
+          spelled = s.spelled;
+        };
       }
 
   one_layer : (bytes : List ℕ) (l m : Layer) → IsFirstClosed rules l bytes → IsFirstClosed rules m bytes → l ≡ m
   one_layer bytes Tokens Tokens p q = refl
   one_layer bytes Tokens Header p q = absurd (p q.0)
-  one_layer bytes Tokens Body p q = absurd (p (open_tokens bytes q.0))
+  one_layer bytes Tokens Body p q = absurd (p (open_tokens _ q.0))
   one_layer bytes Header Tokens p q = absurd (q p.0)
   one_layer bytes Header Header p q = refl
   one_layer bytes Header Body p q = absurd (p.1 q.0)
-  one_layer bytes Body Tokens p q = absurd (q (open_tokens bytes p.0))
+  one_layer bytes Body Tokens p q = absurd (q (open_tokens _ p.0))
   one_layer bytes Body Header p q = absurd (q.1 p.0)
   one_layer bytes Body Body p q = refl
 
@@ -109,44 +83,37 @@ module _ {Place U : Type 0} (rules : Rules Place U) where
       let o = opened layer in
       closed_is_not rules layer (before ++ byte ∷ []) closed (record {
         more = more ++ o.more;
-        stream = subst (λ (x : List ℕ). IsStream (IsRight rules layer) x)
-            (ap (λ x. x ++ o.more) e ∙ append_assoc before (byte ∷ more) o.more
-            ∙ sym (append_assoc before (byte ∷ []) (more ++ o.more))) o.stream;
+        stream = rw (ap (λ x. x ++ o.more) e ∙ append_assoc before (byte ∷ more) o.more
+            ∙ sym (append_assoc before (byte ∷ []) (more ++ o.more))) at o.stream;
       })
+
+  longer : (x y : List ℕ) (b c : ℕ) (v w : List ℕ) (l : Layer) → IsFirstClosed rules l (x ++ b ∷ [])
+      → ((k : Layer) → IsOpen rules k y) → (r : List ℕ) → y ≡ x ++ r → b ∷ v ≡ r ++ c ∷ w → (x ≡ y) × (b ≡ c)
+  longer x y b c v w l p oy [] g h = (sym (g ∙ append-nil x), (let s : b ≡ c = cc in s))
+  longer x y b c v w l p oy (z ∷ r) g h =
+      let s : z ≡ b = cc in absurd (behind x b r y l p (g ∙ ap (λ n. x ++ n ∷ r) s) oy)
 
   one_split : (x y : List ℕ) (b c : ℕ) (v w : List ℕ) (l m : Layer) → x ++ b ∷ v ≡ y ++ c ∷ w
       → IsFirstClosed rules l (x ++ b ∷ []) → IsFirstClosed rules m (y ++ c ∷ [])
       → ((k : Layer) → IsOpen rules k x) → ((k : Layer) → IsOpen rules k y) → (x ≡ y) × (b ≡ c)
   one_split x y b c v w l m e p q ox oy = elim (one_begins x y (b ∷ v) (c ∷ w) e) [
-    | inl f ↦ longer f.0 f.1 f.2
-    | inr f ↦ shorter f.0 f.1 f.2
+    | inl f ↦ longer x y b c v w l p oy f.0 f.1 f.2
+    | inr f ↦ (let t = longer y x c b w v m q ox f.0 f.1 f.2 in (sym t.0, sym t.1))
   ]
-    where
-      longer : (r : List ℕ) → y ≡ x ++ r → b ∷ v ≡ r ++ c ∷ w → (x ≡ y) × (b ≡ c)
-      longer [] g h = (sym (g ∙ append-nil x), (let s : b ≡ c = cc in s))
-      longer (z ∷ r) g h = let s : z ≡ b = cc in absurd (behind x b r y l p (g ∙ ap (λ n. x ++ n ∷ r) s) oy)
-
-      shorter : (r : List ℕ) → x ≡ y ++ r → c ∷ w ≡ r ++ b ∷ v → (x ≡ y) × (b ≡ c)
-      shorter [] g h = (g ∙ append-nil y, (let s : b ≡ c = cc in s))
-      shorter (z ∷ r) g h = let s : z ≡ c = cc in absurd (behind y c r x m q (g ∙ ap (λ n. y ++ n ∷ r) s) ox)
 
   -- one place and one reason
   pub one_refused : IsPrefixFree rules → (bytes : List ℕ) (place other : ℕ) (reason another : Reason)
-      → IsRefused rules bytes place reason → IsRefused rules bytes other another → (place ≡ other) × (reason ≡ another)
+      → IsRefused rules bytes place reason → IsRefused rules bytes other another
+      → (place ≡ other) × (reason ≡ another)
   one_refused free bytes place other reason another a b =
-      let same = one_split a.before b.before a.byte b.byte a.after b.after a.layer b.layer (sym a.split ∙ b.split)
-      a.closed b.closed a.opened b.opened in
+      let same = one_split _ _ _ _ _ _ _ _ (sym a.split ∙ b.split) a.closed b.closed a.opened b.opened in
       let moved : (F : List ℕ → ℕ → Type 0) → F a.before a.byte → F b.before b.byte =
-      λ F f. subst (λ n. F b.before n) same.1 (subst (λ (x : List ℕ). F x a.byte) same.0 f) in
+      λ F f. rw same.1 at (rw same.0 at f) in
       let layer : a.layer ≡ b.layer =
-      one_layer (b.before ++ b.byte ∷ []) a.layer b.layer
-      (moved (λ x n. IsFirstClosed rules a.layer (x ++ n ∷ [])) a.closed) b.closed in
+      one_layer _ _ _ (moved (λ x n. IsFirstClosed rules a.layer (x ++ n ∷ [])) a.closed) b.closed in
       let why : IsReason rules a.layer b.before b.byte reason =
-      moved (λ x n. IsReason rules a.layer x n reason) a.why in (
-        a.at_place ∙ ap length same.0 ∙ sym b.at_place,
-        one_reason free b.layer b.before b.byte reason another
-            (subst (λ (l : Layer). IsReason rules l b.before b.byte reason) layer why) b.why,
-      )
+      moved (λ x n. IsReason rules a.layer x n reason) a.why in
+      (a.at_place ∙ ap length same.0 ∙ sym b.at_place, one_reason free _ _ _ _ _ (rw layer at why) b.why)
 
   -- what is refused isn't truncated
   pub refused_or_truncated : (bytes : List ℕ) (place : ℕ) (reason : Reason) → IsRefused rules bytes place reason
@@ -157,19 +124,12 @@ module _ {Place U : Type 0} (rules : Rules Place U) where
   pub one_fault : IsPrefixFree rules → (bytes : List ℕ) (fault other : Fault) → IsDecodeFault rules bytes fault
       → IsDecodeFault rules bytes other → (fault ≡ Memory) ⊎ (other ≡ Memory) ⊎ (fault ≡ other)
   one_fault free bytes Memory other a b = inl refl
-  one_fault free bytes (Refused p r) Memory a b = inr (inl refl)
-  one_fault free bytes (Refused p r) (Refused q s) a b = let same = one_refused free bytes p q r s a b in
-      inr (inr (ap (λ n. Refused n r) same.0 ∙ ap (Refused q) same.1))
+  one_fault free bytes fault Memory a b = inr (inl refl)
+  one_fault free bytes (Refused p r) (Refused q s) a b =
+      let same = one_refused free bytes p q r s a b in inr (inr (rw (same.0, same.1)))
   one_fault free bytes (Refused p r) (Truncated n) a b = absurd (refused_or_truncated bytes p r a b.1)
-  one_fault free bytes (Refused p r) Read a b = absurd b
-  one_fault free bytes (Refused p r) Write a b = absurd b
-  one_fault free bytes (Refused p r) Failed a b = absurd b
-  one_fault free bytes (Truncated n) Memory a b = inr (inl refl)
   one_fault free bytes (Truncated n) (Refused q s) a b = absurd (refused_or_truncated bytes q s b a.1)
   one_fault free bytes (Truncated n) (Truncated m) a b = inr (inr (ap Truncated (a.0 ∙ sym b.0)))
-  one_fault free bytes (Truncated n) Read a b = absurd b
-  one_fault free bytes (Truncated n) Write a b = absurd b
-  one_fault free bytes (Truncated n) Failed a b = absurd b
-  one_fault free bytes Read other a b = absurd a
-  one_fault free bytes Write other a b = absurd a
-  one_fault free bytes Failed other a b = absurd a
+  one_fault free bytes (Refused p r) other a b = absurd b
+  one_fault free bytes (Truncated n) other a b = absurd b
+  one_fault free bytes fault other a b = absurd a

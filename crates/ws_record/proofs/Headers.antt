@@ -1,34 +1,17 @@
-use Rattle.std.proofs.Common.{◌≡◌, ◌≢◌, ℕ, ◌+◌, ◌-◌, ◌*◌, ◌/◌, ◌%◌, ◌<◌, ◌≤◌, ◌^◌, List, [], ◌∷◌, ◌++◌, inl, inr, zero}
-use Rattle.std.proofs.Common.{suc, length, drop, get_or, refl, sym, ap, ◌∙◌, subst, arith, append_assoc, length-append}
-use Rattle.std.proofs.Common.{length-drop}
-use Rattle.std.proofs.Math.ListN.{replicate, get_or-append}
-use Rattle.std.proofs.Math.Seq.{get_or-append_right, get_or-append_seam}
-use Rattle.std.proofs.lemmas.List.{get_or-drop}
-use Rattle.std.proofs.lemmas.Bool.{cases_lt}
-use Rattle.std.proofs.lemmas.List.{length-replicate}
-use Rattle.ws_code.specs.Code.{AreBytes}
-use Rattle.ws_code.proofs.CodeLaws.{AreBytes-append, zeros_are}
-use Rattle.ws_record.specs.declared.opcode.Opcode.{Opcode}
-use Rattle.ws_record.specs.declared.opcode.Opcode.TheVariants.{Invite}
-use Rattle.ws_record.specs.Grammar.{IsFramed, header, opcode_byte}
-use Rattle.ws_record.specs.OpenRecord.{CanBeFramed}
-use Rattle.ws_record.specs.HeaderSoFar.{HeaderSoFar, declared}
+use Rattle.ws_record.proofs.Common as C
+use C.{take-append-drop, take, ◌≡◌, ℕ, ◌+◌, ◌-◌, ◌*◌, ◌/◌, ◌%◌, ◌<◌, ◌≤◌, ◌^◌, List, [], ◌∷◌, ◌++◌, inl, inr, zero, suc}
+use C.{length, drop, get_or, refl, sym, ap, ◌∙◌, arith, append_assoc, length-append, length-drop, replicate}
+use C.{get_or-append, get_or-append_right, get_or-append_seam, get_or-drop, cases_lt, length-replicate, AreBytes}
+use C.{AreBytes-append, zeros_are, Opcode, Invite, IsFramed, header, opcode_byte, CanBeFramed, HeaderSoFar, declared}
+use Rattle.ws_record.proofs.Prefixes.{AreBytes-apart}
 
 -- ten cells and the rest
 pub ten_cells : (xs : List ℕ) → 10 ≤ length xs
-    → xs ≡ get_or xs 0 0 ∷ get_or xs 1 0 ∷ get_or xs 2 0 ∷ get_or xs 3 0 ∷ get_or xs 4 0 ∷ get_or xs 5 0 ∷ get_or xs 6 0
+    → xs
+    ≡ get_or xs 0 0 ∷ get_or xs 1 0 ∷ get_or xs 2 0 ∷ get_or xs 3 0 ∷ get_or xs 4 0 ∷ get_or xs 5 0 ∷ get_or xs 6 0
     ∷ get_or xs 7 0 ∷ get_or xs 8 0 ∷ get_or xs 9 0 ∷ drop 10 xs
 ten_cells (a ∷ b ∷ c ∷ d ∷ e ∷ f ∷ g ∷ h ∷ i ∷ j ∷ xs) k = refl
-ten_cells [] k = absurd (omega arith)
-ten_cells (a ∷ []) k = absurd (omega arith)
-ten_cells (a ∷ b ∷ []) k = absurd (omega arith)
-ten_cells (a ∷ b ∷ c ∷ []) k = absurd (omega arith)
-ten_cells (a ∷ b ∷ c ∷ d ∷ []) k = absurd (omega arith)
-ten_cells (a ∷ b ∷ c ∷ d ∷ e ∷ []) k = absurd (omega arith)
-ten_cells (a ∷ b ∷ c ∷ d ∷ e ∷ f ∷ []) k = absurd (omega arith)
-ten_cells (a ∷ b ∷ c ∷ d ∷ e ∷ f ∷ g ∷ []) k = absurd (omega arith)
-ten_cells (a ∷ b ∷ c ∷ d ∷ e ∷ f ∷ g ∷ h ∷ []) k = absurd (omega arith)
-ten_cells (a ∷ b ∷ c ∷ d ∷ e ∷ f ∷ g ∷ h ∷ i ∷ []) k = absurd (omega arith)
+ten_cells xs k = absurd (omega arith)
 
 -- a byte at a place is one
 pub byte_at : (xs : List ℕ) (i : ℕ) → AreBytes xs → get_or xs i 0 < 256
@@ -40,6 +23,56 @@ byte_at (x ∷ xs) (suc i) h = byte_at xs i h.1
 pub header_length : (n f : ℕ) (o : Opcode) (rest : List ℕ) → length (header n f o ++ rest) ≡ 10 + length rest
 header_length n f o rest = omega arith
 
+-- what a right header has at a place behind its length
+pub record RightCell (i b : ℕ) : Type 0 where
+  pub kind_high : i ≡ 2 → b ≡ 0x12
+  pub kind_low : i ≡ 3 → b ≡ 0xa0
+  pub reserved_high : i ≡ 4 → b ≡ 0
+  pub reserved_low : i ≡ 5 → b ≡ 0
+  pub variable_length : i ≡ 6 → b ≡ 4
+  pub opcode : i ≡ 9 → (opcode : Opcode) × (opcode_byte opcode ≡ b)
+
+pub cell_of : (xs : List ℕ) → HeaderSoFar xs → (i : ℕ) → i < length xs → RightCell i (get_or xs i 0)
+cell_of xs h i k = record {
+  kind_high = λ e. rw e (h.kind_high (omega arith));
+  kind_low = λ e. rw e (h.kind_low (omega arith));
+  reserved_high = λ e. rw e (h.reserved_high (omega arith));
+  reserved_low = λ e. rw e (h.reserved_low (omega arith));
+  variable_length = λ e. rw e (h.variable_length (omega arith));
+  opcode = λ e. rw e (h.opcode (omega arith));
+}
+
+pub header_of : (xs : List ℕ) → (1 < length xs → 10 ≤ declared xs)
+    → ((i : ℕ) → i < 10 → i < length xs → RightCell i (get_or xs i 0)) → HeaderSoFar xs
+header_of xs d cell = record {
+  declares = d;
+  kind_high = λ k. (cell 2 (omega arith) k).kind_high refl;
+  kind_low = λ k. (cell 3 (omega arith) k).kind_low refl;
+  reserved_high = λ k. (cell 4 (omega arith) k).reserved_high refl;
+  reserved_low = λ k. (cell 5 (omega arith) k).reserved_low refl;
+  variable_length = λ k. (cell 6 (omega arith) k).variable_length refl;
+  opcode = λ k. (cell 9 (omega arith) k).opcode refl;
+}
+
+-- a right header and the rest, by its bytes
+pub header_parts : (xs : List ℕ) (n flags : ℕ) (opcode : Opcode) → AreBytes xs → HeaderSoFar xs → 10 ≤ length xs → n
+    ≡ declared xs → flags ≡ get_or xs 7 0 * 256 + get_or xs 8 0 → opcode_byte opcode ≡ get_or xs 9 0 → xs
+    ≡ header n flags opcode ++ drop 10 xs
+header_parts xs n flags opcode are h long says flag_bytes op =
+    let b0 : get_or xs 0 0 < 256 = byte_at xs 0 are in
+    let b1 : get_or xs 1 0 < 256 = byte_at xs 1 are in
+    let b7 : get_or xs 7 0 < 256 = byte_at xs 7 are in
+    let b8 : get_or xs 8 0 < 256 = byte_at xs 8 are in
+    let c0 : get_or xs 0 0 ≡ n / 256 = omega arith in
+    let c1 : get_or xs 1 0 ≡ n % 256 = omega arith in
+    let c2 = h.kind_high (omega arith) in
+    let c3 = h.kind_low (omega arith) in
+    let c4 = h.reserved_high (omega arith) in
+    let c5 = h.reserved_low (omega arith) in
+    let c6 = h.variable_length (omega arith) in
+    let c7 : get_or xs 7 0 ≡ flags / 256 = omega arith in
+    let c8 : get_or xs 8 0 ≡ flags % 256 = omega arith in ten_cells xs long ∙ (cc)
+
 -- What a right header says of the bytes before its end
 pub record HeaderFacts (xs : List ℕ) : Type 0 where
   pub long : 10 ≤ length xs
@@ -49,13 +82,13 @@ pub record HeaderFacts (xs : List ℕ) : Type 0 where
 
 pub framed_means : (xs : List ℕ) → IsFramed xs → HeaderFacts xs
 framed_means xs f =
-    let e = f.spelled in
     let cell : (i : ℕ) → get_or xs i 0 ≡ get_or (header (length xs) f.flags f.opcode ++ f.rest) i 0 =
-    λ i. ap (λ (l : List ℕ). get_or l i 0) e in
-    let long : 10 ≤ length xs = omega (arith, ap length e, header_length (length xs) f.flags f.opcode f.rest) in
-    let says : declared xs ≡ length xs =
-    (let high : get_or xs 0 0 ≡ length xs / 256 = cell 0 in let low : get_or xs 1 0 ≡ length xs % 256 = cell 1 in
-    omega arith) in
+    λ i. ap (λ (l : List ℕ). get_or l i 0) f.spelled in
+    let long : 10 ≤ length xs =
+    omega (arith, ap length f.spelled, header_length (length xs) f.flags f.opcode f.rest) in
+    let high : get_or xs 0 0 ≡ length xs / 256 = cell 0 in
+    let low : get_or xs 1 0 ≡ length xs % 256 = cell 1 in
+    let says : declared xs ≡ length xs = omega arith in
     record {
       long = long;
       short = f.length_fits;
@@ -74,99 +107,54 @@ framed_means xs f =
 -- the other way
 pub framed_from : (xs : List ℕ) → AreBytes xs → HeaderFacts xs → IsFramed xs
 framed_from xs are facts =
-    let so_far = facts.so_far in
-    let o = so_far.opcode (omega (arith, facts.long)) in
-    let flags : ℕ = get_or xs 7 0 * 256 + get_or xs 8 0 in
-    let b0 : get_or xs 0 0 < 256 = byte_at xs 0 are in
-    let b1 : get_or xs 1 0 < 256 = byte_at xs 1 are in
-    let b7 : get_or xs 7 0 < 256 = byte_at xs 7 are in
-    let b8 : get_or xs 8 0 < 256 = byte_at xs 8 are in
-    let c0 : get_or xs 0 0 ≡ length xs / 256 = omega (arith, facts.declares) in
-    let c1 : get_or xs 1 0 ≡ length xs % 256 = omega (arith, facts.declares) in
-    let c2 : get_or xs 2 0 ≡ 0x12 = so_far.kind_high (omega (arith, facts.long)) in
-    let c3 : get_or xs 3 0 ≡ 0xa0 = so_far.kind_low (omega (arith, facts.long)) in
-    let c4 : get_or xs 4 0 ≡ 0 = so_far.reserved_high (omega (arith, facts.long)) in
-    let c5 : get_or xs 5 0 ≡ 0 = so_far.reserved_low (omega (arith, facts.long)) in
-    let c6 : get_or xs 6 0 ≡ 4 = so_far.variable_length (omega (arith, facts.long)) in
-    let c7 : get_or xs 7 0 ≡ flags / 256 = omega arith in
-    let c8 : get_or xs 8 0 ≡ flags % 256 = omega arith in
-    let c9 : get_or xs 9 0 ≡ opcode_byte o.0 = sym o.1 in
+    let o = facts.so_far.opcode (omega (arith, facts.long)) in
     record {
-      flags = flags;
+      flags = _;
       opcode = o.0;
       rest = drop 10 xs;
-      flags_fit = omega arith;
+      flags_fit = omega (arith, byte_at xs 7 are, byte_at xs 8 are);
       length_fits = facts.short;
-      spelled = ten_cells xs facts.long ∙ (cc);
+      spelled = header_parts xs (length xs) (get_or xs 7 0 * 256 + get_or xs 8 0) o.0 are facts.so_far facts.long
+          (sym facts.declares) refl o.1;
     }
 
 -- more bytes behind a whole header
 pub header_append : (xs ys : List ℕ) → 10 ≤ length xs → HeaderSoFar xs → HeaderSoFar (xs ++ ys)
 header_append xs ys long h =
-    let cell : (i : ℕ) → i < 10 → get_or (xs ++ ys) i 0 ≡ get_or xs i 0 =
-    λ i k. get_or-append xs ys 0 i (omega arith) in
-    record {
-      declares = λ _. omega (arith, cell 0 (omega arith), cell 1 (omega arith), h.declares (omega arith));
-      kind_high = λ _. cell 2 (omega arith) ∙ h.kind_high (omega arith);
-      kind_low = λ _. cell 3 (omega arith) ∙ h.kind_low (omega arith);
-      reserved_high = λ _. cell 4 (omega arith) ∙ h.reserved_high (omega arith);
-      reserved_low = λ _. cell 5 (omega arith) ∙ h.reserved_low (omega arith);
-      variable_length = λ _. cell 6 (omega arith) ∙ h.variable_length (omega arith);
-      opcode = λ _. (let o = h.opcode (omega arith) in (o.0, o.1 ∙ sym (cell 9 (omega arith))));
-    }
+    header_of (xs ++ ys) (λ _. omega (
+      arith,
+      get_or-append xs ys 0 0 (omega arith),
+      get_or-append xs ys 0 1 (omega arith),
+      h.declares (omega arith),
+    ))
+    (λ i k _. rw (get_or-append xs ys 0 i (omega arith)) (cell_of xs h i (omega arith)))
 
 -- the front of a right header
 pub header_front : (xs ys : List ℕ) → HeaderSoFar (xs ++ ys) → HeaderSoFar xs
 header_front xs ys h =
-    let cell : (i : ℕ) → i < length xs → get_or (xs ++ ys) i 0 ≡ get_or xs i 0 = λ i k. get_or-append xs ys 0 i k in
-    let long : length xs ≤ length (xs ++ ys) = omega (arith, length-append xs ys) in
-    record {
-      declares = λ k. omega (arith, cell 0 (omega arith), cell 1 k, h.declares (omega arith));
-      kind_high = λ k. sym (cell 2 k) ∙ h.kind_high (omega arith);
-      kind_low = λ k. sym (cell 3 k) ∙ h.kind_low (omega arith);
-      reserved_high = λ k. sym (cell 4 k) ∙ h.reserved_high (omega arith);
-      reserved_low = λ k. sym (cell 5 k) ∙ h.reserved_low (omega arith);
-      variable_length = λ k. sym (cell 6 k) ∙ h.variable_length (omega arith);
-      opcode = λ k. (let o = h.opcode (omega arith) in (o.0, o.1 ∙ cell 9 k));
-    }
+    let long = length-append xs ys in
+    header_of xs (λ k. omega
+    (arith, get_or-append xs ys 0 0 (omega arith), get_or-append xs ys 0 1 k, h.declares (omega (arith, long))))
+    (λ i _ k. rw (get_or-append xs ys 0 i k) at (cell_of (xs ++ ys) h i (omega (arith, long))))
 
 -- a byte behind bytes that aren't a whole header yet
 pub header_more : (xs : List ℕ) (b : ℕ) → HeaderSoFar xs → (length xs ≡ 1 → 10 ≤ get_or xs 0 0 * 256 + b)
-    → (length xs ≡ 2 → b ≡ 0x12) → (length xs ≡ 3 → b ≡ 0xa0)
-    → (length xs ≡ 4 → b ≡ 0) → (length xs ≡ 5 → b ≡ 0) → (length xs ≡ 6 → b ≡ 4)
-    → (length xs ≡ 9 → (opcode : Opcode) × (opcode_byte opcode ≡ b)) → HeaderSoFar (xs ++ b ∷ [])
-header_more xs b h p1 p2 p3 p4 p5 p6 p9 =
+    → RightCell (length xs) b → HeaderSoFar (xs ++ b ∷ [])
+header_more xs b h long right =
+    let total = length-append xs (b ∷ []) in
     let old : (i : ℕ) → i < length xs → get_or (xs ++ b ∷ []) i 0 ≡ get_or xs i 0 =
     λ i k. get_or-append xs (b ∷ []) 0 i k in
     let new : (i : ℕ) → length xs ≡ i → get_or (xs ++ b ∷ []) i 0 ≡ b =
-    λ i e. subst (λ (n : ℕ). get_or (xs ++ b ∷ []) n 0 ≡ b) e (get_or-append_seam xs b [] 0) in
-    let total : length (xs ++ b ∷ []) ≡ length xs + 1 = length-append xs (b ∷ []) in
-    let is : (i v : ℕ) → i < length (xs ++ b ∷ []) → (i < length xs → get_or xs i 0 ≡ v) → (length xs ≡ i → b ≡ v)
-    → get_or (xs ++ b ∷ []) i 0 ≡ v =
-    λ i v k f g. elim (cases_lt i (length xs))
-    [ inl lt ↦ old i lt ∙ f lt | inr ge ↦ (let e : length xs ≡ i = omega arith in new i e ∙ g e) ] in
-    record {
-      declares = λ k. elim (cases_lt 1 (length xs)) [
-        | inl lt ↦ omega (arith, old 0 (omega arith), old 1 lt, h.declares lt)
-        | inr ge ↦
-            (let e : length xs ≡ 1 = omega arith in omega (arith, old 0 (omega arith), new 1 e, p1 e))
-      ];
-      kind_high = λ k. is 2 0x12 k h.kind_high p2;
-      kind_low = λ k. is 3 0xa0 k h.kind_low p3;
-      reserved_high = λ k. is 4 0 k h.reserved_high p4;
-      reserved_low = λ k. is 5 0 k h.reserved_low p5;
-      variable_length = λ k. is 6 4 k h.variable_length p6;
-      opcode = λ k. elim (cases_lt 9 (length xs)) [
-        | inl lt ↦ (let o = h.opcode lt in (o.0, o.1 ∙ sym (old 9 lt)))
-        | inr ge ↦
-            (let e : length xs ≡ 9 = omega arith in let o = p9 e in (o.0, o.1 ∙ sym (new 9 e)))
-      ];
-    }
-
-pub AreBytes-drop : (n : ℕ) (xs : List ℕ) → AreBytes xs → AreBytes (drop n xs)
-AreBytes-drop zero xs h = h
-AreBytes-drop (suc n) [] h = tt
-AreBytes-drop (suc n) (x ∷ xs) h = AreBytes-drop n xs h.1
+    λ i e. rw e at (get_or-append_seam xs b [] 0) in
+    header_of (xs ++ b ∷ []) (λ k. elim (cases_lt 1 (length xs)) [
+      | inl lt ↦ omega (arith, old 0 (omega arith), old 1 lt, h.declares lt)
+      | inr ge ↦
+          (let e : length xs ≡ 1 = omega (arith, total) in omega (arith, old 0 (omega arith), new 1 e, long e))
+    ])
+    (λ i _ k. elim (cases_lt i (length xs)) [
+      | inl lt ↦ rw (old i lt) (cell_of xs h i lt)
+      | inr ge ↦ (let e : length xs ≡ i = omega (arith, total) in rw (new i e) (rw e at right))
+    ])
 
 -- a right header, with which bytes that begin one go on
 sample : List ℕ
@@ -180,99 +168,73 @@ sample_are = (
     omega arith,
     (
       omega arith,
-      (omega arith, (omega arith, (omega arith, (omega arith, (omega arith, (omega arith, (omega arith, tt))))))),
+      (
+        omega arith,
+        (omega arith, (omega arith, (omega arith, (omega arith, (omega arith, (omega arith, tt)))))),
+      ),
     ),
   ),
 )
 
-sample_length : length sample ≡ 10
+sample_right : HeaderSoFar sample
 unfolding sample
-sample_length = refl
-
-completed : List ℕ → List ℕ
-completed xs = xs ++ drop (length xs) sample
-
-completed_at : (xs : List ℕ) (i v w : ℕ) → get_or sample i 0 ≡ w → (i < length xs → get_or xs i 0 ≡ v)
-    → (length xs ≤ i → w ≡ v) → get_or (completed xs) i 0 ≡ v
-unfolding completed
-completed_at xs i v w s f g = elim (cases_lt i (length xs)) [
-  | inl lt ↦ get_or-append xs (drop (length xs) sample) 0 i lt ∙ f lt
-  | inr ge ↦ get_or-append_right xs (drop (length xs) sample) i 0 ge ∙ get_or-drop (length xs) sample (i - length xs) 0
-      ∙ ap (λ n. get_or sample n 0) (let e : length xs + (i - length xs) ≡ i = omega arith in e) ∙ s ∙ g ge
-]
-
-completed_header : (xs : List ℕ) → HeaderSoFar xs → HeaderSoFar (completed xs)
-unfolding sample
-completed_header xs h = record {
-  declares = λ _. elim (cases_lt 1 (length xs)) [
-    | inl lt ↦ omega (
-      arith,
-      h.declares lt,
-      completed_at xs 0 (get_or xs 0 0) 0 refl (λ _. refl) (λ k. absurd (omega arith)),
-      completed_at xs 1 (get_or xs 1 0) 255 refl (λ _. refl) (λ k. absurd (omega arith)),
-    )
-    | inr ge ↦ omega (arith, completed_at xs 1 255 255 refl (λ k. absurd (omega arith)) (λ _. refl))
-  ];
-  kind_high = λ _. completed_at xs 2 0x12 0x12 refl h.kind_high (λ _. refl);
-  kind_low = λ _. completed_at xs 3 0xa0 0xa0 refl h.kind_low (λ _. refl);
-  reserved_high = λ _. completed_at xs 4 0 0 refl h.reserved_high (λ _. refl);
-  reserved_low = λ _. completed_at xs 5 0 0 refl h.reserved_low (λ _. refl);
-  variable_length = λ _. completed_at xs 6 4 4 refl h.variable_length (λ _. refl);
-  opcode = λ _. elim (cases_lt 9 (length xs)) [
-    | inl lt ↦ (let o = h.opcode lt in
-        (o.0, sym (completed_at xs 9 (opcode_byte o.0) 1 refl (λ _. sym o.1) (λ k. absurd (omega arith)))))
-    | inr ge ↦ (Invite, sym (completed_at xs 9 1 1 refl (λ k. absurd (omega arith)) (λ _. refl)))
-  ];
+sample_right = record {
+  declares = λ _. omega arith;
+  kind_high = λ _. refl;
+  kind_low = λ _. refl;
+  reserved_high = λ _. refl;
+  reserved_low = λ _. refl;
+  variable_length = λ _. refl;
+  opcode = λ _. (Invite, refl);
 }
+
+sample_length : (length sample ≡ 10) × (get_or sample 1 0 ≡ 255)
+unfolding sample
+sample_length = (refl, refl)
+
+pub empty_header : HeaderSoFar []
+empty_header = header_front [] sample sample_right
 
 -- Bytes that begin a right header, and aren't more than it declares, can become a right record.
 pub can_be_framed : (xs : List ℕ) → AreBytes xs → HeaderSoFar xs → (1 < length xs → length xs ≤ declared xs)
     → CanBeFramed xs
-unfolding completed
 can_be_framed xs are h short =
     let tail = drop (length xs) sample in
-    let full = completed xs in
-    let long : 10 ≤ length full = omega (arith, length-append xs tail, length-drop (length xs) sample, sample_length) in
-    let is : HeaderSoFar full = completed_header xs h in
-    let enough : length full ≤ declared full = elim (cases_lt 1 (length xs)) [
-      | inl lt ↦ omega (
-        arith,
-        length-append xs tail,
-        length-drop (length xs) sample,
-        sample_length,
-        is.declares (omega arith),
-        short lt,
-        get_or-append xs tail 0 0 (omega arith),
-        get_or-append xs tail 0 1 lt,
+    let full = xs ++ tail in
+    let long : length full ≡ length xs + (10 - length xs) =
+    omega (arith, length-append xs tail, length-drop (length xs) sample, sample_length) in
+    let old : (i : ℕ) → i < length xs → get_or full i 0 ≡ get_or xs i 0 = λ i k. get_or-append xs tail 0 i k in
+    let new : (i : ℕ) → length xs ≤ i → get_or full i 0 ≡ get_or sample i 0 = λ i k. get_or-append_right xs tail i 0 k
+    ∙ get_or-drop (length xs) sample (i - length xs) 0
+    ∙ ap (λ n. get_or sample n 0) (let e : length xs + (i - length xs) ≡ i = omega arith in e) in
+    let enough : (length full ≤ declared full) × (10 ≤ declared full) = elim (cases_lt 1 (length xs)) [
+      | inl lt ↦ (
+        omega (arith, short lt, h.declares lt, old 0 (omega arith), old 1 lt),
+        omega (arith, h.declares lt, old 0 (omega arith), old 1 lt),
       )
-      | inr ge ↦ omega (
-        arith,
-        length-append xs tail,
-        length-drop (length xs) sample,
-        sample_length,
-        is.declares (omega arith),
-      )
+      | inr ge ↦ (omega (arith, new 1 ge, sample_length), omega (arith, new 1 ge, sample_length))
     ] in
+    let is : HeaderSoFar full = header_of full (λ _. enough.1) (λ i ten _. elim (cases_lt i (length xs)) [
+      | inl lt ↦ rw (old i lt) (cell_of xs h i lt)
+      | inr ge ↦ rw (new i ge) (cell_of sample sample_right i (omega (arith, sample_length)))
+    ]) in
     let pad = replicate (declared full - length full) 0 in
-    let total : length (full ++ pad) ≡ declared full = length-append full pad
-    ∙ ap (λ n. length full + n) (length-replicate (declared full - length full) 0)
-    ∙ (let e : length full + (declared full - length full) ≡ declared full = omega arith in e) in
-    let bytes : AreBytes full = AreBytes-append xs tail are (AreBytes-drop (length xs) sample sample_are) in
-    let same : declared (full ++ pad) ≡ declared full =
-    omega (arith, get_or-append full pad 0 0 (omega arith), get_or-append full pad 0 1 (omega arith)) in
-    let small : declared full < 2 ^ 16 = omega (arith, byte_at full 0 bytes, byte_at full 1 bytes) in
+    let total : length (full ++ pad) ≡ declared full =
+    omega (arith, length-append full pad, length-replicate {A = ℕ} (declared full - length full) 0, enough.0) in
+    let rest : AreBytes tail = (AreBytes-apart (take (length xs) sample) tail
+    (rw (take-append-drop (length xs) sample) sample_are)).1 in
+    let bytes : AreBytes full = AreBytes-append xs tail are rest in
+    let zeros = zeros_are (declared full - length full) in
     record {
       more = tail ++ pad;
-      bytes = AreBytes-append tail pad (AreBytes-drop (length xs) sample sample_are)
-          (zeros_are (declared full - length full));
-      framed = subst IsFramed (append_assoc xs tail pad)
-          (framed_from (full ++ pad) (AreBytes-append full pad bytes (zeros_are (declared full - length full)))
+      bytes = AreBytes-append tail pad rest zeros;
+      framed = rw (← append_assoc xs tail pad) (framed_from (full ++ pad) (AreBytes-append full pad bytes zeros)
           (record {
-            long = omega (arith, total);
-            short = omega (arith, total);
-            declares = same ∙ sym total;
-            so_far =
-                header_append full pad long is;
+            long = omega (arith, total, enough.1);
+            short = omega (arith, total, byte_at full 0 bytes, byte_at full 1 bytes);
+            declares = omega
+                (arith, total, get_or-append full pad 0 0 (omega arith), get_or-append full pad 0 1 (omega arith));
+            so_far = header_append full pad (omega arith) is;
           }));
     }
 
@@ -290,40 +252,18 @@ can_means xs can =
       ),
     )
 
--- a byte that no right header has at its place
+-- a byte that a right header has at its place
 module _ (xs : List ℕ) (b : ℕ) (m : List ℕ) (f : IsFramed (xs ++ b ∷ m)) where
-  next_cell : (i : ℕ) → length xs ≡ i → get_or (xs ++ b ∷ m) i 0 ≡ b
-  next_cell i e = subst (λ (n : ℕ). get_or (xs ++ b ∷ m) n 0 ≡ b) e (get_or-append_seam xs b m 0)
-
-  facts : HeaderSoFar (xs ++ b ∷ m)
-  facts = (framed_means (xs ++ b ∷ m) f).so_far
-
-  there : (i : ℕ) → length xs ≡ i → i < length (xs ++ b ∷ m)
-  there i e = omega (arith, length-append xs (b ∷ m))
-
-  pub no_kind_high : length xs ≡ 2 → b ≢ 0x12 → ⊥
-  no_kind_high e ne = ne (sym (next_cell 2 e) ∙ facts.kind_high (there 2 e))
-
-  pub no_kind_low : length xs ≡ 3 → b ≢ 0xa0 → ⊥
-  no_kind_low e ne = ne (sym (next_cell 3 e) ∙ facts.kind_low (there 3 e))
-
-  pub no_reserved_high : length xs ≡ 4 → b ≢ 0 → ⊥
-  no_reserved_high e ne = ne (sym (next_cell 4 e) ∙ facts.reserved_high (there 4 e))
-
-  pub no_reserved_low : length xs ≡ 5 → b ≢ 0 → ⊥
-  no_reserved_low e ne = ne (sym (next_cell 5 e) ∙ facts.reserved_low (there 5 e))
-
-  pub no_variable_length : length xs ≡ 6 → b ≢ 4 → ⊥
-  no_variable_length e ne = ne (sym (next_cell 6 e) ∙ facts.variable_length (there 6 e))
-
-  pub no_opcode : length xs ≡ 9 → ((opcode : Opcode) → opcode_byte opcode ≡ b → ⊥) → ⊥
-  no_opcode e none = let o = facts.opcode (there 9 e) in none o.0 (o.1 ∙ next_cell 9 e)
+  pub next_cell : RightCell (length xs) b
+  next_cell = rw (get_or-append_seam xs b m 0) at (cell_of _ (framed_means _ f).so_far (length xs)
+      (omega (arith, length-append xs (b ∷ m))))
 
   pub no_room : 1 < length xs → declared xs ≤ length xs → ⊥
-  no_room k e = omega (
-    arith,
-    (framed_means (xs ++ b ∷ m) f).declares,
-    length-append xs (b ∷ m),
-    get_or-append xs (b ∷ m) 0 0 (omega arith),
-    get_or-append xs (b ∷ m) 0 1 k,
-  )
+  no_room k e =
+      omega (
+        arith,
+        (framed_means _ f).declares,
+        length-append xs (b ∷ m),
+        get_or-append xs (b ∷ m) 0 0 (omega arith),
+        get_or-append xs (b ∷ m) 0 1 k,
+      )

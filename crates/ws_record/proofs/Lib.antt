@@ -1,7 +1,7 @@
 pub mod Bodies
 pub mod BothWays
+pub mod Common
 pub mod Decodes
-pub mod Empty
 pub mod Encodings
 pub mod Faults
 pub mod Fronts

@@ -1,13 +1,7 @@
-use Rattle.std.proofs.Common.{◌≡◌, ◌≢◌, ℕ, List, [], ◌∷◌, ◌++◌, ◌⊎◌, inl, inr, refl, sym, ap, ◌∙◌, subst, append_assoc}
-use Rattle.std.specs.List.{AllByRecursion}
-use Rattle.std.proofs.lemmas.List.{append-nil}
-use Rattle.ws_code.specs.Code.{Rules, Stands, IsUnfinished, IsChain, IsCut, AreBytes, spelling_of, place_after}
-use Rattle.ws_code.proofs.CodeLaws.{Begins, one_begins}
-use Rattle.ws_telnet.specs.Token.{token_rules}
-use Rattle.ws_telnet.specs.declared.token.Token.{Token}
-use Rattle.ws_telnet.specs.declared.token.Token.TheVariants.{Data, Eor, Telnet as TelnetToken}
-use Rattle.ws_record.specs.Grammar.{HasNoEor, joined, carried}
-use Rattle.ws_record.specs.OpenPrefix.{BeginsList}
+use Rattle.ws_record.proofs.Common as C
+use C.{◌≡◌, ◌≢◌, ℕ, List, [], ◌∷◌, ◌++◌, ◌⊎◌, inl, inr, refl, sym, ap, ◌∙◌, append_assoc, AllByRecursion, append-nil}
+use C.{Rules, Stands, IsUnfinished, IsChain, IsCut, AreBytes, spelling_of, place_after, Begins, one_begins, token_rules}
+use C.{Token, Data, Eor, HasNoEor, joined, carried, BeginsList}
 use Rattle.ws_record.proofs.Streams.{carried-append}
 
 -- Lists of tokens
@@ -23,29 +17,24 @@ part_more : (t : Token) (tokens : List Token) (parts : List (List Token)) (rest 
     → AllByRecursion HasNoEor parts → HasNoEor rest → joined parts rest ≡ tokens → Parted (t ∷ tokens)
 part_more t tokens [] rest other hp hr e =
     record { parts = []; rest = t ∷ rest; no_eor = (tt, (other, hr)); is = ap (λ (x : List Token). t ∷ x) e }
-part_more t tokens (p ∷ parts) rest other hp hr e =
-    record {
-      parts = (t ∷ p) ∷ parts;
-      rest = rest;
-      no_eor = (((other, hp.0), hp.1), hr);
-      is =
-          ap (λ (x : List Token). t ∷ x) e;
-    }
+part_more t tokens (p ∷ parts) rest other hp hr e = record {
+  parts = (t ∷ p) ∷ parts;
+  rest = rest;
+  no_eor = (((other, hp.0), hp.1), hr);
+  is = ap (λ (x : List Token). t ∷ x) e;
+}
 
 pub parted : (tokens : List Token) → Parted tokens
 parted [] = record { parts = []; rest = []; no_eor = (tt, tt); is = refl }
-parted (Data b ∷ tokens) = let q = parted tokens in
-    part_more (Data b) tokens q.parts q.rest (λ f. cc) q.no_eor.0 q.no_eor.1 q.is
-parted (TelnetToken t ∷ tokens) = let q = parted tokens in
-    part_more (TelnetToken t) tokens q.parts q.rest (λ f. cc) q.no_eor.0 q.no_eor.1 q.is
-parted (Eor ∷ tokens) = let q = parted tokens in
+parted (Eor ∷ tokens) =
+    let q = parted tokens in
     record {
       parts = [] ∷ q.parts;
       rest = q.rest;
       no_eor = ((tt, q.no_eor.0), q.no_eor.1);
-      is =
-          ap (λ (x : List Token). Eor ∷ x) q.is;
+      is = ap (λ (x : List Token). Eor ∷ x) q.is;
     }
+parted (t ∷ tokens) = let q = parted tokens in part_more t tokens q.parts q.rest (λ f. cc) q.no_eor.0 q.no_eor.1 q.is
 
 -- the last element of a list, if it has one
 pub last_of : {X : Type 0} (xs : List X) → (xs ≡ []) ⊎ ((ys : List X) × (y : X) × (xs ≡ ys ++ y ∷ []))
@@ -63,8 +52,7 @@ chain_front (u ∷ us) vs c = (c.0, chain_front us vs c.1)
 pub data_are_bytes : (tokens : List Token) → IsChain token_rules tt tokens → AreBytes (carried tokens)
 data_are_bytes [] c = tt
 data_are_bytes (Data b ∷ tokens) c = (c.0.is_unit, data_are_bytes tokens c.1)
-data_are_bytes (TelnetToken t ∷ tokens) c = data_are_bytes tokens c.1
-data_are_bytes (Eor ∷ tokens) c = data_are_bytes tokens c.1
+data_are_bytes (t ∷ tokens) c = data_are_bytes tokens c.1
 
 pub AreBytes-apart : (xs ys : List ℕ) → AreBytes (xs ++ ys) → AreBytes xs × AreBytes ys
 AreBytes-apart [] ys h = (tt, h)
@@ -75,8 +63,7 @@ pub parts_are_bytes : (parts : List (List Token)) (rest : List Token) → AreByt
 parts_are_bytes [] rest h = tt
 parts_are_bytes (p ∷ parts) rest h =
     let first : joined (p ∷ parts) rest ≡ p ++ Eor ∷ joined parts rest = simp append_assoc in
-    let both = AreBytes-apart (carried p) (carried (joined parts rest))
-    (subst AreBytes (ap carried first ∙ carried-append p (Eor ∷ joined parts rest)) h) in
+    let both = AreBytes-apart _ _ (rw (ap carried first ∙ carried-append p (Eor ∷ joined parts rest)) at h) in
     (both.0, parts_are_bytes parts rest both.1)
 
 pub AllByRecursion-front : {X : Type 0} (P : X → Type 0) (xs ys : List X) → AllByRecursion P (xs ++ ys)
@@ -99,38 +86,34 @@ pub record CutAt {Place U : Type 0} (rules : Rules Place U) (place : Place) (byt
   pub more : IsUnfinished rules (place_after rules place units) begun
   pub spelled : spelling_of rules units ++ begun ≡ bytes
 
+pub both_empty : (x z : List ℕ) → [] ≡ x ++ z → (x ≡ []) × (z ≡ [])
+both_empty [] z e = (refl, sym e)
+both_empty (b ∷ x) z e = cc
+
 module _ {Place U : Type 0} (rules : Rules Place U) (begins : Begins rules) where
   cut_inside : (place : Place) (u : U) (x left : List ℕ) → Stands rules place u → rules.spelling u ≡ x ++ left
       → CutAt rules place x
-  cut_inside place u x [] s e =
-      record {
-        units = u ∷ [];
-        begun = [];
-        chain = (s, tt);
-        more = begins (rules.after u);
-        spelled = append-nil _
-            ∙ append-nil (rules.spelling u) ∙ e ∙ append-nil x;
-      }
-  cut_inside place u x (next ∷ left) s e =
-      record {
-        units = [];
-        begun = x;
-        chain = tt;
-        more =
-            record { unit = u; next = next; rest = left; stands = s; spelled = e };
-        spelled = refl;
-      }
-
-  nothing_left : (x z : List ℕ) → [] ≡ x ++ z → [] ≡ x
-  nothing_left [] z e = refl
-  nothing_left (b ∷ x) z e = cc
+  cut_inside place u x [] s e = record {
+    units = u ∷ [];
+    begun = [];
+    chain = (s, tt);
+    more = begins (rules.after u);
+    spelled = append-nil _ ∙ append-nil (rules.spelling u) ∙ e ∙ append-nil x;
+  }
+  cut_inside place u x (next ∷ left) s e = record {
+    units = [];
+    begun = x;
+    chain = tt;
+    more = record { unit = u; next = next; rest = left; stands = s; spelled = e };
+    spelled = refl;
+  }
 
   pub cut_at : (place : Place) (us : List U) (x z : List ℕ) → IsChain rules place us → spelling_of rules us ≡ x ++ z
       → CutAt rules place x
   cut_at place [] x z c e =
-      record { units = []; begun = []; chain = tt; more = begins place; spelled = nothing_left x z e }
+      record { units = []; begun = []; chain = tt; more = begins place; spelled = sym (both_empty x z e).0 }
   cut_at place (u ∷ us) x z c e = elim (one_begins x (rules.spelling u) z (spelling_of rules us) (sym e)) [
-    | inl p ↦ cut_inside place u x p.0 c.0 p.1
+    | inl p ↦ cut_inside _ u x _ c.0 p.1
     | inr p ↦ (let found = cut_at (rules.after u) us p.0 z c.1 p.2 in
         record {
           units = u ∷ found.units;
@@ -146,21 +129,16 @@ module _ {Place U : Type 0} (rules : Rules Place U) (begins : Begins rules) wher
   pub list_cut : (bytes : List ℕ) → BeginsList rules bytes → (units : List U) × (begun : List ℕ)
       × IsCut rules bytes units begun
   list_cut bytes b =
-      let found = cut_at rules.first b.units bytes b.more b.whole.chain b.spelled in
+      let found = cut_at _ _ _ _ b.whole.chain b.spelled in
       (found.units, found.begun, record { chain = found.chain; more = found.more; spelled = found.spelled })
 
 -- bytes before the last one
 pub all_but_last : (before : List ℕ) (b : ℕ) (x w : List ℕ) → before ++ b ∷ [] ≡ x ++ w → (w ≡ [] → ⊥) → (y : List ℕ)
     × (before ≡ x ++ y)
 all_but_last before b x w e some = elim (one_begins before x (b ∷ []) w e) [
-  | inl p ↦ left_over p.0 p.1 p.2
+  | inl p ↦ left_over _ p.1 p.2
   | inr p ↦ (p.0, p.1)
-]
-  where
-    left_over : (r : List ℕ) → x ≡ before ++ r → b ∷ [] ≡ r ++ w → (y : List ℕ) × (before ≡ x ++ y)
-    left_over [] f g = ([], sym (append-nil x ∙ f ∙ append-nil before))
-    left_over (c ∷ r) f g = absurd (some (no_more r (let h : [] ≡ r ++ w = cc in h)))
-      where
-        no_more : (r : List ℕ) → [] ≡ r ++ w → w ≡ []
-        no_more [] h = sym h
-        no_more (d ∷ r) h = cc
+] where
+  left_over : (r : List ℕ) → x ≡ before ++ r → b ∷ [] ≡ r ++ w → (y : List ℕ) × (before ≡ x ++ y)
+  left_over [] f g = ([], sym (append-nil x ∙ f ∙ append-nil before))
+  left_over (c ∷ r) f g = absurd (some (both_empty r w cc).1)

@@ -1,19 +1,23 @@
-use Rattle.std.proofs.Common.{◌≡◌, ℕ, List, [], ◌∷◌, ◌++◌, map, refl, sym, ap, ◌∙◌, subst, append_assoc}
-use Rattle.std.specs.List.{flat_map}
-use Rattle.std.proofs.lemmas.List.{append-nil, map-append}
-use Rattle.std.proofs.lemmas.Grind.{flat_map-append}
-use Rattle.ws_code.specs.Code.{Rules, IsUnfinished, IsCut, IsSpelled}
-use Rattle.ws_code.proofs.CodeLaws.{cut_unit, cut_more}
-use Rattle.ws_telnet.specs.Token.{token_rules}
-use Rattle.ws_telnet.specs.TokenLaws.{token_begins}
-use Rattle.ws_telnet.specs.declared.token.Telnet.{Telnet}
-use Rattle.ws_telnet.specs.declared.token.Token.{Token}
-use Rattle.ws_telnet.specs.declared.token.Token.TheVariants.{Data, Eor, Telnet as TelnetToken}
-use Rattle.ws_record.specs.declared.record.Record.{Record}
-use Rattle.ws_record.specs.declared.record.Item.{Item}
-use Rattle.ws_record.specs.declared.record.Item.TheVariants.{Record as RecordItem, Telnet as TelnetItem}
-use Rattle.ws_record.specs.Grammar.{IsRecord, IsStretch, Holds, joined, carried, commands, command_of, record_bytes}
-use Rattle.ws_record.proofs.Streams.{HasNoEor-append, AllByRecursion-append, carried-append, joined_more, joined_eor}
+use Rattle.ws_record.proofs.Common as C
+use C.{IsToken, token_spelling, ◌≡◌, ℕ, List, [], ◌∷◌, ◌++◌, map, refl, sym, ap, ◌∙◌, append_assoc, append-nil}
+use C.{map-append, flat_map-append, Rules, IsUnfinished, IsCut, IsSpelled, cut_unit, cut_more, token_rules}
+use C.{token_begins, Telnet, Token, Data, Eor, TelnetToken, Record, Item, RecordItem, TelnetItem, IsRecord, Holds}
+use C.{joined, record_bytes}
+use Rattle.ws_record.proofs.Streams.{AllByRecursion-append, joined_more, joined_eor}
+
+-- a token whose spelling this is, and one that goes on
+pub is_token : {t : Token} {bytes : List ℕ} → IsToken t → token_spelling t ≡ bytes → IsSpelled token_rules tt bytes t
+is_token is e = record { stands = record { is_unit = is; may_follow = refl }; spelled = e }
+
+pub begins_token : (t : Token) {begun : List ℕ} (next : ℕ) (rest : List ℕ) → IsToken t
+    → token_spelling t ≡ begun ++ next ∷ rest → IsUnfinished token_rules tt begun
+begins_token t next rest is e = record {
+  unit = t;
+  next = next;
+  rest = rest;
+  stands = record { is_unit = is; may_follow = refl };
+  spelled = e;
+}
 
 module _ {Place U : Type 0} (rules : Rules Place U) where
   -- the parts of the stretches
@@ -49,19 +53,11 @@ module _ {Place U : Type 0} (rules : Rules Place U) where
     stretches = h.stretches;
     rest = h.rest ++ Data v ∷ [];
     each = h.each;
-    no_eor = HasNoEor-append h.rest (Data v ∷ []) h.no_eor ((λ f. cc), tt);
-    cut = subst (λ (x : List Token). IsCut token_rules (bytes ++ b ∷ []) x [])
-        (joined_more (parts_of h.stretches) h.rest (Data v)) (token_more bytes items so_far begun b (Data v) h s);
-    are_items = h.are_items ∙ ap
-        (λ (x : List (Item U)). flat_map (λ (s : List Token × Record U). commands s.0 ++ RecordItem s.1 ∷ [])
-        h.stretches ++ x) (same_commands h.rest (Data v) refl);
-    is_open = ap (λ (x : List ℕ). x ++ v ∷ []) h.is_open ∙ sym (carried-append h.rest (Data v ∷ []));
+    no_eor = AllByRecursion-append _ h.rest _ h.no_eor ((λ f. cc), tt);
+    cut = rw (joined_more (parts_of h.stretches) h.rest (Data v)) at (token_more bytes items so_far _ b _ h s);
+    are_items = h.are_items ∙ simp (flat_map-append, append-nil);
+    is_open = ap (λ (x : List ℕ). x ++ v ∷ []) h.is_open ∙ simp flat_map-append;
   }
-    where
-      same_commands : (ts : List Token) (t : Token) → command_of t ≡ [] → commands {U = U} ts ≡ commands (ts ++ t ∷ [])
-      same_commands ts t e = ap (map TelnetItem)
-          (sym (flat_map-append command_of ts (t ∷ []) ∙ ap (λ x. flat_map command_of ts ++ (x ++ [])) e
-          ∙ append-nil (flat_map command_of ts)))
 
   -- a command
   pub holds_command : (bytes : List ℕ) (items : List (Item U)) (so_far begun : List ℕ) (b : ℕ) (t : Telnet)
@@ -71,16 +67,12 @@ module _ {Place U : Type 0} (rules : Rules Place U) where
     stretches = h.stretches;
     rest = h.rest ++ TelnetToken t ∷ [];
     each = h.each;
-    no_eor = HasNoEor-append h.rest (TelnetToken t ∷ []) h.no_eor ((λ f. cc), tt);
-    cut = subst (λ (x : List Token). IsCut token_rules (bytes ++ b ∷ []) x [])
-        (joined_more (parts_of h.stretches) h.rest (TelnetToken t))
-        (token_more bytes items so_far begun b (TelnetToken t) h s);
+    no_eor = AllByRecursion-append _ h.rest _ h.no_eor ((λ f. cc), tt);
+    cut =
+        rw (joined_more (parts_of h.stretches) h.rest (TelnetToken t)) at (token_more bytes items so_far _ b _ h s);
     are_items = ap (λ (x : List (Item U)). x ++ TelnetItem t ∷ []) h.are_items
-        ∙ append_assoc _ (commands h.rest) (TelnetItem t ∷ [])
-        ∙ ap (λ (x : List (Item U)). flat_map (λ (s : List Token × Record U). commands s.0 ++ RecordItem s.1 ∷ [])
-        h.stretches ++ x) (sym (ap (map TelnetItem) (flat_map-append command_of h.rest (TelnetToken t ∷ []))
-        ∙ map-append TelnetItem (flat_map command_of h.rest) (t ∷ [])));
-    is_open = h.is_open ∙ sym (carried-append h.rest (TelnetToken t ∷ []) ∙ append-nil (carried h.rest));
+        ∙ simp (append_assoc, flat_map-append, map-append);
+    is_open = h.is_open ∙ simp (flat_map-append, append-nil);
   }
 
   -- the end of a record
@@ -92,18 +84,15 @@ module _ {Place U : Type 0} (rules : Rules Place U) where
     rest = [];
     no_eor = tt;
     is_open = refl;
-    each = AllByRecursion-append (IsStretch rules) h.stretches ((h.rest, r) ∷ []) h.each
+    each = AllByRecursion-append _ _ _ h.each
         (record { no_eor = h.no_eor; is_record = is; carries = sym h.is_open ∙ carries }, tt);
-    cut = subst (λ (x : List Token). IsCut token_rules (bytes ++ b ∷ []) x [])
-        (joined_eor (parts_of h.stretches) h.rest
-        ∙ ap (λ x. joined x []) (sym (map-append (λ (s : List Token × Record U). s.0) h.stretches ((h.rest, r) ∷ []))))
-        (token_more bytes items so_far begun b Eor h s);
+    cut = rw (
+      joined_eor (parts_of h.stretches) h.rest,
+      ← map-append (λ (s : List Token × Record U). s.0) h.stretches ((h.rest, r) ∷ []),
+    ) at
+        (token_more bytes items so_far _ b _ h s);
     are_items = ap (λ (x : List (Item U)). x ++ RecordItem r ∷ []) h.are_items
-        ∙ append_assoc _ (commands h.rest) (RecordItem r ∷ [])
-        ∙ sym (append-nil _ ∙ flat_map-append (λ (s : List Token × Record U). commands s.0 ++ RecordItem s.1 ∷ [])
-        h.stretches ((h.rest, r) ∷ [])
-        ∙ ap (λ (x : List (Item U)). flat_map (λ (s : List Token × Record U). commands s.0 ++ RecordItem s.1 ∷ [])
-        h.stretches ++ x) (append-nil _));
+        ∙ simp (append_assoc, append-nil, flat_map-append);
   }
 
   -- nothing yet
@@ -113,8 +102,7 @@ module _ {Place U : Type 0} (rules : Rules Place U) where
     rest = [];
     each = tt;
     no_eor = tt;
-    cut =
-        record { chain = tt; more = token_begins tt; spelled = refl };
+    cut = record { chain = tt; more = token_begins tt; spelled = refl };
     are_items = refl;
     is_open = refl;
   }

@@ -25,40 +25,39 @@ module _ {Place U : Type 0} where
     pub leads : Leads rules live bytes items (record { bytes = grown; head = head; units = so_far.units ++ more })
     pub body : drop 10 grown ≡ drop 10 so_far.bytes ++ told
 
-  -- What a front behind these bytes makes of the decoder: what is complete with its last byte, and of the keep.
-  abbrev pub IsAdvance : {K : Type 0} → Rules Place U → (K → List U → List ℕ → Type 0) → (Kept → Type 0) → List ℕ
-      → List (Item U) → RecordSoFar U → K → List ℕ → Watching Place → K → News → Type 0
-  IsAdvance rules holds may_answer bytes items so_far old front live new More = (more : List U) × (told : List ℕ)
-      × Onward rules live (bytes ++ front) items so_far so_far.head more told
-      × KeepsTold holds old new more told
-      × OnlyIfOn may_answer more
-  IsAdvance rules holds may_answer bytes items so_far old front live new Whole = (before : List U) × (unit : U)
-      × (told : List ℕ)
-      × Onward rules live (bytes ++ front) items so_far so_far.head (before ++ unit ∷ []) told
-      × KeepsTold holds old new (before ++ unit ∷ []) told
-      × OnlyIfOn may_answer before
-      × (live.reader.begun ≡ [])
-      × may_answer answer.Enough
-  IsAdvance rules holds may_answer bytes items so_far old front live new (Open head) = (so_far.head ≡ None)
-      × ((grown : List ℕ) × Leads rules live (bytes ++ front) items (record so_far { bytes = grown; head = Some head })
-      × (drop 10 grown ≡ []))
-      × (new ≡ old)
-  IsAdvance rules holds may_answer bytes items so_far old front live new (Close head) = IsWholeRecord rules so_far head
-      × Leads rules live (bytes ++ front) (items ++ RecordItem (record_of head so_far.units) ∷ []) no_record
-      × (new ≡ old)
-  IsAdvance rules holds may_answer bytes items so_far old front live new (Command code) =
-      Leads rules live (bytes ++ front) (items ++ TelnetItem (telnet.Command code) ∷ []) so_far × (new ≡ old)
-  IsAdvance rules holds may_answer bytes items so_far old front live new (Negotiate verb option) =
-      Leads rules live (bytes ++ front) (items ++ TelnetItem (telnet.Option verb option) ∷ []) so_far × (new ≡ old)
-  IsAdvance rules holds may_answer bytes items so_far old front live new Sub =
-      Leads rules live (bytes ++ front) (items ++ TelnetItem (telnet.Sub live.sub) ∷ []) so_far
-      × (live.begun ≡ []) × (new ≡ old)
-  IsAdvance rules holds may_answer bytes items so_far old front live new (Refused reason) = (place : ℕ)
-      × (length (bytes ++ front) ≡ place + 1)
-      × IsRefused rules (bytes ++ front) place reason
-  IsAdvance rules holds may_answer bytes items so_far old front live new NoMemory =
-      EndIn front (λ before last. CompletesUnit rules (bytes ++ before) last) × may_answer answer.NoMemory
-  IsAdvance rules holds may_answer bytes items so_far old front live new Failed = ⊥
+  module _ {K : Type 0} (rules : Rules Place U) (holds : K → List U → List ℕ → Type 0) (may_answer : Kept → Type 0)
+      (bytes : List ℕ) (items : List (Item U)) (so_far : RecordSoFar U) (old : K) (front : List ℕ)
+      (live : Watching Place) (new : K) where
+    -- What a front behind these bytes makes of the decoder: what is complete with its last byte, and of the keep.
+    abbrev pub IsAdvance : News → Type 0
+    IsAdvance More =
+        (more : List U) × (told : List ℕ) × Onward rules live (bytes ++ front) items so_far so_far.head more told
+        × KeepsTold holds old new more told × OnlyIfOn may_answer more
+    IsAdvance Whole =
+        (before : List U) × (unit : U) × (told : List ℕ)
+        × Onward rules live (bytes ++ front) items so_far so_far.head (before ++ unit ∷ []) told
+        × KeepsTold holds old new (before ++ unit ∷ []) told × OnlyIfOn may_answer before × (live.reader.begun ≡ [])
+        × may_answer answer.Enough
+    IsAdvance (Open head) =
+        (so_far.head ≡ None)
+        × ((grown : List ℕ)
+        × Leads rules live (bytes ++ front) items (record so_far { bytes = grown; head = Some head })
+        × (drop 10 grown ≡ [])) × (new ≡ old)
+    IsAdvance (Close head) = IsWholeRecord rules so_far head
+        × Leads rules live (bytes ++ front) (items ++ RecordItem (record_of head so_far.units) ∷ []) no_record
+        × (new ≡ old)
+    IsAdvance (Command code) =
+        Leads rules live (bytes ++ front) (items ++ TelnetItem (telnet.Command code) ∷ []) so_far × (new ≡ old)
+    IsAdvance (Negotiate verb option) =
+        Leads rules live (bytes ++ front) (items ++ TelnetItem (telnet.Option verb option) ∷ []) so_far × (new ≡ old)
+    IsAdvance Sub =
+        Leads rules live (bytes ++ front) (items ++ TelnetItem (telnet.Sub live.sub) ∷ []) so_far
+        × (live.begun ≡ []) × (new ≡ old)
+    IsAdvance (Refused reason) =
+        (place : ℕ) × (length (bytes ++ front) ≡ place + 1) × IsRefused rules (bytes ++ front) place reason
+    IsAdvance NoMemory =
+        EndIn front (λ before last. CompletesUnit rules (bytes ++ before) last) × may_answer answer.NoMemory
+    IsAdvance Failed = ⊥
 
 -- no item is complete, and more may follow
 abbrev pub goes_on : News → Bool

@@ -40,22 +40,6 @@ module _ {Place U : Type 0} where
   LeadsWith rules live bytes items head units = (so_far : List ℕ)
       × Leads rules live bytes items (record { bytes = so_far; head = head; units = units })
 
-  -- What one byte more gives: its step says what is complete with it.
-  abbrev pub IsLiveStep : Rules Place U → Watching Place → List ℕ → List (Item U) → RecordSoFar U → ℕ → Step U → Type 0
-  IsLiveStep rules new bytes items so_far byte More = LeadsWith rules new (bytes
-      ++ byte ∷ []) items so_far.head so_far.units
-  IsLiveStep rules new bytes items so_far byte (Open head) = (so_far.head ≡ None)
-      × LeadsWith rules new (bytes ++ byte ∷ []) items (Some head) so_far.units
-  IsLiveStep rules new bytes items so_far byte (Whole unit) = LeadsWith rules new (bytes
-      ++ byte ∷ []) items so_far.head (so_far.units ++ unit ∷ [])
-  IsLiveStep rules new bytes items so_far byte Close = (head : Head) × (so_far.head ≡ Some head)
-      × Leads rules new (bytes ++ byte ∷ []) (items ++ RecordItem (record_of head so_far.units) ∷ []) no_record
-  IsLiveStep rules new bytes items so_far byte (Command telnet) = Leads rules new (bytes ++ byte ∷ []) (items
-      ++ TelnetItem telnet ∷ []) so_far
-  IsLiveStep rules new bytes items so_far byte (Refused place reason) = (place ≡ length bytes)
-      × IsRefused rules (bytes ++ byte ∷ []) place reason
-  IsLiveStep rules new bytes items so_far byte Failed = ⊥
-
   -- behind these bytes the byte completes a unit of the open record's body
   pub record CompletesUnit (rules : Rules Place U) (bytes : List ℕ) (byte : ℕ) : Type 0 where
     pub items : List (Item U)
@@ -68,20 +52,25 @@ module _ {Place U : Type 0} where
     pub spelled : IsSpelled token_rules tt (begun ++ byte ∷ []) (Data value)
     pub cut : IsCut rules (drop 10 (so_far ++ value ∷ [])) (units ++ unit ∷ []) []
 
-  -- What the last of these bytes gives, where nothing was complete with those before it: its step says what.
-  abbrev pub IsFrontStep : Rules Place U → Watching Place → List ℕ → List (Item U) → RecordSoFar U → Step U → Type 0
-  IsFrontStep rules new bytes items so_far More = LeadsWith rules new bytes items so_far.head so_far.units
-  IsFrontStep rules new bytes items so_far (Open head) = (so_far.head ≡ None)
-      × LeadsWith rules new bytes items (Some head) so_far.units
-  IsFrontStep rules new bytes items so_far (Whole unit) =
-      LeadsWith rules new bytes items so_far.head (so_far.units ++ unit ∷ [])
-  IsFrontStep rules new bytes items so_far Close = (head : Head) × (so_far.head ≡ Some head)
-      × Leads rules new bytes (items ++ RecordItem (record_of head so_far.units) ∷ []) no_record
-  IsFrontStep rules new bytes items so_far (Command telnet) =
-      Leads rules new bytes (items ++ TelnetItem telnet ∷ []) so_far
-  IsFrontStep rules new bytes items so_far (Refused place reason) = (length bytes ≡ place + 1)
-      × IsRefused rules bytes place reason
-  IsFrontStep rules new bytes items so_far Failed = ⊥
+  module _ (rules : Rules Place U) (new : Watching Place) (bytes : List ℕ) (items : List (Item U))
+      (so_far : RecordSoFar U) where
+    -- What the last of these bytes gives, where nothing was complete with those before it: its step says what.
+    abbrev pub IsFrontStep : Step U → Type 0
+    IsFrontStep More = LeadsWith rules new bytes items so_far.head so_far.units
+    IsFrontStep (Open head) = (so_far.head ≡ None) × LeadsWith rules new bytes items (Some head) so_far.units
+    IsFrontStep (Whole unit) = LeadsWith rules new bytes items so_far.head (so_far.units ++ unit ∷ [])
+    IsFrontStep Close = (head : Head) × (so_far.head ≡ Some head)
+        × Leads rules new bytes (items ++ RecordItem (record_of head so_far.units) ∷ []) no_record
+    IsFrontStep (Command telnet) = Leads rules new bytes (items ++ TelnetItem telnet ∷ []) so_far
+    IsFrontStep (Refused place reason) = (length bytes ≡ place + 1) × IsRefused rules bytes place reason
+    IsFrontStep Failed = ⊥
+
+  -- What one byte more gives: its step says what is complete with it, and a refusal is at this byte.
+  abbrev pub IsLiveStep : Rules Place U → Watching Place → List ℕ → List (Item U) → RecordSoFar U → ℕ → Step U
+      → Type 0
+  IsLiveStep rules new bytes items so_far byte (Refused place reason) = (place ≡ length bytes)
+      × IsRefused rules (bytes ++ byte ∷ []) place reason
+  IsLiveStep rules new bytes items so_far byte step = IsFrontStep rules new (bytes ++ byte ∷ []) items so_far step
 
 -- a fact where the step says that nothing follows
 abbrev pub OnEnd : {U : Type 0} → Step U → Type 0 → Type 0

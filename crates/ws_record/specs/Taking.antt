@@ -50,35 +50,33 @@ module _ {Place U : Type 0} where
   IsHeaderStep rules new so_far byte (Refused reason) = IsDataRefused rules so_far.bytes byte reason
   IsHeaderStep rules new so_far byte news = ⊥
 
-  -- What values make of a record: its body grows, up to a unit with which the keep has enough; or its header is whole,
-  -- and no byte of its body is there; or the last value is refused, or completes a unit that isn't kept.
-  abbrev pub IsTaken : {K : Type 0} → Rules Place U → (K → List U → List ℕ → Type 0) → (Kept → Type 0)
-      → RecordSoFar U → K → List ℕ → Keeping Place → K → News → Type 0
-  IsTaken rules holds may_answer so_far old values reader new More = (more : List U) × (told : List ℕ)
-      × HasRead rules reader (grown so_far values more)
-      × (drop 10 (so_far.bytes ++ values) ≡ drop 10 so_far.bytes ++ told)
-      × KeepsTold holds old new more told
-      × OnlyIfOn may_answer more
-  IsTaken rules holds may_answer so_far old values reader new Whole = (before : List U) × (unit : U) × (told : List ℕ)
-      × HasRead rules reader (grown so_far values (before ++ unit ∷ []))
-      × (drop 10 (so_far.bytes ++ values) ≡ drop 10 so_far.bytes ++ told)
-      × KeepsTold holds old new (before ++ unit ∷ []) told
-      × OnlyIfOn may_answer before
-      × (reader.begun ≡ [])
-      × may_answer answer.Enough
-  IsTaken rules holds may_answer so_far old values reader new (Open head) = (so_far.head ≡ None)
-      × HasRead rules reader (record so_far { bytes = so_far.bytes ++ values; head = Some head })
-      × (new ≡ old)
-      × (drop 10 (so_far.bytes ++ values) ≡ [])
-  IsTaken rules holds may_answer so_far old values reader new (Refused reason) =
-      EndIn values (λ front last. (before : Keeping Place) × (more : List U)
-      × HasRead rules before (grown so_far front more)
-      × IsDataRefused rules (so_far.bytes ++ front) last reason)
-  IsTaken rules holds may_answer so_far old values reader new NoMemory = EndIn values (λ front last.
-      (units : List U) × (unit : U)
-      × IsCut rules (drop 10 ((so_far.bytes ++ front) ++ last ∷ [])) (units ++ unit ∷ []) []
-      × may_answer answer.NoMemory)
-  IsTaken rules holds may_answer so_far old values reader new news = ⊥
+  module _ {K : Type 0} (rules : Rules Place U) (holds : K → List U → List ℕ → Type 0) (may_answer : Kept → Type 0)
+      (so_far : RecordSoFar U) (old : K) (values : List ℕ) (reader : Keeping Place) (new : K) where
+    -- What values make of a record: its body grows, up to a unit with which the keep has enough; or its header is
+    -- whole, and no byte of its body is there; or the last value is refused, or completes a unit that isn't kept.
+    abbrev pub IsTaken : News → Type 0
+    IsTaken More =
+        (more : List U) × (told : List ℕ) × HasRead rules reader (grown so_far values more)
+        × (drop 10 (so_far.bytes ++ values) ≡ drop 10 so_far.bytes ++ told) × KeepsTold holds old new more told
+        × OnlyIfOn may_answer more
+    IsTaken Whole =
+        (before : List U) × (unit : U) × (told : List ℕ)
+        × HasRead rules reader (grown so_far values (before ++ unit ∷ []))
+        × (drop 10 (so_far.bytes ++ values) ≡ drop 10 so_far.bytes ++ told)
+        × KeepsTold holds old new (before ++ unit ∷ []) told × OnlyIfOn may_answer before × (reader.begun ≡ [])
+        × may_answer answer.Enough
+    IsTaken (Open head) = (so_far.head ≡ None)
+        × HasRead rules reader (record so_far { bytes = so_far.bytes ++ values; head = Some head })
+        × (new ≡ old)
+        × (drop 10 (so_far.bytes ++ values) ≡ [])
+    IsTaken (Refused reason) =
+        EndIn values (λ front last. (before : Keeping Place) × (more : List U)
+        × HasRead rules before (grown so_far front more) × IsDataRefused rules (so_far.bytes ++ front) last reason)
+    IsTaken NoMemory = EndIn values (λ front last.
+        (units : List U) × (unit : U)
+        × IsCut rules (drop 10 ((so_far.bytes ++ front) ++ last ∷ [])) (units ++ unit ∷ []) []
+        × may_answer answer.NoMemory)
+    IsTaken news = ⊥
 
   -- what the end of a record makes of it: it is whole, and no other is open; or it can't end here
   abbrev pub IsEnd : Rules Place U → RecordSoFar U → Keeping Place → News → Type 0

@@ -1,6 +1,4 @@
-use Rattle.std.proofs.Common.{take}
-use Rattle.std.specs.List.{AllByRecursion}
-use Rattle.ws_record.specs.Encode.{CanAllBeEncoded, IsInRange}
+use Rattle.ws_record.proofs.Common.{take, AllByRecursion, CanAllBeEncoded, IsInRange}
 use Rattle.ws_record.proofs.encoder.check_items.Given as goal
 
 -- the items before can be encoded

@@ -1,8 +1,4 @@
-use Rattle.std.proofs.Common.{◌++◌, ℕ, List, sym, ap, ◌∙◌, subst}
-use Rattle.ws_code.specs.Device.{Held}
-use Rattle.ws_code.proofs.DeviceLaws.{held_went_out}
-use Rattle.ws_record.specs.Grammar.{IsInGrammar}
-use Rattle.ws_record.specs.Encode.{plain_spelling}
+use Rattle.ws_record.proofs.Common.{◌∙◌, Held, held_went_out, plain_spelling}
 use Rattle.ws_record.proofs.Encodings.{spelling_accepted}
 use Rattle.ws_record.proofs.encoder.encode.Goals as goal
 
@@ -10,12 +6,11 @@ pub returns-in-Ok-clause-spelled : goal.returns-in-Ok-clause-spelled
 returns-in-Ok-clause-spelled g c =
     let text = plain_spelling g.B.Code.rules c.args.items.now in
     c.into_inner.ensures ∙ held_went_out (λ (s : Held). s.failures) c.new-sink.result c.write_items.new.sink text
-    c.in-Ok.ensures.ok ∙ ap (λ (z : List ℕ). z ++ text) c.new-sink.ensures.bytes
+    c.in-Ok.ensures.ok ∙ rw c.new-sink.ensures.bytes
 
 pub returns-in-Ok-clause-accepted : goal.returns-in-Ok-clause-accepted
 returns-in-Ok-clause-accepted g c =
     let rules = g.B.Code.rules in
     let items = c.args.items.now in
-    subst (λ (z : List ℕ). IsInGrammar rules z items) (sym (returns-in-Ok-clause-spelled g c))
-    (spelling_accepted rules g.met.B.Code.bytes items c.in_ok-check_items.ensures.encoded
-    c.in_ok-check_items.ensures.known)
+    rw (returns-in-Ok-clause-spelled g c) (spelling_accepted rules g.met.B.Code.bytes _
+    c.in_ok-check_items.ensures.encoded c.in_ok-check_items.ensures.known)

@@ -1,5 +1,4 @@
-use Rattle.std.proofs.Common.{◌≡◌, take}
-use Rattle.ws_code.specs.Code.{IsChain, place_after}
+use Rattle.ws_record.proofs.Common.{◌≡◌, take, IsChain, place_after}
 use Rattle.ws_record.proofs.encoder.is_body.Given as goal
 
 -- the units before stand one after another, and lead to the place

@@ -1,5 +1,4 @@
-use Rattle.std.proofs.Common.{◌≡◌, ◌≤◌, length, take}
-use Rattle.ws_code.specs.Code.{spelling_of}
+use Rattle.ws_record.proofs.Common.{◌≡◌, ◌≤◌, length, take, spelling_of}
 use Rattle.ws_record.proofs.item_writer.body_length.Given as goal
 
 -- the length so far is that of the units before

@@ -1,6 +1,4 @@
-use Rattle.std.proofs.Common.{take}
-use Rattle.ws_code.specs.Device.{WentOut}
-use Rattle.ws_record.specs.Encode.{plain_spelling}
+use Rattle.ws_record.proofs.Common.{take, WentOut, plain_spelling}
 use Rattle.ws_record.proofs.item_writer.write_items.Given as goal
 
 -- so far, the items before went out

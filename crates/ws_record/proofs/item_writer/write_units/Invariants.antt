@@ -1,7 +1,4 @@
-use Rattle.std.proofs.Common.{take}
-use Rattle.std.specs.List.{flat_map}
-use Rattle.ws_code.specs.Device.{WentOut}
-use Rattle.ws_telnet.specs.Token.{doubled}
+use Rattle.ws_record.proofs.Common.{take, flat_map, WentOut, doubled}
 use Rattle.ws_record.proofs.item_writer.write_units.Given as goal
 
 -- so far, the units before went out

@@ -1,8 +1,5 @@
-use Rattle.std.proofs.Common.{◌++◌, ◌+◌, ◌-◌, ◌<◌, ◌≤◌, ◌^◌, ℕ, List, length, take}
-use Rattle.ws_record.specs.declared.record.Item.{Item}
-use Rattle.ws_record.specs.Grammar.{Holds}
-use Rattle.ws_record.specs.OpenRecord.{RecordSoFar}
-use Rattle.ws_record.specs.Live.{Leads, LeadsWith}
+use Rattle.ws_record.proofs.Common as C
+use C.{◌++◌, ◌+◌, ◌-◌, ◌<◌, ◌≤◌, ◌^◌, ℕ, List, length, take, Item, Holds, RecordSoFar, Leads, LeadsWith}
 use Rattle.ws_record.proofs.live.Live.feed.Given as goal
 
 -- the bytes so far lead to the decoder, and nothing was complete with them

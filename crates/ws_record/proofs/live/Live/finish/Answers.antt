@@ -1,20 +1,17 @@
-use Rattle.std.proofs.Common.{sym, ap, subst}
-use Rattle.ws_record.specs.Live.{Watching, Leads}
-use Rattle.ws_code.specs.declared.fault.Fault.TheVariants.{Truncated}
+use Rattle.ws_record.proofs.Common.{ap, Truncated}
 use Rattle.ws_record.proofs.Lives.{cut_short}
 use Rattle.ws_record.proofs.live.Live.finish.Goals.{then-is_inside-via-then-is_inside}
 use Rattle.ws_record.proofs.live.Live.finish.Goals.{then-is_inside-via-else-is_inside+then-not-is_empty}
 use Rattle.ws_record.proofs.live.Live.finish.Goals as goal
 
 pub returns-then-is_inside-clause-truncated : goal.returns-then-is_inside-clause-truncated
-returns-then-is_inside-clause-truncated g c = λ bytes items so_far l fits.
-    let old = subst (λ (k : Watching g.row.B-Place.Denot). Leads g.B.Code.rules k bytes items so_far)
-    (sym c.self.view_is) l in (
+returns-then-is_inside-clause-truncated g c =
+    λ bytes items so_far l fits.
+    let old = rw (← c.self.view_is) at l in (
       ap Truncated old.count,
-      cut_short g.B.Code.rules g.met.B.Body.can_end g.met.B.Code.bytes _ bytes items so_far old
-          (λ e f. elim c.then-is_inside.branch [
-            | then-is_inside-via-then-is_inside w ↦ c.is_inside.ensures.yes w.if-is_inside.true f
-            | then-is_inside-via-else-is_inside+then-not-is_empty w ↦ (w.is_empty.ensures so_far old.reads).1
-                w.if-not-is_empty.true e
-          ]),
+      cut_short _ old (λ e f. elim c.then-is_inside.branch [
+        | then-is_inside-via-then-is_inside w ↦ c.is_inside.ensures.yes w.if-is_inside.true f
+        | then-is_inside-via-else-is_inside+then-not-is_empty w ↦
+            (w.is_empty.ensures so_far old.reads).1 w.if-not-is_empty.true e
+      ]),
     )

@@ -1,5 +1,3 @@
-use Rattle.std.proofs.Common.{List, ℕ, subst}
-use Rattle.ws_record.specs.Taking.{IsTaken}
 use Rattle.ws_record.proofs.Takings.{same_front, plain_front}
 use Rattle.ws_record.proofs.open_record.OpenRecord.take.Goals as goal
 
@@ -9,10 +7,9 @@ returns-then-self-gt0-clause-plain g c =
     c.plain_length-count.ensures.plain
 
 pub returns-then-self-gt0-clause-taken : goal.returns-then-self-gt0-clause-taken
-returns-then-self-gt0-clause-taken g c = λ so_far r.
-    subst (λ (x : List ℕ). IsTaken g.B.Code.rules g.K.Keep.holds g.K.Keep.may_answer so_far c.args.keep.now x
-    c.take_body.new.self c.take_body.new.keep c.take_body.result.news)
-    (same_front c.args.piece.now c.take_body.result.used c.plain_length-count.result c.take_body.ensures.within)
+returns-then-self-gt0-clause-taken g c =
+    λ so_far r. rw
+    (same_front c.args.piece.now c.take_body.result.used c.plain_length-count.result c.take_body.ensures.within) at
     (c.take_body.ensures.taken so_far r)
 
 pub returns-else-self-gt0-clause-plain : goal.returns-else-self-gt0-clause-plain
@@ -21,8 +18,6 @@ returns-else-self-gt0-clause-plain g c =
     c.take_header.ensures.within c.plain_length-count-else-self-gt0.ensures.plain
 
 pub returns-else-self-gt0-clause-taken : goal.returns-else-self-gt0-clause-taken
-returns-else-self-gt0-clause-taken g c = λ so_far r.
-    subst (λ (x : List ℕ). IsTaken g.B.Code.rules g.K.Keep.holds g.K.Keep.may_answer so_far c.args.keep.now x
-    c.take_header.new.self c.take_header.new._keep c.take_header.result.news)
-    (same_front c.args.piece.now c.take_header.result.used c.plain_length-count-else-self-gt0.result
-    c.take_header.ensures.within) (c.take_header.ensures.taken so_far r)
+returns-else-self-gt0-clause-taken g c =
+    λ so_far r. rw (same_front c.args.piece.now c.take_header.result.used c.plain_length-count-else-self-gt0.result
+    c.take_header.ensures.within) at (c.take_header.ensures.taken so_far r)

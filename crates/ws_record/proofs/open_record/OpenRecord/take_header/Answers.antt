@@ -1,54 +1,34 @@
-use Rattle.std.proofs.Common.{◌≡◌, ◌++◌, ◌<◌, ℕ, ◌+◌, List, length, take, refl, sym, ap, ◌∙◌, subst, arith}
-use Rattle.std.proofs.Common.{append_assoc}
-use Rattle.std.proofs.lemmas.List.{append-nil, take_more}
-use Rattle.ws_record.specs.OpenRecord.{HasRead}
+use Rattle.ws_record.proofs.Common.{◌≡◌, ◌<◌, ◌+◌, length, take, refl, arith, append_assoc, take_more}
 use Rattle.ws_record.proofs.Takings.{header_goes_on, header_step}
 use Rattle.ws_record.proofs.open_record.OpenRecord.take_header.Goals as goal
-
-pub loop-index-init : goal.loop-index-init
-loop-index-init g c = (
-  c.requires.header,
-  (λ k. absurd (omega (arith, k))),
-  λ so_far r.
-      subst (λ (x : List ℕ). HasRead g.B.Code.rules c.args.self.now
-      (record { bytes = x; head = so_far.head; units = so_far.units })) (sym (append-nil so_far.bytes)) r,
-)
-
-pub take_header_byte-requires : goal.take_header_byte-requires
-take_header_byte-requires g c = c.loop-index.invariant.0
 
 pub loop-index-preserved : goal.loop-index-preserved
 loop-index-preserved g c =
     let m = c.in-More.ensures.more refl in (
       m.0,
       (λ _. m.1),
-      λ so_far r.
-          subst (λ (x : List ℕ). HasRead g.B.Code.rules c.take_header_byte.new.self
-          (record { bytes = x; head = so_far.head; units = so_far.units }))
-          (append_assoc so_far.bytes _ _
-          ∙ ap (λ x. so_far.bytes ++ x)
-          (sym (take_more c.args.values.now c.loop-index.index 0 c.loop-index-test.true)))
-          (c.in-More.ensures.step _ (c.loop-index.invariant.2 so_far r)),
+      λ so_far r. rw (
+        take_more c.args.values.now c.loop-index.index 0 c.loop-index-test.true,
+        ← append_assoc so_far.bytes,
+      ) (c.in-More.ensures.step _ (c.loop-index.invariant.2 so_far r)),
     )
 
 pub returns-in_default : goal.returns-in_default
 returns-in_default g c = record {
   within = omega (arith, c.loop-index-test.true);
   used = omega arith;
-  taken = λ so_far r.
-      header_step g.B.Code.rules g.K.Keep.holds g.K.Keep.may_answer so_far c.args._keep.now
+  taken = λ so_far r. header_step g.B.Code.rules g.K.Keep.holds g.K.Keep.may_answer so_far c.args._keep.now
       (take (c.loop-index.index + 1) c.args.values.now) c.loop-index.self c.take_header_byte.new.self
-      (take c.loop-index.index c.args.values.now) _ c.take_header_byte.result
-      (c.loop-index.invariant.2 so_far r) (take_more c.args.values.now c.loop-index.index 0 c.loop-index-test.true)
+      (take c.loop-index.index c.args.values.now) _ c.take_header_byte.result (c.loop-index.invariant.2 so_far r)
+      (take_more c.args.values.now c.loop-index.index 0 c.loop-index-test.true)
       (c.take_header_byte.ensures.step _ (c.loop-index.invariant.2 so_far r)) c.in_default.not-More;
 }
 
 pub returns-clause-taken : goal.returns-clause-taken
-returns-clause-taken g c = λ so_far r.
-    let all : c.loop-index.index ≡ length c.args.values.now = omega arith in
-    let short : length c.loop-index.self.header < 10 = c.loop-index.invariant.1 (omega (arith, all, c.requires.some)) in
+returns-clause-taken g c =
+    λ so_far r. let all : c.loop-index.index ≡ length c.args.values.now = omega arith in
+    let short : length c.loop-index.self.header < 10 =
+    c.loop-index.invariant.1 (omega (arith, all, c.requires.some)) in
     header_goes_on g.B.Code.rules g.K.Keep.holds g.K.Keep.may_answer so_far c.args._keep.now
     (take (length c.args.values.now) c.args.values.now) c.loop-index.self
-    (subst (λ (n : ℕ). HasRead g.B.Code.rules c.loop-index.self
-    (record { bytes = so_far.bytes ++ take n c.args.values.now; head = so_far.head; units = so_far.units })) all
-    (c.loop-index.invariant.2 so_far r)) short
+    (rw all at (c.loop-index.invariant.2 so_far r)) short

@@ -1,9 +1,8 @@
-use Rattle.std.proofs.Common.{◌≡◌, ◌<◌, ◌++◌, length, take}
-use Rattle.ws_record.specs.OpenRecord.{RecordSoFar, HasRead}
+use Rattle.ws_record.proofs.Common.{◌≡◌, ◌<◌, ◌++◌, length, take, RecordSoFar, HasRead}
 use Rattle.ws_record.proofs.open_record.OpenRecord.take_header.Given as goal
 
 abbrev pub invariant-loop-index : goal.invariant-loop-index
 invariant-loop-index g l = (l.self.left ≡ 0) × (0 < l.index → length l.self.header < 10)
     × ((so_far : RecordSoFar g.row.B-Unit.Denot) → HasRead g.B.Code.rules l.fn.self so_far
     → HasRead g.B.Code.rules l.self
-    (record { bytes = so_far.bytes ++ take l.index l.values; head = so_far.head; units = so_far.units }))
+    (record so_far { bytes = so_far.bytes ++ take l.index l.values }))

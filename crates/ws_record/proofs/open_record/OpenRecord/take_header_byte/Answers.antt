@@ -1,22 +1,25 @@
-use Rattle.std.proofs.Common.{◌∷◌, ◌++◌, ◌<◌, [], length, refl, sym, ap, ◌∙◌, subst, arith}
-use Rattle.ws_record.specs.HeaderSoFar.{HeaderSoFar}
-use Rattle.ws_record.specs.OpenRecord.{Keeping, HasRead}
-use Rattle.ws_record.proofs.OpenRecords.{ten_there, body_refused, header_byte}
+use Rattle.ws_record.proofs.Common.{◌<◌, length, refl, ap, ◌∙◌, arith, Keeping}
+use Rattle.ws_record.proofs.OpenRecords.{header_refused, ten_there, body_refused, header_byte}
 use Rattle.ws_record.proofs.open_record.OpenRecord.take_header_byte.Goals as goal
 
 pub returns-then-len-ge10-clause-step : goal.returns-then-len-ge10-clause-step
 returns-then-len-ge10-clause-step g c = λ so_far r.
-    let reads = subst (λ (k : Keeping g.row.B-Place.Denot). HasRead g.B.Code.rules k so_far) (sym c.self.view_is) r in
-    let ten = ten_there g.B.Code.rules _ so_far reads (omega (arith, c.len.ensures.value, c.if-len-ge10.true)) in
-    body_refused g.B.Code.rules _ so_far c.args.byte reads ten
+    let reads = rw (← c.self.view_is) at r in
+    let ten = ten_there _ reads (omega (arith, c.len.ensures.value, c.if-len-ge10.true)) in
+    body_refused _ reads ten c.args.byte
     (ap (λ (k : Keeping g.row.B-Place.Denot). k.left) c.self.view_is ∙ c.requires)
+
+pub returns-in-Some-clause-step : goal.returns-in-Some-clause-step
+returns-in-Some-clause-step g c = λ so_far r.
+    let bad = rw c.as_slice.ensures.value at c.in-Some.ensures.some in
+    header_refused _ (rw (← c.self.view_is) at r) (omega (arith, c.len.ensures.value, c.if-len-ge10.false)) c.args.byte
+    _ bad.0 bad.1
 
 pub returns-clause-step : goal.returns-clause-step
 returns-clause-step g c = λ so_far r.
-    let reads = subst (λ (k : Keeping g.row.B-Place.Denot). HasRead g.B.Code.rules k so_far) (sym c.self.view_is) r in
+    let reads = rw (← c.self.view_is) at r in
     let short : length c.self.inside.header < 9 =
     omega (arith, c.len.ensures.value, c.if-len-ge10.false, c.len-2.ensures.value, c.if-len-eq9.false) in
-    let right = subst (λ (x : _). HeaderSoFar x → HeaderSoFar (x ++ c.args.byte ∷ [])) c.as_slice.ensures.value
-    c.in_default.ensures.none in
-    header_byte g.B.Code.rules _ _ so_far.bytes so_far.head so_far.units c.args.byte reads short (omega arith) right
-    c.push.ensures refl refl
+    let right = rw c.as_slice.ensures.value at c.in_default.ensures.none in
+    header_byte g.B.Code.rules reads (omega (arith, short)) _ c.args.byte (omega arith) (right c.self.invariant.right)
+    c.push.ensures refl refl short

@@ -1,6 +1,4 @@
-use Rattle.std.proofs.Common.{◌++◌, ◌+◌, ◌-◌, ◌<◌, ◌≤◌, ◌^◌, ℕ, List, length, take}
-use Rattle.ws_record.specs.declared.record.Item.{Item}
-use Rattle.ws_record.specs.Receiver.{HasReceived}
+use Rattle.ws_record.proofs.Common.{◌++◌, ◌+◌, ◌-◌, ◌<◌, ◌≤◌, ◌^◌, ℕ, List, length, take, Item, HasReceived}
 use Rattle.ws_record.proofs.Pieces.{IsHeld}
 use Rattle.ws_record.proofs.receiver.Receiver.feed.Given as goal
 

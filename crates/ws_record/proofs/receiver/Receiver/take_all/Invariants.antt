@@ -1,5 +1,4 @@
-use Rattle.std.proofs.Common.{◌++◌, ℕ, ◌+◌, ◌-◌, ◌<◌, ◌≤◌, ◌^◌, List, length, take}
-use Rattle.ws_record.specs.Receiver.{HasReceived}
+use Rattle.ws_record.proofs.Common.{◌++◌, ℕ, ◌+◌, ◌-◌, ◌<◌, ◌≤◌, ◌^◌, List, length, take, HasReceived}
 use Rattle.ws_record.proofs.receiver.Receiver.take_all.Given as goal
 
 -- the bytes so far lead to the receiver
