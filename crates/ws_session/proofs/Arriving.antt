@@ -1,16 +1,9 @@
-use Rattle.std.specs.Prelude.{flat_map, ◌^◌, min}
-use Rattle.std.proofs.Common.{inl, inr, ◌≡◌, ℕ, suc, ◌+◌, ◌<◌, ◌≤◌, List, [], ◌∷◌, ◌++◌, Some, None, length, drop}
-use Rattle.std.proofs.Common.{get_or, refl, ap, ◌∙◌, sym, subst, arith, append_assoc, add-zero, add-one, length-append}
-use Rattle.std.proofs.Common.{length-drop, drop-cons}
-use Rattle.std.proofs.lemmas.List.{append-nil, length-take, take_all, get_or-drop}
-use Rattle.std.proofs.lemmas.Bool.{cases_lt}
-use Rattle.ws_code.specs.declared.reason.Reason.{Reason}
-use Rattle.ws_session.specs.declared.refusal.Refusal.{Refusal}
-use Rattle.ws_session.specs.declared.world.Event.{Event}
-use Rattle.ws_session.specs.Acts.{Act, Came}
-use Rattle.ws_session.specs.Through.{HasRefusedIn}
-use Rattle.ws_session.specs.Wires.{WireParts, reported, HasMemory, Comes, AllCome, HasCome, AreDelivered}
-use Rattle.ws_screen.proofs.Applies.{longer_by}
+use Rattle.ws_session.proofs.Common as C
+use C.{flat_map, ◌^◌, min, inl, inr, ◌≡◌, ℕ, suc, ◌+◌, ◌<◌, ◌≤◌, List, [], ◌∷◌, ◌++◌, Some, None, length, drop}
+use C.{get_or, refl, ap, ◌∙◌, sym, arith, append_assoc, add-zero, add-one, length-append, length-drop, drop-cons}
+use C.{append-nil, length-take, take_all, get_or-drop, cases_lt, Reason, Refusal, Event, Act, Came, HasRefusedIn}
+use C.{WireParts, reported, HasMemory, Comes, AllCome, AreDelivered, longer_by, ◌-◌}
+use Rattle.ws_session.specs.Wires.{HasCome}
 
 -- Bytes that arrive at an end, one after another.
 
@@ -78,7 +71,7 @@ module _ {E Deed Told : Type 0} (goes : E → List (Act Deed) → List ℕ → L
     [],
     t,
     [],
-    subst (λ (z : E). Comes goes refuses over tells refusal z x c w t) p.0 q,
+    rw (← p.0) q,
     (refl, refl, refl),
     ap (λ z. z ++ w) p.1 ∙ sym (append-nil w),
     ap (λ z. z ++ t) p.2 ∙ sym (append-nil t),
@@ -111,79 +104,46 @@ module _ {E Deed Told : Type 0} (goes : E → List (Act Deed) → List ℕ → L
 
   module _ (a b : E) (from f to t : WireParts) (told e : List Event) (n : ℕ)
       (d : AreDelivered goes refuses over tells refusal a b from f to t told e n) where
-    counted : f.at < length f.bytes → length d.bytes ≡ n
-    counted more =
-        omega (
-          arith,
-          more,
-          ap (λ (z : WireParts). z.at) d.from_is,
+    -- so many came, and no byte more was written
+    came : (f.at ≡ from.at + min n (length from.bytes - from.at)) × (length f.bytes ≡ length from.bytes)
+        × (length d.bytes ≡ min n (length from.bytes - from.at))
+    came =
+        let size : length d.bytes ≡ min n (length from.bytes - from.at) = ap (λ z. length z) d.first
+        ∙ length-take n (drop from.at from.bytes) ∙ ap (min n) (length-drop from.at from.bytes) in (
+          ap (λ (z : WireParts). z.at) d.from_is ∙ ap (λ k. from.at + k) size,
           ap (λ (z : WireParts). length z.bytes) d.from_is,
-          ap (λ z. length z) d.first,
-          length-take n (drop from.at from.bytes),
-          length-drop from.at from.bytes,
+          size,
         )
 
     -- others wait
     pub more_wait : (k : ℕ) → from.at + k ≡ length from.bytes → n < k → f.at < length f.bytes
-    more_wait k all more =
-        omega (
-          arith,
-          all,
-          more,
-          ap (λ (z : WireParts). z.at) d.from_is,
-          ap (λ (z : WireParts). length z.bytes) d.from_is,
-          ap (λ z. length z) d.first,
-          length-take n
-              (drop from.at from.bytes),
-          length-drop from.at from.bytes,
-        )
+    more_wait k all more = omega (arith, all, more, came)
 
     -- all have come
     pub all_delivered : (m : ℕ) → n ≤ m → length f.bytes ≤ f.at
         → AreDelivered goes refuses over tells refusal a b from f to t told e m
     all_delivered m le all =
-        let whole : length (drop from.at from.bytes) ≤ n =
-        omega (
-          arith,
-          all,
-          ap (λ (z : WireParts). z.at) d.from_is,
-          ap (λ (z : WireParts). length z.bytes) d.from_is,
-          ap (λ z. length z) d.first,
-          length-take n (drop from.at from.bytes),
-          length-drop from.at from.bytes,
-        ) in
+        let rest : List ℕ = drop from.at from.bytes in
+        let whole : length rest ≤ n = omega (arith, all, came, length-drop from.at from.bytes) in
         record {
           bytes = d.bytes;
           written = d.written;
           events = d.events;
-          first = d.first ∙ take_all n (drop from.at from.bytes) whole
-              ∙ sym (take_all m (drop from.at from.bytes) (omega (arith, whole, le)));
           few = d.few;
           come = d.come;
           from_is = d.from_is;
           to_is = d.to_is;
           told_is = d.told_is;
+          first = d.first ∙ take_all n rest whole ∙ sym (take_all m rest (omega (arith, whole, le)));
         }
 
     -- so many, or all that were in flight
     pub all_come : (k m : ℕ) → from.at + k ≡ length from.bytes → n ≡ min m k
         → AreDelivered goes refuses over tells refusal a b from f to t told e m
     all_come k m all is = elim (cases_lt m k) [
-      | inl h ↦ subst (AreDelivered goes refuses over tells refusal a b from f to t told e)
-          (let q : n ≡ m = omega (arith, is, h) in q) d
+      | inl h ↦ rw (← (let q : n ≡ m = omega (arith, is, h) in q)) d
       | inr h ↦ all_delivered m (omega (arith, is, h))
-          (omega (
-            arith,
-            h,
-            is,
-            all,
-            ap (λ (z : WireParts). z.at) d.from_is,
-            ap (λ (z : WireParts). length z.bytes) d.from_is,
-            ap (λ z. length z) d.first,
-            length-take n
-                (drop from.at from.bytes),
-            length-drop from.at from.bytes,
-          ))
+          (omega (arith, h, is, all, came))
     ]
 
     pub one_delivered : f.at < length f.bytes → (x : ℕ) → x ≡ get_or f.bytes f.at x → (f' : WireParts)
@@ -192,7 +152,7 @@ module _ {E Deed Told : Type 0} (goes : E → List (Act Deed) → List ℕ → L
         → AreDelivered goes refuses over tells refusal a c from f' to t' told e' (n + 1)
     one_delivered more x is f' on c t' e' h =
         let rest : List ℕ = drop from.at from.bytes in
-        let count : length d.bytes ≡ n = counted more in
+        let count : length d.bytes ≡ n = omega (arith, more, came) in
         let same : f.bytes ≡ from.bytes = ap (λ (z : WireParts). z.bytes) d.from_is in
         let at : f.at ≡ from.at + n = ap (λ (z : WireParts). z.at) d.from_is ∙ ap (λ k. from.at + k) count in
         let next : x ≡ get_or rest n x = is ∙ ap (λ z. get_or z f.at x) same ∙ ap (λ k. get_or from.bytes k x) at
@@ -229,8 +189,8 @@ module _ {E Deed Told : Type 0} (goes : E → List (Act Deed) → List ℕ → L
 
     by : (before : List (Act Deed)) → Came byte ∷ [] ≡ before ++ Came h.byte ∷ h.after
         → goes old before written told h.last → RefusedAtOnce
-    by [] e g = (h.last, g, (let same : h.byte ≡ byte = cc in subst (λ b. refuses h.last b why new) same h.refused))
-    by (x ∷ xs) e g = absurd (none xs h.after h.byte (let f : [] ≡ xs ++ Came h.byte ∷ h.after = cc in f))
+    by [] e g = (h.last, g, (let same : h.byte ≡ byte = cc in rw (← same) h.refused))
+    by (x ∷ xs) e g = absurd (none xs _ _ (let f : [] ≡ xs ++ Came h.byte ∷ h.after = cc in f))
 
 -- the first of what stands behind a place
 pub some_first : (xs : List ℕ) (n x : ℕ) (rest : List ℕ) → drop n xs ≡ x ∷ rest → n < length xs → x ≡ get_or xs n x

@@ -1,44 +1,20 @@
-use Rattle.std.specs.Prelude.{◌||◌}
-use Rattle.std.proofs.Common.{if◌then◌else◌, unwrap_or, ◌≡◌, ℕ, ◌⊎◌, inl, inr, List, [], ◌∷◌, ◌++◌, Bool, true, false}
-use Rattle.std.proofs.Common.{Option, Some, None, refl, ap, ◌∙◌, sym, subst}
-use Rattle.std.specs.Option.{is_some}
-use Rattle.std.proofs.lemmas.List.{append-nil}
-use Rattle.ws_telnet.specs.declared.token.Telnet.{Telnet}
-use Rattle.ws_nego.specs.declared.terminal.TerminalType.{TerminalType}
-use Rattle.ws_nego.specs.Exchange.{Exchange}
-use Rattle.ws_nego.specs.Station.{station_allows_records}
-use Rattle.ws_nego.specs.Host.{host_allows_records}
-use Rattle.ws_record.specs.declared.opcode.Opcode.{Opcode}
-use Rattle.ws_stream.specs.declared.element.Element.{Element}
-use Rattle.ws_screen.specs.declared.read_kind.ReadKind.{ReadKind}
-use Rattle.ws_screen.specs.Bodies.{after_elements, after_end, body_fault}
-use Rattle.ws_screen.specs.Events.{cancelled, History, Edit}
-use Rattle.ws_screen.specs.Formats.{fields}
+use Rattle.ws_session.proofs.Common as C
+use C.{◌||◌, if◌then◌else◌, unwrap_or, ◌≡◌, ℕ, ◌⊎◌, inl, inr, List, [], ◌∷◌, ◌++◌, Bool, true, false, Option, Some}
+use C.{None, refl, ap, ◌∙◌, sym, subst, is_some, append-nil, Telnet, TerminalType, Exchange, station_allows_records}
+use C.{host_allows_records, Opcode, Element, ReadKind, after_elements, after_end, body_fault, cancelled, History}
+use C.{Edit, fields, open_write, pending_read, Send, HostAnswer, answer_parts, edit_of, events_by, is_answered}
+use C.{answer_of, aids_answer, own_reading, same_apart, by_host, layouts, read_left_by, is_body, StationSide}
+use C.{opcode_events, after_record, after_key, screen_at, HostSide, sent_record, is_outstanding, Alike}
+use C.{open_write_alike, layout_alike, elements_alike, end_alike, body_fault_alike, pending-elements, pending-end}
 use Rattle.ws_screen.specs.Given.{ends_of}
-use Rattle.ws_screen.specs.Writes.{open_write}
 use Rattle.ws_screen.specs.Cells.{cell}
 use Rattle.std.proofs.lemmas.List.FromFn.{length-map-range_with_len}
-use Rattle.ws_screen.specs.States.{pending_read}
-use Rattle.ws_keys.specs.declared.key.Key.TheVariants.{Aid as Send}
-use Rattle.ws_keys.specs.declared.host_answer.HostAnswer.{HostAnswer}
-use Rattle.ws_keys.specs.Contents.{answer_parts}
-use Rattle.ws_keys.specs.Keys.{edit_of, events_by, is_answered}
-use Rattle.ws_keys.specs.Splits.{answer_of}
-use Rattle.ws_keys.proofs.KeyLaws.{aids_answer}
-use Rattle.ws_keys.proofs.ReadingLaws.{own_reading}
-use Rattle.ws_keys.proofs.StationLaws.{same_apart}
-use Rattle.ws_screen.specs.ByHost.{by_host, layouts, read_left_by}
-use Rattle.ws_stream.specs.Bodies.{is_body}
-use Rattle.ws_session.specs.StationSide.{StationSide, opcode_events, after_record, after_key, screen_at}
-use Rattle.ws_session.specs.HostSide.{HostSide, sent_record, is_outstanding}
-use Rattle.ws_screen.proofs.ScreenLaws.{Alike, open_write_alike, layout_alike, elements_alike, end_alike}
-use Rattle.ws_screen.proofs.ScreenLaws.{body_fault_alike, pending-elements, pending-end}
-use Rattle.ws_session.proofs.Turns.{DownMark, Stop as StopMark, Reply, TurnAt, sends_text, sends_read, sends_stop}
-use Rattle.ws_session.proofs.Turns.{answers, no_answer}
-use Rattle.ws_session.proofs.Betweens.{Between, Body, Ends, Posted, Replies, Sent, Signal, Stop, Waits, after_posted}
-use Rattle.ws_session.proofs.Betweens.{after_posted_more, closed_end, end_events, fit_alike, fit_more, is_stop}
-use Rattle.ws_session.proofs.Betweens.{mark_left, marks_down, marks_down_more, marks_of, marks_up, marks_up_more}
-use Rattle.ws_session.proofs.Betweens.{opcode_alike, posted_alike, record_of}
+use Rattle.ws_session.proofs.Turns.{DownMark, Stop as StopMark, TurnAt, at_turn, send_text, send_read, send_stop}
+use Rattle.ws_session.proofs.Turns.{answer, no_reply}
+use Rattle.ws_session.proofs.Betweens.{Between, Body, Ends, Posted, Replies, Sent, Signal, Stop, Waits}
+use Rattle.ws_session.proofs.Betweens.{after_posted, after_posted_more, closed_end, end_events, fit_alike, fit_more}
+use Rattle.ws_session.proofs.Betweens.{is_stop, mark_left, marks_down, marks_down_more, marks_of, marks_up}
+use Rattle.ws_session.proofs.Betweens.{marks_up_more, opcode_alike, posted_alike, record_of}
 use Rattle.ws_session.proofs.BetweenSteps.{waits_any}
 
 -- What stands between both ends, where a key is pressed, or the host end sends or cancels.
@@ -59,8 +35,8 @@ pending-keyed (Some edit) h b e = ap (λ (t : Bool). unwrap_or (if t then Some N
     by_test true = refl
     by_test false = refl
 
-module _ (t : TerminalType) (ex : Exchange) (s : StationSide) (h : HostSide) (ts us : List Telnet) (ds : List Posted)
-    (es : List Sent) (later : List HostAnswer) (b : Between t ex s h ts us ds es later) where
+module _ {t : TerminalType} {ex : Exchange} {s : StationSide} {h : HostSide} {ts us : List Telnet} {ds : List Posted}
+    {es : List Sent} {later : List HostAnswer} (b : Between t ex s h ts us ds es later) where
   -- a key that leaves what is pending, and sends nothing
   pub key_silent : (o : Option Edit) → pending_read (events_by o ++ s.happened) ≡ pending_read s.happened
       → Between t ex (record { options = s.options; happened = events_by o ++ s.happened }) h ts us ds es later
@@ -68,11 +44,11 @@ module _ (t : TerminalType) (ex : Exchange) (s : StationSide) (h : HostSide) (ts
     exchanges = b.exchanges;
     host_ready = b.host_ready;
     station_ready = b.station_ready;
-    alike = b.alike ∙ posted_alike s.happened (events_by o ++ s.happened) (sym (keyed_alike o s.happened)) ds;
-    fits = fit_alike s.happened (events_by o ++ s.happened) (sym (keyed_alike o s.happened)) ds b.fits;
+    alike = b.alike ∙ posted_alike _ _ (sym (keyed_alike o _)) ds;
+    fits = fit_alike s.happened _ (sym (keyed_alike o _)) ds b.fits;
     within = same_apart 0 (fields s.happened) (fields (events_by o ++ s.happened))
-        (layout_alike s.happened (events_by o ++ s.happened) (sym (keyed_alike o s.happened))) b.within;
-    turn = subst (λ z. TurnAt (pending_read h.kept) h.cancelling z (marks_down ds) (marks_up es)) (sym same) b.turn;
+        (layout_alike s.happened (events_by o ++ s.happened) (sym (keyed_alike o _))) b.within;
+    turn = rw same b.turn;
     waits = b.waits;
     closed = b.closed;
   }
@@ -87,7 +63,7 @@ module _ (t : TerminalType) (ex : Exchange) (s : StationSide) (h : HostSide) (ts
     fits = b.fits;
     within = b.within;
     turn = subst (TurnAt (pending_read h.kept) h.cancelling (pending_read s.happened) (marks_down ds))
-        (sym (marks_up_more es (Signal flags) ∙ append-nil (marks_up es))) b.turn;
+        (sym (marks_up_more es _ ∙ append-nil (marks_up es))) b.turn;
     waits = more es later b.waits;
     closed = b.closed;
   }
@@ -123,8 +99,7 @@ module _ (t : TerminalType) (ex : Exchange) (s : StationSide) (h : HostSide) (ts
       (later ++ answer_of kind (screen_at s) aid ∷ [])
   key_answer kind aid allows is =
       let o : Option Edit = edit_of (screen_at s) (Send aid) in
-      let found = answers (pending_read h.kept) h.cancelling (pending_read s.happened) (marks_down ds)
-      (marks_up es) b.turn kind is in
+      let found = at_turn b.turn (answer kind) is in
       let dropped : pending_read (events_by o ++ s.happened) ≡ None = pending-keyed o s.happened true
       (aids_answer (screen_at s) (Send aid)) in
       let reply : Sent = Replies (answer_parts kind (screen_at s) aid) in
@@ -138,10 +113,7 @@ module _ (t : TerminalType) (ex : Exchange) (s : StationSide) (h : HostSide) (ts
         fits = fit_alike s.happened (events_by o ++ s.happened) (sym (keyed_alike o s.happened)) ds b.fits;
         within = same_apart 0 (fields s.happened) (fields (events_by o ++ s.happened))
             (layout_alike s.happened (events_by o ++ s.happened) (sym (keyed_alike o s.happened))) b.within;
-        turn = subst (TurnAt (pending_read h.kept) h.cancelling (pending_read (events_by o ++ s.happened))
-            (marks_down ds)) (sym (marks_up_more es reply))
-            (subst (λ z. TurnAt (pending_read h.kept) h.cancelling z (marks_down ds) (marks_up es ++ Reply ∷ []))
-            (sym dropped) found.0);
+        turn = rw (marks_up_more es reply) (rw dropped found.0);
         waits = more es later found.3 b.waits places found.1;
         closed = b.closed;
       }
@@ -176,10 +148,8 @@ module _ (t : TerminalType) (ex : Exchange) (s : StationSide) (h : HostSide) (ts
   turn_sent : (left asked : Option ReadKind) → asked ≡ None → h.cancelling ≡ false → TurnAt asked h.cancelling
       (pending_read s.happened) (marks_down ds) (marks_up es)
       → TurnAt left h.cancelling (pending_read s.happened) (marks_down ds ++ mark_left left ∷ []) (marks_up es)
-  turn_sent None asked none going turn = sends_text asked h.cancelling (pending_read s.happened) (marks_down ds)
-      (marks_up es) turn none going
-  turn_sent (Some kind) asked none going turn = sends_read asked h.cancelling (pending_read s.happened) (marks_down ds)
-      (marks_up es) turn kind none going
+  turn_sent None asked none going turn = at_turn turn send_text none going
+  turn_sent (Some kind) asked none going turn = at_turn turn (send_read kind) none going
 
   idle : (o : Option ReadKind) (c : Bool) → (is_some o || c) ≡ false → (o ≡ None) × (c ≡ false)
   idle None false e = (refl, refl)
@@ -193,20 +163,20 @@ module _ (t : TerminalType) (ex : Exchange) (s : StationSide) (h : HostSide) (ts
   turn_after o other [] ok out = subst (λ (z : List DownMark). TurnAt (pending_read h.kept) h.cancelling
       (pending_read s.happened) z (marks_up es)) (sym (append-nil (marks_down ds))) b.turn
   turn_after o other (e ∷ body) ok out =
-      let i = idle (pending_read h.kept) h.cancelling out in
+      let i = idle _ _ out in
       subst (λ (z : Option ReadKind). TurnAt (read_left_by z (e ∷ body)) h.cancelling (pending_read s.happened)
       (marks_down ds ++ mark_left (read_left_by None (e ∷ body)) ∷ []) (marks_up es)) (sym i.0)
-      (turn_sent (read_left_by None (e ∷ body)) (pending_read h.kept) i.0 i.1 b.turn)
+      (turn_sent _ _ i.0 i.1 b.turn)
 
   waits_after : (body : List Element) → is_outstanding h body ≡ false
       → Waits (layouts (fields (after_end (after_elements h.kept body)))) (read_left_by (pending_read h.kept) body) es
       later
-  waits_after [] out = subst (λ z. Waits z (pending_read h.kept) es later) (sym (end_events h.kept)) b.waits
+  waits_after [] out = rw (end_events _) b.waits
   waits_after (e ∷ body) out =
       let i = idle (pending_read h.kept) h.cancelling out in
-      waits_any (layouts (fields h.kept)) (layouts (fields (after_end (after_elements h.kept (e ∷ body)))))
-      (pending_read h.kept) (read_left_by (pending_read h.kept) (e ∷ body)) es later
-      (no_answer (pending_read h.kept) h.cancelling (pending_read s.happened) (marks_down ds) (marks_up es) b.turn i.0)
+      waits_any (layouts (fields h.kept)) _
+      (pending_read h.kept) _ es later
+      (at_turn b.turn no_reply i.0)
       b.waits
 
   -- a body
@@ -232,13 +202,8 @@ module _ (t : TerminalType) (ex : Exchange) (s : StationSide) (h : HostSide) (ts
             ∙ ap by_host (sym (after_posted_more s.happened ds (Body o other body ok)));
         fits = fit_more s.happened ds (Body o other body ok) b.fits (fresh (Body o other body ok) none);
         within = b.within;
-        turn = subst (λ (z : List DownMark). TurnAt (pending_read kept) h.cancelling (pending_read s.happened) z
-            (marks_up es)) (sym (marks_down_more ds (Body o other body ok)))
-            (subst (λ (z : Option ReadKind). TurnAt z h.cancelling (pending_read s.happened)
-            (marks_down ds ++ marks_of (Body o other body ok)) (marks_up es)) (sym left)
-            (turn_after o other body ok out));
-        waits = subst (λ (z : Option ReadKind). Waits (layouts (fields kept)) z es later) (sym left)
-            (waits_after body out);
+        turn = rw (marks_down_more ds (Body o other body ok)) (rw left (turn_after o other body ok out));
+        waits = rw left (waits_after body out);
         closed = closed_end (after_elements h.kept body);
       }
 
@@ -258,10 +223,7 @@ module _ (t : TerminalType) (ex : Exchange) (s : StationSide) (h : HostSide) (ts
         alike = b.alike ∙ same ∙ ap by_host (sym (after_posted_more s.happened ds Stop));
         fits = fit_more s.happened ds Stop b.fits refl;
         within = b.within;
-        turn = subst (λ (z : List DownMark). TurnAt (pending_read h.kept) true (pending_read s.happened) z
-            (marks_up es)) (sym (marks_down_more ds Stop))
-            (sends_stop (pending_read h.kept) h.cancelling (pending_read s.happened) (marks_down ds)
-            (marks_up es) b.turn kind is going);
+        turn = rw (marks_down_more ds Stop) (at_turn b.turn (send_stop kind) is going);
         waits = b.waits;
         closed = b.closed;
       }

@@ -1,9 +1,7 @@
--- What an end has taken behind the fronts of a piece.
-
-use Rattle.std.proofs.Common.{◌≡◌, ℕ, ◌+◌, ◌-◌, ◌^◌, ◌<◌, ◌≤◌, arith}
+use Rattle.ws_session.proofs.Common.{◌≡◌, ℕ, ◌+◌, ◌-◌, ◌^◌, ◌<◌, ◌≤◌, arith, Refusal, At, Failed, Memory}
 use Rattle.ws_session.specs.Ends.{StandsAt, CountsUpTo}
-use Rattle.ws_session.specs.declared.refusal.Refusal.{Refusal}
-use Rattle.ws_session.specs.declared.refusal.Refusal.TheVariants.{At, Failed, Memory}
+
+-- What an end has taken behind the fronts of a piece.
 
 -- a front more
 pub counted_on : (before now after i k : ℕ) → (before + i < 2 ^ 64 → now ≡ before + i)

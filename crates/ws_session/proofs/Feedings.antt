@@ -1,13 +1,9 @@
-use Rattle.std.proofs.Common.{◌≡◌, ℕ, ◌+◌, ◌-◌, ◌<◌, ◌≤◌, ◌^◌, zero, suc, inl, inr, List, [], ◌∷◌, ◌++◌}
-use Rattle.std.proofs.Common.{length, take, refl, ap, ◌∙◌, sym, subst, arith, append_assoc, length-append}
-use Rattle.std.proofs.lemmas.Bool.{cases_lt}
-use Rattle.std.proofs.lemmas.List.{append-nil, length-take-le, take-take}
-use Rattle.ws_code.specs.Code.{Rules}
-use Rattle.ws_record.specs.declared.record.Item.{Item}
-use Rattle.ws_record.proofs.Pieces.{left_of, left_length, left_joined, bytes_on}
-use Rattle.ws_session.specs.ActLaws.{gone_on, came_append, bytes_came}
-use Rattle.ws_session.specs.Acts.{Act, Arrives, Manner, all_came, bytes_of, items_of, doing, Happen}
-use Rattle.ws_session.specs.Acts.{HoldsItems, HasGone}
+use Rattle.ws_session.proofs.Common.{◌≡◌, ℕ, ◌+◌, ◌-◌, ◌<◌, ◌≤◌, ◌^◌, zero, suc, inl, inr, List, [], ◌∷◌, ◌++◌}
+use Rattle.ws_session.proofs.Common.{length, take, refl, ap, ◌∙◌, sym, arith, append_assoc, length-append, cases_lt}
+use Rattle.ws_session.proofs.Common.{append-nil, length-take-le, take-take, Rules, Item, left_of, left_length}
+use Rattle.ws_session.proofs.Common.{left_joined, bytes_on, gone_on, came_append, bytes_came, Act, Arrives, Manner}
+use Rattle.ws_session.proofs.Common.{all_came, items_of, doing, Happen, HoldsItems, HasGone}
+use Rattle.ws_session.specs.Acts.{bytes_of}
 
 -- A piece of bytes at an end of a session, by its fronts.
 
@@ -19,9 +15,8 @@ module _ {Place U : Type 0} (rules : Rules Place U) (Deed : Type 0) where
   none_happen bytes items [] held = refl
   none_happen bytes items (b ∷ came) held = inl (
     held 1 (omega arith),
-    none_happen (bytes ++ b ∷ []) items came
-        (λ n k. subst (λ (x : List ℕ). HoldsItems rules x items) (sym (append_assoc bytes (b ∷ []) (take n came)))
-        (held (suc n) (omega (arith, k)))),
+    none_happen _ items came
+        (λ n k. rw (append_assoc bytes (b ∷ []) (take n came)) (held (suc n) (omega (arith, k)))),
   )
 
   -- where one is with the last of them, it arrives
@@ -34,10 +29,8 @@ module _ {Place U : Type 0} (rules : Rules Place U) (Deed : Type 0) where
   one_happens bytes items item (b ∷ (c ∷ came)) some held last = inl (
     held 1 (omega arith),
     one_happens (bytes ++ b ∷ []) items item (c ∷ came) (omega arith)
-        (λ n k. subst (λ (x : List ℕ). HoldsItems rules x items)
-        (sym (append_assoc bytes (b ∷ []) (take n (c ∷ came)))) (held (suc n) (omega (arith, k))))
-        (subst (λ (x : List ℕ). HoldsItems rules x (items ++ item ∷ []))
-        (sym (append_assoc bytes (b ∷ []) (c ∷ came))) last),
+        (λ n k. rw (append_assoc bytes (b ∷ []) (take n (c ∷ came))) (held (suc n) (omega (arith, k))))
+        (rw (append_assoc bytes (b ∷ []) (c ∷ came)) last),
   )
 
   -- no item is complete before the last byte of a front
@@ -49,21 +42,18 @@ module _ {Place U : Type 0} (rules : Rules Place U) (Deed : Type 0) where
       → HoldsItems rules (bytes ++ take n (take m left)) items
   front_held bytes items left used m within held lt n k =
       let few : n ≤ m = omega (arith, k, length-take-le m left within) in
-      subst (λ (x : List ℕ). HoldsItems rules (bytes ++ x) items) (sym (take-take n m left few))
-      (held n (omega (arith, few, lt)))
+      rw (take-take n m left few) (held n (omega (arith, few, lt)))
 
   -- nothing happens in a front with which no item is complete
   pub front_silent : (bytes : List ℕ) (items : List (Item U)) (left : List ℕ) (used : ℕ) → used ≤ length left
       → AreHeld bytes items left used → HoldsItems rules (bytes ++ take used left) items
       → Happen rules bytes items (all_came {Deed = Deed} (take used left)) []
   front_silent bytes items left used within held here =
-      none_happen bytes items (take used left) (λ n k. elim (cases_lt n used) [
-        | inl lt ↦ subst (λ (x : List ℕ). HoldsItems rules (bytes ++ x) items)
-            (sym (take-take n used left (omega (arith, lt)))) (held n lt)
+      none_happen bytes items _ (λ n k. elim (cases_lt n used) [
+        | inl lt ↦ rw (take-take n used left (omega (arith, lt))) (held n lt)
         | inr ge ↦
             (let same : n ≡ used = omega (arith, ge, k, length-take-le used left within) in
-            subst (λ (x : List ℕ). HoldsItems rules (bytes ++ x) items)
-            (sym (take-take n used left (omega (arith, same)) ∙ ap (λ (m : ℕ). take m left) same)) here)
+            rw (take-take n used left (omega (arith, same)) ∙ ap (λ (m : ℕ). take m left) same) here)
       ])
 
   -- an item arrives with the last byte of one
@@ -72,10 +62,9 @@ module _ {Place U : Type 0} (rules : Rules Place U) (Deed : Type 0) where
       → HoldsItems rules (bytes ++ take used left) (items ++ item ∷ [])
       → Happen rules bytes items (all_came {Deed = Deed} (take used left)) (Arrives item ∷ [])
   front_brings bytes items item left used within some held here =
-      one_happens bytes items item (take used left) (omega (arith, some, length-take-le used left within))
+      one_happens bytes items item _ (omega (arith, some, length-take-le used left within))
       (λ n k. let lt : n < used = omega (arith, k, length-take-le used left within) in
-      subst (λ (x : List ℕ). HoldsItems rules (bytes ++ x) items)
-      (sym (take-take n used left (omega (arith, lt)))) (held n lt))
+      rw (take-take n used left (omega (arith, lt))) (held n lt))
       here
 
 -- a list by a value of it
@@ -107,13 +96,12 @@ module _ {Place PlaceV Side U V Deed Event : Type 0} (rules : Rules Place U) (ou
       → Then (bytes ++ take m left) items side → AllCome Then bytes items side (take m left) [] []
   silent_then Then bytes items side left used m within held lt then = record {
     happened = [];
-    happen = none_happen rules Deed bytes items (take m left)
+    happen = none_happen rules Deed bytes items _
         (front_held rules Deed bytes items left used m within held lt);
     taken = tt;
     wrote = refl;
     tells = refl;
-    leads = subst (λ (x : List ℕ). Then (bytes ++ x) (items ++ []) side) (sym (bytes_came Deed (take m left)))
-        (subst (λ (z : List (Item U)). Then (bytes ++ take m left) z side) (sym (append-nil items)) then);
+    leads = rw (bytes_came Deed (take m left)) (rw (append-nil items) then);
   }
 
   -- no byte comes
@@ -125,8 +113,7 @@ module _ {Place PlaceV Side U V Deed Event : Type 0} (rules : Rules Place U) (ou
     taken = tt;
     wrote = refl;
     tells = refl;
-    leads = subst (λ (x : List ℕ). Then x (items ++ []) side) (sym (append-nil bytes))
-        (subst (λ (z : List (Item U)). Then bytes z side) (sym (append-nil items)) then);
+    leads = rw (append-nil bytes) (rw (append-nil items) then);
   }
 
   -- a weaker fact holds then
@@ -163,8 +150,7 @@ module _ {Place PlaceV Side U V Deed Event : Type 0} (rules : Rules Place U) (ou
           → AllCome Then b its s (take k (left_of piece i)) reply told)
           → AllCome Then bytes items side (take (i + k) piece) reply told
       then_taken Then k reply told next =
-          subst (λ (acts : List (Act Deed)). HasGone rules out manner Then bytes items side acts reply told) (came_on k)
-          (gone_on rules out manner Now Then bytes items side (all_came (take i piece))
+          rw (← came_on k) (gone_on rules out manner Now Then bytes items side (all_came (take i piece))
           (all_came (take k (left_of piece i))) [] reply [] told before
           (λ b its s l size. next b its s l
           (size ∙ ap (λ (x : List ℕ). length bytes + length x) (bytes_came Deed (take i piece)))))
@@ -187,9 +173,8 @@ module _ {Place PlaceV Side U V Deed Event : Type 0} (rules : Rules Place U) (ou
         | inl behind ↦
             (let m : ℕ = n - i in
             let same : i + m ≡ n = omega (arith, behind) in
-            subst (λ (j : ℕ). AreSilent bytes items side (take j piece)) same
-            (then_taken (λ b its s. Unit {0}) m [] [] (λ b its s l size.
-            silent_then (λ b' its' s'. Unit {0}) b its s (left_of piece i) k m
+            rw (← same) (then_taken (λ b its s. Unit {0}) m [] [] (λ b its s l size.
+            silent_then (λ b' its' s'. Unit {0}) b its s _ k m
             (omega (arith, within, lt, behind)) (held b its s l) (omega (arith, lt, behind)) tt)))
         | inr here ↦ below n here
       ]
@@ -203,8 +188,7 @@ module _ {Place PlaceV Side U V Deed Event : Type 0} (rules : Rules Place U) (ou
         | inl lt ↦ below n lt
         | inr ge ↦
             (let same : i + k ≡ n = omega (arith, le, ge) in
-            subst (λ (j : ℕ). AreSilent bytes items side (take j piece)) same
-            (come_weaker New (λ b its s. Unit {0}) bytes items side (take (i + k) piece) [] [] (λ b its s l. tt) fed))
+            rw (← same) (come_weaker New (λ b its s. Unit {0}) bytes items side _ [] [] (λ b its s l. tt) fed))
       ]
 
       -- the end fails at its last byte
@@ -235,8 +219,8 @@ module _ {Place PlaceV Side U V Deed Event : Type 0} (rules : Rules Place U) (ou
             at.0,
             at.1,
             split_on piece i m at.0 at.1 at.2,
-            then_taken (AtLast at.0) m [] [] (λ b its s l from.
-                silent_then (AtLast at.0) b its s left k m (omega (arith, within, some)) (held b its s l)
+            then_taken _ m [] [] (λ b its s l from.
+                silent_then _ b its s left k m (omega (arith, within, some)) (held b its s l)
                 (omega (arith, some))
                 (at_last b its s (take m left) at.0 l
                 (omega (arith, from, fits, inside, left_length piece i, length-take-le i piece inside)) upto)),

@@ -1,23 +1,12 @@
-use Rattle.std.specs.Prelude.{IfOk, OnOk}
-use Rattle.std.proofs.Common.{◌≡◌, ℕ, ◌+◌, ◌≤◌, List, [], ◌∷◌, ◌++◌, Result, Ok, Err, length, take, drop, refl, ap, ◌∙◌}
-use Rattle.std.proofs.Common.{sym, subst, arith, append_assoc, length-append, length-drop}
-use Rattle.std.proofs.lemmas.List.{append-nil, length-take-le, take_all, drop_all, drop-drop, drop-append-le}
-use Rattle.std.proofs.lemmas.Grind.{flat_map-append}
-use Rattle.std.proofs.Math.Seq.{take-add, drop-append_seam, take-append-add}
-use Rattle.ws_code.specs.declared.reason.Reason.{Reason}
-use Rattle.ws_session.specs.declared.refusal.Refusal.{Refusal}
-use Rattle.ws_session.specs.declared.world.Event.{Event}
-use Rattle.ws_session.specs.declared.world.Move.{Move}
-use Rattle.ws_session.specs.Acts.{Act}
-use Rattle.ws_session.specs.Crossings.{Crossing, with_piece_at}
-use Rattle.ws_session.specs.HostLeads.{HostParts}
-use Rattle.ws_session.specs.StationLeads.{StationParts}
-use Rattle.ws_nego.specs.declared.terminal.TerminalType.{TerminalType}
-use Rattle.ws_session.specs.Runs.{WorldParts, Runs}
-use Rattle.ws_session.specs.World.{new_world}
-use Rattle.ws_session.specs.TwoLines.{TwoEnds, ends_of, all_sent, all_read, HaveCome, ComesDown, ComesUp}
-use Rattle.ws_session.specs.TwoLines.{IsDeliveredDown, IsDeliveredUp, HasMoved, HaveMoved, HasRun}
-use Rattle.ws_session.specs.Wires.{WireParts, AllCome, AreDelivered}
+use Rattle.ws_session.proofs.Common as C
+use C.{IfOk, OnOk, ◌≡◌, ℕ, ◌+◌, ◌≤◌, List, [], ◌∷◌, ◌++◌, Result, Ok, Err, length, take, drop, refl, ap, ◌∙◌, sym}
+use C.{arith, append_assoc, length-append, length-drop, append-nil, length-take-le, take_all, drop_all, drop-drop}
+use C.{drop-append-le, flat_map-append, take-add, drop-append_seam, take-append-add, Reason, Refusal, Event, Move}
+use C.{Act, Crossing, with_piece_at, HostParts, StationParts, TerminalType, WorldParts, Runs, new_world, TwoEnds}
+use C.{ends_of, all_sent, all_read, HaveCome, ComesDown, ComesUp, IsDeliveredDown, IsDeliveredUp, HasMoved}
+use C.{HaveMoved, HasRun, WireParts, AllCome, AreDelivered, ◌-◌, inl, inr, subst, take-append-drop, Fault, MayTake}
+use C.{MayGive, AreFaithful, HaveCrossed, HasCrossed, IsStopped, IsEnded, AreEnded}
+use Rattle.ws_session.specs.declared.line.Line.{Line}
 
 -- Moves of a session whose bytes go over two lines.
 
@@ -59,10 +48,7 @@ module _ {E Deed Told : Type 0} (goes : E → List (Act Deed) → List ℕ → L
       → AllCome goes refuses over tells refusal a xs b v s
       → AllCome goes refuses over tells refusal b ys c w t → AllCome goes refuses over tells refusal a (xs ++ ys) c
       (v ++ w) (s ++ t)
-  come_on a b c [] ys v w s t p q =
-      subst (λ (z : List ℕ). AllCome goes refuses over tells refusal a ys c (z ++ w) (s ++ t)) (sym p.1)
-      (subst (λ (z : List Event). AllCome goes refuses over tells refusal a ys c w (z ++ t)) (sym p.2)
-      (subst (λ (z : E). AllCome goes refuses over tells refusal z ys c w t) p.0 q))
+  come_on a b c [] ys v w s t p q = rw (← p.0, p.1, p.2) q
   come_on a b c (x ∷ xs) ys v w s t p q = (
     p.0,
     p.1,
@@ -99,8 +85,7 @@ module _ {E Deed Told : Type 0} (goes : E → List (Act Deed) → List ℕ → L
         left = ap (λ (z : WireParts). drop z.at z.bytes) d.from_is
             ∙ ap (λ (z : List ℕ). drop (at + length z) (with_piece_at bytes at read)) same
             ∙ piece_left bytes at read room ∙ ap (λ k. drop k (drop at bytes)) is;
-        come = subst (λ (z : List ℕ). AllCome goes refuses over tells refusal old z new d.written d.events)
-            (same ∙ sym (append-nil read)) d.come;
+        come = rw (← (same ∙ sym (append-nil read))) d.come;
       }
 
   module _ (a b : ℕ) (cs ds : List Crossing) (f g h : List ℕ) (old mid new : E) (v w : List ℕ) (s t : List Event) where
@@ -126,8 +111,7 @@ module _ {E Deed Told : Type 0} (goes : E → List (Act Deed) → List ℕ → L
                 (all_read cs) (all_read ds),
           );
           left = q.left ∙ ap (drop b) p.left ∙ drop-drop b a f;
-          come = subst (λ (z : List ℕ). AllCome goes refuses over tells refusal old z new (v ++ w) (s ++ t))
-              (sym reads) (come_on old mid new (all_read cs) (all_read ds) v w s t p.come q.come);
+          come = rw reads (come_on old mid new (all_read cs) (all_read ds) v w s t p.come q.come);
         }
 
   -- all that were in flight have come
@@ -144,33 +128,29 @@ module _ {E Deed Told : Type 0} (goes : E → List (Act Deed) → List ℕ → L
         come = p.come;
       }
 
+-- both ends, part by part
+pub same_ends : {s s' : StationParts} {h h' : HostParts} {a a' b b' : List ℕ} {e e' : List Event} → s ≡ s' → h ≡ h'
+    → a ≡ a' → b ≡ b' → e ≡ e' → ◌≡◌ {A = TwoEnds}
+    (record { station = s; host = h; to_station = a; to_host = b; events = e })
+    (record { station = s'; host = h'; to_station = a'; to_host = b'; events = e' })
+same_ends p q r s t = cc
+
 -- bytes down
 
 pub down_none : (now : WorldParts) → ComesDown (ends_of now) 0 [] (ends_of now)
 down_none now = (
   [],
   [],
-  none_come _ _ _ _ _ now.station (drop now.at_station now.down),
-  ap (λ (z : List ℕ). let e : TwoEnds = record (ends_of now) { to_host = z } in e)
-      (sym (append-nil (drop now.at_host now.up)))
-      ∙ ap (λ (z : List Event). let e : TwoEnds = record (ends_of now) {
-        to_host = drop now.at_host now.up ++ [];
-        events = z;
-      } in e) (sym (append-nil now.events)),
+  none_come _ _ _ _ _ _ _,
+  same_ends refl refl refl (sym (append-nil (drop now.at_host now.up))) (sym (append-nil now.events)),
 )
 
 pub up_none : (now : WorldParts) → ComesUp (ends_of now) 0 [] (ends_of now)
 up_none now = (
   [],
   [],
-  none_come _ _ _ _ _ now.host (drop now.at_host now.up),
-  ap (λ (z : List ℕ). let e : TwoEnds = record (ends_of now) { to_station = z } in e)
-      (sym (append-nil (drop now.at_station now.down)))
-      ∙ ap (λ (z : List Event). let e : TwoEnds = record (ends_of now) {
-        to_station = drop now.at_station now.down
-            ++ [];
-        events = z;
-      } in e) (sym (append-nil now.events)),
+  none_come _ _ _ _ _ _ _,
+  same_ends refl refl (sym (append-nil (drop now.at_station now.down))) refl (sym (append-nil now.events)),
 )
 
 -- what went over a line, written in the place of the bytes in flight
@@ -180,20 +160,13 @@ module _ (old new : WorldParts) (n : ℕ) (read : List ℕ) (is : length read �
       → ComesDown (ends_of old) n (record { sent = take n (drop old.at_station old.down); read = read } ∷ [])
       (ends_of new)
   down_piece fits room d =
-      let flight = drop new.at_station new.down in
       let upward : drop new.at_host new.up ≡ drop old.at_host old.up ++ d.0.written =
       ap (λ (z : WireParts). drop z.at z.bytes) d.0.to_is ∙ drop-append-le old.at_host old.up d.0.written room in (
         d.0.written,
         d.0.events,
-        piece_comes _ _ _ _ _ old.station new.station old.down old.at_station n read _ _ _ old.events new.events is
+        piece_comes _ _ _ _ _ _ _ _ _ n read _ _ _ _ _ is
             fits d.0,
-        ap (λ (z : HostParts). let e : TwoEnds = record (ends_of new) { host = z } in e) d.1
-            ∙ ap (λ (z : List ℕ). let e : TwoEnds = record (ends_of new) { host = old.host; to_host = z } in e) upward
-            ∙ ap (λ (z : List Event). let e : TwoEnds = record (ends_of new) {
-              host = old.host;
-              to_host = drop old.at_host old.up ++ d.0.written;
-              events = z;
-            } in e) d.0.told_is,
+        same_ends refl d.1 refl upward d.0.told_is,
       )
 
   pub up_piece : old.at_host + n ≤ length old.up → old.at_station ≤ length old.down
@@ -204,16 +177,8 @@ module _ (old new : WorldParts) (n : ℕ) (read : List ℕ) (is : length read �
       ap (λ (z : WireParts). drop z.at z.bytes) d.0.to_is ∙ drop-append-le old.at_station old.down d.0.written room in (
         d.0.written,
         d.0.events,
-        piece_comes _ _ _ _ _ old.host new.host old.up old.at_host n read _ _ _ old.events new.events is fits d.0,
-        ap (λ (z : StationParts). let e : TwoEnds = record (ends_of new) { station = z } in e) d.1
-            ∙ ap (λ (z : List ℕ). let e : TwoEnds = record (ends_of new) { station = old.station; to_station = z } in
-            e) downward
-            ∙ ap (λ (z : List Event). let e : TwoEnds = record (ends_of new) {
-              station = old.station;
-              to_station =
-                  drop old.at_station old.down ++ d.0.written;
-              events = z;
-            } in e) d.0.told_is,
+        piece_comes _ _ _ _ _ _ _ _ _ n read _ _ _ _ _ is fits d.0,
+        same_ends d.1 refl downward refl d.0.told_is,
       )
 
 module _ (x y z : TwoEnds) (a b : ℕ) (cs ds : List Crossing) where
@@ -221,54 +186,17 @@ module _ (x y z : TwoEnds) (a b : ℕ) (cs ds : List Crossing) where
   down_more p q = (
     p.0 ++ q.0,
     p.1 ++ q.1,
-    more_come _ _ _ _ _ a b cs ds x.to_station y.to_station z.to_station x.station y.station z.station p.0 q.0 p.1 q.1
+    more_come _ _ _ _ _ a b cs ds _ _ _ _ _ _ p.0 q.0 p.1 q.1
         p.2 q.2,
-    q.3
-        ∙ ap (λ (k : TwoEnds). let e : TwoEnds = record k {
-          station = z.station;
-          to_station = z.to_station;
-          to_host = k.to_host ++ q.0;
-          events = k.events ++ q.1;
-        } in e) p.3
-        ∙ ap (λ (k : List ℕ). let e : TwoEnds = record x {
-          station = z.station;
-          to_station = z.to_station;
-          to_host = k;
-          events = (x.events ++ p.1) ++ q.1;
-        } in e) (append_assoc x.to_host p.0 q.0)
-        ∙ ap (λ (k : List Event). let e : TwoEnds = record x {
-          station = z.station;
-          to_station = z.to_station;
-          to_host = x.to_host ++ (p.0 ++ q.0);
-          events = k;
-        } in e) (append_assoc x.events p.1 q.1),
+    cc (q.3, p.3, append_assoc x.to_host p.0 q.0, append_assoc x.events p.1 q.1),
   )
 
   pub up_more : ComesUp x a cs y → ComesUp y b ds z → ComesUp x (a + b) (cs ++ ds) z
   up_more p q = (
     p.0 ++ q.0,
     p.1 ++ q.1,
-    more_come _ _ _ _ _ a b cs ds x.to_host y.to_host z.to_host x.host y.host z.host p.0 q.0 p.1 q.1 p.2 q.2,
-    q.3
-        ∙ ap (λ (k : TwoEnds). let e : TwoEnds = record k {
-          host = z.host;
-          to_station = k.to_station ++ q.0;
-          to_host = z.to_host;
-          events = k.events ++ q.1;
-        } in e) p.3
-        ∙ ap (λ (k : List ℕ). let e : TwoEnds = record x {
-          host = z.host;
-          to_station = k;
-          to_host = z.to_host;
-          events = (x.events ++ p.1) ++ q.1;
-        } in e) (append_assoc x.to_station p.0 q.0)
-        ∙ ap (λ (k : List Event). let e : TwoEnds = record x {
-          host = z.host;
-          to_station = x.to_station
-              ++ (p.0 ++ q.0);
-          to_host = z.to_host;
-          events = k;
-        } in e) (append_assoc x.events p.1 q.1),
+    more_come _ _ _ _ _ a b cs ds _ _ _ _ _ _ p.0 q.0 p.1 q.1 p.2 q.2,
+    cc (q.3, p.3, append_assoc x.to_station p.0 q.0, append_assoc x.events p.1 q.1),
   )
 
 module _ (x y : TwoEnds) (a b : ℕ) (cs : List Crossing) (le : a ≤ b) where
@@ -276,13 +204,13 @@ module _ (x y : TwoEnds) (a b : ℕ) (cs : List Crossing) (le : a ≤ b) where
   down_all none p = (
     p.0,
     p.1,
-    all_have_come _ _ _ _ _ a b cs x.to_station y.to_station x.station y.station p.0 p.1 le
+    all_have_come _ _ _ _ _ a b cs _ _ _ _ p.0 p.1 le
         none p.2,
     p.3,
   )
 
   pub up_all : y.to_host ≡ [] → ComesUp x a cs y → ComesUp x b cs y
-  up_all none p = (p.0, p.1, all_have_come _ _ _ _ _ a b cs x.to_host y.to_host x.host y.host p.0 p.1 le none p.2, p.3)
+  up_all none p = (p.0, p.1, all_have_come _ _ _ _ _ a b cs _ _ _ _ p.0 p.1 le none p.2, p.3)
 
 -- one move more
 pub moved_on : (a b c : TwoEnds) (ms : List Move) (m : Move) (ds us es vs : List Crossing) → HaveMoved a ms ds us b
@@ -294,7 +222,7 @@ moved_on a b c [] m ds us es vs p q = (
   [],
   [],
   c,
-  subst (λ (z : TwoEnds). HasMoved z m es vs c) p.2 q,
+  rw (← p.2) q,
   (refl, refl, refl),
   ap (λ z. z ++ es) p.0 ∙ sym (append-nil es),
   ap (λ z. z ++ vs) p.1 ∙ sym (append-nil vs),
@@ -324,3 +252,89 @@ begun t now r = (
   },
   (refl, refl, refl),
 )
+
+-- What has crossed a line
+
+module _ {S R : Type 0} (takes : MayTake S) (failures : S → ℕ) (gives : MayGive R) (misses : R → ℕ) where
+  -- pieces, and then further ones
+  pub crossed_on : (a b c : Line S R) (cs ds : List Crossing) → HaveCrossed takes failures gives misses a cs b
+      → HaveCrossed takes failures gives misses b ds c → HaveCrossed takes failures gives misses a (cs ++ ds) c
+  crossed_on a b c [] ds p q = rw p q
+  crossed_on a b c (x ∷ cs) ds p q = (p.0, p.1, crossed_on p.0 b c cs ds p.2 q)
+
+  pub crossed_behind : (a b c : Line S R) (cs : List Crossing) → HaveCrossed takes failures gives misses a cs b
+      → HasCrossed takes failures gives misses b c → HasCrossed takes failures gives misses a c
+  crossed_behind a b c cs p q = (cs ++ q.0, crossed_on a b c cs q.0 p q.1)
+
+  -- a stop behind pieces that crossed
+  pub stop_behind : (a b c : Line S R) (cs : List Crossing) (fault : Fault)
+      → HaveCrossed takes failures gives misses a cs b → IsStopped takes failures gives misses b c fault
+      → IsStopped takes failures gives misses a c fault
+  stop_behind a b c cs fault p q = record {
+    crossings = cs ++ q.crossings;
+    last = q.last;
+    crossed = crossed_on a b _ cs _ p q.crossed;
+    bytes = q.bytes;
+    slice = q.slice;
+    failed = q.failed;
+  }
+
+  pub stopped_behind : (a b c : Line S R) (cs : List Crossing) (fault : Fault)
+      → HaveCrossed takes failures gives misses a cs b → IsEnded takes failures gives misses b c fault
+      → IsEnded takes failures gives misses a c fault
+  stopped_behind a b c cs fault p (inl m) = inl (m.0, crossed_behind a b c cs p m.1)
+  stopped_behind a b c cs fault p (inr k) = inr (stop_behind a b c cs fault p k)
+
+-- one of two lines stops
+module _ {S R T Q : Type 0} (takes : MayTake S) (failures : S → ℕ) (gives : MayGive R) (misses : R → ℕ)
+    (takes' : MayTake T) (failures' : T → ℕ) (gives' : MayGive Q) (misses' : Q → ℕ) where
+  pub either_behind : (a b c : Line S R) (cs : List Crossing) (a' b' c' : Line T Q) (cs' : List Crossing)
+      (fault : Fault) → HaveCrossed takes failures gives misses a cs b
+      → HaveCrossed takes' failures' gives' misses' a' cs' b'
+      → AreEnded takes failures gives misses takes' failures' gives' misses' b c b' c' fault
+      → AreEnded takes failures gives misses takes' failures' gives' misses' a c a' c' fault
+  either_behind a b c cs a' b' c' cs' fault p p' (inl m) =
+      inl (
+        m.0,
+        crossed_behind takes _ gives _ a b c cs p m.1,
+        crossed_behind _ _ _ _ a' b' c' cs' p' m.2,
+      )
+  either_behind a b c cs a' b' c' cs' fault p p' (inr (inl k)) =
+      inr (inl (
+        stop_behind takes _ gives _ a b c cs fault p k.0,
+        crossed_behind _ _ _ _ a' b' c' cs' p' k.1,
+      ))
+  either_behind a b c cs a' b' c' cs' fault p p' (inr (inr k)) =
+      inr (inr (
+        crossed_behind takes _ gives _ a b c cs p k.0,
+        stop_behind _ _ _ _ a' b' c' cs' fault p' k.1,
+      ))
+
+  pub first_stops : (a c : Line S R) (a' : Line T Q) (fault : Fault) → IsEnded takes failures gives misses a c fault
+      → AreEnded takes failures gives misses takes' failures' gives' misses' a c a' a' fault
+  first_stops a c a' fault (inl m) = inl (m.0, m.1, ([], refl))
+  first_stops a c a' fault (inr k) = inr (inl (k, ([], refl)))
+
+  pub second_stops : (a : Line S R) (a' c' : Line T Q) (fault : Fault)
+      → IsEnded takes' failures' gives' misses' a' c' fault
+      → AreEnded takes failures gives misses takes' failures' gives' misses' a a a' c' fault
+  second_stops a a' c' fault (inl m) = inl (m.0, ([], refl), m.1)
+  second_stops a a' c' fault (inr k) = inr (inr (([], refl), k))
+
+pub faithful_front : (cs ds : List Crossing) → AreFaithful (cs ++ ds) → AreFaithful cs
+faithful_front [] ds f = tt
+faithful_front (c ∷ cs) ds f = (f.0, faithful_front cs ds f.1)
+
+pub faithful_back : (cs ds : List Crossing) → AreFaithful (cs ++ ds) → AreFaithful ds
+faithful_back [] ds f = f
+faithful_back (c ∷ cs) ds f = faithful_back cs ds f.1
+
+-- what stands at a place, put there again
+pub written_back : (bytes : List ℕ) (at n : ℕ) → at + n ≤ length bytes → with_piece_at bytes at
+    (take n (drop at bytes)) ≡ bytes
+written_back bytes at n h =
+    let room : n ≤ length (drop at bytes) = subst (λ k. n ≤ k) (sym (length-drop at bytes)) (omega (arith, h)) in
+    let long : length (take n (drop at bytes)) ≡ n = length-take-le n (drop at bytes) room in
+    ap (λ k. take at bytes ++ take n (drop at bytes) ++ drop (at + k) bytes) long
+    ∙ ap (λ l. l ++ drop (at + n) bytes) (sym (take-add at n bytes))
+    ∙ take-append-drop (at + n) bytes

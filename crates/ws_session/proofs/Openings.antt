@@ -1,35 +1,16 @@
-use Rattle.std.specs.Prelude.{nat_lt}
-use Rattle.std.proofs.Common.{◌≡◌, ℕ, zero, suc, ◌+◌, ◌≤◌, List, [], ◌∷◌, ◌++◌, Bool, true, false, Option, Some, None}
-use Rattle.std.proofs.Common.{if◌then◌else◌, length, replicate, refl, ap, ◌∙◌, sym, subst, arith}
-use Rattle.std.proofs.lemmas.Bool.{ltb-false}
-use Rattle.std.proofs.lemmas.List.{append-nil}
-use Rattle.ws_telnet.specs.declared.token.Telnet.{Telnet}
-use Rattle.ws_nego.specs.declared.terminal.TerminalType.{TerminalType}
-use Rattle.ws_nego.specs.Exchange.{Exchange, after_moves as exchange_after, after_all_to_station, after_all_to_host}
-use Rattle.ws_nego.specs.Exchange.{after_three_deliveries, IsQuiet as NothingInFlight, ToStation as MoveDown}
-use Rattle.ws_nego.specs.Exchange.{ToHost as MoveUp}
-use Rattle.ws_nego.specs.Host.{host_allows_records}
-use Rattle.ws_nego.specs.Station.{station_allows_records}
-use Rattle.ws_nego.proofs.Stages.{settled_quiet, settled_station, settled_host}
-use Rattle.ws_record.specs.Encode.{plain_spelling}
-use Rattle.ws_record.specs.Arrived.{ending_at}
-use Rattle.ws_record.specs.declared.record.Item.{Item}
-use Rattle.ws_stream.specs.AnswerParts.{answer_rules}
-use Rattle.ws_stream.specs.Elements.{element_rules}
-use Rattle.ws_stream.specs.declared.answer_part.AnswerPart.{AnswerPart}
-use Rattle.ws_stream.specs.declared.element.Element.{Element}
-use Rattle.ws_session.specs.Deliveries.{delivery, three_deliveries}
-use Rattle.ws_session.specs.HostSide.{HostSide, HostOutput, host_takes}
-use Rattle.ws_session.specs.Reaction.{Reaction, Refuses, GoesOn}
-use Rattle.ws_session.specs.StationSide.{StationSide, station_takes}
-use Rattle.ws_session.specs.World.{World, down_bytes, up_bytes, station_did, station_gets, host_did, host_gets}
-use Rattle.ws_session.specs.World.{byte_to_station, byte_to_host, bytes_to_station, bytes_to_host, after_moves, IsQuiet}
+use Rattle.ws_session.proofs.Common as C
+use C.{◌≡◌, ℕ, zero, suc, ◌+◌, ◌≤◌, List, [], ◌∷◌, ◌++◌, true, length, replicate, refl, ap, ◌∙◌, sym, subst, arith}
+use C.{append-nil, Telnet, TerminalType, Exchange, exchange_after, after_all_to_station, after_all_to_host}
+use C.{after_three_deliveries, NothingInFlight, MoveDown, MoveUp, host_allows_records, station_allows_records}
+use C.{settled_quiet, settled_station, settled_host, plain_spelling, Item, answer_rules, element_rules, AnswerPart}
+use C.{delivery, three_deliveries, HostSide, HostOutput, Reaction, Refuses, GoesOn, StationSide, World, down_bytes}
+use C.{up_bytes, station_did, host_did, byte_to_station, byte_to_host, bytes_to_station, bytes_to_host, after_moves}
+use C.{IsQuiet, inl, inr}
 use Rattle.ws_session.proofs.Agreements.{front_empty, no_tokens}
-use Rattle.ws_session.proofs.Betweens.{Posted, posted, sents, tokens}
+use Rattle.ws_session.proofs.Bytewise.{bytes_down, bytes_up}
+use Rattle.ws_session.proofs.Betweens.{Posted, posted, sents, tokens, Sound}
 use Rattle.ws_session.proofs.Flights.{InFlight, quiet, not_more, all_arrived, total_append}
-use Rattle.ws_session.proofs.Sounds.{Sound}
-use Rattle.ws_session.proofs.BytesDown.{next_down}
-use Rattle.ws_session.proofs.BytesUp.{next_up}
+use Rattle.ws_session.proofs.Bytes.{next_down, next_up}
 
 -- Three full deliveries each way open a session.
 
@@ -47,48 +28,16 @@ station_item : (w : World) (r : Reaction StationSide (List (Item AnswerPart))) �
 station_item w (Refuses reason) = still w
 station_item w (GoesOn station items) = (omega arith, omega (arith, total_append answer_rules w.up items))
 
-station_byte : (w : World) (b : Bool) (o : Option (Item Element)) → Grows w (station_gets w b o)
-station_byte w true o = still w
-station_byte w false None = still w
-station_byte w false (Some item) = station_item w (station_takes w.station item)
-
 host_item : (w : World) (r : Reaction HostSide HostOutput) → Grows w (host_did w r)
 host_item w (Refuses reason) = still w
 host_item w (GoesOn host told) = (omega (arith, total_append element_rules w.down told.items), omega arith)
 
-host_byte : (w : World) (b : Bool) (o : Option (Item AnswerPart)) → Grows w (host_gets w b o)
-host_byte w true o = still w
-host_byte w false None = still w
-host_byte w false (Some item) = host_item w (host_takes w.host item)
+grown_down : (n : ℕ) (w : World) → Grows w (bytes_to_station n w)
+grown_down n w = bytes_down (Grows w) (λ v g. g) (λ v r g. grows_on w v (station_did v r) g (station_item v r)) n w
+    (still w)
 
-byte_down : (w : World) → Grows w (byte_to_station w)
-byte_down w = by_test (nat_lt w.at_station (length (down_bytes w)))
-  where
-    by_test : (b : Bool) → Grows w
-        (if b then station_gets (record w { at_station = w.at_station + 1 }) w.station_refused
-        (ending_at element_rules w.down (w.at_station + 1)) else w)
-    by_test true = station_byte (record w { at_station = w.at_station + 1 }) w.station_refused
-        (ending_at element_rules w.down (w.at_station + 1))
-    by_test false = still w
-
-byte_up : (w : World) → Grows w (byte_to_host w)
-byte_up w = by_test (nat_lt w.at_host (length (up_bytes w)))
-  where
-    by_test : (b : Bool) → Grows w (if b then host_gets (record w { at_host = w.at_host + 1 }) w.host_refused
-        (ending_at answer_rules w.up (w.at_host + 1)) else w)
-    by_test true = host_byte (record w { at_host = w.at_host + 1 }) w.host_refused
-        (ending_at answer_rules w.up (w.at_host + 1))
-    by_test false = still w
-
-bytes_down : (n : ℕ) (w : World) → Grows w (bytes_to_station n w)
-bytes_down zero w = still w
-bytes_down (suc n) w = grows_on w (byte_to_station w) (bytes_to_station n (byte_to_station w)) (byte_down w)
-    (bytes_down n (byte_to_station w))
-
-bytes_up : (n : ℕ) (w : World) → Grows w (bytes_to_host n w)
-bytes_up zero w = still w
-bytes_up (suc n) w = grows_on w (byte_to_host w) (bytes_to_host n (byte_to_host w)) (byte_up w)
-    (bytes_up n (byte_to_host w))
+grown_up : (n : ℕ) (w : World) → Grows w (bytes_to_host n w)
+grown_up n w = bytes_up (Grows w) (λ v g. g) (λ v r g. grows_on w v (host_did v r) g (host_item v r)) n w (still w)
 
 module _ (t : TerminalType) where
   record AllDown (ex : Exchange) (w : World) : Type 0 where
@@ -105,38 +54,21 @@ module _ (t : TerminalType) where
       → w.at_station ≡ length (down_bytes w) → AllDown ex w
   down_done w s ex e at =
       let rest : tokens s.ts ++ posted s.ds ≡ [] = quiet element_rules w.down (tokens s.ts ++ posted s.ds)
-      (subst (λ n. InFlight element_rules w.down n (tokens s.ts ++ posted s.ds)) at s.down) in
+      (rw (← at) s.down) in
       let ts : s.ts ≡ [] = no_tokens s.ts (front_empty (tokens s.ts) (posted s.ds) rest) in
       let same : after_all_to_station s.ex ≡ s.ex = ap (λ (l : List Telnet). exchange_after
       (replicate (length l) MoveDown) s.ex) (s.between.exchanges.to_station ∙ ts) in
       record { sound_is = s; leads = sym same ∙ e; none = no_records s.ts s.ds rest }
 
-  pick_down : (n : ℕ) (w : World) (s : Sound t w) (ex : Exchange) (b : Bool) → nat_lt w.at_station
-      (length (down_bytes w)) ≡ b
-      → ((v : World) (r : Sound t v) → after_all_to_station r.ex ≡ after_all_to_station ex
-      → length (down_bytes v) ≤ v.at_station + n → AllDown ex (bytes_to_station n v))
-      → after_all_to_station s.ex ≡ after_all_to_station ex → length (down_bytes w) ≤ w.at_station + suc n
-      → AllDown ex (bytes_to_station n (byte_to_station w))
-  pick_down n w s ex true q go e less =
-      let d = (next_down t w s (byte_to_station w) refl true q).0 refl in
-      let size : length (down_bytes (byte_to_station w)) ≡ length (down_bytes w) = ap
-      (λ z. length (plain_spelling element_rules z)) d.same_down in
-      go (byte_to_station w) d.sound (d.same_ex ∙ e) (omega (arith, size, d.at, less))
-  pick_down n w s ex false q go e less =
-      let same = (next_down t w s (byte_to_station w) refl false q).1 refl in
-      subst (λ z. AllDown ex (bytes_to_station n z)) (sym same)
-      (go w s e (omega (arith, ltb-false w.at_station (length (down_bytes w)) q)))
-
   full_down : (n : ℕ) (w : World) (s : Sound t w) (ex : Exchange) → after_all_to_station s.ex ≡ after_all_to_station ex
       → length (down_bytes w) ≤ w.at_station + n → AllDown ex (bytes_to_station n w)
-  full_down zero w s ex e less = down_done w s ex e (omega (
-    arith,
-    less,
-    not_more element_rules w.down w.at_station
-        (tokens s.ts ++ posted s.ds) s.down,
-  ))
-  full_down (suc n) w s ex e less = pick_down n w s ex (nat_lt w.at_station (length (down_bytes w))) refl
-      (λ v r q l. full_down n v r ex q l) e less
+  full_down zero w s ex e less = down_done w s ex e
+      (omega (arith, less, not_more element_rules w.down w.at_station (tokens s.ts ++ posted s.ds) s.down))
+  full_down (suc n) w s ex e less = elim (next_down t w s) [
+    | inl d ↦ full_down n (byte_to_station w) d.sound ex (d.same_ex ∙ e)
+        (omega (arith, ap (λ z. length (plain_spelling element_rules z)) d.same_down, d.at, less))
+    | inr q ↦ rw q.0 (full_down n w s ex e (omega (arith, q.1)))
+  ]
 
   record AllUp (ex : Exchange) (ds : List Posted) (w : World) : Type 0 where
     sound_is : Sound t w
@@ -148,34 +80,21 @@ module _ (t : TerminalType) where
       ≡ after_all_to_host ex → s.ds ≡ ds → w.at_host ≡ length (up_bytes w) → AllUp ex ds w
   up_done w s ex ds e same at =
       let rest : tokens s.us ++ sents s.es ≡ [] = quiet answer_rules w.up (tokens s.us ++ sents s.es)
-      (subst (λ n. InFlight answer_rules w.up n (tokens s.us ++ sents s.es)) at s.up) in
+      (rw (← at) s.up) in
       let us : s.us ≡ [] = no_tokens s.us (front_empty (tokens s.us) (sents s.es) rest) in
       let fixed : after_all_to_host s.ex ≡ s.ex = ap (λ (l : List Telnet). exchange_after
       (replicate (length l) MoveUp) s.ex) (s.between.exchanges.to_host ∙ us) in
       record { sound_is = s; leads = sym fixed ∙ e; same = same; arrived_is = at }
 
-  pick_up : (n : ℕ) (w : World) (s : Sound t w) (ex : Exchange) (ds : List Posted) (b : Bool) → nat_lt w.at_host
-      (length (up_bytes w)) ≡ b
-      → ((v : World) (r : Sound t v) → after_all_to_host r.ex ≡ after_all_to_host ex → r.ds ≡ ds
-      → length (up_bytes v) ≤ v.at_host + n → AllUp ex ds (bytes_to_host n v))
-      → after_all_to_host s.ex ≡ after_all_to_host ex → s.ds ≡ ds → length (up_bytes w) ≤ w.at_host + suc n
-      → AllUp ex ds (bytes_to_host n (byte_to_host w))
-  pick_up n w s ex ds true q go e f less =
-      let d = (next_up t w s (byte_to_host w) refl true q).0 refl in
-      let size : length (up_bytes (byte_to_host w)) ≡ length (up_bytes w) = ap
-      (λ z. length (plain_spelling answer_rules z)) d.same_up in
-      go (byte_to_host w) d.sound (d.same_ex ∙ e) (d.same_ds ∙ f) (omega (arith, size, d.at, less))
-  pick_up n w s ex ds false q go e f less =
-      let same = (next_up t w s (byte_to_host w) refl false q).1 refl in
-      subst (λ z. AllUp ex ds (bytes_to_host n z)) (sym same)
-      (go w s e f (omega (arith, ltb-false w.at_host (length (up_bytes w)) q)))
-
   full_up : (n : ℕ) (w : World) (s : Sound t w) (ex : Exchange) (ds : List Posted) → after_all_to_host s.ex
       ≡ after_all_to_host ex → s.ds ≡ ds → length (up_bytes w) ≤ w.at_host + n → AllUp ex ds (bytes_to_host n w)
   full_up zero w s ex ds e f less = up_done w s ex ds e f
       (omega (arith, less, not_more answer_rules w.up w.at_host (tokens s.us ++ sents s.es) s.up))
-  full_up (suc n) w s ex ds e f less = pick_up n w s ex ds (nat_lt w.at_host (length (up_bytes w))) refl
-      (λ v r q g l. full_up n v r ex ds q g l) e f less
+  full_up (suc n) w s ex ds e f less = elim (next_up t w s) [
+    | inl d ↦ full_up n (byte_to_host w) d.sound ex ds (d.same_ex ∙ e) (d.same_ds ∙ f)
+        (omega (arith, ap (λ z. length (plain_spelling answer_rules z)) d.same_up, d.at, less))
+    | inr q ↦ rw q.0 (full_up n w s ex ds e f (omega (arith, q.1)))
+  ]
 
   -- so many bytes are all that was written
   record Covers (all : ℕ) (w : World) : Type 0 where
@@ -190,15 +109,15 @@ module _ (t : TerminalType) where
       → AllUp (after_all_to_station s.ex) [] (after_moves w (delivery all))
   delivered all w s c =
       let v = bytes_to_station all w in
-      let g : Grows w v = bytes_down all w in
-      let h : Grows v (bytes_to_host all v) = bytes_up all v in
+      let g : Grows w v = grown_down all w in
+      let h : Grows v (bytes_to_host all v) = grown_up all v in
       let d = full_down all w s s.ex refl (omega (arith, g.0, h.0, c.down)) in
       full_up all v d.sound_is (after_all_to_station s.ex) [] (ap after_all_to_host d.leads) d.none
       (omega (arith, h.1, c.up))
 
   one_grows : (all : ℕ) (w : World) → Grows w (after_moves w (delivery all))
-  one_grows all w = let v = bytes_to_station all w in grows_on w v (bytes_to_host all v) (bytes_down all w)
-      (bytes_up all v)
+  one_grows all w = let v = bytes_to_station all w in grows_on w v (bytes_to_host all v) (grown_down all w)
+      (grown_up all v)
 
   pub record Opened (w : World) : Type 0 where
     pub nothing : IsQuiet w

@@ -1,32 +1,19 @@
-use Rattle.std.specs.Prelude.{IfOk, IfErr}
-use Rattle.std.proofs.Common.{◌≡◌, ◌≢◌, ℕ, ◌+◌, ◌*◌, ◌<◌, ◌≤◌, ◌^◌, inl, inr, List, [], ◌++◌, Some, None, Result, Ok}
-use Rattle.std.proofs.Common.{Err, length, drop, refl, ap, ◌∙◌, sym, subst, arith, length-append}
-use Rattle.ws_code.specs.declared.fault.Fault.{Fault}
-use Rattle.ws_code.specs.declared.fault.Fault.TheVariants.{Refused, Truncated, Memory, Read, Write, Failed}
-use Rattle.ws_code.specs.Device.{MayTake, MayGive, Gave, FailedWithin, one_more, most_reads}
-use Rattle.ws_code.proofs.DeviceLaws.{gave_more, gave_all}
-use Rattle.ws_nego.specs.declared.terminal.TerminalType.{TerminalType}
-use Rattle.ws_record.specs.declared.record.Item.{Item}
-use Rattle.ws_record.specs.Grammar.{IsInGrammar}
-use Rattle.ws_record.specs.Refusal.{IsTruncated}
-use Rattle.ws_stream.specs.Elements.{element_rules}
-use Rattle.ws_stream.specs.declared.element.Element.{Element}
-use Rattle.ws_stream.specs.declared.place.Place.{Place}
-use Rattle.ws_keys.specs.declared.key.Key.{Key}
+use Rattle.ws_session.proofs.Common as C
+use C.{IfOk, IfErr, ◌≡◌, ◌≢◌, ℕ, ◌+◌, ◌*◌, ◌<◌, ◌≤◌, ◌^◌, inl, inr, List, [], ◌++◌, Some, None, Result, Ok, Err}
+use C.{length, drop, refl, ap, ◌∙◌, arith, length-append, Fault, Refused, Truncated, Write, MayTake, MayGive, Gave}
+use C.{FailedWithin, one_more, most_reads, gave_more, gave_all, TerminalType, Item, IsInGrammar, IsTruncated}
+use C.{element_rules, Element, Place, Key, Player, outcome, due, later, HasDone, HasCome, StationParts}
+use C.{StationLeads, IsRunFault, IsRun, refusal_count, behind, StationSide, new_station_side, AtStation}
+use Rattle.ws_code.specs.declared.fault.Fault.TheVariants.{Memory, Read, Failed}
 use Rattle.ws_session.specs.declared.run.Played.{Played}
-use Rattle.ws_session.specs.declared.player.Player.{Player}
-use Rattle.ws_session.specs.Moments.{outcome, due, later}
-use Rattle.ws_session.specs.Playing.{HasDone, HasCome}
-use Rattle.ws_session.specs.StationLeads.{StationParts, StationLeads}
-use Rattle.ws_session.specs.StationRun.{IsRunFault, IsRun, refusal_count, behind}
-use Rattle.ws_session.specs.StationSide.{StationSide, new_station_side}
 use Rattle.ws_session.proofs.Plays.{text_of}
 use Rattle.ws_session.proofs.PlaySteps.{keys_taken}
 
 -- What the reads of a run make of its player.
 
 -- what the loop over a source keeps: the bytes that it gave have brought the player here, and are at most 4,096 a read
-pub record Reading {R S : Type 0} (gives : MayGive R) (misses : R → ℕ) (source now : R) (reads : ℕ) (takes : MayTake S)
+pub record Reading {R S : Type 0} (gives : MayGive R) (misses : R
+    → ℕ) (source now : R) (reads : ℕ) (takes : MayTake S)
     (failures : S → ℕ) (t : TerminalType) (keys : List (ℕ × Key)) (sink here : S) (player : Player) : Type 0 where
   pub bytes : List ℕ
   pub items : List (Item Element)
@@ -34,24 +21,35 @@ pub record Reading {R S : Type 0} (gives : MayGive R) (misses : R → ℕ) (sour
   pub come : HasCome takes failures t keys sink player here bytes items
   pub few : length bytes ≤ 4096 * reads
 
-module _ {R S : Type 0} (gives : MayGive R) (misses : R → ℕ) (takes : MayTake S) (failures : S → ℕ) (t : TerminalType)
+module _ {R S : Type 0} (gives : MayGive R) (misses : R → ℕ) (takes : MayTake S) (failures : S
+    → ℕ) (t : TerminalType)
     (keys : List (ℕ × Key)) where
   gave_none : (s : R) → Gave gives misses s s 0 []
-  gave_none s = record { reads = []; made = refl; counted = refl; within = omega arith; gave = refl; uncounted = refl }
+  gave_none s = record {
+    reads = [];
+    made = refl;
+    counted = refl;
+    within = omega arith;
+    gave = refl;
+    uncounted =
+        refl;
+  }
 
   -- before the first read the keys are pressed that wait for no record
   pub run_starts : (station : StationParts) (source : R) (sink here : S) (player : Player)
-      → HasDone takes failures [] [] (record { station = station; records = 0; pressed = 0; keys_refused = 0 }) player
+      → HasDone takes failures [] [] (record { station = station; records = 0; pressed = 0; keys_refused = 0 })
+      player
       sink here (outcome (new_station_side t) (due 0 keys))
       → drop player.pressed keys ≡ later 0 keys
       → Reading gives misses source source 0 takes failures t keys sink here player
   run_starts station source sink here player done left = record {
     bytes = [];
     items = [];
-    gave = gave_none source;
+    gave = gave_none _;
     come = record {
-      is_behind = record { leads = done.leads; taken = keys_taken (new_station_side t) 0 keys };
-      refused = done.refused 0 refl ∙ ap refusal_count (let e : 0 + (outcome (new_station_side t) (due 0 keys)).refused
+      is_behind = record { leads = done.leads; taken = keys_taken _ 0 keys };
+      refused = done.refused 0 refl ∙ ap refusal_count (let e : 0 + (outcome (new_station_side t) (due 0
+          keys)).refused
           ≡ (outcome (new_station_side t) (due 0 keys)).refused = omega arith in e);
       records = done.records;
       left = left;
@@ -68,7 +66,7 @@ module _ {R S : Type 0} (gives : MayGive R) (misses : R → ℕ) (takes : MayTak
   start_fails station source sink here l failed = record {
     bytes = [];
     reads = 0;
-    gave = gave_none source;
+    gave = gave_none _;
     unwritten = record {
       before = [];
       after = [];
@@ -77,7 +75,7 @@ module _ {R S : Type 0} (gives : MayGive R) (misses : R → ℕ) (takes : MayTak
       so_far = l.leads.0;
       begun = station.live.begun;
       holds = l.leads.1.holds;
-      taken = keys_taken (new_station_side t) 0 keys;
+      taken = keys_taken _ 0 keys;
       failed = failed;
     };
   }
@@ -89,8 +87,7 @@ module _ {R S : Type 0} (gives : MayGive R) (misses : R → ℕ) (takes : MayTak
     pub run_ends : (now' : R) (room : ℕ) (result : Result Played Fault) → 0 < room → gives now room (Some []) now'
         → misses now' ≡ misses now
         → IfOk result (λ played. (played.station ≡ player.station) × (played.keys_refused ≡ player.keys_refused)
-        × ((bytes : List ℕ) (items : List (Item Element)) (side : StationSide)
-        → StationLeads player.station bytes items side → IsInGrammar element_rules bytes items))
+        × AtStation player.station (λ bytes items side. IsInGrammar element_rules bytes items))
         → IfErr result (λ fault. (bytes : List ℕ) (items : List (Item Element)) (side : StationSide)
         → StationLeads player.station bytes items side → length bytes + 1 < 2 ^ 64
         → (fault ≡ Truncated (length bytes)) × IsTruncated {Place = Place} {U = Element} element_rules bytes)
@@ -101,8 +98,7 @@ module _ {R S : Type 0} (gives : MayGive R) (misses : R → ℕ) (takes : MayTak
       gave = gave_all gives misses source now now' reads r.bytes room r.gave one_left h made same;
       accepted = ok.2 r.bytes r.items (behind t keys r.items).side r.come.is_behind.leads;
       is_behind = record {
-        leads = subst (λ (z : StationParts). StationLeads z r.bytes r.items
-            (behind t keys r.items).side) (sym ok.0) r.come.is_behind.leads;
+        leads = rw ok.0 r.come.is_behind.leads;
         taken = r.come.is_behind.taken;
       };
       refused = ok.1 ∙ r.come.refused;
@@ -111,8 +107,7 @@ module _ {R S : Type 0} (gives : MayGive R) (misses : R → ℕ) (takes : MayTak
     run_ends now' room (Err fault) h made same ok err =
         let e = err r.bytes r.items (behind t keys r.items).side r.come.is_behind.leads
         (omega (arith, r.few, one_left)) in
-        subst (λ (z : Fault). IsRun t keys gives misses source now' takes failures sink here (Err z)) (sym e.0)
-        (record {
+        rw e.0 (record {
           bytes = r.bytes;
           items = r.items;
           station = player.station;
@@ -193,7 +188,7 @@ run_endless gives misses takes failures t keys source now reads sink here player
   bytes = r.bytes;
   items = r.items;
   station = player.station;
-  failed = inr (subst (λ (n : ℕ). Gave gives misses source now n r.bytes) is r.gave);
+  failed = inr (rw (← is) r.gave);
   is_behind = r.come.is_behind;
   wrote = r.come.wrote;
 }

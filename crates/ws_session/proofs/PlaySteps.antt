@@ -1,32 +1,16 @@
-use Rattle.std.specs.Prelude.{nat_lt, if◌then◌else◌}
-use Rattle.std.proofs.Common.{◌≡◌, ℕ, ◌+◌, ◌-◌, ◌<◌, ◌≤◌, ◌^◌, min, inl, inr, Bool, true, false, List, [], ◌∷◌, ◌++◌}
-use Rattle.std.proofs.Common.{length, take, drop, get_or, refl, ap, ◌∙◌, sym, subst, arith, append_assoc}
-use Rattle.std.proofs.Common.{length-append, take-append-drop}
-use Rattle.std.proofs.lemmas.List.{append-nil, take_more}
-use Rattle.ws_code.specs.declared.fault.Fault.{Fault}
-use Rattle.ws_code.specs.declared.fault.Fault.TheVariants.{Refused, Truncated, Memory, Read, Write, Failed}
-use Rattle.ws_code.specs.Device.{MayTake, WentOut, FailedWithin}
-use Rattle.ws_code.proofs.DeviceLaws.{went_out_none, went_out_both, failed_within_both}
-use Rattle.ws_nego.specs.declared.terminal.TerminalType.{TerminalType}
-use Rattle.ws_record.specs.declared.record.Item.{Item}
-use Rattle.ws_record.specs.declared.record.Item.TheVariants.{Record as RecordItem, Telnet as TelnetItem}
-use Rattle.ws_stream.specs.declared.element.Element.{Element}
-use Rattle.ws_keys.specs.declared.key.Key.{Key}
-use Rattle.ws_session.specs.declared.player.Player.{Player}
-use Rattle.ws_session.specs.declared.end_step.Applied.{Applied}
-use Rattle.ws_session.specs.declared.refusal.Refusal.{Refusal}
-use Rattle.ws_session.specs.declared.refusal.Refusal.TheVariants.{At, Failed as NoMore, Memory as NoMemory}
-use Rattle.ws_session.specs.Acts.{Came}
-use Rattle.ws_session.specs.Attachments.{fault_of}
-use Rattle.ws_session.specs.Manners.{applied_by, StationGoes, StationRefuses}
-use Rattle.ws_session.specs.Written.{IsUntaken}
-use Rattle.ws_session.specs.Moments.{Moment, Arrives, Presses, Outcome, idle_outcome, outcome_of_both, at_item}
-use Rattle.ws_session.specs.Moments.{at_moment, outcome, goes_on, AreTaken, due, later, one_record, moments_from}
-use Rattle.ws_session.specs.Moments.{moments}
-use Rattle.ws_session.specs.Playing.{HasDone, HasCome, records_from, keys_left_from}
-use Rattle.ws_session.specs.StationLeads.{StationParts, StationLeads, IsTaken}
-use Rattle.ws_session.specs.StationRun.{refusal_count, behind, run_text, RunUnwritten, IsRunFault}
-use Rattle.ws_session.specs.StationSide.{StationSide, new_station_side}
+use Rattle.ws_session.proofs.Common as C
+use C.{nat_lt, if◌then◌else◌, ◌≡◌, ℕ, ◌+◌, ◌-◌, ◌<◌, ◌≤◌, ◌^◌, min, inl, inr, Bool, true, false, List, [], ◌∷◌}
+use C.{◌++◌, length, take, drop, get_or, refl, ap, ◌∙◌, sym, subst, arith, append_assoc, length-append}
+use C.{take-append-drop, append-nil, take_more, Fault, Refused, Truncated, Write, MayTake, WentOut, FailedWithin}
+use C.{went_out_none, went_out_both, failed_within_both, TerminalType, Item, RecordItem, TelnetItem, Element, Key}
+use C.{Player, Applied, Refusal, At, NoMore, Came, fault_of, applied_by, StationGoes, StationRefuses, IsUntaken}
+use C.{Moment, Presses, Outcome, idle_outcome, outcome_of_both, at_item, at_moment, outcome, AreTaken, due, later}
+use C.{one_record, moments_from, moments, HasDone, HasCome, records_from, keys_left_from, StationParts}
+use C.{StationLeads, IsTaken, refusal_count, behind, run_text, RunUnwritten, IsRunFault, StationSide}
+use C.{new_station_side, AtStation}
+use Rattle.ws_code.specs.declared.fault.Fault.TheVariants.{Memory, Read, Failed}
+use Rattle.ws_session.specs.declared.refusal.Refusal.TheVariants.{Memory as NoMemory}
+use Rattle.ws_session.specs.Moments.{Arrives, goes_on}
 use Rattle.ws_session.proofs.EndSteps.{Went, station_went}
 use Rattle.ws_session.proofs.Plays.{text_of, text_append, outcome_append, none_due, later_by}
 
@@ -44,7 +28,8 @@ moments_more n keys (i ∷ items) item =
     (Arrives item ∷ due (records_from (n + one_record i) items + one_record item)
     (keys_left_from (n + one_record i) (later n keys) items)))
 
-left_more : (n : ℕ) (keys : List (ℕ × Key)) (items : List (Item Element)) (item : Item Element) → keys_left_from n keys
+left_more : (n : ℕ) (keys : List (ℕ × Key)) (items : List (Item Element)) (item : Item Element)
+    → keys_left_from n keys
     (items ++ item ∷ []) ≡ later (records_from n items + one_record item) (keys_left_from n keys items)
 left_more n keys [] item = refl
 left_more n keys (i ∷ items) item = left_more (n + one_record i) (later n keys) items item
@@ -56,7 +41,7 @@ records_more n (i ∷ items) item = records_more (n + one_record i) items item
 
 due_later : (n : ℕ) (keys : List (ℕ × Key)) → (due n (later n keys) ≡ []) × (later n (later n keys) ≡ later n keys)
 due_later n [] = (refl, refl)
-due_later n (k ∷ ks) = by_test (nat_lt n k.0) refl (due_later n ks)
+due_later n (k ∷ ks) = by_test _ refl (due_later n ks)
   where
     by_test : (b : Bool) → nat_lt n k.0 ≡ b → (due n (later n ks) ≡ []) × (later n (later n ks) ≡ later n ks)
         → (due n (later n (k ∷ ks)) ≡ []) × (later n (later n (k ∷ ks)) ≡ later n (k ∷ ks))
@@ -77,7 +62,7 @@ taken_append s (m ∷ ms) ns a b = (a.0, taken_append (at_moment s m).side ms ns
 
 pub keys_taken : (s : StationSide) (n : ℕ) (ks : List (ℕ × Key)) → AreTaken s (due n ks)
 keys_taken s n [] = tt
-keys_taken s n (k ∷ ks) = by_test (nat_lt n k.0) (keys_taken (at_moment s (Presses k.1)).side n ks)
+keys_taken s n (k ∷ ks) = by_test _ (keys_taken (at_moment s (Presses k.1)).side n ks)
   where
     by_test : (b : Bool) → AreTaken (at_moment s (Presses k.1)).side (due n ks)
         → AreTaken s (if b then [] else Presses k.1 ∷ due n ks)
@@ -93,7 +78,8 @@ one_of_record : (item : Item Element) (event : Applied) → event ∷ [] ≡ app
 one_of_record (RecordItem r) event e = refl
 one_of_record (TelnetItem token) event e = cc
 
-module _ {S : Type 0} (takes : MayTake S) (failures : S → ℕ) (t : TerminalType) (keys : List (ℕ × Key)) (start now : S)
+module _ {S : Type 0} (takes : MayTake S) (failures : S → ℕ) (t : TerminalType) (keys : List (ℕ × Key)) (start now :
+    S)
     (old : Player) (before : StationParts) (bytes : List ℕ) (items : List (Item Element)) (byte : ℕ)
     (c : HasCome takes failures t keys start (record old { station = before }) now bytes items) where
   abbrev so_far : Outcome
@@ -111,8 +97,8 @@ module _ {S : Type 0} (takes : MayTake S) (failures : S → ℕ) (t : TerminalTy
     records = c.records;
     left = c.left;
     few = omega (arith, c.few, length-append bytes (byte ∷ []));
-    wrote = subst (WentOut takes failures start to) (ap (λ z. run_text t keys items ++ z) silent
-        ∙ append-nil (run_text t keys items)) (went_out_both takes failures start now to
+    wrote = rw (← (ap (λ z. run_text t keys items ++ z) silent
+        ∙ append-nil (run_text t keys items))) (went_out_both takes failures start now to
         (run_text t keys items) reply c.wrote went);
   }
 
@@ -131,15 +117,15 @@ module _ {S : Type 0} (takes : MayTake S) (failures : S → ℕ) (t : TerminalTy
 
     one_more : behind t keys more ≡ outcome_of_both so_far (outcome_of_both did keyed)
     one_more =
-        ap (outcome (new_station_side t)) (moments_more 0 keys items taken.item) ∙ outcome_append (new_station_side t)
-        (moments keys items) (Arrives taken.item ∷ due_then)
+        ap (outcome (new_station_side t)) (moments_more 0 keys items _) ∙ outcome_append _
+        _ _
         ∙ ap (λ r. let a : Outcome = at_item so_far.side r in
         outcome_of_both so_far (outcome_of_both a (outcome a.side due_then))) taken.goes_on
 
     taken_more : AreTaken (new_station_side t) (moments keys more)
     taken_more =
-        subst (AreTaken (new_station_side t)) (sym (moments_more 0 keys items taken.item))
-        (taken_append (new_station_side t) (moments keys items) (Arrives taken.item ∷ due_then) c.is_behind.taken (
+        rw (moments_more 0 keys items taken.item) (taken_append (new_station_side t) (moments keys items)
+        (Arrives taken.item ∷ due_then) c.is_behind.taken (
           ap goes_on taken.goes_on,
           keys_taken (at_moment so_far.side (Arrives taken.item)).side
               (records_from 0 items + one_record taken.item) (keys_left_from 0 keys items),
@@ -161,18 +147,17 @@ module _ {S : Type 0} (takes : MayTake S) (failures : S → ℕ) (t : TerminalTy
         → HasCome takes failures t keys start new to longer more
     item_comes records new mid to is went done left one = record {
       is_behind = record {
-        leads = subst (λ (o : Outcome). StationLeads new.station longer more o.side)
-            (sym one_more) done.leads;
+        leads = rw one_more done.leads;
         taken = taken_more;
       };
       refused = done.refused so_far.refused c.refused ∙ ap refusal_count (let e : so_far.refused + keyed.refused
           ≡ so_far.refused + (0 + keyed.refused) = omega arith in e) ∙ ap (λ (o : Outcome). refusal_count o.refused)
           (sym one_more);
       records = done.records ∙ is ∙ ap (λ n. n + one_record taken.item) c.records
-          ∙ sym (records_more 0 items taken.item);
-      left = left ∙ sym (left_more 0 keys items taken.item);
+          ∙ sym (records_more 0 items _);
+      left = left ∙ sym (left_more 0 keys items _);
       few = omega (arith, done.records, is, one, c.few, length-append bytes (byte ∷ []));
-      wrote = subst (WentOut takes failures start to) text_more (went_out_both takes failures start now to
+      wrote = rw (← text_more) (went_out_both takes failures start now to
           (run_text t keys items) (reply ++ text_of keyed.written) c.wrote
           (went_out_both takes failures now mid to reply (text_of keyed.written) went done.wrote));
     }
@@ -194,8 +179,7 @@ module _ {S : Type 0} (takes : MayTake S) (failures : S → ℕ) (t : TerminalTy
     reply_unwritten : (to : S) → FailedWithin takes failures now to reply
         → RunUnwritten t keys takes failures start to longer
     reply_unwritten to failed =
-        unwritten to (subst (FailedWithin takes failures start to) text_more
-        (failed_within_both takes failures start now to (run_text t keys items) reply
+        unwritten to (rw (← text_more) (failed_within_both takes failures start now to (run_text t keys items) reply
         (text_of keyed.written) c.wrote failed))
 
     keys_unwritten : (mid to : S) → WentOut takes failures now mid reply → FailedWithin takes failures mid to
@@ -205,7 +189,8 @@ module _ {S : Type 0} (takes : MayTake S) (failures : S → ℕ) (t : TerminalTy
         let ys = text_of keyed.written in
         let text : (xs ++ reply) ++ (ys ++ []) ≡ run_text t keys more = append_assoc xs reply (ys ++ [])
         ∙ ap (λ z. xs ++ (reply ++ z)) (append-nil ys) ∙ text_more in
-        unwritten to (subst (FailedWithin takes failures start to) text (failed_within_both takes failures start mid to
+        unwritten to (rw (← text) (failed_within_both takes failures start mid
+        to
         (xs ++ reply) ys [] (went_out_both takes failures start now mid xs reply c.wrote went) failed))
 
   -- ---- by what the byte has done
@@ -213,15 +198,15 @@ module _ {S : Type 0} (takes : MayTake S) (failures : S → ℕ) (t : TerminalTy
     module _ (reply : List ℕ) (told : List Applied)
         (goes : StationGoes before (Came byte ∷ []) reply told old.station) where
       went_by : Went old.station bytes items so_far.side byte reply told
-      went_by = station_went old.station bytes items so_far.side byte reply told
-          (goes bytes items so_far.side c.is_behind.leads (omega (arith, few)))
+      went_by = station_went _ bytes items _ byte reply told
+          (goes bytes items _ c.is_behind.leads (omega (arith, few)))
 
       -- the reply isn't written
       reply_fails : (to : S) → FailedWithin takes failures now to reply
           → RunUnwritten t keys takes failures start to longer
       reply_fails to failed = elim went_by [
         | inl i ↦
-            (let none = subst (FailedWithin takes failures now to) i.0 failed in
+            (let none = rw i.0 at failed in
             absurd (let e : 0 < 0 = omega (arith, none.within) in omega (arith, e)))
         | inr taken ↦ reply_unwritten reply taken.0 to failed
       ]
@@ -239,7 +224,8 @@ module _ {S : Type 0} (takes : MayTake S) (failures : S → ℕ) (t : TerminalTy
             let none : due (records_from 0 items + one_record item) (keys_left_from 0 keys items)
             ≡ [] = ap (λ n. due n (keys_left_from 0 keys items)) same ∙ settled.0 in
             let side : StationSide = taken.0.next in
-            let done : HasDone takes failures longer (items ++ item ∷ []) (record old { records = old.records }) old to
+            let done : HasDone takes failures longer (items ++ item ∷ []) (record old { records = old.records }) old
+            to
             to (idle_outcome side) = record {
               leads = taken.0.leads;
               refused = λ n is. is ∙ ap refusal_count (let f : n ≡ n + 0 = omega arith in f);
@@ -247,7 +233,7 @@ module _ {S : Type 0} (takes : MayTake S) (failures : S → ℕ) (t : TerminalTy
               wrote = went_out_none takes failures to;
             } in (
               items ++ item ∷ [],
-              item_comes reply taken.0 old.records old to to (omega (arith, one)) went
+              item_comes reply taken.0 _ old to to (omega (arith, one)) went
                   (subst (λ (ms : List Moment). HasDone takes failures longer (items ++ item ∷ [])
                   (record old { records = old.records }) old to to (outcome side ms)) (sym none) done)
                   (c.left ∙ sym settled.1 ∙ ap (λ n. later n (keys_left_from 0 keys items)) (sym same))
@@ -257,7 +243,8 @@ module _ {S : Type 0} (takes : MayTake S) (failures : S → ℕ) (t : TerminalTy
 
       -- it ends one
       module _ (event : Applied) (ends : told ≡ event ∷ []) (records : ℕ)
-          (is : records ≡ min (old.records + 1) (2 ^ 64 - 1)) (mid : S) (went : WentOut takes failures now mid reply)
+          (is : records ≡ min (old.records + 1) (2 ^ 64 - 1)) (mid : S) (went : WentOut takes failures now mid
+          reply)
         where
           counts : (item : Item Element) → told ≡ applied_by item → (one_record item ≡ 1)
               × (records ≡ old.records + one_record item) × (records ≡ records_from 0 items + one_record item)
@@ -272,10 +259,9 @@ module _ {S : Type 0} (takes : MayTake S) (failures : S → ℕ) (t : TerminalTy
               ∙ ap (due (records_from 0 items + one_record item)) c.left
 
           pub record_comes : (new : Player) (to : S)
-              → ((bytes : List ℕ) (items : List (Item Element)) (side : StationSide)
-              → StationLeads old.station bytes items side → length bytes + 1 < 2 ^ 64
-              → HasDone takes failures bytes items (record old { records = records }) new mid to
-              (outcome side (due records (drop old.pressed keys))))
+              → AtStation old.station (λ bytes items side. length bytes + 1 < 2 ^ 64
+              → HasDone takes failures bytes items (record old { records = records }) new mid to (outcome side
+              (due records (drop old.pressed keys))))
               → drop new.pressed keys ≡ later records (drop old.pressed keys) → (next : List (Item Element))
               × HasCome takes failures t keys start new to longer next
           record_comes new to done left = elim went_by [
@@ -284,10 +270,9 @@ module _ {S : Type 0} (takes : MayTake S) (failures : S → ℕ) (t : TerminalTy
                 (let item : Item Element = taken.0.item in
                 let n = counts item taken.1 in (
                   items ++ item ∷ [],
-                  item_comes reply taken.0 records new mid to n.1 went
-                      (subst (λ (ms : List Moment). HasDone takes failures longer (items ++ item ∷ [])
-                      (record old { records = records }) new mid to (outcome taken.0.next ms)) (now_due item taken.1)
-                      (done longer (items ++ item ∷ []) taken.0.next taken.0.leads
+                  item_comes reply taken.0 _ new mid to n.1 went
+                      (rw (← now_due item
+                      taken.1) (done longer (items ++ item ∷ []) taken.0.next taken.0.leads
                       (omega (arith, few, length-append bytes (byte ∷ [])))))
                       (left ∙ ap (λ z. later z (drop old.pressed keys)) n.2
                       ∙ ap (later (records_from 0 items + one_record item)) c.left) (omega (arith, n.0)),
@@ -295,17 +280,15 @@ module _ {S : Type 0} (takes : MayTake S) (failures : S → ℕ) (t : TerminalTy
           ]
 
           pub keys_fail : (to : S)
-              → ((bytes : List ℕ) (items : List (Item Element)) (side : StationSide)
-              → StationLeads old.station bytes items side → length bytes + 1 < 2 ^ 64
-              → FailedWithin takes failures mid to
-              (text_of (outcome side (due records (drop old.pressed keys))).written))
+              → AtStation old.station (λ bytes items side. length bytes + 1 < 2 ^ 64
+              → FailedWithin takes failures mid to (text_of (outcome side (due records (drop old.pressed
+              keys))).written))
               → RunUnwritten t keys takes failures start to longer
           keys_fail to failed = elim went_by [
             | inl i ↦ absurd (let e : event ∷ [] ≡ [] = sym ends ∙ i.1 in cc)
             | inr taken ↦
-                keys_unwritten reply taken.0 mid to went (subst (λ (ms : List Moment). FailedWithin takes failures mid to
-                (text_of (outcome taken.0.next ms).written)) (now_due taken.0.item taken.1)
-                (failed longer (items ++ taken.0.item ∷ []) taken.0.next taken.0.leads
+                keys_unwritten reply taken.0 mid to went (rw (← now_due taken.0.item taken.1) (failed longer
+                (items ++ taken.0.item ∷ []) taken.0.next taken.0.leads
                 (omega (arith, few, length-append bytes (byte ∷ [])))))
           ]
 
@@ -325,24 +308,26 @@ module _ {S : Type 0} (takes : MayTake S) (failures : S → ℕ) (t : TerminalTy
           station = before;
           is_behind = c.is_behind;
           why = is.2;
-          wrote = subst (λ (z : S). WentOut takes failures start z (run_text t keys items)) (sym unwritten) c.wrote;
+          wrote = rw unwritten c.wrote;
         }
     refused_as to unwritten NoMore refuses = refuses bytes items so_far.side c.is_behind.leads (omega (arith, few))
-    refused_as to unwritten NoMemory refuses = refuses bytes items so_far.side c.is_behind.leads (omega (arith, few))
+    refused_as to unwritten NoMemory refuses = refuses bytes items so_far.side c.is_behind.leads (omega (
+      arith,
+      few,
+    ))
 
     -- it doesn't come through
     pub byte_fails : (to : S) (fault : Fault)
         → IsUntaken StationGoes StationRefuses takes failures before old.station now to byte fault
         → IsRunFault t keys takes failures start to (length bytes) longer fault
-    byte_fails to fault (inl h) = subst (IsRunFault t keys takes failures start to (length bytes) longer) (sym h.0)
-        (reply_fails h.1.written h.1.told h.1.led to h.1.failed)
-    byte_fails to fault (inr h) = subst (IsRunFault t keys takes failures start to (length bytes) longer) (sym h.is)
-        (refused_as to h.unwritten h.refusal h.refused)
+    byte_fails to fault (inl h) = rw h.0 (reply_fails h.1.written h.1.told h.1.led to h.1.failed)
+    byte_fails to fault (inr h) = rw h.is (refused_as to h.unwritten _ h.refused)
 
 -- a fault within some bytes is one within more
 pub fault_within : (t : TerminalType) (keys : List (ℕ × Key)) {S : Type 0} (takes : MayTake S) (failures : S → ℕ)
     (start now : S) (first first' : ℕ) (bytes more : List ℕ) (fault : Fault) → first' ≤ first
-    → IsRunFault t keys takes failures start now first bytes fault → IsRunFault t keys takes failures start now first'
+    → IsRunFault t keys takes failures start now first bytes fault
+    → IsRunFault t keys takes failures start now first'
     (bytes ++ more) fault
 fault_within t keys takes failures start now first first' bytes more (Refused place reason) le f = record {
   before = f.before;

@@ -1,30 +1,12 @@
-use Rattle.std.specs.Prelude.{nat_lt, if◌then◌else◌}
-use Rattle.std.proofs.Common.{◌≡◌, ℕ, suc, ◌+◌, ◌-◌, ◌<◌, ◌≤◌, ◌^◌, min, Bool, true, false, List, [], ◌∷◌, ◌++◌}
-use Rattle.std.proofs.Common.{length, drop, get_or, refl, ap, ◌∙◌, sym, subst, arith, append_assoc}
-use Rattle.std.proofs.Common.{drop-cons, add-one}
-use Rattle.std.proofs.lemmas.List.{append-nil, drop_all}
-use Rattle.std.proofs.lemmas.Bool.Decides.{nat_tests}
-use Rattle.std.proofs.lemmas.Grind.{flat_map-append}
-use Rattle.ws_code.specs.Device.{MayTake, WentOut, FailedWithin}
-use Rattle.ws_code.proofs.DeviceLaws.{went_out_none, went_out_both, failed_within_both}
-use Rattle.ws_record.specs.declared.record.Item.{Item}
-use Rattle.ws_record.specs.Encode.{item_spelling, plain_spelling}
-use Rattle.ws_stream.specs.AnswerParts.{answer_rules}
-use Rattle.ws_stream.specs.declared.answer_part.AnswerPart.{AnswerPart}
-use Rattle.ws_stream.specs.declared.element.Element.{Element}
-use Rattle.ws_keys.specs.declared.key.Key.{Key}
-use Rattle.ws_session.specs.declared.player.Player.{Player}
-use Rattle.ws_session.specs.declared.key_fault.KeyFault.{KeyFault}
-use Rattle.ws_session.specs.Moments.{Moment, Presses, Outcome, idle_outcome, outcome_of_both, at_key, at_moment}
-use Rattle.ws_session.specs.Moments.{outcome, due, later}
-use Rattle.ws_session.specs.Playing.{HasDone}
-use Rattle.ws_session.specs.StationLeads.{StationParts, StationLeads}
-use Rattle.ws_session.specs.StationRun.{refusal_count}
-use Rattle.ws_session.specs.StationSide.{StationSide, station_key, KeyReaction, RefusesKey, Silent, Answers, Signals}
-use Rattle.ws_session.specs.Acts.{Did}
-use Rattle.ws_session.specs.Manners.{station_at_key, StationGoes, IsKeyRefusal, IsKeyTaken}
-use Rattle.ws_session.specs.Written.{HasWritten, HasWrittenFront}
-use Rattle.ws_session.specs.declared.end_step.Applied.{Applied}
+use Rattle.ws_session.proofs.Common as C
+use C.{nat_lt, if◌then◌else◌, ◌≡◌, ℕ, suc, ◌+◌, ◌-◌, ◌<◌, ◌≤◌, ◌^◌, min, Bool, true, false, List, [], ◌∷◌, ◌++◌}
+use C.{length, drop, get_or, refl, ap, ◌∙◌, sym, arith, append_assoc, drop-cons, add-one, append-nil, drop_all}
+use C.{nat_tests, flat_map-append, MayTake, FailedWithin, went_out_none, went_out_both, failed_within_both, Item}
+use C.{item_spelling, plain_spelling, answer_rules, AnswerPart, Element, Key, Player, KeyFault, Moment, Presses}
+use C.{Outcome, idle_outcome, outcome_of_both, at_key, at_moment, outcome, due, later, HasDone, StationParts}
+use C.{StationLeads, refusal_count, StationSide, station_key, KeyReaction, RefusesKey, Silent, Answers, Signals}
+use C.{Did, station_at_key, StationGoes, IsKeyRefusal, IsKeyTaken, HasWritten, HasWrittenFront, Applied, AtStation}
+use C.{ap₂}
 use Rattle.ws_session.proofs.EndDeeds.{key_did}
 
 -- What the keys of a run make of its player.
@@ -37,31 +19,18 @@ pub text_append : (xs ys : List (Item AnswerPart)) → text_of (xs ++ ys) ≡ te
 text_append xs ys = flat_map-append (item_spelling answer_rules) xs ys
 
 -- outcomes one after another
-made : (side : StationSide) (written : List (Item AnswerPart)) (refused : ℕ) → Outcome
-made side written refused = record { side = side; written = written; refused = refused }
-
 pub followed_assoc : (a b c : Outcome) → outcome_of_both (outcome_of_both a b) c ≡ outcome_of_both a
     (outcome_of_both b c)
 followed_assoc a b c =
-    ap (λ z. let o : Outcome = record { side = c.side; written = z; refused = (a.refused + b.refused) + c.refused } in
-    o) (append_assoc a.written b.written c.written)
-    ∙ ap (λ n. let o : Outcome = record {
-      side = c.side;
-      written = a.written ++ (b.written ++ c.written);
-      refused = n;
-    } in o) (let e : (a.refused + b.refused) + c.refused ≡ a.refused + (b.refused + c.refused) =
-    omega arith in e)
+    let e : (a.refused + b.refused) + c.refused ≡ a.refused + (b.refused + c.refused) = omega arith in
+    cc (append_assoc a.written b.written c.written)
 
 pub unmoved_first : (s : StationSide) (b : Outcome) → outcome_of_both (idle_outcome s) b ≡ b
-unmoved_first s b = ap (λ n. let o : Outcome = record { side = b.side; written = b.written; refused = n } in o)
-    (let e : 0 + b.refused ≡ b.refused = omega arith in e)
+unmoved_first s b = let e : 0 + b.refused ≡ b.refused = omega arith in ap (λ n. record b { refused = n }) e
 
 pub unmoved_last : (a : Outcome) → outcome_of_both a (idle_outcome a.side) ≡ a
-unmoved_last a =
-    ap (λ z. let o : Outcome = record { side = a.side; written = z; refused = a.refused + 0 } in o)
-    (append-nil a.written)
-    ∙ ap (λ n. let o : Outcome = record { side = a.side; written = a.written; refused = n } in o)
-    (let e : a.refused + 0 ≡ a.refused = omega arith in e)
+unmoved_last a = let e : a.refused + 0 ≡ a.refused = omega arith in
+    ap₂ (λ z n. record a { written = z; refused = n }) (append-nil a.written) e
 
 pub outcome_append : (s : StationSide) (ms ns : List Moment) → outcome s (ms ++ ns) ≡ outcome_of_both (outcome s ms)
     (outcome (outcome s ms).side ns)
@@ -77,7 +46,8 @@ outcome_append s (m ∷ ms) ns =
 abbrev Comes : StationParts → List ℕ → List (Item Element) → List ℕ → List (Item AnswerPart) → StationSide → Type 0
 Comes station bytes items text written side = (text ≡ text_of written) × StationLeads station bytes items side
 
-by_act : (station : StationParts) (bytes : List ℕ) (items : List (Item Element)) (side : StationSide) (text : List ℕ)
+by_act : (station : StationParts) (bytes : List ℕ) (items : List (Item Element)) (side : StationSide) (text : List
+    ℕ)
     (z : KeyReaction)
     → Comes station bytes items text (station_at_key side z).written (station_at_key side z).side
     → Comes station bytes items text (at_key side z).written (at_key side z).side
@@ -101,39 +71,37 @@ module _ {S : Type 0} (takes : MayTake S) (failures : S → ℕ) (old : Player) 
     (l : StationLeads old.station bytes items side) (few : length bytes + 1 < 2 ^ 64) where
   pressed : (text : List ℕ) (told : List Applied) → StationGoes old.station (Did key ∷ []) text told station
       → Comes station bytes items text (at_moment side (Presses key)).written (at_moment side (Presses key)).side
-  pressed text told goes = by_act station bytes items side text (station_key side key)
-      (key_did station bytes items side key text told (goes bytes items side l (omega (arith, few))))
+  pressed text told goes = by_act _ bytes items side text (station_key side key)
+      (key_did _ bytes items side key text told (goes bytes items side l (omega (arith, few))))
 
   pub taken_done : HasWritten StationGoes takes failures old.station station from to (Did key ∷ []) []
       → IsKeyTaken old.station key
-      → HasDone takes failures bytes items old (record old { station = station }) from to (at_moment side (Presses key))
+      → HasDone takes failures bytes items old (record old { station = station }) from to (at_moment side (Presses
+      key))
   taken_done h taken =
-      let p = pressed h.written [] h.led in
+      let p = pressed _ [] h.led in
       record {
         leads = p.1;
         refused = λ before is. add_none old.keys_refused (at_moment side (Presses key)).refused before
             (unrefused side (station_key side key) (taken bytes items side l few)) is;
         records = refl;
-        wrote = subst (WentOut takes failures from to) p.0 h.wrote;
+        wrote = rw (← p.0) h.wrote;
       }
 
   pub press_failed : HasWrittenFront StationGoes takes failures old.station station from to (Did key ∷ [])
       → FailedWithin takes failures from to (text_of (at_moment side (Presses key)).written)
-  press_failed h = subst (FailedWithin takes failures from to) (pressed h.written h.told h.led).0 h.failed
+  press_failed h = rw (← (pressed _ _ h.led).0) h.failed
 
   pub refused_done : (fault : KeyFault) (count : ℕ) → station ≡ old.station → to ≡ from
       → IsKeyRefusal old.station key fault → count ≡ min (old.keys_refused + 1) (2 ^ 32 - 1)
       → HasDone takes failures bytes items old (record old { station = station; keys_refused = count }) from to
       (at_moment side (Presses key))
   refused_done fault count same unwritten refusal is =
-      subst (λ (z : KeyReaction). HasDone takes failures bytes items old
-      (record old { station = station; keys_refused = count }) from to (at_key side z))
-      (sym (refusal bytes items side l few)) (record {
-        leads = subst (λ (z : StationParts). StationLeads z bytes items side) (sym same) l;
+      rw (refusal bytes items side l few) (record {
+        leads = rw same l;
         refused = λ before e. (let f : count ≡ refusal_count (before + 1) = omega (arith, e, is) in f);
         records = refl;
-        wrote = subst (λ (z : S). WentOut takes failures from z []) (sym unwritten)
-            (went_out_none takes failures from);
+        wrote = rw unwritten (went_out_none takes failures from);
       })
 
 -- one after another
@@ -144,16 +112,17 @@ module _ {S : Type 0} (takes : MayTake S) (failures : S → ℕ) (bytes : List �
       → HasDone takes failures bytes items old new from to (outcome_of_both a b)
   done_both old mid new from between to a b p q = record {
     leads = q.leads;
-    refused = λ before is. q.refused (before + a.refused) (p.refused before is) ∙ ap refusal_count
+    refused = λ before is. q.refused _ (p.refused before is) ∙ ap refusal_count
         (let e : (before + a.refused) + b.refused ≡ before + (a.refused + b.refused) = omega arith in e);
     records = q.records ∙ p.records;
-    wrote = subst (WentOut takes failures from to) (sym (text_append a.written b.written))
-        (went_out_both takes failures from between to (text_of a.written) (text_of b.written) p.wrote q.wrote);
+    wrote = rw (text_append a.written b.written) (went_out_both takes failures from between to (text_of a.written)
+        (text_of b.written) p.wrote q.wrote);
   }
 
 -- ---- the keys that are due
 
-due_by : (n : ℕ) (k : ℕ × Key) (ks : List (ℕ × Key)) → nat_lt n k.0 ≡ false → due n (k ∷ ks) ≡ Presses k.1 ∷ due n ks
+due_by : (n : ℕ) (k : ℕ × Key) (ks : List (ℕ × Key)) → nat_lt n k.0 ≡ false
+    → due n (k ∷ ks) ≡ Presses k.1 ∷ due n ks
 due_by n k ks e = ap (λ (b : Bool). if b then [] else Presses k.1 ∷ due n ks) e
 
 pub later_by : (n : ℕ) (k : ℕ × Key) (ks : List (ℕ × Key)) → nat_lt n k.0 ≡ false → later n (k ∷ ks) ≡ later n ks
@@ -202,7 +171,7 @@ module _ {S : Type 0} (takes : MayTake S) (failures : S → ℕ) where
     records = refl;
     did = λ bytes items side l few. record {
       leads = l;
-      refused = λ before is. add_none first.keys_refused 0 before refl is;
+      refused = λ before is. add_none _ 0 _ refl is;
       records = refl;
       wrote = went_out_none takes failures from;
     };
@@ -216,28 +185,28 @@ module _ {S : Type 0} (takes : MayTake S) (failures : S → ℕ) where
         → length bytes + 1 < 2 ^ 64 → HasDone takes failures bytes items first now from mid
         (outcome side (due first.records (drop first.pressed keys)))
     pressing_ends none bytes items side l few =
-        subst (λ (z : List Moment). HasDone takes failures bytes items first now from mid (outcome side z))
-        (sym (p.due_is ∙ ap (λ z. p.moments ++ z) none ∙ append-nil p.moments)) (p.did bytes items side l few)
+        rw (p.due_is ∙ ap (λ z. p.moments ++ z) none ∙ append-nil p.moments) (p.did bytes items side l few)
 
     module _ (k : ℕ × Key) (more : now.pressed < length keys) (is : k ≡ get_or keys now.pressed k)
         (test : nat_lt first.records k.0 ≡ false) where
       rest_due : due first.records (drop first.pressed keys) ≡ (p.moments ++ Presses k.1 ∷ []) ++ due first.records
           (drop (now.pressed + 1) keys)
       rest_due =
-          p.due_is ∙ ap (λ z. p.moments ++ z) (ap (due first.records) (next_key keys now.pressed k more is)
-          ∙ due_by first.records k (drop (now.pressed + 1) keys) test)
+          p.due_is ∙ ap (λ z. p.moments ++ z) (ap (due first.records) (next_key keys _ k more is)
+          ∙ due_by _ k _ test)
           ∙ sym (append_assoc p.moments (Presses k.1 ∷ []) (due first.records (drop (now.pressed + 1) keys)))
 
-      pub pressing_next : (next : Player) (to : S) (place : ℕ) → place ≡ now.pressed + 1 → next.records ≡ now.records
-          → ((bytes : List ℕ) (items : List (Item Element)) (side : StationSide)
-          → StationLeads now.station bytes items side → length bytes + 1 < 2 ^ 64
+      pub pressing_next : (next : Player) (to : S) (place : ℕ) → place ≡ now.pressed + 1
+          → next.records ≡ now.records
+          → AtStation now.station (λ bytes items side. length bytes + 1 < 2 ^ 64
           → HasDone takes failures bytes items now next mid to (at_moment side (Presses k.1)))
           → Pressing takes failures first (record next { pressed = place }) from to keys
       pressing_next next to place at kept q = record {
         moments = p.moments ++ Presses k.1 ∷ [];
         due_is = rest_due ∙ ap (λ n. (p.moments ++ Presses k.1 ∷ []) ++ due first.records (drop n keys)) (sym at);
-        later_is = p.later_is ∙ ap (later first.records) (next_key keys now.pressed k more is)
-            ∙ later_by first.records k (drop (now.pressed + 1) keys) test ∙ ap (λ n. later first.records (drop n keys))
+        later_is = p.later_is ∙ ap (later first.records) (next_key keys _ k more is)
+            ∙ later_by _ k _ test ∙ ap (λ n. later first.records (drop n
+            keys))
             (sym at);
         records = kept ∙ p.records;
         did = λ bytes items side l few.
@@ -245,17 +214,20 @@ module _ {S : Type 0} (takes : MayTake S) (failures : S → ℕ) where
             let o : Outcome = outcome side p.moments in
             let b : Outcome = at_moment o.side (Presses k.1) in
             let e : outcome_of_both o b ≡ outcome side (p.moments ++ Presses k.1 ∷ []) = ap (outcome_of_both o)
-            (sym (unmoved_last b)) ∙ sym (outcome_append side p.moments (Presses k.1 ∷ [])) in
-            let both = done_both takes failures bytes items first now next from mid to o b d
+            (sym (unmoved_last b)) ∙ sym (outcome_append side _ _) in
+            let both = done_both takes _ bytes items first now next from mid to o b d
             (q bytes items o.side d.leads few) in
-            subst (HasDone takes failures bytes items first (record next { pressed = place }) from to) e
-            (record { leads = both.leads; refused = both.refused; records = both.records; wrote = both.wrote });
+            rw (← e) (record {
+              leads = both.leads;
+              refused = both.refused;
+              records = both.records;
+              wrote = both.wrote;
+            });
       }
 
       -- a write failed at the key
-      pub pressing_fails : (to : S) → ((bytes : List ℕ) (items : List (Item Element)) (side : StationSide)
-          → StationLeads now.station bytes items side → length bytes + 1 < 2 ^ 64 → FailedWithin takes failures mid to
-          (text_of (at_moment side (Presses k.1)).written))
+      pub pressing_fails : (to : S) → AtStation now.station (λ bytes items side. length bytes + 1 < 2 ^ 64
+          → FailedWithin takes failures mid to (text_of (at_moment side (Presses k.1)).written))
           → (bytes : List ℕ) (items : List (Item Element)) (side : StationSide)
           → StationLeads first.station bytes items side
           → length bytes + 1 < 2 ^ 64 → FailedWithin takes failures from to
@@ -267,13 +239,14 @@ module _ {S : Type 0} (takes : MayTake S) (failures : S → ℕ) where
           let rest : List Moment = due first.records (drop (now.pressed + 1) keys) in
           let e : outcome side (due first.records (drop first.pressed keys)) ≡ outcome_of_both o
           (outcome_of_both b (outcome b.side rest)) =
-          ap (outcome side) (rest_due ∙ append_assoc p.moments (Presses k.1 ∷ []) rest) ∙ outcome_append side p.moments
-          (Presses k.1 ∷ rest) in
+          ap (outcome side) (rest_due ∙ append_assoc p.moments (Presses k.1 ∷ []) rest) ∙ outcome_append side
+          _
+          _ in
           let text : text_of o.written ++ (text_of b.written ++ text_of (outcome b.side rest).written)
           ≡ text_of (outcome side (due first.records (drop first.pressed keys))).written =
           ap (λ z. text_of o.written ++ z) (sym (text_append b.written (outcome b.side rest).written))
           ∙ sym (text_append o.written (b.written ++ (outcome b.side rest).written))
           ∙ ap (λ (z : Outcome). text_of z.written) (sym e) in
-          subst (FailedWithin takes failures from to) text (failed_within_both takes failures from mid to
+          rw (← text) (failed_within_both takes failures from mid to
           (text_of o.written) (text_of b.written) (text_of (outcome b.side rest).written) d.wrote
           (q bytes items o.side d.leads few))

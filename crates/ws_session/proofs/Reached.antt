@@ -1,19 +1,32 @@
-use Rattle.std.proofs.Common.{◌≡◌, false, List, [], ◌∷◌, ◌++◌, refl, ap, ◌∙◌, sym, subst}
-use Rattle.ws_nego.specs.declared.terminal.TerminalType.{TerminalType}
-use Rattle.ws_session.specs.declared.world.Move.{Move}
-use Rattle.ws_session.specs.Runs.{WorldParts, Runs}
-use Rattle.ws_session.specs.World.{World, new_world, after_move, after_moves}
-use Rattle.ws_session.proofs.Sounds.{Sound}
+use Rattle.ws_session.proofs.Common as C
+use C.{◌≡◌, ℕ, false, List, [], ◌∷◌, ◌++◌, refl, ap, ap₂, ◌∙◌, sym, subst, take, flat_map-append, TerminalType}
+use C.{Move, Item, Element, AnswerPart, item_spelling, plain_spelling, element_rules, answer_rules, HostAnswer}
+use C.{Event, WorldParts, Runs, AreWritable, World, new_world, after_move, after_moves, down_bytes, up_bytes}
+use C.{arrived, StationSide, HostSide, StationParts, HostParts, StationLeads, HostLeads, IfOk, if◌then◌else◌, arith}
+use C.{length-take, ◌+◌, ◌<◌, ◌^◌, Bool, Result, Ok, Err, length, append-nil, SendRefused, SendFault, SendFailed}
+use C.{NoMemory, NotAllowed, ReadOutstanding, NoReadToCancel, BadSequence, RefusedByScreen, TooBig, SendReaction}
+use C.{RefusesSend, host_send, Opcode, CancelInvite, IsSent, IsSendFault, host_sent, host_sends, after_send, AtHost}
+use C.{◌≤◌, true, Option, Some, None, AreBytes, spelling_of, NoOperation, PutGet, record_spelling, CanBeEncoded}
+use C.{IsInRange, header, header_length, ReadKind, IsLegal, ScreenParts, Read, Attention, SystemRequest, Key, Send}
+use C.{Attend, Request, KeyRefusal, answer_parts, key_refusal, answer_of, answer_spelling, empty_record, IsKey}
+use C.{IsKeyed, screen_at, KeyReaction, RefusesKey, Silent, Answers, Signals, answers_read, presses, key_by_refusal}
+use C.{station_key, answer_record, KeyFault, NotReady, KeyFailed, KeyRefused, Press, station_pressed, after_press}
+use C.{one_screen, ATN, SRQ, AtStation}
+use Rattle.ws_session.proofs.Flights.{still_led, writable_append, not_more}
+use Rattle.ws_session.proofs.Betweens.{Sound}
 use Rattle.ws_session.proofs.Worlds.{sound}
+use Rattle.ws_code.specs.Aid.{IsAid}
+use Rattle.ws_keys.specs.declared.answer.Answer.{Answer}
+use Rattle.ws_keys.proofs.WholeLaws.{answer_whole, answer_short}
 
 -- A running session is a world that its moves lead to.
 
 pub more_moves : (moves : List Move) (move : Move) (w : World) → after_moves w (moves ++ move ∷ []) ≡ after_move
     (after_moves w moves) move
 more_moves [] move w = refl
-more_moves (m ∷ moves) move w = more_moves moves move (after_move w m)
+more_moves (m ∷ moves) move w = more_moves moves move _
 
-module _ (t : TerminalType) (w : World) (old : WorldParts) (r : Runs t old w) where
+module _ {t : TerminalType} {w : World} {old : WorldParts} (r : Runs t old w) where
   pub is_sound : Sound t w
   is_sound = subst (Sound t) (sym r.reached) (sound t r.moves)
 
@@ -25,3 +38,207 @@ module _ (t : TerminalType) (w : World) (old : WorldParts) (r : Runs t old w) wh
 
   pub going_host : w.host_refused ≡ false
   going_host = is_sound.host_going
+
+  -- a move more, by the world behind it and by what a session keeps then
+  module _ (move : Move) where
+    pub runs_on : (next : World) (new : WorldParts) → after_move w move ≡ next → new.down ≡ down_bytes next
+        → new.up ≡ up_bytes next → new.at_station ≡ next.at_station → new.at_host ≡ next.at_host
+        → AreWritable element_rules next.down → AreWritable answer_rules next.up
+        → StationLeads new.station (take next.at_station (down_bytes next))
+        (arrived element_rules next.down next.at_station) next.station
+        → HostLeads new.host (take next.at_host (up_bytes next)) (arrived answer_rules next.up next.at_host) next.host
+        → new.events ≡ next.events → Runs t new (after_move w move)
+    runs_on next new does down up at_station at_host writable_down writable_up station host events =
+        subst (Runs t new) (sym does) (record {
+          moves = r.moves ++ move ∷ [];
+          reached = sym does ∙ reached_by move;
+          down = down;
+          up = up;
+          at_station = at_station;
+          at_host = at_host;
+          writable_down = writable_down;
+          writable_up = writable_up;
+          station = station;
+          host = host;
+          events = events;
+        })
+
+    -- at which the station writes
+    pub station_writes : (side : StationSide) (items : List (Item AnswerPart)) (n : ℕ) (answered : List HostAnswer)
+        (station : StationParts) (text : List ℕ) (at : ℕ)
+        → after_move w move ≡ record w { station = side; up = w.up ++ items; at_station = n; answered = answered }
+        → text ≡ plain_spelling answer_rules items → AreWritable answer_rules items → at ≡ n
+        → StationLeads station (take n (down_bytes w)) (arrived element_rules w.down n) side
+        → Runs t (record old { station = station; up = old.up ++ text; at_station = at }) (after_move w move)
+    station_writes side items n answered station text at does spelled fit same leads =
+        runs_on (record w { station = side; up = w.up ++ items; at_station = n; answered = answered })
+        (record old { station = station; up = old.up ++ text; at_station = at }) does r.down
+        (ap₂ (λ x y. x ++ y) r.up spelled ∙ sym (flat_map-append
+        (item_spelling answer_rules) w.up items)) same r.at_host
+        r.writable_down (writable_append answer_rules w.up items r.writable_up fit) leads
+        (still_led answer_rules (λ x its. HostLeads old.host x its w.host) w.up items w.at_host
+        (not_more answer_rules w.up w.at_host _ is_sound.up) r.host) r.events
+
+    -- at which the host end does
+    pub host_writes : (side : HostSide) (items : List (Item Element)) (n : ℕ) (events : List Event) (host : HostParts)
+        (text : List ℕ) (at : ℕ) (told : List Event)
+        → after_move w move ≡ record w { host = side; down = w.down ++ items; at_host = n; events = events }
+        → text ≡ plain_spelling element_rules items → AreWritable element_rules items → at ≡ n → told ≡ events
+        → HostLeads host (take n (up_bytes w)) (arrived answer_rules w.up n) side
+        → Runs t (record old { host = host; down = old.down ++ text; at_host = at; events = told }) (after_move w move)
+    host_writes side items n events host text at told does spelled fit same is leads =
+        runs_on (record w { host = side; down = w.down ++ items; at_host = n; events = events })
+        (record old { host = host; down = old.down ++ text; at_host = at; events = told }) does
+        (ap₂ (λ x y. x ++ y) r.down spelled ∙ sym (flat_map-append (item_spelling element_rules) w.down items)) r.up
+        r.at_station same (writable_append element_rules w.down items r.writable_down fit) r.writable_up
+        (still_led element_rules (λ x its. StationLeads old.station x its w.station) w.down items w.at_station
+        (not_more element_rules w.down w.at_station _ is_sound.down) r.station) leads is
+
+-- The host end of a running session sends or cancels.
+
+by_going : (w : World) (reaction : SendReaction) → w.host_refused ≡ false → after_send w reaction ≡ host_sent w reaction
+by_going w reaction e = ap (λ (b : Bool). host_sent w (if b then RefusesSend SendFailed else reaction)) e
+
+-- what has arrived can be counted
+pub few_down : {t : TerminalType} {w : World} {old : WorldParts} → Runs t old w → length old.down + 1 < 2 ^ 64
+    → length (take w.at_station (down_bytes w)) + 1 < 2 ^ 64
+few_down {w = w} r few = omega (arith, few, ap (λ z. length z) r.down, length-take w.at_station (down_bytes w))
+
+pub few_up : {t : TerminalType} {w : World} {old : WorldParts} → Runs t old w → length old.up + 1 < 2 ^ 64
+    → length (take w.at_host (up_bytes w)) + 1 < 2 ^ 64
+few_up {w = w} r few = omega (arith, few, ap (λ z. length z) r.up, length-take w.at_host (up_bytes w))
+
+module _ {t : TerminalType} {w : World} {old : WorldParts} (r : Runs t old w) (move : Move)
+    (reacts : HostSide → SendReaction) (moves_by : after_move w move ≡ after_send w (reacts w.host)) where
+  pub host_wrote : length old.up + 1 < 2 ^ 64 → (host : HostParts) (text : List ℕ)
+      → AtHost old.host (λ bytes items side. length bytes + 1 < 2 ^ 64 → IsSent host bytes items (reacts side) text)
+      → Runs t (record old { host = host; down = old.down ++ text }) (after_send w (reacts w.host))
+  host_wrote few host text p =
+      let x = p _ _ _ r.host (few_up r few) in
+      rw (← moves_by) (host_writes r move x.0
+      (x.1 ∷ []) w.at_host w.events host text old.at_host old.events
+      (moves_by ∙ by_going w (reacts w.host) (going_host r) ∙ ap (host_sent w) x.2)
+      (x.3 ∙ sym (append-nil (item_spelling element_rules x.1))) ((x.4, tt), (x.5, tt)) r.at_host r.events x.6)
+
+  pub host_refrained : (fault : SendFault) → reacts w.host ≡ RefusesSend fault
+      → Runs t (record old { events = old.events ++ SendRefused fault ∷ [] }) (after_send w (reacts w.host))
+  host_refrained fault e =
+      rw (← moves_by) (runs_on r move
+      (record w { events = w.events ++ SendRefused fault ∷ [] })
+      (record old { events = old.events ++ SendRefused fault ∷ [] })
+      (moves_by ∙ by_going w _ (going_host r) ∙ ap (host_sent w) e) r.down r.up r.at_station r.at_host
+      r.writable_down r.writable_up r.station r.host (ap (λ z. z ++ SendRefused fault ∷ []) r.events))
+
+pub other_send : (o : Opcode) → (o ≡ CancelInvite → ⊥) → (h : HostSide) (body : List Element) → host_sends h o body
+    ≡ host_send h o body
+other_send CancelInvite ne h body = absurd (ne refl)
+other_send o ne h body = refl
+
+pub weaker_ok : {A E : Type 0} (r : Result A E) (P Q : A → Type 0) → ((a : A) → P a → Q a) → IfOk r P → IfOk r Q
+weaker_ok (Ok a) P Q f p = f a p
+weaker_ok (Err e) P Q f p = tt
+
+-- a send that is refused for another reason than want of memory
+pub refrains : (reaction : SendReaction) (fault : SendFault) → (fault ≡ NoMemory → ⊥) → IsSendFault reaction fault
+    → reaction ≡ RefusesSend fault
+refrains reaction SendFailed ne f = absurd f
+refrains reaction NoMemory ne f = absurd (ne refl)
+refrains reaction NotAllowed ne f = f
+refrains reaction ReadOutstanding ne f = f
+refrains reaction NoReadToCancel ne f = f
+refrains reaction BadSequence ne f = f
+refrains reaction (RefusedByScreen reason) ne f = f
+refrains reaction TooBig ne f = f
+
+-- What a key makes of a running session.
+
+-- the AID of an answer is a key's
+abbrev AidIs : KeyReaction → Type 0
+AidIs (Answers next kind aid) = IsAid aid
+AidIs reaction = Unit {0}
+
+aid_is : (s : StationSide) (key : Key) → IsKey key → AidIs (station_key s key)
+aid_is s key h = by_ready _
+  where
+    by_kind : (aid : ℕ) → IsAid aid → (o : Option ReadKind) → AidIs (answers_read s aid o)
+    by_kind aid h None = tt
+    by_kind aid h (Some kind) = h
+
+    by_key : (key : Key) → IsKey key → AidIs (presses s key)
+    by_key (Send aid) h = by_kind aid h _
+    by_key Attend h = tt
+    by_key Request h = tt
+    by_key key h = tt
+
+    by_refusal : (o : Option KeyRefusal) → AidIs (key_by_refusal s key o)
+    by_refusal None = by_key key h
+    by_refusal (Some refusal) = tt
+
+    by_ready : (b : Bool) → AidIs (if b then RefusesKey NotReady else key_by_refusal s key
+        (key_refusal (screen_at s) key))
+    by_ready true = tt
+    by_ready false = by_refusal _
+
+module _ {t : TerminalType} {w : World} {old : WorldParts} (r : Runs t old w) (key : Key) where
+  by_key : (reaction : KeyReaction) → station_key w.station key ≡ reaction → after_press w key
+      ≡ station_pressed w reaction
+  by_key reaction e =
+      ap (λ (b : Bool). station_pressed w (if b then RefusesKey KeyFailed else station_key w.station key))
+      (going_station r) ∙ ap (station_pressed w) e
+
+  module _ (few : length old.down + 1 < 2 ^ 64) (station : StationParts) where
+    abbrev Keys : Result (Option Answer) KeyFault → Type 0
+    Keys result = AtStation old.station (λ bytes items side. length bytes + 1 < 2 ^ 64
+        → IsKeyed old.station station bytes items side key result)
+
+    pub key_silent : Keys (Ok None) → Runs t (record old { station = station }) (after_press w key)
+    key_silent p =
+        let k = p _ _ _ r.station (few_down r few) in
+        runs_on r (Press key) (record w { station = k.0 }) (record old { station = station })
+        (by_key (Silent k.0) k.1) r.down r.up r.at_station r.at_host r.writable_down r.writable_up k.2 r.host r.events
+
+    pub key_refused : (fault : KeyFault) → Keys (Err fault)
+        → Runs t (record old { station = station; events = old.events ++ KeyRefused fault ∷ [] }) (after_press w key)
+    key_refused fault p =
+        let k = p _ _ _ r.station (few_down r few) in
+        runs_on r (Press key) (record w { events = w.events ++ KeyRefused fault ∷ [] })
+        (record old { station = station; events = old.events ++ KeyRefused fault ∷ [] }) (by_key (RefusesKey fault) k.0)
+        r.down r.up r.at_station r.at_host r.writable_down r.writable_up (rw k.1 r.station) r.host
+        (ap (λ z. z ++ KeyRefused fault ∷ []) r.events)
+
+    wrote : (side : StationSide) (item : Item AnswerPart) (told : List HostAnswer)
+        (text : List ℕ) → text ≡ item_spelling answer_rules item → CanBeEncoded answer_rules item → IsInRange item
+        → StationLeads station (take w.at_station (down_bytes w)) (arrived element_rules w.down w.at_station) side
+        → after_press w key ≡ record w { station = side; up = w.up ++ item ∷ []; answered = told }
+        → Runs t (record old { station = station; up = old.up ++ text }) (after_press w key)
+    wrote side item told text spelled fit range leads does =
+        station_writes r (Press key) side (item ∷ []) w.at_station told station text old.at_station does
+        (spelled ∙ sym (append-nil (item_spelling answer_rules item))) ((fit, tt), (range, tt)) r.at_station leads
+
+    pub key_wrote : IsKey key → IsLegal old.station.screen → AreBytes old.station.screen.cells
+        → old.station.screen.cursor < 1920 → (answer : Answer) → Keys (Ok (Some answer))
+        → Runs t (record old { station = station; up = old.up ++ answer_spelling answer }) (after_press w key)
+    key_wrote known legal bytes small (Read body) p =
+        let k = p _ _ _ r.station (few_down r few) in
+        let shown : ScreenParts = screen_at w.station in
+        let parts : List AnswerPart = answer_parts k.1 shown k.2 in
+        let aid : IsAid k.2 = subst AidIs k.3 (aid_is w.station key known) in
+        let same : old.station.screen ≡ shown = one_screen w.station.happened old.station.screen r.station.given
+        legal.size in
+        let lawful : IsLegal shown = subst IsLegal same legal in
+        let whole = answer_whole k.1 shown k.2 lawful (subst (λ (z : ScreenParts). AreBytes z.cells) same bytes)
+        (subst (λ (z : ScreenParts). z.cursor < 1920) same small) aid in
+        let fits : length (spelling_of answer_rules parts) ≤ 2691 = answer_short k.1 shown k.2 lawful in
+        let all = header_length (10 + length (spelling_of answer_rules parts)) 0 PutGet
+        (spelling_of answer_rules parts) in
+        wrote k.0 (answer_record shown k.1 k.2) (w.answered ++ answer_of k.1 shown k.2 ∷ [])
+        (answer_spelling (Read body)) (ap (λ z. record_spelling (header (10 + length z) 0 PutGet ++ z)) k.4)
+        (whole, omega (arith, all, fits)) (omega arith) k.5 (by_key (Answers k.0 k.1 k.2) k.3)
+    key_wrote known legal bytes small Attention p =
+        let k = p _ _ _ r.station (few_down r few) in
+        wrote w.station (empty_record ATN NoOperation) w.answered (answer_spelling Attention) refl
+        (record { chain = tt; ends = refl }, omega arith) (omega arith) k.1 (by_key (Signals NoOperation ATN) k.0)
+    key_wrote known legal bytes small SystemRequest p =
+        let k = p _ _ _ r.station (few_down r few) in
+        wrote w.station (empty_record SRQ NoOperation) w.answered (answer_spelling SystemRequest) refl
+        (record { chain = tt; ends = refl }, omega arith) (omega arith) k.1 (by_key (Signals NoOperation SRQ) k.0)

@@ -1,17 +1,9 @@
-use Rattle.std.proofs.Common.{◌≡◌, ℕ, ◌+◌, ◌≤◌, List, [], ◌∷◌, ◌++◌, map, length, refl, ap, ◌∙◌, arith, length-append}
-use Rattle.std.proofs.Common.{append_assoc}
-use Rattle.std.specs.Prelude.{flat_map}
-use Rattle.std.proofs.lemmas.Grind.{flat_map-append}
-use Rattle.ws_code.specs.Code.{Rules, spelling_of}
-use Rattle.ws_telnet.specs.Token.{token_rules}
-use Rattle.ws_telnet.specs.declared.token.Telnet.{Telnet}
+use Rattle.ws_session.proofs.Common.{◌≡◌, ℕ, ◌+◌, ◌≤◌, List, [], ◌∷◌, ◌++◌, map, length, refl, ap, ◌∙◌, arith}
+use Rattle.ws_session.proofs.Common.{length-append, append_assoc, flat_map, flat_map-append, Rules, spelling_of}
+use Rattle.ws_session.proofs.Common.{token_rules, Telnet, Item, RecordItem, TelnetItem, Record, Holds, joined}
+use Rattle.ws_session.proofs.Common.{commands, command_of, records_in}
 use Rattle.ws_telnet.specs.declared.token.Token.{Token}
 use Rattle.ws_telnet.specs.declared.token.Token.TheVariants.{Eor}
-use Rattle.ws_record.specs.declared.record.Item.{Item}
-use Rattle.ws_record.specs.declared.record.Item.TheVariants.{Record as RecordItem, Telnet as TelnetItem}
-use Rattle.ws_record.specs.declared.record.Record.{Record}
-use Rattle.ws_record.specs.Grammar.{Holds, joined, commands, command_of}
-use Rattle.ws_session.specs.StationLeads.{records_in}
 
 -- Bytes hold no more records than they are.
 

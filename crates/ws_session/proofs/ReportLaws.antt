@@ -1,25 +1,10 @@
-use Rattle.std.proofs.Common.{◌≡◌, ℕ, ◌+◌, ◌<◌, ◌≤◌, ◌^◌, List, [], ◌∷◌, ◌++◌, length, drop, refl, ap, ◌∙◌, sym, subst}
-use Rattle.std.proofs.Common.{arith, length-drop}
-use Rattle.std.proofs.lemmas.List.{drop_all}
-use Rattle.ws_nego.specs.declared.terminal.TerminalType.{TerminalType}
-use Rattle.ws_nego.specs.Exchange.{TablesAgree}
-use Rattle.ws_nego.specs.Host.{host_allows_records}
-use Rattle.ws_nego.specs.Station.{StationState, station_allows_records}
-use Rattle.ws_keys.specs.declared.host_answer.HostAnswer.{HostAnswer}
-use Rattle.ws_stream.specs.AnswerParts.{answer_rules}
-use Rattle.ws_stream.specs.Elements.{element_rules}
-use Rattle.ws_session.specs.declared.world.Event.{Event}
-use Rattle.ws_session.specs.declared.world.Move.{Move}
-use Rattle.ws_session.specs.Answered.{answers_in, answers_coming}
-use Rattle.ws_session.specs.Deliveries.{three_deliveries}
-use Rattle.ws_session.specs.HostLeads.{HostParts}
-use Rattle.ws_session.specs.Refusals.{refusals_in}
-use Rattle.ws_session.specs.Reports.{IsReport, IsOpened}
-use Rattle.ws_session.specs.StationLeads.{StationParts}
-use Rattle.ws_session.specs.World.{World, new_world, down_bytes, up_bytes, after_moves}
-use Rattle.ws_session.proofs.Agreements.{agree_when_quiet}
-use Rattle.ws_session.proofs.Calms.{none_refused}
-use Rattle.ws_session.proofs.Comings.{rest_on_its_way}
+use Rattle.ws_session.proofs.Common as C
+use C.{◌≡◌, ℕ, ◌+◌, ◌<◌, ◌≤◌, ◌^◌, List, [], ◌∷◌, ◌++◌, length, drop, refl, ap, ◌∙◌, sym, arith, length-drop}
+use C.{drop_all, TerminalType, TablesAgree, host_allows_records, station_allows_records, HostAnswer, answer_rules}
+use C.{element_rules, Event, Move, answers_in, answers_coming, three_deliveries, HostParts, refusals_in, IsReport}
+use C.{IsOpened, StationParts, World, new_world, down_bytes, up_bytes, after_moves}
+use Rattle.ws_session.proofs.Agreements.{agree_when_quiet, rest_on_its_way}
+use Rattle.ws_session.proofs.Bytewise.{none_refused}
 use Rattle.ws_session.proofs.Flights.{not_more}
 use Rattle.ws_session.proofs.Openings.{opens}
 use Rattle.ws_session.proofs.Worlds.{sound}
@@ -60,9 +45,8 @@ module _ (t : TerminalType) (ms : List Move) (told : List Event) (station : Stat
       (not_more element_rules now.down now.at_station _ s.down) (sym r.to_station ∙ d) in
       let at_host : now.at_host ≡ length (up_bytes now) = all_gone (up_bytes now) now.at_host
       (not_more answer_rules now.up now.at_host _ s.up) (sym r.to_host ∙ u) in
-      subst (λ (z : StationState). TablesAgree z host.options) (sym r.station_options)
-      (subst (TablesAgree now.station.options) (sym r.host_options)
-      (agree_when_quiet t ms (record { to_station = at_station; to_host = at_host })))
+      rw r.station_options (rw r.host_options (agree_when_quiet t ms
+      (record { to_station = at_station; to_host = at_host })))
 
   pub opened : length (down_bytes now) < 2 ^ 64 → length (up_bytes now) < 2 ^ 64
       → (before : List Move) (all : ℕ) → 2 ^ 64 ≤ all + 1 → ms ≡ before ++ three_deliveries all
@@ -71,10 +55,10 @@ module _ (t : TerminalType) (ms : List Move) (told : List Event) (station : Stat
       let w = after_moves (new_world t) before in
       let is : now ≡ after_moves w (three_deliveries all) = ap (after_moves (new_world t)) e ∙ after_both before
       (three_deliveries all) (new_world t) in
-      let downs : length (down_bytes (after_moves w (three_deliveries all))) ≤ all = subst
-      (λ (z : World). length (down_bytes z) ≤ all) is (omega (arith, few_down, enough)) in
-      let ups : length (up_bytes (after_moves w (three_deliveries all))) ≤ all = subst
-      (λ (z : World). length (up_bytes z) ≤ all) is (omega (arith, few_up, enough)) in
+      let downs : length (down_bytes (after_moves w (three_deliveries all))) ≤ all = rw (← is) (omega
+      (arith, few_down, enough)) in
+      let ups : length (up_bytes (after_moves w (three_deliveries all))) ≤ all = rw (← is) (omega
+      (arith, few_up, enough)) in
       let o = opens t all w (sound t before) downs ups in
       record {
         to_station = r.to_station ∙ ap (λ (z : World). drop z.at_station (down_bytes z)) is

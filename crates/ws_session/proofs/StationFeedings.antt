@@ -1,69 +1,36 @@
-use Rattle.std.proofs.Common.{◌≡◌, ℕ, ◌+◌, ◌<◌, ◌≤◌, ◌^◌, inl, inr, Bool, false, List, [], ◌∷◌, ◌++◌, Ok, Err, length}
-use Rattle.std.proofs.Common.{take, refl, ap, ◌∙◌, sym, subst, arith, append_assoc, length-append}
-use Rattle.std.proofs.lemmas.List.{append-nil}
-use Rattle.ws_record.specs.declared.record.Item.{Item}
-use Rattle.ws_record.specs.Encode.{plain_spelling}
-use Rattle.ws_record.proofs.Pieces.{left_of}
-use Rattle.ws_stream.specs.AnswerParts.{answer_rules}
-use Rattle.ws_stream.specs.Elements.{element_rules}
-use Rattle.ws_stream.specs.declared.answer_part.AnswerPart.{AnswerPart}
-use Rattle.ws_stream.specs.declared.element.Element.{Element}
-use Rattle.ws_keys.specs.declared.key.Key.{Key}
-use Rattle.ws_session.specs.declared.refusal.Refusal.{Refusal}
-use Rattle.ws_session.specs.declared.refusal.Refusal.TheVariants.{At, Failed, Memory}
-use Rattle.ws_session.specs.declared.station.StationStep.{StationStep}
-use Rattle.ws_session.specs.ActLaws.{bytes_came}
-use Rattle.ws_session.specs.Acts.{Arrives, idle, one_then, as_list}
-use Rattle.ws_session.specs.Manners.{station_manner, told_by}
-use Rattle.ws_session.specs.StationFeeds.{HasFed, IsSilent, HasRefused}
-use Rattle.ws_session.specs.StationFronts.{IsFronted}
-use Rattle.ws_session.specs.StationLeads.{StationParts, StationLeads, IsPushed}
-use Rattle.ws_session.specs.StationSide.{StationSide}
-use Rattle.ws_session.proofs.EndSteps.{station_holds, told_of, Taken}
-use Rattle.ws_session.proofs.Feedings.{AreHeld, front_silent, front_brings, none_come, front_on, quiet_on, quiet_upto}
-use Rattle.ws_session.proofs.Feedings.{fails_on}
+use Rattle.ws_session.proofs.Common as C
+use C.{◌≡◌, ℕ, ◌+◌, ◌<◌, ◌≤◌, ◌^◌, inl, inr, Bool, false, List, [], ◌∷◌, ◌++◌, Ok, Err, length, take, ap, ◌∙◌, sym}
+use C.{subst, arith, append_assoc, length-append, Item, left_of, element_rules, Element, Key, Refusal, At, Failed}
+use C.{Memory, StationStep, bytes_came, as_list, told_by, HasFed, IsSilent, IsFronted, StationParts, StationLeads}
+use C.{IsPushed, StationSide, AtStation, station_at_item, goes_on, GoesOn, Option, None, Result, refl}
+use C.{CompletesUnit, answer_rules, AnswerPart, Order, HostEvent, HostStep, HasHostFed, IsHostSilent, EndsAt}
+use C.{HasHostRefused, IsHostFronted, HostParts, HostLeads, IsHostPushed, HostSide, AtHost, host_at_item}
+use Rattle.ws_session.specs.StationFeeds.{HasRefused}
+use Rattle.ws_session.proofs.EndSteps.{station_holds, told_of, none_went, one_went, host_holds}
+use Rattle.ws_session.proofs.Feedings.{AreHeld, front_silent, front_brings, none_come, front_on, quiet_on}
+use Rattle.ws_session.proofs.Feedings.{quiet_upto, fails_on}
+use Rattle.ws_record.specs.Taking.{EndIn}
 
 -- What a front of a piece gives a station.
 
-module _ (old new : StationParts) (bytes : List ℕ) (items : List (Item Element)) (side : StationSide) (left : List ℕ)
+module _ (old new : StationParts) (bytes : List ℕ) (items : List (Item Element)) (side : StationSide) (left : List
+    ℕ)
     (used : ℕ) (within : used ≤ length left) (some : 0 < used)
     (held : AreHeld element_rules Key bytes items left used) where
   -- what its last byte gives
   front_fed : (step : StationStep) → IsFronted old new (bytes ++ take used left) items side (Ok step)
       → HasFed new bytes items side (take used left) step.reply step.ends_record
-  front_fed step (inl q) = record {
-    happened = [];
-    happen = front_silent element_rules Key bytes items left used within held
-        (station_holds new (bytes ++ take used left) items side q.0.leads);
-    taken = tt;
-    wrote = q.0.silent;
-    tells = ap (λ (b : Bool). as_list (told_by b)) q.1;
-    leads = subst (λ (x : List ℕ). StationLeads new (bytes ++ x) (items ++ []) side)
-        (sym (bytes_came Key (take used left)))
-        (subst (λ (z : List (Item Element)). StationLeads new (bytes ++ take used left) z side)
-        (sym (append-nil items)) q.0.leads);
-  }
+  front_fed step (inl q) =
+      none_went (bytes_came Key (take used left))
+      (front_silent element_rules Key bytes items left used within held
+      (station_holds q.0.leads)) q.0.silent
+      (ap (λ (b : Bool). as_list (told_by b)) q.1) q.0.leads
   front_fed step (inr q) =
-      let t = q.0 in
-      let front = take used left in
-      let r = subst (Taken new (bytes ++ front) (items ++ t.item ∷ []) side t.item step.reply
-      (as_list (told_by step.ends_record))) (sym t.goes_on) (
-        refl,
-        t.spelled ∙ ap (λ (z : List (Item AnswerPart)). plain_spelling answer_rules z) (sym (append-nil t.writes)),
-        ap (λ (b : Bool). as_list (told_by b)) q.1 ∙ told_of t.item,
-        t.leads,
-      ) in
-      record {
-        happened = Arrives t.item ∷ [];
-        happen = front_brings element_rules Key bytes items t.item left used within some held
-            (station_holds new (bytes ++ front) (items ++ t.item ∷ []) t.next t.leads);
-        taken = (r.0, tt);
-        wrote = r.1;
-        tells = r.2;
-        leads = subst (λ (x : List ℕ). StationLeads new (bytes ++ x) (items ++ t.item ∷ [])
-            (one_then (station_manner.at side (Arrives t.item))
-            (idle (station_manner.at side (Arrives t.item)).side)).side) (sym (bytes_came Key front)) r.3;
-      }
+      one_went (bytes_came Key (take used left)) q.0.item
+      (station_at_item side q.0.item (GoesOn q.0.next q.0.writes)) (ap (station_at_item side q.0.item) q.0.goes_on)
+      (front_brings element_rules Key bytes items q.0.item left used within some held
+      (station_holds q.0.leads))
+      (ap goes_on q.0.goes_on) q.0.spelled (ap (λ (b : Bool). as_list (told_by b)) q.1 ∙ told_of q.0.item) q.0.leads
 
 pushed_at_last : (old mid new : StationParts) (bytes : List ℕ) (items : List (Item Element)) (side : StationSide)
     (byte : ℕ) (refusal : Refusal) → mid.screen ≡ old.screen
@@ -78,27 +45,24 @@ module _ (bytes : List ℕ) (items : List (Item Element)) (side : StationSide) (
     (now : StationParts) (before : HasFed now bytes items side (take i piece) [] false) where
   -- a front more is fed
   pub fed_on : (new : StationParts) (k : ℕ) (step : StationStep) → k ≤ length (left_of piece i) → 0 < k
-      → ((b : List ℕ) (its : List (Item Element)) (s : StationSide) → StationLeads now b its s
-      → length b + length (left_of piece i) < 2 ^ 64
+      → AtStation now (λ b its s. length b + length (left_of piece i) < 2 ^ 64
       → IsFronted now new (b ++ take k (left_of piece i)) its s (Ok step))
-      → ((b : List ℕ) (its : List (Item Element)) (s : StationSide) → StationLeads now b its s
-      → AreHeld element_rules Key b its (left_of piece i) k)
+      → AtStation now (λ b its s. AreHeld element_rules Key b its (left_of piece i) k)
       → length bytes + length piece + 1 < 2 ^ 64 → i ≤ length piece
       → HasFed new bytes items side (take (i + k) piece) step.reply step.ends_record
   fed_on new k step within some fronted held fits inside =
-      front_on element_rules answer_rules station_manner bytes items side piece i (StationLeads now) before
-      (StationLeads new) k step.reply (as_list (told_by step.ends_record))
-      (λ b its s l room. front_fed now new b its s (left_of piece i) k within some (held b its s l) step
+      front_on _ _ _ bytes items side piece i (StationLeads now) before
+      _ k _ _
+      (λ b its s l room. front_fed now new b its s _ k within some (held b its s l) step
       (fronted b its s l room)) fits inside
 
   -- and so are the fronts of it
   pub silent_on : (k : ℕ) → k ≤ length (left_of piece i)
-      → ((b : List ℕ) (its : List (Item Element)) (s : StationSide) → StationLeads now b its s
-      → AreHeld element_rules Key b its (left_of piece i) k)
+      → AtStation now (λ b its s. AreHeld element_rules Key b its (left_of piece i) k)
       → ((n : ℕ) → n ≤ i → IsSilent bytes items side (take n piece)) → (n : ℕ) → n < i + k
       → IsSilent bytes items side (take n piece)
   silent_on k within held below =
-      quiet_on element_rules answer_rules station_manner bytes items side piece i (StationLeads now) before k within
+      quiet_on _ _ _ bytes items side piece i _ before k within
       held below
 
   -- where it brings nothing either
@@ -106,26 +70,24 @@ module _ (bytes : List ℕ) (items : List (Item Element)) (side : StationSide) (
       → ((n : ℕ) → n < i + k → IsSilent bytes items side (take n piece)) → (n : ℕ) → n ≤ i + k
       → IsSilent bytes items side (take n piece)
   still_on new k fed below =
-      quiet_upto element_rules answer_rules station_manner bytes items side piece i (StationLeads now) before
-      (StationLeads new) k fed below
+      quiet_upto _ _ _ bytes items side piece i (StationLeads now) before
+      _ k fed below
 
   -- it is refused at its last byte
   pub refused_on : (old new : StationParts) (k : ℕ) (refusal : Refusal) → now.screen ≡ old.screen
       → k ≤ length (left_of piece i) → ((refusal ≡ Failed → ⊥) → 0 < k)
-      → ((b : List ℕ) (its : List (Item Element)) (s : StationSide) → StationLeads now b its s
-      → length b + length (left_of piece i) < 2 ^ 64
+      → AtStation now (λ b its s. length b + length (left_of piece i) < 2 ^ 64
       → IsFronted now new (b ++ take k (left_of piece i)) its s (Err refusal))
-      → ((b : List ℕ) (its : List (Item Element)) (s : StationSide) → StationLeads now b its s
-      → AreHeld element_rules Key b its (left_of piece i) k)
+      → AtStation now (λ b its s. AreHeld element_rules Key b its (left_of piece i) k)
       → length bytes + length piece + 1 < 2 ^ 64 → i ≤ length piece
       → HasRefused old new bytes items side piece refusal
   refused_on old new k refusal same within when fronted held fits inside =
       let left = left_of piece i in
-      let f = fails_on element_rules answer_rules station_manner bytes items side piece i (StationLeads now) before
+      let f = fails_on _ _ _ bytes items side piece i _ before
       (λ byte b its s. IsPushed old new b its s byte (Err refusal)) k within
       (λ b its s l room. when
       (λ e. subst (λ (r : Refusal). IsFronted now new (b ++ take k left) its s (Err r)) e (fronted b its s l room)))
-      (λ b its s front byte l room upto. pushed_at_last old now new (b ++ front) its s byte refusal same
+      (λ b its s front byte l room upto. pushed_at_last old now new _ its s byte _ same
       (subst (λ (x : List ℕ). IsFronted now new x its s (Err refusal))
       (ap (λ z. b ++ z) upto ∙ sym (append_assoc b front (byte ∷ []))) (fronted b its s l room)))
       held fits inside in
@@ -135,11 +97,139 @@ module _ (bytes : List ℕ) (items : List (Item Element)) (side : StationSide) (
 pub fed_none : (old : StationParts) (bytes : List ℕ) (items : List (Item Element)) (side : StationSide)
     → StationLeads old bytes items side → HasFed old bytes items side [] [] false
 fed_none old bytes items side l =
-    none_come element_rules answer_rules station_manner (StationLeads old) bytes items side l
+    none_come _ _ _ _ bytes items side l
 
-pub silent_none : (bytes : List ℕ) (items : List (Item Element)) (side : StationSide) (piece : List ℕ) (n : ℕ) → n ≤ 0
+pub silent_none : (bytes : List ℕ) (items : List (Item Element)) (side : StationSide) (piece : List ℕ) (n : ℕ)
+    → n ≤ 0
     → IsSilent bytes items side (take n piece)
 silent_none bytes items side piece n le =
-    let none : 0 ≡ n = omega (arith, le) in
-    subst (λ (m : ℕ). IsSilent bytes items side (take m piece)) none
-    (none_come element_rules answer_rules station_manner (λ b its s. Unit {0}) bytes items side tt)
+    let none : n ≡ 0 = omega (arith, le) in
+    rw none (none_come _ _ _ (λ b its s. Unit {0}) bytes items side tt)
+
+-- What a front of a piece gives a host end.
+
+-- two lists that end with one value each
+pub same_end : (xs ys : List ℕ) (x y : ℕ) → xs ++ x ∷ [] ≡ ys ++ y ∷ [] → (xs ≡ ys) × (x ≡ y)
+same_end [] [] x y e = (refl, (let h : x ≡ y = cc in h))
+same_end [] (b ∷ ys) x y e = absurd (omega (arith, ap length e, length-append ys (y ∷ [])))
+same_end (a ∷ xs) [] x y e = absurd (omega (arith, ap length e, length-append xs (x ∷ [])))
+same_end (a ∷ xs) (b ∷ ys) x y e =
+    let h : a ≡ b = cc in
+    let t : xs ++ x ∷ [] ≡ ys ++ y ∷ [] = cc in
+    let p = same_end xs ys x y t in
+    (ap (λ z. z ∷ xs) h ∙ ap (λ z. b ∷ z) p.0, p.1)
+
+module _ (old mid new : HostParts) (bytes : List ℕ) (items : List (Item AnswerPart)) (side : HostSide) (byte : ℕ)
+  where
+    -- what the last byte of a front gives is what that byte gives
+    last_wanting : EndIn (bytes ++ byte ∷ []) (λ before last. CompletesUnit answer_rules before last)
+        → CompletesUnit answer_rules bytes byte
+    last_wanting e =
+        let s = same_end bytes e.0 byte e.1 e.2 in
+        rw (s.1, s.0) e.3
+
+    pub host_at_last : (refusal : Refusal) → mid.screen ≡ old.screen
+        → IsHostFronted mid new (bytes ++ byte ∷ []) items side (Err refusal)
+        → EndsAt old new byte refusal bytes items side
+    host_at_last (At place reason) same f = (
+      (omega (arith, f.0, length-append bytes (byte ∷ [])), f.1 ∙ same, f.3),
+      omega (arith, f.2, length-append bytes (byte ∷ [])),
+    )
+    host_at_last Memory same f = (
+      (f.0 ∙ same, elim f.2 [ inl e ↦ inl (last_wanting e) | inr w ↦ inr w ]),
+      omega (arith, f.1, length-append bytes (byte ∷ [])),
+    )
+    host_at_last Failed same f = absurd f
+
+-- what a byte gives
+host_stepped : (old new : HostParts) (bytes : List ℕ) (items : List (Item AnswerPart)) (side : HostSide) (byte : ℕ)
+    (result : Result HostStep Refusal) → IsHostFronted old new (bytes ++ byte ∷ []) items side result
+    → IsHostPushed old new bytes items side byte result
+host_stepped old new bytes items side byte (Ok step) f = f
+host_stepped old new bytes items side byte (Err refusal) f =
+    (host_at_last old old new bytes items side byte _ refl f).0
+
+-- of one byte
+pub host_one_fronted : (old new : HostParts) (bytes : List ℕ) (items : List (Item AnswerPart)) (side : HostSide)
+    (byte used : ℕ) (result : Result HostStep Refusal) → used ≤ 1 → ((result ≡ Err Failed → ⊥) → 0 < used)
+    → IsHostFronted old new (bytes ++ take used (byte ∷ [])) items side result
+    → IsHostPushed old new bytes items side byte result
+host_one_fronted old new bytes items side byte used result few some f =
+    let one : used ≡ 1 = omega (arith, few, some (λ e. rw e at f)) in
+    host_stepped old new bytes items side byte _ (rw one at f)
+
+module _ (old new : HostParts) (bytes : List ℕ) (items : List (Item AnswerPart)) (side : HostSide) (left : List ℕ)
+    (used : ℕ) (within : used ≤ length left) (some : 0 < used)
+    (held : AreHeld answer_rules Order bytes items left used) where
+  -- what the last byte of a front gives
+  pub host_front_fed : (step : HostStep) → IsHostFronted old new (bytes ++ take used left) items side (Ok step)
+      → HasHostFed new bytes items side (take used left) step.reply step.event
+  host_front_fed step (inl q) =
+      none_went (bytes_came Order (take used left))
+      (front_silent answer_rules Order bytes items left used within held
+      (host_holds q.leads)) q.silent
+      (ap (λ (o : Option HostEvent). as_list o) q.untold) q.leads
+  host_front_fed step (inr t) =
+      one_went (bytes_came Order (take used left)) t.item
+      (host_at_item side (GoesOn t.next t.told)) (ap (host_at_item side) t.goes_on)
+      (front_brings answer_rules Order bytes items t.item left used within some held
+      (host_holds t.leads)) (ap goes_on t.goes_on) t.spelled
+      (ap (λ (z : Option HostEvent). as_list z) t.event) t.leads
+
+module _ (bytes : List ℕ) (items : List (Item AnswerPart)) (side : HostSide) (piece : List ℕ) (i : ℕ) (now :
+    HostParts)
+    (before : HasHostFed now bytes items side (take i piece) [] None) where
+  -- a front more is fed
+  pub host_fed_on : (new : HostParts) (k : ℕ) (step : HostStep) → k ≤ length (left_of piece i) → 0 < k
+      → AtHost now (λ b its s. length b + length (left_of piece i) < 2 ^ 64
+      → IsHostFronted now new (b ++ take k (left_of piece i)) its s (Ok step))
+      → AtHost now (λ b its s. AreHeld answer_rules Order b its (left_of piece i) k)
+      → length bytes + length piece + 1 < 2 ^ 64 → i ≤ length piece
+      → HasHostFed new bytes items side (take (i + k) piece) step.reply step.event
+  host_fed_on new k step within some fronted held fits inside =
+      front_on _ _ _ bytes items side piece i (HostLeads now) before _ k
+      _ _
+      (λ b its s l room. host_front_fed now new b its s _ k within some (held b its s l) step
+      (fronted b its s l room)) fits inside
+
+  -- and the fronts of it are silent
+  pub host_quiet_on : (k : ℕ) → k ≤ length (left_of piece i)
+      → AtHost now (λ b its s. AreHeld answer_rules Order b its (left_of piece i) k)
+      → ((n : ℕ) → n ≤ i → IsHostSilent bytes items side (take n piece)) → (n : ℕ) → n < i + k
+      → IsHostSilent bytes items side (take n piece)
+  host_quiet_on k within held below =
+      quiet_on _ _ _ bytes items side piece i
+      _ before k within held below
+
+  -- it fails at its last byte
+  pub host_refused_on : (old new : HostParts) (k : ℕ) (refusal : Refusal) → now.screen ≡ old.screen
+      → k ≤ length (left_of piece i) → ((refusal ≡ Failed → ⊥) → 0 < k)
+      → AtHost now (λ b its s. length b + length (left_of piece i) < 2 ^ 64
+      → IsHostFronted now new (b ++ take k (left_of piece i)) its s (Err refusal))
+      → AtHost now (λ b its s. AreHeld answer_rules Order b its (left_of piece i) k)
+      → length bytes + length piece + 1 < 2 ^ 64 → i ≤ length piece
+      → HasHostRefused old new bytes items side piece refusal
+  host_refused_on old new k refusal same within when fronted held fits inside =
+      let left = left_of piece i in
+      let f = fails_on _ _ _ bytes items side piece i _ before
+      (λ byte b its s. EndsAt old new byte refusal b its s) k within
+      (λ b its s l room. when
+      (λ e. subst (λ (r : Refusal). IsHostFronted now new (b ++ take k left) its s (Err r)) e (fronted b its s l
+      room)))
+      (λ b its s front byte l room upto. host_at_last old now new _ its s byte _ same
+      (subst (λ (x : List ℕ). IsHostFronted now new x its s (Err refusal))
+      (ap (λ z. b ++ z) upto ∙ sym (append_assoc b front (byte ∷ []))) (fronted b its s l room)))
+      held fits inside in
+      record { front = f.0; byte = f.1; rest = f.2; split = f.3; refused = f.4 }
+
+-- no byte is fed
+pub host_fed_none : (old : HostParts) (bytes : List ℕ) (items : List (Item AnswerPart)) (side : HostSide)
+    → HostLeads old bytes items side → HasHostFed old bytes items side [] [] None
+host_fed_none old bytes items side l =
+    none_come _ _ _ _ bytes items side l
+
+pub host_silent_none : (bytes : List ℕ) (items : List (Item AnswerPart)) (side : HostSide) (piece : List ℕ) (n : ℕ)
+    → n ≤ 0 → IsHostSilent bytes items side (take n piece)
+host_silent_none bytes items side piece n le =
+    let none : n ≡ 0 = omega (arith, le) in
+    rw none (none_come _ _ _ (λ b its s. Unit {0}) bytes items side tt)

@@ -1,64 +1,31 @@
-use Rattle.std.specs.Prelude.{if◌then◌else◌, ◌&&◌}
-use Rattle.std.proofs.Common.{◌≡◌, ℕ, ◌<◌, Bool, true, false, List, [], ◌∷◌, ◌++◌, Option, Some, None, refl, ap, ◌∙◌}
-use Rattle.std.proofs.Common.{sym, subst, map, rules, arith}
-use Rattle.std.specs.List.{AllByRecursion}
-use Rattle.ws_code.specs.declared.reason.Reason.{Reason}
-use Rattle.ws_code.specs.declared.reason.Reason.TheVariants.{RecordBeforeNegotiation}
+use Rattle.ws_session.proofs.Common as C
+use C.{if◌then◌else◌, ◌≡◌, ℕ, ◌<◌, Bool, true, false, List, [], ◌∷◌, Option, Some, None, refl, ap, ◌∙◌, sym, map}
+use C.{rules, arith, AllByRecursion, Reason, RecordBeforeNegotiation, Answer, HostState, host_answer}
+use C.{host_option_answer, host_table_answer, host_sub_answer, host_name_answer, host_judgement, after_name_request}
+use C.{is_name_offered, request, requests, name_request, ReadKind, HostAnswer, HostSide, HostOutput}
+use C.{host_negotiates, host_reads, host_reads_by, host_ends_cancel, host_takes_record, host_takes, IsTelnet}
+use C.{Telnet, Command, Negotiate, Subnegotiate, option_tokens, StationState, name_answer, station_option_answer}
+use C.{station_answer, station_allows_records, Opcode, NoOperation, PutGet, CancelInvite, RecordItem, TelnetItem}
+use C.{body_fault, TerminalType, Item, IsInRange, answer_rules, element_rules, AnswerPart, Element, Reaction}
+use C.{Refuses, GoesOn, AreWritable, StationSide, station_takes, station_applies, opcode_answer}
 use Rattle.ws_telnet.specs.declared.codes.TheConstants.{BINARY, END_OF_RECORD}
-use Rattle.ws_nego.specs.Options.{Answer}
-use Rattle.ws_nego.specs.Host.{HostState, host_answer, host_option_answer, host_table_answer, host_row, host_sub_answer}
-use Rattle.ws_nego.specs.Host.{host_name_answer, host_judgement, after_name_request, is_name_withheld, is_name_offered}
-use Rattle.ws_nego.specs.Host.{name_in, request, requests, host_allows_records}
-use Rattle.ws_nego.specs.Options.{direction_at_host}
-use Rattle.ws_nego.specs.Station.{name_request}
-use Rattle.ws_nego.specs.Terminal.{terminal_named}
 use Rattle.ws_nego.specs.declared.options.OptionTable.{OptionTable}
 use Rattle.ws_nego.specs.declared.host.Mode.{Mode}
 use Rattle.ws_nego.specs.declared.host.Mode.TheVariants.{Off, Asked, On}
 use Rattle.ws_nego.specs.declared.host.TerminalName.{TerminalName}
 use Rattle.ws_nego.specs.declared.host.TerminalName.TheVariants.{Unknown, Requested, Accepted}
 use Rattle.ws_telnet.specs.declared.token.Verb.TheVariants.{Do, Will}
-use Rattle.ws_screen.specs.Formats.{fields}
-use Rattle.ws_screen.specs.declared.read_kind.ReadKind.{ReadKind}
-use Rattle.ws_keys.specs.Readings.{read_answer}
-use Rattle.ws_keys.specs.declared.host_answer.HostAnswer.{HostAnswer}
-use Rattle.ws_session.specs.HostSide.{HostSide, HostOutput, asked_read, host_negotiates, host_reads, host_reads_by}
-use Rattle.ws_session.specs.HostSide.{host_ends_cancel, host_takes_record, host_takes}
-use Rattle.ws_telnet.specs.Token.{IsTelnet}
 use Rattle.ws_telnet.specs.declared.token.Verb.{Verb}
-use Rattle.ws_telnet.specs.declared.token.Telnet.{Telnet}
-use Rattle.ws_telnet.specs.declared.token.Telnet.TheVariants.{Command, Option as Negotiate, Sub as Subnegotiate}
-use Rattle.ws_nego.specs.Options.{entry, direction_at_station, refusal_of, option_tokens}
-use Rattle.ws_nego.specs.Station.{StationState, station_row, name_answer, is_name_request, station_option_answer}
-use Rattle.ws_nego.specs.Station.{station_answer, station_allows_records}
 use Rattle.ws_nego.specs.declared.options.Direction.{Direction}
 use Rattle.ws_nego.specs.declared.terminal.TerminalType.TheVariants.{Ibm5251Model11, Ibm5291Model1, Ibm5292Model2}
 use Rattle.ws_nego.specs.declared.terminal.TerminalType.TheVariants.{Ibm3196ModelA1, Ibm3179Model2}
-use Rattle.ws_record.specs.declared.opcode.Opcode.{Opcode}
-use Rattle.ws_record.specs.declared.opcode.Opcode.TheVariants.{NoOperation, PutGet, CancelInvite}
-use Rattle.ws_record.specs.declared.record.Item.TheVariants.{Record as RecordItem, Telnet as TelnetItem}
-use Rattle.ws_screen.specs.Bodies.{body_fault}
-use Rattle.ws_nego.specs.declared.terminal.TerminalType.{TerminalType}
-use Rattle.ws_record.specs.declared.record.Item.{Item}
-use Rattle.ws_record.specs.Encode.{CanBeEncoded, IsInRange}
-use Rattle.ws_stream.specs.AnswerParts.{answer_rules}
-use Rattle.ws_stream.specs.Elements.{element_rules}
-use Rattle.ws_stream.specs.declared.answer_part.AnswerPart.{AnswerPart}
-use Rattle.ws_stream.specs.declared.element.Element.{Element}
-use Rattle.ws_session.specs.Reaction.{Reaction, Refuses, GoesOn}
-use Rattle.ws_session.specs.Runs.{AreWritable}
-use Rattle.ws_session.specs.StationSide.{StationSide, station_takes, station_applies, opcode_answer}
-use Rattle.ws_session.proofs.Arrivals.{all_append}
+use Rattle.ws_session.proofs.Flights.{all_append}
 
 -- What an end answers to an item that can be written can be written.
 
 abbrev written_of : {E W : Type 0} → W → Reaction E W → W
 written_of none (Refuses reason) = none
 written_of none (GoesOn end written) = written
-
-pub writable_append : (xs ys : List (Item AnswerPart)) → AreWritable answer_rules xs → AreWritable answer_rules ys
-    → AreWritable answer_rules (xs ++ ys)
-writable_append xs ys a b = (all_append (CanBeEncoded answer_rules) xs ys a.0 b.0, all_append IsInRange xs ys a.1 b.1)
 
 tokens_writable : (ts : List Telnet) → AllByRecursion IsTelnet ts → AreWritable answer_rules (map TelnetItem ts)
 tokens_writable [] a = (tt, tt)
@@ -78,15 +45,15 @@ name_in_range Ibm3179Model2 = search rules
 reply_in_range : (s : StationState) (token : Telnet) → IsTelnet token → AllByRecursion IsTelnet
     (station_answer s token).reply
 reply_in_range s (Command code) h = tt
-reply_in_range s (Negotiate verb option) h = by_direction (direction_at_station verb option)
+reply_in_range s (Negotiate verb option) h = by_direction _
   where
     by_direction : (d : Option Direction) → AllByRecursion IsTelnet (station_option_answer s verb option d).reply
-    by_direction None = option_in_range (refusal_of verb) option h
-    by_direction (Some direction) = option_in_range (station_row verb (entry s.on direction)).1 option h
-reply_in_range s (Subnegotiate sub) h = by_test (is_name_request sub && s.on.station_terminal_type)
+    by_direction None = option_in_range _ _ h
+    by_direction (Some direction) = option_in_range _ _ h
+reply_in_range s (Subnegotiate sub) h = by_test _
   where
     by_test : (b : Bool) → AllByRecursion IsTelnet (if b then name_answer s.terminal ∷ [] else [])
-    by_test true = (name_in_range s.terminal, tt)
+    by_test true = (name_in_range _, tt)
     by_test false = tt
 
 opcode_writable : (o : Opcode) → AreWritable answer_rules (opcode_answer o)
@@ -99,9 +66,9 @@ pub answers_writable : (side : StationSide) (item : Item Element) (next : Statio
     → AreWritable answer_rules writes
 answers_writable side (TelnetItem token) next writes range e =
     let same : map TelnetItem (station_answer side.options token).reply ≡ writes = ap (written_of []) e in
-    subst (AreWritable answer_rules) same (tokens_writable (station_answer side.options token).reply
+    rw (← same) (tokens_writable (station_answer side.options token).reply
     (reply_in_range side.options token range))
-answers_writable side (RecordItem r) next writes range e = by_test (station_allows_records side.options) refl
+answers_writable side (RecordItem r) next writes range e = by_test _ refl
   where
     by_fault : (o : Option Reason) → body_fault side.happened r.body ≡ o → station_allows_records side.options ≡ true
         → AreWritable answer_rules writes
@@ -109,17 +76,17 @@ answers_writable side (RecordItem r) next writes range e = by_test (station_allo
         let same : opcode_answer r.opcode ≡ writes = ap (written_of [])
         (sym (ap (λ b. if b then station_applies side r (body_fault side.happened r.body) else Refuses
         RecordBeforeNegotiation) a ∙ ap (station_applies side r) f) ∙ e) in
-        subst (AreWritable answer_rules) same (opcode_writable r.opcode)
+        rw (← same) (opcode_writable r.opcode)
     by_fault (Some reason) f a =
-        let never : Refuses reason ≡ GoesOn next writes = sym
+        let never : Refuses reason ≡ GoesOn next _ = sym
         (ap (λ b. if b then station_applies side r (body_fault side.happened r.body) else Refuses
         RecordBeforeNegotiation) a ∙ ap (station_applies side r) f) ∙ e in
         cc
 
     by_test : (b : Bool) → station_allows_records side.options ≡ b → AreWritable answer_rules writes
-    by_test true a = by_fault (body_fault side.happened r.body) refl a
+    by_test true a = by_fault _ refl a
     by_test false a =
-        let never : Refuses RecordBeforeNegotiation ≡ GoesOn next writes = sym
+        let never : Refuses RecordBeforeNegotiation ≡ GoesOn next _ = sym
         (ap (λ b. if b then station_applies side r (body_fault side.happened r.body) else Refuses
         RecordBeforeNegotiation) a) ∙ e in
         cc
@@ -145,10 +112,10 @@ requests_in_range modes =
     let b = request modes.host_end_of_record Will END_OF_RECORD in
     let c = request modes.station_binary Do BINARY in
     let d = request modes.host_binary Will BINARY in
-    all_append IsTelnet ((a ++ b) ++ c) d (all_append IsTelnet (a ++ b) c
-    (all_append IsTelnet a b (request_in_range modes.station_end_of_record Do END_OF_RECORD (omega arith))
-    (request_in_range modes.host_end_of_record Will END_OF_RECORD (omega arith)))
-    (request_in_range modes.station_binary Do BINARY (omega arith))) (request_in_range modes.host_binary Will BINARY
+    all_append _ _ d (all_append _ _ c
+    (all_append _ a b (request_in_range _ Do _ (omega arith))
+    (request_in_range _ Will _ (omega arith)))
+    (request_in_range _ Do _ (omega arith))) (request_in_range _ Will _
     (omega arith))
 
 asks_in_range : IsTelnet name_request
@@ -156,13 +123,13 @@ asks_in_range = search rules
 
 host_reply_in_range : (h : HostState) (token : Telnet) → IsTelnet token → Ranges (host_answer h token)
 host_reply_in_range h (Command code) r = tt
-host_reply_in_range h (Negotiate verb option) r = by_direction (direction_at_host verb option)
+host_reply_in_range h (Negotiate verb option) r = by_direction _
   where
     by_offer : (d : Direction) (b : Bool)
         → Ranges (if b then Some (record { after = after_name_request h; reply = name_request ∷ [] }) else Some
         (host_table_answer h verb option d))
     by_offer d true = (asks_in_range, tt)
-    by_offer d false = option_in_range (host_row verb (entry h.modes d)).1 option r
+    by_offer d false = option_in_range _ _ r
 
     by_test : (d : Direction) (b : Bool)
         → Ranges (if b then None else (if is_name_offered h verb d then Some (record {
@@ -170,25 +137,25 @@ host_reply_in_range h (Negotiate verb option) r = by_direction (direction_at_hos
           reply = name_request ∷ [];
         }) else Some (host_table_answer h verb option d)))
     by_test d true = tt
-    by_test d false = by_offer d (is_name_offered h verb d)
+    by_test d false = by_offer d _
 
     by_direction : (o : Option Direction) → Ranges (host_option_answer h verb option o)
-    by_direction None = option_in_range (refusal_of verb) option r
-    by_direction (Some d) = by_test d (is_name_withheld h verb d)
-host_reply_in_range h (Subnegotiate sub) r = by_name (name_in sub)
+    by_direction None = option_in_range _ _ r
+    by_direction (Some d) = by_test d _
+host_reply_in_range h (Subnegotiate sub) r = by_name _
   where
     by_terminal : (o : Option TerminalType) → Ranges (host_judgement h o)
     by_terminal None = tt
     by_terminal (Some terminal) = requests_in_range h.modes
 
     by_known : (n : TerminalName) (name : List ℕ) → Ranges (host_name_answer h n name)
-    by_known Requested name = by_terminal (terminal_named name)
+    by_known Requested name = by_terminal _
     by_known Unknown name = tt
     by_known (Accepted terminal) name = tt
 
     by_name : (o : Option (List ℕ)) → Ranges (host_sub_answer h o)
     by_name None = tt
-    by_name (Some name) = by_known h.name name
+    by_name (Some name) = by_known _ name
 
 -- what a reaction writes can be written
 abbrev pub WritesWell : Reaction HostSide HostOutput → Type 0
@@ -197,7 +164,7 @@ WritesWell (GoesOn end told) = AreWritable element_rules told.items
 
 record_writes : (h : HostSide) (flags : ℕ) (o : Opcode) (parts : List AnswerPart)
     → WritesWell (host_takes_record h flags o parts)
-record_writes h flags PutGet parts = by_kind (asked_read h)
+record_writes h flags PutGet parts = by_kind _
   where
     by_answer : (o : Option HostAnswer) → WritesWell (host_reads h o)
     by_answer None = tt
@@ -205,8 +172,8 @@ record_writes h flags PutGet parts = by_kind (asked_read h)
 
     by_kind : (o : Option ReadKind) → WritesWell (host_reads_by h o parts)
     by_kind None = tt
-    by_kind (Some kind) = by_answer (read_answer kind (fields h.kept) parts)
-record_writes h flags CancelInvite [] = by_test h.cancelling
+    by_kind (Some kind) = by_answer _
+record_writes h flags CancelInvite [] = by_test _
   where
     by_test : (b : Bool) → WritesWell (host_ends_cancel h b)
     by_test true = (tt, tt)
@@ -215,15 +182,15 @@ record_writes h flags NoOperation [] = (tt, tt)
 record_writes h flags o parts = tt
 
 pub host_writes_well : (h : HostSide) (item : Item AnswerPart) → IsInRange item → WritesWell (host_takes h item)
-host_writes_well h (TelnetItem token) range = by_answer (host_answer h.options token)
+host_writes_well h (TelnetItem token) range = by_answer _
     (host_reply_in_range h.options token range)
   where
     by_answer : (o : Option (Answer HostState)) → Ranges o → WritesWell (host_negotiates h o)
     by_answer None a = tt
-    by_answer (Some answer) a = host_tokens_writable answer.reply a
-host_writes_well h (RecordItem r) range = by_test (host_allows_records h.options)
+    by_answer (Some answer) a = host_tokens_writable _ a
+host_writes_well h (RecordItem r) range = by_test _
   where
     by_test : (b : Bool) → WritesWell
         (if b then host_takes_record h r.flags r.opcode r.body else Refuses RecordBeforeNegotiation)
-    by_test true = record_writes h r.flags r.opcode r.body
+    by_test true = record_writes h r.flags _ _
     by_test false = tt

@@ -1,5 +1,4 @@
-use Rattle.std.proofs.Common.{length, ap, arith}
-use Rattle.ws_stream.specs.Elements.{element_rules}
+use Rattle.ws_session.proofs.Common.{length, ap, arith, element_rules}
 use Rattle.ws_record.proofs.Writes.{length_through}
 use Rattle.ws_session.proofs.body.is_too_big.Goals as goal
 

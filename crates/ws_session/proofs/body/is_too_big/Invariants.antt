@@ -1,6 +1,4 @@
-use Rattle.std.proofs.Common.{◌≡◌, ◌+◌, take, length}
-use Rattle.ws_code.specs.Code.{spelling_of}
-use Rattle.ws_stream.specs.Elements.{element_rules}
+use Rattle.ws_session.proofs.Common.{◌≡◌, ◌+◌, take, length, spelling_of, element_rules}
 use Rattle.ws_session.proofs.body.is_too_big.Given as goal
 
 -- the room that the elements before leave

@@ -1,10 +1,7 @@
-use Rattle.std.proofs.Common.{◌≡◌, ◌≢◌, ℕ, ◌+◌, ◌-◌, ◌≤◌, List, ◌++◌, Some, length, take, drop, sym, ap, ◌∙◌, subst}
-use Rattle.std.proofs.Common.{arith, length-append}
-use Rattle.std.proofs.lemmas.List.{length-take-le, take-append-le}
+use Rattle.ws_session.proofs.Common.{◌≡◌, ◌≢◌, ℕ, ◌+◌, ◌-◌, ◌≤◌, List, ◌++◌, Some, length, take, drop, sym, ap, ◌∙◌}
+use Rattle.ws_session.proofs.Common.{subst, arith, length-append, length-take-le, take-append-le, take-append-add}
+use Rattle.ws_session.proofs.Common.{one_more, gave_more, take_some, length_rest}
 use Rattle.std.proofs.lemmas.Slice.{take-put_mid_below}
-use Rattle.std.proofs.Math.Seq.{take-append-add}
-use Rattle.ws_code.specs.Device.{Gave, one_more}
-use Rattle.ws_code.proofs.DeviceLaws.{gave_more, take_some, length_rest}
 use Rattle.ws_session.proofs.carrying.carry.Goals as goal
 
 -- the front of a slice behind a read into the rest of it
@@ -37,12 +34,11 @@ loop-at-preserved g c =
     (omega (arith, inv.gave.1, inv.within)) c.in-Ok.ensures.ok.1 (take_some into n some c.in-Ok.ensures.ok.0)
     c.in-Ok.ensures.ok.2 in
     record {
-      within = within_more c.loop-at.taken into _ at n inv.within c.in-Ok.ensures.ok.0;
+      within = within_more _ into _ at n inv.within c.in-Ok.ensures.ok.0;
       gave = (
         inv.gave.0 + 1,
         omega (arith, inv.gave.1),
-        subst (Gave g.R.Source.gives g.R.Source.failures c.args.source.now c.read.new.self (inv.gave.0 + 1))
-            (sym (front_more c.loop-at.taken into _ at n inv.within c.in-Ok.ensures.ok.0)) more,
+        rw (front_more _ into _ at n inv.within c.in-Ok.ensures.ok.0) more,
       );
     }
 

@@ -1,5 +1,4 @@
-use Rattle.std.proofs.Common.{◌≤◌, ◌-◌, ℕ, length, take}
-use Rattle.ws_code.specs.Device.{Gave}
+use Rattle.ws_session.proofs.Common.{◌≤◌, ◌-◌, ℕ, length, take, Gave}
 use Rattle.ws_session.proofs.carrying.carry.Given as goal
 
 -- the bytes went out, and what stands before the place was read

@@ -1,7 +1,4 @@
-use Rattle.std.proofs.Common.{[]}
-use Rattle.ws_nego.specs.declared.terminal.TerminalType.{TerminalType}
-use Rattle.ws_session.specs.StationLeads.{StationLeads}
-use Rattle.ws_session.specs.StationSide.{new_station_side}
+use Rattle.ws_session.proofs.Common.{[], TerminalType, StationLeads, new_station_side}
 use Rattle.ws_session.proofs.PlayRuns.{Reading}
 use Rattle.ws_session.proofs.run.run_station.Given as goal
 

@@ -1,7 +1,4 @@
-use Rattle.std.proofs.Common.{[], Some, None}
-use Rattle.std.proofs.lemmas.Result.{err_from_is_err_and}
-use Rattle.ws_code.proofs.DeviceLaws.{went_out_none}
-use Rattle.ws_session.specs.AnswerSpelling.{answer_spelling}
+use Rattle.ws_session.proofs.Common.{[], Some, None, err_from_is_err_and, went_out_none, answer_spelling}
 use Rattle.ws_session.proofs.EndDeeds.{key_silent_goes, key_sent_goes, key_refused_goes, key_taken}
 use Rattle.ws_session.proofs.writing.press_key.Goals as goal
 
@@ -15,7 +12,7 @@ returns-in_err-write_answer-in-Ok-Some-clause-fault g c =
       record {
         written = answer_spelling answer;
         told = [];
-        led = key_sent_goes c.args.station.now c.key.new.self c.args.key answer
+        led = key_sent_goes _ _ _ _
             (rw c.in-Ok-Some.field-0-is at c.in-Ok-Some.ensures.keyed);
         failed = failed.1;
       },
@@ -24,14 +21,14 @@ returns-in_err-write_answer-in-Ok-Some-clause-fault g c =
 pub returns-in-Ok-None-clause-pressed : goal.returns-in-Ok-None-clause-pressed
 returns-in-Ok-None-clause-pressed g c = record {
   written = [];
-  led = key_silent_goes c.args.station.now c.key.new.self c.args.key
+  led = key_silent_goes _ _ _
       (rw c.in-Ok-None.field-0-is at c.in-Ok-None.ensures.keyed);
   wrote = went_out_none g.K.Sink.takes g.K.Sink.failures c.args.sink.now;
 }
 
 pub returns-in-Ok-None-clause-taken : goal.returns-in-Ok-None-clause-taken
 returns-in-Ok-None-clause-taken g c = λ bytes items side l few.
-    key_taken c.args.station.now c.key.new.self bytes items side c.args.key None
+    key_taken c.args.station.now _ bytes items side _ None
     ((rw c.in-Ok-None.field-0-is at c.in-Ok-None.ensures.keyed) bytes items side l few)
 
 pub returns-in_ok-write_answer-in-Ok-Some-clause-pressed : goal.returns-in_ok-write_answer-in-Ok-Some-clause-pressed
@@ -39,20 +36,20 @@ returns-in_ok-write_answer-in-Ok-Some-clause-pressed g c =
     let answer = c.in-Ok-Some.answer in
     record {
       written = answer_spelling answer;
-      led = key_sent_goes c.args.station.now c.key.new.self c.args.key answer
+      led = key_sent_goes _ _ _ _
           (rw c.in-Ok-Some.field-0-is at c.in-Ok-Some.ensures.keyed);
       wrote = c.in_ok-write_answer-in-Ok-Some.ensures.ok;
     }
 
 pub returns-in_ok-write_answer-in-Ok-Some-clause-taken : goal.returns-in_ok-write_answer-in-Ok-Some-clause-taken
 returns-in_ok-write_answer-in-Ok-Some-clause-taken g c = λ bytes items side l few.
-    key_taken c.args.station.now c.key.new.self bytes items side c.args.key (Some c.in-Ok-Some.answer)
+    key_taken c.args.station.now c.key.new.self bytes items side _ (Some c.in-Ok-Some.answer)
     ((rw c.in-Ok-Some.field-0-is at c.in-Ok-Some.ensures.keyed) bytes items side l few)
 
 pub returns-in-Err-clause-pressed : goal.returns-in-Err-clause-pressed
 returns-in-Err-clause-pressed g c = record {
   written = [];
-  led = key_refused_goes c.args.station.now c.key.new.self c.args.key c.in-Err.fault c.in-Err.ensures.keyed;
+  led = key_refused_goes _ _ _ c.in-Err.fault c.in-Err.ensures.keyed;
   wrote = went_out_none g.K.Sink.takes g.K.Sink.failures c.args.sink.now;
 }
 

@@ -1,6 +1,4 @@
-use Rattle.std.proofs.Common.{inl, inr, refl}
-use Rattle.std.proofs.lemmas.Result.{err_from_is_err_and}
-use Rattle.ws_session.specs.Acts.{as_list}
+use Rattle.ws_session.proofs.Common.{inl, inr, refl, err_from_is_err_and, as_list}
 use Rattle.ws_session.proofs.writing.take_byte.Goals as goal
 
 pub returns-in_err-write_whole-in-Ok-clause-fault : goal.returns-in_err-write_whole-in-Ok-clause-fault

@@ -1,14 +1,7 @@
-use Rattle.std.proofs.Common.{[], ◌≡◌, rules, refl}
-use Rattle.std.proofs.Common.{subst}
-use Rattle.ws_session.specs.Attachments.{AttachedParts}
-use Rattle.ws_session.specs.HostLeads.{HostParts}
-use Rattle.ws_session.specs.HostSide.{host_send}
-use Rattle.ws_session.specs.Manners.{IsSendRefusal, IsSendTaken}
-use Rattle.ws_session.proofs.WorldSteps.{refrains}
-use Rattle.ws_code.proofs.DeviceLaws.{went_out_none}
+use Rattle.ws_session.proofs.Common.{[], ◌≡◌, rules, refl, host_send, went_out_none, HostGoes, HostRefuses}
+use Rattle.ws_session.proofs.Reached.{refrains}
 use Rattle.ws_session.specs.declared.end_step.Order.TheVariants.{Send}
 use Rattle.ws_session.specs.declared.send_fault.SendFault.TheVariants.{Memory}
-use Rattle.ws_session.specs.Manners.{HostGoes, HostRefuses}
 use Rattle.ws_session.proofs.EndDeeds.{deed_led, send_fails, send_goes, send_refused_goes, send_taken}
 use Rattle.ws_session.proofs.attached.Attached+HostEnd+S+K.send.Goals as goal
 
@@ -40,15 +33,12 @@ returns-else-eq-clause-sent g c =
 pub returns-else-eq-clause-told : goal.returns-else-eq-clause-told
 returns-else-eq-clause-told g c =
     let ne : c.in-Err.fault ≡ Memory → ⊥ = search rules in
-    subst (λ (z : AttachedParts HostParts _ _). IsSendRefusal z.end
-    (λ side. host_send side c.args.opcode c.args.body.now) c.in-Err.fault) c.self.view_is
-    (λ bytes items side l few. refrains (host_send side c.args.opcode c.args.body.now) c.in-Err.fault ne
+    rw (← c.self.view_is) (λ bytes items side l few. refrains
+    (host_send side c.args.opcode c.args.body.now) c.in-Err.fault ne
     (c.in-Err.ensures.sent bytes items side l few))
 
 pub returns-in_default-clause-taken : goal.returns-in_default-clause-taken
 returns-in_default-clause-taken g c =
-    subst (λ (z : AttachedParts HostParts _ _). IsSendTaken z.end
-    (λ side. host_send side c.args.opcode c.args.body.now))
-    c.self.view_is
-    (λ bytes items side l few. send_taken c.send.new.self bytes items (host_send side c.args.opcode c.args.body.now)
+    rw (← c.self.view_is) (λ bytes items side l few. send_taken c.send.new.self bytes items
+    (host_send side c.args.opcode c.args.body.now)
     c.in-Ok.bytes.items (c.in-Ok.ensures.sent bytes items side l few))

@@ -1,22 +1,11 @@
-use Rattle.std.specs.Prelude.{◌==◌}
-use Rattle.std.proofs.Common.{◌≡◌, true, ◌∷◌, ◌+◌, ◌++◌, Bool, false, ℕ, List, [], Option, Some, None, is_some, Result}
-use Rattle.std.proofs.Common.{Ok, Err, length, take, refl, sym, ◌∙◌, subst, arith}
-use Rattle.std.proofs.lemmas.Bool.Decides.{nat_tests}
-use Rattle.std.proofs.lemmas.Result.{err_from_is_err_and}
-use Rattle.ws_record.proofs.Pieces.{left_of, left_length}
-use Rattle.ws_session.specs.declared.host_event.HostEvent.{HostEvent}
-use Rattle.ws_session.specs.declared.host_event.HostStep.{HostStep}
-use Rattle.ws_session.specs.declared.refusal.Refusal.{Refusal}
-use Rattle.ws_session.specs.declared.refusal.Refusal.TheVariants.{Failed}
-use Rattle.ws_session.specs.HostFeeds.{HasHostFed}
-use Rattle.ws_session.specs.HostFronts.{IsHostFronted}
-use Rattle.ws_session.specs.HostLeads.{HostLeads}
-use Rattle.ws_session.specs.Manners.{host_manner}
-use Rattle.ws_stream.specs.AnswerParts.{answer_rules}
-use Rattle.ws_stream.specs.Elements.{element_rules}
+use Rattle.ws_session.proofs.Common.{◌==◌, ◌≡◌, true, ◌∷◌, ◌+◌, Bool, false, ℕ, List, [], Option, Some, None}
+use Rattle.ws_session.proofs.Common.{is_some, length, take, refl, sym, ◌∙◌, arith, nat_tests, err_from_is_err_and}
+use Rattle.ws_session.proofs.Common.{left_of, left_length, HostEvent, HostStep, Refusal, HasHostFed, HostLeads}
+use Rattle.ws_session.proofs.Common.{host_manner, answer_rules, element_rules}
 use Rattle.ws_session.proofs.Counts.{counted_on, counted_up}
 use Rattle.ws_session.proofs.Feedings.{quiet_upto}
-use Rattle.ws_session.proofs.HostFeedings.{host_fed_on, host_quiet_on, host_refused_on, host_fed_none, host_silent_none}
+use Rattle.ws_session.proofs.StationFeedings.{host_fed_on, host_quiet_on, host_refused_on, host_fed_none}
+use Rattle.ws_session.proofs.StationFeedings.{host_silent_none}
 use Rattle.ws_session.proofs.host_end.HostEnd.feed.Goals as goal
 
 -- a reply that is empty, and an event that is none
@@ -38,7 +27,7 @@ loop-used-init c = (
   omega arith,
   refl,
   λ bytes items side l fits.
-      (host_fed_none c.args.self.now bytes items side l, host_silent_none bytes items side c.args.piece.now),
+      (host_fed_none _ bytes items side l, host_silent_none bytes items side _),
   λ fits. omega arith,
 )
 
@@ -52,14 +41,11 @@ returns-in_err-reply-clause-refused c =
     let i = c.loop-used.used in
     let k = f.result.used in
     let why : Refusal = c.in_err-reply.field-0.0 in
-    host_refused_on bytes items side piece i now (c.loop-used.invariant.2 bytes items side l fits).0 c.args.self.now
-    f.new.self k why c.loop-used.invariant.1 f.ensures.within
+    host_refused_on bytes items side piece i now (c.loop-used.invariant.2 bytes items side l fits).0 _
+    _ k why c.loop-used.invariant.1 f.ensures.within
     (λ other. f.ensures.used
-    (λ e. other (let same : ◌≡◌ {A = Result HostStep Refusal} (Err why) (Err Failed) = sym c.in_err-reply.was
-    ∙ e in cc)))
-    (λ b its s m room. subst
-    (λ (r : Result HostStep Refusal). IsHostFronted now f.new.self (b ++ take k (left_of piece i)) its s r)
-    c.in_err-reply.was (f.ensures.fronted b its s m room))
+    (λ e. other (cc (c.in_err-reply.was, e))))
+    (λ b its s m room. rw c.in_err-reply.was at (f.ensures.fronted b its s m room))
     f.ensures.first fits c.loop-used.invariant.0)
 
 pub returns-in_err-reply-clause-counted_up : goal.returns-in_err-reply-clause-counted_up
@@ -68,13 +54,12 @@ returns-in_err-reply-clause-counted_up c =
     let now = c.loop-used in
     let f = c.take_front-front in
     let why : Refusal = c.in_err-reply.field-0.0 in
-    rw (p.1, p.2) (counted_up why c.args.self.now.receiver.live.taken now.self.receiver.live.taken
-    f.new.self.receiver.live.taken now.used f.result.used (length (left_of c.args.piece.now now.used))
-    (length c.args.piece.now) now.invariant.0 f.ensures.within (left_length c.args.piece.now now.used)
+    rw (p.1, p.2) (counted_up why _ now.self.receiver.live.taken
+    _ now.used _ (length (left_of c.args.piece.now now.used))
+    _ now.invariant.0 f.ensures.within (left_length c.args.piece.now now.used)
     now.invariant.3 f.ensures.counted
     (λ other. f.ensures.used
-    (λ e. other (let same : ◌≡◌ {A = Result HostStep Refusal} (Err why) (Err Failed) = sym c.in_err-reply.was
-    ∙ e in cc)))
+    (λ e. other (cc (c.in_err-reply.was, e))))
     (rw c.in_err-reply.was at f.ensures.at))
 
 pub returns-then-is_some-2-clause-fed : goal.returns-then-is_some-2-clause-fed
@@ -85,19 +70,17 @@ returns-then-is_some-2-clause-fed c = λ bytes items side l fits.
     let i = c.loop-used.used in
     let k = f.result.used in
     let step : HostStep = c.in_ok-reply.field-0 in
-    host_fed_on bytes items side piece i now (c.loop-used.invariant.2 bytes items side l fits).0 f.new.self k step
+    host_fed_on bytes items side piece i now (c.loop-used.invariant.2 bytes items side l fits).0 _ k step
     f.ensures.within (f.ensures.used
-    (λ e. let same : ◌≡◌ {A = Result HostStep Refusal} (Ok step) (Err Failed) = sym c.in_ok-reply.was ∙ e in cc))
-    (λ b its s m room. subst
-    (λ (r : Result HostStep Refusal). IsHostFronted now f.new.self (b ++ take k (left_of piece i)) its s r)
-    c.in_ok-reply.was (f.ensures.fronted b its s m room))
+    (λ e. cc (c.in_ok-reply.was, e)))
+    (λ b its s m room. rw c.in_ok-reply.was at (f.ensures.fronted b its s m room))
     f.ensures.first fits c.loop-used.invariant.0
 
 pub returns-then-is_some-2-clause-first : goal.returns-then-is_some-2-clause-first
 returns-then-is_some-2-clause-first c = λ bytes items side l fits.
     let inv = c.loop-used.invariant.2 bytes items side l fits in
-    host_quiet_on bytes items side c.args.piece.now c.loop-used.used c.loop-used.self inv.0
-    c.take_front-front.result.used c.take_front-front.ensures.within c.take_front-front.ensures.first inv.1
+    host_quiet_on bytes items side _ _ _ inv.0
+    _ c.take_front-front.ensures.within c.take_front-front.ensures.first inv.1
 
 pub returns-clause-first : goal.returns-clause-first
 returns-clause-first c = λ bytes items side l fits n lt. (c.loop-used.invariant.2 bytes items side l fits).1 n
@@ -122,17 +105,15 @@ loop-used-preserved c =
           let step : HostStep = c.in_ok-reply.field-0 in
           let inv = c.loop-used.invariant.2 bytes items side l fits in
           let fed = host_fed_on bytes items side piece i now inv.0 f.new.self k step f.ensures.within
-          (f.ensures.used (λ e. let same : ◌≡◌ {A = Result HostStep Refusal} (Ok step) (Err Failed) =
-          sym c.in_ok-reply.was ∙ e in cc))
-          (λ b its s m room. subst
-          (λ (r : Result HostStep Refusal). IsHostFronted now f.new.self (b ++ take k (left_of piece i)) its s r)
-          c.in_ok-reply.was (f.ensures.fronted b its s m room))
+          (f.ensures.used (λ e. cc (c.in_ok-reply.was, e)))
+          (λ b its s m room. rw c.in_ok-reply.was at (f.ensures.fronted b its s m room))
           f.ensures.first fits c.loop-used.invariant.0 in
           let still : HasHostFed f.new.self bytes items side (take (i + k) piece) [] None =
-          subst (λ (o : Option HostEvent). HasHostFed f.new.self bytes items side (take (i + k) piece) [] o) untold
-          (subst (λ (r : List ℕ). HasHostFed f.new.self bytes items side (take (i + k) piece) r step.event)
-          (no_reply step.reply _ c.as_slice.ensures.value c.is_empty.result c.is_empty.ensures
-          c.if-not-is_empty.false) fed) in (
+          rw (
+            no_reply step.reply _ c.as_slice.ensures.value c.is_empty.result c.is_empty.ensures
+                c.if-not-is_empty.false,
+            untold,
+          ) at fed in (
             still,
             quiet_upto answer_rules element_rules host_manner bytes items side piece i (HostLeads now) inv.0
                 (HostLeads f.new.self) k still

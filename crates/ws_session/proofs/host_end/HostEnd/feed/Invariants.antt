@@ -1,9 +1,5 @@
-use Rattle.std.proofs.Common.{◌≡◌, ◌+◌, ◌-◌, ◌<◌, ◌≤◌, ◌^◌, ℕ, None, List, [], length, take}
-use Rattle.ws_record.specs.declared.record.Item.{Item}
-use Rattle.ws_stream.specs.declared.answer_part.AnswerPart.{AnswerPart}
-use Rattle.ws_session.specs.HostFeeds.{HasHostFed, IsHostSilent}
-use Rattle.ws_session.specs.HostLeads.{HostLeads}
-use Rattle.ws_session.specs.HostSide.{HostSide}
+use Rattle.ws_session.proofs.Common.{◌≡◌, ◌+◌, ◌-◌, ◌<◌, ◌≤◌, ◌^◌, ℕ, None, List, [], length, take, Item}
+use Rattle.ws_session.proofs.Common.{AnswerPart, HasHostFed, IsHostSilent, HostLeads, HostSide}
 use Rattle.ws_session.proofs.host_end.HostEnd.feed.Given as goal
 
 -- the bytes so far were taken in silence

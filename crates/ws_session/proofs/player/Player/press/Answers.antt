@@ -1,6 +1,4 @@
-use Rattle.std.specs.Prelude.{IfNone}
-use Rattle.std.proofs.Common.{subst}
-use Rattle.ws_session.specs.Manners.{IsKeyTaken}
+use Rattle.ws_session.proofs.Common.{IfNone, subst, IsKeyTaken}
 use Rattle.ws_session.proofs.Plays.{taken_done, press_failed, refused_done}
 use Rattle.ws_session.proofs.player.Player.press.Goals as goal
 
@@ -9,21 +7,21 @@ returns-in-Ok-None-clause-done g c =
     let taken = subst (λ o. IfNone o (IsKeyTaken c.args.self.now.station c.args.key)) c.in-Ok-None.field-0-is
     c.in-Ok-None.ensures.taken in
     λ bytes items side l few.
-    taken_done g.S.Sink.takes g.S.Sink.failures c.args.self.now bytes items side c.args.key c.press_key.new.station
-    c.args.sink.now c.press_key.new.sink l few c.in-Ok-None.ensures.pressed taken
+    taken_done _ _ _ bytes items side _ _
+    _ _ l few c.in-Ok-None.ensures.pressed taken
 
 pub returns-in-Ok-Some-clause-done : goal.returns-in-Ok-Some-clause-done
 returns-in-Ok-Some-clause-done g c =
     let same = rw c.in-Ok-Some.field-0-is at c.in-Ok-Some.ensures.refused in
     let refusal = rw c.in-Ok-Some.field-0-is at c.in-Ok-Some.ensures.told in
     λ bytes items side l few.
-    refused_done g.S.Sink.takes g.S.Sink.failures c.args.self.now bytes items side c.args.key c.press_key.new.station
-    c.args.sink.now c.press_key.new.sink l few c.in-Ok-Some.field-0-0 c.saturating_add-self.result same.0 same.1
+    refused_done _ _ _ bytes items side _ _
+    _ _ l few _ _ same.0 same.1
     refusal c.saturating_add-self.ensures
 
 pub returns-in-Err-clause-fault : goal.returns-in-Err-clause-fault
 returns-in-Err-clause-fault g c = (
   c.in-Err.ensures.fault.0,
-  λ bytes items side l few. press_failed g.S.Sink.takes g.S.Sink.failures c.args.self.now bytes items side c.args.key
-      c.press_key.new.station c.args.sink.now c.press_key.new.sink l few c.in-Err.ensures.fault.1,
+  λ bytes items side l few. press_failed _ _ c.args.self.now bytes items side _
+      c.press_key.new.station _ _ l few c.in-Err.ensures.fault.1,
 )

@@ -1,4 +1,4 @@
-use Rattle.std.proofs.Common.{length, ◌-◌}
+use Rattle.ws_session.proofs.Common.{length, ◌-◌}
 use Rattle.ws_session.proofs.Plays.{Pressing}
 use Rattle.ws_session.proofs.player.Player.press_due.Given as goal
 

@@ -1,17 +1,12 @@
-use Rattle.std.proofs.Common.{◌++◌, ◌∷◌, [], ℕ, ◌+◌, List, length, take, drop, get_or, sym, subst, arith, length-take}
-use Rattle.std.proofs.Common.{length-append}
-use Rattle.std.proofs.lemmas.Result.{err_from_is_err_and}
-use Rattle.std.proofs.lemmas.List.{take_all, append-nil}
-use Rattle.ws_session.specs.Playing.{HasCome}
-use Rattle.ws_session.specs.StationRun.{IsRunFault}
+use Rattle.ws_session.proofs.Common.{◌++◌, ◌∷◌, [], ◌+◌, length, take, drop, get_or, arith, length-take}
+use Rattle.ws_session.proofs.Common.{length-append, err_from_is_err_and, take_all, append-nil}
 use Rattle.ws_session.proofs.PlaySteps.{fault_within, next_byte, rest_of}
 use Rattle.ws_session.proofs.player.Player.take_all.Goals as goal
 
 pub loop-byte-init : goal.loop-byte-init
 loop-byte-init g c = λ start t bytes items h few. (
   items,
-  subst (λ (z : List ℕ). HasCome g.S.Sink.takes g.S.Sink.failures t c.args.keys.now start c.args.self.now
-      c.args.sink.now z items) (sym (append-nil bytes)) h,
+  rw (append-nil bytes) h,
 )
 
 pub returns-in_err-take-clause-fault : goal.returns-in_err-take-clause-fault
@@ -22,9 +17,8 @@ returns-in_err-take-clause-fault g c =
     rw (p.1, p.2) (λ start t bytes items h few.
     let front = bytes ++ take i piece in
     let so_far = c.loop-byte.invariant start t bytes items h few in
-    subst (λ (z : List ℕ). IsRunFault t c.args.keys.now g.S.Sink.takes g.S.Sink.failures start c.take.new.sink
-    (length bytes) z c.in_err-take.field-0.0) (rest_of bytes piece i c.loop-byte-test.true)
-    (fault_within t c.args.keys.now g.S.Sink.takes g.S.Sink.failures start c.take.new.sink (length front)
+    rw (← rest_of bytes piece i c.loop-byte-test.true) (fault_within t c.args.keys.now g.S.Sink.takes
+    g.S.Sink.failures start c.take.new.sink (length front)
     (length bytes) (front ++ get_or piece i 0 ∷ []) (drop (i + 1) piece) c.in_err-take.field-0.0
     (omega (arith, length-append bytes (take i piece)))
     (c.in_err-take.ensures.fault start t front so_far.0 so_far.1
@@ -38,15 +32,12 @@ loop-byte-preserved g c = λ start t bytes items h few.
     let next = c.in_ok-take.ensures.come start t (bytes ++ take i piece) so_far.0 so_far.1
     (omega (arith, length-append bytes (take i piece), length-take i piece)) in (
       next.0,
-      subst (λ (z : List ℕ). HasCome g.S.Sink.takes g.S.Sink.failures t c.args.keys.now start c.take.new.self
-          c.take.new.sink z next.0) (next_byte bytes piece i c.loop-byte-test.true) next.1,
+      rw (← next_byte bytes piece i c.loop-byte-test.true) next.1,
     )
 
 pub returns-clause-come : goal.returns-clause-come
 returns-clause-come g c = λ start t bytes items h few.
     let so_far = c.loop-byte.invariant start t bytes items h few in (
       so_far.0,
-      subst (λ (z : List ℕ). HasCome g.S.Sink.takes g.S.Sink.failures t c.args.keys.now start c.loop-byte.self
-          c.loop-byte.sink (bytes ++ z) so_far.0)
-          (take_all c.loop-byte.byte-index c.args.piece.now c.loop-byte-test.false) so_far.1,
+      rw (← take_all c.loop-byte.byte-index c.args.piece.now c.loop-byte-test.false) so_far.1,
     )

@@ -1,8 +1,5 @@
-use Rattle.std.proofs.Common.{◌++◌, ℕ, ◌+◌, ◌<◌, ◌^◌, List, length, take}
-use Rattle.ws_nego.specs.declared.terminal.TerminalType.{TerminalType}
-use Rattle.ws_record.specs.declared.record.Item.{Item}
-use Rattle.ws_stream.specs.declared.element.Element.{Element}
-use Rattle.ws_session.specs.Playing.{HasCome}
+use Rattle.ws_session.proofs.Common.{◌++◌, ℕ, ◌+◌, ◌<◌, ◌^◌, List, length, take, TerminalType, Item, Element}
+use Rattle.ws_session.proofs.Common.{HasCome}
 use Rattle.ws_session.proofs.player.Player.take_all.Given as goal
 
 -- the bytes so far have brought the player here

@@ -1,14 +1,6 @@
-use Rattle.std.specs.Prelude.{◌==◌}
-use Rattle.std.proofs.Common.{◌≡◌, true, ◌∷◌, ◌+◌, ◌++◌, Bool, false, ℕ, List, [], Result, Ok, Err, length, take, refl}
-use Rattle.std.proofs.Common.{sym, ◌∙◌, subst, arith}
-use Rattle.std.proofs.lemmas.Bool.Decides.{nat_tests}
-use Rattle.std.proofs.lemmas.Result.{err_from_is_err_and}
-use Rattle.ws_record.proofs.Pieces.{left_of, left_length}
-use Rattle.ws_session.specs.declared.refusal.Refusal.{Refusal}
-use Rattle.ws_session.specs.declared.refusal.Refusal.TheVariants.{Failed}
-use Rattle.ws_session.specs.declared.station.StationStep.{StationStep}
-use Rattle.ws_session.specs.StationFeeds.{HasFed}
-use Rattle.ws_session.specs.StationFronts.{IsFronted}
+use Rattle.ws_session.proofs.Common.{◌==◌, ◌≡◌, true, ◌∷◌, ◌+◌, Bool, false, ℕ, List, [], length, take, refl, sym}
+use Rattle.ws_session.proofs.Common.{◌∙◌, arith, nat_tests, err_from_is_err_and, left_of, left_length, Refusal}
+use Rattle.ws_session.proofs.Common.{StationStep, HasFed}
 use Rattle.ws_session.proofs.Counts.{counted_on, counted_up}
 use Rattle.ws_session.proofs.StationFeedings.{fed_on, silent_on, still_on, refused_on, fed_none, silent_none}
 use Rattle.ws_session.proofs.station.Station.feed.Goals as goal
@@ -28,7 +20,7 @@ loop-used-init c = (
   omega arith,
   refl,
   λ bytes items side l fits.
-      (fed_none c.args.self.now bytes items side l, silent_none bytes items side c.args.piece.now),
+      (fed_none _ bytes items side l, silent_none bytes items side _),
   λ fits. omega arith,
 )
 
@@ -42,14 +34,11 @@ returns-in_err-reply-clause-refused c =
     let i = c.loop-used.used in
     let k = f.result.used in
     let why : Refusal = c.in_err-reply.field-0.0 in
-    refused_on bytes items side piece i now (c.loop-used.invariant.2 bytes items side l fits).0 c.args.self.now
-    f.new.self k why c.loop-used.invariant.1 f.ensures.within
+    refused_on bytes items side piece i now (c.loop-used.invariant.2 bytes items side l fits).0 _
+    _ k why c.loop-used.invariant.1 f.ensures.within
     (λ other. f.ensures.used
-    (λ e. other (let same : ◌≡◌ {A = Result StationStep Refusal} (Err why) (Err Failed) = sym c.in_err-reply.was
-    ∙ e in cc)))
-    (λ b its s m room. subst
-    (λ (r : Result StationStep Refusal). IsFronted now f.new.self (b ++ take k (left_of piece i)) its s r)
-    c.in_err-reply.was (f.ensures.fronted b its s m room))
+    (λ e. other (cc (c.in_err-reply.was, e))))
+    (λ b its s m room. rw c.in_err-reply.was at (f.ensures.fronted b its s m room))
     f.ensures.first fits c.loop-used.invariant.0)
 
 pub returns-in_err-reply-clause-counted_up : goal.returns-in_err-reply-clause-counted_up
@@ -58,12 +47,11 @@ returns-in_err-reply-clause-counted_up c =
     let now = c.loop-used in
     let f = c.take_front-front in
     let why : Refusal = c.in_err-reply.field-0.0 in
-    rw (p.1, p.2) (counted_up why c.args.self.now.live.taken now.self.live.taken f.new.self.live.taken now.used
-    f.result.used (length (left_of c.args.piece.now now.used)) (length c.args.piece.now) now.invariant.0
+    rw (p.1, p.2) (counted_up why _ now.self.live.taken _ now.used
+    _ (length (left_of c.args.piece.now now.used)) _ now.invariant.0
     f.ensures.within (left_length c.args.piece.now now.used) now.invariant.3 f.ensures.counted
     (λ other. f.ensures.used
-    (λ e. other (let same : ◌≡◌ {A = Result StationStep Refusal} (Err why) (Err Failed) = sym c.in_err-reply.was
-    ∙ e in cc)))
+    (λ e. other (cc (c.in_err-reply.was, e))))
     (rw c.in_err-reply.was at f.ensures.at))
 
 pub returns-then-ends_record-clause-fed : goal.returns-then-ends_record-clause-fed
@@ -74,18 +62,16 @@ returns-then-ends_record-clause-fed c = λ bytes items side l fits.
     let i = c.loop-used.used in
     let k = f.result.used in
     let step : StationStep = c.in_ok-reply.field-0 in
-    fed_on bytes items side piece i now (c.loop-used.invariant.2 bytes items side l fits).0 f.new.self k step
+    fed_on bytes items side piece i now (c.loop-used.invariant.2 bytes items side l fits).0 _ k step
     f.ensures.within (f.ensures.used
-    (λ e. let same : ◌≡◌ {A = Result StationStep Refusal} (Ok step) (Err Failed) = sym c.in_ok-reply.was ∙ e in cc))
-    (λ b its s m room. subst
-    (λ (r : Result StationStep Refusal). IsFronted now f.new.self (b ++ take k (left_of piece i)) its s r)
-    c.in_ok-reply.was (f.ensures.fronted b its s m room))
+    (λ e. cc (c.in_ok-reply.was, e)))
+    (λ b its s m room. rw c.in_ok-reply.was at (f.ensures.fronted b its s m room))
     f.ensures.first fits c.loop-used.invariant.0
 
 pub returns-then-ends_record-clause-first : goal.returns-then-ends_record-clause-first
 returns-then-ends_record-clause-first c = λ bytes items side l fits.
     let inv = c.loop-used.invariant.2 bytes items side l fits in
-    silent_on bytes items side c.args.piece.now c.loop-used.used c.loop-used.self inv.0 c.take_front-front.result.used
+    silent_on bytes items side _ _ _ inv.0 _
     c.take_front-front.ensures.within c.take_front-front.ensures.first inv.1
 
 pub returns-clause-first : goal.returns-clause-first
@@ -110,17 +96,14 @@ loop-used-preserved c = (
       let step : StationStep = c.in_ok-reply.field-0 in
       let inv = c.loop-used.invariant.2 bytes items side l fits in
       let fed = fed_on bytes items side piece i now inv.0 f.new.self k step f.ensures.within
-      (f.ensures.used (λ e. let same : ◌≡◌ {A = Result StationStep Refusal} (Ok step) (Err Failed) =
-      sym c.in_ok-reply.was ∙ e in cc))
-      (λ b its s m room. subst
-      (λ (r : Result StationStep Refusal). IsFronted now f.new.self (b ++ take k (left_of piece i)) its s r)
-      c.in_ok-reply.was (f.ensures.fronted b its s m room))
+      (f.ensures.used (λ e. cc (c.in_ok-reply.was, e)))
+      (λ b its s m room. rw c.in_ok-reply.was at (f.ensures.fronted b its s m room))
       f.ensures.first fits c.loop-used.invariant.0 in
       let still : HasFed f.new.self bytes items side (take (i + k) piece) [] false =
-      subst (λ (b : Bool). HasFed f.new.self bytes items side (take (i + k) piece) [] b) c.if-ends_record.false
-      (subst (λ (r : List ℕ). HasFed f.new.self bytes items side (take (i + k) piece) r step.ends_record)
-      (no_reply step.reply _ c.as_slice.ensures.value c.is_empty.result c.is_empty.ensures c.if-not-is_empty.false)
-      fed) in (
+      rw (
+        no_reply step.reply _ c.as_slice.ensures.value c.is_empty.result c.is_empty.ensures c.if-not-is_empty.false,
+        c.if-ends_record.false,
+      ) at fed in (
         still,
         still_on bytes items side piece i now inv.0 f.new.self k still
             (silent_on bytes items side piece i now inv.0 k f.ensures.within f.ensures.first inv.1),

@@ -1,9 +1,5 @@
-use Rattle.std.proofs.Common.{◌≡◌, ◌+◌, ◌-◌, ◌<◌, ◌≤◌, ◌^◌, ℕ, false, List, [], length, take}
-use Rattle.ws_record.specs.declared.record.Item.{Item}
-use Rattle.ws_stream.specs.declared.element.Element.{Element}
-use Rattle.ws_session.specs.StationFeeds.{HasFed, IsSilent}
-use Rattle.ws_session.specs.StationLeads.{StationLeads}
-use Rattle.ws_session.specs.StationSide.{StationSide}
+use Rattle.ws_session.proofs.Common.{◌≡◌, ◌+◌, ◌-◌, ◌<◌, ◌≤◌, ◌^◌, ℕ, false, List, [], length, take, Item, Element}
+use Rattle.ws_session.proofs.Common.{HasFed, IsSilent, StationLeads, StationSide}
 use Rattle.ws_session.proofs.station.Station.feed.Given as goal
 
 -- the bytes so far were taken in silence

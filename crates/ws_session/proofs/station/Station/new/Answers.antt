@@ -1,4 +1,4 @@
-use Rattle.std.proofs.Common.{rules, [], None, refl}
+use Rattle.ws_session.proofs.Common.{rules, [], None, refl}
 use Rattle.ws_session.proofs.station.Station.new.Goals as goal
 
 pub returns-clause-leads : goal.returns-clause-leads

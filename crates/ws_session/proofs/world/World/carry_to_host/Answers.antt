@@ -1,12 +1,8 @@
-use Rattle.std.proofs.Common.{◌≡◌, ◌≤◌, ◌+◌, [], ◌∷◌, ◌++◌, length, refl, sym, subst, arith}
-use Rattle.std.proofs.lemmas.List.{drop_all}
-use Rattle.std.proofs.lemmas.Result.{err_from_is_err_and}
-use Rattle.ws_session.specs.Runs.{WorldParts, Runs}
-use Rattle.ws_session.specs.World.{bytes_to_host}
-use Rattle.ws_session.specs.TwoLines.{ends_of, ComesUp}
-use Rattle.ws_session.proofs.LineMoves.{up_none, up_more, up_all}
-use Rattle.ws_session.proofs.Lines.{crossed_on, stopped_behind, faithful_front, faithful_back, host_bytes_on}
-use Rattle.ws_session.proofs.UpSteps.{host_stops, none_comes_up}
+use Rattle.ws_session.proofs.Common.{◌≡◌, ◌≤◌, ◌+◌, [], ◌∷◌, ◌++◌, length, refl, arith, drop_all}
+use Rattle.ws_session.proofs.Common.{err_from_is_err_and, bytes_to_host, ends_of}
+use Rattle.ws_session.proofs.LineMoves.{up_none, up_more, up_all, crossed_on, stopped_behind, faithful_front}
+use Rattle.ws_session.proofs.LineMoves.{faithful_back}
+use Rattle.ws_session.proofs.ByteSteps.{host_stops, none_comes_up, host_bytes_on}
 use Rattle.ws_session.proofs.world.World.carry_to_host.Goals as goal
 
 pub loop-left-init : goal.loop-left-init
@@ -32,17 +28,16 @@ loop-left-preserved g c =
           c.loop-left.line c.piece_to_host.new.line i.crossings (q.0 ∷ []) i.crossed q.1;
       heard = up_more (ends_of c.args.self.now) (ends_of c.loop-left.self) (ends_of c.piece_to_host.new.self) i.gone n
           i.crossings (q.0 ∷ []) i.heard q.2;
-      runs = λ f t w r. subst (Runs t c.piece_to_host.new.self) (host_bytes_on i.gone n w)
-          (q.3 (faithful_back i.crossings (q.0 ∷ []) f).0 t (bytes_to_host i.gone w)
+      runs = λ f t w r. rw (← host_bytes_on i.gone n w) (q.3 (faithful_back i.crossings (q.0 ∷ []) f).0 t
+          (bytes_to_host i.gone w)
           (i.runs (faithful_front i.crossings (q.0 ∷ []) f) t w r));
     }
 
 pub returns-then-piece-eq0-clause-came : goal.returns-then-piece-eq0-clause-came
 returns-then-piece-eq0-clause-came g c =
     let i = c.loop-left.invariant in
-    let all : length c.loop-left.self.up ≤ c.loop-left.self.at_host = subst
-    (λ (k : WorldParts). length k.up ≤ k.at_host) c.self.view_is
-    (omega (
+    let now = c.loop-left.self in
+    let all : length now.up ≤ now.at_host = rw (← c.self.view_is) (omega (
       arith,
       c.if-piece-eq0.true,
       c.min-piece.ensures,
@@ -52,28 +47,21 @@ returns-then-piece-eq0-clause-came g c =
     )) in (
       i.crossings,
       i.crossed,
-      up_all (ends_of c.args.self.now) (ends_of c.loop-left.self) i.gone c.args.count i.crossings
-          (omega (arith, i.all)) (drop_all c.loop-left.self.at_host c.loop-left.self.up all) i.heard,
-      (λ f t w r.
-          let now = i.runs f t w r in
-          subst (Runs t c.loop-left.self) (sym (host_stops i.gone c.args.count (omega (arith, i.all)) w
-          (none_comes_up t (bytes_to_host i.gone w) c.loop-left.self now all))) now),
+      up_all (ends_of c.args.self.now) (ends_of now) i.gone c.args.count i.crossings (omega (arith, i.all))
+          (drop_all now.at_host now.up all) i.heard,
+      (λ f t w r. rw (host_stops i.gone c.args.count (omega (arith, i.all)) w
+          (none_comes_up (i.runs f t w r) all)) (i.runs f t w r)),
     )
 
 pub returns-in_err-piece_to_host-clause-fault : goal.returns-in_err-piece_to_host-clause-fault
 returns-in_err-piece_to_host-clause-fault g c =
     let i = c.loop-left.invariant in
     let p = err_from_is_err_and c.from_residual.result c.from_residual.ensures.1 in
-    rw (p.1, p.2) (stopped_behind g.S.Sink.takes g.S.Sink.failures g.R.Source.gives g.R.Source.failures c.args.line.now
-    c.loop-left.line c.piece_to_host.new.line i.crossings _ i.crossed c.in_err-piece_to_host.ensures.fault)
+    rw (p.1, p.2) (stopped_behind _ _ _ _ _
+    c.loop-left.line _ i.crossings _ i.crossed c.in_err-piece_to_host.ensures.fault)
 
 pub returns-clause-came : goal.returns-clause-came
 returns-clause-came g c =
     let i = c.loop-left.invariant in
-    let done : i.gone ≡ c.args.count = omega (arith, i.all, c.loop-left-test.false) in (
-      i.crossings,
-      i.crossed,
-      subst (λ n. ComesUp (ends_of c.args.self.now) n i.crossings (ends_of c.loop-left.self))
-          done i.heard,
-      (λ f t w r. subst (λ n. Runs t c.loop-left.self (bytes_to_host n w)) done (i.runs f t w r)),
-    )
+    let done : c.args.count ≡ i.gone = omega (arith, i.all, c.loop-left-test.false) in
+    rw done (i.crossings, i.crossed, i.heard, i.runs)

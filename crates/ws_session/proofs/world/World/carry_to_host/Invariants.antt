@@ -1,9 +1,5 @@
-use Rattle.std.proofs.Common.{◌≡◌, ◌+◌, ℕ, List}
-use Rattle.ws_nego.specs.declared.terminal.TerminalType.{TerminalType}
-use Rattle.ws_session.specs.Crossings.{Crossing, AreFaithful, HaveCrossed}
-use Rattle.ws_session.specs.Runs.{Runs}
-use Rattle.ws_session.specs.TwoLines.{ends_of, ComesUp}
-use Rattle.ws_session.specs.World.{World, bytes_to_host}
+use Rattle.ws_session.proofs.Common.{◌≡◌, ◌+◌, ℕ, List, TerminalType, Crossing, AreFaithful, HaveCrossed, Runs}
+use Rattle.ws_session.proofs.Common.{ends_of, ComesUp, World, bytes_to_host}
 use Rattle.ws_session.proofs.world.World.carry_to_host.Given as goal
 
 abbrev pub decreases-loop-left : goal.decreases-loop-left

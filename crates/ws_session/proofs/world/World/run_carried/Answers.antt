@@ -1,16 +1,10 @@
-use Rattle.std.proofs.Common.{length, ◌^◌, ◌<◌, ◌+◌, List, [], ◌++◌, take, inl, refl, sym, subst}
-use Rattle.std.proofs.lemmas.List.{take_all}
-use Rattle.std.proofs.lemmas.Result.{err_from_is_err_and, IfErr-weaker}
-use Rattle.ws_session.specs.declared.world.Move.{Move}
-use Rattle.ws_session.specs.Runs.{Runs}
-use Rattle.ws_session.specs.TwoLines.{TwoEnds, ends_of, HaveMoved, HasRun, all_read, StationIsLed, HostIsLed}
+use Rattle.ws_session.proofs.Common.{length, ◌^◌, ◌<◌, ◌+◌, [], ◌++◌, take, inl, refl, sym, subst, take_all}
+use Rattle.ws_session.proofs.Common.{err_from_is_err_and, IfErr-weaker, TwoEnds, ends_of, all_read, StationIsLed}
+use Rattle.ws_session.proofs.Common.{HostIsLed, new_world, after_moves, longer_by}
 use Rattle.ws_session.proofs.LineLeads.{station_is_led, host_is_led}
-use Rattle.ws_session.proofs.LineMoves.{both_if_ok, begun, moved_on}
-use Rattle.ws_session.specs.World.{new_world, after_moves}
-use Rattle.ws_screen.proofs.Applies.{longer_by}
-use Rattle.ws_session.proofs.Lines.{crossed_on, either_behind, faithful_front, faithful_back}
-use Rattle.ws_session.proofs.Reached.{more_moves}
-use Rattle.ws_session.proofs.WorldSteps.{weaker_ok}
+use Rattle.ws_session.proofs.LineMoves.{both_if_ok, begun, moved_on, crossed_on, either_behind, faithful_front}
+use Rattle.ws_session.proofs.LineMoves.{faithful_back}
+use Rattle.ws_session.proofs.Reached.{more_moves, weaker_ok}
 use Rattle.ws_session.proofs.world.World.run_carried.Goals as goal
 
 pub loop-step-init : goal.loop-step-init
@@ -30,27 +24,23 @@ loop-step-preserved g c =
     let n = c.loop-step.step-index in
     let i = c.loop-step.invariant in
     let q = c.in_ok-take_carried.ensures.taken in
-    let longer = longer_by moves n c.step-item.result c.loop-step-test.true c.step-item.is in
+    let longer = longer_by moves n _ c.loop-step-test.true c.step-item.is in
     record {
       downs = i.downs ++ q.0;
       ups = i.ups ++ q.1;
-      went_down = crossed_on g.S.Sink.takes g.S.Sink.failures g.R.Source.gives g.R.Source.failures c.args.down.now
-          c.loop-step.down c.take_carried.new.down i.downs q.0 i.went_down q.2;
-      went_up = crossed_on g.T.Sink.takes g.T.Sink.failures g.Q.Source.gives g.Q.Source.failures c.args.up.now
-          c.loop-step.up c.take_carried.new.up i.ups q.1 i.went_up q.3;
+      went_down = crossed_on _ _ _ _ _
+          _ _ _ q.0 i.went_down q.2;
+      went_up = crossed_on _ _ _ _ _
+          _ _ i.ups q.1 i.went_up q.3;
       moved = (
         i.moved.0,
         i.moved.1,
-        subst (λ (z : List Move). HaveMoved i.moved.0 z (i.downs ++ q.0) (i.ups ++ q.1)
-            (ends_of c.take_carried.new.self)) (sym longer)
-            (moved_on i.moved.0 (ends_of c.loop-step.world) (ends_of c.take_carried.new.self)
-            (take n moves) c.step-item.result i.downs i.ups q.0 q.1 i.moved.2 q.4),
+        rw longer (moved_on _ _ _
+            _ _ _ i.ups q.0 q.1 i.moved.2 q.4),
       );
-      runs = λ f h.
-          subst (λ (z : List Move). Runs t c.take_carried.new.self (after_moves (new_world t) z)) (sym longer)
-          (subst (Runs t c.take_carried.new.self) (sym (more_moves (take n moves) c.step-item.result (new_world t)))
-          (q.5 (faithful_back i.downs q.0 f) (faithful_back i.ups q.1 h) t (after_moves (new_world t) (take n moves))
-          (i.runs (faithful_front i.downs q.0 f) (faithful_front i.ups q.1 h))));
+      runs = λ f h. rw (longer, more_moves _ _ _) (q.5 (faithful_back _ q.0 f) (faithful_back i.ups q.1 h) t
+          (after_moves (new_world t) (take n moves))
+          (i.runs (faithful_front _ q.0 f) (faithful_front i.ups q.1 h)));
     }
 
 pub returns-in_err-take_carried-clause-fault : goal.returns-in_err-take_carried-clause-fault
@@ -58,9 +48,9 @@ returns-in_err-take_carried-clause-fault g c =
     let i = c.loop-step.invariant in
     let p = err_from_is_err_and c.from_residual-in_err-take_carried.result
     c.from_residual-in_err-take_carried.ensures.1 in
-    rw (p.1, p.2) (either_behind g.S.Sink.takes g.S.Sink.failures g.R.Source.gives g.R.Source.failures g.T.Sink.takes
-    g.T.Sink.failures g.Q.Source.gives g.Q.Source.failures c.args.down.now c.loop-step.down c.take_carried.new.down
-    i.downs c.args.up.now c.loop-step.up c.take_carried.new.up i.ups _ i.went_down i.went_up
+    rw (p.1, p.2) (either_behind _ _ _ _ _
+    _ _ _ _ c.loop-step.down _
+    i.downs _ c.loop-step.up _ i.ups _ i.went_down i.went_up
     c.in_err-take_carried.ensures.fault)
 
 pub returns-clause-done : goal.returns-clause-done
@@ -69,20 +59,18 @@ returns-clause-done g c =
     let moves = c.args.moves.now in
     let i = c.loop-step.invariant in
     let all = take_all c.loop-step.step-index moves c.loop-step-test.false in
-    let ran : HasRun t moves i.downs i.ups (ends_of c.loop-step.world) = subst
-    (λ (z : List Move). HasRun t z i.downs i.ups (ends_of c.loop-step.world)) all i.moved in
+    let ran = rw all at i.moved in
     weaker_ok c.report.result _ _ (λ r q. (
       i.downs,
       i.ups,
       i.went_down,
       i.went_up,
-      subst (λ (z : TwoEnds). HasRun t moves i.downs i.ups z) (sym q.1) ran,
+      rw q.1 ran,
       subst (λ (z : TwoEnds). length (all_read i.downs) + 1 < 2 ^ 64 → StationIsLed z.station (all_read i.downs))
           (sym q.1) (station_is_led t moves i.downs i.ups (ends_of c.loop-step.world) ran),
       subst (λ (z : TwoEnds). length (all_read i.ups) + 1 < 2 ^ 64 → HostIsLed z.host (all_read i.ups)) (sym q.1)
           (host_is_led t moves i.downs i.ups (ends_of c.loop-step.world) ran),
-      (λ f h. q.0 t (after_moves (new_world t) moves)
-          (subst (λ (z : List Move). Runs t c.loop-step.world (after_moves (new_world t) z)) all (i.runs f h))),
+      (λ f h. q.0 t (after_moves (new_world t) moves) (rw all at (i.runs f h))),
     )) (both_if_ok c.report.result _ _ c.report.ensures.reported c.report.ensures.ends)
 
 pub returns-clause-fault : goal.returns-clause-fault

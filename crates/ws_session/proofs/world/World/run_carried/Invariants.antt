@@ -1,8 +1,5 @@
-use Rattle.std.proofs.Common.{List, take}
-use Rattle.ws_session.specs.Crossings.{Crossing, AreFaithful, HaveCrossed}
-use Rattle.ws_session.specs.Runs.{Runs}
-use Rattle.ws_session.specs.TwoLines.{ends_of, HasRun}
-use Rattle.ws_session.specs.World.{new_world, after_moves}
+use Rattle.ws_session.proofs.Common.{List, take, Crossing, AreFaithful, HaveCrossed, Runs, ends_of, HasRun}
+use Rattle.ws_session.proofs.Common.{new_world, after_moves}
 use Rattle.ws_session.proofs.world.World.run_carried.Given as goal
 
 -- the moves so far have led here, and these pieces have crossed

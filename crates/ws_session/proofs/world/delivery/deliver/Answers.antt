@@ -1,11 +1,11 @@
-use Rattle.std.proofs.Common.{arith}
+use Rattle.ws_session.proofs.Common.{arith}
 use Rattle.ws_session.proofs.Arriving.{none_delivered, one_delivered, more_wait, all_come}
 use Rattle.ws_session.proofs.world.delivery.deliver.Goals as goal
 
 pub loop-i-init : goal.loop-i-init
 loop-i-init g c =
-    none_delivered g.E.End.goes g.E.End.refuses g.E.End.over g.E.Reported.tells g.E.Reported.refusal
-    c.args.end.now c.args.from.now c.args.to.now c.args.events.now.items c.in_flight.ensures.few
+    none_delivered _ _ _ _ _
+    _ _ _ _ c.in_flight.ensures.few
 
 pub next-byte-requires : goal.next-byte-requires
 next-byte-requires g c =

@@ -1,4 +1,4 @@
-use Rattle.ws_session.specs.Wires.{AreDelivered}
+use Rattle.ws_session.proofs.Common.{AreDelivered}
 use Rattle.ws_session.proofs.world.delivery.deliver.Given as goal
 
 -- so many bytes have come

@@ -1,0 +1,269 @@
+use Rattle.ws_session.proofs.Common as C
+use C.{if◌then◌else◌, ◌<◌, ◌≡◌, ◌+◌, List, [], ◌∷◌, ◌++◌, Bool, true, false, nat_lt, None, length, refl, ap, ◌∙◌}
+use C.{sym, subst, arith, ltb-true, RecordBeforeNegotiation, Telnet, TerminalType, station_answer}
+use C.{station_allows_records, Exchange, after_exchange, MoveDown, Item, RecordItem, TelnetItem, Element}
+use C.{element_rules, body_fault, HostAnswer, answer_rules, telnets, answers_in, Refuses, GoesOn, StationSide}
+use C.{after_record, opcode_answer, station_applies, station_takes, ending_at, World, down_bytes, station_did}
+use C.{station_gets, byte_to_station, ◌⊎◌, inl, inr, ◌≤◌, ltb-false, ℕ, Option, Some, append_assoc, append-nil}
+use C.{flat_map-append, Answer, MoveUp, HostState, host_answer, host_allows_records, Opcode, NoOperation, PutGet}
+use C.{CancelInvite, AnswerPart, Answered, Cancelled, Host, answer_in, HostSide, tells, ready_event}
+use C.{host_negotiates, after_read, host_reads, host_reads_by, host_ends_cancel, signal, host_takes_record}
+use C.{host_takes, up_bytes, host_did, host_gets, byte_to_host}
+use Rattle.ws_session.proofs.Flights.{InFlight, ByteComes, Inside, Whole, comes, written}
+use Rattle.ws_session.proofs.Betweens.{Posted, record_of, posted, Sent, sents, tokens, Between, sounds, Down, Sound}
+use Rattle.ws_session.proofs.Betweens.{behind, full_station, records_up, with_sents, with_tokens, Replies, Ends}
+use Rattle.ws_session.proofs.Betweens.{Signal, item_of, Up, full_host, quiet_told, ready_silent, signal_silent}
+use Rattle.ws_session.proofs.Betweens.{with_none}
+use Rattle.ws_session.proofs.BetweenSteps.{answers_to, answer_items, station_token, station_record, host_token}
+use Rattle.ws_session.proofs.BetweenSteps.{host_reply, host_end, host_signal}
+use Rattle.ws_session.proofs.Orders.{x_none, up_next}
+
+-- A byte comes to the station of a session.
+
+module _ (t : TerminalType) where
+  takes_record : (s : StationSide) (d : Posted) → station_allows_records s.options ≡ true → body_fault s.happened
+      (record_of d).body ≡ None
+      → station_takes s (RecordItem (record_of d))
+      ≡ GoesOn (record { options = s.options; happened = after_record s.happened (record_of d) })
+      (opcode_answer (record_of d).opcode)
+  takes_record s d allows none =
+      ap (λ (b : Bool). if b then station_applies s (record_of d) (body_fault s.happened (record_of d).body) else
+      Refuses RecordBeforeNegotiation) allows ∙ ap (station_applies s (record_of d)) none
+
+  module _ (w : World) where
+    abbrev byte_on : World
+    byte_on = record w { at_station = w.at_station + 1 }
+
+    station_arrives : (ex : Exchange) → ex.count ≡ telnets w.down + telnets w.up → (ts us : List Telnet)
+        (ds : List Posted) (es : List Sent) (later : List HostAnswer) → Between t ex w.station w.host ts us ds es later
+        → (item : Item Element) (rest : List (Item Element)) → tokens ts ++ posted ds ≡ item ∷ rest
+        → InFlight element_rules w.down (w.at_station + 1) rest → InFlight answer_rules w.up w.at_host
+        (tokens us ++ sents es)
+        → w.answered ≡ answers_in w.events ++ later → w.station_refused ≡ false → w.host_refused ≡ false
+        → Down t ex w.down (w.at_station + 1) (station_did byte_on (station_takes w.station item))
+    station_arrives ex n [] us [] es later b item rest e down up answered sg hg = cc
+    station_arrives ex n (token ∷ ts) us ds es later b item rest e down up answered sg hg =
+        let same : TelnetItem token ≡ item = cc in
+        let tail : tokens ts ++ posted ds ≡ rest = cc in
+        let found = station_token b in
+        let reply : List Telnet = (station_answer w.station.options token).reply in
+        rw (← same) (record {
+          sound = sounds ts (us ++ reply) ds es later (after_exchange MoveDown ex) found.2 (rw tail down) (rw
+              (← behind us reply (sents es) (ap sents found.0)) (written answer_rules w.up w.at_host (tokens
+              us ++ sents es) (tokens reply) up)) answered (omega (arith, found.1, n, with_tokens w.up reply)) sg
+              hg;
+          same_ex = full_station ex token ts b.exchanges.to_station;
+          same_down = refl;
+          at = refl;
+        })
+    station_arrives ex n [] us (d ∷ ds) es later b item rest e down up answered sg hg =
+        let same : RecordItem (record_of d) ≡ item = cc in
+        let tail : posted ds ≡ rest = cc in
+        let found = station_record b in
+        let next : StationSide = record {
+          options = w.station.options;
+          happened = after_record w.station.happened
+              (record_of d);
+        } in
+        rw (← same) (rw (takes_record w.station d found.0 found.1 ∙ ap (GoesOn next) (answer_items d)) (record {
+          sound = sounds [] us ds (es ++ answers_to d) later ex found.2 (rw tail down) (rw (← records_up us es
+              (answers_to d)) (written answer_rules w.up w.at_host (tokens us ++ sents
+              es) (sents (answers_to d)) up)) answered (omega (arith, n, with_sents w.up (answers_to d))) sg hg;
+          same_ex = refl;
+          same_down = refl;
+          at = refl;
+        }))
+
+    arrived_down : (s : Sound t w) → w.at_station < length (down_bytes w) → Down t s.ex w.down (w.at_station + 1)
+        (station_gets byte_on w.station_refused (ending_at element_rules w.down (w.at_station + 1)))
+    arrived_down s less = subst (λ z. Down t s.ex w.down (w.at_station + 1)
+        (station_gets byte_on z (ending_at element_rules w.down (w.at_station + 1)))) (sym s.station_going)
+        (arrive (comes element_rules w.down w.at_station (tokens s.ts ++ posted s.ds) s.down less))
+      where
+        arrive : ByteComes element_rules w.down w.at_station (tokens s.ts ++ posted s.ds) → Down t s.ex w.down
+            (w.at_station + 1) (station_gets byte_on false (ending_at element_rules w.down (w.at_station + 1)))
+        arrive (Inside none f) = subst (λ z. Down t s.ex w.down (w.at_station + 1) (station_gets byte_on false z))
+            (sym none) (record {
+              sound = sounds s.ts s.us s.ds s.es s.later s.ex s.between f s.up s.answered s.count s.station_going
+                  s.host_going;
+              same_ex = refl;
+              same_down = refl;
+              at = refl;
+            })
+        arrive (Whole item rest split ends f) = subst (λ z. Down t s.ex w.down (w.at_station + 1)
+            (station_gets byte_on false z)) (sym ends)
+            (station_arrives s.ex s.count s.ts s.us s.ds s.es _ s.between item rest split f s.up s.answered
+            s.station_going s.host_going)
+
+    -- the next byte that is in flight to the station, or there is none
+    pub next_down : (s : Sound t w) → Down t s.ex w.down (w.at_station + 1) (byte_to_station w)
+        ⊎ ((byte_to_station w ≡ w) × (length (down_bytes w) ≤ w.at_station))
+    next_down s = by_test _ refl
+      where
+        by_test : (b : Bool) → nat_lt w.at_station (length (down_bytes w)) ≡ b → Down t s.ex w.down (w.at_station + 1)
+            (if b then station_gets byte_on w.station_refused (ending_at element_rules w.down
+            (w.at_station + 1)) else w)
+            ⊎ (((if b then station_gets byte_on w.station_refused (ending_at element_rules w.down (w.at_station + 1))
+            else w) ≡ w) × (length (down_bytes w) ≤ w.at_station))
+        by_test false e = inr (refl, ltb-false w.at_station (length (down_bytes w)) e)
+        by_test true e = inl (arrived_down s (ltb-true w.at_station (length (down_bytes w)) e))
+
+    pub byte_down : Sound t w → Sound t (byte_to_station w)
+    byte_down s = elim (next_down s) [ inl d ↦ d.sound | inr q ↦ subst (Sound t) (sym q.0) s ]
+
+-- A byte comes to the host end of a session.
+
+module _ (t : TerminalType) where
+  takes_by : (h : HostSide) (flags : ℕ) (o : Opcode) (parts : List AnswerPart) → host_allows_records h.options ≡ true
+      → host_takes h (RecordItem (record { flags = flags; opcode = o; body = parts }))
+      ≡ host_takes_record h flags o parts
+  takes_by h flags o parts allows =
+      ap (λ (b : Bool). if b then host_takes_record h flags o parts else Refuses RecordBeforeNegotiation) allows
+
+  module _ (w : World) where
+    abbrev byte_off : World
+    byte_off = record w { at_host = w.at_host + 1 }
+
+    same_down : (ts : List Telnet) (ds : List Posted) → InFlight element_rules w.down w.at_station
+        (tokens ts ++ posted ds) → InFlight element_rules (w.down ++ []) w.at_station (tokens ts ++ posted ds)
+    same_down ts ds f = rw (append-nil w.down) f
+
+    host_arrives_token : (ex : Exchange) → ex.count ≡ telnets w.down + telnets w.up → (ts us : List Telnet)
+        (token : Telnet) (ds : List Posted) (es : List Sent) (later : List HostAnswer)
+        → Between t ex w.station w.host ts (token ∷ us) ds es later
+        → (a : Option (Answer HostState)) → host_answer w.host.options token ≡ a
+        → InFlight element_rules w.down w.at_station (tokens ts ++ posted ds) → InFlight answer_rules w.up
+        (w.at_host + 1) (tokens us ++ sents es)
+        → w.answered ≡ answers_in w.events ++ later → w.station_refused ≡ false → w.host_refused ≡ false
+        → Up t ex w.up (w.at_host + 1) ds (host_did byte_off (host_negotiates w.host a))
+    host_arrives_token ex n ts us token ds es later b None q down up answered sg hg =
+        absurd (x_none b.exchanges q)
+    host_arrives_token ex n ts us token ds es later b (Some a) q down up answered sg hg =
+        let found = host_token b a q in
+        record {
+          sound = sounds (ts ++ a.reply) us ds es later (after_exchange MoveUp ex) found.2 (rw (← behind ts a.reply
+              (posted ds) (ap posted found.0)) (written
+              element_rules w.down w.at_station (tokens ts ++ posted ds) (tokens a.reply) down)) up (answered ∙ ap
+              (λ l. l ++ later) (sym (quiet_told w.events (ready_event (host_allows_records w.host.options) a.after)
+              (ready_silent (host_allows_records w.host.options) a.after)))) (omega (
+                arith,
+                found.1,
+                n,
+                with_tokens
+                    w.down a.reply,
+              )) sg hg;
+          same_ex = full_host ex us a b.exchanges.to_host
+              (up_next b.exchanges (Some a) q);
+          same_up = refl;
+          at = refl;
+          same_ds = refl;
+        }
+
+    host_arrives_record : (ex : Exchange) → ex.count ≡ telnets w.down + telnets w.up → (ts : List Telnet)
+        (ds : List Posted) (e : Sent) (es : List Sent) (later : List HostAnswer) → Between t ex w.station w.host ts
+        [] ds (e ∷ es) later
+        → InFlight element_rules w.down w.at_station (tokens ts ++ posted ds) → InFlight answer_rules w.up
+        (w.at_host + 1) (sents es)
+        → w.answered ≡ answers_in w.events ++ later → w.station_refused ≡ false → w.host_refused ≡ false
+        → Up t ex w.up (w.at_host + 1) ds (host_did byte_off (host_takes w.host (item_of e)))
+    host_arrives_record ex n ts ds (Replies parts) es later b down up answered sg hg =
+        let h : HostSide = w.host in
+        let found = host_reply b in
+        let x : HostAnswer = found.1 in
+        let takes : host_takes h (item_of (Replies parts)) ≡ GoesOn (after_read h h.cancelling)
+        (tells (Some (Answered x))) =
+        takes_by h 0 PutGet parts found.3 ∙ ap (λ o. host_reads_by h o parts) found.4 ∙ ap (host_reads h) found.5 in
+        rw takes (record {
+          sound = sounds ts [] ds es found.2 ex found.7 (same_down ts ds down) up (answered ∙ ap (λ l. answers_in
+              w.events ++ l) found.6 ∙ sym (append_assoc (answers_in w.events) (x ∷ []) found.2) ∙ ap (λ l. l ++
+              found.2) (sym (flat_map-append answer_in w.events (Host (Answered x) ∷ [])))) (omega (
+                arith,
+                n,
+                with_none w.down,
+              )) sg hg;
+          same_ex = refl;
+          same_up = refl;
+          at = refl;
+          same_ds = refl;
+        })
+    host_arrives_record ex n ts ds Ends es later b down up answered sg hg =
+        let h : HostSide = w.host in
+        let found = host_end b in
+        let takes : host_takes h (item_of Ends) ≡ GoesOn (after_read h false) (tells (Some Cancelled)) =
+        takes_by h 0 CancelInvite [] found.0 ∙ ap (host_ends_cancel h) found.1 in
+        rw takes (record {
+          sound = sounds ts [] ds es later ex found.2 (same_down ts ds down) up (answered ∙ ap (λ l. l ++ later)
+              (sym (quiet_told w.events (Some Cancelled) refl))) (omega (arith, n, with_none w.down)) sg hg;
+          same_ex = refl;
+          same_up = refl;
+          at = refl;
+          same_ds = refl;
+        })
+    host_arrives_record ex n ts ds (Signal flags) es later b down up answered sg hg =
+        let h : HostSide = w.host in
+        let found = host_signal b in
+        rw (takes_by h flags NoOperation [] found.0) (record {
+          sound = sounds ts [] ds es later ex found.1 (same_down ts ds down) up (answered ∙ ap (λ l. l ++ later)
+              (sym (quiet_told w.events (signal flags) (signal_silent flags)))) (omega (arith, n, with_none w.down))
+              sg hg;
+          same_ex = refl;
+          same_up = refl;
+          at = refl;
+          same_ds = refl;
+        })
+
+    host_arrives : (ex : Exchange) → ex.count ≡ telnets w.down + telnets w.up → (ts us : List Telnet)
+        (ds : List Posted) (es : List Sent) (later : List HostAnswer) → Between t ex w.station w.host ts us ds es later
+        → (item : Item AnswerPart) (rest : List (Item AnswerPart)) → tokens us ++ sents es ≡ item ∷ rest
+        → InFlight element_rules w.down w.at_station (tokens ts ++ posted ds) → InFlight answer_rules w.up
+        (w.at_host + 1) rest
+        → w.answered ≡ answers_in w.events ++ later → w.station_refused ≡ false → w.host_refused ≡ false
+        → Up t ex w.up (w.at_host + 1) ds (host_did byte_off (host_takes w.host item))
+    host_arrives ex n ts [] ds [] later b item rest e down up answered sg hg = cc
+    host_arrives ex n ts (token ∷ us) ds es later b item rest e down up answered sg hg =
+        let same : TelnetItem token ≡ item = cc in
+        let tail : tokens us ++ sents es ≡ rest = cc in
+        rw (← same) (host_arrives_token ex n ts us token ds es later b (host_answer w.host.options token) refl down
+        (rw tail up) answered sg hg)
+    host_arrives ex n ts [] ds (r ∷ es) later b item rest e down up answered sg hg =
+        let same : item_of r ≡ item = cc in
+        let tail : sents es ≡ rest = cc in
+        rw (← same) (host_arrives_record ex n ts ds r es later b down (rw tail up) answered sg hg)
+
+    arrived_up : (s : Sound t w) → w.at_host < length (up_bytes w) → Up t s.ex w.up (w.at_host + 1) s.ds
+        (host_gets byte_off w.host_refused (ending_at answer_rules w.up (w.at_host + 1)))
+    arrived_up s less = subst (λ z. Up t s.ex w.up (w.at_host + 1) s.ds
+        (host_gets byte_off z (ending_at answer_rules w.up (w.at_host + 1)))) (sym s.host_going)
+        (arrive (comes answer_rules w.up w.at_host (tokens s.us ++ sents s.es) s.up less))
+      where
+        arrive : ByteComes answer_rules w.up w.at_host (tokens s.us ++ sents s.es)
+            → Up t s.ex w.up (w.at_host + 1) s.ds
+            (host_gets byte_off false (ending_at answer_rules w.up (w.at_host + 1)))
+        arrive (Inside none f) = subst (λ z. Up t s.ex w.up (w.at_host + 1) s.ds (host_gets byte_off false z))
+            (sym none) (record {
+              sound = sounds s.ts s.us s.ds s.es s.later s.ex s.between s.down f s.answered s.count s.station_going
+                  s.host_going;
+              same_ex = refl;
+              same_up = refl;
+              at = refl;
+              same_ds = refl;
+            })
+        arrive (Whole item rest split ends f) = subst (λ z. Up t s.ex w.up (w.at_host + 1) s.ds
+            (host_gets byte_off false z)) (sym ends)
+            (host_arrives s.ex s.count s.ts s.us s.ds s.es s.later s.between item rest split s.down f s.answered
+            s.station_going s.host_going)
+
+    -- the next byte that is in flight to the host end, or there is none
+    pub next_up : (s : Sound t w) → Up t s.ex w.up (w.at_host + 1) s.ds (byte_to_host w)
+        ⊎ ((byte_to_host w ≡ w) × (length (up_bytes w) ≤ w.at_host))
+    next_up s = by_test (nat_lt w.at_host (length (up_bytes w))) refl
+      where
+        by_test : (b : Bool) → nat_lt w.at_host (length (up_bytes w)) ≡ b → Up t s.ex w.up (w.at_host + 1) s.ds
+            (if b then host_gets byte_off w.host_refused (ending_at answer_rules w.up (w.at_host + 1)) else w)
+            ⊎ (((if b then host_gets byte_off w.host_refused (ending_at answer_rules w.up (w.at_host + 1)) else w) ≡ w)
+            × (length (up_bytes w) ≤ w.at_host))
+        by_test false e = inr (refl, ltb-false w.at_host (length (up_bytes w)) e)
+        by_test true e = inl (arrived_up s (ltb-true w.at_host (length (up_bytes w)) e))
+
+    pub byte_up : Sound t w → Sound t (byte_to_host w)
+    byte_up s = elim (next_up s) [ inl d ↦ d.sound | inr q ↦ subst (Sound t) (sym q.0) s ]

@@ -1,0 +1,103 @@
+use Rattle.ws_session.proofs.Common as C
+use C.{nat_lt, if◌then◌else◌, ℕ, zero, suc, ◌+◌, List, Bool, true, false, Option, Some, None, length, Item, Element}
+use C.{AnswerPart, element_rules, answer_rules, ending_at, Reaction, StationSide, HostSide, HostOutput}
+use C.{station_takes, host_takes, World, down_bytes, up_bytes, station_did, station_gets, host_did, host_gets}
+use C.{byte_to_station, byte_to_host, bytes_to_station, bytes_to_host, ◌≡◌, [], ◌∷◌, ◌++◌, refl, ap, TerminalType}
+use C.{HostEvent, Event, Host, KeyRefused, SendRefused, Move, Cancel, ToStation, ToHost, Press, SendReaction}
+use C.{RefusesSend, Sends, Refuses, GoesOn, is_refusal, refusals_in, KeyReaction, RefusesKey, Silent, Answers}
+use C.{Signals, new_world, events_with, station_pressed, host_sent, after_move, after_moves}
+use Rattle.ws_session.specs.declared.world.Move.TheVariants.{Send}
+use Rattle.ws_session.proofs.Worlds.{sound}
+
+-- What stays true of a session at an item that arrives stays true at bytes.
+
+module _ (P : World → Type 0) where
+  module _ (here : (w : World) → P w → P (record w { at_station = w.at_station + 1 }))
+      (did : (w : World) (r : Reaction StationSide (List (Item AnswerPart))) → P w → P (station_did w r)) where
+    byte_down : (w : World) → P w → P (byte_to_station w)
+    byte_down w p = by (nat_lt w.at_station (length (down_bytes w))) w.station_refused
+        (ending_at element_rules w.down (w.at_station + 1))
+      where
+        by : (b r : Bool) (o : Option (Item Element))
+            → P (if b then station_gets (record w { at_station = w.at_station + 1 }) r o else w)
+        by false r o = p
+        by true true o = here w p
+        by true false None = here w p
+        by true false (Some item) =
+            did (record w { at_station = w.at_station + 1 }) (station_takes w.station item) (here w p)
+
+    pub bytes_down : (n : ℕ) (w : World) → P w → P (bytes_to_station n w)
+    bytes_down zero w p = p
+    bytes_down (suc n) w p = bytes_down n _ (byte_down w p)
+
+  module _ (here : (w : World) → P w → P (record w { at_host = w.at_host + 1 }))
+      (did : (w : World) (r : Reaction HostSide HostOutput) → P w → P (host_did w r)) where
+    byte_up : (w : World) → P w → P (byte_to_host w)
+    byte_up w p = by (nat_lt w.at_host (length (up_bytes w))) w.host_refused
+        (ending_at answer_rules w.up (w.at_host + 1))
+      where
+        by : (b r : Bool) (o : Option (Item AnswerPart))
+            → P (if b then host_gets (record w { at_host = w.at_host + 1 }) r o else w)
+        by false r o = p
+        by true true o = here w p
+        by true false None = here w p
+        by true false (Some item) = did (record w { at_host = w.at_host + 1 }) (host_takes w.host item) (here w p)
+
+    pub bytes_up : (n : ℕ) (w : World) → P w → P (bytes_to_host n w)
+    bytes_up zero w p = p
+    bytes_up (suc n) w p = bytes_up n _ (byte_up w p)
+
+-- While no end has refused, no refusal has been told.
+
+abbrev IsCalm : World → Type 0
+IsCalm w = w.station_refused ≡ false → w.host_refused ≡ false → refusals_in w.events ≡ []
+
+one_more : (events : List Event) (e : Event) → is_refusal e ≡ false → refusals_in events ≡ []
+    → refusals_in (events ++ e ∷ []) ≡ []
+one_more [] e calm none = ap (λ (b : Bool). if b then e ∷ [] else []) calm
+one_more (x ∷ xs) e calm none = by_test _ none (λ q. one_more xs e calm q)
+  where
+    by_test : (b : Bool) → (if b then x ∷ refusals_in xs else refusals_in xs) ≡ []
+        → (refusals_in xs ≡ [] → refusals_in (xs ++ e ∷ []) ≡ [])
+        → (if b then x ∷ refusals_in (xs ++ e ∷ []) else refusals_in (xs ++ e ∷ [])) ≡ []
+    by_test true q rest = cc
+    by_test false q rest = rest q
+
+tells : (events : List Event) (event : Option HostEvent) → refusals_in events ≡ []
+    → refusals_in (events_with events event) ≡ []
+tells events None none = none
+tells events (Some event) none = one_more events (Host event) refl none
+
+station_item : (w : World) (r : Reaction StationSide (List (Item AnswerPart))) → IsCalm w → IsCalm (station_did w r)
+station_item w (Refuses reason) calm = λ p q. cc
+station_item w (GoesOn station items) calm = calm
+
+host_item : (w : World) (r : Reaction HostSide HostOutput) → IsCalm w → IsCalm (host_did w r)
+host_item w (Refuses reason) calm = λ p q. cc
+host_item w (GoesOn host told) calm = λ p q. tells w.events told.event (calm p q)
+
+pressed : (w : World) (r : KeyReaction) → IsCalm w → IsCalm (station_pressed w r)
+pressed w (RefusesKey fault) calm = λ p q. one_more w.events (KeyRefused fault) refl (calm p q)
+pressed w (Silent station) calm = calm
+pressed w (Answers station kind aid) calm = calm
+pressed w (Signals opcode flags) calm = calm
+
+sent : (w : World) (r : SendReaction) → IsCalm w → IsCalm (host_sent w r)
+sent w (RefusesSend fault) calm = λ p q. one_more w.events (SendRefused fault) refl (calm p q)
+sent w (Sends host item) calm = calm
+
+move : (w : World) (m : Move) → IsCalm w → IsCalm (after_move w m)
+move w (Send opcode body) calm =
+    sent w _ calm
+move w Cancel calm = sent w _ calm
+move w (ToStation n) calm = bytes_down IsCalm (λ v c. c) station_item n w calm
+move w (ToHost n) calm = bytes_up IsCalm (λ v c. c) host_item n w calm
+move w (Press key) calm = pressed w _ calm
+
+all_moves : (ms : List Move) (w : World) → IsCalm w → IsCalm (after_moves w ms)
+all_moves [] w calm = calm
+all_moves (m ∷ ms) w calm = all_moves ms _ (move w m calm)
+
+-- no end ever refuses
+pub none_refused : (t : TerminalType) (ms : List Move) → refusals_in (after_moves (new_world t) ms).events ≡ []
+none_refused t ms = let s = sound t ms in all_moves ms (new_world t) (λ p q. refl) s.station_going s.host_going
