@@ -27,13 +27,14 @@ impl Screen {
         ensures open_ { OnOk result (IsSome self.new.writing) }
         ensures legal { IsLegal self.new }
     {
-        let mut open = open_write_in(self.writing);
+        let Some(open) = &mut self.writing else {
+            unreachable!()
+        };
         if open.address == CELLS {
             return Err(Reason::PastEnd);
         }
         self.cells[open.address as usize] = byte.value();
         open.address += 1;
-        self.writing = Some(open);
         Ok(())
     }
 
@@ -44,9 +45,10 @@ impl Screen {
         ensures open_ { IsSome self.new.writing }
         ensures legal { IsLegal self.new }
     {
-        let mut open = open_write_in(self.writing);
+        let Some(open) = &mut self.writing else {
+            unreachable!()
+        };
         open.address = place.place();
-        self.writing = Some(open);
     }
 
     // Insert Cursor: sets the home.

@@ -1,0 +1,57 @@
+//! What a station tells of itself.
+ghost use Rattle.std.specs.Prelude.{◌≡◌, List, ℕ, length};
+ghost use Rattle.ws_nego.specs.Station.{station_allows_records};
+ghost use Rattle.ws_record.specs.declared.record.Item.{Item};
+ghost use Rattle.ws_stream.specs.declared.element.Element.{Element};
+ghost use Rattle.ws_session.specs.StationLeads.{StationLeads, records_in};
+ghost use Rattle.ws_session.specs.Ends.{refused_byte};
+ghost use Rattle.ws_session.specs.StationSide.{StationSide};
+
+use crate::{Refusal, Station};
+use ws_code::Reason;
+use ws_screen::Screen;
+
+impl Station {
+    /// The screen.
+    pub fn screen(&self) -> &Screen
+        ensures { result.now ≡ self.now.screen }
+    {
+        &self.screen
+    }
+
+    /// Whether the negotiation has come so far that records may be sent both ways (RFC 1205, section 2).
+    pub fn is_ready(&self) -> bool
+        ensures { result ≡ station_allows_records self.now.options }
+    {
+        self.options.records_allowed()
+    }
+
+    /// How many records it has applied to its screen.
+    pub fn records(&self) -> u64
+        ensures count { result ≡ self.now.records }
+        ensures applied { (bytes : List ℕ) (items : List (Item Element)) (side : StationSide)
+            → StationLeads self.now bytes items side → result ≡ records_in items }
+    {
+        self.records
+    }
+
+    /// How many bytes it has taken, one that it refused among them.
+    pub fn taken(&self) -> u64
+        ensures count { result ≡ self.now.live.taken }
+        ensures led { (bytes : List ℕ) (items : List (Item Element)) (side : StationSide)
+            → StationLeads self.now bytes items side → result ≡ length bytes }
+    {
+        self.live.taken()
+    }
+
+    /// The byte that it has refused, counted from 0, and the reason. None while it takes bytes, and where it takes no
+    /// more for their number alone.
+    pub fn refused(&self) -> Option<(u64, Reason)>
+        ensures { result ≡ refused_byte self.now.ended }
+    {
+        match self.ended {
+            Some(Refusal::At { place, reason }) => Some((place, reason)),
+            _ => None,
+        }
+    }
+}
