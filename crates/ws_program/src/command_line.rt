@@ -138,6 +138,31 @@ Examples:
 
 // The commands that the program knows.
 fn program<'a>(alloc: Global) -> Result<Command<'a>, clap::Error> {
+    let program = Command::new(alloc, "t5250")
+        .version("0.1.0")
+        .about("Reads recorded IBM 5250 streams over Telnet (RFC 1205)")
+        .after_help(HEX_AND_STATUS)
+        .subcommand_required(true);
+    with_sessions(alloc, with_streams(alloc, program)?)
+}
+
+// The commands on streams.
+fn with_streams<'a>(alloc: Global, program: Command<'a>) -> Result<Command<'a>, clap::Error> {
+    let check = check_command(alloc)?;
+    let show = show_command(alloc)?;
+    let program = program.subcommand(check)?;
+    Ok(program.subcommand(show)?)
+}
+
+// The commands on both ends of a session, and on items as text.
+fn with_sessions<'a>(alloc: Global, program: Command<'a>) -> Result<Command<'a>, clap::Error> {
+    let program = program.subcommand(play_command(alloc)?)?;
+    let program = program.subcommand(make_command(alloc)?)?;
+    let program = program.subcommand(connect_command(alloc)?)?;
+    Ok(program.subcommand(serve_command(alloc)?)?)
+}
+
+fn check_command<'a>(alloc: Global) -> Result<Command<'a>, clap::Error> {
     let cut = Arg::new(alloc, "cut")
         .long("cut")
         .value_name("N")
@@ -150,32 +175,50 @@ fn program<'a>(alloc: Global) -> Result<Command<'a>, clap::Error> {
         .arg(answers_flag(alloc))?
         .arg(cut)?
         .arg(hex_file(alloc))?;
+    Ok(check)
+}
+
+fn show_command<'a>(alloc: Global) -> Result<Command<'a>, clap::Error> {
     let show = Command::new(alloc, "show")
         .about("Prints a stream's records and Telnet commands, and the screen that they make")
         .after_help(SHOW_EXAMPLES)
         .arg(answers_flag(alloc))?
         .arg(color_flag(alloc))?
         .arg(hex_file(alloc))?;
+    Ok(show)
+}
+
+fn play_command<'a>(alloc: Global) -> Result<Command<'a>, clap::Error> {
     let screen = Arg::new(alloc, "screen")
         .long("screen")
         .help("Prints the station's screen at the end")
         .action(ArgAction::SetTrue);
-    let tcp = Arg::new(alloc, "tcp")
-        .long("tcp")
-        .help(
-            "Carries the bytes over a TCP connection on 127.0.0.1; what is printed stays the same",
-        )
-        .action(ArgAction::SetTrue);
-    let script = Arg::new(alloc, "SCRIPT")
-        .help("A script; without it, standard input is read")
-        .action(ArgAction::Set);
     let play = Command::new(alloc, "play")
         .about("Plays a script of sends, keys and deliveries with both ends")
         .after_help(PLAY_EXAMPLES)
         .arg(screen)?
         .arg(color_flag(alloc))?
-        .arg(tcp)?
-        .arg(script)?;
+        .arg(tcp_flag(alloc))?
+        .arg(script_file(alloc))?;
+    Ok(play)
+}
+
+fn tcp_flag<'a>(alloc: Global) -> Arg<'a> {
+    Arg::new(alloc, "tcp")
+        .long("tcp")
+        .help(
+            "Carries the bytes over a TCP connection on 127.0.0.1; what is printed stays the same",
+        )
+        .action(ArgAction::SetTrue)
+}
+
+fn script_file<'a>(alloc: Global) -> Arg<'a> {
+    Arg::new(alloc, "SCRIPT")
+        .help("A script; without it, standard input is read")
+        .action(ArgAction::Set)
+}
+
+fn make_command<'a>(alloc: Global) -> Result<Command<'a>, clap::Error> {
     let items = Arg::new(alloc, "FILE")
         .help("Items as text; without it, standard input is read")
         .action(ArgAction::Set);
@@ -184,18 +227,7 @@ fn program<'a>(alloc: Global) -> Result<Command<'a>, clap::Error> {
         .after_help(MAKE_EXAMPLES)
         .arg(answers_flag(alloc))?
         .arg(items)?;
-    let program = Command::new(alloc, "t5250")
-        .version("0.1.0")
-        .about("Reads recorded IBM 5250 streams over Telnet (RFC 1205)")
-        .after_help(HEX_AND_STATUS)
-        .subcommand_required(true)
-        .subcommand(check)?
-        .subcommand(show)?
-        .subcommand(play)?
-        .subcommand(make)?
-        .subcommand(connect_command(alloc)?)?
-        .subcommand(serve_command(alloc)?)?;
-    Ok(program)
+    Ok(make)
 }
 
 fn answers_flag<'a>(alloc: Global) -> Arg<'a> {
