@@ -66,12 +66,24 @@ def many_ff(source):
     return [record(bytes.fromhex("04110008 110101") + bytes(source.choices(b"\xff\xff\xc1", k=1788))) for _ in range(20)]
 
 
+def form(_):
+    """A form as c/bench pushes it: Clear Unit, Write to Display, a text, a field, Read MDT Fields; 38 bytes."""
+    return [record(bytes.fromhex("0440 04110008 110101 26 C889 20 110634 1D400027000A 04520000"))]
+
+
+def rows_of_text(_):
+    """A screen of text as c/bench pushes it: 20 rows of 76 letters; 1,598 bytes."""
+    rows = b"".join(bytes([0x11, row, 1]) + b"\xc1" * 76 for row in range(1, 21))
+    return [record(bytes.fromhex("0440 04110008") + rows, opcode=2)]
+
+
 STREAMS = {
     "small records": small_records,
     "long data": long_data,
     "Telnet commands": telnet_commands,
     "many FF": many_ff,
 }
+FED = {"small records": small_records, "long data": long_data, "a form": form, "rows of text": rows_of_text}
 # A length below a header's: the second byte is refused, so that of what follows little more than the text is read.
 REFUSED = "0009\n"
 
@@ -402,8 +414,8 @@ def compare_fed(feeder, plain, folder, size, runs, counts):
     for title, programs, begin in (("Receiver::feed", [receiver, [plain]], ""),
                                    ("Station::feed", [station, receiver], OPENING)):
         print_columns(title, counts)
-        for name in "small records", "long data":
-            stream = Stream(folder, STREAMS[name](random.Random(1205)), size, begin)
+        for name, parts_of in FED.items():
+            stream = Stream(folder, parts_of(random.Random(1205)), size, begin)
             if begin:
                 with open(stream.small, "rb") as text:
                     expect_same(programs, [], text.read())
