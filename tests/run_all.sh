@@ -37,9 +37,9 @@ part() {
     echo "== $name took $((SECONDS - begun)) seconds"
 }
 
-# One job for each check, and as many checks as there are processors: a check that is shared out among copies of the
-# prover takes a quarter more processor time.
-[ "${1:-}" != --prove ] || part "rt ci" 168 env RT_JOBS="$(nproc)" rt ci
+# Two checks at a time, each by one process: one that is shared out among copies of the prover takes a quarter more
+# processor time, and more than two slow each other down.
+[ "${1:-}" != --prove ] || part "rt ci" 168 env RT_JOBS=2 rt ci
 # The C library comes first: a live session of the program is compared with one of C programs over it.
 if command -v cc >/dev/null && command -v make >/dev/null; then
     part "C library" 60 tests/build_c_library.sh
