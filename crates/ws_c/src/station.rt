@@ -76,6 +76,10 @@ pub(crate) fn put_behind(buffer: &mut [u8], at: usize, bytes: &[u8])
         → buffer.old ≡ holds_front front before
         → buffer.new ≡ holds_front (front ++ bytes.now) before }
 {
+    // Most records bring no reply.
+    if bytes.is_empty() {
+        return;
+    }
     buffer[at..at + bytes.len()].copy_from_slice(bytes);
 }
 
