@@ -74,12 +74,12 @@
  *  - malloc, realloc and free come from one allocator, and align as C asks. No call is made in a signal handler, or in
  *    a forked child of a process with threads.
  *
- * Memory. ribbon_station_new, ribbon_host_new and ribbon_decoder_new ask for 69,256 bytes each; a station and a decoder
+ * Memory. ribbon_station_new, ribbon_host_new and ribbon_decoder_new ask for 72,736 bytes each; a station and a decoder
  * ask for no more. A host does in ribbon_host_push for what an answer holds, and in ribbon_host_send for the elements
  * that it reads and the record that it keeps.
  *
- * Stack, in bytes, as measured on x86-64 (`make bench`): ribbon_station_new 11,900, _push 16,600, _key 29,600, _cells
- * 18,600, _changed 24,000, _state and _field 3,200; ribbon_host_new 12,500, _push 6,500, _send 141,100;
+ * Stack, in bytes, as measured on x86-64 (`make bench`): ribbon_station_new 20,300, _push 1,600, _key 29,600, _cells
+ * and _field 3,200, _changed 8,400, _state 6,300; ribbon_host_new 12,500, _push 8,000, _send 15,500;
  * ribbon_decoder_new 3,800; all others less than 1,500. */
 #ifndef RIBBONSCARP_H
 #define RIBBONSCARP_H
