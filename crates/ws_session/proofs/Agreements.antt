@@ -23,11 +23,9 @@ module _ (t : TerminalType) where
   quiet_agrees w s q =
       let x = s.between.exchanges in
       let ts : s.ts ≡ [] = no_tokens s.ts (front_empty _ _
-      (quiet _ _ _
-      (subst (λ n. InFlight element_rules w.down n (tokens s.ts ++ posted s.ds)) q.to_station s.down))) in
+      (quiet _ _ _ (subst (λ n. InFlight element_rules w.down n (tokens s.ts ++ posted s.ds)) q.to_station s.down))) in
       let us : s.us ≡ [] = no_tokens s.us (front_empty _ _
-      (quiet _ w.up _
-      (subst (λ n. InFlight answer_rules w.up n (tokens s.us ++ sents s.es)) q.to_host s.up))) in
+      (quiet _ w.up _ (subst (λ n. InFlight answer_rules w.up n (tokens s.us ++ sents s.es)) q.to_host s.up))) in
       let P : Exchange → Type 0 = λ e. NothingInFlight e → TablesAgree e.station e.host in
       subst (λ z. TablesAgree z w.host.options) x.station (subst (λ z. TablesAgree s.ex.station z) x.host
       (subst P x.is (agrees t x.moves) (record { to_station = x.to_station ∙ ts; to_host = x.to_host ∙ us })))
@@ -54,10 +52,9 @@ module _ {Place U : Type 0} (rules : Rules Place U) where
 
   behind : (gone rest : List (Item U)) (part n : ℕ) → total rules gone + part ≡ n → IsInside rules rest part
       → items_coming rules (gone ++ rest) n ≡ rest
-  behind [] rest part n e i = ap (items_coming rules rest) (sym (same e)) ∙ from_here rest part i
-    where
-      same : total rules [] + part ≡ n → part ≡ n
-      same q = omega arith
+  behind [] rest part n e i = ap (items_coming rules rest) (sym (same e)) ∙ from_here rest part i where
+    same : total rules [] + part ≡ n → part ≡ n
+    same q = omega arith
   behind (g ∷ gone) rest part n e i =
       let all = total_cons rules g gone in
       let a : nat_lt n (size rules g) ≡ false = grind (arith, nat_tests) in
@@ -67,8 +64,7 @@ module _ {Place U : Type 0} (rules : Rules Place U) where
 
   coming_is : (items : List (Item U)) (n : ℕ) (rest : List (Item U)) → InFlight rules items n rest
       → items_coming rules items n ≡ rest
-  coming_is items n rest f = ap (λ z. items_coming rules z n) (sym f.split)
-      ∙ behind _ rest f.part n f.count f.inside
+  coming_is items n rest f = ap (λ z. items_coming rules z n) (sym f.split) ∙ behind _ rest f.part n f.count f.inside
 
 no_answers : (us : List Telnet) (items : List (Item AnswerPart)) → filter is_answer (tokens us ++ items)
     ≡ filter is_answer items
@@ -85,7 +81,5 @@ as_many places asked (Ends ∷ es) later w = as_many _ asked es later w
 as_many places asked (Signal flags ∷ es) later w = as_many _ asked es later w
 
 pub rest_on_its_way : (t : TerminalType) (w : World) (s : Sound t w) → length s.later ≡ length (answers_coming w)
-rest_on_its_way t w s =
-    as_many _ _ s.es s.later s.between.waits ∙ ap length (sym (no_answers s.us (sents s.es)))
-    ∙ ap (λ z. length (filter is_answer z))
-    (sym (coming_is answer_rules w.up w.at_host (tokens s.us ++ sents s.es) s.up))
+rest_on_its_way t w s = as_many _ _ s.es s.later s.between.waits ∙ ap length (sym (no_answers s.us (sents s.es))) ∙ ap
+    (λ z. length (filter is_answer z)) (sym (coming_is answer_rules w.up w.at_host (tokens s.us ++ sents s.es) s.up))

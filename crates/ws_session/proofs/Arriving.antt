@@ -10,10 +10,9 @@ use Rattle.ws_session.specs.Wires.{HasCome}
 module _ {E Deed Told : Type 0} (goes : E → List (Act Deed) → List ℕ → List Told → E → Type 0) (refuses : E → ℕ
     → Refusal → E → Type 0) (over : E → Type 0) (tells : Told → List Event) (refusal : ℕ → Reason → Event) where
   -- a byte at which the end goes on
-  pub goes_come : (old new : E) (byte : ℕ) (reply : List ℕ) (told : List Told) (to to' : WireParts)
-      (events events' : List Event)
-      → goes old (Came byte ∷ []) reply told new → (over old → ⊥) → to' ≡ record to { bytes = to.bytes ++ reply }
-      → events' ≡ events ++ flat_map tells told
+  pub goes_come : (old new : E) (byte : ℕ) (reply : List ℕ)
+      (told : List Told) (to to' : WireParts) (events events' : List Event) → goes old (Came byte ∷ []) reply told new
+      → (over old → ⊥) → to' ≡ record to { bytes = to.bytes ++ reply } → events' ≡ events ++ flat_map tells told
       → HasCome goes refuses over tells refusal old byte new to to' events events'
   goes_come old new byte reply told to to' events events' led works t e = record {
     written = reply;
@@ -142,14 +141,12 @@ module _ {E Deed Told : Type 0} (goes : E → List (Act Deed) → List ℕ → L
         → AreDelivered goes refuses over tells refusal a b from f to t told e m
     all_come k m all is = elim (cases_lt m k) [
       | inl h ↦ rw (← (let q : n ≡ m = omega (arith, is, h) in q)) d
-      | inr h ↦ all_delivered m (omega (arith, is, h))
-          (omega (arith, h, is, all, came))
+      | inr h ↦ all_delivered m (omega (arith, is, h)) (omega (arith, h, is, all, came))
     ]
 
     pub one_delivered : f.at < length f.bytes → (x : ℕ) → x ≡ get_or f.bytes f.at x → (f' : WireParts)
-        → f' ≡ record f { at = f.at + 1 } → (c : E) (t' : WireParts) (e' : List Event)
-        → HasCome goes refuses over tells refusal b x c t t' e e'
-        → AreDelivered goes refuses over tells refusal a c from f' to t' told e' (n + 1)
+        → f' ≡ record f { at = f.at + 1 } → (c : E) (t' : WireParts) (e' : List Event) → HasCome goes refuses over
+        tells refusal b x c t t' e e' → AreDelivered goes refuses over tells refusal a c from f' to t' told e' (n + 1)
     one_delivered more x is f' on c t' e' h =
         let rest : List ℕ = drop from.at from.bytes in
         let count : length d.bytes ≡ n = omega (arith, more, came) in

@@ -28,12 +28,11 @@ pub pending-keyed : (o : Option Edit) (h : History) (b : Bool) → is_answered o
     ≡ (if b then None else pending_read h)
 pending-keyed None h b e = ap (λ (t : Bool). if t then None else pending_read h) e
 pending-keyed (Some edit) h b e = ap (λ (t : Bool). unwrap_or (if t then Some None else None) (pending_read h)) e
-    ∙ by_test b
-  where
-    by_test : (t : Bool) → unwrap_or (if t then Some None else None) (pending_read h)
-        ≡ (if t then None else pending_read h)
-    by_test true = refl
-    by_test false = refl
+    ∙ by_test b where
+      by_test : (t : Bool) → unwrap_or (if t then Some None else None) (pending_read h)
+          ≡ (if t then None else pending_read h)
+      by_test true = refl
+      by_test false = refl
 
 module _ {t : TerminalType} {ex : Exchange} {s : StationSide} {h : HostSide} {ts us : List Telnet} {ds : List Posted}
     {es : List Sent} {later : List HostAnswer} (b : Between t ex s h ts us ds es later) where
@@ -66,15 +65,13 @@ module _ {t : TerminalType} {ex : Exchange} {s : StationSide} {h : HostSide} {ts
         (sym (marks_up_more es _ ∙ append-nil (marks_up es))) b.turn;
     waits = more es later b.waits;
     closed = b.closed;
-  }
-    where
-      more : (es : List Sent) (later : List HostAnswer) → Waits (layouts (fields h.kept))
-          (pending_read h.kept) es later → Waits (layouts (fields h.kept)) (pending_read h.kept)
-          (es ++ Signal flags ∷ []) later
-      more [] later w = w
-      more (Replies parts ∷ es) later w = (w.0, w.1, w.2, w.3, w.4, w.5, w.6, w.7, more es w.3 w.8)
-      more (Ends ∷ es) later w = more es later w
-      more (Signal other ∷ es) later w = more es later w
+  } where
+    more : (es : List Sent) (later : List HostAnswer) → Waits (layouts (fields h.kept)) (pending_read h.kept) es later
+        → Waits (layouts (fields h.kept)) (pending_read h.kept) (es ++ Signal flags ∷ []) later
+    more [] later w = w
+    more (Replies parts ∷ es) later w = (w.0, w.1, w.2, w.3, w.4, w.5, w.6, w.7, more es w.3 w.8)
+    more (Ends ∷ es) later w = more es later w
+    more (Signal other ∷ es) later w = more es later w
 
   -- records on their way while a read is pending leave the fields as they are
   layout_held : (k : History) (ds : List Posted) → (marks_down ds ≡ []) ⊎ (marks_down ds ≡ StopMark ∷ [])
@@ -83,28 +80,25 @@ module _ {t : TerminalType} {ex : Exchange} {s : StationSide} {h : HostSide} {ts
   layout_held k (Body o other [] ok ∷ ds) n = layout_held (after_record k (sent_record o [])) ds n
       ∙ layout_alike (opcode_events o ++ after_end k) (after_end k) (opcode_alike o (after_end k)) ∙ end_events k
   layout_held k (Body o other (e ∷ body) ok ∷ ds) n =
-      elim n [ inl q ↦ cc | inr q ↦ mark_stop (read_left_by None (e ∷ body)) q ]
-    where
-      mark_stop : {A : Type 0} (left : Option ReadKind) → mark_left left ∷ marks_down ds ≡ StopMark ∷ [] → A
-      mark_stop None e = cc
-      mark_stop (Some kind) e = cc
-  layout_held k (Stop ∷ ds) n = layout_held (after_record k (record_of Stop)) ds
-      (inl (elim n [ inl e ↦ cc | inr e ↦ cc ])) ∙ layout_alike (cancelled ∷ after_end k) (after_end k) refl
-      ∙ end_events k
+      elim n [ inl q ↦ cc | inr q ↦ mark_stop (read_left_by None (e ∷ body)) q ] where
+        mark_stop : {A : Type 0} (left : Option ReadKind) → mark_left left ∷ marks_down ds ≡ StopMark ∷ [] → A
+        mark_stop None e = cc
+        mark_stop (Some kind) e = cc
+  layout_held k (Stop ∷ ds) n = layout_held (after_record k (record_of Stop)) ds (inl
+      (elim n [ inl e ↦ cc | inr e ↦ cc ])) ∙ layout_alike (cancelled ∷ after_end k) (after_end k) refl ∙ end_events k
 
   -- a key that answers the read
-  pub key_answer : (kind : ReadKind) (aid : ℕ) → station_allows_records s.options ≡ true → pending_read s.happened
-      ≡ Some kind
-      → Between t ex (after_key s (Send aid)) h ts us ds (es ++ Replies (answer_parts kind (screen_at s) aid) ∷ [])
-      (later ++ answer_of kind (screen_at s) aid ∷ [])
+  pub key_answer : (kind : ReadKind) (aid : ℕ) → station_allows_records s.options ≡ true
+      → pending_read s.happened ≡ Some kind → Between t ex (after_key s (Send aid)) h ts us ds
+      (es ++ Replies (answer_parts kind (screen_at s) aid) ∷ []) (later ++ answer_of kind (screen_at s) aid ∷ [])
   key_answer kind aid allows is =
       let o : Option Edit = edit_of (screen_at s) (Send aid) in
       let found = at_turn b.turn (answer kind) is in
-      let dropped : pending_read (events_by o ++ s.happened) ≡ None = pending-keyed o s.happened true
-      (aids_answer (screen_at s) (Send aid)) in
+      let dropped : pending_read
+      (events_by o ++ s.happened) ≡ None = pending-keyed o s.happened true (aids_answer (screen_at s) (Send aid)) in
       let reply : Sent = Replies (answer_parts kind (screen_at s) aid) in
-      let places : layouts (fields s.happened) ≡ layouts (fields h.kept) = sym
-      (layout_alike h.kept (after_posted s.happened ds) b.alike ∙ layout_held s.happened ds found.2) in
+      let places : layouts (fields s.happened) ≡ layouts (fields h.kept) =
+      sym (layout_alike h.kept (after_posted s.happened ds) b.alike ∙ layout_held s.happened ds found.2) in
       record {
         exchanges = b.exchanges;
         host_ready = b.host_ready;
@@ -116,28 +110,25 @@ module _ {t : TerminalType} {ex : Exchange} {s : StationSide} {h : HostSide} {ts
         turn = rw (marks_up_more es reply) (rw dropped found.0);
         waits = more es later found.3 b.waits places found.1;
         closed = b.closed;
-      }
-    where
-      more : (es : List Sent) (later : List HostAnswer) → marks_up es ≡ [] → Waits (layouts (fields h.kept))
-          (pending_read h.kept) es later → layouts (fields s.happened) ≡ layouts (fields h.kept) → pending_read h.kept
-          ≡ Some kind
-          → Waits (layouts (fields h.kept)) (pending_read h.kept)
-          (es ++ Replies (answer_parts kind (screen_at s) aid) ∷ []) (later ++ answer_of kind (screen_at s) aid ∷
-          [])
-      more [] later n w places asked = (
-        kind,
-        fields s.happened,
-        answer_of kind (screen_at s) aid,
-        [],
-        asked,
-        places,
-        own_reading kind (screen_at s) aid (length-map-range_with_len (λ c. cell c s.happened) 0 1920) b.within,
-        ap (λ l. l ++ answer_of kind (screen_at s) aid ∷ []) w,
-        refl,
-      )
-      more (Replies parts ∷ es) later n w places asked = cc
-      more (Ends ∷ es) later n w places asked = cc
-      more (Signal flags ∷ es) later n w places asked = more es later n w places asked
+      } where
+        more : (es : List Sent) (later : List HostAnswer) → marks_up es ≡ []
+            → Waits (layouts (fields h.kept)) (pending_read h.kept) es later → layouts (fields s.happened) ≡ layouts
+            (fields h.kept) → pending_read h.kept ≡ Some kind → Waits (layouts (fields h.kept)) (pending_read h.kept)
+            (es ++ Replies (answer_parts kind (screen_at s) aid) ∷ []) (later ++ answer_of kind (screen_at s) aid ∷ [])
+        more [] later n w places asked = (
+          kind,
+          fields s.happened,
+          answer_of kind (screen_at s) aid,
+          [],
+          asked,
+          places,
+          own_reading kind (screen_at s) aid (length-map-range_with_len (λ c. cell c s.happened) 0 1920) b.within,
+          ap (λ l. l ++ answer_of kind (screen_at s) aid ∷ []) w,
+          refl,
+        )
+        more (Replies parts ∷ es) later n w places asked = cc
+        more (Ends ∷ es) later n w places asked = cc
+        more (Signal flags ∷ es) later n w places asked = more es later n w places asked
 
   -- SENDS
 
@@ -157,9 +148,8 @@ module _ {t : TerminalType} {ex : Exchange} {s : StationSide} {h : HostSide} {ts
   idle (Some kind) c e = cc
 
   turn_after : (o : Opcode) (other : is_stop o ≡ false) (body : List Element) (ok : is_body body ≡ true)
-      → is_outstanding h body ≡ false
-      → TurnAt (read_left_by (pending_read h.kept) body) h.cancelling (pending_read s.happened)
-      (marks_down ds ++ marks_of (Body o other body ok)) (marks_up es)
+      → is_outstanding h body ≡ false → TurnAt (read_left_by (pending_read h.kept) body) h.cancelling
+      (pending_read s.happened) (marks_down ds ++ marks_of (Body o other body ok)) (marks_up es)
   turn_after o other [] ok out = subst (λ (z : List DownMark). TurnAt (pending_read h.kept) h.cancelling
       (pending_read s.happened) z (marks_up es)) (sym (append-nil (marks_down ds))) b.turn
   turn_after o other (e ∷ body) ok out =
@@ -168,26 +158,18 @@ module _ {t : TerminalType} {ex : Exchange} {s : StationSide} {h : HostSide} {ts
       (marks_down ds ++ mark_left (read_left_by None (e ∷ body)) ∷ []) (marks_up es)) (sym i.0)
       (turn_sent _ _ i.0 i.1 b.turn)
 
-  waits_after : (body : List Element) → is_outstanding h body ≡ false
-      → Waits (layouts (fields (after_end (after_elements h.kept body)))) (read_left_by (pending_read h.kept) body) es
-      later
+  waits_after : (body : List Element) → is_outstanding h body ≡ false → Waits
+      (layouts (fields (after_end (after_elements h.kept body)))) (read_left_by (pending_read h.kept) body) es later
   waits_after [] out = rw (end_events _) b.waits
   waits_after (e ∷ body) out =
       let i = idle (pending_read h.kept) h.cancelling out in
-      waits_any (layouts (fields h.kept)) _
-      (pending_read h.kept) _ es later
-      (at_turn b.turn no_reply i.0)
-      b.waits
+      waits_any (layouts (fields h.kept)) _ (pending_read h.kept) _ es later (at_turn b.turn no_reply i.0) b.waits
 
   -- a body
   pub sends_body : (o : Opcode) (other : is_stop o ≡ false) (body : List Element) (ok : is_body body ≡ true)
-      → host_allows_records h.options ≡ true → is_outstanding h body ≡ false → body_fault h.kept body ≡ None
-      → Between t ex s (record {
-        options = h.options;
-        kept = after_end (after_elements h.kept body);
-        cancelling =
-            h.cancelling;
-      }) ts us (ds ++ Body o other body ok ∷ []) es later
+      → host_allows_records h.options ≡ true → is_outstanding h body ≡ false → body_fault h.kept body ≡ None → Between
+      t ex s (record { options = h.options; kept = after_end (after_elements h.kept body); cancelling = h.cancelling })
+      ts us (ds ++ Body o other body ok ∷ []) es later
   sends_body o other body ok ready out none =
       let all : History = after_posted s.happened ds in
       let kept : History = after_end (after_elements h.kept body) in
@@ -208,10 +190,9 @@ module _ {t : TerminalType} {ex : Exchange} {s : StationSide} {h : HostSide} {ts
       }
 
   -- a cancel
-  pub sends_cancel : (kind : ReadKind) → host_allows_records h.options ≡ true → pending_read h.kept ≡ Some kind
-      → h.cancelling ≡ false
-      → Between t ex s (record { options = h.options; kept = h.kept; cancelling = true }) ts us
-      (ds ++ Stop ∷ []) es later
+  pub sends_cancel : (kind : ReadKind)
+      → host_allows_records h.options ≡ true → pending_read h.kept ≡ Some kind → h.cancelling ≡ false → Between t ex s
+      (record { options = h.options; kept = h.kept; cancelling = true }) ts us (ds ++ Stop ∷ []) es later
   sends_cancel kind ready is going =
       let all : History = after_posted s.happened ds in
       let shut : open_write all ≡ None = sym (open_write_alike h.kept all b.alike) ∙ b.closed in

@@ -19,17 +19,12 @@ use Rattle.ws_session.proofs.Betweens.{within_record}
 module _ {t : TerminalType} {ex : Exchange} {s : StationSide} {h : HostSide} {token : Telnet} {ts us : List Telnet}
     {ds : List Posted} {es : List Sent} {later : List HostAnswer} (b : Between t ex s h
     (token ∷ ts) us ds es later) where
-  pub station_token : (es ≡ []) × ((after_move ToStation ex).count ≡ ex.count + length
-      (station_answer s.options token).reply)
-      × Between t (after_move ToStation ex) (record {
-        options = (station_answer s.options token).after;
-        happened = s.happened;
-      }) h ts (us ++ (station_answer s.options token).reply) ds es later
+  pub station_token : (es ≡ [])
+      × ((after_move ToStation ex).count ≡ ex.count + length (station_answer s.options token).reply) × Between t
+      (after_move ToStation ex) (record { options = (station_answer s.options token).after; happened = s.happened })
+      h ts (us ++ (station_answer s.options token).reply) ds es later
   station_token =
-      let none : es ≡ [] = elim b.station_ready [
-        | inl e ↦ e
-        | inr a ↦ (let e = x_station b.exchanges a in cc)
-      ] in (
+      let none : es ≡ [] = elim b.station_ready [ inl e ↦ e | inr a ↦ (let e = x_station b.exchanges a in cc) ] in (
         none,
         x_down_count b.exchanges,
         record {
@@ -78,11 +73,10 @@ answers_to (Body opcode other body ok) = []
 answers_to Stop = Ends ∷ []
 
 pub answer_items : (d : Posted) → opcode_answer (record_of d).opcode ≡ sents (answers_to d)
-answer_items (Body o other body ok) = none o other
-  where
-    none : (o : Opcode) → is_stop o ≡ false → opcode_answer o ≡ []
-    none CancelInvite e = cc
-    none o e = refl
+answer_items (Body o other body ok) = none o other where
+  none : (o : Opcode) → is_stop o ≡ false → opcode_answer o ≡ []
+  none CancelInvite e = cc
+  none o e = refl
 answer_items Stop = refl
 
 pending-opcode : (o : Opcode) → is_stop o ≡ false → (h : History) → pending_read (opcode_events o ++ h) ≡ pending_read h
@@ -103,32 +97,28 @@ module _ (a : Option ReadKind) (c : Bool) (p : Option ReadKind) (later : List Do
 turn_record : (a : Option ReadKind) (c : Bool) (h : History) (d : Posted) (ds : List Posted) (es : List Sent)
     → TurnAt a c (pending_read h) (marks_down (d ∷ ds)) (marks_up es)
     → TurnAt a c (pending_read (after_record h (record_of d))) (marks_down ds) (marks_up (es ++ answers_to d))
-turn_record a c h (Body o other [] ok) ds es t =
-    rw (append-nil es) (rw (pending-body h o other []) t)
+turn_record a c h (Body o other [] ok) ds es t = rw (append-nil es) (rw (pending-body h o other []) t)
 turn_record a c h (Body o other (e ∷ body) ok) ds es t =
     let found = turn_body a c (pending_read h) (marks_down ds) (marks_up es) (read_left_by None (e ∷ body)) t in
     let is : pending_read (after_record h (sent_record o (e ∷ body))) ≡ read_left_by None
     (e ∷ body) = pending-body h o other (e ∷ body) ∙ ap (λ q. read_left_by q (e ∷ body)) found.1 in
     rw (append-nil es) (rw is found.0)
-turn_record a c h Stop ds es t =
-    rw (marks_up_more es Ends) (at_turn t (down_stop (marks_down ds)) refl)
+turn_record a c h Stop ds es t = rw (marks_up_more es Ends) (at_turn t (down_stop (marks_down ds)) refl)
 
 waits_more : (places : List Field) (asked : Option ReadKind) (es : List Sent) (later : List HostAnswer) (d : Posted)
     → Waits places asked es later → Waits places asked (es ++ answers_to d) later
 waits_more places asked es later (Body o other body ok) w = rw (append-nil es) w
-waits_more places asked es later Stop w = more es later w
-  where
-    more : (es : List Sent) (later : List HostAnswer) → Waits places asked es later → Waits places asked
-        (es ++ Ends ∷ []) later
-    more [] later w = w
-    more (Replies parts ∷ es) later w = (w.0, w.1, w.2, w.3, w.4, w.5, w.6, w.7, more es w.3 w.8)
-    more (Ends ∷ es) later w = more es later w
-    more (Signal flags ∷ es) later w = more es later w
+waits_more places asked es later Stop w = more es later w where
+  more : (es : List Sent) (later : List HostAnswer) → Waits places asked es later → Waits places asked
+      (es ++ Ends ∷ []) later
+  more [] later w = w
+  more (Replies parts ∷ es) later w = (w.0, w.1, w.2, w.3, w.4, w.5, w.6, w.7, more es w.3 w.8)
+  more (Ends ∷ es) later w = more es later w
+  more (Signal flags ∷ es) later w = more es later w
 
 -- a record comes to the station, which doesn't refuse it
-module _ {t : TerminalType} {ex : Exchange} {s : StationSide} {h : HostSide} {us : List Telnet} {d : Posted} {ds :
-    List Posted}
-    {es : List Sent} {later : List HostAnswer} (b : Between t ex s h [] us (d ∷ ds) es later) where
+module _ {t : TerminalType} {ex : Exchange} {s : StationSide} {h : HostSide} {us : List Telnet} {d : Posted}
+    {ds : List Posted} {es : List Sent} {later : List HostAnswer} (b : Between t ex s h [] us (d ∷ ds) es later) where
   pub station_record : (station_allows_records s.options ≡ true) × (body_fault s.happened (record_of d).body ≡ None)
       × Between t ex (record { options = s.options; happened = after_record s.happened (record_of d) }) h [] us ds
       (es ++ answers_to d) later
@@ -153,9 +143,8 @@ module _ {t : TerminalType} {ex : Exchange} {s : StationSide} {h : HostSide} {us
 
 -- RECORDS COME TO THE HOST END
 
-module _ {t : TerminalType} {ex : Exchange} {s : StationSide} {h : HostSide} {ts : List Telnet} {ds : List Posted} {e
-    : Sent}
-    {es : List Sent} {later : List HostAnswer} (b : Between t ex s h ts [] ds (e ∷ es) later) where
+module _ {t : TerminalType} {ex : Exchange} {s : StationSide} {h : HostSide} {ts : List Telnet} {ds : List Posted}
+    {e : Sent} {es : List Sent} {later : List HostAnswer} (b : Between t ex s h ts [] ds (e ∷ es) later) where
   host_ready_for : host_allows_records h.options ≡ true
   host_ready_for =
       let allows : station_allows_records s.options ≡ true = elim b.station_ready [ inl e ↦ cc | inr f ↦ f ] in
@@ -166,17 +155,15 @@ pub waits_any : (p q : List Field) (a o : Option ReadKind) (es : List Sent) (lat
     → (marks_up es ≡ []) ⊎ (marks_up es ≡ Done ∷ []) → Waits p a es later → Waits q o es later
 waits_any p q a o [] later n w = w
 waits_any p q a o (Replies parts ∷ es) later n w = elim n [ inl e ↦ cc | inr e ↦ cc ]
-waits_any p q a o (Ends ∷ es) later n w =
-    waits_any p q a o es later (inl (elim n [ inl e ↦ cc | inr e ↦ cc ])) w
+waits_any p q a o (Ends ∷ es) later n w = waits_any p q a o es later (inl (elim n [ inl e ↦ cc | inr e ↦ cc ])) w
 waits_any p q a o (Signal flags ∷ es) later n w = waits_any p q a o es later n w
 
 module _ {t : TerminalType} {ex : Exchange} {s : StationSide} {h : HostSide} {ts : List Telnet} {ds : List Posted}
     {es : List Sent} {later : List HostAnswer} where
-  pub host_reply : {parts : List AnswerPart} → Between t ex s h ts [] ds
-      (Replies parts ∷ es) later
+  pub host_reply : {parts : List AnswerPart} → Between t ex s h ts [] ds (Replies parts ∷ es) later
       → (kind : ReadKind) × (x : HostAnswer) × (rest : List HostAnswer) × (host_allows_records h.options ≡ true)
-      × (pending_read h.kept ≡ Some kind) × (read_answer kind (fields h.kept) parts ≡ Some x) × (later ≡ x ∷ rest)
-      × Between t ex s (after_read h h.cancelling) ts [] ds es rest
+      × (pending_read h.kept ≡ Some kind) × (read_answer kind (fields h.kept) parts ≡ Some x)
+      × (later ≡ x ∷ rest) × Between t ex s (after_read h h.cancelling) ts [] ds es rest
   host_reply {parts} b =
       let ready = host_ready_for b in
       let w = b.waits in
@@ -203,9 +190,8 @@ module _ {t : TerminalType} {ex : Exchange} {s : StationSide} {h : HostSide} {ts
         },
       )
 
-  pub host_end : Between t ex s h ts [] ds (Ends ∷ es) later
-      → (host_allows_records h.options ≡ true) × (h.cancelling ≡ true) × Between t ex s (after_read h false) ts
-      [] ds es later
+  pub host_end : Between t ex s h ts [] ds (Ends ∷ es) later → (host_allows_records h.options ≡ true)
+      × (h.cancelling ≡ true) × Between t ex s (after_read h false) ts [] ds es later
   host_end b =
       let ready = host_ready_for b in
       let found = at_turn b.turn (up_done (marks_up es)) refl in (

@@ -37,15 +37,11 @@ module _ {t : TerminalType} {w : World} {old : WorldParts} (r : Runs t old w) wh
     front = take w.at_station (down_bytes w) ++ byte ∷ []
 
     abbrev After : StationParts → List ℕ → Type 0
-    After station reply = Runs t (record old {
-      at_station = old.at_station + 1;
-      station = station;
-      up = old.up ++ reply;
-    }) (byte_to_station w)
+    After station reply = Runs t
+        (record old { at_station = old.at_station + 1; station = station; up = old.up ++ reply }) (byte_to_station w)
 
     came : ByteMore element_rules w.down w.at_station byte
-    came = byte_more _ element_bytes element_prefix_free element_begins _ r.writable_down _
-        more byte is
+    came = byte_more _ element_bytes element_prefix_free element_begins _ r.writable_down _ more byte is
 
     steps : (o : Option (Item Element)) → ends ≡ o → byte_to_station w ≡ station_gets byte_on false o
     steps o e =
@@ -60,9 +56,8 @@ module _ {t : TerminalType} {w : World} {old : WorldParts} (r : Runs t old w) wh
         ≡ record w { at_station = w.at_station + 1; station = side; up = w.up ++ writes } → After station reply
     goes side writes station reply items spelled fit leads does =
         let q = came.goes_on items (station_holds leads) in
-        station_writes r (ToStation 1) side writes (w.at_station + 1) w.answered station reply
-        (old.at_station + 1) does spelled fit (ap (λ n. n + 1) r.at_station)
-        (subst₂ (λ x its. StationLeads station x its side) q.0 q.1 leads)
+        station_writes r (ToStation 1) side writes (w.at_station + 1) w.answered station reply (old.at_station + 1) does
+        spelled fit (ap (λ n. n + 1) r.at_station) (subst₂ (λ x its. StationLeads station x its side) q.0 q.1 leads)
 
     -- an item that is whole, by the reaction to it
     taken : (station : StationParts) (reply : List ℕ) (item : Item Element)
@@ -76,16 +71,13 @@ module _ {t : TerminalType} {w : World} {old : WorldParts} (r : Runs t old w) wh
         (answers_writable w.station item next writes o.1 does) leads (steps (Some item) o.0
         ∙ ap (station_did byte_on) does)
 
-    pub station_on : (station : StationParts) (reply : List ℕ) (told : List Applied) → StationGoes old.station
-        (Came byte ∷ []) reply told station → length (take w.at_station (down_bytes w)) + 1 + 1 < 2 ^ 64
-        → After station reply
-    station_on station reply told p few =
-        elim (gone_one element_rules answer_rules station_manner (StationLeads station) (take w.at_station
-        (down_bytes w))
+    pub station_on : (station : StationParts) (reply : List ℕ) (told : List Applied) → StationGoes old.station (Came
+        byte ∷ []) reply told station → length (take w.at_station (down_bytes w)) + 1 + 1 < 2 ^ 64 → After station reply
+    station_on station reply told p few = elim
+        (gone_one element_rules answer_rules station_manner (StationLeads station) (take w.at_station (down_bytes w))
         done w.station byte reply told (p (take w.at_station (down_bytes w)) done w.station r.station few)) [
-          | inl n ↦ goes w.station [] station reply done n.0 (tt, tt) n.2
-              (steps None (came.none_ends (station_holds n.2))
-              ∙ ap (λ z. record w { at_station = w.at_station + 1; up = z }) (sym (append-nil w.up)))
+          | inl n ↦ goes w.station [] station reply done n.0 (tt, tt) n.2 (steps None (came.none_ends (station_holds
+              n.2)) ∙ ap (λ z. record w { at_station = w.at_station + 1; up = z }) (sym (append-nil w.up)))
           | inr k ↦ taken station reply k.0 (station_takes w.station k.0) refl k.1 k.2 k.4
         ]
 
@@ -94,11 +86,9 @@ module _ {t : TerminalType} {w : World} {old : WorldParts} (r : Runs t old w) wh
         (take w.at_station (down_bytes w)) done w.station byte (Err refusal) → ⊥
     station_never from station (At at reason) p = elim p.2 [
       | inl refused ↦ came.none_refused at reason refused
-      | inr item ↦
-          (let o = came.one_ends item.item (item.so_far, item.begun, item.holds) in
-          let e : true ≡ false = ap (λ (z : World). z.station_refused)
-          (sym (steps (Some item.item) o.0 ∙ ap (station_did byte_on) item.refuses))
-          ∙ (byte_down t w (is_sound r)).station_going in cc)
+      | inr item ↦ (let o = came.one_ends item.item (item.so_far, item.begun, item.holds) in
+          let e : true ≡ false = ap (λ (z : World). z.station_refused) (sym (steps (Some item.item) o.0
+          ∙ ap (station_did byte_on) item.refuses)) ∙ (byte_down t w (is_sound r)).station_going in cc)
     ]
     station_never from station Failed p = p
     station_never from station Memory p = p
@@ -112,14 +102,8 @@ module _ {t : TerminalType} {w : World} {old : WorldParts} (r : Runs t old w) (m
   is_in = is ∙ ap (λ z. get_or z old.at_station byte) r.down ∙ ap (λ n. get_or (down_bytes w) n byte) r.at_station
 
   few_in : length (take w.at_station (down_bytes w)) + 1 + 1 < 2 ^ 64
-  few_in = omega (
-    arith,
-    more_in,
-    few,
-    ap length r.down,
-    length-take-le w.at_station (down_bytes w)
-        (omega (arith, more_in)),
-  )
+  few_in =
+      omega (arith, more_in, few, ap length r.down, length-take-le w.at_station (down_bytes w) (omega (arith, more_in)))
 
   none_told : (told : List Applied) → flat_map (λ (a : Applied). let z : List Event = [] in z) told ≡ []
   none_told [] = refl
@@ -127,9 +111,8 @@ module _ {t : TerminalType} {w : World} {old : WorldParts} (r : Runs t old w) (m
 
   -- a byte that comes, as what it writes and tells
   pub station_byte : (station : StationParts) (reply : List ℕ) (events : List Event)
-      → Comes StationGoes StationRefuses (λ s. IsSome s.ended) (λ applied. []) (λ place reason. StationRefused place
-      reason) old.station byte station reply events
-      → Runs t (record old {
+      → Comes StationGoes StationRefuses (λ s. IsSome s.ended) (λ applied. [])
+      (λ place reason. StationRefused place reason) old.station byte station reply events → Runs t (record old {
         at_station = old.at_station + 1;
         station = station;
         up = old.up ++ reply;
@@ -137,10 +120,8 @@ module _ {t : TerminalType} {w : World} {old : WorldParts} (r : Runs t old w) (m
       }) (byte_to_station w)
   station_byte station reply events c = by c.why c.through c.reports where
     by : (why : Option Refusal) → Through StationGoes StationRefuses (λ (s : StationParts). IsSome s.ended) old.station
-        (Came byte ∷ []) reply c.told why station
-        → events ≡ reported StationGoes StationRefuses (λ (s : StationParts). IsSome s.ended) (λ applied. [])
-        (λ place reason. StationRefused place reason) c.told why
-        → Runs t (record old {
+        (Came byte ∷ []) reply c.told why station → events ≡ reported StationGoes StationRefuses (λ (s : StationParts).
+        IsSome s.ended) (λ applied. []) (λ place reason. StationRefused place reason) c.told why → Runs t (record old {
           at_station = old.at_station + 1;
           station = station;
           up = old.up ++ reply;
@@ -151,12 +132,10 @@ module _ {t : TerminalType} {w : World} {old : WorldParts} (r : Runs t old w) (m
     by (Some why) p e =
         let at = take w.at_station (down_bytes w) in
         let done = arrived element_rules w.down w.at_station in
-        let q = refused_at_once StationGoes StationRefuses (λ (s : StationParts). IsSome s.ended) old.station station
-        byte reply c.told why p in
-        let l = gone_none
-        (q.1 at done w.station r.station (omega (arith, few_in))) in
-        absurd (station_never r more_in byte is_in q.0 station why
-        (q.2 at done w.station l (omega (arith, few_in))))
+        let q = refused_at_once StationGoes StationRefuses
+        (λ (s : StationParts). IsSome s.ended) old.station station byte reply c.told why p in
+        let l = gone_none (q.1 at done w.station r.station (omega (arith, few_in))) in
+        absurd (station_never r more_in byte is_in q.0 station why (q.2 at done w.station l (omega (arith, few_in))))
 
 -- once nothing is in flight, more bytes make no difference
 pub stops : (n m : ℕ) → n ≤ m → (w : World) → byte_to_station (bytes_to_station n w) ≡ bytes_to_station n w
@@ -170,24 +149,17 @@ bytes_on = many_on byte_to_station bytes_to_station (λ w. refl) (λ n w. refl)
 pub none_comes : {t : TerminalType} {w : World} {old : WorldParts} → Runs t old w → length old.down ≤ old.at_station
     → byte_to_station w ≡ w
 none_comes {w = w} r all =
-    let less : nat_lt w.at_station (length (down_bytes w)) ≡ false = grind (
-      arith,
-      nat_tests,
-      all,
-      r.at_station,
-      ap length r.down,
-    ) in
+    let less : nat_lt w.at_station
+    (length (down_bytes w)) ≡ false = grind (arith, nat_tests, all, r.at_station, ap length r.down) in
     ap (λ (b : Bool). if b then station_gets (record w { at_station = w.at_station + 1 }) w.station_refused
     (ending_at element_rules w.down (w.at_station + 1)) else w) less
 
 -- so many of the bytes in flight, or all that are
-pub station_delivered : {t : TerminalType} {w : World} {old : WorldParts} → Runs t old w → {station : StationParts}
-    {from to : WireParts} {events : List Event} {count : ℕ}
-    → AreDelivered StationGoes StationRefuses (λ (e : StationParts). IsSome e.ended)
-    (λ (a : Applied). let z : List Event = [] in z) (λ place reason. StationRefused place reason) old.station station
-    (record { bytes = old.down; at = old.at_station }) from (record { bytes = old.up; at = old.at_host }) to old.events
-    events count
-    → Runs t (record old {
+pub station_delivered : {t : TerminalType} {w : World} {old : WorldParts}
+    → Runs t old w → {station : StationParts} {from to : WireParts} {events : List Event} {count : ℕ} → AreDelivered
+    StationGoes StationRefuses (λ (e : StationParts). IsSome e.ended) (λ (a : Applied). let z : List Event = [] in z)
+    (λ place reason. StationRefused place reason) old.station station (record { bytes = old.down; at = old.at_station })
+    from (record { bytes = old.up; at = old.at_host }) to old.events events count → Runs t (record old {
       station = station;
       down = from.bytes;
       at_station = from.at;
@@ -196,14 +168,12 @@ pub station_delivered : {t : TerminalType} {w : World} {old : WorldParts} → Ru
       events = events;
     }) (bytes_to_station count w)
 station_delivered {t} {w} {old} r {station} {from} {to} {events} {count} d =
-    let Now : StationParts → ℕ → List ℕ → List Event → World → Type 0 = λ s n up told w'.
-    Runs t (record old { station = s; at_station = n; up = up; events = told }) w' in
-    rw (d.from_is, d.to_is, d.told_is) (delivered byte_to_station bytes_to_station (λ w. refl) (λ n w. refl) StationGoes
-    StationRefuses (λ (e : StationParts). IsSome e.ended) (λ (a : Applied). let z : List Event = [] in z)
-    (λ place reason. StationRefused place reason) old.down Now
-    (λ s n up told w' h more x is. station_byte
-    h more d.few x is)
-    (λ s n up told w' h all. none_comes h all)
+    let Now : StationParts → ℕ → List ℕ → List Event → World
+    → Type 0 = λ s n up told w'. Runs t (record old { station = s; at_station = n; up = up; events = told }) w' in
+    rw (d.from_is, d.to_is, d.told_is) (delivered byte_to_station bytes_to_station
+    (λ w. refl) (λ n w. refl) StationGoes StationRefuses (λ (e : StationParts). IsSome e.ended)
+    (λ (a : Applied). let z : List Event = [] in z) (λ place reason. StationRefused place reason) old.down Now
+    (λ s n up told w' h more x is. station_byte h more d.few x is) (λ s n up told w' h all. none_comes h all)
     old.station old.at_station old.up old.events w r station from to old.at_host events count d)
 
 -- A byte comes to the host end of a running session.
@@ -231,12 +201,9 @@ module _ {t : TerminalType} {w : World} {old : WorldParts} (r : Runs t old w) wh
     front_up = take w.at_host (up_bytes w) ++ byte ∷ []
 
     abbrev AfterUp : HostParts → List ℕ → List Event → Type 0
-    AfterUp host reply events = Runs t (record old {
-      at_host = old.at_host + 1;
-      host = host;
-      down = old.down ++ reply;
-      events = events;
-    }) (byte_to_host w)
+    AfterUp host reply events =
+        Runs t (record old { at_host = old.at_host + 1; host = host; down = old.down ++ reply; events = events })
+        (byte_to_host w)
 
     came_up : ByteMore answer_rules w.up w.at_host byte
     came_up = byte_more _ part_bytes part_prefix_free part_begins w.up r.writable_up _ more byte is
@@ -271,21 +238,18 @@ module _ {t : TerminalType} {w : World} {old : WorldParts} (r : Runs t old w) wh
     taken_up host reply told events e item (Refuses reason) does on spelled said leads = absurd (false≢true on)
     taken_up host reply told events e item (GoesOn next output) does on spelled said leads =
         let o = came_up.one_ends item (host_holds leads) in
-        goes_up next output.items output.event host reply events (done_up ++ item ∷ []) spelled
-        (subst WritesWell does (host_writes_well w.host item o.1))
-        (e ∙ ap (λ z. old.events ++ flat_map host_tells z) said ∙ one_told old.events output.event) leads
-        (steps_up (Some item) o.0 ∙ ap (host_did byte_off) does)
+        goes_up next output.items output.event host reply events (done_up ++ item ∷ []) spelled (subst WritesWell does
+        (host_writes_well w.host item o.1)) (e ∙ ap (λ z. old.events ++ flat_map host_tells z) said
+        ∙ one_told old.events output.event) leads (steps_up (Some item) o.0 ∙ ap (host_did byte_off) does)
 
     host_on : (host : HostParts) (reply : List ℕ) (told : List HostEvent) (events : List Event) → events ≡ old.events
         ++ flat_map host_tells told → HostGoes old.host (Came byte ∷ []) reply told host
         → length (take w.at_host (up_bytes w)) + 1 + 1 < 2 ^ 64 → AfterUp host reply events
     host_on host reply told events e p few =
-        elim (gone_one answer_rules element_rules host_manner (HostLeads host) (take w.at_host
-        (up_bytes w)) done_up w.host
-        byte reply told (p (take w.at_host (up_bytes w)) done_up w.host r.host few)) [
-          | inl n ↦ goes_up w.host [] None host reply events done_up n.0 (tt, tt)
-              (e ∙ ap (λ z. old.events ++ flat_map host_tells z) n.1 ∙ append-nil old.events) n.2
-              (steps_up None (came_up.none_ends (host_holds n.2))
+        elim (gone_one answer_rules element_rules host_manner (HostLeads host) (take w.at_host (up_bytes w))
+        done_up w.host byte reply told (p (take w.at_host (up_bytes w)) done_up w.host r.host few)) [
+          | inl n ↦ goes_up w.host [] None host reply events done_up n.0 (tt, tt) (e ∙ ap (λ z. old.events ++ flat_map
+              host_tells z) n.1 ∙ append-nil old.events) n.2 (steps_up None (came_up.none_ends (host_holds n.2))
               ∙ ap (λ z. record w { at_host = w.at_host + 1; down = z }) (sym (append-nil w.down)))
           | inr k ↦ taken_up host reply told events e k.0 (host_takes w.host k.0) refl k.1 k.2 k.3 k.4
         ]
@@ -296,11 +260,9 @@ module _ {t : TerminalType} {w : World} {old : WorldParts} (r : Runs t old w) wh
     host_never from host Memory p m = m
     host_never from host (At at reason) p m = elim p.2 [
       | inl refused ↦ came_up.none_refused at reason refused
-      | inr item ↦
-          (let o = came_up.one_ends item.item (item.so_far, item.begun, item.holds) in
-          let e : true ≡ false = ap (λ (z : World). z.host_refused)
-          (sym (steps_up (Some item.item) o.0 ∙ ap (host_did byte_off) item.refuses))
-          ∙ (byte_up t w (is_sound r)).host_going in cc)
+      | inr item ↦ (let o = came_up.one_ends item.item (item.so_far, item.begun, item.holds) in
+          let e : true ≡ false = ap (λ (z : World). z.host_refused) (sym (steps_up (Some item.item) o.0
+          ∙ ap (host_did byte_off) item.refuses)) ∙ (byte_up t w (is_sound r)).host_going in cc)
     ]
 
 module _ {t : TerminalType} {w : World} {old : WorldParts} (r : Runs t old w) (more : old.at_host < length old.up)
@@ -316,14 +278,10 @@ module _ {t : TerminalType} {w : World} {old : WorldParts} (r : Runs t old w) (m
 
   -- a byte that comes, as what it writes and tells
   pub host_byte : (host : HostParts) (reply : List ℕ) (events : List Event)
-      → Comes HostGoes HostRefuses (λ (h : HostParts). IsSome h.ended) host_tells (λ place reason. HostRefused place
-      reason) old.host byte host reply events
-      → Runs t (record old {
-        at_host = old.at_host + 1;
-        host = host;
-        down = old.down ++ reply;
-        events = old.events ++ events;
-      }) (byte_to_host w)
+      → Comes HostGoes HostRefuses (λ (h : HostParts). IsSome h.ended) host_tells
+      (λ place reason. HostRefused place reason) old.host byte host reply events → Runs t
+      (record old { at_host = old.at_host + 1; host = host; down = old.down ++ reply; events = old.events ++ events })
+      (byte_to_host w)
   host_byte host reply events c = by c.why c.through c.reports c.has_memory where
     by : (why : Option Refusal) → Through HostGoes HostRefuses (λ (h : HostParts). IsSome h.ended) old.host
         (Came byte ∷ []) reply c.told why host
@@ -340,10 +298,9 @@ module _ {t : TerminalType} {w : World} {old : WorldParts} (r : Runs t old w) (m
     by (Some why) p e m =
         let at = take w.at_host (up_bytes w) in
         let done_up = arrived answer_rules w.up w.at_host in
-        let q = refused_at_once HostGoes HostRefuses (λ (h : HostParts). IsSome h.ended) old.host host byte reply
-        c.told why p in
-        let l = gone_none
-        (q.1 at done_up w.host r.host (omega (arith, few_up))) in
+        let q = refused_at_once HostGoes HostRefuses
+        (λ (h : HostParts). IsSome h.ended) old.host host byte reply c.told why p in
+        let l = gone_none (q.1 at done_up w.host r.host (omega (arith, few_up))) in
         absurd (host_never r more_up byte is_up q.0 host why (q.2 at done_up w.host l (omega (arith, few_up))) m)
 
 pub host_stops : (n m : ℕ) → n ≤ m → (w : World) → byte_to_host (bytes_to_host n w) ≡ bytes_to_host n w
@@ -356,18 +313,16 @@ host_bytes_on = many_on byte_to_host bytes_to_host (λ w. refl) (λ n w. refl)
 pub none_comes_up : {t : TerminalType} {w : World} {old : WorldParts} → Runs t old w → length old.up ≤ old.at_host
     → byte_to_host w ≡ w
 none_comes_up {w = w} r all =
-    let less : nat_lt w.at_host (length (up_bytes w)) ≡ false = grind (arith, nat_tests, all, r.at_host, ap length r.up)
-    in
-    ap (λ (b : Bool). if b then host_gets (record w { at_host = w.at_host + 1 }) w.host_refused
-    (ending_at answer_rules w.up (w.at_host + 1)) else w) less
+    let less : nat_lt w.at_host (length (up_bytes w)) ≡ false =
+    grind (arith, nat_tests, all, r.at_host, ap length r.up) in ap (λ (b : Bool). if b then host_gets
+    (record w { at_host = w.at_host + 1 }) w.host_refused (ending_at answer_rules w.up (w.at_host + 1)) else w) less
 
 -- so many of the bytes in flight, or all that are
-pub host_delivered : {t : TerminalType} {w : World} {old : WorldParts} → Runs t old w → {host : HostParts}
-    {from to : WireParts} {events : List Event} {count : ℕ}
+pub host_delivered : {t : TerminalType} {w : World} {old : WorldParts}
+    → Runs t old w → {host : HostParts} {from to : WireParts} {events : List Event} {count : ℕ}
     → AreDelivered HostGoes HostRefuses (λ (e : HostParts). IsSome e.ended) host_tells
     (λ place reason. HostRefused place reason) old.host host (record { bytes = old.up; at = old.at_host }) from
-    (record { bytes = old.down; at = old.at_station }) to old.events events count
-    → Runs t (record old {
+    (record { bytes = old.down; at = old.at_station }) to old.events events count → Runs t (record old {
       host = host;
       up = from.bytes;
       at_host = from.at;

@@ -21,14 +21,12 @@ use Rattle.ws_session.proofs.Orders.{x_none, up_next}
 -- A byte comes to the station of a session.
 
 module _ (t : TerminalType) where
-  takes_record : (s : StationSide) (d : Posted) → station_allows_records s.options ≡ true → body_fault s.happened
-      (record_of d).body ≡ None
-      → station_takes s (RecordItem (record_of d))
-      ≡ GoesOn (record { options = s.options; happened = after_record s.happened (record_of d) })
+  takes_record : (s : StationSide) (d : Posted) → station_allows_records s.options ≡ true
+      → body_fault s.happened (record_of d).body ≡ None → station_takes s (RecordItem (record_of d)) ≡ GoesOn
+      (record { options = s.options; happened = after_record s.happened (record_of d) })
       (opcode_answer (record_of d).opcode)
-  takes_record s d allows none =
-      ap (λ (b : Bool). if b then station_applies s (record_of d) (body_fault s.happened (record_of d).body) else
-      Refuses RecordBeforeNegotiation) allows ∙ ap (station_applies s (record_of d)) none
+  takes_record s d allows none = ap (λ (b : Bool). if b then station_applies s (record_of d) (body_fault s.happened
+      (record_of d).body) else Refuses RecordBeforeNegotiation) allows ∙ ap (station_applies s (record_of d)) none
 
   module _ (w : World) where
     abbrev byte_on : World
@@ -36,9 +34,8 @@ module _ (t : TerminalType) where
 
     station_arrives : (ex : Exchange) → ex.count ≡ telnets w.down + telnets w.up → (ts us : List Telnet)
         (ds : List Posted) (es : List Sent) (later : List HostAnswer) → Between t ex w.station w.host ts us ds es later
-        → (item : Item Element) (rest : List (Item Element)) → tokens ts ++ posted ds ≡ item ∷ rest
-        → InFlight element_rules w.down (w.at_station + 1) rest → InFlight answer_rules w.up w.at_host
-        (tokens us ++ sents es)
+        → (item : Item Element) (rest : List (Item Element)) → tokens ts ++ posted ds ≡ item ∷ rest → InFlight
+        element_rules w.down (w.at_station + 1) rest → InFlight answer_rules w.up w.at_host (tokens us ++ sents es)
         → w.answered ≡ answers_in w.events ++ later → w.station_refused ≡ false → w.host_refused ≡ false
         → Down t ex w.down (w.at_station + 1) (station_did byte_on (station_takes w.station item))
     station_arrives ex n [] us [] es later b item rest e down up answered sg hg = cc
@@ -48,10 +45,9 @@ module _ (t : TerminalType) where
         let found = station_token b in
         let reply : List Telnet = (station_answer w.station.options token).reply in
         rw (← same) (record {
-          sound = sounds ts (us ++ reply) ds es later (after_exchange MoveDown ex) found.2 (rw tail down) (rw
-              (← behind us reply (sents es) (ap sents found.0)) (written answer_rules w.up w.at_host (tokens
-              us ++ sents es) (tokens reply) up)) answered (omega (arith, found.1, n, with_tokens w.up reply)) sg
-              hg;
+          sound = sounds ts (us ++ reply) ds es later (after_exchange MoveDown ex) found.2 (rw tail down)
+              (rw (← behind us reply (sents es) (ap sents found.0)) (written answer_rules w.up w.at_host (tokens
+              us ++ sents es) (tokens reply) up)) answered (omega (arith, found.1, n, with_tokens w.up reply)) sg hg;
           same_ex = full_station ex token ts b.exchanges.to_station;
           same_down = refl;
           at = refl;
@@ -78,35 +74,31 @@ module _ (t : TerminalType) where
         (station_gets byte_on w.station_refused (ending_at element_rules w.down (w.at_station + 1)))
     arrived_down s less = subst (λ z. Down t s.ex w.down (w.at_station + 1)
         (station_gets byte_on z (ending_at element_rules w.down (w.at_station + 1)))) (sym s.station_going)
-        (arrive (comes element_rules w.down w.at_station (tokens s.ts ++ posted s.ds) s.down less))
-      where
-        arrive : ByteComes element_rules w.down w.at_station (tokens s.ts ++ posted s.ds) → Down t s.ex w.down
-            (w.at_station + 1) (station_gets byte_on false (ending_at element_rules w.down (w.at_station + 1)))
-        arrive (Inside none f) = subst (λ z. Down t s.ex w.down (w.at_station + 1) (station_gets byte_on false z))
-            (sym none) (record {
-              sound = sounds s.ts s.us s.ds s.es s.later s.ex s.between f s.up s.answered s.count s.station_going
-                  s.host_going;
-              same_ex = refl;
-              same_down = refl;
-              at = refl;
-            })
-        arrive (Whole item rest split ends f) = subst (λ z. Down t s.ex w.down (w.at_station + 1)
-            (station_gets byte_on false z)) (sym ends)
-            (station_arrives s.ex s.count s.ts s.us s.ds s.es _ s.between item rest split f s.up s.answered
-            s.station_going s.host_going)
+        (arrive (comes element_rules w.down w.at_station (tokens s.ts ++ posted s.ds) s.down less)) where
+          arrive : ByteComes element_rules w.down w.at_station (tokens s.ts ++ posted s.ds) → Down t s.ex w.down
+              (w.at_station + 1) (station_gets byte_on false (ending_at element_rules w.down (w.at_station + 1)))
+          arrive (Inside none f) = subst (λ z. Down t s.ex w.down (w.at_station + 1) (station_gets byte_on false z))
+              (sym none) (record {
+                sound = sounds s.ts s.us s.ds s.es s.later s.ex s.between f s.up s.answered s.count s.station_going
+                    s.host_going;
+                same_ex = refl;
+                same_down = refl;
+                at = refl;
+              })
+          arrive (Whole item rest split ends f) = subst (λ z. Down t s.ex w.down
+              (w.at_station + 1) (station_gets byte_on false z)) (sym ends) (station_arrives s.ex
+              s.count s.ts s.us s.ds s.es _ s.between item rest split f s.up s.answered s.station_going s.host_going)
 
     -- the next byte that is in flight to the station, or there is none
     pub next_down : (s : Sound t w) → Down t s.ex w.down (w.at_station + 1) (byte_to_station w)
         ⊎ ((byte_to_station w ≡ w) × (length (down_bytes w) ≤ w.at_station))
-    next_down s = by_test _ refl
-      where
-        by_test : (b : Bool) → nat_lt w.at_station (length (down_bytes w)) ≡ b → Down t s.ex w.down (w.at_station + 1)
-            (if b then station_gets byte_on w.station_refused (ending_at element_rules w.down
-            (w.at_station + 1)) else w)
-            ⊎ (((if b then station_gets byte_on w.station_refused (ending_at element_rules w.down (w.at_station + 1))
-            else w) ≡ w) × (length (down_bytes w) ≤ w.at_station))
-        by_test false e = inr (refl, ltb-false w.at_station (length (down_bytes w)) e)
-        by_test true e = inl (arrived_down s (ltb-true w.at_station (length (down_bytes w)) e))
+    next_down s = by_test _ refl where
+      by_test : (b : Bool) → nat_lt w.at_station (length (down_bytes w)) ≡ b → Down t s.ex w.down (w.at_station + 1)
+          (if b then station_gets byte_on w.station_refused (ending_at element_rules w.down (w.at_station + 1))
+          else w) ⊎ (((if b then station_gets byte_on w.station_refused
+          (ending_at element_rules w.down (w.at_station + 1)) else w) ≡ w) × (length (down_bytes w) ≤ w.at_station))
+      by_test false e = inr (refl, ltb-false w.at_station (length (down_bytes w)) e)
+      by_test true e = inl (arrived_down s (ltb-true w.at_station (length (down_bytes w)) e))
 
     pub byte_down : Sound t w → Sound t (byte_to_station w)
     byte_down s = elim (next_down s) [ inl d ↦ d.sound | inr q ↦ subst (Sound t) (sym q.0) s ]
@@ -136,8 +128,7 @@ module _ (t : TerminalType) where
         (w.at_host + 1) (tokens us ++ sents es)
         → w.answered ≡ answers_in w.events ++ later → w.station_refused ≡ false → w.host_refused ≡ false
         → Up t ex w.up (w.at_host + 1) ds (host_did byte_off (host_negotiates w.host a))
-    host_arrives_token ex n ts us token ds es later b None q down up answered sg hg =
-        absurd (x_none b.exchanges q)
+    host_arrives_token ex n ts us token ds es later b None q down up answered sg hg = absurd (x_none b.exchanges q)
     host_arrives_token ex n ts us token ds es later b (Some a) q down up answered sg hg =
         let found = host_token b a q in
         record {
@@ -203,9 +194,8 @@ module _ (t : TerminalType) where
         let h : HostSide = w.host in
         let found = host_signal b in
         rw (takes_by h flags NoOperation [] found.0) (record {
-          sound = sounds ts [] ds es later ex found.1 (same_down ts ds down) up (answered ∙ ap (λ l. l ++ later)
-              (sym (quiet_told w.events (signal flags) (signal_silent flags)))) (omega (arith, n, with_none w.down))
-              sg hg;
+          sound = sounds ts [] ds es later ex found.1 (same_down ts ds down) up (answered ∙ ap (λ l. l ++ later) (sym
+              (quiet_told w.events (signal flags) (signal_silent flags)))) (omega (arith, n, with_none w.down)) sg hg;
           same_ex = refl;
           same_up = refl;
           at = refl;
@@ -216,9 +206,8 @@ module _ (t : TerminalType) where
         (ds : List Posted) (es : List Sent) (later : List HostAnswer) → Between t ex w.station w.host ts us ds es later
         → (item : Item AnswerPart) (rest : List (Item AnswerPart)) → tokens us ++ sents es ≡ item ∷ rest
         → InFlight element_rules w.down w.at_station (tokens ts ++ posted ds) → InFlight answer_rules w.up
-        (w.at_host + 1) rest
-        → w.answered ≡ answers_in w.events ++ later → w.station_refused ≡ false → w.host_refused ≡ false
-        → Up t ex w.up (w.at_host + 1) ds (host_did byte_off (host_takes w.host item))
+        (w.at_host + 1) rest → w.answered ≡ answers_in w.events ++ later → w.station_refused ≡ false
+        → w.host_refused ≡ false → Up t ex w.up (w.at_host + 1) ds (host_did byte_off (host_takes w.host item))
     host_arrives ex n ts [] ds [] later b item rest e down up answered sg hg = cc
     host_arrives ex n ts (token ∷ us) ds es later b item rest e down up answered sg hg =
         let same : TelnetItem token ≡ item = cc in
@@ -232,38 +221,35 @@ module _ (t : TerminalType) where
 
     arrived_up : (s : Sound t w) → w.at_host < length (up_bytes w) → Up t s.ex w.up (w.at_host + 1) s.ds
         (host_gets byte_off w.host_refused (ending_at answer_rules w.up (w.at_host + 1)))
-    arrived_up s less = subst (λ z. Up t s.ex w.up (w.at_host + 1) s.ds
-        (host_gets byte_off z (ending_at answer_rules w.up (w.at_host + 1)))) (sym s.host_going)
-        (arrive (comes answer_rules w.up w.at_host (tokens s.us ++ sents s.es) s.up less))
-      where
-        arrive : ByteComes answer_rules w.up w.at_host (tokens s.us ++ sents s.es)
-            → Up t s.ex w.up (w.at_host + 1) s.ds
-            (host_gets byte_off false (ending_at answer_rules w.up (w.at_host + 1)))
-        arrive (Inside none f) = subst (λ z. Up t s.ex w.up (w.at_host + 1) s.ds (host_gets byte_off false z))
-            (sym none) (record {
-              sound = sounds s.ts s.us s.ds s.es s.later s.ex s.between s.down f s.answered s.count s.station_going
-                  s.host_going;
-              same_ex = refl;
-              same_up = refl;
-              at = refl;
-              same_ds = refl;
-            })
-        arrive (Whole item rest split ends f) = subst (λ z. Up t s.ex w.up (w.at_host + 1) s.ds
-            (host_gets byte_off false z)) (sym ends)
-            (host_arrives s.ex s.count s.ts s.us s.ds s.es s.later s.between item rest split s.down f s.answered
-            s.station_going s.host_going)
+    arrived_up s less = subst
+        (λ z. Up t s.ex w.up (w.at_host + 1) s.ds (host_gets byte_off z (ending_at answer_rules w.up (w.at_host + 1))))
+        (sym s.host_going) (arrive (comes answer_rules w.up w.at_host (tokens s.us ++ sents s.es) s.up less)) where
+          arrive : ByteComes answer_rules w.up w.at_host (tokens s.us ++ sents s.es) → Up t s.ex w.up
+              (w.at_host + 1) s.ds (host_gets byte_off false (ending_at answer_rules w.up (w.at_host + 1)))
+          arrive (Inside none f) = subst (λ z. Up t s.ex w.up (w.at_host + 1) s.ds (host_gets byte_off false z))
+              (sym none) (record {
+                sound = sounds s.ts s.us s.ds s.es s.later s.ex s.between s.down f s.answered s.count s.station_going
+                    s.host_going;
+                same_ex = refl;
+                same_up = refl;
+                at = refl;
+                same_ds = refl;
+              })
+          arrive (Whole item rest split ends f) = subst (λ z. Up t s.ex w.up (w.at_host + 1) s.ds
+              (host_gets byte_off false z)) (sym ends)
+              (host_arrives s.ex s.count s.ts s.us s.ds s.es s.later s.between item rest split s.down f s.answered
+              s.station_going s.host_going)
 
     -- the next byte that is in flight to the host end, or there is none
     pub next_up : (s : Sound t w) → Up t s.ex w.up (w.at_host + 1) s.ds (byte_to_host w)
         ⊎ ((byte_to_host w ≡ w) × (length (up_bytes w) ≤ w.at_host))
-    next_up s = by_test (nat_lt w.at_host (length (up_bytes w))) refl
-      where
-        by_test : (b : Bool) → nat_lt w.at_host (length (up_bytes w)) ≡ b → Up t s.ex w.up (w.at_host + 1) s.ds
-            (if b then host_gets byte_off w.host_refused (ending_at answer_rules w.up (w.at_host + 1)) else w)
-            ⊎ (((if b then host_gets byte_off w.host_refused (ending_at answer_rules w.up (w.at_host + 1)) else w) ≡ w)
-            × (length (up_bytes w) ≤ w.at_host))
-        by_test false e = inr (refl, ltb-false w.at_host (length (up_bytes w)) e)
-        by_test true e = inl (arrived_up s (ltb-true w.at_host (length (up_bytes w)) e))
+    next_up s = by_test (nat_lt w.at_host (length (up_bytes w))) refl where
+      by_test : (b : Bool) → nat_lt w.at_host (length (up_bytes w)) ≡ b → Up t s.ex w.up (w.at_host + 1) s.ds
+          (if b then host_gets byte_off w.host_refused (ending_at answer_rules w.up (w.at_host + 1)) else w)
+          ⊎ (((if b then host_gets byte_off w.host_refused (ending_at answer_rules w.up (w.at_host + 1)) else w) ≡ w)
+          × (length (up_bytes w) ≤ w.at_host))
+      by_test false e = inr (refl, ltb-false w.at_host (length (up_bytes w)) e)
+      by_test true e = inl (arrived_up s (ltb-true w.at_host (length (up_bytes w)) e))
 
     pub byte_up : Sound t w → Sound t (byte_to_host w)
     byte_up s = elim (next_up s) [ inl d ↦ d.sound | inr q ↦ subst (Sound t) (sym q.0) s ]

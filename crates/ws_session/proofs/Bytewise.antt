@@ -16,15 +16,14 @@ module _ (P : World → Type 0) where
       (did : (w : World) (r : Reaction StationSide (List (Item AnswerPart))) → P w → P (station_did w r)) where
     byte_down : (w : World) → P w → P (byte_to_station w)
     byte_down w p = by (nat_lt w.at_station (length (down_bytes w))) w.station_refused
-        (ending_at element_rules w.down (w.at_station + 1))
-      where
-        by : (b r : Bool) (o : Option (Item Element))
-            → P (if b then station_gets (record w { at_station = w.at_station + 1 }) r o else w)
-        by false r o = p
-        by true true o = here w p
-        by true false None = here w p
-        by true false (Some item) =
-            did (record w { at_station = w.at_station + 1 }) (station_takes w.station item) (here w p)
+        (ending_at element_rules w.down (w.at_station + 1)) where
+          by : (b r : Bool) (o : Option (Item Element))
+              → P (if b then station_gets (record w { at_station = w.at_station + 1 }) r o else w)
+          by false r o = p
+          by true true o = here w p
+          by true false None = here w p
+          by true false (Some item) =
+              did (record w { at_station = w.at_station + 1 }) (station_takes w.station item) (here w p)
 
     pub bytes_down : (n : ℕ) (w : World) → P w → P (bytes_to_station n w)
     bytes_down zero w p = p
@@ -33,15 +32,14 @@ module _ (P : World → Type 0) where
   module _ (here : (w : World) → P w → P (record w { at_host = w.at_host + 1 }))
       (did : (w : World) (r : Reaction HostSide HostOutput) → P w → P (host_did w r)) where
     byte_up : (w : World) → P w → P (byte_to_host w)
-    byte_up w p = by (nat_lt w.at_host (length (up_bytes w))) w.host_refused
-        (ending_at answer_rules w.up (w.at_host + 1))
-      where
-        by : (b r : Bool) (o : Option (Item AnswerPart))
-            → P (if b then host_gets (record w { at_host = w.at_host + 1 }) r o else w)
-        by false r o = p
-        by true true o = here w p
-        by true false None = here w p
-        by true false (Some item) = did (record w { at_host = w.at_host + 1 }) (host_takes w.host item) (here w p)
+    byte_up w p =
+        by (nat_lt w.at_host (length (up_bytes w))) w.host_refused (ending_at answer_rules w.up (w.at_host + 1)) where
+          by : (b r : Bool) (o : Option (Item AnswerPart))
+              → P (if b then host_gets (record w { at_host = w.at_host + 1 }) r o else w)
+          by false r o = p
+          by true true o = here w p
+          by true false None = here w p
+          by true false (Some item) = did (record w { at_host = w.at_host + 1 }) (host_takes w.host item) (here w p)
 
     pub bytes_up : (n : ℕ) (w : World) → P w → P (bytes_to_host n w)
     bytes_up zero w p = p
@@ -55,13 +53,11 @@ IsCalm w = w.station_refused ≡ false → w.host_refused ≡ false → refusals
 one_more : (events : List Event) (e : Event) → is_refusal e ≡ false → refusals_in events ≡ []
     → refusals_in (events ++ e ∷ []) ≡ []
 one_more [] e calm none = ap (λ (b : Bool). if b then e ∷ [] else []) calm
-one_more (x ∷ xs) e calm none = by_test _ none (λ q. one_more xs e calm q)
-  where
-    by_test : (b : Bool) → (if b then x ∷ refusals_in xs else refusals_in xs) ≡ []
-        → (refusals_in xs ≡ [] → refusals_in (xs ++ e ∷ []) ≡ [])
-        → (if b then x ∷ refusals_in (xs ++ e ∷ []) else refusals_in (xs ++ e ∷ [])) ≡ []
-    by_test true q rest = cc
-    by_test false q rest = rest q
+one_more (x ∷ xs) e calm none = by_test _ none (λ q. one_more xs e calm q) where
+  by_test : (b : Bool) → (if b then x ∷ refusals_in xs else refusals_in xs) ≡ [] → (refusals_in xs ≡ [] → refusals_in
+      (xs ++ e ∷ []) ≡ []) → (if b then x ∷ refusals_in (xs ++ e ∷ []) else refusals_in (xs ++ e ∷ [])) ≡ []
+  by_test true q rest = cc
+  by_test false q rest = rest q
 
 tells : (events : List Event) (event : Option HostEvent) → refusals_in events ≡ []
     → refusals_in (events_with events event) ≡ []
@@ -87,8 +83,7 @@ sent w (RefusesSend fault) calm = λ p q. one_more w.events (SendRefused fault) 
 sent w (Sends host item) calm = calm
 
 move : (w : World) (m : Move) → IsCalm w → IsCalm (after_move w m)
-move w (Send opcode body) calm =
-    sent w _ calm
+move w (Send opcode body) calm = sent w _ calm
 move w Cancel calm = sent w _ calm
 move w (ToStation n) calm = bytes_down IsCalm (λ v c. c) station_item n w calm
 move w (ToHost n) calm = bytes_up IsCalm (λ v c. c) host_item n w calm

@@ -32,33 +32,28 @@ module _ (one : World → World) (many : ℕ → World → World) (none : (w : W
   -- Where the session stands is told by the end, how many bytes have come, what it wrote and what was told.
   module _ {E Deed Told : Type 0} (goes : E → List (Act Deed) → List ℕ → List Told → E → Type 0)
       (refuses : E → ℕ → Refusal → E → Type 0) (over : E → Type 0) (tells : Told → List Event)
-      (refusal : ℕ → Reason → Event) (bytes : List ℕ)
-      (Stands : E → ℕ → List ℕ → List Event → World → Type 0)
-      (comes : (e : E) (at : ℕ) (out : List ℕ) (told : List Event) (w : World) → Stands e at out told w
-      → at < length bytes → (x : ℕ) → x ≡ get_or bytes at x → (e' : E) (first : List ℕ) (events : List Event)
-      → Comes goes refuses over tells refusal e x e' first events
-      → Stands e' (at + 1) (out ++ first) (told ++ events) (one w))
-      (stays : (e : E) (at : ℕ) (out : List ℕ) (told : List Event) (w : World) → Stands e at out told w
-      → length bytes ≤ at → one w ≡ w) where
+      (refusal : ℕ → Reason → Event) (bytes : List ℕ) (Stands : E → ℕ → List ℕ → List Event → World → Type 0)
+      (comes : (e : E) (at : ℕ) (out : List ℕ) (told : List Event) (w : World)
+      → Stands e at out told w → at < length bytes → (x : ℕ) → x ≡ get_or bytes at x
+      → (e' : E) (first : List ℕ) (events : List Event) → Comes goes refuses over tells refusal e x e' first events
+      → Stands e' (at + 1) (out ++ first) (told ++ events) (one w)) (stays : (e : E) (at : ℕ)
+      (out : List ℕ) (told : List Event) (w : World) → Stands e at out told w → length bytes ≤ at → one w ≡ w) where
     all_come : (xs rest : List ℕ) (e : E) (at : ℕ) (out : List ℕ) (told : List Event) (w : World)
-        → Stands e at out told w → drop at bytes ≡ xs ++ rest → (e' : E) (v : List ℕ) (s : List Event)
-        → AllCome goes refuses over tells refusal e xs e' v s
-        → Stands e' (at + length xs) (out ++ v) (told ++ s) (many (length xs) w)
+        → Stands e at out told w → drop at bytes ≡ xs ++ rest → (e' : E) (v : List ℕ) (s : List Event) → AllCome goes
+        refuses over tells refusal e xs e' v s → Stands e' (at + length xs) (out ++ v) (told ++ s) (many (length xs) w)
     all_come [] rest e at out told w h split e' v s c =
         rw (c.0, c.1, c.2, none w, append-nil out, append-nil told, add-zero at) h
     all_come (x ∷ xs) rest e at out told w h split e' v s c =
         let more : at < length bytes = omega (arith, ap (λ z. length z) split, length-drop at bytes) in
         let first = comes e at out told w h more x (some_first bytes at x (xs ++ rest) split more) c.0 c.1 c.3 c.5 in
-        let all = all_come xs rest c.0 _ _ _ _ first
-        (some_rest bytes at x (xs ++ rest) split more) e' c.2 c.4 c.6 in
+        let all = all_come xs rest c.0 _ _ _ _ first (some_rest bytes at x (xs ++ rest) split more) e' c.2 c.4 c.6 in
         let n : at + length (x ∷ xs) ≡ (at + 1) + length xs = omega arith in
         rw (c.7, c.8, n, next _ w, ← append_assoc out c.1 c.2, ← append_assoc told c.3 c.4) all
 
     -- so many of the bytes in flight, or all that are
-    pub delivered : (e : E) (at : ℕ) (out : List ℕ) (told : List Event) (w : World) → Stands e at out told w
-        → (e' : E) (from to : WireParts) (k : ℕ) (told' : List Event) (count : ℕ)
-        → (d : AreDelivered goes refuses over tells refusal e e' (record { bytes = bytes; at = at }) from
-        (record { bytes = out; at = k }) to told told' count)
+    pub delivered : (e : E) (at : ℕ) (out : List ℕ) (told : List Event) (w : World) → Stands e at out told w → (e' : E)
+        (from to : WireParts) (k : ℕ) (told' : List Event) (count : ℕ) → (d : AreDelivered goes refuses over tells
+        refusal e e' (record { bytes = bytes; at = at }) from (record { bytes = out; at = k }) to told told' count)
         → Stands e' (at + length d.bytes) (out ++ d.written) (told ++ d.events) (many count w)
     delivered e at out told w h e' from to k told' count d =
         let waiting : List ℕ = drop at bytes in

@@ -9,28 +9,24 @@ use Rattle.ws_session.specs.Acts.{bytes_of}
 
 module _ {Place U : Type 0} (rules : Rules Place U) (Deed : Type 0) where
   -- where no item is complete with any of the bytes, nothing happens
-  pub none_happen : (bytes : List ℕ) (items : List (Item U)) (came : List ℕ)
-      → ((n : ℕ) → n ≤ length came → HoldsItems rules (bytes ++ take n came) items)
-      → Happen rules bytes items (all_came {Deed = Deed} came) []
+  pub none_happen : (bytes : List ℕ) (items : List (Item U)) (came : List ℕ) → ((n : ℕ) → n ≤ length came
+      → HoldsItems rules (bytes ++ take n came) items) → Happen rules bytes items (all_came {Deed = Deed} came) []
   none_happen bytes items [] held = refl
   none_happen bytes items (b ∷ came) held = inl (
     held 1 (omega arith),
-    none_happen _ items came
-        (λ n k. rw (append_assoc bytes (b ∷ []) (take n came)) (held (suc n) (omega (arith, k)))),
+    none_happen _ items came (λ n k. rw (append_assoc bytes (b ∷ []) (take n came)) (held (suc n) (omega (arith, k)))),
   )
 
   -- where one is with the last of them, it arrives
-  pub one_happens : (bytes : List ℕ) (items : List (Item U)) (item : Item U) (came : List ℕ) → 0 < length came
-      → ((n : ℕ) → n < length came → HoldsItems rules (bytes ++ take n came) items)
-      → HoldsItems rules (bytes ++ came) (items ++ item ∷ [])
-      → Happen rules bytes items (all_came {Deed = Deed} came) (Arrives item ∷ [])
+  pub one_happens : (bytes : List ℕ) (items : List (Item U)) (item : Item U) (came : List ℕ)
+      → 0 < length came → ((n : ℕ) → n < length came → HoldsItems rules (bytes ++ take n came) items) → HoldsItems rules
+      (bytes ++ came) (items ++ item ∷ []) → Happen rules bytes items (all_came {Deed = Deed} came) (Arrives item ∷ [])
   one_happens bytes items item [] some held last = absurd (omega (arith, some))
   one_happens bytes items item (b ∷ []) some held last = inr (item, [], last, refl, refl)
   one_happens bytes items item (b ∷ (c ∷ came)) some held last = inl (
     held 1 (omega arith),
-    one_happens (bytes ++ b ∷ []) items item (c ∷ came) (omega arith)
-        (λ n k. rw (append_assoc bytes (b ∷ []) (take n (c ∷ came))) (held (suc n) (omega (arith, k))))
-        (rw (append_assoc bytes (b ∷ []) (c ∷ came)) last),
+    one_happens (bytes ++ b ∷ []) items item (c ∷ came) (omega arith) (λ n k. rw (append_assoc bytes (b ∷ [])
+        (take n (c ∷ came))) (held (suc n) (omega (arith, k)))) (rw (append_assoc bytes (b ∷ []) (c ∷ came)) last),
   )
 
   -- no item is complete before the last byte of a front
@@ -48,24 +44,20 @@ module _ {Place U : Type 0} (rules : Rules Place U) (Deed : Type 0) where
   pub front_silent : (bytes : List ℕ) (items : List (Item U)) (left : List ℕ) (used : ℕ) → used ≤ length left
       → AreHeld bytes items left used → HoldsItems rules (bytes ++ take used left) items
       → Happen rules bytes items (all_came {Deed = Deed} (take used left)) []
-  front_silent bytes items left used within held here =
-      none_happen bytes items _ (λ n k. elim (cases_lt n used) [
-        | inl lt ↦ rw (take-take n used left (omega (arith, lt))) (held n lt)
-        | inr ge ↦
-            (let same : n ≡ used = omega (arith, ge, k, length-take-le used left within) in
-            rw (take-take n used left (omega (arith, same)) ∙ ap (λ (m : ℕ). take m left) same) here)
-      ])
+  front_silent bytes items left used within held here = none_happen bytes items _ (λ n k. elim (cases_lt n used) [
+    | inl lt ↦ rw (take-take n used left (omega (arith, lt))) (held n lt)
+    | inr ge ↦ (let same : n ≡ used = omega (arith, ge, k, length-take-le used left within) in
+        rw (take-take n used left (omega (arith, same)) ∙ ap (λ (m : ℕ). take m left) same) here)
+  ])
 
   -- an item arrives with the last byte of one
   pub front_brings : (bytes : List ℕ) (items : List (Item U)) (item : Item U) (left : List ℕ) (used : ℕ)
-      → used ≤ length left → 0 < used → AreHeld bytes items left used
-      → HoldsItems rules (bytes ++ take used left) (items ++ item ∷ [])
-      → Happen rules bytes items (all_came {Deed = Deed} (take used left)) (Arrives item ∷ [])
+      → used ≤ length left → 0 < used → AreHeld bytes items left used → HoldsItems rules (bytes ++ take used left)
+      (items ++ item ∷ []) → Happen rules bytes items (all_came {Deed = Deed} (take used left)) (Arrives item ∷ [])
   front_brings bytes items item left used within some held here =
       one_happens bytes items item _ (omega (arith, some, length-take-le used left within))
       (λ n k. let lt : n < used = omega (arith, k, length-take-le used left within) in
-      rw (take-take n used left (omega (arith, lt))) (held n lt))
-      here
+      rw (take-take n used left (omega (arith, lt))) (held n lt)) here
 
 -- a list by a value of it
 pub value_at : (xs : List ℕ) (k : ℕ) → k < length xs → (b : ℕ) × (rest : List ℕ) × (xs ≡ take k xs ++ b ∷ rest)
@@ -79,9 +71,8 @@ value_at (x ∷ xs) (suc k) lt =
 -- a piece by a value behind a front of it
 split_on : (piece : List ℕ) (i m b : ℕ) (rest : List ℕ) → left_of piece i ≡ take m (left_of piece i) ++ b ∷ rest
     → piece ≡ take (i + m) piece ++ b ∷ rest
-split_on piece i m b rest at = sym (left_joined piece i) ∙ ap (λ z. take i piece ++ z) at
-    ∙ sym (append_assoc (take i piece) (take m (left_of piece i)) (b ∷ rest))
-    ∙ ap (λ z. z ++ b ∷ rest) (bytes_on [] piece i m)
+split_on piece i m b rest at = sym (left_joined piece i) ∙ ap (λ z. take i piece ++ z) at ∙ sym (append_assoc
+    (take i piece) (take m (left_of piece i)) (b ∷ rest)) ∙ ap (λ z. z ++ b ∷ rest) (bytes_on [] piece i m)
 
 module _ {Place PlaceV Side U V Deed Event : Type 0} (rules : Rules Place U) (out : Rules PlaceV V)
     (manner : Manner Side U V Deed Event) where
@@ -96,8 +87,7 @@ module _ {Place PlaceV Side U V Deed Event : Type 0} (rules : Rules Place U) (ou
       → Then (bytes ++ take m left) items side → AllCome Then bytes items side (take m left) [] []
   silent_then Then bytes items side left used m within held lt then = record {
     happened = [];
-    happen = none_happen rules Deed bytes items _
-        (front_held rules Deed bytes items left used m within held lt);
+    happen = none_happen rules Deed bytes items _ (front_held rules Deed bytes items left used m within held lt);
     taken = tt;
     wrote = refl;
     tells = refl;
@@ -145,30 +135,25 @@ module _ {Place PlaceV Side U V Deed Event : Type 0} (rules : Rules Place U) (ou
     module _ (Now : List ℕ → List (Item U) → Side → Type 0)
         (before : AllCome Now bytes items side (take i piece) [] []) where
       then_taken : (Then : List ℕ → List (Item U) → Side → Type 0) (k : ℕ) (reply : List ℕ) (told : List Event)
-          → ((b : List ℕ) (its : List (Item U)) (s : Side) → Now b its s
-          → length b ≡ length bytes + length (take i piece)
-          → AllCome Then b its s (take k (left_of piece i)) reply told)
+          → ((b : List ℕ) (its : List (Item U)) (s : Side) → Now b its s → length b ≡ length bytes + length
+          (take i piece) → AllCome Then b its s (take k (left_of piece i)) reply told)
           → AllCome Then bytes items side (take (i + k) piece) reply told
-      then_taken Then k reply told next =
-          rw (← came_on k) (gone_on rules out manner Now Then bytes items side (all_came (take i piece))
-          (all_came (take k (left_of piece i))) [] reply [] told before
-          (λ b its s l size. next b its s l
-          (size ∙ ap (λ (x : List ℕ). length bytes + length x) (bytes_came Deed (take i piece)))))
+      then_taken Then k reply told next = rw (← came_on k) (gone_on rules out manner Now Then bytes items side
+          (all_came (take i piece)) (all_came (take k (left_of piece i))) [] reply [] told before (λ b its s l size.
+          next b its s l (size ∙ ap (λ (x : List ℕ). length bytes + length x) (bytes_came Deed (take i piece)))))
 
       -- a front more comes
       pub front_on : (Then : List ℕ → List (Item U) → Side → Type 0) (k : ℕ) (reply : List ℕ) (told : List Event)
           → ((b : List ℕ) (its : List (Item U)) (s : Side) → Now b its s → length b + length (left_of piece i) < 2 ^ 64
-          → AllCome Then b its s (take k (left_of piece i)) reply told)
-          → length bytes + length piece + 1 < 2 ^ 64 → i ≤ length piece
-          → AllCome Then bytes items side (take (i + k) piece) reply told
+          → AllCome Then b its s (take k (left_of piece i)) reply told) → length bytes + length piece + 1 < 2 ^ 64
+          → i ≤ length piece → AllCome Then bytes items side (take (i + k) piece) reply told
       front_on Then k reply told next fits inside = then_taken Then k reply told (λ b its s l size. next b its s l
           (omega (arith, size, fits, inside, left_length piece i, length-take-le i piece inside)))
 
       -- nothing is written or told before its last byte
-      pub quiet_on : (k : ℕ) → k ≤ length (left_of piece i)
-          → ((b : List ℕ) (its : List (Item U)) (s : Side) → Now b its s → AreHeld rules Deed b its (left_of piece i) k)
-          → ((n : ℕ) → n ≤ i → AreSilent bytes items side (take n piece)) → (n : ℕ) → n < i + k
-          → AreSilent bytes items side (take n piece)
+      pub quiet_on : (k : ℕ) → k ≤ length (left_of piece i) → ((b : List ℕ) (its : List (Item U)) (s : Side)
+          → Now b its s → AreHeld rules Deed b its (left_of piece i) k) → ((n : ℕ) → n ≤ i
+          → AreSilent bytes items side (take n piece)) → (n : ℕ) → n < i + k → AreSilent bytes items side (take n piece)
       quiet_on k within held below n lt = elim (cases_lt i n) [
         | inl behind ↦
             (let m : ℕ = n - i in
@@ -180,14 +165,12 @@ module _ {Place PlaceV Side U V Deed Event : Type 0} (rules : Rules Place U) (ou
       ]
 
       -- nor with it
-      pub quiet_upto : (New : List ℕ → List (Item U) → Side → Type 0) (k : ℕ)
-          → AllCome New bytes items side (take (i + k) piece) [] []
-          → ((n : ℕ) → n < i + k → AreSilent bytes items side (take n piece)) → (n : ℕ) → n ≤ i + k
-          → AreSilent bytes items side (take n piece)
+      pub quiet_upto : (New : List ℕ → List (Item U) → Side → Type 0) (k : ℕ) → AllCome New bytes items side
+          (take (i + k) piece) [] [] → ((n : ℕ) → n < i + k → AreSilent bytes items side (take n piece))
+          → (n : ℕ) → n ≤ i + k → AreSilent bytes items side (take n piece)
       quiet_upto New k fed below n le = elim (cases_lt n (i + k)) [
         | inl lt ↦ below n lt
-        | inr ge ↦
-            (let same : i + k ≡ n = omega (arith, le, ge) in
+        | inr ge ↦ (let same : i + k ≡ n = omega (arith, le, ge) in
             rw (← same) (come_weaker New (λ b its s. Unit {0}) bytes items side _ [] [] (λ b its s l. tt) fed))
       ]
 

@@ -24,30 +24,25 @@ module _ (bytes : List ℕ) (at : ℕ) (read : List ℕ) (fits : at + length rea
   front = length-take-le at bytes (omega (arith, fits))
 
   behind_front : drop at (with_piece_at bytes at read) ≡ read ++ drop (at + length read) bytes
-  behind_front =
-      ap (λ n. drop n (with_piece_at bytes at read)) (sym front)
+  behind_front = ap (λ n. drop n (with_piece_at bytes at read)) (sym front)
       ∙ ap (drop (length (take at bytes))) (append_assoc (take at bytes) read (drop (at + length read) bytes))
       ∙ drop-append_seam (take at bytes) (read ++ drop (at + length read) bytes)
 
   pub piece_first : take (length read) (drop at (with_piece_at bytes at read)) ≡ read
-  piece_first =
-      ap (take (length read)) behind_front
-      ∙ ap (λ n. take n (read ++ drop (at + length read) bytes)) (let e : length read
-      ≡ length read + 0 = omega arith in e)
+  piece_first = ap (take (length read)) behind_front ∙ ap
+      (λ n. take n (read ++ drop (at + length read) bytes)) (let e : length read ≡ length read + 0 = omega arith in e)
       ∙ take-append-add read (drop (at + length read) bytes) 0 ∙ append-nil read
 
   pub piece_left : drop (at + length read) (with_piece_at bytes at read) ≡ drop (length read) (drop at bytes)
-  piece_left =
-      sym (drop-drop (length read) at (with_piece_at bytes at read)) ∙ ap (drop (length read)) behind_front
+  piece_left = sym (drop-drop (length read) at (with_piece_at bytes at read)) ∙ ap (drop (length read)) behind_front
       ∙ drop-append_seam read (drop (at + length read) bytes) ∙ sym (drop-drop (length read) at bytes)
 
 module _ {E Deed Told : Type 0} (goes : E → List (Act Deed) → List ℕ → List Told → E → Type 0) (refuses : E → ℕ
     → Refusal → E → Type 0) (over : E → Type 0) (tells : Told → List Event) (refusal : ℕ → Reason → Event) where
   -- bytes, and then further ones
   come_on : (a b c : E) (xs ys : List ℕ) (v w : List ℕ) (s t : List Event)
-      → AllCome goes refuses over tells refusal a xs b v s
-      → AllCome goes refuses over tells refusal b ys c w t → AllCome goes refuses over tells refusal a (xs ++ ys) c
-      (v ++ w) (s ++ t)
+      → AllCome goes refuses over tells refusal a xs b v s → AllCome goes refuses over tells refusal b ys c w t
+      → AllCome goes refuses over tells refusal a (xs ++ ys) c (v ++ w) (s ++ t)
   come_on a b c [] ys v w s t p q = rw (← p.0, p.1, p.2) q
   come_on a b c (x ∷ xs) ys v w s t p q = (
     p.0,
@@ -66,25 +61,21 @@ module _ {E Deed Told : Type 0} (goes : E → List (Act Deed) → List ℕ → L
 
   -- a piece that crossed
   pub piece_comes : (old new : E) (bytes : List ℕ) (at n : ℕ) (read : List ℕ) (from' to to' : WireParts)
-      (told told' : List Event) → length read ≡ n → at + n ≤ length bytes
-      → (d : AreDelivered goes refuses over tells refusal old new (record {
-        bytes = with_piece_at bytes at read;
-        at = at;
-      }) from' to to' told told' n)
+      (told told' : List Event) → length read ≡ n → at + n ≤ length bytes → (d : AreDelivered goes refuses
+      over tells refusal old new (record { bytes = with_piece_at bytes at read; at = at }) from' to to' told told' n)
       → HaveCome goes refuses over tells refusal n (record { sent = take n (drop at bytes); read = read } ∷ [])
       (drop at bytes) (drop from'.at from'.bytes) old new d.written d.events
   piece_comes old new bytes at n read from' to to' told told' is fits d =
       let room : at + length read ≤ length bytes = omega (arith, is, fits) in
-      let same : d.bytes ≡ read = d.first ∙ ap (λ k. take k (drop at (with_piece_at bytes at read))) (sym is)
-      ∙ piece_first bytes at read room in
+      let same : d.bytes ≡ read = d.first
+      ∙ ap (λ k. take k (drop at (with_piece_at bytes at read))) (sym is) ∙ piece_first bytes at read room in
       record {
         sent = append-nil (take n (drop at bytes));
-        as_many = ap (λ (z : List ℕ). length z) (append-nil read) ∙ is
-            ∙ sym (length-take-le n (drop at bytes) (omega (arith, fits, length-drop at bytes)))
+        as_many = ap (λ (z : List ℕ). length z) (append-nil read)
+            ∙ is ∙ sym (length-take-le n (drop at bytes) (omega (arith, fits, length-drop at bytes)))
             ∙ ap (λ (z : List ℕ). length z) (sym (append-nil (take n (drop at bytes))));
-        left = ap (λ (z : WireParts). drop z.at z.bytes) d.from_is
-            ∙ ap (λ (z : List ℕ). drop (at + length z) (with_piece_at bytes at read)) same
-            ∙ piece_left bytes at read room ∙ ap (λ k. drop k (drop at bytes)) is;
+        left = ap (λ (z : WireParts). drop z.at z.bytes) d.from_is ∙ ap (λ (z : List ℕ). drop (at + length z)
+            (with_piece_at bytes at read)) same ∙ piece_left bytes at read room ∙ ap (λ k. drop k (drop at bytes)) is;
         come = rw (← (same ∙ sym (append-nil read))) d.come;
       }
 
@@ -115,9 +106,8 @@ module _ {E Deed Told : Type 0} (goes : E → List (Act Deed) → List ℕ → L
         }
 
   -- all that were in flight have come
-  pub all_have_come : (a b : ℕ) (cs : List Crossing) (f g : List ℕ) (old new : E) (v : List ℕ) (s : List Event) → a ≤ b
-      → g ≡ []
-      → HaveCome goes refuses over tells refusal a cs f g old new v s
+  pub all_have_come : (a b : ℕ) (cs : List Crossing) (f g : List ℕ) (old new : E) (v : List ℕ) (s : List Event)
+      → a ≤ b → g ≡ [] → HaveCome goes refuses over tells refusal a cs f g old new v s
       → HaveCome goes refuses over tells refusal b cs f g old new v s
   all_have_come a b cs f g old new v s le none p =
       let few : length f ≤ a = omega (arith, ap (λ (z : List ℕ). length z) (sym p.left ∙ none), length-drop a f) in
@@ -156,9 +146,8 @@ up_none now = (
 -- what went over a line, written in the place of the bytes in flight
 module _ (old new : WorldParts) (n : ℕ) (read : List ℕ) (is : length read ≡ n) where
   pub down_piece : old.at_station + n ≤ length old.down → old.at_host ≤ length old.up
-      → IsDeliveredDown (record old { down = with_piece_at old.down old.at_station read }) n new
-      → ComesDown (ends_of old) n (record { sent = take n (drop old.at_station old.down); read = read } ∷ [])
-      (ends_of new)
+      → IsDeliveredDown (record old { down = with_piece_at old.down old.at_station read }) n new → ComesDown
+      (ends_of old) n (record { sent = take n (drop old.at_station old.down); read = read } ∷ []) (ends_of new)
   down_piece fits room d =
       let upward : drop new.at_host new.up ≡ drop old.at_host old.up ++ d.0.written =
       ap (λ (z : WireParts). drop z.at z.bytes) d.0.to_is ∙ drop-append-le old.at_host old.up d.0.written room in (
@@ -186,8 +175,7 @@ module _ (x y z : TwoEnds) (a b : ℕ) (cs ds : List Crossing) where
   down_more p q = (
     p.0 ++ q.0,
     p.1 ++ q.1,
-    more_come _ _ _ _ _ a b cs ds _ _ _ _ _ _ p.0 q.0 p.1 q.1
-        p.2 q.2,
+    more_come _ _ _ _ _ a b cs ds _ _ _ _ _ _ p.0 q.0 p.1 q.1 p.2 q.2,
     cc (q.3, p.3, append_assoc x.to_host p.0 q.0, append_assoc x.events p.1 q.1),
   )
 
@@ -201,21 +189,14 @@ module _ (x y z : TwoEnds) (a b : ℕ) (cs ds : List Crossing) where
 
 module _ (x y : TwoEnds) (a b : ℕ) (cs : List Crossing) (le : a ≤ b) where
   pub down_all : y.to_station ≡ [] → ComesDown x a cs y → ComesDown x b cs y
-  down_all none p = (
-    p.0,
-    p.1,
-    all_have_come _ _ _ _ _ a b cs _ _ _ _ p.0 p.1 le
-        none p.2,
-    p.3,
-  )
+  down_all none p = (p.0, p.1, all_have_come _ _ _ _ _ a b cs _ _ _ _ p.0 p.1 le none p.2, p.3)
 
   pub up_all : y.to_host ≡ [] → ComesUp x a cs y → ComesUp x b cs y
   up_all none p = (p.0, p.1, all_have_come _ _ _ _ _ a b cs _ _ _ _ p.0 p.1 le none p.2, p.3)
 
 -- one move more
-pub moved_on : (a b c : TwoEnds) (ms : List Move) (m : Move) (ds us es vs : List Crossing) → HaveMoved a ms ds us b
-    → HasMoved b m es vs c
-    → HaveMoved a (ms ++ m ∷ []) (ds ++ es) (us ++ vs) c
+pub moved_on : (a b c : TwoEnds) (ms : List Move) (m : Move) (ds us es vs : List Crossing)
+    → HaveMoved a ms ds us b → HasMoved b m es vs c → HaveMoved a (ms ++ m ∷ []) (ds ++ es) (us ++ vs) c
 moved_on a b c [] m ds us es vs p q = (
   es,
   vs,
@@ -267,9 +248,8 @@ module _ {S R : Type 0} (takes : MayTake S) (failures : S → ℕ) (gives : MayG
   crossed_behind a b c cs p q = (cs ++ q.0, crossed_on a b c cs q.0 p q.1)
 
   -- a stop behind pieces that crossed
-  pub stop_behind : (a b c : Line S R) (cs : List Crossing) (fault : Fault)
-      → HaveCrossed takes failures gives misses a cs b → IsStopped takes failures gives misses b c fault
-      → IsStopped takes failures gives misses a c fault
+  pub stop_behind : (a b c : Line S R) (cs : List Crossing) (fault : Fault) → HaveCrossed takes failures gives
+      misses a cs b → IsStopped takes failures gives misses b c fault → IsStopped takes failures gives misses a c fault
   stop_behind a b c cs fault p q = record {
     crossings = cs ++ q.crossings;
     last = q.last;
@@ -279,9 +259,8 @@ module _ {S R : Type 0} (takes : MayTake S) (failures : S → ℕ) (gives : MayG
     failed = q.failed;
   }
 
-  pub stopped_behind : (a b c : Line S R) (cs : List Crossing) (fault : Fault)
-      → HaveCrossed takes failures gives misses a cs b → IsEnded takes failures gives misses b c fault
-      → IsEnded takes failures gives misses a c fault
+  pub stopped_behind : (a b c : Line S R) (cs : List Crossing) (fault : Fault) → HaveCrossed takes failures gives
+      misses a cs b → IsEnded takes failures gives misses b c fault → IsEnded takes failures gives misses a c fault
   stopped_behind a b c cs fault p (inl m) = inl (m.0, crossed_behind a b c cs p m.1)
   stopped_behind a b c cs fault p (inr k) = inr (stop_behind a b c cs fault p k)
 
@@ -293,31 +272,20 @@ module _ {S R T Q : Type 0} (takes : MayTake S) (failures : S → ℕ) (gives : 
       → HaveCrossed takes' failures' gives' misses' a' cs' b'
       → AreEnded takes failures gives misses takes' failures' gives' misses' b c b' c' fault
       → AreEnded takes failures gives misses takes' failures' gives' misses' a c a' c' fault
-  either_behind a b c cs a' b' c' cs' fault p p' (inl m) =
-      inl (
-        m.0,
-        crossed_behind takes _ gives _ a b c cs p m.1,
-        crossed_behind _ _ _ _ a' b' c' cs' p' m.2,
-      )
+  either_behind a b c cs a' b' c' cs' fault p p'
+      (inl m) = inl (m.0, crossed_behind takes _ gives _ a b c cs p m.1, crossed_behind _ _ _ _ a' b' c' cs' p' m.2)
   either_behind a b c cs a' b' c' cs' fault p p' (inr (inl k)) =
-      inr (inl (
-        stop_behind takes _ gives _ a b c cs fault p k.0,
-        crossed_behind _ _ _ _ a' b' c' cs' p' k.1,
-      ))
+      inr (inl (stop_behind takes _ gives _ a b c cs fault p k.0, crossed_behind _ _ _ _ a' b' c' cs' p' k.1))
   either_behind a b c cs a' b' c' cs' fault p p' (inr (inr k)) =
-      inr (inr (
-        crossed_behind takes _ gives _ a b c cs p k.0,
-        stop_behind _ _ _ _ a' b' c' cs' fault p' k.1,
-      ))
+      inr (inr (crossed_behind takes _ gives _ a b c cs p k.0, stop_behind _ _ _ _ a' b' c' cs' fault p' k.1))
 
   pub first_stops : (a c : Line S R) (a' : Line T Q) (fault : Fault) → IsEnded takes failures gives misses a c fault
       → AreEnded takes failures gives misses takes' failures' gives' misses' a c a' a' fault
   first_stops a c a' fault (inl m) = inl (m.0, m.1, ([], refl))
   first_stops a c a' fault (inr k) = inr (inl (k, ([], refl)))
 
-  pub second_stops : (a : Line S R) (a' c' : Line T Q) (fault : Fault)
-      → IsEnded takes' failures' gives' misses' a' c' fault
-      → AreEnded takes failures gives misses takes' failures' gives' misses' a a a' c' fault
+  pub second_stops : (a : Line S R) (a' c' : Line T Q) (fault : Fault) → IsEnded takes' failures'
+      gives' misses' a' c' fault → AreEnded takes failures gives misses takes' failures' gives' misses' a a a' c' fault
   second_stops a a' c' fault (inl m) = inl (m.0, ([], refl), m.1)
   second_stops a a' c' fault (inr k) = inr (inr (([], refl), k))
 
@@ -336,5 +304,4 @@ written_back bytes at n h =
     let room : n ≤ length (drop at bytes) = subst (λ k. n ≤ k) (sym (length-drop at bytes)) (omega (arith, h)) in
     let long : length (take n (drop at bytes)) ≡ n = length-take-le n (drop at bytes) room in
     ap (λ k. take at bytes ++ take n (drop at bytes) ++ drop (at + k) bytes) long
-    ∙ ap (λ l. l ++ drop (at + n) bytes) (sym (take-add at n bytes))
-    ∙ take-append-drop (at + n) bytes
+    ∙ ap (λ l. l ++ drop (at + n) bytes) (sym (take-add at n bytes)) ∙ take-append-drop (at + n) bytes

@@ -125,8 +125,7 @@ module _ (t : TerminalType) where
     pub host : host_allows_records w.host.options ≡ true
 
   pub opens : (all : ℕ) (w : World) → Sound t w → length (down_bytes (after_moves w (three_deliveries all))) ≤ all
-      → length (up_bytes (after_moves w (three_deliveries all))) ≤ all
-      → Opened (after_moves w (three_deliveries all))
+      → length (up_bytes (after_moves w (three_deliveries all))) ≤ all → Opened (after_moves w (three_deliveries all))
   opens all w s downs ups =
       let x1 = after_moves w (delivery all) in
       let x2 = after_moves x1 (delivery all) in

@@ -12,8 +12,7 @@ use Rattle.ws_session.proofs.PlaySteps.{keys_taken}
 -- What the reads of a run make of its player.
 
 -- what the loop over a source keeps: the bytes that it gave have brought the player here, and are at most 4,096 a read
-pub record Reading {R S : Type 0} (gives : MayGive R) (misses : R
-    → ℕ) (source now : R) (reads : ℕ) (takes : MayTake S)
+pub record Reading {R S : Type 0} (gives : MayGive R) (misses : R → ℕ) (source now : R) (reads : ℕ) (takes : MayTake S)
     (failures : S → ℕ) (t : TerminalType) (keys : List (ℕ × Key)) (sink here : S) (player : Player) : Type 0 where
   pub bytes : List ℕ
   pub items : List (Item Element)
@@ -21,26 +20,15 @@ pub record Reading {R S : Type 0} (gives : MayGive R) (misses : R
   pub come : HasCome takes failures t keys sink player here bytes items
   pub few : length bytes ≤ 4096 * reads
 
-module _ {R S : Type 0} (gives : MayGive R) (misses : R → ℕ) (takes : MayTake S) (failures : S
-    → ℕ) (t : TerminalType)
-    (keys : List (ℕ × Key)) where
+module _ {R S : Type 0} (gives : MayGive R)
+    (misses : R → ℕ) (takes : MayTake S) (failures : S → ℕ) (t : TerminalType) (keys : List (ℕ × Key)) where
   gave_none : (s : R) → Gave gives misses s s 0 []
-  gave_none s = record {
-    reads = [];
-    made = refl;
-    counted = refl;
-    within = omega arith;
-    gave = refl;
-    uncounted =
-        refl;
-  }
+  gave_none s = record { reads = []; made = refl; counted = refl; within = omega arith; gave = refl; uncounted = refl }
 
   -- before the first read the keys are pressed that wait for no record
   pub run_starts : (station : StationParts) (source : R) (sink here : S) (player : Player)
       → HasDone takes failures [] [] (record { station = station; records = 0; pressed = 0; keys_refused = 0 })
-      player
-      sink here (outcome (new_station_side t) (due 0 keys))
-      → drop player.pressed keys ≡ later 0 keys
+      player sink here (outcome (new_station_side t) (due 0 keys)) → drop player.pressed keys ≡ later 0 keys
       → Reading gives misses source source 0 takes failures t keys sink here player
   run_starts station source sink here player done left = record {
     bytes = [];
@@ -48,8 +36,7 @@ module _ {R S : Type 0} (gives : MayGive R) (misses : R → ℕ) (takes : MayTak
     gave = gave_none _;
     come = record {
       is_behind = record { leads = done.leads; taken = keys_taken _ 0 keys };
-      refused = done.refused 0 refl ∙ ap refusal_count (let e : 0 + (outcome (new_station_side t) (due 0
-          keys)).refused
+      refused = done.refused 0 refl ∙ ap refusal_count (let e : 0 + (outcome (new_station_side t) (due 0 keys)).refused
           ≡ (outcome (new_station_side t) (due 0 keys)).refused = omega arith in e);
       records = done.records;
       left = left;
@@ -59,9 +46,8 @@ module _ {R S : Type 0} (gives : MayGive R) (misses : R → ℕ) (takes : MayTak
     few = omega arith;
   }
 
-  pub start_fails : (station : StationParts) (source : R) (sink here : S) → StationLeads station [] []
-      (new_station_side t)
-      → FailedWithin takes failures sink here (text_of (outcome (new_station_side t) (due 0 keys)).written)
+  pub start_fails : (station : StationParts) (source : R) (sink here : S) → StationLeads station [] [] (new_station_side
+      t) → FailedWithin takes failures sink here (text_of (outcome (new_station_side t) (due 0 keys)).written)
       → IsRun t keys gives misses source source takes failures sink here (Err Write)
   start_fails station source sink here l failed = record {
     bytes = [];
@@ -80,14 +66,12 @@ module _ {R S : Type 0} (gives : MayGive R) (misses : R → ℕ) (takes : MayTak
     };
   }
 
-  module _ (source now : R) (reads : ℕ) (sink here : S) (player : Player)
-      (r : Reading gives misses source now reads takes failures t keys sink here player)
-      (one_left : reads < most_reads) where
+  module _ (source now : R) (reads : ℕ) (sink here : S) (player : Player) (r : Reading
+      gives misses source now reads takes failures t keys sink here player) (one_left : reads < most_reads) where
     -- the source's end
     pub run_ends : (now' : R) (room : ℕ) (result : Result Played Fault) → 0 < room → gives now room (Some []) now'
-        → misses now' ≡ misses now
-        → IfOk result (λ played. (played.station ≡ player.station) × (played.keys_refused ≡ player.keys_refused)
-        × AtStation player.station (λ bytes items side. IsInGrammar element_rules bytes items))
+        → misses now' ≡ misses now → IfOk result (λ played. (played.station ≡ player.station) × (played.keys_refused
+        ≡ player.keys_refused) × AtStation player.station (λ bytes items side. IsInGrammar element_rules bytes items))
         → IfErr result (λ fault. (bytes : List ℕ) (items : List (Item Element)) (side : StationSide)
         → StationLeads player.station bytes items side → length bytes + 1 < 2 ^ 64
         → (fault ≡ Truncated (length bytes)) × IsTruncated {Place = Place} {U = Element} element_rules bytes)
@@ -97,10 +81,7 @@ module _ {R S : Type 0} (gives : MayGive R) (misses : R → ℕ) (takes : MayTak
       items = r.items;
       gave = gave_all gives misses source now now' reads r.bytes room r.gave one_left h made same;
       accepted = ok.2 r.bytes r.items (behind t keys r.items).side r.come.is_behind.leads;
-      is_behind = record {
-        leads = rw ok.0 r.come.is_behind.leads;
-        taken = r.come.is_behind.taken;
-      };
+      is_behind = record { leads = rw ok.0 r.come.is_behind.leads; taken = r.come.is_behind.taken };
       refused = ok.1 ∙ r.come.refused;
       wrote = r.come.wrote;
     }

@@ -23,13 +23,11 @@ moments_more : (n : ℕ) (keys : List (ℕ × Key)) (items : List (Item Element)
     (records_from n items + one_record item) (keys_left_from n keys items)
 moments_more n keys [] item = refl
 moments_more n keys (i ∷ items) item =
-    ap (λ z. due n keys ++ Arrives i ∷ z) (moments_more (n + one_record i) (later n keys) items item)
-    ∙ sym (append_assoc (due n keys) (Arrives i ∷ moments_from (n + one_record i) (later n keys) items)
-    (Arrives item ∷ due (records_from (n + one_record i) items + one_record item)
-    (keys_left_from (n + one_record i) (later n keys) items)))
+    ap (λ z. due n keys ++ Arrives i ∷ z) (moments_more (n + one_record i) (later n keys) items item) ∙ sym
+    (append_assoc (due n keys) (Arrives i ∷ moments_from (n + one_record i) (later n keys) items) (Arrives item ∷ due
+    (records_from (n + one_record i) items + one_record item) (keys_left_from (n + one_record i) (later n keys) items)))
 
-left_more : (n : ℕ) (keys : List (ℕ × Key)) (items : List (Item Element)) (item : Item Element)
-    → keys_left_from n keys
+left_more : (n : ℕ) (keys : List (ℕ × Key)) (items : List (Item Element)) (item : Item Element) → keys_left_from n keys
     (items ++ item ∷ []) ≡ later (records_from n items + one_record item) (keys_left_from n keys items)
 left_more n keys [] item = refl
 left_more n keys (i ∷ items) item = left_more (n + one_record i) (later n keys) items item
@@ -41,12 +39,11 @@ records_more n (i ∷ items) item = records_more (n + one_record i) items item
 
 due_later : (n : ℕ) (keys : List (ℕ × Key)) → (due n (later n keys) ≡ []) × (later n (later n keys) ≡ later n keys)
 due_later n [] = (refl, refl)
-due_later n (k ∷ ks) = by_test _ refl (due_later n ks)
-  where
-    by_test : (b : Bool) → nat_lt n k.0 ≡ b → (due n (later n ks) ≡ []) × (later n (later n ks) ≡ later n ks)
-        → (due n (later n (k ∷ ks)) ≡ []) × (later n (later n (k ∷ ks)) ≡ later n (k ∷ ks))
-    by_test true e next = let q = none_due n k ks e in (ap (due n) q.1 ∙ q.0, ap (later n) q.1)
-    by_test false e next = let q = later_by n k ks e in (ap (due n) q ∙ next.0, ap (later n) q ∙ next.1 ∙ sym q)
+due_later n (k ∷ ks) = by_test _ refl (due_later n ks) where
+  by_test : (b : Bool) → nat_lt n k.0 ≡ b → (due n (later n ks) ≡ []) × (later n (later n ks) ≡ later n ks)
+      → (due n (later n (k ∷ ks)) ≡ []) × (later n (later n (k ∷ ks)) ≡ later n (k ∷ ks))
+  by_test true e next = let q = none_due n k ks e in (ap (due n) q.1 ∙ q.0, ap (later n) q.1)
+  by_test false e next = let q = later_by n k ks e in (ap (due n) q ∙ next.0, ap (later n) q ∙ next.1 ∙ sym q)
 
 -- behind items no key is due
 pub left_settled : (n : ℕ) (keys : List (ℕ × Key)) (items : List (Item Element))
@@ -62,12 +59,11 @@ taken_append s (m ∷ ms) ns a b = (a.0, taken_append (at_moment s m).side ms ns
 
 pub keys_taken : (s : StationSide) (n : ℕ) (ks : List (ℕ × Key)) → AreTaken s (due n ks)
 keys_taken s n [] = tt
-keys_taken s n (k ∷ ks) = by_test _ (keys_taken (at_moment s (Presses k.1)).side n ks)
-  where
-    by_test : (b : Bool) → AreTaken (at_moment s (Presses k.1)).side (due n ks)
-        → AreTaken s (if b then [] else Presses k.1 ∷ due n ks)
-    by_test true rest = tt
-    by_test false rest = (refl, rest)
+keys_taken s n (k ∷ ks) = by_test _ (keys_taken (at_moment s (Presses k.1)).side n ks) where
+  by_test : (b : Bool) → AreTaken (at_moment s (Presses k.1)).side (due n ks)
+      → AreTaken s (if b then [] else Presses k.1 ∷ due n ks)
+  by_test true rest = tt
+  by_test false rest = (refl, rest)
 
 -- a record is told, and nothing else
 one_of : (item : Item Element) → [] ≡ applied_by item → one_record item ≡ 0
@@ -78,10 +74,9 @@ one_of_record : (item : Item Element) (event : Applied) → event ∷ [] ≡ app
 one_of_record (RecordItem r) event e = refl
 one_of_record (TelnetItem token) event e = cc
 
-module _ {S : Type 0} (takes : MayTake S) (failures : S → ℕ) (t : TerminalType) (keys : List (ℕ × Key)) (start now :
-    S)
-    (old : Player) (before : StationParts) (bytes : List ℕ) (items : List (Item Element)) (byte : ℕ)
-    (c : HasCome takes failures t keys start (record old { station = before }) now bytes items) where
+module _ {S : Type 0} (takes : MayTake S) (failures : S → ℕ) (t : TerminalType) (keys : List (ℕ × Key))
+    (start now : S) (old : Player) (before : StationParts) (bytes : List ℕ) (items : List (Item Element))
+    (byte : ℕ) (c : HasCome takes failures t keys start (record old { station = before }) now bytes items) where
   abbrev so_far : Outcome
   so_far = behind t keys items
 
@@ -97,9 +92,8 @@ module _ {S : Type 0} (takes : MayTake S) (failures : S → ℕ) (t : TerminalTy
     records = c.records;
     left = c.left;
     few = omega (arith, c.few, length-append bytes (byte ∷ []));
-    wrote = rw (← (ap (λ z. run_text t keys items ++ z) silent
-        ∙ append-nil (run_text t keys items))) (went_out_both takes failures start now to
-        (run_text t keys items) reply c.wrote went);
+    wrote = rw (← (ap (λ z. run_text t keys items ++ z) silent ∙ append-nil (run_text t keys items)))
+        (went_out_both takes failures start now to (run_text t keys items) reply c.wrote went);
   }
 
   module _ (reply : List ℕ) (taken : IsTaken old.station bytes items so_far.side byte reply) where
@@ -116,27 +110,22 @@ module _ {S : Type 0} (takes : MayTake S) (failures : S → ℕ) (t : TerminalTy
     keyed = outcome taken.next due_then
 
     one_more : behind t keys more ≡ outcome_of_both so_far (outcome_of_both did keyed)
-    one_more =
-        ap (outcome (new_station_side t)) (moments_more 0 keys items _) ∙ outcome_append _
-        _ _
-        ∙ ap (λ r. let a : Outcome = at_item so_far.side r in
+    one_more = ap (outcome (new_station_side t)) (moments_more 0 keys items _)
+        ∙ outcome_append _ _ _ ∙ ap (λ r. let a : Outcome = at_item so_far.side r in
         outcome_of_both so_far (outcome_of_both a (outcome a.side due_then))) taken.goes_on
 
     taken_more : AreTaken (new_station_side t) (moments keys more)
-    taken_more =
-        rw (moments_more 0 keys items taken.item) (taken_append (new_station_side t) (moments keys items)
-        (Arrives taken.item ∷ due_then) c.is_behind.taken (
+    taken_more = rw (moments_more 0 keys items taken.item)
+        (taken_append (new_station_side t) (moments keys items) (Arrives taken.item ∷ due_then) c.is_behind.taken (
           ap goes_on taken.goes_on,
           keys_taken (at_moment so_far.side (Arrives taken.item)).side
               (records_from 0 items + one_record taken.item) (keys_left_from 0 keys items),
         ))
 
     text_more : run_text t keys items ++ (reply ++ text_of keyed.written) ≡ run_text t keys more
-    text_more =
-        ap (λ z. run_text t keys items ++ (z ++ text_of keyed.written)) taken.spelled
-        ∙ ap (λ z. run_text t keys items ++ z) (sym (text_append taken.writes keyed.written))
-        ∙ sym (text_append so_far.written (taken.writes ++ keyed.written)) ∙ ap (λ (o : Outcome). text_of o.written)
-        (sym one_more)
+    text_more = ap (λ z. run_text t keys items ++ (z ++ text_of keyed.written)) taken.spelled
+        ∙ ap (λ z. run_text t keys items ++ z) (sym (text_append taken.writes keyed.written)) ∙ sym (text_append
+        so_far.written (taken.writes ++ keyed.written)) ∙ ap (λ (o : Outcome). text_of o.written) (sym one_more)
 
     -- an item is, and the keys that are due behind it are pressed
     item_comes : (records : ℕ) (new : Player) (mid to : S) → records ≡ old.records + one_record taken.item
@@ -146,19 +135,15 @@ module _ {S : Type 0} (takes : MayTake S) (failures : S → ℕ) (t : TerminalTy
         (keys_left_from 0 keys items) → one_record taken.item ≤ 1
         → HasCome takes failures t keys start new to longer more
     item_comes records new mid to is went done left one = record {
-      is_behind = record {
-        leads = rw one_more done.leads;
-        taken = taken_more;
-      };
-      refused = done.refused so_far.refused c.refused ∙ ap refusal_count (let e : so_far.refused + keyed.refused
-          ≡ so_far.refused + (0 + keyed.refused) = omega arith in e) ∙ ap (λ (o : Outcome). refusal_count o.refused)
-          (sym one_more);
-      records = done.records ∙ is ∙ ap (λ n. n + one_record taken.item) c.records
-          ∙ sym (records_more 0 items _);
+      is_behind = record { leads = rw one_more done.leads; taken = taken_more };
+      refused = done.refused so_far.refused c.refused ∙ ap refusal_count
+          (let e : so_far.refused + keyed.refused ≡ so_far.refused + (0 + keyed.refused) = omega arith in e)
+          ∙ ap (λ (o : Outcome). refusal_count o.refused) (sym one_more);
+      records = done.records ∙ is ∙ ap (λ n. n + one_record taken.item) c.records ∙ sym (records_more 0 items _);
       left = left ∙ sym (left_more 0 keys items _);
       few = omega (arith, done.records, is, one, c.few, length-append bytes (byte ∷ []));
-      wrote = rw (← text_more) (went_out_both takes failures start now to
-          (run_text t keys items) (reply ++ text_of keyed.written) c.wrote
+      wrote = rw (← text_more)
+          (went_out_both takes failures start now to (run_text t keys items) (reply ++ text_of keyed.written) c.wrote
           (went_out_both takes failures now mid to reply (text_of keyed.written) went done.wrote));
     }
 
@@ -178,9 +163,8 @@ module _ {S : Type 0} (takes : MayTake S) (failures : S → ℕ) (t : TerminalTy
 
     reply_unwritten : (to : S) → FailedWithin takes failures now to reply
         → RunUnwritten t keys takes failures start to longer
-    reply_unwritten to failed =
-        unwritten to (rw (← text_more) (failed_within_both takes failures start now to (run_text t keys items) reply
-        (text_of keyed.written) c.wrote failed))
+    reply_unwritten to failed = unwritten to (rw (← text_more) (failed_within_both takes failures start now to
+        (run_text t keys items) reply (text_of keyed.written) c.wrote failed))
 
     keys_unwritten : (mid to : S) → WentOut takes failures now mid reply → FailedWithin takes failures mid to
         (text_of keyed.written) → RunUnwritten t keys takes failures start to longer
@@ -189,8 +173,7 @@ module _ {S : Type 0} (takes : MayTake S) (failures : S → ℕ) (t : TerminalTy
         let ys = text_of keyed.written in
         let text : (xs ++ reply) ++ (ys ++ []) ≡ run_text t keys more = append_assoc xs reply (ys ++ [])
         ∙ ap (λ z. xs ++ (reply ++ z)) (append-nil ys) ∙ text_more in
-        unwritten to (rw (← text) (failed_within_both takes failures start mid
-        to
+        unwritten to (rw (← text) (failed_within_both takes failures start mid to
         (xs ++ reply) ys [] (went_out_both takes failures start now mid xs reply c.wrote went) failed))
 
   -- ---- by what the byte has done
@@ -198,15 +181,13 @@ module _ {S : Type 0} (takes : MayTake S) (failures : S → ℕ) (t : TerminalTy
     module _ (reply : List ℕ) (told : List Applied)
         (goes : StationGoes before (Came byte ∷ []) reply told old.station) where
       went_by : Went old.station bytes items so_far.side byte reply told
-      went_by = station_went _ bytes items _ byte reply told
-          (goes bytes items _ c.is_behind.leads (omega (arith, few)))
+      went_by = station_went _ bytes items _ byte reply told (goes bytes items _ c.is_behind.leads (omega (arith, few)))
 
       -- the reply isn't written
       reply_fails : (to : S) → FailedWithin takes failures now to reply
           → RunUnwritten t keys takes failures start to longer
       reply_fails to failed = elim went_by [
-        | inl i ↦
-            (let none = rw i.0 at failed in
+        | inl i ↦ (let none = rw i.0 at failed in
             absurd (let e : 0 < 0 = omega (arith, none.within) in omega (arith, e)))
         | inr taken ↦ reply_unwritten reply taken.0 to failed
       ]
@@ -216,17 +197,15 @@ module _ {S : Type 0} (takes : MayTake S) (failures : S → ℕ) (t : TerminalTy
           → (next : List (Item Element)) × HasCome takes failures t keys start old to longer next
       no_record to e went = elim went_by [
         | inl i ↦ (items, inside_comes reply to i.0 i.2 went)
-        | inr taken ↦
-            (let item : Item Element = taken.0.item in
+        | inr taken ↦ (let item : Item Element = taken.0.item in
             let one : one_record item ≡ 0 = one_of item (sym e ∙ taken.1) in
             let same : records_from 0 items + one_record item ≡ records_from 0 items = omega (arith, one) in
             let settled = left_settled 0 keys items in
-            let none : due (records_from 0 items + one_record item) (keys_left_from 0 keys items)
-            ≡ [] = ap (λ n. due n (keys_left_from 0 keys items)) same ∙ settled.0 in
+            let none : due (records_from 0 items + one_record item)
+            (keys_left_from 0 keys items) ≡ [] = ap (λ n. due n (keys_left_from 0 keys items)) same ∙ settled.0 in
             let side : StationSide = taken.0.next in
-            let done : HasDone takes failures longer (items ++ item ∷ []) (record old { records = old.records }) old
-            to
-            to (idle_outcome side) = record {
+            let done : HasDone takes failures longer
+            (items ++ item ∷ []) (record old { records = old.records }) old to to (idle_outcome side) = record {
               leads = taken.0.leads;
               refused = λ n is. is ∙ ap refusal_count (let f : n ≡ n + 0 = omega arith in f);
               records = refl;
@@ -235,9 +214,8 @@ module _ {S : Type 0} (takes : MayTake S) (failures : S → ℕ) (t : TerminalTy
               items ++ item ∷ [],
               item_comes reply taken.0 _ old to to (omega (arith, one)) went
                   (subst (λ (ms : List Moment). HasDone takes failures longer (items ++ item ∷ [])
-                  (record old { records = old.records }) old to to (outcome side ms)) (sym none) done)
-                  (c.left ∙ sym settled.1 ∙ ap (λ n. later n (keys_left_from 0 keys items)) (sym same))
-                  (omega (arith, one)),
+                  (record old { records = old.records }) old to to (outcome side ms)) (sym none) done) (c.left
+                  ∙ sym settled.1 ∙ ap (λ n. later n (keys_left_from 0 keys items)) (sym same)) (omega (arith, one)),
             ))
       ]
 
@@ -279,17 +257,14 @@ module _ {S : Type 0} (takes : MayTake S) (failures : S → ℕ) (t : TerminalTy
                 ))
           ]
 
-          pub keys_fail : (to : S)
-              → AtStation old.station (λ bytes items side. length bytes + 1 < 2 ^ 64
-              → FailedWithin takes failures mid to (text_of (outcome side (due records (drop old.pressed
-              keys))).written))
+          pub keys_fail : (to : S) → AtStation old.station (λ bytes items side. length bytes + 1 < 2 ^ 64 → FailedWithin
+              takes failures mid to (text_of (outcome side (due records (drop old.pressed keys))).written))
               → RunUnwritten t keys takes failures start to longer
           keys_fail to failed = elim went_by [
             | inl i ↦ absurd (let e : event ∷ [] ≡ [] = sym ends ∙ i.1 in cc)
-            | inr taken ↦
-                keys_unwritten reply taken.0 mid to went (rw (← now_due taken.0.item taken.1) (failed longer
-                (items ++ taken.0.item ∷ []) taken.0.next taken.0.leads
-                (omega (arith, few, length-append bytes (byte ∷ [])))))
+            | inr taken ↦ keys_unwritten reply taken.0 mid to went
+                (rw (← now_due taken.0.item taken.1) (failed longer (items ++ taken.0.item ∷ [])
+                taken.0.next taken.0.leads (omega (arith, few, length-append bytes (byte ∷ [])))))
           ]
 
     -- the byte is refused, or its item
@@ -311,24 +286,18 @@ module _ {S : Type 0} (takes : MayTake S) (failures : S → ℕ) (t : TerminalTy
           wrote = rw unwritten c.wrote;
         }
     refused_as to unwritten NoMore refuses = refuses bytes items so_far.side c.is_behind.leads (omega (arith, few))
-    refused_as to unwritten NoMemory refuses = refuses bytes items so_far.side c.is_behind.leads (omega (
-      arith,
-      few,
-    ))
+    refused_as to unwritten NoMemory refuses = refuses bytes items so_far.side c.is_behind.leads (omega (arith, few))
 
     -- it doesn't come through
-    pub byte_fails : (to : S) (fault : Fault)
-        → IsUntaken StationGoes StationRefuses takes failures before old.station now to byte fault
-        → IsRunFault t keys takes failures start to (length bytes) longer fault
+    pub byte_fails : (to : S) (fault : Fault) → IsUntaken StationGoes StationRefuses takes failures
+        before old.station now to byte fault → IsRunFault t keys takes failures start to (length bytes) longer fault
     byte_fails to fault (inl h) = rw h.0 (reply_fails h.1.written h.1.told h.1.led to h.1.failed)
     byte_fails to fault (inr h) = rw h.is (refused_as to h.unwritten _ h.refused)
 
 -- a fault within some bytes is one within more
 pub fault_within : (t : TerminalType) (keys : List (ℕ × Key)) {S : Type 0} (takes : MayTake S) (failures : S → ℕ)
-    (start now : S) (first first' : ℕ) (bytes more : List ℕ) (fault : Fault) → first' ≤ first
-    → IsRunFault t keys takes failures start now first bytes fault
-    → IsRunFault t keys takes failures start now first'
-    (bytes ++ more) fault
+    (start now : S) (first first' : ℕ) (bytes more : List ℕ) (fault : Fault) → first' ≤ first → IsRunFault t keys
+    takes failures start now first bytes fault → IsRunFault t keys takes failures start now first' (bytes ++ more) fault
 fault_within t keys takes failures start now first first' bytes more (Refused place reason) le f = record {
   before = f.before;
   byte = f.byte;
@@ -366,6 +335,5 @@ next_byte bytes piece i lt = append_assoc bytes (take i piece) (get_or piece i 0
 
 pub rest_of : (bytes piece : List ℕ) (i : ℕ) → i < length piece → ((bytes ++ take i piece) ++ get_or piece i 0 ∷ [])
     ++ drop (i + 1) piece ≡ bytes ++ piece
-rest_of bytes piece i lt =
-    ap (λ z. z ++ drop (i + 1) piece) (next_byte bytes piece i lt) ∙ append_assoc bytes (take (i + 1) piece)
-    (drop (i + 1) piece) ∙ ap (λ z. bytes ++ z) (take-append-drop (i + 1) piece)
+rest_of bytes piece i lt = ap (λ z. z ++ drop (i + 1) piece) (next_byte bytes piece i lt) ∙ append_assoc bytes
+    (take (i + 1) piece) (drop (i + 1) piece) ∙ ap (λ z. bytes ++ z) (take-append-drop (i + 1) piece)

@@ -46,10 +46,8 @@ outcome_append s (m ∷ ms) ns =
 abbrev Comes : StationParts → List ℕ → List (Item Element) → List ℕ → List (Item AnswerPart) → StationSide → Type 0
 Comes station bytes items text written side = (text ≡ text_of written) × StationLeads station bytes items side
 
-by_act : (station : StationParts) (bytes : List ℕ) (items : List (Item Element)) (side : StationSide) (text : List
-    ℕ)
-    (z : KeyReaction)
-    → Comes station bytes items text (station_at_key side z).written (station_at_key side z).side
+by_act : (station : StationParts) (bytes : List ℕ) (items : List (Item Element)) (side : StationSide) (text : List ℕ)
+    (z : KeyReaction) → Comes station bytes items text (station_at_key side z).written (station_at_key side z).side
     → Comes station bytes items text (at_key side z).written (at_key side z).side
 by_act station bytes items side text (RefusesKey fault) p = p
 by_act station bytes items side text (Silent next) p = p
@@ -76,8 +74,7 @@ module _ {S : Type 0} (takes : MayTake S) (failures : S → ℕ) (old : Player) 
 
   pub taken_done : HasWritten StationGoes takes failures old.station station from to (Did key ∷ []) []
       → IsKeyTaken old.station key
-      → HasDone takes failures bytes items old (record old { station = station }) from to (at_moment side (Presses
-      key))
+      → HasDone takes failures bytes items old (record old { station = station }) from to (at_moment side (Presses key))
   taken_done h taken =
       let p = pressed _ [] h.led in
       record {
@@ -93,23 +90,20 @@ module _ {S : Type 0} (takes : MayTake S) (failures : S → ℕ) (old : Player) 
   press_failed h = rw (← (pressed _ _ h.led).0) h.failed
 
   pub refused_done : (fault : KeyFault) (count : ℕ) → station ≡ old.station → to ≡ from
-      → IsKeyRefusal old.station key fault → count ≡ min (old.keys_refused + 1) (2 ^ 32 - 1)
-      → HasDone takes failures bytes items old (record old { station = station; keys_refused = count }) from to
-      (at_moment side (Presses key))
-  refused_done fault count same unwritten refusal is =
-      rw (refusal bytes items side l few) (record {
-        leads = rw same l;
-        refused = λ before e. (let f : count ≡ refusal_count (before + 1) = omega (arith, e, is) in f);
-        records = refl;
-        wrote = rw unwritten (went_out_none takes failures from);
-      })
+      → IsKeyRefusal old.station key fault → count ≡ min (old.keys_refused + 1) (2 ^ 32 - 1) → HasDone takes failures
+      bytes items old (record old { station = station; keys_refused = count }) from to (at_moment side (Presses key))
+  refused_done fault count same unwritten refusal is = rw (refusal bytes items side l few) (record {
+    leads = rw same l;
+    refused = λ before e. (let f : count ≡ refusal_count (before + 1) = omega (arith, e, is) in f);
+    records = refl;
+    wrote = rw unwritten (went_out_none takes failures from);
+  })
 
 -- one after another
 module _ {S : Type 0} (takes : MayTake S) (failures : S → ℕ) (bytes : List ℕ) (items : List (Item Element)) where
   pub done_both : (old mid new : Player) (from between to : S) (a b : Outcome)
-      → HasDone takes failures bytes items old mid from between a
-      → HasDone takes failures bytes items mid new between to b
-      → HasDone takes failures bytes items old new from to (outcome_of_both a b)
+      → HasDone takes failures bytes items old mid from between a → HasDone takes failures
+      bytes items mid new between to b → HasDone takes failures bytes items old new from to (outcome_of_both a b)
   done_both old mid new from between to a b p q = record {
     leads = q.leads;
     refused = λ before is. q.refused _ (p.refused before is) ∙ ap refusal_count
@@ -121,8 +115,7 @@ module _ {S : Type 0} (takes : MayTake S) (failures : S → ℕ) (bytes : List �
 
 -- ---- the keys that are due
 
-due_by : (n : ℕ) (k : ℕ × Key) (ks : List (ℕ × Key)) → nat_lt n k.0 ≡ false
-    → due n (k ∷ ks) ≡ Presses k.1 ∷ due n ks
+due_by : (n : ℕ) (k : ℕ × Key) (ks : List (ℕ × Key)) → nat_lt n k.0 ≡ false → due n (k ∷ ks) ≡ Presses k.1 ∷ due n ks
 due_by n k ks e = ap (λ (b : Bool). if b then [] else Presses k.1 ∷ due n ks) e
 
 pub later_by : (n : ℕ) (k : ℕ × Key) (ks : List (ℕ × Key)) → nat_lt n k.0 ≡ false → later n (k ∷ ks) ≡ later n ks
@@ -157,9 +150,8 @@ pub record Pressing {S : Type 0} (takes : MayTake S) (failures : S → ℕ) (fir
   pub due_is : due first.records (drop first.pressed keys) ≡ moments ++ due first.records (drop now.pressed keys)
   pub later_is : later first.records (drop first.pressed keys) ≡ later first.records (drop now.pressed keys)
   pub records : now.records ≡ first.records
-  pub did : (bytes : List ℕ) (items : List (Item Element)) (side : StationSide)
-      → StationLeads first.station bytes items side → length bytes + 1 < 2 ^ 64
-      → HasDone takes failures bytes items first now from to (outcome side moments)
+  pub did : (bytes : List ℕ) (items : List (Item Element)) (side : StationSide) → StationLeads first.station bytes items
+      side → length bytes + 1 < 2 ^ 64 → HasDone takes failures bytes items first now from to (outcome side moments)
 
 module _ {S : Type 0} (takes : MayTake S) (failures : S → ℕ) where
   pub pressing_starts : (first : Player) (from : S) (keys : List (ℕ × Key))
@@ -197,8 +189,7 @@ module _ {S : Type 0} (takes : MayTake S) (failures : S → ℕ) where
           ∙ sym (append_assoc p.moments (Presses k.1 ∷ []) (due first.records (drop (now.pressed + 1) keys)))
 
       pub pressing_next : (next : Player) (to : S) (place : ℕ) → place ≡ now.pressed + 1
-          → next.records ≡ now.records
-          → AtStation now.station (λ bytes items side. length bytes + 1 < 2 ^ 64
+          → next.records ≡ now.records → AtStation now.station (λ bytes items side. length bytes + 1 < 2 ^ 64
           → HasDone takes failures bytes items now next mid to (at_moment side (Presses k.1)))
           → Pressing takes failures first (record next { pressed = place }) from to keys
       pressing_next next to place at kept q = record {
@@ -229,24 +220,19 @@ module _ {S : Type 0} (takes : MayTake S) (failures : S → ℕ) where
       pub pressing_fails : (to : S) → AtStation now.station (λ bytes items side. length bytes + 1 < 2 ^ 64
           → FailedWithin takes failures mid to (text_of (at_moment side (Presses k.1)).written))
           → (bytes : List ℕ) (items : List (Item Element)) (side : StationSide)
-          → StationLeads first.station bytes items side
-          → length bytes + 1 < 2 ^ 64 → FailedWithin takes failures from to
-          (text_of (outcome side (due first.records (drop first.pressed keys))).written)
+          → StationLeads first.station bytes items side → length bytes + 1 < 2 ^ 64 → FailedWithin
+          takes failures from to (text_of (outcome side (due first.records (drop first.pressed keys))).written)
       pressing_fails to q bytes items side l few =
           let d = p.did bytes items side l few in
           let o : Outcome = outcome side p.moments in
           let b : Outcome = at_moment o.side (Presses k.1) in
           let rest : List Moment = due first.records (drop (now.pressed + 1) keys) in
-          let e : outcome side (due first.records (drop first.pressed keys)) ≡ outcome_of_both o
-          (outcome_of_both b (outcome b.side rest)) =
-          ap (outcome side) (rest_due ∙ append_assoc p.moments (Presses k.1 ∷ []) rest) ∙ outcome_append side
-          _
-          _ in
-          let text : text_of o.written ++ (text_of b.written ++ text_of (outcome b.side rest).written)
-          ≡ text_of (outcome side (due first.records (drop first.pressed keys))).written =
-          ap (λ z. text_of o.written ++ z) (sym (text_append b.written (outcome b.side rest).written))
-          ∙ sym (text_append o.written (b.written ++ (outcome b.side rest).written))
-          ∙ ap (λ (z : Outcome). text_of z.written) (sym e) in
-          rw (← text) (failed_within_both takes failures from mid to
-          (text_of o.written) (text_of b.written) (text_of (outcome b.side rest).written) d.wrote
-          (q bytes items o.side d.leads few))
+          let e : outcome side
+          (due first.records (drop first.pressed keys)) ≡ outcome_of_both o (outcome_of_both b (outcome b.side rest)) =
+          ap (outcome side) (rest_due ∙ append_assoc p.moments (Presses k.1 ∷ []) rest) ∙ outcome_append side _ _ in
+          let text : text_of o.written ++ (text_of b.written ++ text_of (outcome b.side rest).written) ≡ text_of
+          (outcome side (due first.records (drop first.pressed keys))).written = ap (λ z. text_of o.written ++ z)
+          (sym (text_append b.written (outcome b.side rest).written)) ∙ sym (text_append o.written
+          (b.written ++ (outcome b.side rest).written)) ∙ ap (λ (z : Outcome). text_of z.written) (sym e) in
+          rw (← text) (failed_within_both takes failures from mid to (text_of o.written)
+          (text_of b.written) (text_of (outcome b.side rest).written) d.wrote (q bytes items o.side d.leads few))

@@ -43,9 +43,8 @@ module _ {t : TerminalType} {w : World} {old : WorldParts} (r : Runs t old w) wh
   module _ (move : Move) where
     pub runs_on : (next : World) (new : WorldParts) → after_move w move ≡ next → new.down ≡ down_bytes next
         → new.up ≡ up_bytes next → new.at_station ≡ next.at_station → new.at_host ≡ next.at_host
-        → AreWritable element_rules next.down → AreWritable answer_rules next.up
-        → StationLeads new.station (take next.at_station (down_bytes next))
-        (arrived element_rules next.down next.at_station) next.station
+        → AreWritable element_rules next.down → AreWritable answer_rules next.up → StationLeads new.station
+        (take next.at_station (down_bytes next)) (arrived element_rules next.down next.at_station) next.station
         → HostLeads new.host (take next.at_host (up_bytes next)) (arrived answer_rules next.up next.at_host) next.host
         → new.events ≡ next.events → Runs t new (after_move w move)
     runs_on next new does down up at_station at_host writable_down writable_up station host events =
@@ -73,9 +72,8 @@ module _ {t : TerminalType} {w : World} {old : WorldParts} (r : Runs t old w) wh
     station_writes side items n answered station text at does spelled fit same leads =
         runs_on (record w { station = side; up = w.up ++ items; at_station = n; answered = answered })
         (record old { station = station; up = old.up ++ text; at_station = at }) does r.down
-        (ap₂ (λ x y. x ++ y) r.up spelled ∙ sym (flat_map-append
-        (item_spelling answer_rules) w.up items)) same r.at_host
-        r.writable_down (writable_append answer_rules w.up items r.writable_up fit) leads
+        (ap₂ (λ x y. x ++ y) r.up spelled ∙ sym (flat_map-append (item_spelling answer_rules) w.up items))
+        same r.at_host r.writable_down (writable_append answer_rules w.up items r.writable_up fit) leads
         (still_led answer_rules (λ x its. HostLeads old.host x its w.host) w.up items w.at_host
         (not_more answer_rules w.up w.at_host _ is_sound.up) r.host) r.events
 
@@ -115,19 +113,16 @@ module _ {t : TerminalType} {w : World} {old : WorldParts} (r : Runs t old w) (m
       → Runs t (record old { host = host; down = old.down ++ text }) (after_send w (reacts w.host))
   host_wrote few host text p =
       let x = p _ _ _ r.host (few_up r few) in
-      rw (← moves_by) (host_writes r move x.0
-      (x.1 ∷ []) w.at_host w.events host text old.at_host old.events
+      rw (← moves_by) (host_writes r move x.0 (x.1 ∷ []) w.at_host w.events host text old.at_host old.events
       (moves_by ∙ by_going w (reacts w.host) (going_host r) ∙ ap (host_sent w) x.2)
       (x.3 ∙ sym (append-nil (item_spelling element_rules x.1))) ((x.4, tt), (x.5, tt)) r.at_host r.events x.6)
 
   pub host_refrained : (fault : SendFault) → reacts w.host ≡ RefusesSend fault
       → Runs t (record old { events = old.events ++ SendRefused fault ∷ [] }) (after_send w (reacts w.host))
-  host_refrained fault e =
-      rw (← moves_by) (runs_on r move
-      (record w { events = w.events ++ SendRefused fault ∷ [] })
-      (record old { events = old.events ++ SendRefused fault ∷ [] })
-      (moves_by ∙ by_going w _ (going_host r) ∙ ap (host_sent w) e) r.down r.up r.at_station r.at_host
-      r.writable_down r.writable_up r.station r.host (ap (λ z. z ++ SendRefused fault ∷ []) r.events))
+  host_refrained fault e = rw (← moves_by) (runs_on r move (record w { events = w.events ++ SendRefused fault ∷ [] })
+      (record old { events = old.events ++ SendRefused fault ∷ [] }) (moves_by ∙ by_going w _ (going_host r)
+      ∙ ap (host_sent w) e) r.down r.up r.at_station r.at_host r.writable_down r.writable_up r.station r.host
+      (ap (λ z. z ++ SendRefused fault ∷ []) r.events))
 
 pub other_send : (o : Opcode) → (o ≡ CancelInvite → ⊥) → (h : HostSide) (body : List Element) → host_sends h o body
     ≡ host_send h o body
@@ -158,26 +153,25 @@ AidIs (Answers next kind aid) = IsAid aid
 AidIs reaction = Unit {0}
 
 aid_is : (s : StationSide) (key : Key) → IsKey key → AidIs (station_key s key)
-aid_is s key h = by_ready _
-  where
-    by_kind : (aid : ℕ) → IsAid aid → (o : Option ReadKind) → AidIs (answers_read s aid o)
-    by_kind aid h None = tt
-    by_kind aid h (Some kind) = h
+aid_is s key h = by_ready _ where
+  by_kind : (aid : ℕ) → IsAid aid → (o : Option ReadKind) → AidIs (answers_read s aid o)
+  by_kind aid h None = tt
+  by_kind aid h (Some kind) = h
 
-    by_key : (key : Key) → IsKey key → AidIs (presses s key)
-    by_key (Send aid) h = by_kind aid h _
-    by_key Attend h = tt
-    by_key Request h = tt
-    by_key key h = tt
+  by_key : (key : Key) → IsKey key → AidIs (presses s key)
+  by_key (Send aid) h = by_kind aid h _
+  by_key Attend h = tt
+  by_key Request h = tt
+  by_key key h = tt
 
-    by_refusal : (o : Option KeyRefusal) → AidIs (key_by_refusal s key o)
-    by_refusal None = by_key key h
-    by_refusal (Some refusal) = tt
+  by_refusal : (o : Option KeyRefusal) → AidIs (key_by_refusal s key o)
+  by_refusal None = by_key key h
+  by_refusal (Some refusal) = tt
 
-    by_ready : (b : Bool) → AidIs (if b then RefusesKey NotReady else key_by_refusal s key
-        (key_refusal (screen_at s) key))
-    by_ready true = tt
-    by_ready false = by_refusal _
+  by_ready : (b : Bool) → AidIs (if b then RefusesKey NotReady else key_by_refusal s key
+      (key_refusal (screen_at s) key))
+  by_ready true = tt
+  by_ready false = by_refusal _
 
 module _ {t : TerminalType} {w : World} {old : WorldParts} (r : Runs t old w) (key : Key) where
   by_key : (reaction : KeyReaction) → station_key w.station key ≡ reaction → after_press w key

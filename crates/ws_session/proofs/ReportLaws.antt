@@ -32,11 +32,8 @@ module _ (t : TerminalType) (ms : List Move) (told : List Event) (station : Stat
 
   pub answers_first : (later : List HostAnswer) × (now.answered ≡ answers_in told ++ later)
       × (length later ≡ length (answers_coming now))
-  answers_first = let s = sound t ms in (
-    s.later,
-    s.answered ∙ ap (λ l. answers_in l ++ s.later) (sym r.events),
-    rest_on_its_way t now s,
-  )
+  answers_first = let s = sound t ms in
+      (s.later, s.answered ∙ ap (λ l. answers_in l ++ s.later) (sym r.events), rest_on_its_way t now s)
 
   pub tables_agree : down ≡ [] → up ≡ [] → TablesAgree station.options host.options
   tables_agree d u =
@@ -48,9 +45,8 @@ module _ (t : TerminalType) (ms : List Move) (told : List Event) (station : Stat
       rw r.station_options (rw r.host_options (agree_when_quiet t ms
       (record { to_station = at_station; to_host = at_host })))
 
-  pub opened : length (down_bytes now) < 2 ^ 64 → length (up_bytes now) < 2 ^ 64
-      → (before : List Move) (all : ℕ) → 2 ^ 64 ≤ all + 1 → ms ≡ before ++ three_deliveries all
-      → IsOpened station host down up
+  pub opened : length (down_bytes now) < 2 ^ 64 → length (up_bytes now) < 2 ^ 64 → (before : List Move) (all : ℕ)
+      → 2 ^ 64 ≤ all + 1 → ms ≡ before ++ three_deliveries all → IsOpened station host down up
   opened few_down few_up before all enough e =
       let w = after_moves (new_world t) before in
       let is : now ≡ after_moves w (three_deliveries all) = ap (after_moves (new_world t)) e ∙ after_both before

@@ -37,9 +37,8 @@ module _ (t : TerminalType) where
   module _ (w : World) (s : Sound t w) where
     silent : (key : Key) → pending_read (events_by (edit_of (screen_at w.station) key) ++ w.station.happened)
         ≡ pending_read w.station.happened → Sound t (record w { station = after_key w.station key })
-    silent key same = sounds s.ts s.us s.ds s.es s.later s.ex (key_silent s.between (edit_of
-        (screen_at w.station) key) same) s.down s.up s.answered s.count
-        s.station_going s.host_going
+    silent key same = sounds s.ts s.us s.ds s.es s.later s.ex (key_silent s.between
+        (edit_of (screen_at w.station) key) same) s.down s.up s.answered s.count s.station_going s.host_going
 
     unanswered : (key : Key) → is_aid_key key ≡ false → Sound t (record w { station = after_key w.station key })
     unanswered key other = silent key (pending-keyed (edit_of (screen_at w.station) key) w.station.happened false
@@ -54,9 +53,8 @@ module _ (t : TerminalType) where
 
     answers_by : (aid : ℕ) → station_allows_records w.station.options ≡ true → (o : Option ReadKind)
         → pending_read w.station.happened ≡ o → Sound t (station_pressed w (answers_read w.station aid o))
-    answers_by aid allows None is =
-        silent (Send aid) (pending-keyed (edit_of (screen_at w.station) (Send aid)) w.station.happened true
-        (aids_answer (screen_at w.station) (Send aid)) ∙ sym is)
+    answers_by aid allows None is = silent (Send aid) (pending-keyed (edit_of (screen_at w.station) (Send aid))
+        w.station.happened true (aids_answer (screen_at w.station) (Send aid)) ∙ sym is)
     answers_by aid allows (Some kind) is =
         let reply : Sent = Replies (answer_parts kind (screen_at w.station) aid) in
         let x : HostAnswer = answer_of kind (screen_at w.station) aid in
@@ -69,8 +67,7 @@ module _ (t : TerminalType) where
 
     by_key : (key : Key) → (sends key && not (station_allows_records w.station.options)) ≡ false
         → Sound t (station_pressed w (presses w.station key))
-    by_key (Send aid) e = answers_by aid (must_allow (station_allows_records w.station.options) e)
-        _ refl
+    by_key (Send aid) e = answers_by aid (must_allow (station_allows_records w.station.options) e) _ refl
     by_key Attention e = signals ATN (must_allow (station_allows_records w.station.options) e)
     by_key SystemRequest e = signals SRQ (must_allow (station_allows_records w.station.options) e)
     by_key key e = unanswered key refl
@@ -81,15 +78,13 @@ module _ (t : TerminalType) where
     by_refusal key e (Some refusal) = key_refused w _ s
 
     pub press : (key : Key) → Sound t (after_press w key)
-    press key = subst (λ (z : Bool). Sound t
-        (station_pressed w (if z then RefusesKey KeyFailed else station_key w.station key))) (sym s.station_going)
-        (by_test _ refl)
-      where
-        by_test : (b : Bool) → (sends key && not (station_allows_records w.station.options)) ≡ b
-            → Sound t (station_pressed w (if b then RefusesKey NotReady else key_by_refusal w.station key
-            (key_refusal (screen_at w.station) key)))
-        by_test true e = key_refused w _ s
-        by_test false e = by_refusal key e _
+    press key = subst (λ (z : Bool). Sound t (station_pressed w
+        (if z then RefusesKey KeyFailed else station_key w.station key))) (sym s.station_going) (by_test _ refl) where
+          by_test : (b : Bool) → (sends key && not (station_allows_records w.station.options)) ≡ b
+              → Sound t (station_pressed w (if b then RefusesKey NotReady else key_by_refusal w.station key
+              (key_refusal (screen_at w.station) key)))
+          by_test true e = key_refused w _ s
+          by_test false e = by_refusal key e _
 
     -- SENDS
 
@@ -100,76 +95,61 @@ module _ (t : TerminalType) where
 
     send_body : (o : Opcode) → is_stop o ≡ false → (body : List Element)
         → Sound t (host_sent w (host_send w.host o body))
-    send_body o other body = by_allowed (host_allows_records w.host.options) refl
-      where
-        by_size : is_body body ≡ true → host_allows_records w.host.options ≡ true → is_outstanding w.host body ≡ false
-            → body_fault w.host.kept body ≡ None → (b : Bool)
-            → Sound t (host_sent w (if b then RefusesSend TooBig else Sends
-            (record {
-              options = w.host.options;
-              kept = after_end (after_elements w.host.kept body);
-              cancelling =
-                  w.host.cancelling;
-            }) (RecordItem (sent_record o body))))
-        by_size ok ready out none true = send_refused w TooBig s
-        by_size ok ready out none false = sounds s.ts s.us (s.ds ++ Body o other body ok ∷ []) s.es s.later s.ex
-            (sends_body s.between o other body ok ready out
-            none) (sent_down (Body o other body ok)) s.up s.answered (omega (
-              arith,
-              s.count,
-              with_posted w.down
-                  (Body o other body ok ∷ []),
-            )) s.station_going s.host_going
+    send_body o other body = by_allowed (host_allows_records w.host.options) refl where
+      by_size : is_body body ≡ true → host_allows_records w.host.options ≡ true
+          → is_outstanding w.host body ≡ false → body_fault w.host.kept body ≡ None
+          → (b : Bool) → Sound t (host_sent w (if b then RefusesSend TooBig else Sends (record {
+            options = w.host.options;
+            kept = after_end (after_elements w.host.kept body);
+            cancelling = w.host.cancelling;
+          }) (RecordItem (sent_record o body))))
+      by_size ok ready out none true = send_refused w TooBig s
+      by_size ok ready out none false = sounds s.ts s.us (s.ds ++ Body o other body ok ∷ []) s.es s.later s.ex
+          (sends_body s.between o other body ok ready out none) (sent_down (Body o other body ok)) s.up s.answered
+          (omega (arith, s.count, with_posted w.down (Body o other body ok ∷ []))) s.station_going s.host_going
 
-        by_fault : is_body body ≡ true → host_allows_records w.host.options ≡ true → is_outstanding w.host body ≡ false
-            → (f : Option Reason) → body_fault w.host.kept body ≡ f
-            → Sound t (host_sent w (host_sends_body w.host o body f))
-        by_fault ok ready out None none = by_size ok ready out none (is_too_big (sent_record o body))
-        by_fault ok ready out (Some reason) e = send_refused w (RefusedByScreen reason) s
+      by_fault : is_body body ≡ true → host_allows_records w.host.options ≡ true → is_outstanding w.host body ≡ false
+          → (f : Option Reason) → body_fault w.host.kept body ≡ f
+          → Sound t (host_sent w (host_sends_body w.host o body f))
+      by_fault ok ready out None none = by_size ok ready out none (is_too_big (sent_record o body))
+      by_fault ok ready out (Some reason) e = send_refused w (RefusedByScreen reason) s
 
-        by_body : host_allows_records w.host.options ≡ true → is_outstanding w.host body ≡ false → (b : Bool)
-            → is_body body ≡ b → Sound t
-            (host_sent w (if not b then RefusesSend BadSequence else host_sends_body w.host o body
-            (body_fault w.host.kept body)))
-        by_body ready out true ok = by_fault ok ready out (body_fault w.host.kept body) refl
-        by_body ready out false ok = send_refused w BadSequence s
+      by_body : host_allows_records w.host.options ≡ true
+          → is_outstanding w.host body ≡ false → (b : Bool) → is_body body ≡ b → Sound t (host_sent w
+          (if not b then RefusesSend BadSequence else host_sends_body w.host o body (body_fault w.host.kept body)))
+      by_body ready out true ok = by_fault ok ready out (body_fault w.host.kept body) refl
+      by_body ready out false ok = send_refused w BadSequence s
 
-        by_outstanding : host_allows_records w.host.options ≡ true → (b : Bool) → is_outstanding w.host body ≡ b
-            → Sound t (host_sent w (if b then RefusesSend ReadOutstanding else
-            (if not (is_body body) then RefusesSend BadSequence else host_sends_body w.host o body
-            (body_fault w.host.kept body))))
-        by_outstanding ready true e = send_refused w ReadOutstanding s
-        by_outstanding ready false e = by_body ready e (is_body body) refl
+      by_outstanding : host_allows_records w.host.options ≡ true → (b : Bool) → is_outstanding w.host body ≡ b
+          → Sound t (host_sent w (if b then RefusesSend ReadOutstanding else (if not (is_body body)
+          then RefusesSend BadSequence else host_sends_body w.host o body (body_fault w.host.kept body))))
+      by_outstanding ready true e = send_refused w ReadOutstanding s
+      by_outstanding ready false e = by_body ready e (is_body body) refl
 
-        by_allowed : (b : Bool) → host_allows_records w.host.options ≡ b
-            → Sound t (host_sent w (if not b then RefusesSend NotAllowed
-            else (if is_outstanding w.host body then RefusesSend ReadOutstanding
-            else (if not (is_body body) then RefusesSend BadSequence
-            else host_sends_body w.host o body (body_fault w.host.kept body)))))
-        by_allowed false e = send_refused w NotAllowed s
-        by_allowed true e = by_outstanding e (is_outstanding w.host body) refl
+      by_allowed : (b : Bool) → host_allows_records w.host.options ≡ b → Sound t (host_sent w (if not b then RefusesSend
+          NotAllowed else (if is_outstanding w.host body then RefusesSend ReadOutstanding else (if not (is_body body)
+          then RefusesSend BadSequence else host_sends_body w.host o body (body_fault w.host.kept body)))))
+      by_allowed false e = send_refused w NotAllowed s
+      by_allowed true e = by_outstanding e (is_outstanding w.host body) refl
 
     pub cancel : Sound t (host_sent w (host_cancel w.host))
-    cancel = by_allowed (host_allows_records w.host.options) refl
-      where
-        by_test : host_allows_records w.host.options ≡ true → (o : Option ReadKind) → pending_read w.host.kept ≡ o
-            → (c : Bool) → w.host.cancelling ≡ c
-            → Sound t (host_sent w (if is_some o && not c then Sends
-            (record { options = w.host.options; kept = w.host.kept; cancelling = true })
-            (empty_record 0 CancelInvite) else RefusesSend NoReadToCancel))
-        by_test ready None e c f = send_refused w NoReadToCancel s
-        by_test ready (Some kind) e true f = send_refused w NoReadToCancel s
-        by_test ready (Some kind) e false f = sounds s.ts s.us (s.ds ++ Stop ∷ []) s.es s.later s.ex
-            (sends_cancel s.between kind ready e f) (sent_down Stop) s.up
-            s.answered (omega (arith, s.count, with_posted w.down (Stop ∷ []))) s.station_going s.host_going
+    cancel = by_allowed (host_allows_records w.host.options) refl where
+      by_test : host_allows_records w.host.options ≡ true → (o : Option ReadKind) → pending_read w.host.kept ≡ o
+          → (c : Bool) → w.host.cancelling ≡ c → Sound t (host_sent w (if is_some o && not c then Sends
+          (record { options = w.host.options; kept = w.host.kept; cancelling = true })
+          (empty_record 0 CancelInvite) else RefusesSend NoReadToCancel))
+      by_test ready None e c f = send_refused w NoReadToCancel s
+      by_test ready (Some kind) e true f = send_refused w NoReadToCancel s
+      by_test ready (Some kind) e false f = sounds s.ts s.us (s.ds ++ Stop ∷ []) s.es s.later s.ex
+          (sends_cancel s.between kind ready e f) (sent_down Stop) s.up
+          s.answered (omega (arith, s.count, with_posted w.down (Stop ∷ []))) s.station_going s.host_going
 
-        by_allowed : (b : Bool) → host_allows_records w.host.options ≡ b
-            → Sound t (host_sent w (if not b then RefusesSend NotAllowed
-            else (if is_some (asked_read w.host) && not w.host.cancelling then Sends
-            (record { options = w.host.options; kept = w.host.kept; cancelling = true })
-            (empty_record 0 CancelInvite) else RefusesSend NoReadToCancel)))
-        by_allowed false e = send_refused w NotAllowed s
-        by_allowed true e = by_test e (pending_read w.host.kept) refl w.host.cancelling refl
+      by_allowed : (b : Bool) → host_allows_records w.host.options ≡ b
+          → Sound t (host_sent w (if not b then RefusesSend NotAllowed else (if is_some (asked_read w.host) && not
+          w.host.cancelling then Sends (record { options = w.host.options; kept = w.host.kept; cancelling = true })
+          (empty_record 0 CancelInvite) else RefusesSend NoReadToCancel)))
+      by_allowed false e = send_refused w NotAllowed s
+      by_allowed true e = by_test e (pending_read w.host.kept) refl w.host.cancelling refl
 
     pub by_opcode : (o : Opcode) (body : List Element) → Sound t (host_sent w (host_sends w.host o body))
     by_opcode CancelInvite body = cancel

@@ -13,29 +13,22 @@ use Rattle.ws_record.specs.Taking.{EndIn}
 
 -- What a front of a piece gives a station.
 
-module _ (old new : StationParts) (bytes : List ℕ) (items : List (Item Element)) (side : StationSide) (left : List
-    ℕ)
-    (used : ℕ) (within : used ≤ length left) (some : 0 < used)
-    (held : AreHeld element_rules Key bytes items left used) where
+module _ (old new : StationParts)
+    (bytes : List ℕ) (items : List (Item Element)) (side : StationSide) (left : List ℕ) (used : ℕ)
+    (within : used ≤ length left) (some : 0 < used) (held : AreHeld element_rules Key bytes items left used) where
   -- what its last byte gives
   front_fed : (step : StationStep) → IsFronted old new (bytes ++ take used left) items side (Ok step)
       → HasFed new bytes items side (take used left) step.reply step.ends_record
-  front_fed step (inl q) =
-      none_went (bytes_came Key (take used left))
-      (front_silent element_rules Key bytes items left used within held
-      (station_holds q.0.leads)) q.0.silent
-      (ap (λ (b : Bool). as_list (told_by b)) q.1) q.0.leads
-  front_fed step (inr q) =
-      one_went (bytes_came Key (take used left)) q.0.item
+  front_fed step (inl q) = none_went (bytes_came Key (take used left)) (front_silent element_rules Key bytes items
+      left used within held (station_holds q.0.leads)) q.0.silent (ap (λ (b : Bool). as_list (told_by b)) q.1) q.0.leads
+  front_fed step (inr q) = one_went (bytes_came Key (take used left)) q.0.item
       (station_at_item side q.0.item (GoesOn q.0.next q.0.writes)) (ap (station_at_item side q.0.item) q.0.goes_on)
-      (front_brings element_rules Key bytes items q.0.item left used within some held
-      (station_holds q.0.leads))
+      (front_brings element_rules Key bytes items q.0.item left used within some held (station_holds q.0.leads))
       (ap goes_on q.0.goes_on) q.0.spelled (ap (λ (b : Bool). as_list (told_by b)) q.1 ∙ told_of q.0.item) q.0.leads
 
-pushed_at_last : (old mid new : StationParts) (bytes : List ℕ) (items : List (Item Element)) (side : StationSide)
-    (byte : ℕ) (refusal : Refusal) → mid.screen ≡ old.screen
-    → IsFronted mid new (bytes ++ byte ∷ []) items side (Err refusal)
-    → IsPushed old new bytes items side byte (Err refusal)
+pushed_at_last : (old mid new : StationParts) (bytes : List ℕ) (items : List (Item Element))
+    (side : StationSide) (byte : ℕ) (refusal : Refusal) → mid.screen ≡ old.screen → IsFronted mid new
+    (bytes ++ byte ∷ []) items side (Err refusal) → IsPushed old new bytes items side byte (Err refusal)
 pushed_at_last old mid new bytes items side byte (At place reason) same f =
     (omega (arith, f.0, length-append bytes (byte ∷ [])), f.1 ∙ same, f.2)
 pushed_at_last old mid new bytes items side byte Failed same f = f
@@ -44,43 +37,33 @@ pushed_at_last old mid new bytes items side byte Memory same f = f
 module _ (bytes : List ℕ) (items : List (Item Element)) (side : StationSide) (piece : List ℕ) (i : ℕ)
     (now : StationParts) (before : HasFed now bytes items side (take i piece) [] false) where
   -- a front more is fed
-  pub fed_on : (new : StationParts) (k : ℕ) (step : StationStep) → k ≤ length (left_of piece i) → 0 < k
-      → AtStation now (λ b its s. length b + length (left_of piece i) < 2 ^ 64
-      → IsFronted now new (b ++ take k (left_of piece i)) its s (Ok step))
-      → AtStation now (λ b its s. AreHeld element_rules Key b its (left_of piece i) k)
-      → length bytes + length piece + 1 < 2 ^ 64 → i ≤ length piece
-      → HasFed new bytes items side (take (i + k) piece) step.reply step.ends_record
-  fed_on new k step within some fronted held fits inside =
-      front_on _ _ _ bytes items side piece i (StationLeads now) before
-      _ k _ _
-      (λ b its s l room. front_fed now new b its s _ k within some (held b its s l) step
-      (fronted b its s l room)) fits inside
+  pub fed_on : (new : StationParts) (k : ℕ) (step : StationStep)
+      → k ≤ length (left_of piece i) → 0 < k → AtStation now (λ b its s. length b + length (left_of piece i) < 2 ^ 64
+      → IsFronted now new (b ++ take k (left_of piece i)) its s (Ok step)) → AtStation now
+      (λ b its s. AreHeld element_rules Key b its (left_of piece i) k) → length bytes + length piece + 1 < 2 ^ 64
+      → i ≤ length piece → HasFed new bytes items side (take (i + k) piece) step.reply step.ends_record
+  fed_on new k step within some fronted held fits inside = front_on _ _ _ bytes items side piece i
+      (StationLeads now) before _ k _ _ (λ b its s l room. front_fed now new b its s _ k within some
+      (held b its s l) step (fronted b its s l room)) fits inside
 
   -- and so are the fronts of it
   pub silent_on : (k : ℕ) → k ≤ length (left_of piece i)
-      → AtStation now (λ b its s. AreHeld element_rules Key b its (left_of piece i) k)
-      → ((n : ℕ) → n ≤ i → IsSilent bytes items side (take n piece)) → (n : ℕ) → n < i + k
-      → IsSilent bytes items side (take n piece)
-  silent_on k within held below =
-      quiet_on _ _ _ bytes items side piece i _ before k within
-      held below
+      → AtStation now (λ b its s. AreHeld element_rules Key b its (left_of piece i) k) → ((n : ℕ) → n ≤ i
+      → IsSilent bytes items side (take n piece)) → (n : ℕ) → n < i + k → IsSilent bytes items side (take n piece)
+  silent_on k within held below = quiet_on _ _ _ bytes items side piece i _ before k within held below
 
   -- where it brings nothing either
   pub still_on : (new : StationParts) (k : ℕ) → HasFed new bytes items side (take (i + k) piece) [] false
       → ((n : ℕ) → n < i + k → IsSilent bytes items side (take n piece)) → (n : ℕ) → n ≤ i + k
       → IsSilent bytes items side (take n piece)
-  still_on new k fed below =
-      quiet_upto _ _ _ bytes items side piece i (StationLeads now) before
-      _ k fed below
+  still_on new k fed below = quiet_upto _ _ _ bytes items side piece i (StationLeads now) before _ k fed below
 
   -- it is refused at its last byte
   pub refused_on : (old new : StationParts) (k : ℕ) (refusal : Refusal) → now.screen ≡ old.screen
-      → k ≤ length (left_of piece i) → ((refusal ≡ Failed → ⊥) → 0 < k)
-      → AtStation now (λ b its s. length b + length (left_of piece i) < 2 ^ 64
-      → IsFronted now new (b ++ take k (left_of piece i)) its s (Err refusal))
+      → k ≤ length (left_of piece i) → ((refusal ≡ Failed → ⊥) → 0 < k) → AtStation now (λ b its s. length b + length
+      (left_of piece i) < 2 ^ 64 → IsFronted now new (b ++ take k (left_of piece i)) its s (Err refusal))
       → AtStation now (λ b its s. AreHeld element_rules Key b its (left_of piece i) k)
-      → length bytes + length piece + 1 < 2 ^ 64 → i ≤ length piece
-      → HasRefused old new bytes items side piece refusal
+      → length bytes + length piece + 1 < 2 ^ 64 → i ≤ length piece → HasRefused old new bytes items side piece refusal
   refused_on old new k refusal same within when fronted held fits inside =
       let left = left_of piece i in
       let f = fails_on _ _ _ bytes items side piece i _ before
@@ -96,12 +79,10 @@ module _ (bytes : List ℕ) (items : List (Item Element)) (side : StationSide) (
 -- no byte is fed
 pub fed_none : (old : StationParts) (bytes : List ℕ) (items : List (Item Element)) (side : StationSide)
     → StationLeads old bytes items side → HasFed old bytes items side [] [] false
-fed_none old bytes items side l =
-    none_come _ _ _ _ bytes items side l
+fed_none old bytes items side l = none_come _ _ _ _ bytes items side l
 
 pub silent_none : (bytes : List ℕ) (items : List (Item Element)) (side : StationSide) (piece : List ℕ) (n : ℕ)
-    → n ≤ 0
-    → IsSilent bytes items side (take n piece)
+    → n ≤ 0 → IsSilent bytes items side (take n piece)
 silent_none bytes items side piece n le =
     let none : n ≡ 0 = omega (arith, le) in
     rw none (none_come _ _ _ (λ b its s. Unit {0}) bytes items side tt)
@@ -119,35 +100,32 @@ same_end (a ∷ xs) (b ∷ ys) x y e =
     let p = same_end xs ys x y t in
     (ap (λ z. z ∷ xs) h ∙ ap (λ z. b ∷ z) p.0, p.1)
 
-module _ (old mid new : HostParts) (bytes : List ℕ) (items : List (Item AnswerPart)) (side : HostSide) (byte : ℕ)
-  where
-    -- what the last byte of a front gives is what that byte gives
-    last_wanting : EndIn (bytes ++ byte ∷ []) (λ before last. CompletesUnit answer_rules before last)
-        → CompletesUnit answer_rules bytes byte
-    last_wanting e =
-        let s = same_end bytes e.0 byte e.1 e.2 in
-        rw (s.1, s.0) e.3
+module _ (old mid new : HostParts) (bytes : List ℕ) (items : List (Item AnswerPart)) (side : HostSide) (byte : ℕ) where
+  -- what the last byte of a front gives is what that byte gives
+  last_wanting : EndIn (bytes ++ byte ∷ []) (λ before last. CompletesUnit answer_rules before last)
+      → CompletesUnit answer_rules bytes byte
+  last_wanting e =
+      let s = same_end bytes e.0 byte e.1 e.2 in
+      rw (s.1, s.0) e.3
 
-    pub host_at_last : (refusal : Refusal) → mid.screen ≡ old.screen
-        → IsHostFronted mid new (bytes ++ byte ∷ []) items side (Err refusal)
-        → EndsAt old new byte refusal bytes items side
-    host_at_last (At place reason) same f = (
-      (omega (arith, f.0, length-append bytes (byte ∷ [])), f.1 ∙ same, f.3),
-      omega (arith, f.2, length-append bytes (byte ∷ [])),
-    )
-    host_at_last Memory same f = (
-      (f.0 ∙ same, elim f.2 [ inl e ↦ inl (last_wanting e) | inr w ↦ inr w ]),
-      omega (arith, f.1, length-append bytes (byte ∷ [])),
-    )
-    host_at_last Failed same f = absurd f
+  pub host_at_last : (refusal : Refusal) → mid.screen ≡ old.screen → IsHostFronted mid new
+      (bytes ++ byte ∷ []) items side (Err refusal) → EndsAt old new byte refusal bytes items side
+  host_at_last (At place reason) same f = (
+    (omega (arith, f.0, length-append bytes (byte ∷ [])), f.1 ∙ same, f.3),
+    omega (arith, f.2, length-append bytes (byte ∷ [])),
+  )
+  host_at_last Memory same f = (
+    (f.0 ∙ same, elim f.2 [ inl e ↦ inl (last_wanting e) | inr w ↦ inr w ]),
+    omega (arith, f.1, length-append bytes (byte ∷ [])),
+  )
+  host_at_last Failed same f = absurd f
 
 -- what a byte gives
 host_stepped : (old new : HostParts) (bytes : List ℕ) (items : List (Item AnswerPart)) (side : HostSide) (byte : ℕ)
     (result : Result HostStep Refusal) → IsHostFronted old new (bytes ++ byte ∷ []) items side result
     → IsHostPushed old new bytes items side byte result
 host_stepped old new bytes items side byte (Ok step) f = f
-host_stepped old new bytes items side byte (Err refusal) f =
-    (host_at_last old old new bytes items side byte _ refl f).0
+host_stepped old new bytes items side byte (Err refusal) f = (host_at_last old old new bytes items side byte _ refl f).0
 
 -- of one byte
 pub host_one_fronted : (old new : HostParts) (bytes : List ℕ) (items : List (Item AnswerPart)) (side : HostSide)
@@ -169,46 +147,35 @@ module _ (old new : HostParts) (bytes : List ℕ) (items : List (Item AnswerPart
       (front_silent answer_rules Order bytes items left used within held
       (host_holds q.leads)) q.silent
       (ap (λ (o : Option HostEvent). as_list o) q.untold) q.leads
-  host_front_fed step (inr t) =
-      one_went (bytes_came Order (take used left)) t.item
+  host_front_fed step (inr t) = one_went (bytes_came Order (take used left)) t.item
       (host_at_item side (GoesOn t.next t.told)) (ap (host_at_item side) t.goes_on)
-      (front_brings answer_rules Order bytes items t.item left used within some held
-      (host_holds t.leads)) (ap goes_on t.goes_on) t.spelled
-      (ap (λ (z : Option HostEvent). as_list z) t.event) t.leads
+      (front_brings answer_rules Order bytes items t.item left used within some held (host_holds t.leads))
+      (ap goes_on t.goes_on) t.spelled (ap (λ (z : Option HostEvent). as_list z) t.event) t.leads
 
-module _ (bytes : List ℕ) (items : List (Item AnswerPart)) (side : HostSide) (piece : List ℕ) (i : ℕ) (now :
-    HostParts)
-    (before : HasHostFed now bytes items side (take i piece) [] None) where
+module _ (bytes : List ℕ) (items : List (Item AnswerPart)) (side : HostSide)
+    (piece : List ℕ) (i : ℕ) (now : HostParts) (before : HasHostFed now bytes items side (take i piece) [] None) where
   -- a front more is fed
-  pub host_fed_on : (new : HostParts) (k : ℕ) (step : HostStep) → k ≤ length (left_of piece i) → 0 < k
-      → AtHost now (λ b its s. length b + length (left_of piece i) < 2 ^ 64
-      → IsHostFronted now new (b ++ take k (left_of piece i)) its s (Ok step))
-      → AtHost now (λ b its s. AreHeld answer_rules Order b its (left_of piece i) k)
-      → length bytes + length piece + 1 < 2 ^ 64 → i ≤ length piece
-      → HasHostFed new bytes items side (take (i + k) piece) step.reply step.event
-  host_fed_on new k step within some fronted held fits inside =
-      front_on _ _ _ bytes items side piece i (HostLeads now) before _ k
-      _ _
-      (λ b its s l room. host_front_fed now new b its s _ k within some (held b its s l) step
-      (fronted b its s l room)) fits inside
+  pub host_fed_on : (new : HostParts) (k : ℕ) (step : HostStep)
+      → k ≤ length (left_of piece i) → 0 < k → AtHost now (λ b its s. length b + length (left_of piece i) < 2 ^ 64
+      → IsHostFronted now new (b ++ take k (left_of piece i)) its s (Ok step)) → AtHost now
+      (λ b its s. AreHeld answer_rules Order b its (left_of piece i) k) → length bytes + length piece + 1 < 2 ^ 64
+      → i ≤ length piece → HasHostFed new bytes items side (take (i + k) piece) step.reply step.event
+  host_fed_on new k step within some fronted held fits inside = front_on _ _ _ bytes items side piece i
+      (HostLeads now) before _ k _ _ (λ b its s l room. host_front_fed now new b its s _ k within some
+      (held b its s l) step (fronted b its s l room)) fits inside
 
   -- and the fronts of it are silent
-  pub host_quiet_on : (k : ℕ) → k ≤ length (left_of piece i)
-      → AtHost now (λ b its s. AreHeld answer_rules Order b its (left_of piece i) k)
-      → ((n : ℕ) → n ≤ i → IsHostSilent bytes items side (take n piece)) → (n : ℕ) → n < i + k
-      → IsHostSilent bytes items side (take n piece)
-  host_quiet_on k within held below =
-      quiet_on _ _ _ bytes items side piece i
-      _ before k within held below
+  pub host_quiet_on : (k : ℕ) → k ≤ length (left_of piece i) → AtHost now (λ b its s. AreHeld answer_rules Order b its
+      (left_of piece i) k) → ((n : ℕ) → n ≤ i → IsHostSilent bytes items side (take n piece))
+      → (n : ℕ) → n < i + k → IsHostSilent bytes items side (take n piece)
+  host_quiet_on k within held below = quiet_on _ _ _ bytes items side piece i _ before k within held below
 
   -- it fails at its last byte
   pub host_refused_on : (old new : HostParts) (k : ℕ) (refusal : Refusal) → now.screen ≡ old.screen
-      → k ≤ length (left_of piece i) → ((refusal ≡ Failed → ⊥) → 0 < k)
-      → AtHost now (λ b its s. length b + length (left_of piece i) < 2 ^ 64
-      → IsHostFronted now new (b ++ take k (left_of piece i)) its s (Err refusal))
-      → AtHost now (λ b its s. AreHeld answer_rules Order b its (left_of piece i) k)
-      → length bytes + length piece + 1 < 2 ^ 64 → i ≤ length piece
-      → HasHostRefused old new bytes items side piece refusal
+      → k ≤ length (left_of piece i) → ((refusal ≡ Failed → ⊥) → 0 < k) → AtHost now (λ b its s. length b + length
+      (left_of piece i) < 2 ^ 64 → IsHostFronted now new (b ++ take k (left_of piece i)) its s (Err refusal))
+      → AtHost now (λ b its s. AreHeld answer_rules Order b its (left_of piece i) k) → length
+      bytes + length piece + 1 < 2 ^ 64 → i ≤ length piece → HasHostRefused old new bytes items side piece refusal
   host_refused_on old new k refusal same within when fronted held fits inside =
       let left = left_of piece i in
       let f = fails_on _ _ _ bytes items side piece i _ before
@@ -225,8 +192,7 @@ module _ (bytes : List ℕ) (items : List (Item AnswerPart)) (side : HostSide) (
 -- no byte is fed
 pub host_fed_none : (old : HostParts) (bytes : List ℕ) (items : List (Item AnswerPart)) (side : HostSide)
     → HostLeads old bytes items side → HasHostFed old bytes items side [] [] None
-host_fed_none old bytes items side l =
-    none_come _ _ _ _ bytes items side l
+host_fed_none old bytes items side l = none_come _ _ _ _ bytes items side l
 
 pub host_silent_none : (bytes : List ℕ) (items : List (Item AnswerPart)) (side : HostSide) (piece : List ℕ) (n : ℕ)
     → n ≤ 0 → IsHostSilent bytes items side (take n piece)

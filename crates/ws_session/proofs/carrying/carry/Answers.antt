@@ -15,12 +15,8 @@ front_more xs ys zs at n h k =
 -- which is within the slice
 within_more : (xs ys zs : List ℕ) (at n : ℕ) → at ≤ length xs → n ≤ length ys
     → at + n ≤ length (take at xs ++ (ys ++ zs))
-within_more xs ys zs at n h k = omega (
-  arith,
-  length-append (take at xs) (ys ++ zs),
-  length-append ys zs,
-  length-take-le at xs h,
-)
+within_more xs ys zs at n h k =
+    omega (arith, length-append (take at xs) (ys ++ zs), length-append ys zs, length-take-le at xs h)
 
 pub loop-at-preserved : goal.loop-at-preserved
 loop-at-preserved g c =

@@ -12,8 +12,7 @@ returns-in_err-write_answer-in-Ok-Some-clause-fault g c =
       record {
         written = answer_spelling answer;
         told = [];
-        led = key_sent_goes _ _ _ _
-            (rw c.in-Ok-Some.field-0-is at c.in-Ok-Some.ensures.keyed);
+        led = key_sent_goes _ _ _ _ (rw c.in-Ok-Some.field-0-is at c.in-Ok-Some.ensures.keyed);
         failed = failed.1;
       },
     )
@@ -21,14 +20,12 @@ returns-in_err-write_answer-in-Ok-Some-clause-fault g c =
 pub returns-in-Ok-None-clause-pressed : goal.returns-in-Ok-None-clause-pressed
 returns-in-Ok-None-clause-pressed g c = record {
   written = [];
-  led = key_silent_goes _ _ _
-      (rw c.in-Ok-None.field-0-is at c.in-Ok-None.ensures.keyed);
+  led = key_silent_goes _ _ _ (rw c.in-Ok-None.field-0-is at c.in-Ok-None.ensures.keyed);
   wrote = went_out_none g.K.Sink.takes g.K.Sink.failures c.args.sink.now;
 }
 
 pub returns-in-Ok-None-clause-taken : goal.returns-in-Ok-None-clause-taken
-returns-in-Ok-None-clause-taken g c = λ bytes items side l few.
-    key_taken c.args.station.now _ bytes items side _ None
+returns-in-Ok-None-clause-taken g c = λ bytes items side l few. key_taken c.args.station.now _ bytes items side _ None
     ((rw c.in-Ok-None.field-0-is at c.in-Ok-None.ensures.keyed) bytes items side l few)
 
 pub returns-in_ok-write_answer-in-Ok-Some-clause-pressed : goal.returns-in_ok-write_answer-in-Ok-Some-clause-pressed
@@ -36,8 +33,7 @@ returns-in_ok-write_answer-in-Ok-Some-clause-pressed g c =
     let answer = c.in-Ok-Some.answer in
     record {
       written = answer_spelling answer;
-      led = key_sent_goes _ _ _ _
-          (rw c.in-Ok-Some.field-0-is at c.in-Ok-Some.ensures.keyed);
+      led = key_sent_goes _ _ _ _ (rw c.in-Ok-Some.field-0-is at c.in-Ok-Some.ensures.keyed);
       wrote = c.in_ok-write_answer-in-Ok-Some.ensures.ok;
     }
 

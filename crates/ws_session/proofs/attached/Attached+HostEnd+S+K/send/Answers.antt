@@ -6,39 +6,33 @@ use Rattle.ws_session.proofs.EndDeeds.{deed_led, send_fails, send_goes, send_ref
 use Rattle.ws_session.proofs.attached.Attached+HostEnd+S+K.send.Goals as goal
 
 pub returns-in-Err-write_whole-clause-fault : goal.returns-in-Err-write_whole-clause-fault
-returns-in-Err-write_whole-clause-fault g c = λ works.
-    send_fails HostGoes HostRefuses g.K.Sink.takes g.K.Sink.failures g.S.Source.gives g.S.Source.failures
-    c.args.self.now _ _ c.self.view_is (Send c.args.opcode c.args.body.now) c.in-Ok.bytes.items
-    (send_goes c.self.inside.end c.send.new.self c.args.opcode c.args.body.now c.requires.other c.in-Ok.bytes.items
-    c.in-Ok.ensures.sent)
+returns-in-Err-write_whole-clause-fault g c = λ works. send_fails HostGoes
+    HostRefuses g.K.Sink.takes g.K.Sink.failures g.S.Source.gives g.S.Source.failures c.args.self.now _ _ c.self.view_is
+    (Send c.args.opcode c.args.body.now) c.in-Ok.bytes.items (send_goes c.self.inside.end
+    c.send.new.self c.args.opcode c.args.body.now c.requires.other c.in-Ok.bytes.items c.in-Ok.ensures.sent)
     (rw c.as_slice.ensures.value at c.in-Err-write_whole.ensures.err.1) _ c.in-Err-write_whole.ensures.err.0 refl
 
 pub returns-in_default-clause-sent : goal.returns-in_default-clause-sent
-returns-in_default-clause-sent g c =
-    deed_led HostGoes HostRefuses g.K.Sink.takes g.K.Sink.failures g.S.Source.gives g.S.Source.failures
-    c.args.self.now _ _ c.self.view_is (Send c.args.opcode c.args.body.now) c.in-Ok.bytes.items
-    (send_goes c.self.inside.end c.send.new.self c.args.opcode c.args.body.now c.requires.other c.in-Ok.bytes.items
-    c.in-Ok.ensures.sent)
-    (rw c.as_slice.ensures.value at c.in_default.ensures.ok)
+returns-in_default-clause-sent g c = deed_led HostGoes HostRefuses g.K.Sink.takes g.K.Sink.failures g.S.Source.gives
+    g.S.Source.failures c.args.self.now _ _ c.self.view_is (Send c.args.opcode c.args.body.now) c.in-Ok.bytes.items
+    (send_goes c.self.inside.end c.send.new.self c.args.opcode c.args.body.now
+    c.requires.other c.in-Ok.bytes.items c.in-Ok.ensures.sent) (rw c.as_slice.ensures.value at c.in_default.ensures.ok)
 
 pub returns-else-eq-clause-sent : goal.returns-else-eq-clause-sent
 returns-else-eq-clause-sent g c =
     let ne : c.in-Err.fault ≡ Memory → ⊥ = search rules in
-    deed_led HostGoes HostRefuses g.K.Sink.takes g.K.Sink.failures g.S.Source.gives g.S.Source.failures
-    c.args.self.now _ _ c.self.view_is (Send c.args.opcode c.args.body.now) []
+    deed_led HostGoes HostRefuses g.K.Sink.takes g.K.Sink.failures
+    g.S.Source.gives g.S.Source.failures c.args.self.now _ _ c.self.view_is (Send c.args.opcode c.args.body.now) []
     (send_refused_goes c.self.inside.end c.send.new.self c.args.opcode c.args.body.now c.requires.other c.in-Err.fault
-    ne c.in-Err.ensures.same c.in-Err.ensures.sent)
-    (went_out_none g.K.Sink.takes g.K.Sink.failures c.self.inside.sink)
+    ne c.in-Err.ensures.same c.in-Err.ensures.sent) (went_out_none g.K.Sink.takes g.K.Sink.failures c.self.inside.sink)
 
 pub returns-else-eq-clause-told : goal.returns-else-eq-clause-told
 returns-else-eq-clause-told g c =
     let ne : c.in-Err.fault ≡ Memory → ⊥ = search rules in
     rw (← c.self.view_is) (λ bytes items side l few. refrains
-    (host_send side c.args.opcode c.args.body.now) c.in-Err.fault ne
-    (c.in-Err.ensures.sent bytes items side l few))
+    (host_send side c.args.opcode c.args.body.now) c.in-Err.fault ne (c.in-Err.ensures.sent bytes items side l few))
 
 pub returns-in_default-clause-taken : goal.returns-in_default-clause-taken
 returns-in_default-clause-taken g c =
     rw (← c.self.view_is) (λ bytes items side l few. send_taken c.send.new.self bytes items
-    (host_send side c.args.opcode c.args.body.now)
-    c.in-Ok.bytes.items (c.in-Ok.ensures.sent bytes items side l few))
+    (host_send side c.args.opcode c.args.body.now) c.in-Ok.bytes.items (c.in-Ok.ensures.sent bytes items side l few))

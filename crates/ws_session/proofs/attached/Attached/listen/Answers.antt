@@ -4,38 +4,30 @@ use Rattle.ws_session.proofs.Attachings.{hearing_endless}
 use Rattle.ws_session.proofs.attached.Attached.listen.Goals as goal
 
 pub returns-in-Ok-Some-clause-heard : goal.returns-in-Ok-Some-clause-heard
-returns-in-Ok-Some-clause-heard g c = heard_at_once _ _ _ _
-    _ _ g.met.E.End.follows _ _ _
-    (rw c.in-Ok-Some.field-0-is at c.in-Ok-Some.ensures.taken)
+returns-in-Ok-Some-clause-heard g c =
+    heard_at_once _ _ _ _ _ _ g.met.E.End.follows _ _ _ (rw c.in-Ok-Some.field-0-is at c.in-Ok-Some.ensures.taken)
 
 pub returns-in-Err-clause-fault : goal.returns-in-Err-clause-fault
-returns-in-Err-clause-fault g c = fails_at_once _ _ _ _
-    _ _ g.met.E.End.follows _ _ _
-    c.in-Err.ensures.fault
+returns-in-Err-clause-fault g c = fails_at_once _ _ _ _ _ _ g.met.E.End.follows _ _ _ c.in-Err.ensures.fault
 
 pub loop-init : goal.loop-init
 loop-init g c =
-    let p = at_once _ _ _ _ _ _
-    g.met.E.End.follows _ _
-    (rw c.in-Ok-None.field-0-is at c.in-Ok-None.ensures.taken) in
+    let p = at_once _ _ _ _ _ _ g.met.E.End.follows _ _ (rw c.in-Ok-None.field-0-is at c.in-Ok-None.ensures.taken) in
     (p.0, [], p.1, p.2, p.3, c.in-Ok-None.ensures.works ∙ c.requires.works, p.4)
 
 pub loop-preserved : goal.loop-preserved
 loop-preserved g c =
     let i = c.loop.invariant in
     let f = c.in-Ok-true.ensures.some in
-    let p = reads_on _ _ _ _ _ _
-    g.met.E.End.follows c.args.self.now c.loop.self _ c.take_waiting-in-loop.new.self c.self.view_is i.0 i.1
-    _ i.2 i.3 i.6 (omega (arith, c.loop-test.true)) _ _ f.0 f.1
-    (f.2 c.in-Ok-true.field-0-test)
+    let p = reads_on _ _ _ _ _ _ g.met.E.End.follows c.args.self.now c.loop.self _ c.take_waiting-in-loop.new.self
+    c.self.view_is i.0 i.1 _ i.2 i.3 i.6 (omega (arith, c.loop-test.true)) _ _ f.0 f.1 (f.2 c.in-Ok-true.field-0-test)
     (rw c.in-Ok-None-take_waiting.field-0-is at c.in-Ok-None-take_waiting.ensures.taken) in (
       p.0,
       i.1 ++ c.fill.new.self,
       p.1,
       p.2,
       p.3,
-      c.in-Ok-None-take_waiting.ensures.works
-          ∙ ap (λ z. z.broken) c.self.view_is ∙ i.5,
+      c.in-Ok-None-take_waiting.ensures.works ∙ ap (λ z. z.broken) c.self.view_is ∙ i.5,
       p.4,
     )
 
@@ -43,10 +35,8 @@ pub returns-in-Ok-Some-take_waiting-clause-heard : goal.returns-in-Ok-Some-take_
 returns-in-Ok-Some-take_waiting-clause-heard g c =
     let i = c.loop.invariant in
     let f = c.in-Ok-true.ensures.some in
-    reads_heard _ _ _ _ _ _
-    g.met.E.End.follows c.args.self.now c.loop.self _ c.take_waiting-in-loop.new.self c.self.view_is i.0 i.1
-    _ i.2 i.3 i.6 (omega (arith, c.loop-test.true)) _ _ f.0 f.1
-    (f.2 c.in-Ok-true.field-0-test) _
+    reads_heard _ _ _ _ _ _ g.met.E.End.follows c.args.self.now c.loop.self _ c.take_waiting-in-loop.new.self
+    c.self.view_is i.0 i.1 _ i.2 i.3 i.6 (omega (arith, c.loop-test.true)) _ _ f.0 f.1 (f.2 c.in-Ok-true.field-0-test) _
     (rw c.in-Ok-Some-take_waiting.field-0-is at c.in-Ok-Some-take_waiting.ensures.taken)
 
 pub returns-in-Err-take_waiting-clause-fault : goal.returns-in-Err-take_waiting-clause-fault
@@ -61,8 +51,7 @@ returns-in-Err-take_waiting-clause-fault g c =
 pub returns-clause-fault : goal.returns-clause-fault
 returns-clause-fault g c =
     let i = c.loop.invariant in
-    hearing_endless _ _ _ _ _ _
-    g.met.E.End.follows _ _ i.0 i.1 _
+    hearing_endless _ _ _ _ _ _ g.met.E.End.follows _ _ i.0 i.1 _
     (omega (arith, c.loop-test.false, c.loop.auto.counter-end)) i.2 i.3 i.4 i.6
 
 pub returns-in-Ok-false-clause-works : goal.returns-in-Ok-false-clause-works

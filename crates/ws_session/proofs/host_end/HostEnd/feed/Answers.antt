@@ -26,8 +26,7 @@ pub loop-used-init : goal.loop-used-init
 loop-used-init c = (
   omega arith,
   refl,
-  λ bytes items side l fits.
-      (host_fed_none _ bytes items side l, host_silent_none bytes items side _),
+  λ bytes items side l fits. (host_fed_none _ bytes items side l, host_silent_none bytes items side _),
   λ fits. omega arith,
 )
 
@@ -41,12 +40,10 @@ returns-in_err-reply-clause-refused c =
     let i = c.loop-used.used in
     let k = f.result.used in
     let why : Refusal = c.in_err-reply.field-0.0 in
-    host_refused_on bytes items side piece i now (c.loop-used.invariant.2 bytes items side l fits).0 _
-    _ k why c.loop-used.invariant.1 f.ensures.within
-    (λ other. f.ensures.used
-    (λ e. other (cc (c.in_err-reply.was, e))))
-    (λ b its s m room. rw c.in_err-reply.was at (f.ensures.fronted b its s m room))
-    f.ensures.first fits c.loop-used.invariant.0)
+    host_refused_on bytes items side piece i now
+    (c.loop-used.invariant.2 bytes items side l fits).0 _ _ k why c.loop-used.invariant.1 f.ensures.within
+    (λ other. f.ensures.used (λ e. other (cc (c.in_err-reply.was, e)))) (λ b its s m room. rw c.in_err-reply.was at
+    (f.ensures.fronted b its s m room)) f.ensures.first fits c.loop-used.invariant.0)
 
 pub returns-in_err-reply-clause-counted_up : goal.returns-in_err-reply-clause-counted_up
 returns-in_err-reply-clause-counted_up c =

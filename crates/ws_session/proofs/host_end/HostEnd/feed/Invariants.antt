@@ -6,11 +6,9 @@ use Rattle.ws_session.proofs.host_end.HostEnd.feed.Given as goal
 abbrev pub invariant-loop-used : goal.invariant-loop-used
 invariant-loop-used l = (l.used ≤ length l.piece) × (l.self.screen ≡ l.fn.self.screen)
     × ((bytes : List ℕ) (items : List (Item AnswerPart)) (side : HostSide) → HostLeads l.fn.self bytes items side
-    → length bytes + length l.piece + 1 < 2 ^ 64
-    → HasHostFed l.self bytes items side (take l.used l.piece) [] None
-    × ((n : ℕ) → n ≤ l.used → IsHostSilent bytes items side (take n l.piece)))
-    × (l.fn.self.receiver.live.taken + l.used < 2 ^ 64
-    → l.self.receiver.live.taken ≡ l.fn.self.receiver.live.taken + l.used)
+    → length bytes + length l.piece + 1 < 2 ^ 64 → HasHostFed l.self bytes items side (take l.used l.piece) [] None
+    × ((n : ℕ) → n ≤ l.used → IsHostSilent bytes items side (take n l.piece))) × (l.fn.self.receiver.live.taken
+    + l.used < 2 ^ 64 → l.self.receiver.live.taken ≡ l.fn.self.receiver.live.taken + l.used)
 
 abbrev pub decreases-loop-used : goal.decreases-loop-used
 decreases-loop-used l = length l.piece - l.used

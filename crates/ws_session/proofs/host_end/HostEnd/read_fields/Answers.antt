@@ -12,8 +12,7 @@ by_asked_read asked fields parts kind result is split k e =
     rw (← same) (is_read kind fields parts result split)
 
 pub returns : goal.returns
-returns c =
-    record {
-      read = rw (← c.self.view_is) (by_asked_read _ _ _ _ _
-          (sym c.pending.ensures ∙ c.in-Some.is) c.split_answer.ensures.split);
-    }
+returns c = record {
+  read = rw
+      (← c.self.view_is) (by_asked_read _ _ _ _ _ (sym c.pending.ensures ∙ c.in-Some.is) c.split_answer.ensures.split);
+}

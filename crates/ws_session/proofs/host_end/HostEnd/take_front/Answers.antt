@@ -25,17 +25,13 @@ returns-clause-fronted c =
     let list_of = λ (vec : Vec AnswerPart Global). vec.items in
     rw (← c.self.view_is) (λ bytes items side l fits.
     let led = l.taken.leads.1 in
-    let n = front_count bytes piece _ s.live.taken a.new.self.taken led.count a.ensures.within fits
-    a.ensures.counted in
-    host_fronted old bytes items side l list_of s.units a.new.keep refl _ a.new.self
-    _
+    let n = front_count bytes piece _ s.live.taken a.new.self.taken led.count a.ensures.within fits a.ensures.counted in
+    host_fronted old bytes items side l list_of s.units a.new.keep refl _ a.new.self _
     (a.ensures.advance bytes items (host_so_far old bytes items side l) led fits) n.0
-    (λ works. n.2 (a.ensures.used works)) _ _
-    c.take_news-step.ensures.taken)
+    (λ works. n.2 (a.ensures.used works)) _ _ c.take_news-step.ensures.taken)
 
 pub returns-clause-first : goal.returns-clause-first
 returns-clause-first c =
     let old = the_view c.self.inside in
     rw (← c.self.view_is) (λ bytes items side l. c.advance-used.ensures.first bytes items
-    (host_so_far old bytes items side l)
-    l.taken.leads.1)
+    (host_so_far old bytes items side l) l.taken.leads.1)

@@ -57,9 +57,7 @@ loop-self-preserved g c =
     c.in_ok-press.ensures.place.1 c.in_ok-press.ensures.done
 
 pub returns-clause-done : goal.returns-clause-done
-returns-clause-done g c =
-    pressing_ends _ _ _ _ _ _
-    _ c.loop-self.invariant
+returns-clause-done g c = pressing_ends _ _ _ _ _ _ _ c.loop-self.invariant
     (ap (due c.args.self.now.records) (none_left c.args.keys.now c.loop-self.self.pressed c.loop-self-test.false))
 
 pub returns-clause-left : goal.returns-clause-left

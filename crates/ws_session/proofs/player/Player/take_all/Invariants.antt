@@ -6,6 +6,5 @@ use Rattle.ws_session.proofs.player.Player.take_all.Given as goal
 abbrev pub invariant-loop-byte : goal.invariant-loop-byte
 invariant-loop-byte g l = (start : g.row.S.Denot) (t : TerminalType) (bytes : List ℕ) (items : List (Item Element))
     → HasCome g.S.Sink.takes g.S.Sink.failures t l.keys start l.fn.self l.fn.sink bytes items
-    → length bytes + length l.piece + 1 < 2 ^ 64
-    → (next : List (Item Element)) × HasCome g.S.Sink.takes g.S.Sink.failures t l.keys start l.self l.sink
-    (bytes ++ take l.byte-index l.piece) next
+    → length bytes + length l.piece + 1 < 2 ^ 64 → (next : List (Item Element))
+    × HasCome g.S.Sink.takes g.S.Sink.failures t l.keys start l.self l.sink (bytes ++ take l.byte-index l.piece) next

@@ -19,8 +19,7 @@ pub loop-used-init : goal.loop-used-init
 loop-used-init c = (
   omega arith,
   refl,
-  λ bytes items side l fits.
-      (fed_none _ bytes items side l, silent_none bytes items side _),
+  λ bytes items side l fits. (fed_none _ bytes items side l, silent_none bytes items side _),
   λ fits. omega arith,
 )
 
@@ -34,12 +33,10 @@ returns-in_err-reply-clause-refused c =
     let i = c.loop-used.used in
     let k = f.result.used in
     let why : Refusal = c.in_err-reply.field-0.0 in
-    refused_on bytes items side piece i now (c.loop-used.invariant.2 bytes items side l fits).0 _
-    _ k why c.loop-used.invariant.1 f.ensures.within
-    (λ other. f.ensures.used
-    (λ e. other (cc (c.in_err-reply.was, e))))
-    (λ b its s m room. rw c.in_err-reply.was at (f.ensures.fronted b its s m room))
-    f.ensures.first fits c.loop-used.invariant.0)
+    refused_on bytes items side piece i now
+    (c.loop-used.invariant.2 bytes items side l fits).0 _ _ k why c.loop-used.invariant.1 f.ensures.within
+    (λ other. f.ensures.used (λ e. other (cc (c.in_err-reply.was, e)))) (λ b its s m room. rw c.in_err-reply.was at
+    (f.ensures.fronted b its s m room)) f.ensures.first fits c.loop-used.invariant.0)
 
 pub returns-in_err-reply-clause-counted_up : goal.returns-in_err-reply-clause-counted_up
 returns-in_err-reply-clause-counted_up c =
@@ -47,12 +44,9 @@ returns-in_err-reply-clause-counted_up c =
     let now = c.loop-used in
     let f = c.take_front-front in
     let why : Refusal = c.in_err-reply.field-0.0 in
-    rw (p.1, p.2) (counted_up why _ now.self.live.taken _ now.used
-    _ (length (left_of c.args.piece.now now.used)) _ now.invariant.0
-    f.ensures.within (left_length c.args.piece.now now.used) now.invariant.3 f.ensures.counted
-    (λ other. f.ensures.used
-    (λ e. other (cc (c.in_err-reply.was, e))))
-    (rw c.in_err-reply.was at f.ensures.at))
+    rw (p.1, p.2) (counted_up why _ now.self.live.taken _ now.used _ (length (left_of c.args.piece.now now.used))
+    _ now.invariant.0 f.ensures.within (left_length c.args.piece.now now.used) now.invariant.3 f.ensures.counted
+    (λ other. f.ensures.used (λ e. other (cc (c.in_err-reply.was, e)))) (rw c.in_err-reply.was at f.ensures.at))
 
 pub returns-then-ends_record-clause-fed : goal.returns-then-ends_record-clause-fed
 returns-then-ends_record-clause-fed c = λ bytes items side l fits.
@@ -62,17 +56,14 @@ returns-then-ends_record-clause-fed c = λ bytes items side l fits.
     let i = c.loop-used.used in
     let k = f.result.used in
     let step : StationStep = c.in_ok-reply.field-0 in
-    fed_on bytes items side piece i now (c.loop-used.invariant.2 bytes items side l fits).0 _ k step
-    f.ensures.within (f.ensures.used
-    (λ e. cc (c.in_ok-reply.was, e)))
-    (λ b its s m room. rw c.in_ok-reply.was at (f.ensures.fronted b its s m room))
-    f.ensures.first fits c.loop-used.invariant.0
+    fed_on bytes items side piece i now (c.loop-used.invariant.2 bytes items side l fits).0 _ k step f.ensures.within
+    (f.ensures.used (λ e. cc (c.in_ok-reply.was, e))) (λ b its s m room. rw c.in_ok-reply.was at
+    (f.ensures.fronted b its s m room)) f.ensures.first fits c.loop-used.invariant.0
 
 pub returns-then-ends_record-clause-first : goal.returns-then-ends_record-clause-first
 returns-then-ends_record-clause-first c = λ bytes items side l fits.
     let inv = c.loop-used.invariant.2 bytes items side l fits in
-    silent_on bytes items side _ _ _ inv.0 _
-    c.take_front-front.ensures.within c.take_front-front.ensures.first inv.1
+    silent_on bytes items side _ _ _ inv.0 _ c.take_front-front.ensures.within c.take_front-front.ensures.first inv.1
 
 pub returns-clause-first : goal.returns-clause-first
 returns-clause-first c = λ bytes items side l fits n lt. (c.loop-used.invariant.2 bytes items side l fits).1 n
@@ -87,8 +78,7 @@ loop-used-preserved c = (
     c.loop-used.invariant.0,
   ),
   (rw c.in_ok-reply.was at c.take_front-front.ensures.quiet) c.if-ends_record.false ∙ c.loop-used.invariant.1,
-  λ bytes items side l fits.
-      (let now = c.loop-used.self in
+  λ bytes items side l fits. (let now = c.loop-used.self in
       let f = c.take_front-front in
       let piece = c.args.piece.now in
       let i = c.loop-used.used in
@@ -96,11 +86,9 @@ loop-used-preserved c = (
       let step : StationStep = c.in_ok-reply.field-0 in
       let inv = c.loop-used.invariant.2 bytes items side l fits in
       let fed = fed_on bytes items side piece i now inv.0 f.new.self k step f.ensures.within
-      (f.ensures.used (λ e. cc (c.in_ok-reply.was, e)))
-      (λ b its s m room. rw c.in_ok-reply.was at (f.ensures.fronted b its s m room))
-      f.ensures.first fits c.loop-used.invariant.0 in
-      let still : HasFed f.new.self bytes items side (take (i + k) piece) [] false =
-      rw (
+      (f.ensures.used (λ e. cc (c.in_ok-reply.was, e))) (λ b its s m room. rw c.in_ok-reply.was at
+      (f.ensures.fronted b its s m room)) f.ensures.first fits c.loop-used.invariant.0 in
+      let still : HasFed f.new.self bytes items side (take (i + k) piece) [] false = rw (
         no_reply step.reply _ c.as_slice.ensures.value c.is_empty.result c.is_empty.ensures c.if-not-is_empty.false,
         c.if-ends_record.false,
       ) at fed in (

@@ -34,5 +34,4 @@ pub returns-clause-first : goal.returns-clause-first
 returns-clause-first c =
     let old = the_view c.self.inside in
     rw (← c.self.view_is) (λ bytes items side l. c.advance-used.ensures.first bytes items
-    (so_far old bytes items side l)
-    (is_led old bytes items side l))
+    (so_far old bytes items side l) (is_led old bytes items side l))

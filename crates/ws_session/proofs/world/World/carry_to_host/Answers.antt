@@ -24,13 +24,12 @@ loop-left-preserved g c =
       gone = i.gone + n;
       all = omega (arith, i.all, c.min-piece.ensures, c.min.ensures);
       crossings = i.crossings ++ q.0 ∷ [];
-      crossed = crossed_on g.S.Sink.takes g.S.Sink.failures g.R.Source.gives g.R.Source.failures c.args.line.now
-          c.loop-left.line c.piece_to_host.new.line i.crossings (q.0 ∷ []) i.crossed q.1;
-      heard = up_more (ends_of c.args.self.now) (ends_of c.loop-left.self) (ends_of c.piece_to_host.new.self) i.gone n
-          i.crossings (q.0 ∷ []) i.heard q.2;
+      crossed = crossed_on g.S.Sink.takes g.S.Sink.failures g.R.Source.gives g.R.Source.failures
+          c.args.line.now c.loop-left.line c.piece_to_host.new.line i.crossings (q.0 ∷ []) i.crossed q.1;
+      heard = up_more (ends_of c.args.self.now)
+          (ends_of c.loop-left.self) (ends_of c.piece_to_host.new.self) i.gone n i.crossings (q.0 ∷ []) i.heard q.2;
       runs = λ f t w r. rw (← host_bytes_on i.gone n w) (q.3 (faithful_back i.crossings (q.0 ∷ []) f).0 t
-          (bytes_to_host i.gone w)
-          (i.runs (faithful_front i.crossings (q.0 ∷ []) f) t w r));
+          (bytes_to_host i.gone w) (i.runs (faithful_front i.crossings (q.0 ∷ []) f) t w r));
     }
 
 pub returns-then-piece-eq0-clause-came : goal.returns-then-piece-eq0-clause-came

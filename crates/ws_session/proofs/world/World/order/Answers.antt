@@ -6,8 +6,7 @@ use Rattle.ws_session.proofs.world.World.order.Goals as goal
 pub returns-then-eq-clause-sent : goal.returns-then-eq-clause-sent
 returns-then-eq-clause-sent c =
     let eq : c.args.opcode ≡ CancelInvite = search rules in
-    on_ok_weaker c.cancel.result
-    (λ q t w r. rw eq (q t w r)) c.cancel.ensures.sent
+    on_ok_weaker c.cancel.result (λ q t w r. rw eq (q t w r)) c.cancel.ensures.sent
 
 pub returns-then-eq-clause-ordered : goal.returns-then-eq-clause-ordered
 returns-then-eq-clause-ordered c =

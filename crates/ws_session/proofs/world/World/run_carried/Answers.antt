@@ -28,19 +28,11 @@ loop-step-preserved g c =
     record {
       downs = i.downs ++ q.0;
       ups = i.ups ++ q.1;
-      went_down = crossed_on _ _ _ _ _
-          _ _ _ q.0 i.went_down q.2;
-      went_up = crossed_on _ _ _ _ _
-          _ _ i.ups q.1 i.went_up q.3;
-      moved = (
-        i.moved.0,
-        i.moved.1,
-        rw longer (moved_on _ _ _
-            _ _ _ i.ups q.0 q.1 i.moved.2 q.4),
-      );
+      went_down = crossed_on _ _ _ _ _ _ _ _ q.0 i.went_down q.2;
+      went_up = crossed_on _ _ _ _ _ _ _ i.ups q.1 i.went_up q.3;
+      moved = (i.moved.0, i.moved.1, rw longer (moved_on _ _ _ _ _ _ i.ups q.0 q.1 i.moved.2 q.4));
       runs = λ f h. rw (longer, more_moves _ _ _) (q.5 (faithful_back _ q.0 f) (faithful_back i.ups q.1 h) t
-          (after_moves (new_world t) (take n moves))
-          (i.runs (faithful_front _ q.0 f) (faithful_front i.ups q.1 h)));
+          (after_moves (new_world t) (take n moves)) (i.runs (faithful_front _ q.0 f) (faithful_front i.ups q.1 h)));
     }
 
 pub returns-in_err-take_carried-clause-fault : goal.returns-in_err-take_carried-clause-fault
