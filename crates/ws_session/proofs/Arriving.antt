@@ -31,10 +31,9 @@ module _ {E Deed Told : Type 0} (goes : E → List (Act Deed) → List ℕ → L
 
   -- one that it refuses
   pub refused_come : (stays : (e : E) → goes e [] [] [] e) (old new : E) (byte : ℕ) (why : Refusal)
-      → HasMemory (Some why) → (to : WireParts) (events events' : List Event)
-      → refuses old byte why new → over new
-      → (over old → (new ≡ old) × (reported goes refuses over tells refusal [] (Some why) ≡ [])) → events' ≡ events
-      ++ reported goes refuses over tells refusal [] (Some why)
+      → HasMemory (Some why) → (to : WireParts) (events events' : List Event) → refuses old byte why new
+      → over new → (over old → (new ≡ old) × (reported goes refuses over tells refusal [] (Some why) ≡ []))
+      → events' ≡ events ++ reported goes refuses over tells refusal [] (Some why)
       → HasCome goes refuses over tells refusal old byte new to to events events'
   refused_come stays old new byte why memory to events events' r o same e = record {
     written = [];

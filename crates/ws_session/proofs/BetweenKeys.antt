@@ -1,20 +1,20 @@
 use Rattle.ws_session.proofs.Common as C
-use C.{◌||◌, if◌then◌else◌, unwrap_or, ◌≡◌, ℕ, ◌⊎◌, inl, inr, List, [], ◌∷◌, ◌++◌, Bool, true, false, Option, Some}
-use C.{None, refl, ap, ◌∙◌, sym, subst, is_some, append-nil, Telnet, TerminalType, Exchange, station_allows_records}
-use C.{host_allows_records, Opcode, Element, ReadKind, after_elements, after_end, body_fault, cancelled, History}
-use C.{Edit, fields, open_write, pending_read, Send, HostAnswer, answer_parts, edit_of, events_by, is_answered}
-use C.{answer_of, aids_answer, own_reading, same_apart, by_host, layouts, read_left_by, is_body, StationSide}
-use C.{opcode_events, after_record, after_key, screen_at, HostSide, sent_record, is_outstanding, Alike}
-use C.{open_write_alike, layout_alike, elements_alike, end_alike, body_fault_alike, pending-elements, pending-end}
+use C.{station_allows_records, host_allows_records, open_write_alike, pending-elements, body_fault_alike, opcode_events}
+use C.{elements_alike, after_elements, is_outstanding, if◌then◌else◌, after_record, layout_alike, pending_read, by_host}
+use C.{read_left_by, answer_parts, TerminalType, sent_record, is_answered, aids_answer, own_reading, StationSide, subst}
+use C.{pending-end, body_fault, open_write, same_apart, HostAnswer, append-nil, after_key, events_by, after_end, Option}
+use C.{answer_of, cancelled, screen_at, unwrap_or, end_alike, Exchange, HostSide, ReadKind, is_some, layouts, edit_of}
+use C.{History, is_body, Element, Opcode, Telnet, fields, false, Alike, Send, Some, Bool, refl, List, None, ◌||◌, ◌++◌}
+use C.{true, Edit, ◌∷◌, sym, ◌∙◌, ◌≡◌, inl, inr, ◌⊎◌, [], ap, ℕ}
 use Rattle.ws_screen.specs.Given.{ends_of}
 use Rattle.ws_screen.specs.Cells.{cell}
 use Rattle.std.proofs.lemmas.List.FromFn.{length-map-range_with_len}
-use Rattle.ws_session.proofs.Turns.{DownMark, Stop as StopMark, TurnAt, at_turn, send_text, send_read, send_stop}
-use Rattle.ws_session.proofs.Turns.{answer, no_reply}
-use Rattle.ws_session.proofs.Betweens.{Between, Body, Ends, Posted, Replies, Sent, Signal, Stop, Waits}
-use Rattle.ws_session.proofs.Betweens.{after_posted, after_posted_more, closed_end, end_events, fit_alike, fit_more}
-use Rattle.ws_session.proofs.Betweens.{is_stop, mark_left, marks_down, marks_down_more, marks_of, marks_up}
-use Rattle.ws_session.proofs.Betweens.{marks_up_more, opcode_alike, posted_alike, record_of}
+use Rattle.ws_session.proofs.Turns.{Stop as StopMark, send_stop, send_text, send_read, no_reply, DownMark, at_turn}
+use Rattle.ws_session.proofs.Turns.{TurnAt, answer}
+use Rattle.ws_session.proofs.Betweens.{after_posted_more, marks_down_more, marks_up_more, posted_alike, after_posted}
+use Rattle.ws_session.proofs.Betweens.{opcode_alike, end_events, closed_end, marks_down, mark_left, fit_alike, marks_up}
+use Rattle.ws_session.proofs.Betweens.{record_of, marks_of, screened, betweens, fit_more, Screens, Replies, Between}
+use Rattle.ws_session.proofs.Betweens.{is_stop, Signal, Posted, Waits, Stop, Body, Ends, Sent}
 use Rattle.ws_session.proofs.BetweenSteps.{waits_any}
 
 -- What stands between both ends, where a key is pressed, or the host end sends or cancels.
@@ -34,44 +34,30 @@ pending-keyed (Some edit) h b e = ap (λ (t : Bool). unwrap_or (if t then Some N
       by_test true = refl
       by_test false = refl
 
+keyed : {h kept : History} {ds : List Posted} (o : Option Edit) → Screens h kept ds → Screens (events_by o ++ h) kept ds
+keyed {h} {kept} {ds} o c =
+    let e : Alike h (events_by o ++ h) = sym (keyed_alike o h) in
+    screened (c.alike ∙ posted_alike h (events_by o ++ h) e ds) (fit_alike h (events_by o ++ h) e ds c.fits)
+    (same_apart 0 (fields h) (fields (events_by o ++ h)) (layout_alike h (events_by o ++ h) e) c.within) c.closed
+
 module _ {t : TerminalType} {ex : Exchange} {s : StationSide} {h : HostSide} {ts us : List Telnet} {ds : List Posted}
     {es : List Sent} {later : List HostAnswer} (b : Between t ex s h ts us ds es later) where
   -- a key that leaves what is pending, and sends nothing
   pub key_silent : (o : Option Edit) → pending_read (events_by o ++ s.happened) ≡ pending_read s.happened
       → Between t ex (record { options = s.options; happened = events_by o ++ s.happened }) h ts us ds es later
-  key_silent o same = record {
-    exchanges = b.exchanges;
-    host_ready = b.host_ready;
-    station_ready = b.station_ready;
-    alike = b.alike ∙ posted_alike _ _ (sym (keyed_alike o _)) ds;
-    fits = fit_alike s.happened _ (sym (keyed_alike o _)) ds b.fits;
-    within = same_apart 0 (fields s.happened) (fields (events_by o ++ s.happened))
-        (layout_alike s.happened (events_by o ++ s.happened) (sym (keyed_alike o _))) b.within;
-    turn = rw same b.turn;
-    waits = b.waits;
-    closed = b.closed;
-  }
+  key_silent o same = betweens b.exchanges b.host_ready b.station_ready (keyed o b.screens) (rw same b.turn) b.waits
 
   pub key_signal : station_allows_records s.options ≡ true → (flags : ℕ) → Between t ex s h ts us ds
       (es ++ Signal flags ∷ []) later
-  key_signal allows flags = record {
-    exchanges = b.exchanges;
-    host_ready = b.host_ready;
-    station_ready = inr allows;
-    alike = b.alike;
-    fits = b.fits;
-    within = b.within;
-    turn = subst (TurnAt (pending_read h.kept) h.cancelling (pending_read s.happened) (marks_down ds))
-        (sym (marks_up_more es _ ∙ append-nil (marks_up es))) b.turn;
-    waits = more es later b.waits;
-    closed = b.closed;
-  } where
-    more : (es : List Sent) (later : List HostAnswer) → Waits (layouts (fields h.kept)) (pending_read h.kept) es later
-        → Waits (layouts (fields h.kept)) (pending_read h.kept) (es ++ Signal flags ∷ []) later
-    more [] later w = w
-    more (Replies parts ∷ es) later w = (w.0, w.1, w.2, w.3, w.4, w.5, w.6, w.7, more es w.3 w.8)
-    more (Ends ∷ es) later w = more es later w
-    more (Signal other ∷ es) later w = more es later w
+  key_signal allows flags = betweens b.exchanges b.host_ready (inr allows) b.screens
+      (subst (TurnAt (pending_read h.kept) h.cancelling (pending_read s.happened) (marks_down ds))
+      (sym (marks_up_more es _ ∙ append-nil (marks_up es))) b.turn) (more es later b.waits) where
+        more : (es : List Sent) (later : List HostAnswer) → Waits (layouts (fields h.kept)) (pending_read h.kept)
+            es later → Waits (layouts (fields h.kept)) (pending_read h.kept) (es ++ Signal flags ∷ []) later
+        more [] later w = w
+        more (Replies parts ∷ es) later w = (w.0, w.1, w.2, w.3, w.4, w.5, w.6, w.7, more es w.3 w.8)
+        more (Ends ∷ es) later w = more es later w
+        more (Signal other ∷ es) later w = more es later w
 
   -- records on their way while a read is pending leave the fields as they are
   layout_held : (k : History) (ds : List Posted) → (marks_down ds ≡ []) ⊎ (marks_down ds ≡ StopMark ∷ [])
@@ -99,33 +85,17 @@ module _ {t : TerminalType} {ex : Exchange} {s : StationSide} {h : HostSide} {ts
       let reply : Sent = Replies (answer_parts kind (screen_at s) aid) in
       let places : layouts (fields s.happened) ≡ layouts (fields h.kept) =
       sym (layout_alike h.kept (after_posted s.happened ds) b.alike ∙ layout_held s.happened ds found.2) in
-      record {
-        exchanges = b.exchanges;
-        host_ready = b.host_ready;
-        station_ready = inr allows;
-        alike = b.alike ∙ posted_alike s.happened (events_by o ++ s.happened) (sym (keyed_alike o s.happened)) ds;
-        fits = fit_alike s.happened (events_by o ++ s.happened) (sym (keyed_alike o s.happened)) ds b.fits;
-        within = same_apart 0 (fields s.happened) (fields (events_by o ++ s.happened))
-            (layout_alike s.happened (events_by o ++ s.happened) (sym (keyed_alike o s.happened))) b.within;
-        turn = rw (marks_up_more es reply) (rw dropped found.0);
-        waits = more es later found.3 b.waits places found.1;
-        closed = b.closed;
-      } where
+      betweens b.exchanges b.host_ready (inr allows) (keyed o b.screens)
+      (rw (marks_up_more es reply) (rw dropped found.0)) (more es later found.3 b.waits places found.1) where
         more : (es : List Sent) (later : List HostAnswer) → marks_up es ≡ []
             → Waits (layouts (fields h.kept)) (pending_read h.kept) es later → layouts (fields s.happened) ≡ layouts
             (fields h.kept) → pending_read h.kept ≡ Some kind → Waits (layouts (fields h.kept)) (pending_read h.kept)
             (es ++ Replies (answer_parts kind (screen_at s) aid) ∷ []) (later ++ answer_of kind (screen_at s) aid ∷ [])
-        more [] later n w places asked = (
-          kind,
-          fields s.happened,
-          answer_of kind (screen_at s) aid,
-          [],
-          asked,
-          places,
-          own_reading kind (screen_at s) aid (length-map-range_with_len (λ c. cell c s.happened) 0 1920) b.within,
-          ap (λ l. l ++ answer_of kind (screen_at s) aid ∷ []) w,
-          refl,
-        )
+        more [] later n w places asked =
+            let x = answer_of kind (screen_at s) aid in
+            let reads = own_reading kind (screen_at s) aid (length-map-range_with_len
+            (λ c. cell c s.happened) 0 1920) b.within in
+            (kind, fields s.happened, x, [], asked, places, reads, ap (λ l. l ++ x ∷ []) w, refl)
         more (Replies parts ∷ es) later n w places asked = cc
         more (Ends ∷ es) later n w places asked = cc
         more (Signal flags ∷ es) later n w places asked = more es later n w places asked
@@ -175,19 +145,12 @@ module _ {t : TerminalType} {ex : Exchange} {s : StationSide} {h : HostSide} {ts
       let kept : History = after_end (after_elements h.kept body) in
       let left : pending_read kept ≡ read_left_by (pending_read h.kept) body = pending-end (after_elements h.kept body)
       ∙ pending-elements h.kept body in
-      record {
-        exchanges = b.exchanges;
-        host_ready = inr ready;
-        station_ready = b.station_ready;
-        alike = end_alike (after_elements h.kept body) (after_elements all body)
-            (elements_alike h.kept all b.alike body) ∙ sym (opcode_alike o (after_end (after_elements all body)))
-            ∙ ap by_host (sym (after_posted_more s.happened ds (Body o other body ok)));
-        fits = fit_more s.happened ds (Body o other body ok) b.fits (fresh (Body o other body ok) none);
-        within = b.within;
-        turn = rw (marks_down_more ds (Body o other body ok)) (rw left (turn_after o other body ok out));
-        waits = rw left (waits_after body out);
-        closed = closed_end (after_elements h.kept body);
-      }
+      let d : Posted = Body o other body ok in
+      betweens b.exchanges (inr ready) b.station_ready (screened (end_alike (after_elements h.kept body) (after_elements
+      all body) (elements_alike h.kept all b.alike body) ∙ sym (opcode_alike o (after_end (after_elements all body)))
+      ∙ ap by_host (sym (after_posted_more s.happened ds d))) (fit_more s.happened ds d b.fits (fresh d none)) b.within
+      (closed_end (after_elements h.kept body))) (rw (marks_down_more ds d) (rw left (turn_after o other body ok out)))
+      (rw left (waits_after body out))
 
   -- a cancel
   pub sends_cancel : (kind : ReadKind)
@@ -197,14 +160,6 @@ module _ {t : TerminalType} {ex : Exchange} {s : StationSide} {h : HostSide} {ts
       let all : History = after_posted s.happened ds in
       let shut : open_write all ≡ None = sym (open_write_alike h.kept all b.alike) ∙ b.closed in
       let same : Alike all (after_record all (record_of Stop)) = ap (λ w. by_host (ends_of w ++ all)) (sym shut) in
-      record {
-        exchanges = b.exchanges;
-        host_ready = inr ready;
-        station_ready = b.station_ready;
-        alike = b.alike ∙ same ∙ ap by_host (sym (after_posted_more s.happened ds Stop));
-        fits = fit_more s.happened ds Stop b.fits refl;
-        within = b.within;
-        turn = rw (marks_down_more ds Stop) (at_turn b.turn (send_stop kind) is going);
-        waits = b.waits;
-        closed = b.closed;
-      }
+      betweens b.exchanges (inr ready) b.station_ready (screened (b.alike ∙ same ∙ ap by_host (sym (after_posted_more
+      s.happened ds Stop))) (fit_more s.happened ds Stop b.fits refl) b.within b.closed)
+      (rw (marks_down_more ds Stop) (at_turn b.turn (send_stop kind) is going)) b.waits

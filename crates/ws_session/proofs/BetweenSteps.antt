@@ -11,7 +11,7 @@ use Rattle.ws_session.proofs.Turns.{DownMark, UpMark, Done, TurnAt, at_turn, dow
 use Rattle.ws_session.proofs.Turns.{up_reply, up_done, no_reply}
 use Rattle.ws_session.proofs.Betweens.{Between, Body, Ends, Posted, Replies, Sent, Signal, Stop, Waits, is_stop}
 use Rattle.ws_session.proofs.Betweens.{mark_left, marks_down, marks_up, marks_up_more, record_of, sents, whole}
-use Rattle.ws_session.proofs.Betweens.{within_record}
+use Rattle.ws_session.proofs.Betweens.{within_record, betweens, screened, Screens}
 
 -- What stands between both ends, where a token or a record comes to one of them.
 
@@ -24,21 +24,8 @@ module _ {t : TerminalType} {ex : Exchange} {s : StationSide} {h : HostSide} {to
       (after_move ToStation ex) (record { options = (station_answer s.options token).after; happened = s.happened })
       h ts (us ++ (station_answer s.options token).reply) ds es later
   station_token =
-      let none : es ≡ [] = elim b.station_ready [ inl e ↦ e | inr a ↦ (let e = x_station b.exchanges a in cc) ] in (
-        none,
-        x_down_count b.exchanges,
-        record {
-          exchanges = x_down b.exchanges;
-          host_ready = b.host_ready;
-          station_ready = inl none;
-          alike = b.alike;
-          fits = b.fits;
-          within = b.within;
-          turn = b.turn;
-          waits = b.waits;
-          closed = b.closed;
-        },
-      )
+      let none : es ≡ [] = elim b.station_ready [ inl e ↦ e | inr a ↦ (let e = x_station b.exchanges a in cc) ] in
+      (none, x_down_count b.exchanges, betweens (x_down b.exchanges) b.host_ready (inl none) b.screens b.turn b.waits)
 
 -- a token comes to the host end
 module _ {t : TerminalType} {ex : Exchange} {s : StationSide} {h : HostSide} {token : Telnet} {ts us : List Telnet}
@@ -48,22 +35,9 @@ module _ {t : TerminalType} {ex : Exchange} {s : StationSide} {h : HostSide} {to
       → (ds ≡ []) × ((after_move ToHost ex).count ≡ ex.count + length a.reply) × Between t (after_move ToHost ex) s
       (record { options = a.after; kept = h.kept; cancelling = h.cancelling }) (ts ++ a.reply) us ds es later
   host_token a q =
-      let none : ds ≡ [] = elim b.host_ready
-      [ inl e ↦ e | inr f ↦ (let e = (x_host b.exchanges f).1 in cc) ] in (
-        none,
-        x_up_count b.exchanges a q,
-        record {
-          exchanges = x_up b.exchanges a q;
-          host_ready = inl none;
-          station_ready = b.station_ready;
-          alike = b.alike;
-          fits = b.fits;
-          within = b.within;
-          turn = b.turn;
-          waits = b.waits;
-          closed = b.closed;
-        },
-      )
+      let none : ds ≡ [] = elim b.host_ready [ inl e ↦ e | inr f ↦ (let e = (x_host b.exchanges f).1 in cc) ] in
+      let x = x_up b.exchanges a q in
+      (none, x_up_count b.exchanges a q, betweens x (inl none) b.station_ready b.screens b.turn b.waits)
 
 -- RECORDS COME TO THE STATION
 
@@ -124,22 +98,12 @@ module _ {t : TerminalType} {ex : Exchange} {s : StationSide} {h : HostSide} {us
       (es ++ answers_to d) later
   station_record =
       let ready : host_allows_records h.options ≡ true = elim b.host_ready [ inl e ↦ cc | inr f ↦ f ] in
-      let allows : station_allows_records s.options ≡ true = (x_host b.exchanges ready).2
-      in (
-        allows,
-        b.fits.0,
-        record {
-          exchanges = b.exchanges;
-          host_ready = inr ready;
-          station_ready = inr allows;
-          alike = b.alike;
-          fits = b.fits.1;
-          within = within_record s.happened (record_of d) (whole d) b.within b.fits.0;
-          turn = turn_record (pending_read h.kept) h.cancelling s.happened d ds es b.turn;
-          waits = waits_more (layouts (fields h.kept)) (pending_read h.kept) es later d b.waits;
-          closed = b.closed;
-        },
-      )
+      let allows : station_allows_records s.options ≡ true = (x_host b.exchanges ready).2 in
+      let within = within_record s.happened (record_of d) (whole d) b.within b.fits.0 in
+      let turn = turn_record (pending_read h.kept) h.cancelling s.happened d ds es b.turn in
+      let waits = waits_more (layouts (fields h.kept)) (pending_read h.kept) es later d b.waits in
+      let screens : Screens _ h.kept ds = screened b.alike b.fits.1 within b.closed in
+      (allows, b.fits.0, betweens b.exchanges (inr ready) (inr allows) screens turn waits)
 
 -- RECORDS COME TO THE HOST END
 
@@ -158,6 +122,10 @@ waits_any p q a o (Replies parts ∷ es) later n w = elim n [ inl e ↦ cc | inr
 waits_any p q a o (Ends ∷ es) later n w = waits_any p q a o es later (inl (elim n [ inl e ↦ cc | inr e ↦ cc ])) w
 waits_any p q a o (Signal flags ∷ es) later n w = waits_any p q a o es later n w
 
+-- a read's end leaves the screens
+unasked : {h kept : History} {ds : List Posted} → Screens h kept ds → Screens h (cancelled ∷ kept) ds
+unasked {kept = k} c = screened c.alike c.fits c.within (open_write_alike (cancelled ∷ k) k refl ∙ c.closed)
+
 module _ {t : TerminalType} {ex : Exchange} {s : StationSide} {h : HostSide} {ts : List Telnet} {ds : List Posted}
     {es : List Sent} {later : List HostAnswer} where
   pub host_reply : {parts : List AnswerPart} → Between t ex s h ts [] ds (Replies parts ∷ es) later
@@ -168,63 +136,27 @@ module _ {t : TerminalType} {ex : Exchange} {s : StationSide} {h : HostSide} {ts
       let ready = host_ready_for b in
       let w = b.waits in
       let turn : TurnAt None h.cancelling (pending_read s.happened) (marks_down ds) (marks_up es) = at_turn b.turn
-      (up_reply (marks_up es)) refl in (
-        w.0,
-        w.2,
-        w.3,
-        ready,
-        w.4,
-        same_reading w.0 (fields h.kept) w.1 (sym w.5) parts ∙ w.6,
-        w.7,
-        record {
-          exchanges = b.exchanges;
-          host_ready = inr ready;
-          station_ready = inr (x_host b.exchanges ready).2;
-          alike = b.alike;
-          fits = b.fits;
-          within = b.within;
-          turn = turn;
-          waits = waits_any (layouts (fields h.kept)) (layouts (fields (cancelled ∷ h.kept)))
-              (pending_read h.kept) None es w.3 (at_turn turn no_reply refl) w.8;
-          closed = open_write_alike (cancelled ∷ h.kept) h.kept refl ∙ b.closed;
-        },
-      )
+      (up_reply (marks_up es)) refl in
+      let read = same_reading w.0 (fields h.kept) w.1 (sym w.5) parts ∙ w.6 in
+      let waits = waits_any (layouts (fields h.kept)) (layouts (fields (cancelled ∷ h.kept))) (pending_read h.kept) None
+      es w.3 (at_turn turn no_reply refl) w.8 in
+      let now : Between t ex s (after_read h h.cancelling) ts [] ds es w.3 =
+      betweens b.exchanges (inr ready) (inr (x_host b.exchanges ready).2) (unasked b.screens) turn waits in
+      (w.0, w.2, w.3, ready, w.4, read, w.7, now)
 
   pub host_end : Between t ex s h ts [] ds (Ends ∷ es) later → (host_allows_records h.options ≡ true)
       × (h.cancelling ≡ true) × Between t ex s (after_read h false) ts [] ds es later
   host_end b =
       let ready = host_ready_for b in
-      let found = at_turn b.turn (up_done (marks_up es)) refl in (
-        ready,
-        found.1,
-        record {
-          exchanges = b.exchanges;
-          host_ready = inr ready;
-          station_ready = inr (x_host b.exchanges ready).2;
-          alike = b.alike;
-          fits = b.fits;
-          within = b.within;
-          turn = found.0;
-          waits = waits_any (layouts (fields h.kept)) (layouts (fields (cancelled ∷ h.kept)))
-              (pending_read h.kept) None es later (at_turn found.0 no_reply refl) b.waits;
-          closed = open_write_alike (cancelled ∷ h.kept) h.kept refl ∙ b.closed;
-        },
-      )
+      let found = at_turn b.turn (up_done (marks_up es)) refl in
+      let waits = waits_any (layouts (fields h.kept)) (layouts (fields (cancelled ∷ h.kept))) (pending_read h.kept) None
+      es later (at_turn found.0 no_reply refl) b.waits in
+      let now : Between t ex s (after_read h false) ts [] ds es later =
+      betweens b.exchanges (inr ready) (inr (x_host b.exchanges ready).2) (unasked b.screens) found.0 waits in
+      (ready, found.1, now)
 
   pub host_signal : {flags : ℕ} → Between t ex s h ts [] ds (Signal flags ∷ es) later
       → (host_allows_records h.options ≡ true) × Between t ex s h ts [] ds es later
   host_signal b =
-      let ready = host_ready_for b in (
-        ready,
-        record {
-          exchanges = b.exchanges;
-          host_ready = inr ready;
-          station_ready = inr (x_host b.exchanges ready).2;
-          alike = b.alike;
-          fits = b.fits;
-          within = b.within;
-          turn = b.turn;
-          waits = b.waits;
-          closed = b.closed;
-        },
-      )
+      let ready = host_ready_for b in
+      (ready, betweens b.exchanges (inr ready) (inr (x_host b.exchanges ready).2) b.screens b.turn b.waits)

@@ -1,23 +1,22 @@
 use Rattle.ws_session.proofs.Common as C
-use C.{nat_lt, if◌then◌else◌, IsSome, flat_map, ◌^◌, ◌≡◌, ℕ, ◌+◌, ◌<◌, ◌≤◌, inl, inr, Bool, true, false, List, []}
-use C.{◌∷◌, ◌++◌, Option, Some, None, Err, length, take, get_or, refl, ap, ◌∙◌, sym, subst₂, arith, append-nil}
-use C.{length-take-le, false≢true, nat_tests, TerminalType, Item, plain_spelling, answer_rules, element_rules}
-use C.{element_bytes, element_prefix_free, element_begins, AnswerPart, Element, Refusal, At, Failed, Memory}
-use C.{ToStation, WorldParts, Runs, AreWritable, StationParts, StationLeads, IsPushed, StationSide, station_takes}
-use C.{Reaction, Refuses, GoesOn, Came, StationGoes, StationRefuses, station_manner, station_at_item, goes_on}
-use C.{Through, AreDelivered, Comes, reported, WireParts, Applied, Event, StationRefused, ending_at, arrived, World}
-use C.{down_bytes, station_did, station_gets, byte_to_station, bytes_to_station, subst, ToHost, HostParts}
-use C.{HostLeads, IsHostPushed, HostSide, HostOutput, host_takes, as_list, HostGoes, HostRefuses, host_manner}
-use C.{host_at_item, HasMemory, HostEvent, Host, HostRefused, up_bytes, events_with, host_did, host_gets}
-use C.{byte_to_host, bytes_to_host}
+use C.{element_prefix_free, bytes_to_station, station_at_item, byte_to_station, element_begins, length-take-le, as_list}
+use C.{plain_spelling, station_manner, StationRefused, StationRefuses, bytes_to_host, element_bytes, element_rules, ◌∙◌}
+use C.{station_takes, if◌then◌else◌, byte_to_host, TerminalType, StationLeads, host_at_item, answer_rules, IsHostPushed}
+use C.{AreDelivered, station_gets, StationParts, HostRefused, StationGoes, StationSide, AreWritable, HostRefuses, false}
+use C.{station_did, host_manner, events_with, down_bytes, HostOutput, AnswerPart, WorldParts, host_takes, false≢true, ℕ}
+use C.{append-nil, ending_at, HostParts, ToStation, host_gets, HasMemory, nat_tests, HostEvent, WireParts, HostLeads}
+use C.{HostSide, Reaction, IsPushed, host_did, flat_map, reported, up_bytes, HostGoes, Applied, Through, Element, arith}
+use C.{goes_on, Refusal, Refuses, arrived, ToHost, subst₂, nat_lt, Option, length, IsSome, GoesOn, get_or, Memory, Runs}
+use C.{Failed, subst, Comes, World, Event, take, refl, None, true, Item, Came, List, Host, Some, Bool, ◌++◌, ◌^◌, sym}
+use C.{◌≡◌, ◌<◌, ◌∷◌, inl, ◌+◌, Err, inr, ◌≤◌, [], At, ap}
 use Rattle.ws_session.proofs.Arriving.{refused_at_once}
-use Rattle.ws_session.proofs.EndSteps.{gone_one, gone_none, station_holds, host_holds}
-use Rattle.ws_session.proofs.Flights.{ByteMore, byte_more}
-use Rattle.ws_session.proofs.Writables.{answers_writable, WritesWell, host_writes_well}
+use Rattle.ws_session.proofs.EndSteps.{station_holds, host_holds, gone_none, gone_one}
+use Rattle.ws_session.proofs.Flights.{byte_more, ByteMore}
+use Rattle.ws_session.proofs.Writables.{answers_writable, host_writes_well, WritesWell}
 use Rattle.ws_session.proofs.Bytes.{byte_down, byte_up}
-use Rattle.ws_session.proofs.Reached.{going_station, is_sound, station_writes, going_host, host_writes}
-use Rattle.ws_session.proofs.Delivered.{stop, many_on, delivered}
-use Rattle.ws_stream.specs.AnswerLaws.{part_bytes, part_prefix_free, part_begins}
+use Rattle.ws_session.proofs.Reached.{station_writes, going_station, host_writes, going_host, is_sound}
+use Rattle.ws_session.proofs.Delivered.{delivered, many_on, stop}
+use Rattle.ws_stream.specs.AnswerLaws.{part_prefix_free, part_begins, part_bytes}
 
 -- A byte comes to the station of a running session.
 
@@ -67,9 +66,8 @@ module _ {t : TerminalType} {w : World} {old : WorldParts} (r : Runs t old w) wh
     taken station reply item (Refuses reason) does on spelled leads = absurd (false≢true on)
     taken station reply item (GoesOn next writes) does on spelled leads =
         let o = came.one_ends item (station_holds leads) in
-        goes next writes station reply (done ++ item ∷ []) spelled
-        (answers_writable w.station item next writes o.1 does) leads (steps (Some item) o.0
-        ∙ ap (station_did byte_on) does)
+        goes next writes station reply (done ++ item ∷ []) spelled (answers_writable
+        w.station item next writes o.1 does) leads (steps (Some item) o.0 ∙ ap (station_did byte_on) does)
 
     pub station_on : (station : StationParts) (reply : List ℕ) (told : List Applied) → StationGoes old.station (Came
         byte ∷ []) reply told station → length (take w.at_station (down_bytes w)) + 1 + 1 < 2 ^ 64 → After station reply
@@ -284,15 +282,10 @@ module _ {t : TerminalType} {w : World} {old : WorldParts} (r : Runs t old w) (m
       (byte_to_host w)
   host_byte host reply events c = by c.why c.through c.reports c.has_memory where
     by : (why : Option Refusal) → Through HostGoes HostRefuses (λ (h : HostParts). IsSome h.ended) old.host
-        (Came byte ∷ []) reply c.told why host
-        → events ≡ reported HostGoes HostRefuses (λ (h : HostParts). IsSome h.ended) host_tells
-        (λ place reason. HostRefused place reason) c.told why → HasMemory why
-        → Runs t (record old {
-          at_host = old.at_host + 1;
-          host = host;
-          down = old.down ++ reply;
-          events = old.events ++ events;
-        }) (byte_to_host w)
+        (Came byte ∷ []) reply c.told why host → events ≡ reported HostGoes HostRefuses (λ (h : HostParts).
+        IsSome h.ended) host_tells (λ place reason. HostRefused place reason) c.told why → HasMemory why → Runs t
+        (record old { at_host = old.at_host + 1; host = host; down = old.down ++ reply; events = old.events ++ events })
+        (byte_to_host w)
     by None p e m = host_on r more_up byte is_up host reply c.told (old.events ++ events)
         (ap (λ z. old.events ++ z) e) p few_up
     by (Some why) p e m =
@@ -331,12 +324,9 @@ pub host_delivered : {t : TerminalType} {w : World} {old : WorldParts}
       events = events;
     }) (bytes_to_host count w)
 host_delivered {t} {w} {old} r {host} {from} {to} {events} {count} d =
-    let Now : HostParts → ℕ → List ℕ → List Event → World → Type 0 = λ h n down told w'.
-    Runs t (record old { host = h; at_host = n; down = down; events = told }) w' in
+    let Now : HostParts → ℕ → List ℕ → List Event → World
+    → Type 0 = λ h n down told w'. Runs t (record old { host = h; at_host = n; down = down; events = told }) w' in
     rw (d.from_is, d.to_is, d.told_is) (delivered byte_to_host bytes_to_host (λ w. refl) (λ n w. refl) HostGoes
     HostRefuses (λ (e : HostParts). IsSome e.ended) host_tells (λ place reason. HostRefused place reason) old.up Now
-    (λ h n down told w' k more x is. host_byte
-    k more d.few x is)
-    (λ h n down told w' k all. none_comes_up k
-    all)
+    (λ h n down told w' k more x is. host_byte k more d.few x is) (λ h n down told w' k all. none_comes_up k all)
     old.host old.at_host old.down old.events w r host from to old.at_station events count d)

@@ -1,22 +1,21 @@
 use Rattle.ws_session.proofs.Common as C
-use C.{if◌then◌else◌, ◌<◌, ◌≡◌, ◌+◌, List, [], ◌∷◌, ◌++◌, Bool, true, false, nat_lt, None, length, refl, ap, ◌∙◌}
-use C.{sym, subst, arith, ltb-true, RecordBeforeNegotiation, Telnet, TerminalType, station_answer}
-use C.{station_allows_records, Exchange, after_exchange, MoveDown, Item, RecordItem, TelnetItem, Element}
-use C.{element_rules, body_fault, HostAnswer, answer_rules, telnets, answers_in, Refuses, GoesOn, StationSide}
-use C.{after_record, opcode_answer, station_applies, station_takes, ending_at, World, down_bytes, station_did}
-use C.{station_gets, byte_to_station, ◌⊎◌, inl, inr, ◌≤◌, ltb-false, ℕ, Option, Some, append_assoc, append-nil}
-use C.{flat_map-append, Answer, MoveUp, HostState, host_answer, host_allows_records, Opcode, NoOperation, PutGet}
-use C.{CancelInvite, AnswerPart, Answered, Cancelled, Host, answer_in, HostSide, tells, ready_event}
-use C.{host_negotiates, after_read, host_reads, host_reads_by, host_ends_cancel, signal, host_takes_record}
-use C.{host_takes, up_bytes, host_did, host_gets, byte_to_host}
-use Rattle.ws_session.proofs.Flights.{InFlight, ByteComes, Inside, Whole, comes, written}
-use Rattle.ws_session.proofs.Betweens.{Posted, record_of, posted, Sent, sents, tokens, Between, sounds, Down, Sound}
-use Rattle.ws_session.proofs.Betweens.{behind, full_station, records_up, with_sents, with_tokens, Replies, Ends}
-use Rattle.ws_session.proofs.Betweens.{Signal, item_of, Up, full_host, quiet_told, ready_silent, signal_silent}
-use Rattle.ws_session.proofs.Betweens.{with_none}
-use Rattle.ws_session.proofs.BetweenSteps.{answers_to, answer_items, station_token, station_record, host_token}
-use Rattle.ws_session.proofs.BetweenSteps.{host_reply, host_end, host_signal}
-use Rattle.ws_session.proofs.Orders.{x_none, up_next}
+use C.{RecordBeforeNegotiation, station_allows_records, host_allows_records, host_takes_record, host_ends_cancel, false}
+use C.{station_applies, host_negotiates, flat_map-append, byte_to_station, station_answer, after_exchange, byte_to_host}
+use C.{element_rules, host_reads_by, opcode_answer, station_takes, if◌then◌else◌, TerminalType, answer_rules, ending_at}
+use C.{after_record, CancelInvite, append_assoc, station_gets, StationSide, NoOperation, host_answer, station_did, refl}
+use C.{ready_event, answers_in, down_bytes, HostAnswer, after_read, AnswerPart, TelnetItem, body_fault, host_takes, ◌∙◌}
+use C.{host_reads, append-nil, RecordItem, Cancelled, HostState, host_gets, ltb-false, answer_in, Exchange, HostSide, ℕ}
+use C.{ltb-true, host_did, MoveDown, up_bytes, Answered, telnets, Element, Refuses, Opcode, nat_lt, Telnet, Option, sym}
+use C.{length, Answer, PutGet, GoesOn, MoveUp, signal, tells, arith, subst, World, None, true, Item, List, Host, Some}
+use C.{Bool, ◌++◌, ◌≡◌, ◌<◌, ◌∷◌, inl, ◌+◌, inr, ◌⊎◌, ◌≤◌, [], ap}
+use Rattle.ws_session.proofs.Flights.{ByteComes, InFlight, written, Inside, comes, Whole}
+use Rattle.ws_session.proofs.Betweens.{signal_silent, full_station, ready_silent, with_tokens, records_up, quiet_told}
+use Rattle.ws_session.proofs.Betweens.{with_sents, full_host, with_none, record_of, item_of, Replies, Between, behind}
+use Rattle.ws_session.proofs.Betweens.{Signal, Posted, posted, sounds, tokens, Sound, downs, sents, Down, Ends, Sent}
+use Rattle.ws_session.proofs.Betweens.{ups, Up}
+use Rattle.ws_session.proofs.BetweenSteps.{station_record, station_token, answer_items, host_signal, answers_to}
+use Rattle.ws_session.proofs.BetweenSteps.{host_reply, host_token, host_end}
+use Rattle.ws_session.proofs.Orders.{up_next, x_none}
 
 -- A byte comes to the station of a session.
 
@@ -44,31 +43,20 @@ module _ (t : TerminalType) where
         let tail : tokens ts ++ posted ds ≡ rest = cc in
         let found = station_token b in
         let reply : List Telnet = (station_answer w.station.options token).reply in
-        rw (← same) (record {
-          sound = sounds ts (us ++ reply) ds es later (after_exchange MoveDown ex) found.2 (rw tail down)
-              (rw (← behind us reply (sents es) (ap sents found.0)) (written answer_rules w.up w.at_host (tokens
-              us ++ sents es) (tokens reply) up)) answered (omega (arith, found.1, n, with_tokens w.up reply)) sg hg;
-          same_ex = full_station ex token ts b.exchanges.to_station;
-          same_down = refl;
-          at = refl;
-        })
+        rw (← same) (downs refl refl (sounds ts (us ++ reply) ds es later
+        (after_exchange MoveDown ex) found.2 (rw tail down) (rw (← behind us reply (sents es) (ap sents found.0))
+        (written answer_rules w.up w.at_host (tokens us ++ sents es) (tokens reply) up)) answered
+        (omega (arith, found.1, n, with_tokens w.up reply)) sg hg) (full_station ex token ts b.exchanges.to_station))
     station_arrives ex n [] us (d ∷ ds) es later b item rest e down up answered sg hg =
         let same : RecordItem (record_of d) ≡ item = cc in
         let tail : posted ds ≡ rest = cc in
         let found = station_record b in
-        let next : StationSide = record {
-          options = w.station.options;
-          happened = after_record w.station.happened
-              (record_of d);
-        } in
-        rw (← same) (rw (takes_record w.station d found.0 found.1 ∙ ap (GoesOn next) (answer_items d)) (record {
-          sound = sounds [] us ds (es ++ answers_to d) later ex found.2 (rw tail down) (rw (← records_up us es
-              (answers_to d)) (written answer_rules w.up w.at_host (tokens us ++ sents
-              es) (sents (answers_to d)) up)) answered (omega (arith, n, with_sents w.up (answers_to d))) sg hg;
-          same_ex = refl;
-          same_down = refl;
-          at = refl;
-        }))
+        let next : StationSide =
+        record { options = w.station.options; happened = after_record w.station.happened (record_of d) } in
+        rw (← same) (rw (takes_record w.station d found.0 found.1 ∙ ap (GoesOn next) (answer_items d))
+        (downs refl refl (sounds [] us ds (es ++ answers_to d) later ex found.2 (rw tail down)
+        (rw (← records_up us es (answers_to d)) (written answer_rules w.up w.at_host (tokens us ++ sents es)
+        (sents (answers_to d)) up)) answered (omega (arith, n, with_sents w.up (answers_to d))) sg hg) refl))
 
     arrived_down : (s : Sound t w) → w.at_station < length (down_bytes w) → Down t s.ex w.down (w.at_station + 1)
         (station_gets byte_on w.station_refused (ending_at element_rules w.down (w.at_station + 1)))
@@ -78,13 +66,8 @@ module _ (t : TerminalType) where
           arrive : ByteComes element_rules w.down w.at_station (tokens s.ts ++ posted s.ds) → Down t s.ex w.down
               (w.at_station + 1) (station_gets byte_on false (ending_at element_rules w.down (w.at_station + 1)))
           arrive (Inside none f) = subst (λ z. Down t s.ex w.down (w.at_station + 1) (station_gets byte_on false z))
-              (sym none) (record {
-                sound = sounds s.ts s.us s.ds s.es s.later s.ex s.between f s.up s.answered s.count s.station_going
-                    s.host_going;
-                same_ex = refl;
-                same_down = refl;
-                at = refl;
-              })
+              (sym none) (downs refl refl (sounds
+              s.ts s.us s.ds s.es s.later s.ex s.between f s.up s.answered s.count s.station_going s.host_going) refl)
           arrive (Whole item rest split ends f) = subst (λ z. Down t s.ex w.down
               (w.at_station + 1) (station_gets byte_on false z)) (sym ends) (station_arrives s.ex
               s.count s.ts s.us s.ds s.es _ s.between item rest split f s.up s.answered s.station_going s.host_going)
@@ -121,86 +104,51 @@ module _ (t : TerminalType) where
     same_down ts ds f = rw (append-nil w.down) f
 
     host_arrives_token : (ex : Exchange) → ex.count ≡ telnets w.down + telnets w.up → (ts us : List Telnet)
-        (token : Telnet) (ds : List Posted) (es : List Sent) (later : List HostAnswer)
-        → Between t ex w.station w.host ts (token ∷ us) ds es later
-        → (a : Option (Answer HostState)) → host_answer w.host.options token ≡ a
+        (token : Telnet) (ds : List Posted) (es : List Sent) (later : List HostAnswer) → Between t ex w.station
+        w.host ts (token ∷ us) ds es later → (a : Option (Answer HostState)) → host_answer w.host.options token ≡ a
         → InFlight element_rules w.down w.at_station (tokens ts ++ posted ds) → InFlight answer_rules w.up
-        (w.at_host + 1) (tokens us ++ sents es)
-        → w.answered ≡ answers_in w.events ++ later → w.station_refused ≡ false → w.host_refused ≡ false
-        → Up t ex w.up (w.at_host + 1) ds (host_did byte_off (host_negotiates w.host a))
+        (w.at_host + 1) (tokens us ++ sents es) → w.answered ≡ answers_in w.events ++ later → w.station_refused ≡ false
+        → w.host_refused ≡ false → Up t ex w.up (w.at_host + 1) ds (host_did byte_off (host_negotiates w.host a))
     host_arrives_token ex n ts us token ds es later b None q down up answered sg hg = absurd (x_none b.exchanges q)
     host_arrives_token ex n ts us token ds es later b (Some a) q down up answered sg hg =
         let found = host_token b a q in
-        record {
-          sound = sounds (ts ++ a.reply) us ds es later (after_exchange MoveUp ex) found.2 (rw (← behind ts a.reply
-              (posted ds) (ap posted found.0)) (written
-              element_rules w.down w.at_station (tokens ts ++ posted ds) (tokens a.reply) down)) up (answered ∙ ap
-              (λ l. l ++ later) (sym (quiet_told w.events (ready_event (host_allows_records w.host.options) a.after)
-              (ready_silent (host_allows_records w.host.options) a.after)))) (omega (
-                arith,
-                found.1,
-                n,
-                with_tokens
-                    w.down a.reply,
-              )) sg hg;
-          same_ex = full_host ex us a b.exchanges.to_host
-              (up_next b.exchanges (Some a) q);
-          same_up = refl;
-          at = refl;
-          same_ds = refl;
-        }
+        ups refl refl (sounds (ts ++ a.reply) us ds es later (after_exchange MoveUp ex) found.2
+        (rw (← behind ts a.reply (posted ds) (ap posted found.0)) (written element_rules w.down w.at_station
+        (tokens ts ++ posted ds) (tokens a.reply) down)) up (answered ∙ ap (λ l. l ++ later)
+        (sym (quiet_told w.events (ready_event (host_allows_records w.host.options) a.after) (ready_silent
+        (host_allows_records w.host.options) a.after)))) (omega (arith, found.1, n, with_tokens w.down a.reply)) sg hg)
+        refl (full_host ex us a b.exchanges.to_host (up_next b.exchanges (Some a) q))
 
     host_arrives_record : (ex : Exchange) → ex.count ≡ telnets w.down + telnets w.up → (ts : List Telnet)
-        (ds : List Posted) (e : Sent) (es : List Sent) (later : List HostAnswer) → Between t ex w.station w.host ts
-        [] ds (e ∷ es) later
-        → InFlight element_rules w.down w.at_station (tokens ts ++ posted ds) → InFlight answer_rules w.up
-        (w.at_host + 1) (sents es)
-        → w.answered ≡ answers_in w.events ++ later → w.station_refused ≡ false → w.host_refused ≡ false
-        → Up t ex w.up (w.at_host + 1) ds (host_did byte_off (host_takes w.host (item_of e)))
+        (ds : List Posted) (e : Sent) (es : List Sent) (later : List HostAnswer) → Between t ex w.station w.host ts []
+        ds (e ∷ es) later → InFlight element_rules w.down w.at_station (tokens ts ++ posted ds) → InFlight answer_rules
+        w.up (w.at_host + 1) (sents es) → w.answered ≡ answers_in w.events ++ later → w.station_refused ≡ false
+        → w.host_refused ≡ false → Up t ex w.up (w.at_host + 1) ds (host_did byte_off (host_takes w.host (item_of e)))
     host_arrives_record ex n ts ds (Replies parts) es later b down up answered sg hg =
         let h : HostSide = w.host in
         let found = host_reply b in
         let x : HostAnswer = found.1 in
-        let takes : host_takes h (item_of (Replies parts)) ≡ GoesOn (after_read h h.cancelling)
-        (tells (Some (Answered x))) =
-        takes_by h 0 PutGet parts found.3 ∙ ap (λ o. host_reads_by h o parts) found.4 ∙ ap (host_reads h) found.5 in
-        rw takes (record {
-          sound = sounds ts [] ds es found.2 ex found.7 (same_down ts ds down) up (answered ∙ ap (λ l. answers_in
-              w.events ++ l) found.6 ∙ sym (append_assoc (answers_in w.events) (x ∷ []) found.2) ∙ ap (λ l. l ++
-              found.2) (sym (flat_map-append answer_in w.events (Host (Answered x) ∷ [])))) (omega (
-                arith,
-                n,
-                with_none w.down,
-              )) sg hg;
-          same_ex = refl;
-          same_up = refl;
-          at = refl;
-          same_ds = refl;
-        })
+        let takes : host_takes h (item_of (Replies parts)) ≡ GoesOn
+        (after_read h h.cancelling) (tells (Some (Answered x))) = takes_by h 0 PutGet parts found.3
+        ∙ ap (λ o. host_reads_by h o parts) found.4 ∙ ap (host_reads h) found.5 in
+        rw takes (ups refl refl (sounds ts [] ds es found.2 ex found.7 (same_down ts ds down) up (answered
+        ∙ ap (λ l. answers_in w.events ++ l) found.6 ∙ sym (append_assoc (answers_in w.events) (x ∷ []) found.2)
+        ∙ ap (λ l. l ++ found.2) (sym (flat_map-append answer_in w.events (Host (Answered x) ∷ []))))
+        (omega (arith, n, with_none w.down)) sg hg) refl refl)
     host_arrives_record ex n ts ds Ends es later b down up answered sg hg =
         let h : HostSide = w.host in
         let found = host_end b in
-        let takes : host_takes h (item_of Ends) ≡ GoesOn (after_read h false) (tells (Some Cancelled)) =
-        takes_by h 0 CancelInvite [] found.0 ∙ ap (host_ends_cancel h) found.1 in
-        rw takes (record {
-          sound = sounds ts [] ds es later ex found.2 (same_down ts ds down) up (answered ∙ ap (λ l. l ++ later)
-              (sym (quiet_told w.events (Some Cancelled) refl))) (omega (arith, n, with_none w.down)) sg hg;
-          same_ex = refl;
-          same_up = refl;
-          at = refl;
-          same_ds = refl;
-        })
+        let takes : host_takes h (item_of Ends) ≡ GoesOn (after_read h false)
+        (tells (Some Cancelled)) = takes_by h 0 CancelInvite [] found.0 ∙ ap (host_ends_cancel h) found.1 in
+        rw takes
+        (ups refl refl (sounds ts [] ds es later ex found.2 (same_down ts ds down) up (answered ∙ ap (λ l. l ++ later)
+        (sym (quiet_told w.events (Some Cancelled) refl))) (omega (arith, n, with_none w.down)) sg hg) refl refl)
     host_arrives_record ex n ts ds (Signal flags) es later b down up answered sg hg =
         let h : HostSide = w.host in
         let found = host_signal b in
-        rw (takes_by h flags NoOperation [] found.0) (record {
-          sound = sounds ts [] ds es later ex found.1 (same_down ts ds down) up (answered ∙ ap (λ l. l ++ later) (sym
-              (quiet_told w.events (signal flags) (signal_silent flags)))) (omega (arith, n, with_none w.down)) sg hg;
-          same_ex = refl;
-          same_up = refl;
-          at = refl;
-          same_ds = refl;
-        })
+        rw (takes_by h flags NoOperation [] found.0) (ups refl refl (sounds ts [] ds es later ex found.1 (same_down ts
+        ds down) up (answered ∙ ap (λ l. l ++ later) (sym (quiet_told w.events (signal flags) (signal_silent flags))))
+        (omega (arith, n, with_none w.down)) sg hg) refl refl)
 
     host_arrives : (ex : Exchange) → ex.count ≡ telnets w.down + telnets w.up → (ts us : List Telnet)
         (ds : List Posted) (es : List Sent) (later : List HostAnswer) → Between t ex w.station w.host ts us ds es later
@@ -227,18 +175,11 @@ module _ (t : TerminalType) where
           arrive : ByteComes answer_rules w.up w.at_host (tokens s.us ++ sents s.es) → Up t s.ex w.up
               (w.at_host + 1) s.ds (host_gets byte_off false (ending_at answer_rules w.up (w.at_host + 1)))
           arrive (Inside none f) = subst (λ z. Up t s.ex w.up (w.at_host + 1) s.ds (host_gets byte_off false z))
-              (sym none) (record {
-                sound = sounds s.ts s.us s.ds s.es s.later s.ex s.between s.down f s.answered s.count s.station_going
-                    s.host_going;
-                same_ex = refl;
-                same_up = refl;
-                at = refl;
-                same_ds = refl;
-              })
-          arrive (Whole item rest split ends f) = subst (λ z. Up t s.ex w.up (w.at_host + 1) s.ds
-              (host_gets byte_off false z)) (sym ends)
-              (host_arrives s.ex s.count s.ts s.us s.ds s.es s.later s.between item rest split s.down f s.answered
-              s.station_going s.host_going)
+              (sym none) (ups refl refl (sounds s.ts
+              s.us s.ds s.es s.later s.ex s.between s.down f s.answered s.count s.station_going s.host_going) refl refl)
+          arrive (Whole item rest split ends f) = subst (λ z. Up t s.ex w.up
+              (w.at_host + 1) s.ds (host_gets byte_off false z)) (sym ends) (host_arrives s.ex s.count
+              s.ts s.us s.ds s.es s.later s.between item rest split s.down f s.answered s.station_going s.host_going)
 
     -- the next byte that is in flight to the host end, or there is none
     pub next_up : (s : Sound t w) → Up t s.ex w.up (w.at_host + 1) s.ds (byte_to_host w)

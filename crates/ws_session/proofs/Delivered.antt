@@ -60,13 +60,11 @@ module _ (one : World → World) (many : ℕ → World → World) (none : (w : W
         let split : waiting ≡ d.bytes ++ drop count waiting = sym (take-append-drop count waiting)
         ∙ ap (λ z. z ++ drop count waiting) (sym d.first) in
         let Now : World → Type 0 = Stands e' (at + length d.bytes) (out ++ d.written) (told ++ d.events) in
-        let now : Now (many (length d.bytes) w) = all_come _ _ e at out told w h split e'
-        _ _ d.come in
+        let now : Now (many (length d.bytes) w) = all_come _ _ e at out told w h split e' _ _ d.come in
         let size : length d.bytes ≡ min count (length waiting) = ap (λ z. length z) d.first
         ∙ length-take count waiting in
         elim (cases_lt (length d.bytes) count) [
-          | inl lt ↦ subst Now (sym (stop _ count (omega (arith, lt)) w
-              (stays e' _ _ _ _ now
-              (omega (arith, lt, size, length-drop at bytes))))) now
+          | inl lt ↦ subst Now (sym (stop _ count
+              (omega (arith, lt)) w (stays e' _ _ _ _ now (omega (arith, lt, size, length-drop at bytes))))) now
           | inr ge ↦ (let e : length d.bytes ≡ count = omega (arith, ge, size) in rw (← e) now)
         ]

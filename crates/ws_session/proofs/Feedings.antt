@@ -155,12 +155,10 @@ module _ {Place PlaceV Side U V Deed Event : Type 0} (rules : Rules Place U) (ou
           → Now b its s → AreHeld rules Deed b its (left_of piece i) k) → ((n : ℕ) → n ≤ i
           → AreSilent bytes items side (take n piece)) → (n : ℕ) → n < i + k → AreSilent bytes items side (take n piece)
       quiet_on k within held below n lt = elim (cases_lt i n) [
-        | inl behind ↦
-            (let m : ℕ = n - i in
+        | inl behind ↦ (let m : ℕ = n - i in
             let same : i + m ≡ n = omega (arith, behind) in
-            rw (← same) (then_taken (λ b its s. Unit {0}) m [] [] (λ b its s l size.
-            silent_then (λ b' its' s'. Unit {0}) b its s _ k m
-            (omega (arith, within, lt, behind)) (held b its s l) (omega (arith, lt, behind)) tt)))
+            rw (← same) (then_taken (λ b its s. Unit {0}) m [] [] (λ b its s l size. silent_then (λ b' its' s'. Unit
+            {0}) b its s _ k m (omega (arith, within, lt, behind)) (held b its s l) (omega (arith, lt, behind)) tt)))
         | inr here ↦ below n here
       ]
 
@@ -177,22 +175,18 @@ module _ {Place PlaceV Side U V Deed Event : Type 0} (rules : Rules Place U) (ou
       -- the end fails at its last byte
       pub fails_on : (AtLast : ℕ → List ℕ → List (Item U) → Side → Type 0) (k : ℕ) → k ≤ length (left_of piece i)
           → ((b : List ℕ) (its : List (Item U)) (s : Side) → Now b its s → length b + length (left_of piece i) < 2 ^ 64
-          → 0 < k)
-          → ((b : List ℕ) (its : List (Item U)) (s : Side) (front : List ℕ) (byte : ℕ) → Now b its s
-          → length b + length (left_of piece i) < 2 ^ 64
-          → take k (left_of piece i) ≡ front ++ byte ∷ [] → AtLast byte (b ++ front) its s)
-          → ((b : List ℕ) (its : List (Item U)) (s : Side) → Now b its s → AreHeld rules Deed b its (left_of piece i) k)
-          → length bytes + length piece + 1 < 2 ^ 64 → i ≤ length piece
-          → (front : List ℕ) × (byte : ℕ) × (rest : List ℕ) × (piece ≡ front ++ byte ∷ rest)
-          × AllCome (AtLast byte) bytes items side front [] []
+          → 0 < k) → ((b : List ℕ) (its : List (Item U)) (s : Side) (front : List ℕ) (byte : ℕ) → Now b its s → length b
+          + length (left_of piece i) < 2 ^ 64 → take k (left_of piece i) ≡ front ++ byte ∷ [] → AtLast byte (b ++ front)
+          its s) → ((b : List ℕ) (its : List (Item U)) (s : Side) → Now b its s → AreHeld rules Deed b its (left_of
+          piece i) k) → length bytes + length piece + 1 < 2 ^ 64 → i ≤ length piece → (front : List ℕ) × (byte : ℕ)
+          × (rest : List ℕ) × (piece ≡ front ++ byte ∷ rest) × AllCome (AtLast byte) bytes items side front [] []
       fails_on AtLast k within when at_last held fits inside =
           let left = left_of piece i in
           let acts : List (Act Deed) = all_came (take i piece) in
-          let size : length (bytes ++ bytes_of acts) ≡ length bytes + length (take i piece) =
-          length-append bytes (bytes_of acts)
-          ∙ ap (λ (x : List ℕ). length bytes + length x) (bytes_came Deed (take i piece)) in
-          let some : 0 < k = when (bytes ++ bytes_of acts) (items ++ items_of before.happened)
-          (doing manner side before.happened).side before.leads
+          let size : length (bytes ++ bytes_of acts) ≡ length bytes + length (take i piece) = length-append bytes
+          (bytes_of acts) ∙ ap (λ (x : List ℕ). length bytes + length x) (bytes_came Deed (take i piece)) in
+          let some : 0 < k = when (bytes ++ bytes_of acts)
+          (items ++ items_of before.happened) (doing manner side before.happened).side before.leads
           (omega (arith, size, fits, inside, left_length piece i, length-take-le i piece inside)) in
           let m : ℕ = k - 1 in
           let last : suc m ≡ k = omega (arith, some) in
@@ -202,9 +196,7 @@ module _ {Place PlaceV Side U V Deed Event : Type 0} (rules : Rules Place U) (ou
             at.0,
             at.1,
             split_on piece i m at.0 at.1 at.2,
-            then_taken _ m [] [] (λ b its s l from.
-                silent_then _ b its s left k m (omega (arith, within, some)) (held b its s l)
-                (omega (arith, some))
-                (at_last b its s (take m left) at.0 l
+            then_taken _ m [] [] (λ b its s l from. silent_then _ b its s left k m (omega (arith, within, some))
+                (held b its s l) (omega (arith, some)) (at_last b its s (take m left) at.0 l
                 (omega (arith, from, fits, inside, left_length piece i, length-take-le i piece inside)) upto)),
           )

@@ -1,11 +1,10 @@
 use Rattle.ws_session.proofs.Common as C
-use C.{IsSome, ◌≡◌, ℕ, ◌+◌, ◌<◌, ◌^◌, ◌⊎◌, inl, inr, List, [], ◌∷◌, ◌++◌, Option, Some, None, length, refl, ap, ◌∙◌}
-use C.{sym, subst, arith, append_assoc, length-append, append-nil, flat_map-append, Rules, Reason, TerminalType}
-use C.{Item, answer_rules, element_rules, Applied, HostEvent, Refusal, Event, Host, StationRefused, HostRefused}
-use C.{Move, Cancel, ToStation, ToHost, Press, Came, Did, Manner, Goes, items_of, doing, Crossing, HostParts}
-use C.{HostLeads, new_host_side, StationRefuses, HostRefuses, station_manner, host_manner, StationParts}
-use C.{StationLeads, new_station_side, Through, TwoEnds, all_read, HasMoved, HaveMoved, HasRun, order_of}
-use C.{StationIsLed, HostIsLed, Comes, AllCome}
+use C.{new_station_side, flat_map-append, StationRefuses, StationRefused, station_manner, element_rules, new_host_side}
+use C.{length-append, StationLeads, answer_rules, StationIsLed, StationParts, TerminalType, append_assoc, HostRefused}
+use C.{host_manner, HostRefuses, append-nil, HostLeads, HostEvent, HaveMoved, HostParts, ToStation, HostIsLed, HasMoved}
+use C.{order_of, items_of, Crossing, all_read, TwoEnds, Through, Applied, Refusal, AllCome, HasRun, Reason, Cancel, ◌^◌}
+use C.{Option, ToHost, length, IsSome, Manner, Rules, subst, Press, doing, Comes, arith, Event, Host, Some, Move, refl}
+use C.{Goes, Came, List, None, ◌++◌, Item, ◌∷◌, sym, ◌∙◌, ◌+◌, Did, ◌≡◌, inl, inr, ◌⊎◌, ◌<◌, [], ap, ℕ}
 use Rattle.ws_session.specs.declared.world.Move.TheVariants.{Send}
 
 -- What crossed a line leads to its end, or the end has refused a byte of it.
@@ -98,13 +97,11 @@ station_led : (a b : TwoEnds) (moves : List Move) (ds us : List Crossing) (front
 station_led a b [] ds us front p few l = stays StationIsLed _ _ ds front p.0 (ap (λ (z : TwoEnds). z.station) p.2) l
 station_led a b (m ∷ ms) ds us front p few l =
     let reads : all_read ds ≡ all_read p.0 ++ all_read p.2 = ap all_read p.7 ∙ reads_append p.0 p.2 in
-    let size : length (all_read ds) ≡ length (all_read p.0) + length (all_read p.2) = ap
-    (λ (z : List ℕ). length z) reads ∙ length-append (all_read p.0) (all_read p.2) in
+    let size : length (all_read ds) ≡ length (all_read p.0) + length
+    (all_read p.2) = ap (λ (z : List ℕ). length z) reads ∙ length-append (all_read p.0) (all_read p.2) in
     let one = station_moved a p.4 m p.0 p.1 front p.5 (omega (arith, few, size)) l in
-    let all = station_led p.4 b ms p.2 p.3 _ p.6
-    (omega (arith, few, size, length-append front (all_read p.0))) one in
-    rw (← (append_assoc front (all_read p.0) (all_read p.2) ∙ ap (λ z. front ++ z)
-    (sym reads))) all
+    let all = station_led p.4 b ms p.2 p.3 _ p.6 (omega (arith, few, size, length-append front (all_read p.0))) one in
+    rw (← (append_assoc front (all_read p.0) (all_read p.2) ∙ ap (λ z. front ++ z) (sym reads))) all
 
 host_led : (a b : TwoEnds) (moves : List Move) (ds us : List Crossing) (front : List ℕ) → HaveMoved a moves ds us b
     → length front + length (all_read us) + 1 < 2 ^ 64
@@ -112,11 +109,10 @@ host_led : (a b : TwoEnds) (moves : List Move) (ds us : List Crossing) (front : 
 host_led a b [] ds us front p few l = stays HostIsLed _ _ us front p.1 (ap (λ (z : TwoEnds). z.host) p.2) l
 host_led a b (m ∷ ms) ds us front p few l =
     let reads : all_read us ≡ all_read p.1 ++ all_read p.3 = ap all_read p.8 ∙ reads_append p.1 p.3 in
-    let size : length (all_read us) ≡ length (all_read p.1) + length (all_read p.3) = ap
-    (λ (z : List ℕ). length z) reads ∙ length-append (all_read p.1) (all_read p.3) in
+    let size : length (all_read us) ≡ length (all_read p.1) + length
+    (all_read p.3) = ap (λ (z : List ℕ). length z) reads ∙ length-append (all_read p.1) (all_read p.3) in
     let one = host_moved a p.4 m p.0 p.1 front p.5 (omega (arith, few, size)) l in
-    let all = host_led p.4 b ms p.2 p.3 _ p.6
-    (omega (arith, few, size, length-append front (all_read p.1))) one in
+    let all = host_led p.4 b ms p.2 p.3 _ p.6 (omega (arith, few, size, length-append front (all_read p.1))) one in
     subst (HostIsLed b.host) (append_assoc front (all_read p.1) (all_read p.3) ∙ ap (λ z. front ++ z) (sym reads)) all
 
 module _ (t : TerminalType) (moves : List Move) (ds us : List Crossing) (now : TwoEnds)

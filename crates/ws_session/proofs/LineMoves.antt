@@ -84,13 +84,13 @@ module _ {E Deed Told : Type 0} (goes : E → List (Act Deed) → List ℕ → L
         → HaveCome goes refuses over tells refusal b ds g h mid new w t
         → HaveCome goes refuses over tells refusal (a + b) (cs ++ ds) f h old new (v ++ w) (s ++ t)
     more_come p q =
-        let sents : all_sent (cs ++ ds) ≡ all_sent cs ++ all_sent ds = flat_map-append
-        (λ (c : Crossing). c.sent) cs ds in
-        let reads : all_read (cs ++ ds) ≡ all_read cs ++ all_read ds = flat_map-append
-        (λ (c : Crossing). c.read) cs ds in
+        let sents : all_sent
+        (cs ++ ds) ≡ all_sent cs ++ all_sent ds = flat_map-append (λ (c : Crossing). c.sent) cs ds in
+        let reads : all_read
+        (cs ++ ds) ≡ all_read cs ++ all_read ds = flat_map-append (λ (c : Crossing). c.read) cs ds in
         record {
-          sent = sents ∙ ap (λ z. z ++ all_sent ds) p.sent ∙ ap (λ z. take a f ++ z) q.sent
-              ∙ ap (λ z. take a f ++ take b z) p.left ∙ sym (take-add a b f);
+          sent = sents ∙ ap (λ z. z ++ all_sent ds) p.sent
+              ∙ ap (λ z. take a f ++ z) q.sent ∙ ap (λ z. take a f ++ take b z) p.left ∙ sym (take-add a b f);
           as_many = omega (
             arith,
             p.as_many,
@@ -98,8 +98,7 @@ module _ {E Deed Told : Type 0} (goes : E → List (Act Deed) → List ℕ → L
             ap (λ (z : List ℕ). length z) sents,
             ap (λ (z : List ℕ). length z) reads,
             length-append (all_sent cs) (all_sent ds),
-            length-append
-                (all_read cs) (all_read ds),
+            length-append (all_read cs) (all_read ds),
           );
           left = q.left ∙ ap (drop b) p.left ∙ drop-drop b a f;
           come = rw reads (come_on old mid new (all_read cs) (all_read ds) v w s t p.come q.come);
@@ -268,9 +267,8 @@ module _ {S R : Type 0} (takes : MayTake S) (failures : S → ℕ) (gives : MayG
 module _ {S R T Q : Type 0} (takes : MayTake S) (failures : S → ℕ) (gives : MayGive R) (misses : R → ℕ)
     (takes' : MayTake T) (failures' : T → ℕ) (gives' : MayGive Q) (misses' : Q → ℕ) where
   pub either_behind : (a b c : Line S R) (cs : List Crossing) (a' b' c' : Line T Q) (cs' : List Crossing)
-      (fault : Fault) → HaveCrossed takes failures gives misses a cs b
-      → HaveCrossed takes' failures' gives' misses' a' cs' b'
-      → AreEnded takes failures gives misses takes' failures' gives' misses' b c b' c' fault
+      (fault : Fault) → HaveCrossed takes failures gives misses a cs b → HaveCrossed takes' failures'
+      gives' misses' a' cs' b' → AreEnded takes failures gives misses takes' failures' gives' misses' b c b' c' fault
       → AreEnded takes failures gives misses takes' failures' gives' misses' a c a' c' fault
   either_behind a b c cs a' b' c' cs' fault p p'
       (inl m) = inl (m.0, crossed_behind takes _ gives _ a b c cs p m.1, crossed_behind _ _ _ _ a' b' c' cs' p' m.2)

@@ -1,15 +1,14 @@
 use Rattle.ws_session.proofs.Common as C
-use C.{◌≡◌, ℕ, zero, suc, ◌+◌, ◌≤◌, List, [], ◌∷◌, ◌++◌, true, length, replicate, refl, ap, ◌∙◌, sym, subst, arith}
-use C.{append-nil, Telnet, TerminalType, Exchange, exchange_after, after_all_to_station, after_all_to_host}
-use C.{after_three_deliveries, NothingInFlight, MoveDown, MoveUp, host_allows_records, station_allows_records}
-use C.{settled_quiet, settled_station, settled_host, plain_spelling, Item, answer_rules, element_rules, AnswerPart}
-use C.{delivery, three_deliveries, HostSide, HostOutput, Reaction, Refuses, GoesOn, StationSide, World, down_bytes}
-use C.{up_bytes, station_did, host_did, byte_to_station, byte_to_host, bytes_to_station, bytes_to_host, after_moves}
-use C.{IsQuiet, inl, inr}
+use C.{station_allows_records, after_three_deliveries, after_all_to_station, host_allows_records, after_all_to_host, []}
+use C.{bytes_to_station, three_deliveries, settled_station, byte_to_station, NothingInFlight, exchange_after, replicate}
+use C.{plain_spelling, settled_quiet, element_rules, bytes_to_host, byte_to_host, answer_rules, settled_host, Exchange}
+use C.{TerminalType, station_did, after_moves, StationSide, down_bytes, HostOutput, AnswerPart, append-nil, HostSide, ℕ}
+use C.{host_did, up_bytes, Reaction, MoveDown, delivery, Refuses, IsQuiet, MoveUp, length, Telnet, GoesOn, subst, World}
+use C.{arith, zero, refl, List, ◌++◌, Item, true, ◌∷◌, sym, ◌∙◌, ◌+◌, ◌≡◌, inl, inr, suc, ◌≤◌, ap}
 use Rattle.ws_session.proofs.Agreements.{front_empty, no_tokens}
 use Rattle.ws_session.proofs.Bytewise.{bytes_down, bytes_up}
-use Rattle.ws_session.proofs.Betweens.{Posted, posted, sents, tokens, Sound}
-use Rattle.ws_session.proofs.Flights.{InFlight, quiet, not_more, all_arrived, total_append}
+use Rattle.ws_session.proofs.Betweens.{Posted, posted, tokens, sents, Sound}
+use Rattle.ws_session.proofs.Flights.{total_append, all_arrived, InFlight, not_more, quiet}
 use Rattle.ws_session.proofs.Bytes.{next_down, next_up}
 
 -- Three full deliveries each way open a session.
@@ -140,19 +139,16 @@ module _ (t : TerminalType) where
       let turn : Exchange → Exchange = λ e. after_all_to_host (after_all_to_station e) in
       let is : last.ex ≡ after_three_deliveries s.ex = c.leads ∙ ap turn (b.leads ∙ ap turn a.leads) in
       let x = s.between.exchanges in
-      let quiet_is : NothingInFlight last.ex = subst NothingInFlight (ap after_three_deliveries x.is ∙ sym is)
-      (settled_quiet t x.moves) in
+      let quiet_is : NothingInFlight last.ex =
+      subst NothingInFlight (ap after_three_deliveries x.is ∙ sym is) (settled_quiet t x.moves) in
       let ts : last.ts ≡ [] = sym last.between.exchanges.to_station ∙ quiet_is.to_station in
-      let f : InFlight element_rules z.down z.at_station [] = subst
-      (λ (l : List Telnet). InFlight element_rules z.down z.at_station (tokens l)) ts
-      (subst (InFlight element_rules z.down z.at_station)
+      let f : InFlight element_rules z.down z.at_station [] = subst (λ (l : List Telnet).
+      InFlight element_rules z.down z.at_station (tokens l)) ts (subst (InFlight element_rules z.down z.at_station)
       (ap (λ (l : List Posted). tokens last.ts ++ posted l) c.same ∙ append-nil (tokens last.ts)) last.down) in
       record {
         nothing = record { to_station = all_arrived element_rules z.down z.at_station f; to_host = c.arrived_is };
-        station = ap station_allows_records (sym last.between.exchanges.station)
-            ∙ ap (λ (e : Exchange). station_allows_records e.station) (is ∙ sym (ap after_three_deliveries x.is))
-            ∙ settled_station t x.moves;
-        host = ap host_allows_records (sym last.between.exchanges.host)
-            ∙ ap (λ (e : Exchange). host_allows_records e.host) (is ∙ sym (ap after_three_deliveries x.is))
-            ∙ settled_host t x.moves;
+        station = ap station_allows_records (sym last.between.exchanges.station) ∙ ap (λ (e : Exchange).
+            station_allows_records e.station) (is ∙ sym (ap after_three_deliveries x.is)) ∙ settled_station t x.moves;
+        host = ap host_allows_records (sym last.between.exchanges.host) ∙ ap (λ (e : Exchange).
+            host_allows_records e.host) (is ∙ sym (ap after_three_deliveries x.is)) ∙ settled_host t x.moves;
       }

@@ -128,9 +128,8 @@ module _ {R S : Type 0} (gives : MayGive R)
       fits = omega (arith, r.few, one_left, small)
 
       -- a piece that is taken
-      pub reads_on : (next : Player) (to : S) → ((items : List (Item Element))
-          × HasCome takes failures t keys sink next to (r.bytes ++ given) items) → Reading gives misses source now'
-          (reads + 1) takes failures t keys sink to next
+      pub reads_on : (next : Player) (to : S) → ((items : List (Item Element)) × HasCome takes failures t keys sink next
+          to (r.bytes ++ given) items) → Reading gives misses source now' (reads + 1) takes failures t keys sink to next
       reads_on next to come = record {
         bytes = r.bytes ++ given;
         items = come.0;

@@ -1,18 +1,17 @@
 use Rattle.ws_session.proofs.Common as C
-use C.{nat_lt, if◌then◌else◌, ◌≡◌, ℕ, ◌+◌, ◌-◌, ◌<◌, ◌≤◌, ◌^◌, min, inl, inr, Bool, true, false, List, [], ◌∷◌}
-use C.{◌++◌, length, take, drop, get_or, refl, ap, ◌∙◌, sym, subst, arith, append_assoc, length-append}
-use C.{take-append-drop, append-nil, take_more, Fault, Refused, Truncated, Write, MayTake, WentOut, FailedWithin}
-use C.{went_out_none, went_out_both, failed_within_both, TerminalType, Item, RecordItem, TelnetItem, Element, Key}
-use C.{Player, Applied, Refusal, At, NoMore, Came, fault_of, applied_by, StationGoes, StationRefuses, IsUntaken}
-use C.{Moment, Presses, Outcome, idle_outcome, outcome_of_both, at_item, at_moment, outcome, AreTaken, due, later}
-use C.{one_record, moments_from, moments, HasDone, HasCome, records_from, keys_left_from, StationParts}
-use C.{StationLeads, IsTaken, refusal_count, behind, run_text, RunUnwritten, IsRunFault, StationSide}
-use C.{new_station_side, AtStation}
-use Rattle.ws_code.specs.declared.fault.Fault.TheVariants.{Memory, Read, Failed}
+use C.{failed_within_both, take-append-drop, new_station_side, outcome_of_both, keys_left_from, StationRefuses, Outcome}
+use C.{went_out_both, went_out_none, length-append, if◌then◌else◌, refusal_count, RunUnwritten, TerminalType, take_more}
+use C.{StationLeads, records_from, append_assoc, moments_from, FailedWithin, idle_outcome, StationParts, StationGoes, ℕ}
+use C.{StationSide, applied_by, IsRunFault, one_record, TelnetItem, append-nil, RecordItem, Truncated, AtStation, Fault}
+use C.{IsUntaken, at_moment, fault_of, run_text, AreTaken, Applied, MayTake, HasDone, HasCome, Element, at_item, Moment}
+use C.{WentOut, Refused, Presses, Refusal, outcome, IsTaken, moments, behind, NoMore, nat_lt, length, get_or, Player}
+use C.{false, arith, subst, Write, later, take, drop, refl, true, Item, Came, List, Bool, ◌++◌, ◌∙◌, min, ◌^◌, sym, ◌≡◌}
+use C.{◌<◌, ◌∷◌, Key, inl, ◌-◌, ◌+◌, inr, due, ◌≤◌, [], At, ap}
+use Rattle.ws_code.specs.declared.fault.Fault.TheVariants.{Failed, Memory, Read}
+use Rattle.ws_session.specs.Moments.{goes_on, Arrives}
+use Rattle.ws_session.proofs.EndSteps.{station_went, Went}
+use Rattle.ws_session.proofs.Plays.{outcome_append, text_append, later_by, none_due, text_of}
 use Rattle.ws_session.specs.declared.refusal.Refusal.TheVariants.{Memory as NoMemory}
-use Rattle.ws_session.specs.Moments.{Arrives, goes_on}
-use Rattle.ws_session.proofs.EndSteps.{Went, station_went}
-use Rattle.ws_session.proofs.Plays.{text_of, text_append, outcome_append, none_due, later_by}
 
 -- What a byte makes of a run's player.
 
@@ -129,11 +128,9 @@ module _ {S : Type 0} (takes : MayTake S) (failures : S → ℕ) (t : TerminalTy
 
     -- an item is, and the keys that are due behind it are pressed
     item_comes : (records : ℕ) (new : Player) (mid to : S) → records ≡ old.records + one_record taken.item
-        → WentOut takes failures now mid reply
-        → HasDone takes failures longer more (record old { records = records }) new mid to keyed
-        → drop new.pressed keys ≡ later (records_from 0 items + one_record taken.item)
-        (keys_left_from 0 keys items) → one_record taken.item ≤ 1
-        → HasCome takes failures t keys start new to longer more
+        → WentOut takes failures now mid reply → HasDone takes failures longer more (record old { records = records })
+        new mid to keyed → drop new.pressed keys ≡ later (records_from 0 items + one_record taken.item) (keys_left_from
+        0 keys items) → one_record taken.item ≤ 1 → HasCome takes failures t keys start new to longer more
     item_comes records new mid to is went done left one = record {
       is_behind = record { leads = rw one_more done.leads; taken = taken_more };
       refused = done.refused so_far.refused c.refused ∙ ap refusal_count
@@ -220,52 +217,46 @@ module _ {S : Type 0} (takes : MayTake S) (failures : S → ℕ) (t : TerminalTy
       ]
 
       -- it ends one
-      module _ (event : Applied) (ends : told ≡ event ∷ []) (records : ℕ)
-          (is : records ≡ min (old.records + 1) (2 ^ 64 - 1)) (mid : S) (went : WentOut takes failures now mid
-          reply)
-        where
-          counts : (item : Item Element) → told ≡ applied_by item → (one_record item ≡ 1)
-              × (records ≡ old.records + one_record item) × (records ≡ records_from 0 items + one_record item)
-          counts item e =
-              let one : one_record item ≡ 1 = one_of_record item event (sym ends ∙ e) in
-              let f : records ≡ old.records + one_record item = omega (arith, one, is, c.few, few) in
-              (one, f, f ∙ ap (λ n. n + one_record item) c.records)
+      module _
+          (event : Applied) (ends : told ≡ event ∷ []) (records : ℕ) (is : records ≡ min (old.records + 1) (2 ^ 64 - 1))
+          (mid : S) (went : WentOut takes failures now mid reply) where
+        counts : (item : Item Element) → told ≡ applied_by item → (one_record item ≡ 1)
+            × (records ≡ old.records + one_record item) × (records ≡ records_from 0 items + one_record item)
+        counts item e =
+            let one : one_record item ≡ 1 = one_of_record item event (sym ends ∙ e) in
+            let f : records ≡ old.records + one_record item = omega (arith, one, is, c.few, few) in
+            (one, f, f ∙ ap (λ n. n + one_record item) c.records)
 
-          now_due : (item : Item Element) → told ≡ applied_by item → due records (drop old.pressed keys)
-              ≡ due (records_from 0 items + one_record item) (keys_left_from 0 keys items)
-          now_due item e = ap (λ z. due z (drop old.pressed keys)) (counts item e).2
-              ∙ ap (due (records_from 0 items + one_record item)) c.left
+        now_due : (item : Item Element) → told ≡ applied_by item → due records (drop old.pressed keys)
+            ≡ due (records_from 0 items + one_record item) (keys_left_from 0 keys items)
+        now_due item e = ap (λ z. due z (drop old.pressed keys)) (counts item e).2
+            ∙ ap (due (records_from 0 items + one_record item)) c.left
 
-          pub record_comes : (new : Player) (to : S)
-              → AtStation old.station (λ bytes items side. length bytes + 1 < 2 ^ 64
-              → HasDone takes failures bytes items (record old { records = records }) new mid to (outcome side
-              (due records (drop old.pressed keys))))
-              → drop new.pressed keys ≡ later records (drop old.pressed keys) → (next : List (Item Element))
-              × HasCome takes failures t keys start new to longer next
-          record_comes new to done left = elim went_by [
-            | inl i ↦ absurd (let e : event ∷ [] ≡ [] = sym ends ∙ i.1 in cc)
-            | inr taken ↦
-                (let item : Item Element = taken.0.item in
-                let n = counts item taken.1 in (
-                  items ++ item ∷ [],
-                  item_comes reply taken.0 _ new mid to n.1 went
-                      (rw (← now_due item
-                      taken.1) (done longer (items ++ item ∷ []) taken.0.next taken.0.leads
-                      (omega (arith, few, length-append bytes (byte ∷ [])))))
-                      (left ∙ ap (λ z. later z (drop old.pressed keys)) n.2
-                      ∙ ap (later (records_from 0 items + one_record item)) c.left) (omega (arith, n.0)),
-                ))
-          ]
+        pub record_comes : (new : Player) (to : S) → AtStation old.station (λ bytes items side. length bytes + 1
+            < 2 ^ 64 → HasDone takes failures bytes items (record old { records = records }) new mid to (outcome side
+            (due records (drop old.pressed keys)))) → drop new.pressed keys ≡ later records (drop old.pressed keys)
+            → (next : List (Item Element)) × HasCome takes failures t keys start new to longer next
+        record_comes new to done left = elim went_by [
+          | inl i ↦ absurd (let e : event ∷ [] ≡ [] = sym ends ∙ i.1 in cc)
+          | inr taken ↦ (let item : Item Element = taken.0.item in
+              let n = counts item taken.1 in (
+                items ++ item ∷ [],
+                item_comes reply taken.0 _ new mid to n.1 went (rw (← now_due item taken.1) (done longer (items
+                    ++ item ∷ []) taken.0.next taken.0.leads (omega (arith, few, length-append bytes (byte ∷ [])))))
+                    (left ∙ ap (λ z. later z (drop old.pressed keys)) n.2
+                    ∙ ap (later (records_from 0 items + one_record item)) c.left) (omega (arith, n.0)),
+              ))
+        ]
 
-          pub keys_fail : (to : S) → AtStation old.station (λ bytes items side. length bytes + 1 < 2 ^ 64 → FailedWithin
-              takes failures mid to (text_of (outcome side (due records (drop old.pressed keys))).written))
-              → RunUnwritten t keys takes failures start to longer
-          keys_fail to failed = elim went_by [
-            | inl i ↦ absurd (let e : event ∷ [] ≡ [] = sym ends ∙ i.1 in cc)
-            | inr taken ↦ keys_unwritten reply taken.0 mid to went
-                (rw (← now_due taken.0.item taken.1) (failed longer (items ++ taken.0.item ∷ [])
-                taken.0.next taken.0.leads (omega (arith, few, length-append bytes (byte ∷ [])))))
-          ]
+        pub keys_fail : (to : S) → AtStation old.station (λ bytes items side. length bytes + 1 < 2 ^ 64 → FailedWithin
+            takes failures mid to (text_of (outcome side (due records (drop old.pressed keys))).written))
+            → RunUnwritten t keys takes failures start to longer
+        keys_fail to failed = elim went_by [
+          | inl i ↦ absurd (let e : event ∷ [] ≡ [] = sym ends ∙ i.1 in cc)
+          | inr taken ↦ keys_unwritten reply taken.0 mid to went
+              (rw (← now_due taken.0.item taken.1) (failed longer (items ++ taken.0.item ∷ [])
+              taken.0.next taken.0.leads (omega (arith, few, length-append bytes (byte ∷ [])))))
+        ]
 
     -- the byte is refused, or its item
     refused_as : (to : S) → to ≡ now → (refusal : Refusal) → StationRefuses before byte refusal old.station

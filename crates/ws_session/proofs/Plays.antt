@@ -1,12 +1,11 @@
 use Rattle.ws_session.proofs.Common as C
-use C.{nat_lt, if◌then◌else◌, ◌≡◌, ℕ, suc, ◌+◌, ◌-◌, ◌<◌, ◌≤◌, ◌^◌, min, Bool, true, false, List, [], ◌∷◌, ◌++◌}
-use C.{length, drop, get_or, refl, ap, ◌∙◌, sym, arith, append_assoc, drop-cons, add-one, append-nil, drop_all}
-use C.{nat_tests, flat_map-append, MayTake, FailedWithin, went_out_none, went_out_both, failed_within_both, Item}
-use C.{item_spelling, plain_spelling, answer_rules, AnswerPart, Element, Key, Player, KeyFault, Moment, Presses}
-use C.{Outcome, idle_outcome, outcome_of_both, at_key, at_moment, outcome, due, later, HasDone, StationParts}
-use C.{StationLeads, refusal_count, StationSide, station_key, KeyReaction, RefusesKey, Silent, Answers, Signals}
-use C.{Did, station_at_key, StationGoes, IsKeyRefusal, IsKeyTaken, HasWritten, HasWrittenFront, Applied, AtStation}
-use C.{ap₂}
+use C.{failed_within_both, HasWrittenFront, flat_map-append, outcome_of_both, station_at_key, plain_spelling, AtStation}
+use C.{went_out_both, went_out_none, item_spelling, if◌then◌else◌, refusal_count, StationLeads, IsKeyRefusal, nat_tests}
+use C.{answer_rules, append_assoc, FailedWithin, idle_outcome, StationParts, StationGoes, StationSide, station_key, ◌∙◌}
+use C.{KeyReaction, AnswerPart, append-nil, RefusesKey, HasWritten, IsKeyTaken, drop-cons, at_moment, KeyFault, add-one}
+use C.{drop_all, Outcome, Applied, MayTake, HasDone, Element, Presses, Signals, outcome, Answers, Silent, Moment, false}
+use C.{at_key, nat_lt, length, get_or, Player, arith, later, drop, refl, true, Item, List, Bool, ◌++◌, suc, min, ◌^◌, ℕ}
+use C.{sym, ◌≡◌, ◌<◌, ◌∷◌, Key, ◌-◌, ◌+◌, Did, ap₂, due, ◌≤◌, [], ap}
 use Rattle.ws_session.proofs.EndDeeds.{key_did}
 
 -- What the keys of a run make of its player.
@@ -183,10 +182,8 @@ module _ {S : Type 0} (takes : MayTake S) (failures : S → ℕ) where
         (test : nat_lt first.records k.0 ≡ false) where
       rest_due : due first.records (drop first.pressed keys) ≡ (p.moments ++ Presses k.1 ∷ []) ++ due first.records
           (drop (now.pressed + 1) keys)
-      rest_due =
-          p.due_is ∙ ap (λ z. p.moments ++ z) (ap (due first.records) (next_key keys _ k more is)
-          ∙ due_by _ k _ test)
-          ∙ sym (append_assoc p.moments (Presses k.1 ∷ []) (due first.records (drop (now.pressed + 1) keys)))
+      rest_due = p.due_is ∙ ap (λ z. p.moments ++ z) (ap (due first.records) (next_key keys _ k more is) ∙ due_by _
+          k _ test) ∙ sym (append_assoc p.moments (Presses k.1 ∷ []) (due first.records (drop (now.pressed + 1) keys)))
 
       pub pressing_next : (next : Player) (to : S) (place : ℕ) → place ≡ now.pressed + 1
           → next.records ≡ now.records → AtStation now.station (λ bytes items side. length bytes + 1 < 2 ^ 64
@@ -196,24 +193,18 @@ module _ {S : Type 0} (takes : MayTake S) (failures : S → ℕ) where
         moments = p.moments ++ Presses k.1 ∷ [];
         due_is = rest_due ∙ ap (λ n. (p.moments ++ Presses k.1 ∷ []) ++ due first.records (drop n keys)) (sym at);
         later_is = p.later_is ∙ ap (later first.records) (next_key keys _ k more is)
-            ∙ later_by _ k _ test ∙ ap (λ n. later first.records (drop n
-            keys))
-            (sym at);
+            ∙ later_by _ k _ test ∙ ap (λ n. later first.records (drop n keys)) (sym at);
         records = kept ∙ p.records;
         did = λ bytes items side l few.
             let d = p.did bytes items side l few in
             let o : Outcome = outcome side p.moments in
             let b : Outcome = at_moment o.side (Presses k.1) in
-            let e : outcome_of_both o b ≡ outcome side (p.moments ++ Presses k.1 ∷ []) = ap (outcome_of_both o)
-            (sym (unmoved_last b)) ∙ sym (outcome_append side _ _) in
-            let both = done_both takes _ bytes items first now next from mid to o b d
-            (q bytes items o.side d.leads few) in
-            rw (← e) (record {
-              leads = both.leads;
-              refused = both.refused;
-              records = both.records;
-              wrote = both.wrote;
-            });
+            let e : outcome_of_both o b ≡ outcome side (p.moments ++ Presses k.1 ∷ []) =
+            ap (outcome_of_both o) (sym (unmoved_last b)) ∙ sym (outcome_append side _ _) in
+            let both =
+            done_both takes _ bytes items first now next from mid to o b d (q bytes items o.side d.leads few) in
+            rw
+            (← e) (record { leads = both.leads; refused = both.refused; records = both.records; wrote = both.wrote });
       }
 
       -- a write failed at the key

@@ -1,23 +1,22 @@
 use Rattle.ws_session.proofs.Common as C
-use C.{◌≡◌, ℕ, false, List, [], ◌∷◌, ◌++◌, refl, ap, ap₂, ◌∙◌, sym, subst, take, flat_map-append, TerminalType}
-use C.{Move, Item, Element, AnswerPart, item_spelling, plain_spelling, element_rules, answer_rules, HostAnswer}
-use C.{Event, WorldParts, Runs, AreWritable, World, new_world, after_move, after_moves, down_bytes, up_bytes}
-use C.{arrived, StationSide, HostSide, StationParts, HostParts, StationLeads, HostLeads, IfOk, if◌then◌else◌, arith}
-use C.{length-take, ◌+◌, ◌<◌, ◌^◌, Bool, Result, Ok, Err, length, append-nil, SendRefused, SendFault, SendFailed}
-use C.{NoMemory, NotAllowed, ReadOutstanding, NoReadToCancel, BadSequence, RefusedByScreen, TooBig, SendReaction}
-use C.{RefusesSend, host_send, Opcode, CancelInvite, IsSent, IsSendFault, host_sent, host_sends, after_send, AtHost}
-use C.{◌≤◌, true, Option, Some, None, AreBytes, spelling_of, NoOperation, PutGet, record_spelling, CanBeEncoded}
-use C.{IsInRange, header, header_length, ReadKind, IsLegal, ScreenParts, Read, Attention, SystemRequest, Key, Send}
-use C.{Attend, Request, KeyRefusal, answer_parts, key_refusal, answer_of, answer_spelling, empty_record, IsKey}
-use C.{IsKeyed, screen_at, KeyReaction, RefusesKey, Silent, Answers, Signals, answers_read, presses, key_by_refusal}
-use C.{station_key, answer_record, KeyFault, NotReady, KeyFailed, KeyRefused, Press, station_pressed, after_press}
-use C.{one_screen, ATN, SRQ, AtStation}
-use Rattle.ws_session.proofs.Flights.{still_led, writable_append, not_more}
+use C.{record_spelling, RefusedByScreen, ReadOutstanding, flat_map-append, station_pressed, answer_spelling, one_screen}
+use C.{NoReadToCancel, plain_spelling, key_by_refusal, item_spelling, header_length, SystemRequest, element_rules, Runs}
+use C.{answer_record, if◌then◌else◌, answers_read, SendReaction, answer_parts, TerminalType, StationLeads, answer_rules}
+use C.{CancelInvite, empty_record, CanBeEncoded, StationParts, IsSendFault, key_refusal, StationSide, station_key, take}
+use C.{RefusesSend, NoOperation, BadSequence, spelling_of, after_press, length-take, AreWritable, KeyReaction, HostSide}
+use C.{after_moves, ScreenParts, SendRefused, down_bytes, HostAnswer, after_move, NotAllowed, AnswerPart, SendFailed, ℕ}
+use C.{host_sends, WorldParts, KeyRefused, KeyRefusal, append-nil, RefusesKey, after_send, HostParts, answer_of, Opcode}
+use C.{AtStation, Attention, host_send, host_sent, screen_at, SendFault, HostLeads, new_world, IsInRange, KeyFailed, []}
+use C.{KeyFault, AreBytes, NoMemory, NotReady, ReadKind, up_bytes, IsLegal, Element, Signals, presses, Answers, IsKeyed}
+use C.{arrived, Request, Silent, header, TooBig, AtHost, Option, length, PutGet, IsSent, Result, Attend, false, arith}
+use C.{subst, Press, IsKey, World, Event, refl, None, true, Item, Send, Move, List, Some, IfOk, Bool, Read, ◌++◌, ◌∙◌}
+use C.{SRQ, ATN, ◌^◌, sym, ◌≡◌, ◌<◌, ◌∷◌, Key, ◌+◌, Err, ap₂, ◌≤◌, Ok, ap}
+use Rattle.ws_session.proofs.Flights.{writable_append, still_led, not_more}
 use Rattle.ws_session.proofs.Betweens.{Sound}
 use Rattle.ws_session.proofs.Worlds.{sound}
 use Rattle.ws_code.specs.Aid.{IsAid}
 use Rattle.ws_keys.specs.declared.answer.Answer.{Answer}
-use Rattle.ws_keys.proofs.WholeLaws.{answer_whole, answer_short}
+use Rattle.ws_keys.proofs.WholeLaws.{answer_short, answer_whole}
 
 -- A running session is a world that its moves lead to.
 
@@ -176,9 +175,8 @@ aid_is s key h = by_ready _ where
 module _ {t : TerminalType} {w : World} {old : WorldParts} (r : Runs t old w) (key : Key) where
   by_key : (reaction : KeyReaction) → station_key w.station key ≡ reaction → after_press w key
       ≡ station_pressed w reaction
-  by_key reaction e =
-      ap (λ (b : Bool). station_pressed w (if b then RefusesKey KeyFailed else station_key w.station key))
-      (going_station r) ∙ ap (station_pressed w) e
+  by_key reaction e = ap (λ (b : Bool). station_pressed w
+      (if b then RefusesKey KeyFailed else station_key w.station key)) (going_station r) ∙ ap (station_pressed w) e
 
   module _ (few : length old.down + 1 < 2 ^ 64) (station : StationParts) where
     abbrev Keys : Result (Option Answer) KeyFault → Type 0

@@ -37,23 +37,20 @@ module _ {U : Type 0} where
   two_a_part (s ∷ ss) rest =
       let more : List Token = joined (map (λ (s : List Token × Record U). s.0) ss) rest in
       let first : List ℕ = spelling_of token_rules (s.0 ++ Eor ∷ []) in
-      let split : spelling_of token_rules (joined (map (λ (s : List Token × Record U). s.0) (s ∷ ss)) rest) ≡ first
-      ++ spelling_of token_rules more =
-      ap (spelling_of token_rules) (append_assoc (s.0 ++ Eor ∷ []) _ rest) ∙ flat_map-append token_rules.spelling
-      (s.0 ++ Eor ∷ []) more in
-      let eor : length first ≡ length (spelling_of token_rules s.0) + 2 = ap length
-      (flat_map-append token_rules.spelling s.0 (Eor ∷ [])) ∙ length-append (spelling_of token_rules s.0)
-      (0xff ∷ 0xef ∷ []) in
+      let split : spelling_of token_rules (joined (map (λ (s : List Token × Record U). s.0) (s ∷ ss)) rest)
+      ≡ first ++ spelling_of token_rules more = ap (spelling_of token_rules) (append_assoc (s.0 ++ Eor ∷ []) _ rest)
+      ∙ flat_map-append token_rules.spelling (s.0 ++ Eor ∷ []) more in
+      let eor : length first ≡ length (spelling_of token_rules s.0) + 2 = ap length (flat_map-append
+      token_rules.spelling s.0 (Eor ∷ [])) ∙ length-append (spelling_of token_rules s.0) (0xff ∷ 0xef ∷ []) in
       omega (arith, ap length split, length-append first (spelling_of token_rules more), eor, two_a_part ss rest)
 
 pub records_few : {Place U : Type 0} (rules : Rules Place U) (bytes : List ℕ) (items : List (Item U))
     (so_far begun : List ℕ) → Holds rules bytes items so_far begun → records_in items ≤ length bytes
 records_few {U = U} rules bytes items so_far begun h =
-    let parts : List (Item U) = flat_map (λ (s : List Token × Record U). commands s.0 ++ RecordItem s.1 ∷
-    []) h.stretches in
-    let text : List ℕ = spelling_of token_rules (joined (map (λ (s : List Token × Record U). s.0) h.stretches) h.rest)
-    in
-    omega (
+    let parts : List
+    (Item U) = flat_map (λ (s : List Token × Record U). commands s.0 ++ RecordItem s.1 ∷ []) h.stretches in
+    let text : List ℕ =
+    spelling_of token_rules (joined (map (λ (s : List Token × Record U). s.0) h.stretches) h.rest) in omega (
       arith,
       ap records_in h.are_items,
       records_append parts (commands h.rest),

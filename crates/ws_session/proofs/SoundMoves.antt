@@ -1,21 +1,18 @@
 use Rattle.ws_session.proofs.Common as C
-use C.{◌&&◌, not, if◌then◌else◌, ◌≡◌, ℕ, List, [], ◌∷◌, ◌++◌, Bool, true, false, Option, Some, None, refl, ap, ◌∙◌}
-use C.{sym, subst, arith, append_assoc, is_some, Reason, TerminalType, station_allows_records, host_allows_records}
-use C.{Opcode, NoOperation, CancelInvite, RecordItem, Element, element_rules, ReadKind, after_elements, after_end}
-use C.{body_fault, pending_read, Key, Send, KeyRefusal, HostAnswer, answer_rules, answer_parts, key_refusal}
-use C.{edit_of, events_by, is_aid_key, answer_of, is_body, aids_answer, KeyFault, KeyFailed, NotReady, SendFault}
-use C.{SendFailed, NotAllowed, ReadOutstanding, NoReadToCancel, BadSequence, RefusedByScreen, TooBig, KeyRefused}
-use C.{SendRefused, answers_in, empty_record, screen_at, RefusesKey, sends, after_key, answers_read, presses}
-use C.{key_by_refusal, station_key, asked_read, SendReaction, RefusesSend, Sends, is_outstanding, sent_record}
-use C.{is_too_big, host_sends_body, host_send, host_cancel, World, station_pressed, after_press, host_sent}
-use C.{host_sends, after_send, ATN, SRQ}
-use Rattle.ws_keys.specs.declared.key.Key.TheVariants.{Attention, SystemRequest}
+use C.{station_allows_records, host_allows_records, host_sends_body, RefusedByScreen, ReadOutstanding, station_pressed}
+use C.{NoReadToCancel, after_elements, key_by_refusal, is_outstanding, element_rules, if◌then◌else◌, answers_read, ◌&&◌}
+use C.{SendReaction, answer_parts, TerminalType, answer_rules, CancelInvite, append_assoc, empty_record, pending_read}
+use C.{sent_record, key_refusal, station_key, RefusesSend, NoOperation, BadSequence, host_cancel, after_press, KeyFault}
+use C.{aids_answer, SendRefused, answers_in, asked_read, HostAnswer, NotAllowed, SendFailed, host_sends, body_fault, []}
+use C.{KeyRefused, is_too_big, KeyRefusal, is_aid_key, RefusesKey, RecordItem, after_send, events_by, after_end, Reason}
+use C.{answer_of, host_send, after_key, host_sent, screen_at, SendFault, KeyFailed, NotReady, ReadKind, edit_of, Opcode}
+use C.{Element, presses, is_some, is_body, TooBig, Option, false, arith, subst, Sends, sends, World, refl, None, true}
+use C.{Send, List, Some, Bool, ◌++◌, not, ◌∙◌, SRQ, ATN, sym, ◌≡◌, ◌∷◌, Key, ap, ℕ}
+use Rattle.ws_keys.specs.declared.key.Key.TheVariants.{SystemRequest, Attention}
 use Rattle.ws_session.proofs.Flights.{InFlight, written}
-use Rattle.ws_session.proofs.Betweens.{is_stop, Posted, Body, Stop, posted, Sent, Replies, Signal, sents, tokens}
-use Rattle.ws_session.proofs.Betweens.{sounds, Sound, quiet_event, records_down, records_up, with_posted}
-use Rattle.ws_session.proofs.Betweens.{with_sents}
-use Rattle.ws_session.proofs.BetweenKeys.{key_silent, key_signal, key_answer, pending-keyed, sends_body}
-use Rattle.ws_session.proofs.BetweenKeys.{sends_cancel}
+use Rattle.ws_session.proofs.Betweens.{records_down, quiet_event, with_posted, with_sents, records_up, Replies, is_stop}
+use Rattle.ws_session.proofs.Betweens.{Posted, sounds, Signal, posted, tokens, sents, Sound, Body, Sent, Stop}
+use Rattle.ws_session.proofs.BetweenKeys.{pending-keyed, sends_cancel, key_silent, key_answer, key_signal, sends_body}
 
 -- A key, a send or a cancel in a session.
 
@@ -58,12 +55,11 @@ module _ (t : TerminalType) where
     answers_by aid allows (Some kind) is =
         let reply : Sent = Replies (answer_parts kind (screen_at w.station) aid) in
         let x : HostAnswer = answer_of kind (screen_at w.station) aid in
-        sounds s.ts s.us s.ds (s.es ++ reply ∷ []) (s.later ++ x ∷ []) s.ex
-        (key_answer s.between kind aid allows is) s.down (subst (InFlight answer_rules (w.up ++ sents
-        (reply ∷ [])) w.at_host) (records_up s.us s.es (reply ∷ [])) (written answer_rules w.up w.at_host
-        (tokens s.us ++ sents s.es) (sents (reply ∷ [])) s.up)) (ap (λ l. l ++ x ∷ []) s.answered ∙ append_assoc
-        (answers_in w.events) s.later (x ∷ [])) (omega (arith, s.count, with_sents w.up (reply ∷ [])))
-        s.station_going s.host_going
+        sounds s.ts s.us s.ds (s.es ++ reply ∷ []) (s.later ++ x ∷ []) s.ex (key_answer s.between kind aid allows is)
+        s.down (subst (InFlight answer_rules (w.up ++ sents (reply ∷ [])) w.at_host) (records_up s.us s.es (reply ∷ []))
+        (written answer_rules w.up w.at_host (tokens s.us ++ sents s.es) (sents (reply ∷ [])) s.up))
+        (ap (λ l. l ++ x ∷ []) s.answered ∙ append_assoc (answers_in w.events) s.later (x ∷ []))
+        (omega (arith, s.count, with_sents w.up (reply ∷ []))) s.station_going s.host_going
 
     by_key : (key : Key) → (sends key && not (station_allows_records w.station.options)) ≡ false
         → Sound t (station_pressed w (presses w.station key))

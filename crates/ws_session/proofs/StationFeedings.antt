@@ -66,14 +66,11 @@ module _ (bytes : List ℕ) (items : List (Item Element)) (side : StationSide) (
       → length bytes + length piece + 1 < 2 ^ 64 → i ≤ length piece → HasRefused old new bytes items side piece refusal
   refused_on old new k refusal same within when fronted held fits inside =
       let left = left_of piece i in
-      let f = fails_on _ _ _ bytes items side piece i _ before
-      (λ byte b its s. IsPushed old new b its s byte (Err refusal)) k within
-      (λ b its s l room. when
-      (λ e. subst (λ (r : Refusal). IsFronted now new (b ++ take k left) its s (Err r)) e (fronted b its s l room)))
-      (λ b its s front byte l room upto. pushed_at_last old now new _ its s byte _ same
-      (subst (λ (x : List ℕ). IsFronted now new x its s (Err refusal))
-      (ap (λ z. b ++ z) upto ∙ sym (append_assoc b front (byte ∷ []))) (fronted b its s l room)))
-      held fits inside in
+      let f = fails_on _ _ _ bytes items side piece i _ before (λ byte b its s. IsPushed old new b its s byte
+      (Err refusal)) k within (λ b its s l room. when (λ e. subst (λ (r : Refusal). IsFronted now new
+      (b ++ take k left) its s (Err r)) e (fronted b its s l room))) (λ b its s front byte l room upto.
+      pushed_at_last old now new _ its s byte _ same (subst (λ (x : List ℕ). IsFronted now new x its s (Err refusal))
+      (ap (λ z. b ++ z) upto ∙ sym (append_assoc b front (byte ∷ []))) (fronted b its s l room))) held fits inside in
       record { front = f.0; byte = f.1; rest = f.2; split = f.3; refused = f.4 }
 
 -- no byte is fed
@@ -142,10 +139,8 @@ module _ (old new : HostParts) (bytes : List ℕ) (items : List (Item AnswerPart
   -- what the last byte of a front gives
   pub host_front_fed : (step : HostStep) → IsHostFronted old new (bytes ++ take used left) items side (Ok step)
       → HasHostFed new bytes items side (take used left) step.reply step.event
-  host_front_fed step (inl q) =
-      none_went (bytes_came Order (take used left))
-      (front_silent answer_rules Order bytes items left used within held
-      (host_holds q.leads)) q.silent
+  host_front_fed step (inl q) = none_went (bytes_came Order (take used left))
+      (front_silent answer_rules Order bytes items left used within held (host_holds q.leads)) q.silent
       (ap (λ (o : Option HostEvent). as_list o) q.untold) q.leads
   host_front_fed step (inr t) = one_went (bytes_came Order (take used left)) t.item
       (host_at_item side (GoesOn t.next t.told)) (ap (host_at_item side) t.goes_on)
@@ -178,15 +173,11 @@ module _ (bytes : List ℕ) (items : List (Item AnswerPart)) (side : HostSide)
       bytes + length piece + 1 < 2 ^ 64 → i ≤ length piece → HasHostRefused old new bytes items side piece refusal
   host_refused_on old new k refusal same within when fronted held fits inside =
       let left = left_of piece i in
-      let f = fails_on _ _ _ bytes items side piece i _ before
-      (λ byte b its s. EndsAt old new byte refusal b its s) k within
-      (λ b its s l room. when
-      (λ e. subst (λ (r : Refusal). IsHostFronted now new (b ++ take k left) its s (Err r)) e (fronted b its s l
-      room)))
-      (λ b its s front byte l room upto. host_at_last old now new _ its s byte _ same
-      (subst (λ (x : List ℕ). IsHostFronted now new x its s (Err refusal))
-      (ap (λ z. b ++ z) upto ∙ sym (append_assoc b front (byte ∷ []))) (fronted b its s l room)))
-      held fits inside in
+      let f = fails_on _ _ _ bytes items side piece i _ before (λ byte b its s. EndsAt old new byte refusal b its s)
+      k within (λ b its s l room. when (λ e. subst (λ (r : Refusal). IsHostFronted now new
+      (b ++ take k left) its s (Err r)) e (fronted b its s l room))) (λ b its s front byte l room upto.
+      host_at_last old now new _ its s byte _ same (subst (λ (x : List ℕ). IsHostFronted now new x its s (Err refusal))
+      (ap (λ z. b ++ z) upto ∙ sym (append_assoc b front (byte ∷ []))) (fronted b its s l room))) held fits inside in
       record { front = f.0; byte = f.1; rest = f.2; split = f.3; refused = f.4 }
 
 -- no byte is fed

@@ -104,11 +104,8 @@ requests_in_range modes =
     let b = request modes.host_end_of_record Will END_OF_RECORD in
     let c = request modes.station_binary Do BINARY in
     let d = request modes.host_binary Will BINARY in
-    all_append _ _ d (all_append _ _ c
-    (all_append _ a b (request_in_range _ Do _ (omega arith))
-    (request_in_range _ Will _ (omega arith)))
-    (request_in_range _ Do _ (omega arith))) (request_in_range _ Will _
-    (omega arith))
+    all_append _ _ d (all_append _ _ c (all_append _ a b (request_in_range _ Do _ (omega arith)) (request_in_range
+    _ Will _ (omega arith))) (request_in_range _ Do _ (omega arith))) (request_in_range _ Will _ (omega arith))
 
 asks_in_range : IsTelnet name_request
 asks_in_range = search rules

@@ -51,13 +51,10 @@ returns-in_err-reply-clause-counted_up c =
     let now = c.loop-used in
     let f = c.take_front-front in
     let why : Refusal = c.in_err-reply.field-0.0 in
-    rw (p.1, p.2) (counted_up why _ now.self.receiver.live.taken
-    _ now.used _ (length (left_of c.args.piece.now now.used))
-    _ now.invariant.0 f.ensures.within (left_length c.args.piece.now now.used)
-    now.invariant.3 f.ensures.counted
-    (λ other. f.ensures.used
-    (λ e. other (cc (c.in_err-reply.was, e))))
-    (rw c.in_err-reply.was at f.ensures.at))
+    rw
+    (p.1, p.2) (counted_up why _ now.self.receiver.live.taken _ now.used _ (length (left_of c.args.piece.now now.used))
+    _ now.invariant.0 f.ensures.within (left_length c.args.piece.now now.used) now.invariant.3 f.ensures.counted
+    (λ other. f.ensures.used (λ e. other (cc (c.in_err-reply.was, e)))) (rw c.in_err-reply.was at f.ensures.at))
 
 pub returns-then-is_some-2-clause-fed : goal.returns-then-is_some-2-clause-fed
 returns-then-is_some-2-clause-fed c = λ bytes items side l fits.
@@ -67,11 +64,9 @@ returns-then-is_some-2-clause-fed c = λ bytes items side l fits.
     let i = c.loop-used.used in
     let k = f.result.used in
     let step : HostStep = c.in_ok-reply.field-0 in
-    host_fed_on bytes items side piece i now (c.loop-used.invariant.2 bytes items side l fits).0 _ k step
-    f.ensures.within (f.ensures.used
-    (λ e. cc (c.in_ok-reply.was, e)))
-    (λ b its s m room. rw c.in_ok-reply.was at (f.ensures.fronted b its s m room))
-    f.ensures.first fits c.loop-used.invariant.0
+    host_fed_on bytes items side piece i now (c.loop-used.invariant.2 bytes items side l fits).0 _
+    k step f.ensures.within (f.ensures.used (λ e. cc (c.in_ok-reply.was, e))) (λ b its s m room. rw c.in_ok-reply.was at
+    (f.ensures.fronted b its s m room)) f.ensures.first fits c.loop-used.invariant.0
 
 pub returns-then-is_some-2-clause-first : goal.returns-then-is_some-2-clause-first
 returns-then-is_some-2-clause-first c = λ bytes items side l fits.
@@ -93,8 +88,7 @@ loop-used-preserved c =
         c.loop-used.invariant.0,
       ),
       (rw c.in_ok-reply.was at c.take_front-front.ensures.quiet) untold ∙ c.loop-used.invariant.1,
-      λ bytes items side l fits.
-          (let now = c.loop-used.self in
+      λ bytes items side l fits. (let now = c.loop-used.self in
           let f = c.take_front-front in
           let piece = c.args.piece.now in
           let i = c.loop-used.used in
@@ -102,21 +96,18 @@ loop-used-preserved c =
           let step : HostStep = c.in_ok-reply.field-0 in
           let inv = c.loop-used.invariant.2 bytes items side l fits in
           let fed = host_fed_on bytes items side piece i now inv.0 f.new.self k step f.ensures.within
-          (f.ensures.used (λ e. cc (c.in_ok-reply.was, e)))
-          (λ b its s m room. rw c.in_ok-reply.was at (f.ensures.fronted b its s m room))
-          f.ensures.first fits c.loop-used.invariant.0 in
-          let still : HasHostFed f.new.self bytes items side (take (i + k) piece) [] None =
-          rw (
-            no_reply step.reply _ c.as_slice.ensures.value c.is_empty.result c.is_empty.ensures
-                c.if-not-is_empty.false,
+          (f.ensures.used (λ e. cc (c.in_ok-reply.was, e))) (λ b its s m room. rw c.in_ok-reply.was at
+          (f.ensures.fronted b its s m room)) f.ensures.first fits c.loop-used.invariant.0 in
+          let still : HasHostFed f.new.self bytes items side (take (i + k) piece) [] None = rw (
+            no_reply step.reply _ c.as_slice.ensures.value c.is_empty.result c.is_empty.ensures c.if-not-is_empty.false,
             untold,
           ) at fed in (
             still,
-            quiet_upto answer_rules element_rules host_manner bytes items side piece i (HostLeads now) inv.0
-                (HostLeads f.new.self) k still
+            quiet_upto answer_rules element_rules host_manner bytes items side piece i
+                (HostLeads now) inv.0 (HostLeads f.new.self) k still
                 (host_quiet_on bytes items side piece i now inv.0 k f.ensures.within f.ensures.first inv.1),
           )),
-      counted_on c.args.self.now.receiver.live.taken c.loop-used.self.receiver.live.taken
-          c.take_front-front.new.self.receiver.live.taken c.loop-used.used c.take_front-front.result.used
-          c.loop-used.invariant.3 c.take_front-front.ensures.counted,
+      counted_on c.args.self.now.receiver.live.taken
+          c.loop-used.self.receiver.live.taken c.take_front-front.new.self.receiver.live.taken
+          c.loop-used.used c.take_front-front.result.used c.loop-used.invariant.3 c.take_front-front.ensures.counted,
     )

@@ -11,24 +11,20 @@ returns-then-self-from-clause-done g c =
     let inv = c.loop-self.invariant in
     let keys = c.args.keys.now in
     let k = c.index-keys-self.result in
-    let test = not_reached _ c.loop-self.self.records c.from.result k.0 inv.records
-    c.if-self-from.true c.from.ensures in
+    let test =
+    not_reached _ c.loop-self.self.records c.from.result k.0 inv.records c.if-self-from.true c.from.ensures in
     let rest = next_key keys _ k c.loop-self-test.true c.index-keys-self.is in
-    pressing_ends _ _ _ _ _ _
-    keys inv
-    (ap (due c.args.self.now.records) rest
-    ∙ (none_due _ k _ test).0)
+    pressing_ends _ _ _ _ _ _ keys inv (ap (due c.args.self.now.records) rest ∙ (none_due _ k _ test).0)
 
 pub returns-then-self-from-clause-left : goal.returns-then-self-from-clause-left
 returns-then-self-from-clause-left g c =
     let inv = c.loop-self.invariant in
     let keys = c.args.keys.now in
     let k = c.index-keys-self.result in
-    let test = not_reached _ c.loop-self.self.records c.from.result k.0 inv.records
-    c.if-self-from.true c.from.ensures in
+    let test =
+    not_reached _ c.loop-self.self.records c.from.result k.0 inv.records c.if-self-from.true c.from.ensures in
     let rest = next_key keys _ k c.loop-self-test.true c.index-keys-self.is in
-    rest ∙ sym (none_due _ k _ test).1
-    ∙ ap (later _) (sym rest) ∙ sym inv.later_is
+    rest ∙ sym (none_due _ k _ test).1 ∙ ap (later _) (sym rest) ∙ sym inv.later_is
 
 pub returns-in_err-press-clause-fault : goal.returns-in_err-press-clause-fault
 returns-in_err-press-clause-fault g c =
@@ -49,12 +45,10 @@ loop-self-preserved g c =
     let inv = c.loop-self.invariant in
     let keys = c.args.keys.now in
     let k = c.index-keys-self.result in
-    let test = is_reached _ c.loop-self.self.records c.from.result k.0 inv.records
-    c.if-self-from.false c.from.ensures in
-    pressing_next _ _ _ _ _ _
-    keys inv k c.loop-self-test.true c.index-keys-self.is test
-    c.press.new.self _ _ (ap (λ n. n + 1) c.in_ok-press.ensures.place.0)
-    c.in_ok-press.ensures.place.1 c.in_ok-press.ensures.done
+    let test =
+    is_reached _ c.loop-self.self.records c.from.result k.0 inv.records c.if-self-from.false c.from.ensures in
+    pressing_next _ _ _ _ _ _ keys inv k c.loop-self-test.true c.index-keys-self.is test c.press.new.self _ _
+    (ap (λ n. n + 1) c.in_ok-press.ensures.place.0) c.in_ok-press.ensures.place.1 c.in_ok-press.ensures.done
 
 pub returns-clause-done : goal.returns-clause-done
 returns-clause-done g c = pressing_ends _ _ _ _ _ _ _ c.loop-self.invariant

@@ -1,5 +1,4 @@
-use Rattle.ws_session.proofs.Common.{◌++◌, ℕ, ◌+◌, ◌<◌, ◌^◌, List, length, take, TerminalType, Item, Element}
-use Rattle.ws_session.proofs.Common.{HasCome}
+use Rattle.ws_session.proofs.Common.{TerminalType, Element, HasCome, length, List, ◌++◌, Item, take, ◌<◌, ◌^◌, ◌+◌, ℕ}
 use Rattle.ws_session.proofs.player.Player.take_all.Given as goal
 
 -- the bytes so far have brought the player here

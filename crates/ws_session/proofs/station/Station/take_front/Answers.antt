@@ -1,8 +1,7 @@
-use Rattle.ws_session.proofs.Common.{ℕ, ◌+◌, ◌<◌, ◌++◌, List, Result, length, take, Item, Element, Refusal}
-use Rattle.ws_session.proofs.Common.{StationStep, HoldsItems, element_rules, IsFronted, StationParts, StationLeads}
-use Rattle.ws_session.proofs.Common.{StationSide}
+use Rattle.ws_session.proofs.Common.{element_rules, StationLeads, StationParts, StationSide, StationStep, HoldsItems, ℕ}
+use Rattle.ws_session.proofs.Common.{IsFronted, Element, Refusal, length, Result, List, ◌++◌, Item, take, ◌<◌, ◌+◌}
 use Rattle.ws_session.specs.contracts.station.Station.{the_view}
-use Rattle.ws_session.proofs.StationSteps.{so_far, is_led, fronted, front_count}
+use Rattle.ws_session.proofs.StationSteps.{front_count, fronted, so_far, is_led}
 use Rattle.ws_session.proofs.station.Station.take_front.Goals as goal
 
 -- what the clauses say of a station before
@@ -23,12 +22,9 @@ returns-clause-fronted c =
     let a = c.advance-used in
     rw (← c.self.view_is) (λ bytes items side l fits.
     let led = is_led old bytes items side l in
-    let n = front_count bytes piece _ s.live.taken a.new.self.taken led.count a.ensures.within fits
-    a.ensures.counted in
-    fronted old bytes items side l _ a.new.self a.new.keep _
-    (a.ensures.advance bytes items (so_far old bytes items side l) led fits) n.0 (λ works. n.2 (a.ensures.used works))
-    n.1
-    _ _ c.react-step.ensures.reacted)
+    let n = front_count bytes piece _ s.live.taken a.new.self.taken led.count a.ensures.within fits a.ensures.counted in
+    fronted old bytes items side l _ a.new.self a.new.keep _ (a.ensures.advance bytes items (so_far
+    old bytes items side l) led fits) n.0 (λ works. n.2 (a.ensures.used works)) n.1 _ _ c.react-step.ensures.reacted)
 
 pub returns-clause-first : goal.returns-clause-first
 returns-clause-first c =

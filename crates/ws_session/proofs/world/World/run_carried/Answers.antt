@@ -38,12 +38,10 @@ loop-step-preserved g c =
 pub returns-in_err-take_carried-clause-fault : goal.returns-in_err-take_carried-clause-fault
 returns-in_err-take_carried-clause-fault g c =
     let i = c.loop-step.invariant in
-    let p = err_from_is_err_and c.from_residual-in_err-take_carried.result
-    c.from_residual-in_err-take_carried.ensures.1 in
-    rw (p.1, p.2) (either_behind _ _ _ _ _
-    _ _ _ _ c.loop-step.down _
-    i.downs _ c.loop-step.up _ i.ups _ i.went_down i.went_up
-    c.in_err-take_carried.ensures.fault)
+    let p =
+    err_from_is_err_and c.from_residual-in_err-take_carried.result c.from_residual-in_err-take_carried.ensures.1 in
+    rw (p.1, p.2) (either_behind _ _ _ _ _ _ _
+    _ _ c.loop-step.down _ i.downs _ c.loop-step.up _ i.ups _ i.went_down i.went_up c.in_err-take_carried.ensures.fault)
 
 pub returns-clause-done : goal.returns-clause-done
 returns-clause-done g c =
