@@ -2,29 +2,30 @@ use Rattle.ws_session.proofs.Common.{[], ◌≡◌, rules, refl, host_send, went
 use Rattle.ws_session.proofs.Reached.{refrains}
 use Rattle.ws_session.specs.declared.end_step.Order.TheVariants.{Send}
 use Rattle.ws_session.specs.declared.send_fault.SendFault.TheVariants.{Memory}
-use Rattle.ws_session.proofs.EndDeeds.{deed_led, send_fails, send_goes, send_refused_goes, send_taken}
+use Rattle.ws_session.proofs.EndDeeds.{deed_led, send_fails, order_goes, order_refused_goes, sends_as, send_taken}
+use Rattle.ws_session.proofs.EndDeeds.{refrains_as}
 use Rattle.ws_session.proofs.attached.Attached+HostEnd+S+K.send.Goals as goal
 
 pub returns-in-Err-write_whole-clause-fault : goal.returns-in-Err-write_whole-clause-fault
-returns-in-Err-write_whole-clause-fault g c = λ works. send_fails HostGoes
-    HostRefuses g.K.Sink.takes g.K.Sink.failures g.S.Source.gives g.S.Source.failures c.args.self.now _ _ c.self.view_is
-    (Send c.args.opcode c.args.body.now) c.in-Ok.bytes.items (send_goes c.self.inside.end
-    c.send.new.self c.args.opcode c.args.body.now c.requires.other c.in-Ok.bytes.items c.in-Ok.ensures.sent)
+returns-in-Err-write_whole-clause-fault g c = λ works. send_fails HostGoes HostRefuses g.K.Sink.takes g.K.Sink.failures
+    g.S.Source.gives g.S.Source.failures c.args.self.now _ _ c.self.view_is (Send c.args.opcode c.args.body.now)
+    c.in-Ok.bytes.items (order_goes c.self.inside.end c.send.new.self _ c.in-Ok.bytes.items
+    (sends_as c.self.inside.end c.args.opcode c.args.body.now c.requires.other _ _ c.in-Ok.ensures.sent))
     (rw c.as_slice.ensures.value at c.in-Err-write_whole.ensures.err.1) _ c.in-Err-write_whole.ensures.err.0 refl
 
 pub returns-in_default-clause-sent : goal.returns-in_default-clause-sent
 returns-in_default-clause-sent g c = deed_led HostGoes HostRefuses g.K.Sink.takes g.K.Sink.failures g.S.Source.gives
     g.S.Source.failures c.args.self.now _ _ c.self.view_is (Send c.args.opcode c.args.body.now) c.in-Ok.bytes.items
-    (send_goes c.self.inside.end c.send.new.self c.args.opcode c.args.body.now
-    c.requires.other c.in-Ok.bytes.items c.in-Ok.ensures.sent) (rw c.as_slice.ensures.value at c.in_default.ensures.ok)
+    (order_goes c.self.inside.end c.send.new.self _ c.in-Ok.bytes.items (sends_as c.self.inside.end c.args.opcode
+    c.args.body.now c.requires.other _ _ c.in-Ok.ensures.sent)) (rw c.as_slice.ensures.value at c.in_default.ensures.ok)
 
 pub returns-else-eq-clause-sent : goal.returns-else-eq-clause-sent
 returns-else-eq-clause-sent g c =
     let ne : c.in-Err.fault ≡ Memory → ⊥ = search rules in
-    deed_led HostGoes HostRefuses g.K.Sink.takes g.K.Sink.failures
-    g.S.Source.gives g.S.Source.failures c.args.self.now _ _ c.self.view_is (Send c.args.opcode c.args.body.now) []
-    (send_refused_goes c.self.inside.end c.send.new.self c.args.opcode c.args.body.now c.requires.other c.in-Err.fault
-    ne c.in-Err.ensures.same c.in-Err.ensures.sent) (went_out_none g.K.Sink.takes g.K.Sink.failures c.self.inside.sink)
+    deed_led HostGoes HostRefuses g.K.Sink.takes g.K.Sink.failures g.S.Source.gives g.S.Source.failures
+    c.args.self.now _ _ c.self.view_is (Send c.args.opcode c.args.body.now) [] (order_refused_goes c.self.inside.end
+    c.send.new.self _ c.in-Err.fault c.in-Err.ensures.same (refrains_as c.self.inside.end c.args.opcode c.args.body.now
+    c.requires.other _ ne c.in-Err.ensures.sent)) (went_out_none g.K.Sink.takes g.K.Sink.failures c.self.inside.sink)
 
 pub returns-else-eq-clause-told : goal.returns-else-eq-clause-told
 returns-else-eq-clause-told g c =
