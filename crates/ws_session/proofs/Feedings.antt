@@ -125,6 +125,11 @@ module _ {Place PlaceV Side U V Deed Event : Type 0} (rules : Rules Place U) (ou
   abbrev pub AreSilent : List ℕ → List (Item U) → Side → List ℕ → Type 0
   AreSilent bytes items side came = AllCome (λ bytes' items' side'. Unit {0}) bytes items side came [] []
 
+  pub none_silent : (bytes : List ℕ) (items : List (Item U)) (side : Side) (piece : List ℕ) (n : ℕ) → n ≤ 0
+      → AreSilent bytes items side (take n piece)
+  none_silent bytes items side piece n le =
+      let none : n ≡ 0 = omega (arith, le) in rw none (none_come (λ b its s. Unit {0}) bytes items side tt)
+
   module _ (bytes : List ℕ) (items : List (Item U)) (side : Side) (piece : List ℕ) (i : ℕ) where
     -- what comes behind a front
     came_on : (k : ℕ) → all_came {Deed = Deed} (take i piece) ++ all_came (take k (left_of piece i))

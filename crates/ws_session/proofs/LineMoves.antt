@@ -4,7 +4,7 @@ use C.{arith, append_assoc, length-append, length-drop, append-nil, length-take-
 use C.{drop-append-le, flat_map-append, take-add, drop-append_seam, take-append-add, Reason, Refusal, Event, Move}
 use C.{Act, Crossing, with_piece_at, HostParts, StationParts, TerminalType, WorldParts, Runs, new_world, TwoEnds}
 use C.{ends_of, all_sent, all_read, HaveCome, ComesDown, ComesUp, IsDeliveredDown, IsDeliveredUp, HasMoved}
-use C.{HaveMoved, HasRun, WireParts, AllCome, AreDelivered, ◌-◌, inl, inr, subst, take-append-drop, Fault, MayTake}
+use C.{HaveMoved, HasRun, WireParts, AllCome, AreDelivered, inl, inr, subst, take-append-drop, Fault, MayTake}
 use C.{MayGive, AreFaithful, HaveCrossed, HasCrossed, IsStopped, IsEnded, AreEnded}
 use Rattle.ws_session.specs.declared.line.Line.{Line}
 

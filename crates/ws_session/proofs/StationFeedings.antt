@@ -1,14 +1,13 @@
 use Rattle.ws_session.proofs.Common as C
-use C.{◌≡◌, ℕ, ◌+◌, ◌<◌, ◌≤◌, ◌^◌, inl, inr, Bool, false, List, [], ◌∷◌, ◌++◌, Ok, Err, length, take, ap, ◌∙◌, sym}
-use C.{subst, arith, append_assoc, length-append, Item, left_of, element_rules, Element, Key, Refusal, At, Failed}
-use C.{Memory, StationStep, bytes_came, as_list, told_by, HasFed, IsSilent, IsFronted, StationParts, StationLeads}
-use C.{IsPushed, StationSide, AtStation, station_at_item, goes_on, GoesOn, Option, None, Result, refl}
-use C.{CompletesUnit, answer_rules, AnswerPart, Order, HostEvent, HostStep, HasHostFed, IsHostSilent, EndsAt}
-use C.{HasHostRefused, IsHostFronted, HostParts, HostLeads, IsHostPushed, HostSide, AtHost, host_at_item}
+use C.{station_at_item, HasHostRefused, length-append, element_rules, CompletesUnit, IsHostFronted, host_at_item, arith}
+use C.{answer_rules, StationLeads, IsHostPushed, append_assoc, StationParts, StationStep, StationSide, AnswerPart, true}
+use C.{bytes_came, HasHostFed, HostLeads, nat_tests, IsFronted, HostEvent, HostParts, AtStation, HostSide, IsPushed, At}
+use C.{HostStep, Element, as_list, left_of, Refusal, told_by, goes_on, Failed, HasFed, length, GoesOn, AtHost, Option}
+use C.{Result, Memory, EndsAt, Order, false, subst, Item, List, ◌++◌, None, ◌==◌, refl, Bool, take, Key, ◌∙◌, ◌≡◌, ◌∷◌}
+use C.{◌^◌, ◌+◌, ◌≤◌, Err, inl, inr, sym, ◌<◌, [], Ok, ap, ℕ}
 use Rattle.ws_session.specs.StationFeeds.{HasRefused}
-use Rattle.ws_session.proofs.EndSteps.{station_holds, told_of, none_went, one_went, host_holds}
-use Rattle.ws_session.proofs.Feedings.{AreHeld, front_silent, front_brings, none_come, front_on, quiet_on}
-use Rattle.ws_session.proofs.Feedings.{quiet_upto, fails_on}
+use Rattle.ws_session.proofs.EndSteps.{station_holds, host_holds, none_went, one_went, told_of}
+use Rattle.ws_session.proofs.Feedings.{front_silent, front_brings, front_on, fails_on, AreHeld}
 use Rattle.ws_record.specs.Taking.{EndIn}
 
 -- What a front of a piece gives a station.
@@ -46,18 +45,6 @@ module _ (bytes : List ℕ) (items : List (Item Element)) (side : StationSide) (
       (StationLeads now) before _ k _ _ (λ b its s l room. front_fed now new b its s _ k within some
       (held b its s l) step (fronted b its s l room)) fits inside
 
-  -- and so are the fronts of it
-  pub silent_on : (k : ℕ) → k ≤ length (left_of piece i)
-      → AtStation now (λ b its s. AreHeld element_rules Key b its (left_of piece i) k) → ((n : ℕ) → n ≤ i
-      → IsSilent bytes items side (take n piece)) → (n : ℕ) → n < i + k → IsSilent bytes items side (take n piece)
-  silent_on k within held below = quiet_on _ _ _ bytes items side piece i _ before k within held below
-
-  -- where it brings nothing either
-  pub still_on : (new : StationParts) (k : ℕ) → HasFed new bytes items side (take (i + k) piece) [] false
-      → ((n : ℕ) → n < i + k → IsSilent bytes items side (take n piece)) → (n : ℕ) → n ≤ i + k
-      → IsSilent bytes items side (take n piece)
-  still_on new k fed below = quiet_upto _ _ _ bytes items side piece i (StationLeads now) before _ k fed below
-
   -- it is refused at its last byte
   pub refused_on : (old new : StationParts) (k : ℕ) (refusal : Refusal) → now.screen ≡ old.screen
       → k ≤ length (left_of piece i) → ((refusal ≡ Failed → ⊥) → 0 < k) → AtStation now (λ b its s. length b + length
@@ -73,16 +60,15 @@ module _ (bytes : List ℕ) (items : List (Item Element)) (side : StationSide) (
       (ap (λ z. b ++ z) upto ∙ sym (append_assoc b front (byte ∷ []))) (fronted b its s l room))) held fits inside in
       record { front = f.0; byte = f.1; rest = f.2; split = f.3; refused = f.4 }
 
--- no byte is fed
-pub fed_none : (old : StationParts) (bytes : List ℕ) (items : List (Item Element)) (side : StationSide)
-    → StationLeads old bytes items side → HasFed old bytes items side [] [] false
-fed_none old bytes items side l = none_come _ _ _ _ bytes items side l
+-- a reply that is empty
+no_bytes : (xs : List ℕ) → length xs ≡ 0 → xs ≡ []
+no_bytes [] e = refl
+no_bytes (x ∷ xs) e = absurd (omega (arith, e))
 
-pub silent_none : (bytes : List ℕ) (items : List (Item Element)) (side : StationSide) (piece : List ℕ) (n : ℕ)
-    → n ≤ 0 → IsSilent bytes items side (take n piece)
-silent_none bytes items side piece n le =
-    let none : n ≡ 0 = omega (arith, le) in
-    rw none (none_come _ _ _ (λ b its s. Unit {0}) bytes items side tt)
+pub no_reply : (reply text : List ℕ) → text ≡ reply → (b : Bool) → b ≡ (length text == 0) → b ≡ true → reply ≡ []
+no_reply reply text same b is so =
+    let none : length text ≡ 0 = grind (arith, nat_tests) in
+    sym same ∙ no_bytes text none
 
 -- What a front of a piece gives a host end.
 
@@ -159,12 +145,6 @@ module _ (bytes : List ℕ) (items : List (Item AnswerPart)) (side : HostSide)
       (HostLeads now) before _ k _ _ (λ b its s l room. host_front_fed now new b its s _ k within some
       (held b its s l) step (fronted b its s l room)) fits inside
 
-  -- and the fronts of it are silent
-  pub host_quiet_on : (k : ℕ) → k ≤ length (left_of piece i) → AtHost now (λ b its s. AreHeld answer_rules Order b its
-      (left_of piece i) k) → ((n : ℕ) → n ≤ i → IsHostSilent bytes items side (take n piece))
-      → (n : ℕ) → n < i + k → IsHostSilent bytes items side (take n piece)
-  host_quiet_on k within held below = quiet_on _ _ _ bytes items side piece i _ before k within held below
-
   -- it fails at its last byte
   pub host_refused_on : (old new : HostParts) (k : ℕ) (refusal : Refusal) → now.screen ≡ old.screen
       → k ≤ length (left_of piece i) → ((refusal ≡ Failed → ⊥) → 0 < k) → AtHost now (λ b its s. length b + length
@@ -179,14 +159,3 @@ module _ (bytes : List ℕ) (items : List (Item AnswerPart)) (side : HostSide)
       host_at_last old now new _ its s byte _ same (subst (λ (x : List ℕ). IsHostFronted now new x its s (Err refusal))
       (ap (λ z. b ++ z) upto ∙ sym (append_assoc b front (byte ∷ []))) (fronted b its s l room))) held fits inside in
       record { front = f.0; byte = f.1; rest = f.2; split = f.3; refused = f.4 }
-
--- no byte is fed
-pub host_fed_none : (old : HostParts) (bytes : List ℕ) (items : List (Item AnswerPart)) (side : HostSide)
-    → HostLeads old bytes items side → HasHostFed old bytes items side [] [] None
-host_fed_none old bytes items side l = none_come _ _ _ _ bytes items side l
-
-pub host_silent_none : (bytes : List ℕ) (items : List (Item AnswerPart)) (side : HostSide) (piece : List ℕ) (n : ℕ)
-    → n ≤ 0 → IsHostSilent bytes items side (take n piece)
-host_silent_none bytes items side piece n le =
-    let none : n ≡ 0 = omega (arith, le) in
-    rw none (none_come _ _ _ (λ b its s. Unit {0}) bytes items side tt)

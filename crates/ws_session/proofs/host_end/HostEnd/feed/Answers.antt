@@ -1,23 +1,12 @@
-use Rattle.ws_session.proofs.Common.{◌==◌, ◌≡◌, true, ◌∷◌, ◌+◌, Bool, false, ℕ, List, [], Option, Some, None}
-use Rattle.ws_session.proofs.Common.{is_some, length, take, refl, sym, ◌∙◌, arith, nat_tests, err_from_is_err_and}
-use Rattle.ws_session.proofs.Common.{left_of, left_length, HostEvent, HostStep, Refusal, HasHostFed, HostLeads}
-use Rattle.ws_session.proofs.Common.{host_manner, answer_rules, element_rules}
+use Rattle.ws_session.proofs.Common.{err_from_is_err_and, element_rules, answer_rules, left_length, host_manner, length}
+use Rattle.ws_session.proofs.Common.{HasHostFed, HostLeads, HostEvent, HostStep, left_of, Refusal, is_some, Option, ◌∙◌}
+use Rattle.ws_session.proofs.Common.{arith, false, None, Some, refl, take, ◌≡◌, ◌+◌, sym, []}
 use Rattle.ws_session.proofs.Counts.{counted_on, counted_up}
-use Rattle.ws_session.proofs.Feedings.{quiet_upto}
-use Rattle.ws_session.proofs.StationFeedings.{host_fed_on, host_quiet_on, host_refused_on, host_fed_none}
-use Rattle.ws_session.proofs.StationFeedings.{host_silent_none}
+use Rattle.ws_session.proofs.Feedings.{none_silent, quiet_upto, none_come, quiet_on}
+use Rattle.ws_session.proofs.StationFeedings.{host_refused_on, host_fed_on, no_reply}
 use Rattle.ws_session.proofs.host_end.HostEnd.feed.Goals as goal
 
--- a reply that is empty, and an event that is none
-no_bytes : (xs : List ℕ) → length xs ≡ 0 → xs ≡ []
-no_bytes [] e = refl
-no_bytes (x ∷ xs) e = absurd (omega (arith, e))
-
-no_reply : (reply text : List ℕ) → text ≡ reply → (b : Bool) → b ≡ (length text == 0) → b ≡ true → reply ≡ []
-no_reply reply text same b is so =
-    let none : length text ≡ 0 = grind (arith, nat_tests) in
-    sym same ∙ no_bytes text none
-
+-- an event that is none
 no_event : (event : Option HostEvent) → is_some event ≡ false → event ≡ None
 no_event None h = refl
 no_event (Some e) h = cc
@@ -26,7 +15,7 @@ pub loop-used-init : goal.loop-used-init
 loop-used-init c = (
   omega arith,
   refl,
-  λ bytes items side l fits. (host_fed_none _ bytes items side l, host_silent_none bytes items side _),
+  λ bytes items side l fits. (none_come _ _ _ _ bytes items side l, none_silent _ _ _ bytes items side _),
   λ fits. omega arith,
 )
 
@@ -71,8 +60,8 @@ returns-then-is_some-2-clause-fed c = λ bytes items side l fits.
 pub returns-then-is_some-2-clause-first : goal.returns-then-is_some-2-clause-first
 returns-then-is_some-2-clause-first c = λ bytes items side l fits.
     let inv = c.loop-used.invariant.2 bytes items side l fits in
-    host_quiet_on bytes items side _ _ _ inv.0
-    _ c.take_front-front.ensures.within c.take_front-front.ensures.first inv.1
+    quiet_on
+    _ _ _ bytes items side _ _ _ inv.0 _ c.take_front-front.ensures.within c.take_front-front.ensures.first inv.1
 
 pub returns-clause-first : goal.returns-clause-first
 returns-clause-first c = λ bytes items side l fits n lt. (c.loop-used.invariant.2 bytes items side l fits).1 n
@@ -105,7 +94,7 @@ loop-used-preserved c =
             still,
             quiet_upto answer_rules element_rules host_manner bytes items side piece i
                 (HostLeads now) inv.0 (HostLeads f.new.self) k still
-                (host_quiet_on bytes items side piece i now inv.0 k f.ensures.within f.ensures.first inv.1),
+                (quiet_on _ _ _ bytes items side piece i _ inv.0 k f.ensures.within f.ensures.first inv.1),
           )),
       counted_on c.args.self.now.receiver.live.taken
           c.loop-used.self.receiver.live.taken c.take_front-front.new.self.receiver.live.taken

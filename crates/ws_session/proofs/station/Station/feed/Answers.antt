@@ -1,25 +1,16 @@
-use Rattle.ws_session.proofs.Common.{◌==◌, ◌≡◌, true, ◌∷◌, ◌+◌, Bool, false, ℕ, List, [], length, take, refl, sym}
-use Rattle.ws_session.proofs.Common.{◌∙◌, arith, nat_tests, err_from_is_err_and, left_of, left_length, Refusal}
-use Rattle.ws_session.proofs.Common.{StationStep, HasFed}
+use Rattle.ws_session.proofs.Common.{err_from_is_err_and, station_manner, element_rules, answer_rules, StationLeads, []}
+use Rattle.ws_session.proofs.Common.{StationStep, left_length, left_of, Refusal, HasFed, length, arith, false, refl}
+use Rattle.ws_session.proofs.Common.{take, ◌+◌, ◌∙◌}
 use Rattle.ws_session.proofs.Counts.{counted_on, counted_up}
-use Rattle.ws_session.proofs.StationFeedings.{fed_on, silent_on, still_on, refused_on, fed_none, silent_none}
+use Rattle.ws_session.proofs.StationFeedings.{refused_on, no_reply, fed_on}
+use Rattle.ws_session.proofs.Feedings.{none_silent, quiet_upto, none_come, quiet_on}
 use Rattle.ws_session.proofs.station.Station.feed.Goals as goal
-
--- a reply that is empty
-no_bytes : (xs : List ℕ) → length xs ≡ 0 → xs ≡ []
-no_bytes [] e = refl
-no_bytes (x ∷ xs) e = absurd (omega (arith, e))
-
-no_reply : (reply text : List ℕ) → text ≡ reply → (b : Bool) → b ≡ (length text == 0) → b ≡ true → reply ≡ []
-no_reply reply text same b is so =
-    let none : length text ≡ 0 = grind (arith, nat_tests) in
-    sym same ∙ no_bytes text none
 
 pub loop-used-init : goal.loop-used-init
 loop-used-init c = (
   omega arith,
   refl,
-  λ bytes items side l fits. (fed_none _ bytes items side l, silent_none bytes items side _),
+  λ bytes items side l fits. (none_come _ _ _ _ bytes items side l, none_silent _ _ _ bytes items side _),
   λ fits. omega arith,
 )
 
@@ -63,7 +54,8 @@ returns-then-ends_record-clause-fed c = λ bytes items side l fits.
 pub returns-then-ends_record-clause-first : goal.returns-then-ends_record-clause-first
 returns-then-ends_record-clause-first c = λ bytes items side l fits.
     let inv = c.loop-used.invariant.2 bytes items side l fits in
-    silent_on bytes items side _ _ _ inv.0 _ c.take_front-front.ensures.within c.take_front-front.ensures.first inv.1
+    quiet_on
+    _ _ _ bytes items side _ _ _ inv.0 _ c.take_front-front.ensures.within c.take_front-front.ensures.first inv.1
 
 pub returns-clause-first : goal.returns-clause-first
 returns-clause-first c = λ bytes items side l fits n lt. (c.loop-used.invariant.2 bytes items side l fits).1 n
@@ -93,8 +85,9 @@ loop-used-preserved c = (
         c.if-ends_record.false,
       ) at fed in (
         still,
-        still_on bytes items side piece i now inv.0 f.new.self k still
-            (silent_on bytes items side piece i now inv.0 k f.ensures.within f.ensures.first inv.1),
+        quiet_upto element_rules answer_rules station_manner bytes items side piece i
+            (StationLeads now) inv.0 (StationLeads f.new.self) k still
+            (quiet_on _ _ _ bytes items side piece i _ inv.0 k f.ensures.within f.ensures.first inv.1),
       )),
   counted_on c.args.self.now.live.taken c.loop-used.self.live.taken c.take_front-front.new.self.live.taken
       c.loop-used.used c.take_front-front.result.used c.loop-used.invariant.3 c.take_front-front.ensures.counted,
