@@ -55,36 +55,27 @@ module _ {E Deed Told : Type 0} (goes : E → List (Act Deed) → List ℕ → L
       has_memory = memory;
       stays = λ p. ((same p).0, refl, (same p).1);
     };
-    to_is = ap (λ (z : List ℕ). let t : WireParts = record to { bytes = z } in t) (sym (append-nil to.bytes));
+    to_is = rw (append-nil to.bytes);
     told_is = e;
   }
+
+  -- bytes, and then further ones
+  pub come_on : (a b c : E) (xs ys : List ℕ) (v w : List ℕ) (s t : List Event)
+      → AllCome goes refuses over tells refusal a xs b v s → AllCome goes refuses over tells refusal b ys c w t
+      → AllCome goes refuses over tells refusal a (xs ++ ys) c (v ++ w) (s ++ t)
+  come_on a b c [] ys v w s t p q = rw (← p.0, p.1, p.2) q
+  come_on a b c (x ∷ xs) ys v w s t p q =
+      let rest = come_on p.0 b c xs ys p.2 w p.4 t p.6 q in
+      let wrote : v ++ w ≡ p.1 ++ (p.2 ++ w) = rw p.7 (append_assoc p.1 p.2 w) in
+      let says : s ++ t ≡ p.3 ++ (p.4 ++ t) = rw p.8 (append_assoc p.3 p.4 t) in
+      (p.0, p.1, p.2 ++ w, p.3, p.4 ++ t, p.5, rest, wrote, says)
 
   -- one byte more
   pub come_more : (a b c : E) (xs : List ℕ) (x : ℕ) (v w : List ℕ) (s t : List Event)
       → AllCome goes refuses over tells refusal a xs b v s → Comes goes refuses over tells refusal b x c w t
       → AllCome goes refuses over tells refusal a (xs ++ x ∷ []) c (v ++ w) (s ++ t)
-  come_more a b c [] x v w s t p q = (
-    c,
-    w,
-    [],
-    t,
-    [],
-    rw (← p.0) q,
-    (refl, refl, refl),
-    ap (λ z. z ++ w) p.1 ∙ sym (append-nil w),
-    ap (λ z. z ++ t) p.2 ∙ sym (append-nil t),
-  )
-  come_more a b c (y ∷ xs) x v w s t p q = (
-    p.0,
-    p.1,
-    p.2 ++ w,
-    p.3,
-    p.4 ++ t,
-    p.5,
-    come_more p.0 b c xs x p.2 w p.4 t p.6 q,
-    ap (λ z. z ++ w) p.7 ∙ append_assoc p.1 p.2 w,
-    ap (λ z. z ++ t) p.8 ∙ append_assoc p.3 p.4 t,
-  )
+  come_more a b c xs x v w s t p q = come_on a b c xs (x ∷ []) v w s t p
+      (c, w, [], t, [], q, (refl, refl, refl), sym (append-nil w), sym (append-nil t))
 
   pub none_delivered : (e : E) (from to : WireParts) (told : List Event) → length from.bytes + 1 < 2 ^ 64
       → AreDelivered goes refuses over tells refusal e e from from to to told told 0
@@ -95,8 +86,8 @@ module _ {E Deed Told : Type 0} (goes : E → List (Act Deed) → List ℕ → L
     first = refl;
     few = few;
     come = (refl, refl, refl);
-    from_is = ap (λ (n : ℕ). let f : WireParts = record from { at = n } in f) (sym (add-zero from.at));
-    to_is = ap (λ (z : List ℕ). let f : WireParts = record to { bytes = z } in f) (sym (append-nil to.bytes));
+    from_is = rw (add-zero from.at);
+    to_is = rw (append-nil to.bytes);
     told_is = sym (append-nil told);
   }
 
@@ -107,11 +98,8 @@ module _ {E Deed Told : Type 0} (goes : E → List (Act Deed) → List ℕ → L
         × (length d.bytes ≡ min n (length from.bytes - from.at))
     came =
         let size : length d.bytes ≡ min n (length from.bytes - from.at) = ap (λ z. length z) d.first
-        ∙ length-take n (drop from.at from.bytes) ∙ ap (min n) (length-drop from.at from.bytes) in (
-          ap (λ (z : WireParts). z.at) d.from_is ∙ ap (λ k. from.at + k) size,
-          ap (λ (z : WireParts). length z.bytes) d.from_is,
-          size,
-        )
+        ∙ length-take n (drop from.at from.bytes) ∙ ap (min n) (length-drop from.at from.bytes) in
+        (rw (d.from_is, size), ap (λ (z : WireParts). length z.bytes) d.from_is, size)
 
     -- others wait
     pub more_wait : (k : ℕ) → from.at + k ≡ length from.bytes → n < k → f.at < length f.bytes
@@ -151,9 +139,11 @@ module _ {E Deed Told : Type 0} (goes : E → List (Act Deed) → List ℕ → L
         let count : length d.bytes ≡ n = omega (arith, more, came) in
         let same : f.bytes ≡ from.bytes = ap (λ (z : WireParts). z.bytes) d.from_is in
         let at : f.at ≡ from.at + n = ap (λ (z : WireParts). z.at) d.from_is ∙ ap (λ k. from.at + k) count in
-        let next : x ≡ get_or rest n x = is ∙ ap (λ z. get_or z f.at x) same ∙ ap (λ k. get_or from.bytes k x) at
-        ∙ sym (get_or-drop from.at from.bytes n x) in
-        let room : n < length rest = omega (arith, more, at, ap (λ z. length z) same, length-drop from.at from.bytes) in
+        let next : x ≡ get_or rest n x = is ∙ ap (λ z. get_or z f.at x) same
+        ∙ ap (λ k. get_or from.bytes k x) at ∙ sym (get_or-drop from.at from.bytes n x) in
+        let all : (from.at + length d.bytes) + 1 ≡ from.at + length
+        (d.bytes ++ x ∷ []) = omega (arith, length-append d.bytes (x ∷ [])) in let room : n < length rest =
+        omega (arith, more, at, ap (λ z. length z) same, length-drop from.at from.bytes) in
         record {
           bytes = d.bytes ++ x ∷ [];
           written = d.written ++ h.written;
@@ -161,13 +151,9 @@ module _ {E Deed Told : Type 0} (goes : E → List (Act Deed) → List ℕ → L
           first = ap (λ z. z ++ x ∷ []) d.first ∙ sym (longer_by rest n x room next);
           few = d.few;
           come = come_more a b c d.bytes x d.written h.written d.events h.events d.come h.comes;
-          from_is = on ∙ ap (λ (z : WireParts). let w : WireParts = record z { at = z.at + 1 } in w) d.from_is
-              ∙ ap (λ (k : ℕ). let w : WireParts = record from { at = k } in w) (let k : (from.at + length d.bytes) + 1
-              ≡ from.at + length (d.bytes ++ x ∷ []) = omega (arith, length-append d.bytes (x ∷ [])) in k);
-          to_is = h.to_is ∙ ap (λ (z : WireParts). let w : WireParts = record z { bytes = z.bytes ++ h.written } in
-              w) d.to_is ∙ ap (λ (z : List ℕ). let w : WireParts = record to { bytes = z } in w)
-              (append_assoc to.bytes d.written h.written);
-          told_is = h.told_is ∙ ap (λ z. z ++ h.events) d.told_is ∙ append_assoc told d.events h.events;
+          from_is = rw (on, d.from_is, all);
+          to_is = rw (h.to_is, d.to_is, append_assoc to.bytes d.written h.written);
+          told_is = rw (h.told_is, d.told_is, append_assoc told d.events h.events);
         }
 
 -- a byte that alone came, and that was refused

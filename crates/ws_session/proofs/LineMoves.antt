@@ -4,9 +4,10 @@ use C.{arith, append_assoc, length-append, length-drop, append-nil, length-take-
 use C.{drop-append-le, flat_map-append, take-add, drop-append_seam, take-append-add, Reason, Refusal, Event, Move}
 use C.{Act, Crossing, with_piece_at, HostParts, StationParts, TerminalType, WorldParts, Runs, new_world, TwoEnds}
 use C.{ends_of, all_sent, all_read, HaveCome, ComesDown, ComesUp, IsDeliveredDown, IsDeliveredUp, HasMoved}
-use C.{HaveMoved, HasRun, WireParts, AllCome, AreDelivered, inl, inr, subst, take-append-drop, Fault, MayTake}
+use C.{HaveMoved, HasRun, WireParts, AreDelivered, inl, inr, subst, take-append-drop, Fault, MayTake}
 use C.{MayGive, AreFaithful, HaveCrossed, HasCrossed, IsStopped, IsEnded, AreEnded}
 use Rattle.ws_session.specs.declared.line.Line.{Line}
+use Rattle.ws_session.proofs.Arriving.{come_on}
 
 -- Moves of a session whose bytes go over two lines.
 
@@ -39,23 +40,6 @@ module _ (bytes : List ℕ) (at : ℕ) (read : List ℕ) (fits : at + length rea
 
 module _ {E Deed Told : Type 0} (goes : E → List (Act Deed) → List ℕ → List Told → E → Type 0) (refuses : E → ℕ
     → Refusal → E → Type 0) (over : E → Type 0) (tells : Told → List Event) (refusal : ℕ → Reason → Event) where
-  -- bytes, and then further ones
-  come_on : (a b c : E) (xs ys : List ℕ) (v w : List ℕ) (s t : List Event)
-      → AllCome goes refuses over tells refusal a xs b v s → AllCome goes refuses over tells refusal b ys c w t
-      → AllCome goes refuses over tells refusal a (xs ++ ys) c (v ++ w) (s ++ t)
-  come_on a b c [] ys v w s t p q = rw (← p.0, p.1, p.2) q
-  come_on a b c (x ∷ xs) ys v w s t p q = (
-    p.0,
-    p.1,
-    p.2 ++ w,
-    p.3,
-    p.4 ++ t,
-    p.5,
-    come_on p.0 b c xs ys p.2 w p.4 t p.6 q,
-    ap (λ z. z ++ w) p.7 ∙ append_assoc p.1 p.2 w,
-    ap (λ z. z ++ t) p.8 ∙ append_assoc p.3 p.4 t,
-  )
-
   pub none_come : (e : E) (flight : List ℕ) → HaveCome goes refuses over tells refusal 0 [] flight flight e e [] []
   none_come e flight = record { sent = refl; as_many = refl; left = refl; come = (refl, refl, refl) }
 
@@ -101,7 +85,8 @@ module _ {E Deed Told : Type 0} (goes : E → List (Act Deed) → List ℕ → L
             length-append (all_read cs) (all_read ds),
           );
           left = q.left ∙ ap (drop b) p.left ∙ drop-drop b a f;
-          come = rw reads (come_on old mid new (all_read cs) (all_read ds) v w s t p.come q.come);
+          come = rw reads
+              (come_on goes refuses over tells refusal old mid new (all_read cs) (all_read ds) v w s t p.come q.come);
         }
 
   -- all that were in flight have come
@@ -127,20 +112,10 @@ same_ends p q r s t = cc
 -- bytes down
 
 pub down_none : (now : WorldParts) → ComesDown (ends_of now) 0 [] (ends_of now)
-down_none now = (
-  [],
-  [],
-  none_come _ _ _ _ _ _ _,
-  same_ends refl refl refl (sym (append-nil (drop now.at_host now.up))) (sym (append-nil now.events)),
-)
+down_none now = ([], [], none_come _ _ _ _ _ _ _, rw (append-nil (drop now.at_host now.up), append-nil now.events))
 
 pub up_none : (now : WorldParts) → ComesUp (ends_of now) 0 [] (ends_of now)
-up_none now = (
-  [],
-  [],
-  none_come _ _ _ _ _ _ _,
-  same_ends refl refl (sym (append-nil (drop now.at_station now.down))) refl (sym (append-nil now.events)),
-)
+up_none now = ([], [], none_come _ _ _ _ _ _ _, rw (append-nil (drop now.at_station now.down), append-nil now.events))
 
 -- what went over a line, written in the place of the bytes in flight
 module _ (old new : WorldParts) (n : ℕ) (read : List ℕ) (is : length read ≡ n) where
@@ -196,28 +171,15 @@ module _ (x y : TwoEnds) (a b : ℕ) (cs : List Crossing) (le : a ≤ b) where
 -- one move more
 pub moved_on : (a b c : TwoEnds) (ms : List Move) (m : Move) (ds us es vs : List Crossing)
     → HaveMoved a ms ds us b → HasMoved b m es vs c → HaveMoved a (ms ++ m ∷ []) (ds ++ es) (us ++ vs) c
-moved_on a b c [] m ds us es vs p q = (
-  es,
-  vs,
-  [],
-  [],
-  c,
-  rw (← p.2) q,
-  (refl, refl, refl),
-  ap (λ z. z ++ es) p.0 ∙ sym (append-nil es),
-  ap (λ z. z ++ vs) p.1 ∙ sym (append-nil vs),
-)
-moved_on a b c (x ∷ ms) m ds us es vs p q = (
-  p.0,
-  p.1,
-  p.2 ++ es,
-  p.3 ++ vs,
-  p.4,
-  p.5,
-  moved_on p.4 b c ms m p.2 p.3 es vs p.6 q,
-  ap (λ z. z ++ es) p.7 ∙ append_assoc p.0 p.2 es,
-  ap (λ z. z ++ vs) p.8 ∙ append_assoc p.1 p.3 vs,
-)
+moved_on a b c [] m ds us es vs p q =
+    let downs : ds ++ es ≡ es ++ [] = rw p.0 (sym (append-nil es)) in
+    let ups : us ++ vs ≡ vs ++ [] = rw p.1 (sym (append-nil vs)) in
+    (es, vs, [], [], c, rw (← p.2) q, (refl, refl, refl), downs, ups)
+moved_on a b c (x ∷ ms) m ds us es vs p q =
+    let rest = moved_on p.4 b c ms m p.2 p.3 es vs p.6 q in
+    let downs : ds ++ es ≡ p.0 ++ (p.2 ++ es) = rw p.7 (append_assoc p.0 p.2 es) in
+    let ups : us ++ vs ≡ p.1 ++ (p.3 ++ vs) = rw p.8 (append_assoc p.1 p.3 vs) in
+    (p.0, p.1, p.2 ++ es, p.3 ++ vs, p.4, p.5, rest, downs, ups)
 
 -- before the first move
 pub begun : (t : TerminalType) (now : WorldParts) → Runs t now (new_world t) → HasRun t [] [] [] (ends_of now)
