@@ -5,7 +5,7 @@ use C.{if◌then◌else◌, filter, ℕ, suc, ◌-◌, ◌<◌, Bool, true, fals
 use C.{nat_tests, Rules, Item, Field, ReadKind, HostAnswer, AnswerPart, items_coming, is_answer, answers_coming}
 use Rattle.ws_session.proofs.Orders.{x_few}
 use Rattle.ws_session.proofs.Flights.{InFlight, quiet, size, total, total_cons, IsInside}
-use Rattle.ws_session.proofs.Betweens.{posted, sents, tokens, Sound, Sent, Replies, Ends, Signal, Waits}
+use Rattle.ws_session.proofs.Betweens.{posted, sents, tokens, Sound, Sent, Replies, Waits}
 use Rattle.ws_session.proofs.Worlds.{sound}
 
 -- With nothing in flight both option tables agree, and few tokens are ever written.
@@ -77,8 +77,7 @@ as_many : (places : List Field) (asked : Option ReadKind) (es : List Sent) (late
 as_many places asked [] later w = ap length w
 as_many places asked (Replies parts ∷ es) later (kind, fs, x, rest, a, b, c, d, w) = ap length d
     ∙ ap suc (as_many _ asked es rest w)
-as_many places asked (Ends ∷ es) later w = as_many _ asked es later w
-as_many places asked (Signal flags ∷ es) later w = as_many _ asked es later w
+as_many places asked (e ∷ es) later w = as_many _ asked es later w
 
 pub rest_on_its_way : (t : TerminalType) (w : World) (s : Sound t w) → length s.later ≡ length (answers_coming w)
 rest_on_its_way t w s = as_many _ _ s.es s.later s.between.waits ∙ ap length (sym (no_answers s.us (sents s.es))) ∙ ap

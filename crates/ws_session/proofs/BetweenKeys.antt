@@ -14,7 +14,7 @@ use Rattle.ws_session.proofs.Turns.{TurnAt, answer}
 use Rattle.ws_session.proofs.Betweens.{after_posted_more, marks_down_more, marks_up_more, posted_alike, after_posted}
 use Rattle.ws_session.proofs.Betweens.{opcode_alike, end_events, closed_end, marks_down, mark_left, fit_alike, marks_up}
 use Rattle.ws_session.proofs.Betweens.{record_of, marks_of, screened, betweens, fit_more, Screens, Replies, Between}
-use Rattle.ws_session.proofs.Betweens.{is_stop, Signal, Posted, Waits, Stop, Body, Ends, Sent}
+use Rattle.ws_session.proofs.Betweens.{is_stop, Signal, Posted, Waits, Stop, Body, Sent}
 use Rattle.ws_session.proofs.BetweenSteps.{waits_any}
 
 -- What stands between both ends, where a key is pressed, or the host end sends or cancels.
@@ -56,8 +56,7 @@ module _ {t : TerminalType} {ex : Exchange} {s : StationSide} {h : HostSide} {ts
             es later → Waits (layouts (fields h.kept)) (pending_read h.kept) (es ++ Signal flags ∷ []) later
         more [] later w = w
         more (Replies parts ∷ es) later w = (w.0, w.1, w.2, w.3, w.4, w.5, w.6, w.7, more es w.3 w.8)
-        more (Ends ∷ es) later w = more es later w
-        more (Signal other ∷ es) later w = more es later w
+        more (e ∷ es) later w = more es later w
 
   -- records on their way while a read is pending leave the fields as they are
   layout_held : (k : History) (ds : List Posted) → (marks_down ds ≡ []) ⊎ (marks_down ds ≡ StopMark ∷ [])
@@ -96,9 +95,8 @@ module _ {t : TerminalType} {ex : Exchange} {s : StationSide} {h : HostSide} {ts
             let reads = own_reading kind (screen_at s) aid (length-map-range_with_len
             (λ c. cell c s.happened) 0 1920) b.within in
             (kind, fields s.happened, x, [], asked, places, reads, ap (λ l. l ++ x ∷ []) w, refl)
-        more (Replies parts ∷ es) later n w places asked = cc
-        more (Ends ∷ es) later n w places asked = cc
         more (Signal flags ∷ es) later n w places asked = more es later n w places asked
+        more (e ∷ es) later n w places asked = cc
 
   -- SENDS
 
@@ -114,8 +112,7 @@ module _ {t : TerminalType} {ex : Exchange} {s : StationSide} {h : HostSide} {ts
 
   idle : (o : Option ReadKind) (c : Bool) → (is_some o || c) ≡ false → (o ≡ None) × (c ≡ false)
   idle None false e = (refl, refl)
-  idle None true e = cc
-  idle (Some kind) c e = cc
+  idle o c e = cc
 
   turn_after : (o : Opcode) (other : is_stop o ≡ false) (body : List Element) (ok : is_body body ≡ true)
       → is_outstanding h body ≡ false → TurnAt (read_left_by (pending_read h.kept) body) h.cancelling

@@ -87,8 +87,7 @@ waits_more places asked es later Stop w = more es later w where
       (es ++ Ends ∷ []) later
   more [] later w = w
   more (Replies parts ∷ es) later w = (w.0, w.1, w.2, w.3, w.4, w.5, w.6, w.7, more es w.3 w.8)
-  more (Ends ∷ es) later w = more es later w
-  more (Signal flags ∷ es) later w = more es later w
+  more (e ∷ es) later w = more es later w
 
 -- a record comes to the station, which doesn't refuse it
 module _ {t : TerminalType} {ex : Exchange} {s : StationSide} {h : HostSide} {us : List Telnet} {d : Posted}

@@ -88,8 +88,7 @@ module _ {t : TerminalType} {w : World} {old : WorldParts} (r : Runs t old w) wh
           let e : true ≡ false = ap (λ (z : World). z.station_refused) (sym (steps (Some item.item) o.0
           ∙ ap (station_did byte_on) item.refuses)) ∙ (byte_down t w (is_sound r)).station_going in cc)
     ]
-    station_never from station Failed p = p
-    station_never from station Memory p = p
+    station_never from station why p = p
 
 module _ {t : TerminalType} {w : World} {old : WorldParts} (r : Runs t old w) (more : old.at_station < length old.down)
     (few : length old.down + 1 < 2 ^ 64) (byte : ℕ) (is : byte ≡ get_or old.down old.at_station byte) where

@@ -4,8 +4,8 @@ use C.{AnswerPart, element_rules, answer_rules, ending_at, Reaction, StationSide
 use C.{station_takes, host_takes, World, down_bytes, up_bytes, station_did, station_gets, host_did, host_gets}
 use C.{byte_to_station, byte_to_host, bytes_to_station, bytes_to_host, ◌≡◌, [], ◌∷◌, ◌++◌, refl, ap, TerminalType}
 use C.{HostEvent, Event, Host, KeyRefused, SendRefused, Move, Cancel, ToStation, ToHost, Press, SendReaction}
-use C.{RefusesSend, Sends, Refuses, GoesOn, is_refusal, refusals_in, KeyReaction, RefusesKey, Silent, Answers}
-use C.{Signals, new_world, events_with, station_pressed, host_sent, after_move, after_moves}
+use C.{RefusesSend, Sends, Refuses, GoesOn, is_refusal, refusals_in, KeyReaction, RefusesKey}
+use C.{new_world, events_with, station_pressed, host_sent, after_move, after_moves}
 use Rattle.ws_session.specs.declared.world.Move.TheVariants.{Send}
 use Rattle.ws_session.proofs.Worlds.{sound}
 
@@ -19,11 +19,10 @@ module _ (P : World → Type 0) where
         (ending_at element_rules w.down (w.at_station + 1)) where
           by : (b r : Bool) (o : Option (Item Element))
               → P (if b then station_gets (record w { at_station = w.at_station + 1 }) r o else w)
-          by false r o = p
-          by true true o = here w p
-          by true false None = here w p
           by true false (Some item) =
               did (record w { at_station = w.at_station + 1 }) (station_takes w.station item) (here w p)
+          by false r o = p
+          by true r o = here w p
 
     pub bytes_down : (n : ℕ) (w : World) → P w → P (bytes_to_station n w)
     bytes_down zero w p = p
@@ -36,10 +35,9 @@ module _ (P : World → Type 0) where
         by (nat_lt w.at_host (length (up_bytes w))) w.host_refused (ending_at answer_rules w.up (w.at_host + 1)) where
           by : (b r : Bool) (o : Option (Item AnswerPart))
               → P (if b then host_gets (record w { at_host = w.at_host + 1 }) r o else w)
-          by false r o = p
-          by true true o = here w p
-          by true false None = here w p
           by true false (Some item) = did (record w { at_host = w.at_host + 1 }) (host_takes w.host item) (here w p)
+          by false r o = p
+          by true r o = here w p
 
     pub bytes_up : (n : ℕ) (w : World) → P w → P (bytes_to_host n w)
     bytes_up zero w p = p
@@ -74,9 +72,7 @@ host_item w (GoesOn host told) calm = λ p q. tells w.events told.event (calm p 
 
 pressed : (w : World) (r : KeyReaction) → IsCalm w → IsCalm (station_pressed w r)
 pressed w (RefusesKey fault) calm = λ p q. one_more w.events (KeyRefused fault) refl (calm p q)
-pressed w (Silent station) calm = calm
-pressed w (Answers station kind aid) calm = calm
-pressed w (Signals opcode flags) calm = calm
+pressed w reaction calm = calm
 
 sent : (w : World) (r : SendReaction) → IsCalm w → IsCalm (host_sent w r)
 sent w (RefusesSend fault) calm = λ p q. one_more w.events (SendRefused fault) refl (calm p q)

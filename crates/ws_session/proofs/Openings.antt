@@ -4,7 +4,7 @@ use C.{bytes_to_station, three_deliveries, settled_station, byte_to_station, Not
 use C.{plain_spelling, settled_quiet, element_rules, bytes_to_host, byte_to_host, answer_rules, settled_host, Exchange}
 use C.{TerminalType, station_did, after_moves, StationSide, down_bytes, HostOutput, AnswerPart, append-nil, HostSide, ℕ}
 use C.{host_did, up_bytes, Reaction, MoveDown, delivery, Refuses, IsQuiet, MoveUp, length, Telnet, GoesOn, subst, World}
-use C.{arith, zero, refl, List, ◌++◌, Item, true, ◌∷◌, sym, ◌∙◌, ◌+◌, ◌≡◌, inl, inr, suc, ◌≤◌, ap}
+use C.{arith, zero, refl, List, ◌++◌, Item, true, sym, ◌∙◌, ◌+◌, ◌≡◌, inl, inr, suc, ◌≤◌, ap}
 use Rattle.ws_session.proofs.Agreements.{front_empty, no_tokens}
 use Rattle.ws_session.proofs.Bytewise.{bytes_down, bytes_up}
 use Rattle.ws_session.proofs.Betweens.{Posted, posted, tokens, sents, Sound}
@@ -46,8 +46,7 @@ module _ (t : TerminalType) where
 
   no_records : (ts : List Telnet) (ds : List Posted) → tokens ts ++ posted ds ≡ [] → ds ≡ []
   no_records [] [] e = refl
-  no_records [] (d ∷ ds) e = cc
-  no_records (token ∷ ts) ds e = cc
+  no_records ts ds e = cc
 
   down_done : (w : World) (s : Sound t w) (ex : Exchange) → after_all_to_station s.ex ≡ after_all_to_station ex
       → w.at_station ≡ length (down_bytes w) → AllDown ex w

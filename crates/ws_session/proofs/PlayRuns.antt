@@ -4,7 +4,7 @@ use C.{length, drop, refl, ap, ◌∙◌, arith, length-append, Fault, Refused, 
 use C.{FailedWithin, one_more, most_reads, gave_more, gave_all, TerminalType, Item, IsInGrammar, IsTruncated}
 use C.{element_rules, Element, Place, Key, Player, outcome, due, later, HasDone, HasCome, StationParts}
 use C.{StationLeads, IsRunFault, IsRun, refusal_count, behind, StationSide, new_station_side, AtStation}
-use Rattle.ws_code.specs.declared.fault.Fault.TheVariants.{Memory, Read, Failed}
+use Rattle.ws_code.specs.declared.fault.Fault.TheVariants.{Read}
 use Rattle.ws_session.specs.declared.run.Played.{Played}
 use Rattle.ws_session.proofs.Plays.{text_of}
 use Rattle.ws_session.proofs.PlaySteps.{keys_taken}
@@ -154,10 +154,7 @@ module _ {R S : Type 0} (gives : MayGive R)
         refuses = f;
       }
       run_stops to Write f = record { bytes = r.bytes ++ given; reads = reads + 1; gave = gave_next; unwritten = f }
-      run_stops to (Truncated n) f = absurd f
-      run_stops to Memory f = absurd f
-      run_stops to Read f = absurd f
-      run_stops to Failed f = absurd f
+      run_stops to fault f = absurd f
 
 -- so many reads that the end wasn't reached
 pub run_endless : {R S : Type 0} (gives : MayGive R) (misses : R → ℕ) (takes : MayTake S) (failures : S → ℕ)

@@ -2,16 +2,14 @@ use Rattle.ws_session.proofs.Common as C
 use C.{failed_within_both, take-append-drop, new_station_side, outcome_of_both, keys_left_from, StationRefuses, Outcome}
 use C.{went_out_both, went_out_none, length-append, if◌then◌else◌, refusal_count, RunUnwritten, TerminalType, take_more}
 use C.{StationLeads, records_from, append_assoc, moments_from, FailedWithin, idle_outcome, StationParts, StationGoes, ℕ}
-use C.{StationSide, applied_by, IsRunFault, one_record, TelnetItem, append-nil, RecordItem, Truncated, AtStation, Fault}
+use C.{StationSide, applied_by, IsRunFault, one_record, TelnetItem, append-nil, RecordItem, AtStation, Fault}
 use C.{IsUntaken, at_moment, fault_of, run_text, AreTaken, Applied, MayTake, HasDone, HasCome, Element, at_item, Moment}
-use C.{WentOut, Refused, Presses, Refusal, outcome, IsTaken, moments, behind, NoMore, nat_lt, length, get_or, Player}
+use C.{WentOut, Refused, Presses, Refusal, outcome, IsTaken, moments, behind, nat_lt, length, get_or, Player}
 use C.{false, arith, subst, Write, later, take, drop, refl, true, Item, Came, List, Bool, ◌++◌, ◌∙◌, min, ◌^◌, sym, ◌≡◌}
 use C.{◌<◌, ◌∷◌, Key, inl, ◌-◌, ◌+◌, inr, due, ◌≤◌, [], At, ap}
-use Rattle.ws_code.specs.declared.fault.Fault.TheVariants.{Failed, Memory, Read}
 use Rattle.ws_session.specs.Moments.{goes_on, Arrives}
 use Rattle.ws_session.proofs.EndSteps.{station_went, Went}
 use Rattle.ws_session.proofs.Plays.{outcome_append, text_append, later_by, none_due, text_of}
-use Rattle.ws_session.specs.declared.refusal.Refusal.TheVariants.{Memory as NoMemory}
 
 -- What a byte makes of a run's player.
 
@@ -276,8 +274,7 @@ module _ {S : Type 0} (takes : MayTake S) (failures : S → ℕ) (t : TerminalTy
           why = is.2;
           wrote = rw unwritten c.wrote;
         }
-    refused_as to unwritten NoMore refuses = refuses bytes items so_far.side c.is_behind.leads (omega (arith, few))
-    refused_as to unwritten NoMemory refuses = refuses bytes items so_far.side c.is_behind.leads (omega (arith, few))
+    refused_as to unwritten why refuses = refuses bytes items so_far.side c.is_behind.leads (omega (arith, few))
 
     -- it doesn't come through
     pub byte_fails : (to : S) (fault : Fault) → IsUntaken StationGoes StationRefuses takes failures
@@ -313,10 +310,7 @@ fault_within t keys takes failures start now first first' bytes more Write le f 
   taken = f.taken;
   failed = f.failed;
 }
-fault_within t keys takes failures start now first first' bytes more (Truncated n) le f = absurd f
-fault_within t keys takes failures start now first first' bytes more Memory le f = absurd f
-fault_within t keys takes failures start now first first' bytes more Read le f = absurd f
-fault_within t keys takes failures start now first first' bytes more Failed le f = absurd f
+fault_within t keys takes failures start now first first' bytes more fault le f = absurd f
 
 -- the bytes of a piece, one after another
 pub next_byte : (bytes piece : List ℕ) (i : ℕ) → i < length piece → (bytes ++ take i piece) ++ get_or piece i 0 ∷ []

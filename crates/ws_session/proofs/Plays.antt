@@ -3,7 +3,7 @@ use C.{failed_within_both, HasWrittenFront, flat_map-append, outcome_of_both, st
 use C.{went_out_both, went_out_none, item_spelling, if◌then◌else◌, refusal_count, StationLeads, IsKeyRefusal, nat_tests}
 use C.{answer_rules, append_assoc, FailedWithin, idle_outcome, StationParts, StationGoes, StationSide, station_key, ◌∙◌}
 use C.{KeyReaction, AnswerPart, append-nil, RefusesKey, HasWritten, IsKeyTaken, drop-cons, at_moment, KeyFault, add-one}
-use C.{drop_all, Outcome, Applied, MayTake, HasDone, Element, Presses, Signals, outcome, Answers, Silent, Moment, false}
+use C.{drop_all, Outcome, Applied, MayTake, HasDone, Element, Presses, outcome, Moment, false}
 use C.{at_key, nat_lt, length, get_or, Player, arith, later, drop, refl, true, Item, List, Bool, ◌++◌, suc, min, ◌^◌, ℕ}
 use C.{sym, ◌≡◌, ◌<◌, ◌∷◌, Key, ◌-◌, ◌+◌, Did, ap₂, due, ◌≤◌, [], ap}
 use Rattle.ws_session.proofs.EndDeeds.{key_did}
@@ -49,16 +49,12 @@ by_act : (station : StationParts) (bytes : List ℕ) (items : List (Item Element
     (z : KeyReaction) → Comes station bytes items text (station_at_key side z).written (station_at_key side z).side
     → Comes station bytes items text (at_key side z).written (at_key side z).side
 by_act station bytes items side text (RefusesKey fault) p = p
-by_act station bytes items side text (Silent next) p = p
-by_act station bytes items side text (Answers next kind aid) p = p
-by_act station bytes items side text (Signals opcode flags) p = p
+by_act station bytes items side text z p = p
 
 unrefused : (side : StationSide) (z : KeyReaction) → ((fault : KeyFault) → z ≡ RefusesKey fault → ⊥)
     → (at_key side z).refused ≡ 0
 unrefused side (RefusesKey fault) taken = absurd (taken fault refl)
-unrefused side (Silent next) taken = refl
-unrefused side (Answers next kind aid) taken = refl
-unrefused side (Signals opcode flags) taken = refl
+unrefused side z taken = refl
 
 add_none : (n m : ℕ) (before : ℕ) → m ≡ 0 → n ≡ refusal_count before → n ≡ refusal_count (before + m)
 add_none n m before e is = is ∙ ap refusal_count (let f : before ≡ before + m = omega (arith, e) in f)

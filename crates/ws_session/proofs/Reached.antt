@@ -1,22 +1,21 @@
 use Rattle.ws_session.proofs.Common as C
-use C.{record_spelling, RefusedByScreen, ReadOutstanding, flat_map-append, station_pressed, answer_spelling, one_screen}
-use C.{NoReadToCancel, plain_spelling, key_by_refusal, item_spelling, header_length, SystemRequest, element_rules, Runs}
-use C.{answer_record, if◌then◌else◌, answers_read, SendReaction, answer_parts, TerminalType, StationLeads, answer_rules}
-use C.{CancelInvite, empty_record, CanBeEncoded, StationParts, IsSendFault, key_refusal, StationSide, station_key, take}
-use C.{RefusesSend, NoOperation, BadSequence, spelling_of, after_press, length-take, AreWritable, KeyReaction, HostSide}
-use C.{after_moves, ScreenParts, SendRefused, down_bytes, HostAnswer, after_move, NotAllowed, AnswerPart, SendFailed, ℕ}
-use C.{host_sends, WorldParts, KeyRefused, KeyRefusal, append-nil, RefusesKey, after_send, HostParts, answer_of, Opcode}
-use C.{AtStation, Attention, host_send, host_sent, screen_at, SendFault, HostLeads, new_world, IsInRange, KeyFailed, []}
-use C.{KeyFault, AreBytes, NoMemory, NotReady, ReadKind, up_bytes, IsLegal, Element, Signals, presses, Answers, IsKeyed}
-use C.{arrived, Request, Silent, header, TooBig, AtHost, Option, length, PutGet, IsSent, Result, Attend, false, arith}
-use C.{subst, Press, IsKey, World, Event, refl, None, true, Item, Send, Move, List, Some, IfOk, Bool, Read, ◌++◌, ◌∙◌}
-use C.{SRQ, ATN, ◌^◌, sym, ◌≡◌, ◌<◌, ◌∷◌, Key, ◌+◌, Err, ap₂, ◌≤◌, Ok, ap}
+use C.{answer_spelling, station_pressed, flat_map-append, record_spelling, plain_spelling, key_by_refusal, StationLeads}
+use C.{SystemRequest, item_spelling, answer_record, header_length, if◌then◌else◌, element_rules, SendReaction, NoMemory}
+use C.{empty_record, CanBeEncoded, answer_rules, StationParts, answer_parts, CancelInvite, answers_read, TerminalType}
+use C.{NoOperation, IsSendFault, after_press, AreWritable, SendRefused, KeyReaction, key_refusal, after_moves, AreBytes}
+use C.{RefusesSend, ScreenParts, station_key, spelling_of, StationSide, length-take, HostAnswer, one_screen, after_move}
+use C.{down_bytes, host_sends, AnswerPart, RefusesKey, after_send, KeyRefusal, SendFailed, KeyRefused, append-nil, Move}
+use C.{WorldParts, screen_at, answer_of, host_send, Attention, new_world, IsInRange, KeyFailed, HostLeads, AtStation, ℕ}
+use C.{host_sent, HostParts, SendFault, NotReady, up_bytes, HostSide, KeyFault, ReadKind, Signals, presses, Element, []}
+use C.{IsLegal, IsKeyed, arrived, Answers, Result, header, Option, length, AtHost, PutGet, Opcode, Silent, IsSent, ◌++◌}
+use C.{false, Press, subst, World, Event, arith, IsKey, List, take, Item, Bool, Runs, IfOk, Read, refl, Some, None, ◌≤◌}
+use C.{Send, true, ◌+◌, ap₂, ◌^◌, ◌∙◌, ◌≡◌, sym, ◌<◌, ◌∷◌, Key, SRQ, ATN, Err, ap, Ok}
 use Rattle.ws_session.proofs.Flights.{writable_append, still_led, not_more}
 use Rattle.ws_session.proofs.Betweens.{Sound}
 use Rattle.ws_session.proofs.Worlds.{sound}
 use Rattle.ws_code.specs.Aid.{IsAid}
 use Rattle.ws_keys.specs.declared.answer.Answer.{Answer}
-use Rattle.ws_keys.proofs.WholeLaws.{answer_short, answer_whole}
+use Rattle.ws_keys.proofs.WholeLaws.{answer_whole, answer_short}
 
 -- A running session is a world that its moves lead to.
 
@@ -137,12 +136,7 @@ pub refrains : (reaction : SendReaction) (fault : SendFault) → (fault ≡ NoMe
     → reaction ≡ RefusesSend fault
 refrains reaction SendFailed ne f = absurd f
 refrains reaction NoMemory ne f = absurd (ne refl)
-refrains reaction NotAllowed ne f = f
-refrains reaction ReadOutstanding ne f = f
-refrains reaction NoReadToCancel ne f = f
-refrains reaction BadSequence ne f = f
-refrains reaction (RefusedByScreen reason) ne f = f
-refrains reaction TooBig ne f = f
+refrains reaction fault ne f = f
 
 -- What a key makes of a running session.
 
@@ -159,8 +153,6 @@ aid_is s key h = by_ready _ where
 
   by_key : (key : Key) → IsKey key → AidIs (presses s key)
   by_key (Send aid) h = by_kind aid h _
-  by_key Attend h = tt
-  by_key Request h = tt
   by_key key h = tt
 
   by_refusal : (o : Option KeyRefusal) → AidIs (key_by_refusal s key o)

@@ -30,8 +30,7 @@ pushed_at_last : (old mid new : StationParts) (bytes : List ℕ) (items : List (
     (bytes ++ byte ∷ []) items side (Err refusal) → IsPushed old new bytes items side byte (Err refusal)
 pushed_at_last old mid new bytes items side byte (At place reason) same f =
     (omega (arith, f.0, length-append bytes (byte ∷ [])), f.1 ∙ same, f.2)
-pushed_at_last old mid new bytes items side byte Failed same f = f
-pushed_at_last old mid new bytes items side byte Memory same f = f
+pushed_at_last old mid new bytes items side byte why same f = f
 
 module _ (bytes : List ℕ) (items : List (Item Element)) (side : StationSide) (piece : List ℕ) (i : ℕ)
     (now : StationParts) (before : HasFed now bytes items side (take i piece) [] false) where

@@ -11,14 +11,13 @@ use C.{Refuses, GoesOn, AreWritable, StationSide, station_takes, station_applies
 use Rattle.ws_telnet.specs.declared.codes.TheConstants.{BINARY, END_OF_RECORD}
 use Rattle.ws_nego.specs.declared.options.OptionTable.{OptionTable}
 use Rattle.ws_nego.specs.declared.host.Mode.{Mode}
-use Rattle.ws_nego.specs.declared.host.Mode.TheVariants.{Off, Asked, On}
+use Rattle.ws_nego.specs.declared.host.Mode.TheVariants.{On}
 use Rattle.ws_nego.specs.declared.host.TerminalName.{TerminalName}
-use Rattle.ws_nego.specs.declared.host.TerminalName.TheVariants.{Unknown, Requested, Accepted}
+use Rattle.ws_nego.specs.declared.host.TerminalName.TheVariants.{Requested}
 use Rattle.ws_telnet.specs.declared.token.Verb.TheVariants.{Do, Will}
 use Rattle.ws_telnet.specs.declared.token.Verb.{Verb}
 use Rattle.ws_nego.specs.declared.options.Direction.{Direction}
-use Rattle.ws_nego.specs.declared.terminal.TerminalType.TheVariants.{Ibm5251Model11, Ibm5291Model1, Ibm5292Model2}
-use Rattle.ws_nego.specs.declared.terminal.TerminalType.TheVariants.{Ibm3196ModelA1, Ibm3179Model2}
+use Rattle.ws_nego.specs.declared.terminal.TerminalType.TheVariants.{Ibm5251Model11}
 use Rattle.ws_session.proofs.Flights.{all_append}
 
 -- What an end answers to an item that can be written can be written.
@@ -37,10 +36,7 @@ option_in_range (Some verb) option h = (h, tt)
 
 name_in_range : (t : TerminalType) → IsTelnet (name_answer t)
 name_in_range Ibm5251Model11 = search rules
-name_in_range Ibm5291Model1 = search rules
-name_in_range Ibm5292Model2 = search rules
-name_in_range Ibm3196ModelA1 = search rules
-name_in_range Ibm3179Model2 = search rules
+name_in_range t = search rules
 
 reply_in_range : (s : StationState) (token : Telnet) → IsTelnet token → AllByRecursion IsTelnet
     (station_answer s token).reply
@@ -95,8 +91,7 @@ Ranges (Some answer) = AllByRecursion IsTelnet answer.reply
 request_in_range : (mode : Mode) (verb : Verb) (option : ℕ) → option < 256 → AllByRecursion IsTelnet
     (request mode verb option)
 request_in_range On verb option h = tt
-request_in_range Off verb option h = (h, tt)
-request_in_range Asked verb option h = (h, tt)
+request_in_range mode verb option h = (h, tt)
 
 requests_in_range : (modes : OptionTable Mode) → AllByRecursion IsTelnet (requests modes)
 requests_in_range modes =
@@ -135,8 +130,7 @@ host_reply_in_range h (Subnegotiate sub) r = by_name _ where
 
   by_known : (n : TerminalName) (name : List ℕ) → Ranges (host_name_answer h n name)
   by_known Requested name = by_terminal _
-  by_known Unknown name = tt
-  by_known (Accepted terminal) name = tt
+  by_known n name = tt
 
   by_name : (o : Option (List ℕ)) → Ranges (host_sub_answer h o)
   by_name None = tt
