@@ -16,6 +16,7 @@ use Rattle.ws_session.proofs.Betweens.{ups, Up}
 use Rattle.ws_session.proofs.BetweenSteps.{station_record, station_token, answer_items, host_signal, answers_to}
 use Rattle.ws_session.proofs.BetweenSteps.{host_reply, host_token, host_end}
 use Rattle.ws_session.proofs.Orders.{up_next, x_none}
+use Rattle.std.proofs.lemmas.Bool.{cases_Bool}
 
 -- A byte comes to the station of a session.
 
@@ -75,13 +76,10 @@ module _ (t : TerminalType) where
     -- the next byte that is in flight to the station, or there is none
     pub next_down : (s : Sound t w) → Down t s.ex w.down (w.at_station + 1) (byte_to_station w)
         ⊎ ((byte_to_station w ≡ w) × (length (down_bytes w) ≤ w.at_station))
-    next_down s = by_test _ refl where
-      by_test : (b : Bool) → nat_lt w.at_station (length (down_bytes w)) ≡ b → Down t s.ex w.down (w.at_station + 1)
-          (if b then station_gets byte_on w.station_refused (ending_at element_rules w.down (w.at_station + 1))
-          else w) ⊎ (((if b then station_gets byte_on w.station_refused
-          (ending_at element_rules w.down (w.at_station + 1)) else w) ≡ w) × (length (down_bytes w) ≤ w.at_station))
-      by_test false e = inr (refl, ltb-false w.at_station (length (down_bytes w)) e)
-      by_test true e = inl (arrived_down s (ltb-true w.at_station (length (down_bytes w)) e))
+    next_down s = elim (cases_Bool (nat_lt w.at_station (length (down_bytes w)))) [
+      | inl e ↦ rw e (inl (arrived_down s (ltb-true w.at_station (length (down_bytes w)) e)))
+      | inr e ↦ rw e (inr (refl, ltb-false w.at_station (length (down_bytes w)) e))
+    ]
 
     pub byte_down : Sound t w → Sound t (byte_to_station w)
     byte_down s = elim (next_down s) [ inl d ↦ d.sound | inr q ↦ subst (Sound t) (sym q.0) s ]
@@ -184,13 +182,10 @@ module _ (t : TerminalType) where
     -- the next byte that is in flight to the host end, or there is none
     pub next_up : (s : Sound t w) → Up t s.ex w.up (w.at_host + 1) s.ds (byte_to_host w)
         ⊎ ((byte_to_host w ≡ w) × (length (up_bytes w) ≤ w.at_host))
-    next_up s = by_test (nat_lt w.at_host (length (up_bytes w))) refl where
-      by_test : (b : Bool) → nat_lt w.at_host (length (up_bytes w)) ≡ b → Up t s.ex w.up (w.at_host + 1) s.ds
-          (if b then host_gets byte_off w.host_refused (ending_at answer_rules w.up (w.at_host + 1)) else w)
-          ⊎ (((if b then host_gets byte_off w.host_refused (ending_at answer_rules w.up (w.at_host + 1)) else w) ≡ w)
-          × (length (up_bytes w) ≤ w.at_host))
-      by_test false e = inr (refl, ltb-false w.at_host (length (up_bytes w)) e)
-      by_test true e = inl (arrived_up s (ltb-true w.at_host (length (up_bytes w)) e))
+    next_up s = elim (cases_Bool (nat_lt w.at_host (length (up_bytes w)))) [
+      | inl e ↦ rw e (inl (arrived_up s (ltb-true w.at_host (length (up_bytes w)) e)))
+      | inr e ↦ rw e (inr (refl, ltb-false w.at_host (length (up_bytes w)) e))
+    ]
 
     pub byte_up : Sound t w → Sound t (byte_to_host w)
     byte_up s = elim (next_up s) [ inl d ↦ d.sound | inr q ↦ subst (Sound t) (sym q.0) s ]

@@ -1,13 +1,14 @@
 use Rattle.ws_session.proofs.Common as C
-use C.{nat_lt, if◌then◌else◌, ℕ, zero, suc, ◌+◌, List, Bool, true, false, Option, Some, None, length, Item, Element}
-use C.{AnswerPart, element_rules, answer_rules, ending_at, Reaction, StationSide, HostSide, HostOutput}
-use C.{station_takes, host_takes, World, down_bytes, up_bytes, station_did, station_gets, host_did, host_gets}
-use C.{byte_to_station, byte_to_host, bytes_to_station, bytes_to_host, ◌≡◌, [], ◌∷◌, ◌++◌, refl, ap, TerminalType}
-use C.{HostEvent, Event, Host, KeyRefused, SendRefused, Move, Cancel, ToStation, ToHost, Press, SendReaction}
-use C.{RefusesSend, Sends, Refuses, GoesOn, is_refusal, refusals_in, KeyReaction, RefusesKey}
-use C.{new_world, events_with, station_pressed, host_sent, after_move, after_moves}
+use C.{bytes_to_station, byte_to_station, station_pressed, station_takes, bytes_to_host, if◌then◌else◌, element_rules}
+use C.{station_gets, answer_rules, TerminalType, SendReaction, byte_to_host, refusals_in, SendRefused, KeyReaction, suc}
+use C.{station_did, after_moves, StationSide, events_with, RefusesSend, KeyRefused, host_takes, after_move, down_bytes}
+use C.{AnswerPart, is_refusal, HostOutput, RefusesKey, HostEvent, host_gets, new_world, ending_at, ToStation, host_sent}
+use C.{HostSide, Reaction, up_bytes, host_did, Element, Refuses, ToHost, GoesOn, Option, length, nat_lt, Cancel, Sends}
+use C.{Event, World, false, Press, List, Host, Item, zero, ◌++◌, true, Some, Move, Bool, None, refl, ◌∷◌, inr, ◌+◌, ◌≡◌}
+use C.{inl, ap, [], ℕ}
 use Rattle.ws_session.specs.declared.world.Move.TheVariants.{Send}
 use Rattle.ws_session.proofs.Worlds.{sound}
+use Rattle.std.proofs.lemmas.Bool.{cases_Bool}
 
 -- What stays true of a session at an item that arrives stays true at bytes.
 
@@ -51,11 +52,10 @@ IsCalm w = w.station_refused ≡ false → w.host_refused ≡ false → refusals
 one_more : (events : List Event) (e : Event) → is_refusal e ≡ false → refusals_in events ≡ []
     → refusals_in (events ++ e ∷ []) ≡ []
 one_more [] e calm none = ap (λ (b : Bool). if b then e ∷ [] else []) calm
-one_more (x ∷ xs) e calm none = by_test _ none (λ q. one_more xs e calm q) where
-  by_test : (b : Bool) → (if b then x ∷ refusals_in xs else refusals_in xs) ≡ [] → (refusals_in xs ≡ [] → refusals_in
-      (xs ++ e ∷ []) ≡ []) → (if b then x ∷ refusals_in (xs ++ e ∷ []) else refusals_in (xs ++ e ∷ [])) ≡ []
-  by_test true q rest = cc
-  by_test false q rest = rest q
+one_more (x ∷ xs) e calm none = elim (cases_Bool (is_refusal x)) [
+  | inl r ↦ (let never : x ∷ refusals_in xs ≡ [] = rw r at none in cc)
+  | inr r ↦ rw r (one_more xs e calm (rw r at none))
+]
 
 tells : (events : List Event) (event : Option HostEvent) → refusals_in events ≡ []
     → refusals_in (events_with events event) ≡ []

@@ -1,15 +1,16 @@
 use Rattle.ws_session.proofs.Common as C
 use C.{failed_within_both, take-append-drop, new_station_side, outcome_of_both, keys_left_from, StationRefuses, Outcome}
-use C.{went_out_both, went_out_none, length-append, if◌then◌else◌, refusal_count, RunUnwritten, TerminalType, take_more}
+use C.{went_out_both, went_out_none, length-append, refusal_count, RunUnwritten, TerminalType, take_more}
 use C.{StationLeads, records_from, append_assoc, moments_from, FailedWithin, idle_outcome, StationParts, StationGoes, ℕ}
 use C.{StationSide, applied_by, IsRunFault, one_record, TelnetItem, append-nil, RecordItem, AtStation, Fault}
 use C.{IsUntaken, at_moment, fault_of, run_text, AreTaken, Applied, MayTake, HasDone, HasCome, Element, at_item, Moment}
 use C.{WentOut, Refused, Presses, Refusal, outcome, IsTaken, moments, behind, nat_lt, length, get_or, Player}
-use C.{false, arith, subst, Write, later, take, drop, refl, true, Item, Came, List, Bool, ◌++◌, ◌∙◌, min, ◌^◌, sym, ◌≡◌}
+use C.{arith, subst, Write, later, take, drop, refl, Item, Came, List, ◌++◌, ◌∙◌, min, ◌^◌, sym, ◌≡◌}
 use C.{◌<◌, ◌∷◌, Key, inl, ◌-◌, ◌+◌, inr, due, ◌≤◌, [], At, ap}
 use Rattle.ws_session.specs.Moments.{goes_on, Arrives}
 use Rattle.ws_session.proofs.EndSteps.{station_went, Went}
 use Rattle.ws_session.proofs.Plays.{outcome_append, text_append, later_by, none_due, text_of}
+use Rattle.std.proofs.lemmas.Bool.{cases_Bool}
 
 -- What a byte makes of a run's player.
 
@@ -36,11 +37,11 @@ records_more n (i ∷ items) item = records_more (n + one_record i) items item
 
 due_later : (n : ℕ) (keys : List (ℕ × Key)) → (due n (later n keys) ≡ []) × (later n (later n keys) ≡ later n keys)
 due_later n [] = (refl, refl)
-due_later n (k ∷ ks) = by_test _ refl (due_later n ks) where
-  by_test : (b : Bool) → nat_lt n k.0 ≡ b → (due n (later n ks) ≡ []) × (later n (later n ks) ≡ later n ks)
-      → (due n (later n (k ∷ ks)) ≡ []) × (later n (later n (k ∷ ks)) ≡ later n (k ∷ ks))
-  by_test true e next = let q = none_due n k ks e in (ap (due n) q.1 ∙ q.0, ap (later n) q.1)
-  by_test false e next = let q = later_by n k ks e in (ap (due n) q ∙ next.0, ap (later n) q ∙ next.1 ∙ sym q)
+due_later n (k ∷ ks) = elim (cases_Bool (nat_lt n k.0)) [
+  | inl e ↦ (let q = none_due n k ks e in (ap (due n) q.1 ∙ q.0, ap (later n) q.1))
+  | inr e ↦ (let q = later_by n k ks e in
+      let next = due_later n ks in (ap (due n) q ∙ next.0, ap (later n) q ∙ next.1 ∙ sym q))
+]
 
 -- behind items no key is due
 pub left_settled : (n : ℕ) (keys : List (ℕ × Key)) (items : List (Item Element))
@@ -56,11 +57,10 @@ taken_append s (m ∷ ms) ns a b = (a.0, taken_append (at_moment s m).side ms ns
 
 pub keys_taken : (s : StationSide) (n : ℕ) (ks : List (ℕ × Key)) → AreTaken s (due n ks)
 keys_taken s n [] = tt
-keys_taken s n (k ∷ ks) = by_test _ (keys_taken (at_moment s (Presses k.1)).side n ks) where
-  by_test : (b : Bool) → AreTaken (at_moment s (Presses k.1)).side (due n ks)
-      → AreTaken s (if b then [] else Presses k.1 ∷ due n ks)
-  by_test true rest = tt
-  by_test false rest = (refl, rest)
+keys_taken s n (k ∷ ks) = elim (cases_Bool (nat_lt n k.0)) [
+  | inl e ↦ rw e tt
+  | inr e ↦ rw e (refl, keys_taken (at_moment s (Presses k.1)).side n ks)
+]
 
 -- a record is told, and nothing else
 one_of : (item : Item Element) → [] ≡ applied_by item → one_record item ≡ 0

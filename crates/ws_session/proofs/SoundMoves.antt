@@ -1,31 +1,26 @@
 use Rattle.ws_session.proofs.Common as C
-use C.{station_allows_records, host_allows_records, host_sends_body, RefusedByScreen, ReadOutstanding, station_pressed}
-use C.{NoReadToCancel, after_elements, key_by_refusal, is_outstanding, element_rules, if◌then◌else◌, answers_read, ◌&&◌}
-use C.{SendReaction, answer_parts, TerminalType, answer_rules, CancelInvite, append_assoc, empty_record, pending_read}
-use C.{sent_record, key_refusal, station_key, RefusesSend, NoOperation, BadSequence, host_cancel, after_press, KeyFault}
-use C.{aids_answer, SendRefused, answers_in, asked_read, HostAnswer, NotAllowed, SendFailed, host_sends, body_fault, []}
-use C.{KeyRefused, is_too_big, KeyRefusal, is_aid_key, RefusesKey, RecordItem, after_send, events_by, after_end, Reason}
-use C.{answer_of, host_send, after_key, host_sent, screen_at, SendFault, KeyFailed, NotReady, ReadKind, edit_of, Opcode}
-use C.{Element, presses, is_some, is_body, TooBig, Option, false, arith, subst, Sends, sends, World, refl, None, true}
-use C.{Send, List, Some, Bool, ◌++◌, not, ◌∙◌, SRQ, ATN, sym, ◌≡◌, ◌∷◌, Key, ap, ℕ}
+use C.{station_allows_records, host_allows_records, station_pressed, host_sends_body, ReadOutstanding, RefusedByScreen}
+use C.{is_outstanding, after_elements, NoReadToCancel, key_by_refusal, if◌then◌else◌, element_rules, answers_read, None}
+use C.{answer_rules, append_assoc, CancelInvite, answer_parts, pending_read, empty_record, TerminalType, SendReaction}
+use C.{sent_record, SendRefused, host_cancel, station_key, aids_answer, RefusesSend, NoOperation, key_refusal, ReadKind}
+use C.{after_press, BadSequence, answers_in, after_send, RecordItem, host_sends, KeyRefusal, HostAnswer, is_aid_key, ap}
+use C.{SendFailed, is_too_big, KeyRefused, NotAllowed, body_fault, RefusesKey, events_by, screen_at, KeyFailed, is_some}
+use C.{answer_of, after_end, answer_in, after_key, host_sent, host_send, NotReady, Element, presses, edit_of, is_body}
+use C.{TooBig, Option, Opcode, Reason, Event, World, sends, arith, subst, false, Sends, true, List, ◌++◌, Some, Bool, ℕ}
+use C.{Send, ◌&&◌, refl, not, ATN, ◌∷◌, Key, ◌∙◌, sym, ◌≡◌, inl, SRQ, inr, []}
 use Rattle.ws_keys.specs.declared.key.Key.TheVariants.{SystemRequest, Attention}
 use Rattle.ws_session.proofs.Flights.{InFlight, written}
-use Rattle.ws_session.proofs.Betweens.{records_down, quiet_event, with_posted, with_sents, records_up, Replies, is_stop}
-use Rattle.ws_session.proofs.Betweens.{Posted, sounds, Signal, posted, tokens, sents, Sound, Body, Sent, Stop}
-use Rattle.ws_session.proofs.BetweenKeys.{pending-keyed, sends_cancel, key_silent, key_answer, key_signal, sends_body}
+use Rattle.ws_session.proofs.Betweens.{records_down, quiet_event, with_posted, with_sents, records_up, is_stop, Replies}
+use Rattle.ws_session.proofs.Betweens.{sounds, Signal, posted, tokens, Posted, Sound, sents, Body, Stop, Sent}
+use Rattle.ws_session.proofs.BetweenKeys.{pending-keyed, sends_cancel, key_signal, sends_body, key_silent, key_answer}
+use Rattle.std.proofs.lemmas.Bool.{cases_Bool}
 
 -- A key, a send or a cancel in a session.
 
 module _ (t : TerminalType) where
-  key_refused : (w : World) (fault : KeyFault) → Sound t w
-      → Sound t (record w { events = w.events ++ KeyRefused fault ∷ [] })
-  key_refused w fault s = sounds s.ts s.us s.ds s.es s.later s.ex s.between s.down s.up (s.answered ∙ ap (λ l. l ++
-      s.later) (sym (quiet_event w.events (KeyRefused fault) refl))) s.count s.station_going s.host_going
-
-  send_refused : (w : World) (fault : SendFault) → Sound t w
-      → Sound t (record w { events = w.events ++ SendRefused fault ∷ [] })
-  send_refused w fault s = sounds s.ts s.us s.ds s.es s.later s.ex s.between s.down s.up (s.answered ∙ ap (λ l. l ++
-      s.later) (sym (quiet_event w.events (SendRefused fault) refl))) s.count s.station_going s.host_going
+  untold : (w : World) (e : Event) → answer_in e ≡ [] → Sound t w → Sound t (record w { events = w.events ++ e ∷ [] })
+  untold w e quiet s = sounds s.ts s.us s.ds s.es s.later s.ex s.between s.down s.up
+      (s.answered ∙ ap (λ l. l ++ s.later) (sym (quiet_event w.events e quiet))) s.count s.station_going s.host_going
 
   must_allow : (b : Bool) → (true && not b) ≡ false → b ≡ true
   must_allow true e = refl
@@ -71,7 +66,7 @@ module _ (t : TerminalType) where
     by_refusal : (key : Key) → (sends key && not (station_allows_records w.station.options)) ≡ false
         → (r : Option KeyRefusal) → Sound t (station_pressed w (key_by_refusal w.station key r))
     by_refusal key e None = by_key key e
-    by_refusal key e (Some refusal) = key_refused w _ s
+    by_refusal key e (Some refusal) = untold w (KeyRefused _) refl s
 
     pub press : (key : Key) → Sound t (after_press w key)
     press key = subst (λ (z : Bool). Sound t (station_pressed w
@@ -79,7 +74,7 @@ module _ (t : TerminalType) where
           by_test : (b : Bool) → (sends key && not (station_allows_records w.station.options)) ≡ b
               → Sound t (station_pressed w (if b then RefusesKey NotReady else key_by_refusal w.station key
               (key_refusal (screen_at w.station) key)))
-          by_test true e = key_refused w _ s
+          by_test true e = untold w (KeyRefused NotReady) refl s
           by_test false e = by_refusal key e _
 
     -- SENDS
@@ -91,7 +86,16 @@ module _ (t : TerminalType) where
 
     send_body : (o : Opcode) → is_stop o ≡ false → (body : List Element)
         → Sound t (host_sent w (host_send w.host o body))
-    send_body o other body = by_allowed (host_allows_records w.host.options) refl where
+    send_body o other body = elim (cases_Bool (host_allows_records w.host.options)) [
+      | inr e ↦ rw e (untold w (SendRefused NotAllowed) refl s)
+      | inl ready ↦ elim (cases_Bool (is_outstanding w.host body)) [
+        | inl e ↦ rw (ready, e) (untold w (SendRefused ReadOutstanding) refl s)
+        | inr out ↦ elim (cases_Bool (is_body body)) [
+          | inr e ↦ rw (ready, out, e) (untold w (SendRefused BadSequence) refl s)
+          | inl ok ↦ rw (ready, out, ok) (by_fault ok ready out (body_fault w.host.kept body) refl)
+        ]
+      ]
+    ] where
       by_size : is_body body ≡ true → host_allows_records w.host.options ≡ true
           → is_outstanding w.host body ≡ false → body_fault w.host.kept body ≡ None
           → (b : Bool) → Sound t (host_sent w (if b then RefusesSend TooBig else Sends (record {
@@ -99,7 +103,7 @@ module _ (t : TerminalType) where
             kept = after_end (after_elements w.host.kept body);
             cancelling = w.host.cancelling;
           }) (RecordItem (sent_record o body))))
-      by_size ok ready out none true = send_refused w TooBig s
+      by_size ok ready out none true = untold w (SendRefused TooBig) refl s
       by_size ok ready out none false = sounds s.ts s.us (s.ds ++ Body o other body ok ∷ []) s.es s.later s.ex
           (sends_body s.between o other body ok ready out none) (sent_down (Body o other body ok)) s.up s.answered
           (omega (arith, s.count, with_posted w.down (Body o other body ok ∷ []))) s.station_going s.host_going
@@ -108,44 +112,21 @@ module _ (t : TerminalType) where
           → (f : Option Reason) → body_fault w.host.kept body ≡ f
           → Sound t (host_sent w (host_sends_body w.host o body f))
       by_fault ok ready out None none = by_size ok ready out none (is_too_big (sent_record o body))
-      by_fault ok ready out (Some reason) e = send_refused w (RefusedByScreen reason) s
-
-      by_body : host_allows_records w.host.options ≡ true
-          → is_outstanding w.host body ≡ false → (b : Bool) → is_body body ≡ b → Sound t (host_sent w
-          (if not b then RefusesSend BadSequence else host_sends_body w.host o body (body_fault w.host.kept body)))
-      by_body ready out true ok = by_fault ok ready out (body_fault w.host.kept body) refl
-      by_body ready out false ok = send_refused w BadSequence s
-
-      by_outstanding : host_allows_records w.host.options ≡ true → (b : Bool) → is_outstanding w.host body ≡ b
-          → Sound t (host_sent w (if b then RefusesSend ReadOutstanding else (if not (is_body body)
-          then RefusesSend BadSequence else host_sends_body w.host o body (body_fault w.host.kept body))))
-      by_outstanding ready true e = send_refused w ReadOutstanding s
-      by_outstanding ready false e = by_body ready e (is_body body) refl
-
-      by_allowed : (b : Bool) → host_allows_records w.host.options ≡ b → Sound t (host_sent w (if not b then RefusesSend
-          NotAllowed else (if is_outstanding w.host body then RefusesSend ReadOutstanding else (if not (is_body body)
-          then RefusesSend BadSequence else host_sends_body w.host o body (body_fault w.host.kept body)))))
-      by_allowed false e = send_refused w NotAllowed s
-      by_allowed true e = by_outstanding e (is_outstanding w.host body) refl
+      by_fault ok ready out (Some reason) e = untold w (SendRefused (RefusedByScreen reason)) refl s
 
     pub cancel : Sound t (host_sent w (host_cancel w.host))
-    cancel = by_allowed (host_allows_records w.host.options) refl where
+    cancel = elim (cases_Bool (host_allows_records w.host.options)) [
+      | inr e ↦ rw e (untold w (SendRefused NotAllowed) refl s)
+      | inl ready ↦ rw ready (by_test ready (pending_read w.host.kept) refl w.host.cancelling refl)
+    ] where
       by_test : host_allows_records w.host.options ≡ true → (o : Option ReadKind) → pending_read w.host.kept ≡ o
           → (c : Bool) → w.host.cancelling ≡ c → Sound t (host_sent w (if is_some o && not c then Sends
           (record { options = w.host.options; kept = w.host.kept; cancelling = true })
           (empty_record 0 CancelInvite) else RefusesSend NoReadToCancel))
-      by_test ready None e c f = send_refused w NoReadToCancel s
-      by_test ready (Some kind) e true f = send_refused w NoReadToCancel s
       by_test ready (Some kind) e false f = sounds s.ts s.us (s.ds ++ Stop ∷ []) s.es s.later s.ex
           (sends_cancel s.between kind ready e f) (sent_down Stop) s.up
           s.answered (omega (arith, s.count, with_posted w.down (Stop ∷ []))) s.station_going s.host_going
-
-      by_allowed : (b : Bool) → host_allows_records w.host.options ≡ b
-          → Sound t (host_sent w (if not b then RefusesSend NotAllowed else (if is_some (asked_read w.host) && not
-          w.host.cancelling then Sends (record { options = w.host.options; kept = w.host.kept; cancelling = true })
-          (empty_record 0 CancelInvite) else RefusesSend NoReadToCancel)))
-      by_allowed false e = send_refused w NotAllowed s
-      by_allowed true e = by_test e (pending_read w.host.kept) refl w.host.cancelling refl
+      by_test ready o e c f = untold w (SendRefused NoReadToCancel) refl s
 
     pub by_opcode : (o : Opcode) (body : List Element) → Sound t (host_sent w (host_sends w.host o body))
     by_opcode CancelInvite body = cancel

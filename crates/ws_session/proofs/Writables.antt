@@ -1,24 +1,25 @@
 use Rattle.ws_session.proofs.Common as C
-use C.{if◌then◌else◌, ◌≡◌, ℕ, ◌<◌, Bool, true, false, List, [], ◌∷◌, Option, Some, None, refl, ap, ◌∙◌, sym, map}
-use C.{rules, arith, AllByRecursion, Reason, RecordBeforeNegotiation, Answer, HostState, host_answer}
-use C.{host_option_answer, host_table_answer, host_sub_answer, host_name_answer, host_judgement, after_name_request}
-use C.{is_name_offered, request, requests, name_request, ReadKind, HostAnswer, HostSide, HostOutput}
-use C.{host_negotiates, host_reads, host_reads_by, host_ends_cancel, host_takes_record, host_takes, IsTelnet}
-use C.{Telnet, Command, Negotiate, Subnegotiate, option_tokens, StationState, name_answer, station_option_answer}
-use C.{station_answer, station_allows_records, Opcode, NoOperation, PutGet, CancelInvite, RecordItem, TelnetItem}
-use C.{body_fault, TerminalType, Item, IsInRange, answer_rules, element_rules, AnswerPart, Element, Reaction}
-use C.{Refuses, GoesOn, AreWritable, StationSide, station_takes, station_applies, opcode_answer}
-use Rattle.ws_telnet.specs.declared.codes.TheConstants.{BINARY, END_OF_RECORD}
+use C.{RecordBeforeNegotiation, station_allows_records, station_option_answer, host_option_answer, after_name_request}
+use C.{host_takes_record, host_table_answer, host_name_answer, host_ends_cancel, station_applies, host_sub_answer, None}
+use C.{is_name_offered, host_negotiates, host_judgement, station_answer, AllByRecursion, station_takes, host_reads_by}
+use C.{opcode_answer, if◌then◌else◌, element_rules, option_tokens, Subnegotiate, StationState, answer_rules, RecordItem}
+use C.{CancelInvite, TerminalType, name_request, AreWritable, host_answer, name_answer, NoOperation, StationSide, arith}
+use C.{host_takes, AnswerPart, HostOutput, HostAnswer, host_reads, body_fault, TelnetItem, IsInRange, Negotiate, Telnet}
+use C.{HostState, ReadKind, IsTelnet, Reaction, requests, HostSide, Element, Refuses, request, Command, PutGet, Option}
+use C.{GoesOn, Opcode, Answer, Reason, false, rules, true, List, Some, Bool, Item, refl, ◌∷◌, map, ◌<◌, ◌∙◌, sym, ◌≡◌}
+use C.{inl, inr, ap, [], ℕ}
+use Rattle.ws_telnet.specs.declared.codes.TheConstants.{END_OF_RECORD, BINARY}
 use Rattle.ws_nego.specs.declared.options.OptionTable.{OptionTable}
 use Rattle.ws_nego.specs.declared.host.Mode.{Mode}
 use Rattle.ws_nego.specs.declared.host.Mode.TheVariants.{On}
 use Rattle.ws_nego.specs.declared.host.TerminalName.{TerminalName}
 use Rattle.ws_nego.specs.declared.host.TerminalName.TheVariants.{Requested}
-use Rattle.ws_telnet.specs.declared.token.Verb.TheVariants.{Do, Will}
+use Rattle.ws_telnet.specs.declared.token.Verb.TheVariants.{Will, Do}
 use Rattle.ws_telnet.specs.declared.token.Verb.{Verb}
 use Rattle.ws_nego.specs.declared.options.Direction.{Direction}
 use Rattle.ws_nego.specs.declared.terminal.TerminalType.TheVariants.{Ibm5251Model11}
 use Rattle.ws_session.proofs.Flights.{all_append}
+use Rattle.std.proofs.lemmas.Bool.{cases_Bool}
 
 -- What an end answers to an item that can be written can be written.
 
@@ -60,24 +61,15 @@ pub answers_writable : (side : StationSide) (item : Item Element) (next : Statio
 answers_writable side (TelnetItem token) next writes range e =
     let same : map TelnetItem (station_answer side.options token).reply ≡ writes = ap (written_of []) e in
     rw (← same) (tokens_writable (station_answer side.options token).reply (reply_in_range side.options token range))
-answers_writable side (RecordItem r) next writes range e = by_test _ refl where
-  by_fault : (o : Option Reason) → body_fault side.happened r.body ≡ o → station_allows_records side.options ≡ true
-      → AreWritable answer_rules writes
-  by_fault None f a =
-      let same : opcode_answer r.opcode ≡ writes = ap (written_of []) (sym (ap (λ b. if b then station_applies side r
-      (body_fault side.happened r.body) else Refuses RecordBeforeNegotiation) a ∙ ap (station_applies side r) f) ∙ e) in
-      rw (← same) (opcode_writable r.opcode)
-  by_fault (Some reason) f a =
-      let never : Refuses reason ≡ GoesOn next _ = sym (ap (λ b. if b then station_applies side r (body_fault
-      side.happened r.body) else Refuses RecordBeforeNegotiation) a ∙ ap (station_applies side r) f) ∙ e in
-      cc
-
-  by_test : (b : Bool) → station_allows_records side.options ≡ b → AreWritable answer_rules writes
-  by_test true a = by_fault _ refl a
-  by_test false a =
-      let never : Refuses RecordBeforeNegotiation ≡ GoesOn next _ = sym (ap (λ b. if b then station_applies side r
-      (body_fault side.happened r.body) else Refuses RecordBeforeNegotiation) a) ∙ e in
-      cc
+answers_writable side (RecordItem r) next writes range e = elim (cases_Bool (station_allows_records side.options))
+    [ inl a ↦ by_fault _ refl (rw a at e) | inr a ↦ (let never = rw a at e in cc) ] where
+      by_fault : (o : Option Reason) → body_fault side.happened r.body ≡ o → station_applies side r
+          (body_fault side.happened r.body) ≡ GoesOn next writes → AreWritable answer_rules writes
+      by_fault None f a =
+          let same : opcode_answer r.opcode ≡ writes = ap (written_of []) (sym (ap (station_applies side r) f) ∙ a) in
+          rw (← same) (opcode_writable r.opcode)
+      by_fault (Some reason) f a =
+          let never : Refuses reason ≡ GoesOn next writes = sym (ap (station_applies side r) f) ∙ a in cc
 
 host_tokens_writable : (ts : List Telnet) → AllByRecursion IsTelnet ts → AreWritable element_rules (map TelnetItem ts)
 host_tokens_writable [] a = (tt, tt)
