@@ -1,21 +1,20 @@
 use Rattle.ws_session.proofs.Common as C
-use C.{element_prefix_free, bytes_to_station, station_at_item, byte_to_station, element_begins, length-take-le, as_list}
-use C.{plain_spelling, station_manner, StationRefused, StationRefuses, bytes_to_host, element_bytes, element_rules, ◌∙◌}
-use C.{station_takes, if◌then◌else◌, byte_to_host, TerminalType, StationLeads, host_at_item, answer_rules, IsHostPushed}
-use C.{AreDelivered, station_gets, StationParts, HostRefused, StationGoes, StationSide, AreWritable, HostRefuses, false}
-use C.{station_did, host_manner, events_with, down_bytes, HostOutput, AnswerPart, WorldParts, host_takes, false≢true, ℕ}
-use C.{append-nil, ending_at, HostParts, ToStation, host_gets, HasMemory, nat_tests, HostEvent, WireParts, HostLeads}
-use C.{HostSide, Reaction, IsPushed, host_did, flat_map, reported, up_bytes, HostGoes, Applied, Through, Element, arith}
-use C.{goes_on, Refusal, Refuses, arrived, ToHost, subst₂, nat_lt, Option, length, IsSome, GoesOn, get_or, Memory, Runs}
-use C.{Failed, subst, Comes, World, Event, take, refl, None, true, Item, Came, List, Host, Some, Bool, ◌++◌, ◌^◌, sym}
-use C.{◌≡◌, ◌<◌, ◌∷◌, inl, ◌+◌, Err, inr, ◌≤◌, [], At, ap}
-use Rattle.ws_session.proofs.Arriving.{refused_at_once}
+use C.{element_prefix_free, bytes_to_station, byte_to_station, station_at_item, plain_spelling, StationRefused, as_list}
+use C.{element_begins, StationRefuses, length-take-le, station_manner, element_bytes, station_takes, bytes_to_host, ◌^◌}
+use C.{element_rules, if◌then◌else◌, StationParts, station_gets, host_at_item, StationLeads, answer_rules, IsHostPushed}
+use C.{AreDelivered, byte_to_host, TerminalType, host_manner, HostRefused, HostRefuses, StationGoes, events_with, false}
+use C.{station_did, StationSide, AreWritable, WorldParts, host_takes, false≢true, append-nil, HostOutput, AnswerPart, ℕ}
+use C.{down_bytes, ending_at, HostParts, HostLeads, nat_tests, HasMemory, host_gets, ToStation, HostEvent, WireParts}
+use C.{up_bytes, flat_map, HostSide, Reaction, host_did, IsPushed, HostGoes, reported, Refuses, Applied, Refusal, Event}
+use C.{goes_on, arrived, Element, Through, IsSome, length, ToHost, subst₂, Failed, GoesOn, Option, nat_lt, Memory, Bool}
+use C.{get_or, World, arith, Comes, subst, ◌++◌, Some, None, Runs, true, Item, Host, List, Came, take, refl, ◌≤◌, ◌∷◌}
+use C.{◌+◌, Err, ◌<◌, ◌∙◌, ◌≡◌, sym, inl, inr, At, ap, []}
+use Rattle.ws_session.proofs.Arriving.{refused_at_once, delivered, many_on, stop}
 use Rattle.ws_session.proofs.EndSteps.{station_holds, host_holds, gone_none, gone_one}
 use Rattle.ws_session.proofs.Flights.{byte_more, ByteMore}
-use Rattle.ws_session.proofs.Writables.{answers_writable, host_writes_well, WritesWell}
+use Rattle.ws_session.proofs.Writables.{host_writes_well, answers_writable, WritesWell}
 use Rattle.ws_session.proofs.Bytes.{byte_down, byte_up}
 use Rattle.ws_session.proofs.Reached.{station_writes, going_station, host_writes, going_host, is_sound}
-use Rattle.ws_session.proofs.Delivered.{delivered, many_on, stop}
 use Rattle.ws_stream.specs.AnswerLaws.{part_prefix_free, part_begins, part_bytes}
 
 -- A byte comes to the station of a running session.
