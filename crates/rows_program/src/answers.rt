@@ -5,7 +5,8 @@ use std::process::Abort;
 use std::test::Fail;
 use ws_code::{Sink, VecSink};
 use ws_live::BufferedSink;
-use ws_program::{RunFault, Task, answer, answer_buffered, read_words, status};
+use ws_program::{RunFault, answer, answer_buffered, status};
+use ws_words::{Task, read_words};
 
 // What the program comes to, and what the sink is given.
 pub fn answer_words<R: Net<Listener = TcpListener, Stream = TcpStream> + AllocGlobal, S: Sink>(

@@ -5,7 +5,8 @@ use crate::same_at;
 use std::test::Fail;
 use ws_code::FailingSink;
 use ws_live::BufferedSink;
-use ws_program::{RunFault, Task, answer_buffered, hex_bytes, read_words};
+use ws_program::{RunFault, answer_buffered, hex_bytes};
+use ws_words::{Task, read_words};
 
 // A script and its lines with the screen; a capture of what its host sends, and what `check` and `show` print of it.
 struct Example<'a> {

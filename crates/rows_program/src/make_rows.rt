@@ -3,7 +3,8 @@ use crate::answers::{answer_words, expect_answer};
 use crate::{holds, same, same_at, same_bytes};
 use std::test::Fail;
 use ws_code::{FailingSink, VecSink};
-use ws_program::{Asked, RunFault, answer};
+use ws_program::{RunFault, answer};
+use ws_words::Asked;
 
 const MAKE: &[&str] = &["t5250", "make"];
 

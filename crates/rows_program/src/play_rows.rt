@@ -1,4 +1,4 @@
-ghost use Rattle.ws_program.specs.Answering.{HasPieces};
+ghost use Rattle.ws_words.specs.Tasks.{HasPieces};
 
 use crate::{holds, same, same_at, same_bytes};
 use std::alloc::{AllocError, Global};
@@ -7,8 +7,9 @@ use ws_code::{FailingSink, Fault, List, Reason, VecSink};
 use ws_keys::KeyRefusal;
 use ws_live::{Paint, play_to};
 use ws_nego::TerminalType;
-use ws_program::{Asked, RunFault, answer, status};
+use ws_program::{RunFault, answer, status};
 use ws_session::{Event, HostEnd, KeyFault, Report, SendFault, Station};
+use ws_words::Asked;
 
 // A script, whether the screen is asked for, and what is written.
 pub type Row<'a> = (&'a str, &'a str, bool, &'a str);

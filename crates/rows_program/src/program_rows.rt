@@ -6,9 +6,10 @@ use std::process::Abort;
 use std::test::Fail;
 use ws_code::{FailingSink, Fault, Reason, VecSink};
 use ws_live::Paint;
-use ws_program::{Asked, RunFault, Task, TextFault, check_to, hex_bytes, read_words, status};
+use ws_program::{RunFault, TextFault, check_to, hex_bytes, status};
 use ws_record::RawBody;
 use ws_text::TextFault as ItemsFault;
+use ws_words::{Asked, Task, read_words};
 
 #[test]
 fn hex_texts(rt: HostRuntime) -> Result<(), Fail> {

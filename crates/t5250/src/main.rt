@@ -12,10 +12,9 @@ use std::process::ExitCode;
 use std::rt::Runtime;
 use ws_code::WriteSink;
 use ws_live::BufferedSink;
-use ws_program::{
-    CommandFault, RunFault, Task, answer_buffered, given_words, read_input, read_words, run_live,
-    status,
-};
+use ws_network::run_live;
+use ws_program::{CommandFault, RunFault, answer_buffered, given_words, read_input, status};
+use ws_words::{Task, read_words};
 
 // Reads the command line and the input, and writes what is asked for: true where all was accepted.
 fn run<R: Runtime + AllocGlobal + Net<Listener = TcpListener, Stream = TcpStream>>(

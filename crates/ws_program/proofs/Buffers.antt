@@ -7,8 +7,8 @@ use Rattle.ws_code.specs.declared.fault.Fault.TheVariants as device
 use Rattle.ws_live.specs.Buffering.{Buffering, buffered_takes}
 use Rattle.ws_live.proofs.Buffers.{flushed_out, flush_fails, fails_behind}
 use Rattle.ws_program.specs.Answering.{HasAnswered, IsAnswerFault}
-use Rattle.ws_program.specs.declared.command_line.Asked.{Asked}
-use Rattle.ws_program.specs.declared.command_line.Asked.TheVariants.{Check, Show, Play, Make}
+use Rattle.ws_words.specs.declared.command_line.Asked.{Asked}
+use Rattle.ws_words.specs.declared.command_line.Asked.TheVariants.{Check, Show, Play, Make}
 use Rattle.ws_program.specs.declared.fault.RunFault.{RunFault}
 use Rattle.ws_program.specs.declared.fault.RunFault.TheVariants.{Read, NotHex, Line, Memory, Write, NoConnection, Refused}
 use Rattle.ws_program.specs.declared.fault.RunFault.TheVariants.{Truncated, Failed}

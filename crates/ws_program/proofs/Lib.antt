@@ -2,7 +2,6 @@ pub mod Buffers
 pub mod CheckLemmas
 pub mod FrontItems
 pub mod HexDigits
-pub mod LiveFaults
 pub mod Makings
 pub mod Parts
 pub mod Plays

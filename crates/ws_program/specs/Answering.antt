@@ -1,6 +1,6 @@
 -- What the program makes of an input: what it writes, and what it answers where that isn't all.
 
-use Rattle.std.specs.Prelude.{◌≡◌, ◌≢◌, ℕ, List, Bool, true, false, Result, Ok, Err, IsErr, ◌⊎◌, length}
+use Rattle.std.specs.Prelude.{◌≡◌, ℕ, List, Bool, true, false, Result, Ok, Err, IsErr, ◌⊎◌, length}
 use Rattle.hex.specs.Hex.{decode_of}
 use Rattle.ws_code.specs.Code.{Rules}
 use Rattle.ws_code.specs.Device.{MayTake, WentOut, FailedWithin}
@@ -18,8 +18,8 @@ use Rattle.ws_program.specs.Making.{HasMade, IsMakeFault}
 use Rattle.ws_program.specs.StreamText.{View, IsShown, IsShowFault}
 use Rattle.ws_program.specs.Views.{painted_host_view, answer_view}
 use Rattle.ws_live.specs.declared.paint.Paint.{Paint}
-use Rattle.ws_program.specs.declared.command_line.Asked.{Asked}
-use Rattle.ws_program.specs.declared.command_line.Asked.TheVariants.{Check, Show, Play, Make}
+use Rattle.ws_words.specs.declared.command_line.Asked.{Asked}
+use Rattle.ws_words.specs.declared.command_line.Asked.TheVariants.{Check, Show, Play, Make}
 use Rattle.ws_program.specs.declared.fault.RunFault.{RunFault}
 use Rattle.ws_program.specs.declared.fault.RunFault.TheVariants.{Read, NotHex, Line, Memory, Write, NoConnection}
 use Rattle.ws_program.specs.declared.verdict.Verdict.{Verdict}
@@ -31,11 +31,6 @@ use Rattle.ws_session.specs.World.{World, new_world, after_moves}
 use Rattle.ws_session.specs.StationSide.{screen_at}
 use Rattle.ws_live.specs.Script.{IsScript, IsFirstBad}
 use Rattle.ws_live.specs.PlayLines.{IsPaintedPlayText, no_end_refuses}
-
--- bytes are read in pieces, which aren't empty
-abbrev pub HasPieces : Asked → Type 0
-HasPieces (Check file cut answers) = cut ≢ 0
-HasPieces asked = Unit {0}
 
 -- what is told of a session, and its screen in a paint where it is asked for
 abbrev pub IsSessionText : Paint → World → Bool → List ℕ → Type 0

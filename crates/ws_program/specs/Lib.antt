@@ -5,6 +5,4 @@ pub mod HexText
 pub mod RunFaults
 pub mod StreamText
 pub mod Views
-pub mod Tasks
 pub mod Making
-pub mod LiveFaults

@@ -1,10 +1,11 @@
 ghost use Rattle.std.specs.Prelude.{◌≡◌, ◌≢◌, [], IfOk, IfErr};
 ghost use Rattle.ws_stream.specs.AnswerParts.{answer_rules};
 ghost use Rattle.ws_stream.specs.Elements.{element_rules};
-ghost use Rattle.ws_program.specs.Answering.{HasPieces, HasAnswered, HasChecked, HasShown, HasPlayed, HasPlayedByTcp, IsAnswerFault, IsHexFault, IsPlayFault, IsTcpPlayFault, status_of};
+ghost use Rattle.ws_program.specs.Answering.{HasAnswered, HasChecked, HasShown, HasPlayed, HasPlayedByTcp, IsAnswerFault, IsHexFault, IsPlayFault, IsTcpPlayFault, status_of};
 ghost use Rattle.ws_text.specs.AnswerWords.{answer_wording};
 ghost use Rattle.ws_text.specs.ElementWords.{element_wording};
 ghost use Rattle.ws_text.specs.Shown.{Shows, ShowsAnswers};
+ghost use Rattle.ws_words.specs.Tasks.{HasPieces};
 ghost use Rattle.ws_program.specs.HexText.{IsHexOf};
 ghost use Rattle.ws_program.specs.Checking.{IsCheckFault};
 ghost use Rattle.ws_program.specs.Making.{HasMade, IsMakeFault};
@@ -13,7 +14,6 @@ ghost use Rattle.ws_program.specs.Views.{painted_host_view, answer_view};
 ghost use Rattle.std.specs.Prelude.{List as Seq, ℕ};
 
 use crate::check::check_to;
-use crate::command_line::Asked;
 use crate::fault::RunFault;
 use crate::hex_text::hex_bytes;
 use crate::make::make_to;
@@ -27,6 +27,7 @@ use ws_nego::TerminalType;
 use ws_session::World;
 use ws_stream::{Answers, Commands};
 use ws_text::{read_answer_items, read_items};
+use ws_words::Asked;
 
 /// Does what the program was asked for with the whole of its input: true where all was accepted.
 ///

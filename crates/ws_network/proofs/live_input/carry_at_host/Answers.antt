@@ -3,8 +3,8 @@ use Rattle.std.specs.Option.{is_some}
 use Rattle.ws_code.proofs.DeviceLaws.{went_out_both}
 use Rattle.ws_live.specs.ServeText.{IsServeText}
 use Rattle.ws_live.proofs.ServeRuns.{stopped_text, answered_text}
-use Rattle.ws_program.proofs.LiveFaults.{unanswered}
-use Rattle.ws_program.proofs.live_input.carry_at_host.Goals as goal
+use Rattle.ws_network.proofs.LiveFaults.{unanswered}
+use Rattle.ws_network.proofs.live_input.carry_at_host.Goals as goal
 
 pub returns-in-Err-clause-fault : goal.returns-in-Err-clause-fault
 returns-in-Err-clause-fault g c = let e = c.in-Err.ensures.fault in (e.0, e.1, inl e.2)

@@ -1,7 +1,7 @@
 use Rattle.std.proofs.Common.{◌≡◌, ℕ, List, [], false}
 use Rattle.ws_code.specs.Device.{WentOut}
 use Rattle.ws_live.specs.LiveText.{HaveRun}
-use Rattle.ws_program.proofs.live_input.carry_input.Given as goal
+use Rattle.ws_network.proofs.live_input.carry_input.Given as goal
 
 -- the lines so far, of which none stopped the session; nothing is held back before a line is read
 abbrev pub invariant-loop : goal.invariant-loop

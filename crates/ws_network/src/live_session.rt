@@ -2,9 +2,6 @@
 //! said where they are carried out.
 ghost use Rattle.std.specs.Prelude.{◌≡◌, []};
 
-use crate::fault::RunFault;
-use crate::live_address::HostPort;
-use crate::live_command::{ConnectAsked, Live, ServeAsked};
 use crate::live_input::{carry_at_host, carry_at_station};
 use crate::live_socket::{TimedReader, TimedWriter, Timer};
 use std::io::{ErrorKind, Read};
@@ -14,8 +11,10 @@ use std::time::{Clock, Duration};
 use std::{fs, io};
 use ws_code::{ReadSource, Sink, WriteSink, write_whole};
 use ws_live::{BufferedSink, HostLine, LiveLine, StationLine, hand_on, read_lines};
+use ws_program::RunFault;
 use ws_session::{Attached, HostEnd, Station};
 use ws_text::{Output, put_text};
+use ws_words::{ConnectAsked, HostPort, Live, ServeAsked};
 
 // How many seconds the end of a connection may take.
 const LINGER: u64 = 1;

@@ -4,12 +4,11 @@ ghost use Rattle.std.specs.Option.{is_some};
 ghost use Rattle.ws_code.specs.Device.{WentOut};
 ghost use Rattle.ws_live.specs.ConnectText.{IsConnectText, StationRuns};
 ghost use Rattle.ws_live.specs.LiveText as Spec;
-ghost use Rattle.ws_program.specs.LiveFaults.{IsServeFault, IsSessionFault};
+ghost use Rattle.ws_network.specs.LiveFaults.{IsServeFault, IsSessionFault};
 ghost use Rattle.ws_live.specs.ServeText.{IsServeText};
 ghost use Rattle.ws_live.specs.declared.connect_line.StationLine.{StationLine as AStationLine};
 ghost use Rattle.ws_live.specs.declared.serve_line.HostLine.{HostLine as AHostLine};
 
-use crate::fault::RunFault;
 use std::alloc::Global;
 use std::io::{BufRead, ErrorKind, Input, Lines};
 use std::rt::Runtime;
@@ -18,6 +17,7 @@ use ws_live::{
     BufferedSink, HostLine, LiveLine, LiveMove, Paint, Ran, ScriptFault, StationLine, Watch,
     answer_on, carry_line, carry_lines, is_indented,
 };
+use ws_program::RunFault;
 use ws_session::{Attached, HostEnd, Station};
 
 /// Carries out the lines of a script at a station, or without one those of standard input: true where all went well.

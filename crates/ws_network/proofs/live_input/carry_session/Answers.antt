@@ -1,6 +1,6 @@
 use Rattle.std.proofs.Common.{inl, refl}
 use Rattle.std.proofs.lemmas.Result.{err_from_is_err_and}
-use Rattle.ws_program.proofs.live_input.carry_session.Goals as goal
+use Rattle.ws_network.proofs.live_input.carry_session.Goals as goal
 
 pub returns-in_err-carry_lines-in-Some-clause-fault : goal.returns-in_err-carry_lines-in-Some-clause-fault
 returns-in_err-carry_lines-in-Some-clause-fault g c =

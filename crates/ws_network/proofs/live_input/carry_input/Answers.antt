@@ -3,7 +3,7 @@ use Rattle.ws_code.proofs.DeviceLaws.{went_out_none}
 use Rattle.ws_live.specs.LiveText.{HaveRun, HasRun, ran_and, ran_by}
 use Rattle.ws_live.specs.declared.live.Ran.{Ran}
 use Rattle.ws_live.proofs.LiveRuns.{goes_on, ends_here, breaks}
-use Rattle.ws_program.proofs.live_input.carry_input.Goals as goal
+use Rattle.ws_network.proofs.live_input.carry_input.Goals as goal
 
 pub loop-init : goal.loop-init
 loop-init g c = (

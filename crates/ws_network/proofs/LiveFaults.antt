@@ -6,7 +6,7 @@ use Rattle.ws_live.specs.ServeText.{Parts, HostRuns, IsAnswerOnFault}
 use Rattle.ws_live.specs.declared.live.Ran.{Ran}
 use Rattle.ws_live.specs.declared.serve_line.HostLine.{HostLine}
 use Rattle.ws_live.proofs.ServeRuns.{all_run}
-use Rattle.ws_program.specs.LiveFaults.{IsServeFault}
+use Rattle.ws_network.specs.LiveFaults.{IsServeFault}
 use Rattle.ws_program.specs.RunFaults.{run_fault}
 use Rattle.ws_program.specs.declared.fault.RunFault.{RunFault}
 

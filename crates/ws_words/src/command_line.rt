@@ -1,7 +1,6 @@
 ghost use Rattle.std.specs.Prelude.{IfOk};
-ghost use Rattle.ws_program.specs.Tasks.{IsTask};
+ghost use Rattle.ws_words.specs.Tasks.{IsTask};
 
-use crate::fault::{CommandFault, RunFault};
 use crate::live_command::{
     Live, color_flag, connect_asked, connect_command, paint_asked, serve_asked, serve_command,
 };
@@ -9,8 +8,6 @@ use clap::error::ErrorKind;
 use clap::{Arg, ArgAction, Command, value_parser};
 use std::alloc::Global;
 use std::convert::AsStr;
-use std::rt::Env;
-use std::{env, io};
 use ws_live::Paint;
 
 /// What a command line asks for.
@@ -244,23 +241,11 @@ fn hex_file<'a>(alloc: Global) -> Arg<'a> {
         .action(ArgAction::Set)
 }
 
-// The fault of words that the program can't even take as text.
-fn no_text(alloc: Global) -> Result<clap::Error, clap::Error> {
+/// The fault of words that the program can't even take as text.
+pub fn no_text(alloc: Global) -> Result<clap::Error, clap::Error> {
     let mut program = program(alloc)?;
     let error = program.error(ErrorKind::InvalidValue, "a word isn't UTF-8")?;
     Ok(error)
-}
-
-/// The words of the command line, the program's name first.
-pub fn given_words<R: Env + AllocGlobal>(rt: &R) -> Result<Vec<String>, CommandFault> {
-    let words = match env::args(rt) {
-        Ok(words) => words.collect(rt.alloc()),
-        Err(error) if error.kind() == io::ErrorKind::OutOfMemory => {
-            return Err(CommandFault::Run(RunFault::Memory));
-        }
-        Err(_) => return Err(CommandFault::Words(no_text(rt.alloc())?)),
-    };
-    words.map_err(|_| CommandFault::Run(RunFault::Memory))
 }
 
 /// What the words ask for, of which the first is the program's name.

@@ -1,0 +1,9 @@
+//! Live sessions over a connection: a station at a host, and a host for one station, by the lines of a script or of
+//! standard input.
+#![tactic(auto)]
+
+mod live_input;
+mod live_session;
+mod live_socket;
+
+pub use live_session::run_live;
