@@ -4,6 +4,7 @@ pub mod Common
 pub mod Decodes
 pub mod Encodings
 pub mod Faults
+pub mod Flights
 pub mod Fronts
 pub mod Headers
 pub mod LastRecords

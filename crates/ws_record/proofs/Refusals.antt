@@ -1,11 +1,10 @@
 use Rattle.ws_record.proofs.Common as C
-use C.{◌≡◌, ℕ, ◌+◌, ◌-◌, ◌≤◌, List, [], ◌∷◌, ◌++◌, inl, inr, length, drop, refl, sym, ap, ◌∙◌, arith, append_assoc}
-use C.{length-append, AllByRecursion, replicate, drop_of_length-le, cases_lt, length-replicate, append-nil}
-use C.{drop-append-le, Rules, IsPrefix, IsChain, IsCut, IsSpelled, AreBytes, spelling_of, Reason, AreBytes-append}
-use C.{CanEnd, zeros_are, cut_ends, one_cut, token_rules, token_prefix_free, Token, Data, Eor, Record, Item}
-use C.{IsBodyBytes, IsRecord, IsStretch, IsStream, Holds, joined, carried, header, record_bytes, Layer, IsRight, IsOpen}
-use C.{IsRefused, IsTruncated, IsFirstClosed, IsReason, EndsWith, Tokens, Header, Body, CanBeFramed, IsDataRefused}
-use C.{IsEndRefused}
+use C.{drop_of_length-le, token_prefix_free, length-replicate, AreBytes-append, AllByRecursion, drop-append-le, length}
+use C.{length-append, IsFirstClosed, IsDataRefused, append_assoc, record_bytes, IsEndRefused, spelling_of, token_rules}
+use C.{IsBodyBytes, IsTruncated, CanBeFramed, append-nil, replicate, IsSpelled, zeros_are, IsStretch, IsRefused, arith}
+use C.{cases_lt, IsPrefix, AreBytes, cut_ends, IsRecord, IsStream, IsReason, EndsWith, IsChain, one_cut, carried, List}
+use C.{IsRight, Reason, CanEnd, Record, joined, header, IsOpen, Tokens, Header, Rules, IsCut, Token, Holds, Layer, ◌≡◌}
+use C.{◌++◌, drop, refl, Data, Item, Body, ◌+◌, ◌-◌, ◌≤◌, ◌∷◌, inl, inr, sym, ◌∙◌, Eor, [], ap, ℕ}
 use Rattle.ws_record.proofs.Reading.{one_join, parts_no_eor}
 use Rattle.ws_record.proofs.Streams.{EachPart, open_stream, ended_stream, bad_token, bad_data, bad_eor}
 use Rattle.ws_record.proofs.Prefixes.{AreBytes-apart}

@@ -1,8 +1,7 @@
 use Rattle.ws_record.proofs.Common as C
-use C.{IsToken, token_spelling, ◌≡◌, ℕ, List, [], ◌∷◌, ◌++◌, map, refl, sym, ap, ◌∙◌, append_assoc, append-nil}
-use C.{map-append, flat_map-append, Rules, IsUnfinished, IsCut, IsSpelled, cut_unit, cut_more, token_rules}
-use C.{token_begins, Telnet, Token, Data, Eor, TelnetToken, Record, Item, RecordItem, TelnetItem, IsRecord, Holds}
-use C.{joined, record_bytes}
+use C.{flat_map-append, token_spelling, append_assoc, IsUnfinished, token_begins, record_bytes, token_rules, IsSpelled}
+use C.{TelnetToken, append-nil, map-append, RecordItem, TelnetItem, cut_unit, cut_more, IsRecord, IsToken, Telnet, ◌≡◌}
+use C.{Record, joined, Rules, IsCut, Token, Holds, List, ◌++◌, refl, Data, Item, ◌∷◌, map, sym, ◌∙◌, Eor, [], ap, ℕ}
 use Rattle.ws_record.proofs.Streams.{AllByRecursion-append, joined_more, joined_eor}
 
 -- a token whose spelling this is, and one that goes on

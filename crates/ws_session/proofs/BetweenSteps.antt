@@ -8,7 +8,7 @@ use C.{answer_of, after_key, HostState, events_by, unwrap_or, HostSide, ReadKind
 use C.{is_body, edit_of, Element, Answer, fields, length, Telnet, Opcode, Option, Field, Alike, false, subst, ◌++◌, ◌∷◌}
 use C.{Some, None, Send, true, List, ◌||◌, Edit, refl, ◌+◌, ◌∙◌, ◌≡◌, sym, ◌⊎◌, inl, inr, ap, []}
 use Rattle.ws_nego.specs.Exchange.{after_move, ToStation, ToHost}
-use Rattle.ws_session.proofs.Orders.{x_down_count, x_up_count, x_station, x_both, x_down, x_host, x_up}
+use Rattle.ws_nego.proofs.Exchanges.{x_down_count, x_up_count, x_station, x_both, x_down, x_host, x_up}
 use Rattle.ws_session.proofs.Turns.{down_read, send_read, down_text, send_text, send_stop, down_stop, DownMark, at_turn}
 use Rattle.ws_session.proofs.Turns.{no_reply, up_reply, up_done, answer, UpMark, TurnAt, Done}
 use Rattle.ws_session.proofs.Betweens.{after_posted_more, marks_down_more, within_record, marks_up_more, after_posted}

@@ -11,7 +11,7 @@ use C.{get_or, World, arith, Comes, subst, ◌++◌, Some, None, Runs, true, Ite
 use C.{◌+◌, Err, ◌<◌, ◌∙◌, ◌≡◌, sym, inl, inr, At, ap, []}
 use Rattle.ws_session.proofs.Arriving.{refused_at_once, delivered, many_on, stop}
 use Rattle.ws_session.proofs.EndSteps.{station_holds, host_holds, gone_none, gone_one}
-use Rattle.ws_session.proofs.Flights.{byte_more, ByteMore}
+use Rattle.ws_record.proofs.Flights.{byte_more, ByteMore}
 use Rattle.ws_session.proofs.Writables.{host_writes_well, answers_writable, WritesWell}
 use Rattle.ws_session.proofs.Bytes.{byte_down, byte_up}
 use Rattle.ws_session.proofs.Reached.{station_writes, going_station, host_writes, going_host, is_sound}

@@ -1,21 +1,20 @@
 use Rattle.ws_session.proofs.Common as C
-use C.{RecordBeforeNegotiation, station_allows_records, host_allows_records, host_takes_record, host_ends_cancel, false}
-use C.{station_applies, host_negotiates, flat_map-append, byte_to_station, station_answer, after_exchange, byte_to_host}
-use C.{element_rules, host_reads_by, opcode_answer, station_takes, if◌then◌else◌, TerminalType, answer_rules, ending_at}
-use C.{after_record, CancelInvite, append_assoc, station_gets, StationSide, NoOperation, host_answer, station_did, refl}
-use C.{ready_event, answers_in, down_bytes, HostAnswer, after_read, AnswerPart, TelnetItem, body_fault, host_takes, ◌∙◌}
-use C.{host_reads, append-nil, RecordItem, Cancelled, HostState, host_gets, ltb-false, answer_in, Exchange, HostSide, ℕ}
-use C.{ltb-true, host_did, MoveDown, up_bytes, Answered, telnets, Element, Refuses, Opcode, nat_lt, Telnet, Option, sym}
-use C.{length, Answer, PutGet, GoesOn, MoveUp, signal, tells, arith, subst, World, None, true, Item, List, Host, Some}
-use C.{Bool, ◌++◌, ◌≡◌, ◌<◌, ◌∷◌, inl, ◌+◌, inr, ◌⊎◌, ◌≤◌, [], ap}
-use Rattle.ws_session.proofs.Flights.{ByteComes, InFlight, written, Inside, comes, Whole}
-use Rattle.ws_session.proofs.Betweens.{signal_silent, full_station, ready_silent, with_tokens, records_up, quiet_told}
-use Rattle.ws_session.proofs.Betweens.{with_sents, full_host, with_none, record_of, item_of, Replies, Between, behind}
-use Rattle.ws_session.proofs.Betweens.{Signal, Posted, posted, sounds, tokens, Sound, downs, sents, Down, Ends, Sent}
-use Rattle.ws_session.proofs.Betweens.{ups, Up}
+use C.{RecordBeforeNegotiation, station_allows_records, host_allows_records, host_takes_record, host_ends_cancel}
+use C.{false, station_applies, host_negotiates, flat_map-append, byte_to_station, station_answer, after_exchange}
+use C.{byte_to_host, element_rules, host_reads_by, opcode_answer, station_takes, if◌then◌else◌, TerminalType}
+use C.{answer_rules, ending_at, after_record, CancelInvite, append_assoc, station_gets, StationSide, NoOperation}
+use C.{host_answer, station_did, refl, ready_event, answers_in, down_bytes, HostAnswer, after_read, AnswerPart}
+use C.{TelnetItem, body_fault, host_takes, ◌∙◌, host_reads, append-nil, RecordItem, Cancelled, HostState, host_gets}
+use C.{ltb-false, answer_in, Exchange, HostSide, ℕ, ltb-true, host_did, MoveDown, up_bytes, Answered, telnets, Element}
+use C.{Refuses, Opcode, nat_lt, Telnet, Option, sym, length, Answer, PutGet, GoesOn, MoveUp, signal, tells, arith}
+use C.{subst, World, None, true, Item, List, Host, Some, Bool, ◌++◌, ◌≡◌, ◌<◌, ◌∷◌, inl, ◌+◌, inr, ◌⊎◌, ◌≤◌, [], ap}
+use Rattle.ws_record.proofs.Flights.{ByteComes, InFlight, written, Inside, comes, Whole}
+use Rattle.ws_session.proofs.Betweens.{signal_silent, ready_silent, with_tokens, records_up, quiet_told, with_sents}
+use Rattle.ws_session.proofs.Betweens.{with_none, record_of, item_of, Replies, Between, behind, Signal, Posted, posted}
+use Rattle.ws_session.proofs.Betweens.{sounds, tokens, Sound, downs, sents, Down, Ends, Sent, ups, Up}
 use Rattle.ws_session.proofs.BetweenSteps.{station_record, station_token, answer_items, host_signal, answers_to}
 use Rattle.ws_session.proofs.BetweenSteps.{host_reply, host_token, host_end}
-use Rattle.ws_session.proofs.Orders.{up_next, x_none}
+use Rattle.ws_nego.proofs.Exchanges.{up_next, x_none, full_station, full_host}
 use Rattle.std.proofs.lemmas.Bool.{cases_Bool}
 
 -- A byte comes to the station of a session.

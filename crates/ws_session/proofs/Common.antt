@@ -1,23 +1,23 @@
 -- The names that the proofs cite most, passed on from one place.
 
 pub use Rattle.std.proofs.Common.{◌≡◌, ◌+◌, ◌≤◌, List, [], ◌∷◌, ◌++◌, refl, subst, ◌∙◌, ℕ, zero, suc, ◌<◌, Option}
-pub use Rattle.std.proofs.Common.{Some, None, take, drop, ap, sym, arith, take-append-drop, ◌^◌, min, inl, inr}
-pub use Rattle.std.proofs.Common.{length, get_or, append_assoc, add-zero, add-one, length-append, length-drop}
-pub use Rattle.std.proofs.Common.{drop-cons, length-take, ◌≢◌, if◌then◌else◌, unwrap_or, ◌⊎◌, Bool, true, false}
-pub use Rattle.std.proofs.Common.{is_some, map, nat_lt, ◌-◌, IsSome, Err, Ok, ◌==◌, Result, add-suc, replicate, ◌*◌}
-pub use Rattle.std.proofs.Common.{rules, Vec, Global, ap₂, subst₂}
+pub use Rattle.std.proofs.Common.{Some, None, take, drop, ap, sym, arith, take-append-drop, ◌^◌, min, inl, inr, length}
+pub use Rattle.std.proofs.Common.{get_or, append_assoc, add-zero, add-one, length-append, length-drop, drop-cons}
+pub use Rattle.std.proofs.Common.{length-take, ◌≢◌, if◌then◌else◌, unwrap_or, ◌⊎◌, Bool, true, false, is_some, map}
+pub use Rattle.std.proofs.Common.{nat_lt, ◌-◌, IsSome, Err, Ok, ◌==◌, Result, add-suc, replicate, ◌*◌, rules, Vec}
+pub use Rattle.std.proofs.Common.{Global, ap₂, subst₂}
 pub use Rattle.std.specs.List.{AllByRecursion}
 pub use Rattle.std.proofs.lemmas.List.{length-take-le, append-nil, take_all, get_or-drop, take-append-le, take-take}
 pub use Rattle.std.proofs.lemmas.List.{drop-append-le, drop_all, drop-drop, take_more, map-append}
-pub use Rattle.std.specs.Prelude.{flat_map, ◌||◌, filter, ◌&&◌, not, is_ok, is_err, OnOk, IfOk, IfErr, IfSome}
-pub use Rattle.std.specs.Prelude.{IfNone, OnErr}
+pub use Rattle.std.specs.Prelude.{flat_map, ◌||◌, filter, ◌&&◌, not, is_ok, is_err, OnOk, IfOk, IfErr, IfSome, IfNone}
+pub use Rattle.std.specs.Prelude.{OnErr}
 pub use Rattle.std.proofs.lemmas.Bool.{cases_lt, ltb-true, both_ways, false≢true, ltb-false, or_cases}
 pub use Rattle.std.proofs.lemmas.Grind.{flat_map-append}
 pub use Rattle.std.proofs.lemmas.Bool.Decides.{nat_tests, eqb_tells}
 pub use Rattle.std.proofs.Math.Seq.{take-add, drop-append_seam, take-append-add}
 pub use Rattle.std.proofs.lemmas.Result.{err_from_is_err_and, on_ok_weaker, IfErr-weaker}
-pub use Rattle.ws_code.specs.Code.{Rules, IsChain, spelling_of, AreBytes, IsUnfinished, IsSpelled, place_after}
-pub use Rattle.ws_code.specs.Code.{IsCut, IsPrefix, IsPrefixFree}
+pub use Rattle.ws_code.specs.Code.{Rules, IsChain, spelling_of, AreBytes, IsUnfinished, IsSpelled, place_after, IsCut}
+pub use Rattle.ws_code.specs.Code.{IsPrefix, IsPrefixFree}
 pub use Rattle.ws_code.proofs.CodeLaws.{Begins}
 pub use Rattle.ws_code.specs.declared.reason.Reason.{Reason}
 pub use Rattle.ws_code.specs.declared.fault.Fault.{Fault}
@@ -32,19 +32,18 @@ pub use Rattle.ws_telnet.specs.declared.token.Telnet.{Telnet}
 pub use Rattle.ws_telnet.specs.Token.{doubled, telnet_spelling, token_rules, IsTelnet}
 pub use Rattle.ws_telnet.specs.declared.token.Telnet.TheVariants.{Command, Option as Negotiate, Sub as Subnegotiate}
 pub use Rattle.ws_nego.specs.declared.terminal.TerminalType.{TerminalType}
-pub use Rattle.ws_nego.specs.Exchange.{Exchange, TablesAgree, IsQuiet as NothingInFlight}
-pub use Rattle.ws_nego.specs.Exchange.{after_move as after_exchange, ToStation as MoveDown, ToHost as MoveUp}
-pub use Rattle.ws_nego.specs.Exchange.{after_moves as exchange_after, after_all_to_station, after_all_to_host}
-pub use Rattle.ws_nego.specs.Exchange.{after_three_deliveries, new_exchange, after_host_answers}
-pub use Rattle.ws_nego.specs.Exchange.{after_station_takes, after_host_takes}
+pub use Rattle.ws_nego.specs.Exchange.{Exchange, TablesAgree, IsQuiet as NothingInFlight, after_move as after_exchange}
+pub use Rattle.ws_nego.specs.Exchange.{ToStation as MoveDown, ToHost as MoveUp, after_moves as exchange_after}
+pub use Rattle.ws_nego.specs.Exchange.{after_all_to_station, after_all_to_host, after_three_deliveries, new_exchange}
+pub use Rattle.ws_nego.specs.Exchange.{after_host_answers, after_station_takes, after_host_takes}
 pub use Rattle.ws_nego.proofs.Stages.{agrees, settled_quiet, settled_station, settled_host, not_refused}
 pub use Rattle.ws_nego.proofs.Stages.{at_most_twelve, station_then, both_then, host_then}
-pub use Rattle.ws_nego.specs.Station.{station_allows_records, station_answer, StationState, name_request}
-pub use Rattle.ws_nego.specs.Station.{station_row, name_answer, is_name_request, station_option_answer}
+pub use Rattle.ws_nego.specs.Station.{station_allows_records, station_answer, StationState, name_request, station_row}
+pub use Rattle.ws_nego.specs.Station.{name_answer, is_name_request, station_option_answer}
 pub use Rattle.ws_nego.specs.Host.{host_allows_records, HostState, host_answer, accepted_terminal, opening}
-pub use Rattle.ws_nego.specs.Host.{host_option_answer, host_table_answer, host_row, host_sub_answer}
-pub use Rattle.ws_nego.specs.Host.{host_name_answer, host_judgement, after_name_request, is_name_withheld}
-pub use Rattle.ws_nego.specs.Host.{is_name_offered, name_in, request, requests}
+pub use Rattle.ws_nego.specs.Host.{host_option_answer, host_table_answer, host_row, host_sub_answer, host_name_answer}
+pub use Rattle.ws_nego.specs.Host.{host_judgement, after_name_request, is_name_withheld, is_name_offered, name_in}
+pub use Rattle.ws_nego.specs.Host.{request, requests}
 pub use Rattle.ws_nego.specs.Options.{Answer, bytes_of, AnswersWith, direction_at_host, entry, direction_at_station}
 pub use Rattle.ws_nego.specs.Options.{refusal_of, option_tokens}
 pub use Rattle.ws_record.specs.declared.record.Item.{Item}
@@ -92,8 +91,7 @@ pub use Rattle.ws_screen.proofs.ScreenLaws.{by_host-append, one_screen}
 pub use Rattle.ws_screen.specs.declared.field.Field.{Field}
 pub use Rattle.ws_screen.specs.ScreenParts.{AreApart, ScreenParts, IsLegal}
 pub use Rattle.ws_screen.specs.Faults.{fault}
-pub use Rattle.ws_keys.specs.declared.key.Key.TheVariants.{Aid as Send, Attention as Attend}
-pub use Rattle.ws_keys.specs.declared.key.Key.TheVariants.{SystemRequest as Request}
+pub use Rattle.ws_keys.specs.declared.key.Key.TheVariants.{Aid as Send, Attention as Attend, SystemRequest as Request}
 pub use Rattle.ws_keys.specs.declared.host_answer.HostAnswer.{HostAnswer}
 pub use Rattle.ws_keys.specs.Contents.{answer_parts, answer_bytes}
 pub use Rattle.ws_keys.specs.Keys.{edit_of, events_by, is_answered, key_refusal, answer_to, IsPressed, is_aid_key}
@@ -114,15 +112,14 @@ pub use Rattle.ws_session.specs.World.{host_sends, after_press, after_send}
 pub use Rattle.ws_session.specs.Runs.{AreWritable, WorldParts, Runs, IsKey}
 pub use Rattle.ws_session.specs.declared.refusal.Refusal.{Refusal}
 pub use Rattle.ws_session.specs.declared.world.Event.{Event}
-pub use Rattle.ws_session.specs.Acts.{Doing, Act, Came, all_came, Did, Happening, Does, idle, one_then, doing, items_of}
-pub use Rattle.ws_session.specs.Acts.{HasGone, Arrives, as_list, Manner, AllTaken, Happen, HoldsItems, Goes}
+pub use Rattle.ws_session.specs.Acts.{Doing, Act, Came, all_came, Did, Happening, Does, idle, one_then, doing}
+pub use Rattle.ws_session.specs.Acts.{items_of, HasGone, Arrives, as_list, Manner, AllTaken, Happen, HoldsItems, Goes}
 pub use Rattle.ws_session.specs.Through.{HasRefusedIn, Through}
 pub use Rattle.ws_session.specs.Wires.{WireParts, reported, HasMemory, Comes, AllCome, AreDelivered}
 pub use Rattle.ws_session.specs.declared.refusal.Refusal.TheVariants.{At, Failed, Memory, Failed as NoMore}
 pub use Rattle.ws_session.specs.ActLaws.{came_append, gone_on, bytes_came}
 pub use Rattle.ws_session.specs.Attachments.{AttachedParts, fault_of, HaveLed, HaveLedUnwritten, HasRefused}
-pub use Rattle.ws_session.specs.Attachments.{IsByteFault, HasTaken, IsTakeFault, HasHeard, IsHearFault}
-pub use Rattle.ws_session.specs.Attachments.{IsSendFailure}
+pub use Rattle.ws_session.specs.Attachments.{IsByteFault, HasTaken, IsTakeFault, HasHeard, IsHearFault, IsSendFailure}
 pub use Rattle.ws_session.specs.Written.{HasWritten, HasWrittenFront, IsUntaken}
 pub use Rattle.ws_session.specs.StationSide.{StationSide, opcode_events, after_record, after_key, screen_at}
 pub use Rattle.ws_session.specs.StationSide.{opcode_answer, station_applies, station_takes, KeyReaction, RefusesKey}
@@ -130,12 +127,11 @@ pub use Rattle.ws_session.specs.StationSide.{Silent, Answers, Signals, station_k
 pub use Rattle.ws_session.specs.StationSide.{key_by_refusal, new_station_side, presses, answer_record}
 pub use Rattle.ws_session.specs.HostSide.{HostSide, sent_record, is_outstanding, after_read, tells, ready_event}
 pub use Rattle.ws_session.specs.HostSide.{host_negotiates, host_reads, host_reads_by, host_ends_cancel, signal}
-pub use Rattle.ws_session.specs.HostSide.{host_takes_record, host_takes, HostOutput, SendReaction, RefusesSend}
-pub use Rattle.ws_session.specs.HostSide.{Sends, host_cancel, host_send, asked_read, host_sends_body, new_host_side}
+pub use Rattle.ws_session.specs.HostSide.{host_takes_record, host_takes, HostOutput, SendReaction, RefusesSend, Sends}
+pub use Rattle.ws_session.specs.HostSide.{host_cancel, host_send, asked_read, host_sends_body, new_host_side}
 pub use Rattle.ws_session.specs.HostSide.{is_too_big, ready_by_terminal, has_flag}
 pub use Rattle.ws_session.specs.Reaction.{empty_record, Refuses, GoesOn, Reaction}
-pub use Rattle.ws_session.specs.Answered.{answers_in, answer_in, items_coming, is_answer, answers_coming}
-pub use Rattle.ws_session.specs.Answered.{host_answers}
+pub use Rattle.ws_session.specs.Answered.{answers_in, answer_in, items_coming, is_answer, answers_coming, host_answers}
 pub use Rattle.ws_session.specs.declared.host_event.HostEvent.TheVariants.{Answer as Answered, Cancelled}
 pub use Rattle.ws_session.specs.declared.host_event.HostEvent.TheVariants.{Attention as AttentionCame}
 pub use Rattle.ws_session.specs.declared.host_event.HostEvent.TheVariants.{SystemRequest as RequestCame}
@@ -143,8 +139,8 @@ pub use Rattle.ws_session.specs.declared.world.Event.TheVariants.{Host, KeyRefus
 pub use Rattle.ws_session.specs.declared.world.Event.TheVariants.{HostRefused}
 pub use Rattle.ws_session.specs.declared.host_event.HostEvent.{HostEvent}
 pub use Rattle.ws_session.specs.declared.send_fault.SendFault.TheVariants.{Failed as SendFailed, Memory as NoMemory}
-pub use Rattle.ws_session.specs.declared.send_fault.SendFault.TheVariants.{NotAllowed, ReadOutstanding}
-pub use Rattle.ws_session.specs.declared.send_fault.SendFault.TheVariants.{NoReadToCancel, BadSequence, TooBig}
+pub use Rattle.ws_session.specs.declared.send_fault.SendFault.TheVariants.{NotAllowed, ReadOutstanding, NoReadToCancel}
+pub use Rattle.ws_session.specs.declared.send_fault.SendFault.TheVariants.{BadSequence, TooBig}
 pub use Rattle.ws_session.specs.declared.send_fault.SendFault.TheVariants.{Screen as RefusedByScreen}
 pub use Rattle.ws_session.specs.declared.key_fault.KeyFault.TheVariants.{Failed as KeyFailed, NotReady}
 pub use Rattle.ws_session.specs.declared.key_fault.KeyFault.TheVariants.{Key as RefusedKey}
@@ -155,10 +151,9 @@ pub use Rattle.ws_session.specs.HostLeads.{HostLeads, HostParts, IsSent, IsSendF
 pub use Rattle.ws_session.specs.HostLeads.{IsReacted, unopened_host_side}
 pub use Rattle.ws_session.specs.StationLeads.{StationParts, StationLeads, IsPushed, IsKeyed, IsTaken, IsStepped}
 pub use Rattle.ws_session.specs.StationLeads.{is_record, records_in, TakesItem, IsClosed, keeps_body}
-pub use Rattle.ws_session.specs.Manners.{StationGoes, StationRefuses, station_manner, station_at_item, goes_on}
-pub use Rattle.ws_session.specs.Manners.{station_at_key, host_at_send, host_manner, HostGoes, told_by, applied_by}
-pub use Rattle.ws_session.specs.Manners.{host_at_item, HostRefuses, IsKeyRefusal, IsKeyTaken, IsSendRefusal}
-pub use Rattle.ws_session.specs.Manners.{IsSendTaken}
+pub use Rattle.ws_session.specs.Manners.{station_at_item, StationRefuses, station_manner, station_at_key, host_at_send}
+pub use Rattle.ws_session.specs.Manners.{IsSendRefusal, host_at_item, IsKeyRefusal, StationGoes, host_manner, HostGoes}
+pub use Rattle.ws_session.specs.Manners.{HostRefuses, IsSendTaken, applied_by, IsKeyTaken, goes_on, told_by}
 pub use Rattle.ws_session.specs.declared.end_step.Applied.{Applied}
 pub use Rattle.ws_session.specs.declared.answer.TheConstants.{ATN, SRQ}
 pub use Rattle.ws_session.specs.declared.key_fault.KeyFault.{KeyFault}
@@ -177,9 +172,8 @@ pub use Rattle.ws_session.specs.Crossings.{Crossing, with_piece_at, AreFaithful,
 pub use Rattle.ws_session.specs.Crossings.{IsEnded, AreEnded}
 pub use Rattle.ws_session.specs.Deliveries.{delivery, three_deliveries}
 pub use Rattle.ws_session.specs.declared.player.Player.{Player}
-pub use Rattle.ws_session.specs.Moments.{Presses, outcome, due, later, Moment, Outcome, idle_outcome}
-pub use Rattle.ws_session.specs.Moments.{outcome_of_both, at_item, at_moment, AreTaken, one_record, moments_from}
-pub use Rattle.ws_session.specs.Moments.{moments, at_key}
+pub use Rattle.ws_session.specs.Moments.{Presses, outcome, due, later, Moment, Outcome, idle_outcome, outcome_of_both}
+pub use Rattle.ws_session.specs.Moments.{at_item, at_moment, AreTaken, one_record, moments_from, moments, at_key}
 pub use Rattle.ws_session.specs.Playing.{HasCome, HasDone, records_from, keys_left_from}
 pub use Rattle.ws_session.specs.StationRun.{IsRunFault, IsRun, refusal_count, behind, run_text, RunUnwritten}
 pub use Rattle.ws_session.specs.Reports.{IsReport, IsOpened}

@@ -10,7 +10,7 @@ use C.{host_sent, HostParts, SendFault, NotReady, up_bytes, HostSide, KeyFault, 
 use C.{IsLegal, IsKeyed, arrived, Answers, Result, header, Option, length, AtHost, PutGet, Opcode, Silent, IsSent, ◌++◌}
 use C.{false, Press, subst, World, Event, arith, IsKey, List, take, Item, Bool, Runs, IfOk, Read, refl, Some, None, ◌≤◌}
 use C.{Send, true, ◌+◌, ap₂, ◌^◌, ◌∙◌, ◌≡◌, sym, ◌<◌, ◌∷◌, Key, SRQ, ATN, Err, ap, Ok}
-use Rattle.ws_session.proofs.Flights.{writable_append, still_led, not_more}
+use Rattle.ws_record.proofs.Flights.{writable_append, still_led, not_more}
 use Rattle.ws_session.proofs.Betweens.{Sound}
 use Rattle.ws_session.proofs.Worlds.{sound}
 use Rattle.ws_code.specs.Aid.{IsAid}

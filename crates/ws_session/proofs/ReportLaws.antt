@@ -8,9 +8,9 @@ use C.{HostParts, nat_tests, is_answer, new_world, drop_all, up_bytes, IsReport,
 use C.{MoveDown, IsOpened, delivery, Exchange, Refuses, IsQuiet, telnets, MoveUp, agrees, Telnet, GoesOn, Option, Rules}
 use C.{nat_lt, filter, Field, false, Event, World, arith, subst, zero, Bool, ◌++◌, Move, true, drop, Item, List, refl}
 use C.{◌≤◌, suc, ◌-◌, ◌∷◌, ◌+◌, ◌<◌, ◌∙◌, ◌≡◌, sym, inl, inr, []}
-use Rattle.ws_session.proofs.Orders.{x_few}
-use Rattle.ws_session.proofs.Flights.{total_append, all_arrived, total_cons, InFlight, IsInside, not_more, total, quiet}
-use Rattle.ws_session.proofs.Flights.{size}
+use Rattle.ws_nego.proofs.Exchanges.{x_few}
+use Rattle.ws_record.proofs.Flights.{total_append, all_arrived, total_cons, InFlight, IsInside, not_more, total, quiet}
+use Rattle.ws_record.proofs.Flights.{size}
 use Rattle.ws_session.proofs.Betweens.{Replies, tokens, posted, Posted, Waits, sents, Sound, Sent}
 use Rattle.ws_session.proofs.Worlds.{sound}
 use Rattle.ws_session.proofs.Bytewise.{none_refused, bytes_down, bytes_up}
