@@ -9,16 +9,13 @@ pub use Rattle.std.proofs.Common.{Global, ap₂, subst₂}
 pub use Rattle.std.specs.List.{AllByRecursion}
 pub use Rattle.std.proofs.lemmas.List.{length-take-le, append-nil, take_all, get_or-drop, take-append-le, take-take}
 pub use Rattle.std.proofs.lemmas.List.{drop-append-le, drop_all, drop-drop, take_more, map-append}
-pub use Rattle.std.specs.Prelude.{flat_map, ◌||◌, filter, ◌&&◌, not, is_ok, is_err, OnOk, IfOk, IfErr, IfSome, IfNone}
-pub use Rattle.std.specs.Prelude.{OnErr}
-pub use Rattle.std.proofs.lemmas.Bool.{cases_lt, ltb-true, both_ways, false≢true, ltb-false, or_cases}
+pub use Rattle.std.specs.Prelude.{flat_map, ◌||◌, filter, ◌&&◌, not, is_ok, is_err, OnOk, IfOk, IfErr, IfNone, OnErr}
+pub use Rattle.std.proofs.lemmas.Bool.{cases_lt, ltb-true, both_ways, false≢true, ltb-false}
 pub use Rattle.std.proofs.lemmas.Grind.{flat_map-append}
 pub use Rattle.std.proofs.lemmas.Bool.Decides.{nat_tests, eqb_tells}
 pub use Rattle.std.proofs.Math.Seq.{take-add, drop-append_seam, take-append-add}
 pub use Rattle.std.proofs.lemmas.Result.{err_from_is_err_and, on_ok_weaker, IfErr-weaker}
-pub use Rattle.ws_code.specs.Code.{Rules, IsChain, spelling_of, AreBytes, IsUnfinished, IsSpelled, place_after, IsCut}
-pub use Rattle.ws_code.specs.Code.{IsPrefix, IsPrefixFree}
-pub use Rattle.ws_code.proofs.CodeLaws.{Begins}
+pub use Rattle.ws_code.specs.Code.{Rules, IsChain, spelling_of, AreBytes}
 pub use Rattle.ws_code.specs.declared.reason.Reason.{Reason}
 pub use Rattle.ws_code.specs.declared.fault.Fault.{Fault}
 pub use Rattle.ws_code.specs.Device.{MayTake, MayGive, WentOut, FailedWithin, Gave, most_reads, one_more, Held}
@@ -26,38 +23,28 @@ pub use Rattle.ws_code.proofs.DeviceLaws.{went_out_none, went_out_both, failed_w
 pub use Rattle.ws_code.proofs.DeviceLaws.{take_some, length_rest, held_went_out}
 pub use Rattle.ws_code.specs.declared.reason.Reason.TheVariants.{RecordBeforeNegotiation, AnswerMismatch}
 pub use Rattle.ws_code.specs.declared.fault.Fault.TheVariants.{Write, Refused, Truncated}
-pub use Rattle.ws_code.specs.Run.{Reading, IsAt, RunsOn, StopsAtLast}
+pub use Rattle.ws_code.specs.Run.{IsAt}
 pub use Rattle.ws_code.specs.declared.keep.Kept.{Kept}
 pub use Rattle.ws_telnet.specs.declared.token.Telnet.{Telnet}
-pub use Rattle.ws_telnet.specs.Token.{doubled, telnet_spelling, token_rules, IsTelnet}
-pub use Rattle.ws_telnet.specs.declared.token.Telnet.TheVariants.{Command, Option as Negotiate, Sub as Subnegotiate}
+pub use Rattle.ws_telnet.specs.Token.{telnet_spelling, token_rules, IsTelnet}
 pub use Rattle.ws_nego.specs.declared.terminal.TerminalType.{TerminalType}
 pub use Rattle.ws_nego.specs.Exchange.{Exchange, TablesAgree, IsQuiet as NothingInFlight, after_move as after_exchange}
 pub use Rattle.ws_nego.specs.Exchange.{ToStation as MoveDown, ToHost as MoveUp, after_moves as exchange_after}
 pub use Rattle.ws_nego.specs.Exchange.{after_all_to_station, after_all_to_host, after_three_deliveries, new_exchange}
-pub use Rattle.ws_nego.specs.Exchange.{after_host_answers, after_station_takes, after_host_takes}
-pub use Rattle.ws_nego.proofs.Stages.{agrees, settled_quiet, settled_station, settled_host, not_refused}
-pub use Rattle.ws_nego.proofs.Stages.{at_most_twelve, station_then, both_then, host_then}
-pub use Rattle.ws_nego.specs.Station.{station_allows_records, station_answer, StationState, name_request, station_row}
-pub use Rattle.ws_nego.specs.Station.{name_answer, is_name_request, station_option_answer}
-pub use Rattle.ws_nego.specs.Host.{host_allows_records, HostState, host_answer, accepted_terminal, opening}
-pub use Rattle.ws_nego.specs.Host.{host_option_answer, host_table_answer, host_row, host_sub_answer, host_name_answer}
-pub use Rattle.ws_nego.specs.Host.{host_judgement, after_name_request, is_name_withheld, is_name_offered, name_in}
-pub use Rattle.ws_nego.specs.Host.{request, requests}
-pub use Rattle.ws_nego.specs.Options.{Answer, bytes_of, AnswersWith, direction_at_host, entry, direction_at_station}
-pub use Rattle.ws_nego.specs.Options.{refusal_of, option_tokens}
+pub use Rattle.ws_nego.proofs.Stages.{agrees, settled_quiet, settled_station, settled_host}
+pub use Rattle.ws_nego.specs.Station.{station_allows_records, station_answer}
+pub use Rattle.ws_nego.specs.Host.{host_allows_records, HostState, host_answer, opening}
+pub use Rattle.ws_nego.specs.Options.{Answer, bytes_of, AnswersWith}
 pub use Rattle.ws_record.specs.declared.record.Item.{Item}
 pub use Rattle.ws_record.specs.Encode.{plain_spelling, item_spelling, IsInRange, record_spelling, CanBeEncoded}
-pub use Rattle.ws_record.specs.Receiver.{given, Receiving, HasReceived}
+pub use Rattle.ws_record.specs.Receiver.{Receiving, HasReceived}
 pub use Rattle.ws_record.specs.Arrived.{ending_at, arrived}
-pub use Rattle.ws_record.proofs.Fronts.{HoldsSome, arrived_past, arrived_none, arrived_are_held, front_not_refused}
-pub use Rattle.ws_record.proofs.Fronts.{one_holding}
 pub use Rattle.ws_record.specs.declared.opcode.Opcode.{Opcode}
 pub use Rattle.ws_record.specs.declared.opcode.Opcode.TheVariants.{CancelInvite, NoOperation, PutGet}
 pub use Rattle.ws_record.specs.declared.record.Record.{Record}
 pub use Rattle.ws_record.specs.declared.record.Item.TheVariants.{Record as RecordItem, Telnet as TelnetItem}
-pub use Rattle.ws_record.specs.Refusal.{IsRefused, IsTruncated}
-pub use Rattle.ws_record.specs.Grammar.{header, record_bytes, IsInGrammar, Holds, joined, commands, command_of}
+pub use Rattle.ws_record.specs.Refusal.{IsTruncated}
+pub use Rattle.ws_record.specs.Grammar.{header, IsInGrammar, Holds, joined, commands, command_of}
 pub use Rattle.ws_record.proofs.Pieces.{left_of, left_length, left_joined, bytes_on}
 pub use Rattle.ws_record.specs.Live.{CompletesUnit, Watching, Leads, LeadsWith}
 pub use Rattle.ws_record.specs.DataStep.{record_of}
@@ -67,7 +54,7 @@ pub use Rattle.ws_record.proofs.Lives.{fetched}
 pub use Rattle.ws_record.proofs.Headers.{header_length}
 pub use Rattle.ws_record.specs.declared.record.Head.{Head}
 pub use Rattle.ws_stream.specs.AnswerParts.{answer_rules}
-pub use Rattle.ws_stream.specs.Elements.{element_rules, is_command, lets_orders_follow, allows_orders}
+pub use Rattle.ws_stream.specs.Elements.{element_rules}
 pub use Rattle.ws_stream.specs.declared.element.Element.{Element}
 pub use Rattle.ws_stream.specs.Bodies.{is_body}
 pub use Rattle.ws_stream.specs.declared.answer_part.AnswerPart.{AnswerPart}
@@ -75,13 +62,12 @@ pub use Rattle.ws_stream.specs.ElementLaws.{element_bytes, element_prefix_free, 
 pub use Rattle.ws_stream.specs.declared.place.Place.{Place}
 pub use Rattle.ws_stream.specs.declared.place.Place.TheVariants.{CommandsOnly}
 pub use Rattle.ws_stream.specs.Taking.{reading_of}
-pub use Rattle.ws_screen.proofs.Applies.{longer_by, allows_after, after_elements_more, found_behind, none_behind}
-pub use Rattle.ws_screen.proofs.Applies.{same_fault, gives_next}
+pub use Rattle.ws_screen.proofs.Applies.{longer_by}
 pub use Rattle.ws_screen.specs.declared.read_kind.ReadKind.{ReadKind}
 pub use Rattle.ws_screen.specs.Bodies.{after_elements, after_end, body_fault}
 pub use Rattle.ws_screen.specs.Events.{cancelled, History, Edit, ended}
 pub use Rattle.ws_screen.specs.Formats.{fields}
-pub use Rattle.ws_screen.specs.Given.{Gives, Follows, FollowsAll, events_of}
+pub use Rattle.ws_screen.specs.Given.{Gives, Follows, FollowsAll}
 pub use Rattle.ws_screen.specs.Writes.{open_write}
 pub use Rattle.ws_screen.specs.States.{pending_read}
 pub use Rattle.ws_screen.specs.ByHost.{by_host, layouts, read_left_by}
@@ -90,7 +76,6 @@ pub use Rattle.ws_screen.proofs.ScreenLaws.{body_fault_alike, pending-elements, 
 pub use Rattle.ws_screen.proofs.ScreenLaws.{by_host-append, one_screen}
 pub use Rattle.ws_screen.specs.declared.field.Field.{Field}
 pub use Rattle.ws_screen.specs.ScreenParts.{AreApart, ScreenParts, IsLegal}
-pub use Rattle.ws_screen.specs.Faults.{fault}
 pub use Rattle.ws_keys.specs.declared.key.Key.TheVariants.{Aid as Send, Attention as Attend, SystemRequest as Request}
 pub use Rattle.ws_keys.specs.declared.host_answer.HostAnswer.{HostAnswer}
 pub use Rattle.ws_keys.specs.Contents.{answer_parts, answer_bytes}
@@ -112,11 +97,11 @@ pub use Rattle.ws_session.specs.World.{host_sends, after_press, after_send}
 pub use Rattle.ws_session.specs.Runs.{AreWritable, WorldParts, Runs, IsKey}
 pub use Rattle.ws_session.specs.declared.refusal.Refusal.{Refusal}
 pub use Rattle.ws_session.specs.declared.world.Event.{Event}
-pub use Rattle.ws_session.specs.Acts.{Doing, Act, Came, all_came, Did, Happening, Does, idle, one_then, doing}
-pub use Rattle.ws_session.specs.Acts.{items_of, HasGone, Arrives, as_list, Manner, AllTaken, Happen, HoldsItems, Goes}
+pub use Rattle.ws_session.specs.Acts.{Doing, Act, Came, all_came, Did, Happening, Does, doing, items_of, HasGone}
+pub use Rattle.ws_session.specs.Acts.{Arrives, as_list, Manner, AllTaken, Happen, HoldsItems, Goes}
 pub use Rattle.ws_session.specs.Through.{HasRefusedIn, Through}
 pub use Rattle.ws_session.specs.Wires.{WireParts, reported, HasMemory, Comes, AllCome, AreDelivered}
-pub use Rattle.ws_session.specs.declared.refusal.Refusal.TheVariants.{At, Failed, Memory, Failed as NoMore}
+pub use Rattle.ws_session.specs.declared.refusal.Refusal.TheVariants.{At, Failed, Memory}
 pub use Rattle.ws_session.specs.ActLaws.{came_append, gone_on, bytes_came}
 pub use Rattle.ws_session.specs.Attachments.{AttachedParts, fault_of, HaveLed, HaveLedUnwritten, HasRefused}
 pub use Rattle.ws_session.specs.Attachments.{IsByteFault, HasTaken, IsTakeFault, HasHeard, IsHearFault, IsSendFailure}
@@ -129,7 +114,7 @@ pub use Rattle.ws_session.specs.HostSide.{HostSide, sent_record, is_outstanding,
 pub use Rattle.ws_session.specs.HostSide.{host_negotiates, host_reads, host_reads_by, host_ends_cancel, signal}
 pub use Rattle.ws_session.specs.HostSide.{host_takes_record, host_takes, HostOutput, SendReaction, RefusesSend, Sends}
 pub use Rattle.ws_session.specs.HostSide.{host_cancel, host_send, asked_read, host_sends_body, new_host_side}
-pub use Rattle.ws_session.specs.HostSide.{is_too_big, ready_by_terminal, has_flag}
+pub use Rattle.ws_session.specs.HostSide.{is_too_big, ready_by_terminal}
 pub use Rattle.ws_session.specs.Reaction.{empty_record, Refuses, GoesOn, Reaction}
 pub use Rattle.ws_session.specs.Answered.{answers_in, answer_in, items_coming, is_answer, answers_coming, host_answers}
 pub use Rattle.ws_session.specs.declared.host_event.HostEvent.TheVariants.{Answer as Answered, Cancelled}
@@ -143,7 +128,6 @@ pub use Rattle.ws_session.specs.declared.send_fault.SendFault.TheVariants.{NotAl
 pub use Rattle.ws_session.specs.declared.send_fault.SendFault.TheVariants.{BadSequence, TooBig}
 pub use Rattle.ws_session.specs.declared.send_fault.SendFault.TheVariants.{Screen as RefusedByScreen}
 pub use Rattle.ws_session.specs.declared.key_fault.KeyFault.TheVariants.{Failed as KeyFailed, NotReady}
-pub use Rattle.ws_session.specs.declared.key_fault.KeyFault.TheVariants.{Key as RefusedKey}
 pub use Rattle.ws_session.specs.declared.world.Move.TheVariants.{ToStation, ToHost, Cancel, Key as Press}
 pub use Rattle.ws_session.specs.declared.world.Move.TheVariants.{Send as SendMove}
 pub use Rattle.ws_session.specs.Refusals.{is_refusal, refusals_in}
@@ -152,13 +136,13 @@ pub use Rattle.ws_session.specs.HostLeads.{IsReacted, unopened_host_side}
 pub use Rattle.ws_session.specs.StationLeads.{StationParts, StationLeads, IsPushed, IsKeyed, IsTaken, IsStepped}
 pub use Rattle.ws_session.specs.StationLeads.{is_record, records_in, TakesItem, IsClosed, keeps_body}
 pub use Rattle.ws_session.specs.Manners.{station_at_item, StationRefuses, station_manner, station_at_key, host_at_send}
-pub use Rattle.ws_session.specs.Manners.{IsSendRefusal, host_at_item, IsKeyRefusal, StationGoes, host_manner, HostGoes}
-pub use Rattle.ws_session.specs.Manners.{HostRefuses, IsSendTaken, applied_by, IsKeyTaken, goes_on, told_by}
+pub use Rattle.ws_session.specs.Manners.{host_at_item, IsKeyRefusal, StationGoes, host_manner, HostGoes, HostRefuses}
+pub use Rattle.ws_session.specs.Manners.{applied_by, IsKeyTaken, goes_on, told_by}
 pub use Rattle.ws_session.specs.declared.end_step.Applied.{Applied}
 pub use Rattle.ws_session.specs.declared.answer.TheConstants.{ATN, SRQ}
 pub use Rattle.ws_session.specs.declared.key_fault.KeyFault.{KeyFault}
 pub use Rattle.ws_session.specs.AnswerSpelling.{answer_spelling}
-pub use Rattle.ws_session.specs.declared.end_step.Order.TheVariants.{Cancel as Cancelling, Send as Sending}
+pub use Rattle.ws_session.specs.declared.end_step.Order.TheVariants.{Cancel as Cancelling}
 pub use Rattle.ws_session.specs.declared.send_fault.SendFault.{SendFault}
 pub use Rattle.ws_session.specs.declared.host_event.HostStep.{HostStep}
 pub use Rattle.ws_session.specs.declared.station.StationStep.{StationStep}
