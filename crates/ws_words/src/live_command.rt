@@ -109,11 +109,8 @@ pub fn connect_command<'a>(alloc: Global) -> Result<Command<'a>, clap::Error> {
         .after_help(CONNECT_EXAMPLES)
         .arg(color_flag(alloc))?
         .arg(terminal)?
-        .arg(wait(alloc))?
-        .arg(ready(alloc))?
-        .arg(host)?
-        .arg(script(alloc))?;
-    Ok(command)
+        .arg(host)?;
+    with_script(alloc, command)
 }
 
 pub fn serve_command<'a>(alloc: Global) -> Result<Command<'a>, clap::Error> {
@@ -126,11 +123,8 @@ pub fn serve_command<'a>(alloc: Global) -> Result<Command<'a>, clap::Error> {
     let command = Command::new(alloc, "serve")
         .about("Is a host for one station, by a script or line by line")
         .after_help(SERVE_EXAMPLES)
-        .arg(wait(alloc))?
-        .arg(ready(alloc))?
-        .arg(address)?
-        .arg(script(alloc))?;
-    Ok(command)
+        .arg(address)?;
+    with_script(alloc, command)
 }
 
 /// The flag for screens in colour.
@@ -148,6 +142,15 @@ pub fn paint_asked(words: &ArgMatches<'_>) -> Paint {
     } else {
         Paint::Plain
     }
+}
+
+// What both sessions take: the time of a wait, whether `ok` is told, and a script.
+fn with_script<'a>(alloc: Global, command: Command<'a>) -> Result<Command<'a>, clap::Error> {
+    let command = command
+        .arg(wait(alloc))?
+        .arg(ready(alloc))?
+        .arg(script(alloc))?;
+    Ok(command)
 }
 
 fn wait<'a>(alloc: Global) -> Arg<'a> {
