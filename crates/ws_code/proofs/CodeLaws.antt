@@ -1,6 +1,5 @@
-use Rattle.std.proofs.Common.{true, ◌≡◌, ℕ, zero, suc, ◌+◌, ◌<◌, List, [], ◌∷◌, ◌++◌, ◌⊎◌, inl, inr, length, take, get_or}
-use Rattle.std.proofs.Common.{refl}
-use Rattle.std.proofs.Common.{sym, ap, ◌∙◌, subst, arith, append_assoc, length-append}
+use Rattle.std.proofs.Common.{true, ◌≡◌, ℕ, zero, suc, ◌+◌, ◌<◌, List, [], ◌∷◌, ◌++◌, ◌⊎◌, inl, inr, length, take}
+use Rattle.std.proofs.Common.{get_or, refl, sym, ap, ◌∙◌, subst, arith, append_assoc, length-append}
 use Rattle.std.proofs.Math.ListN.{replicate}
 use Rattle.std.proofs.lemmas.List.{append_cancel_left, append-nil, take_more}
 use Rattle.std.proofs.lemmas.Grind.{flat_map-append}
@@ -117,6 +116,13 @@ module _ {Place U : Type 0} where
         subst (IsChain rules rules.first) next (chain_more rules rules.first (take i units) unit c s),
         sym (place_after_more rules rules.first (take i units) unit) ∙ ap (place_after rules rules.first) next,
       )
+
+  -- the unit at an index of a chain stands where those before it lead
+  pub chain_at : (rules : Rules Place U) (place : Place) (units : List U) (i : ℕ) (unit : U) → i < length units → unit
+      ≡ get_or units i unit → IsChain rules place units → Stands rules (place_after rules place (take i units)) unit
+  chain_at rules place [] i unit k e c = absurd (omega arith)
+  chain_at rules place (u ∷ units) zero unit k e c = rw e c.0
+  chain_at rules place (u ∷ units) (suc i) unit k e c = chain_at rules (rules.after u) units i unit (omega arith) e c.1
 
   -- the law on what may begin, for every place
   abbrev pub Begins : Rules Place U → Type 0

@@ -6,7 +6,7 @@ use Rattle.std.proofs.Math.Seq.{take-append-add, take-length, drop-nil}
 use Rattle.std.proofs.lemmas.Grind.{flat_map-append}
 use Rattle.ws_code.specs.Device.{MayTake, MayGive, Taken, Given, bytes_taken, Writes, WentOut, FailedAfter}
 use Rattle.ws_code.specs.Device.{FailedWithin, IsWriteFailure, Reads, bytes_given, most_reads, Gave, GaveAll}
-use Rattle.ws_code.specs.Device.{ReadFailed, ReadFault, list_gives, Held, held_takes}
+use Rattle.ws_code.specs.Device.{ReadFault, list_gives, Held, held_takes}
 
 -- `&xs[i..]`
 pub rest_from : (xs : List ℕ) (i : ℕ) → take (length xs - i) (drop i xs) ≡ drop i xs

@@ -39,6 +39,21 @@ module _ {Place U : Type 0} where
         refl,
       )
 
+-- a run from where a body begins
+pub from_first : {Place U : Type 0} (rules : Rules Place U) (from to : Reading Place) (values : List ℕ)
+    → (run : HasRun rules from values to) → from.place ≡ rules.first → from.begun ≡ []
+    → (first : HasRun rules (record { place = rules.first; begun = [] }) values to) × (first.units ≡ run.units)
+from_first {Place} {U} rules from to values run ep eb = (
+  record {
+    units = run.units;
+    chain = rw ep at run.chain;
+    behind = run.behind ∙ ap (λ (p : Place). place_after rules p run.units) ep;
+    unfinished = run.unfinished;
+    spelled = run.spelled ∙ ap (λ x. x ++ values) eb;
+  },
+  refl,
+)
+
 module _ {Place U K : Type 0} where
   -- no value
   pub runs_none : (rules : Rules Place U) (holds : K → List U → List ℕ → Type 0) (may_answer : Kept → Type 0)

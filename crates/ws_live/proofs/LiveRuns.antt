@@ -8,7 +8,7 @@ use Rattle.ws_code.specs.Device.{MayTake, WentOut, FailedWithin}
 use Rattle.ws_code.specs.declared.fault.Fault.{Fault}
 use Rattle.std.proofs.lemmas.Bool.{false≢true}
 use Rattle.ws_code.proofs.DeviceLaws.{went_out_both}
-use Rattle.ws_record.proofs.Writes.{fails_last}
+use Rattle.ws_code.proofs.Parts.{fails_last}
 use Rattle.ws_live.specs.declared.live.Closing.{Closing}
 use Rattle.ws_live.specs.declared.live.Closing.TheVariants.{Nothing, Done, Declined, Late, Ended, Stopped}
 use Rattle.ws_live.specs.declared.live.Ran.{Ran}

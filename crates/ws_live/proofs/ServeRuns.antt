@@ -5,7 +5,7 @@ use Rattle.std.proofs.lemmas.Bool.{false≢true}
 use Rattle.std.proofs.lemmas.List.{append-nil, replicate-append-replicate}
 use Rattle.ws_code.specs.Device.{MayTake, MayGive, WentOut, most_reads}
 use Rattle.ws_code.proofs.DeviceLaws.{went_out_both}
-use Rattle.ws_record.proofs.Writes.{fails_last}
+use Rattle.ws_code.proofs.Parts.{fails_last}
 use Rattle.ws_code.specs.declared.fault.Fault.{Fault}
 use Rattle.ws_code.specs.declared.fault.Fault.TheVariants as fault
 use Rattle.ws_record.specs.declared.opcode.Opcode.{Opcode}

@@ -1,6 +1,7 @@
 use Rattle.std.proofs.Common.{ℕ, ◌<◌, List, [], ◌∷◌, ◌++◌, Option, Some, None, Bool, true, false, arith, rules}
 use Rattle.std.proofs.Common.{if◌then◌else◌}
 use Rattle.std.specs.List.{AllByRecursion}
+use Rattle.ws_code.proofs.Lists.{AllByRecursion-append}
 use Rattle.ws_telnet.specs.declared.codes.TheConstants.{END_OF_RECORD, BINARY}
 use Rattle.ws_telnet.specs.declared.token.Telnet.{Telnet}
 use Rattle.ws_telnet.specs.declared.token.Telnet.TheVariants.{Command, Option as Negotiate, Sub as Subnegotiate}
@@ -21,11 +22,6 @@ use Rattle.ws_nego.specs.Host.{HostState, host_answer, host_option_answer, host_
 use Rattle.ws_nego.specs.Host.{host_name_answer, host_judgement, after_name_request, is_name_offered, request, requests}
 
 -- What an end answers to a token that can be written can be written.
-
-both : {X : Type 0} (P : X → Type 0) (xs ys : List X) → AllByRecursion P xs → AllByRecursion P ys
-    → AllByRecursion P (xs ++ ys)
-both P [] ys a b = b
-both P (x ∷ xs) ys a b = (a.0, both P xs ys a.1 b)
 
 option_in_range : (verb : Option Verb) (option : ℕ) → option < 256 → AllByRecursion IsTelnet (option_tokens verb option)
 option_in_range None option h = tt
@@ -63,8 +59,9 @@ requests_in_range modes =
     let b = request modes.host_end_of_record Will END_OF_RECORD in
     let c = request modes.station_binary Do BINARY in
     let d = request modes.host_binary Will BINARY in
-    both _ _ d (both _ _ c (both _ a b (request_in_range _ Do _ (omega arith)) (request_in_range
-    _ Will _ (omega arith))) (request_in_range _ Do _ (omega arith))) (request_in_range _ Will _ (omega arith))
+    AllByRecursion-append _ _ d (AllByRecursion-append _ _ c (AllByRecursion-append _ a b
+    (request_in_range _ Do _ (omega arith)) (request_in_range _ Will _ (omega arith)))
+    (request_in_range _ Do _ (omega arith))) (request_in_range _ Will _ (omega arith))
 
 asks_in_range : IsTelnet name_request
 asks_in_range = search rules

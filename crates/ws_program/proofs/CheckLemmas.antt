@@ -21,7 +21,7 @@ use Rattle.ws_record.specs.Live.{Watching, Leads}
 use Rattle.ws_record.specs.OpenRecord.{RecordSoFar, no_record}
 use Rattle.ws_record.specs.Refusal.{IsRefused}
 use Rattle.ws_record.proofs.Receivers.{refused_append}
-use Rattle.ws_record.proofs.Takings.{same_front}
+use Rattle.ws_code.proofs.Lists.{same_front}
 use Rattle.ws_program.specs.declared.check.Tally.{Tally}
 use Rattle.ws_program.specs.CheckLine.{record_count, command_count}
 use Rattle.ws_program.specs.Checking.{Counts, tally_after, one_record, one_command}

@@ -12,7 +12,7 @@ use Rattle.ws_record.specs.Grammar.{IsInGrammar, IsStretch, commands, joined}
 use Rattle.ws_record.specs.declared.record.Record.{Record}
 use Rattle.ws_record.specs.declared.record.Item.{Item}
 use Rattle.ws_record.specs.declared.record.Item.TheVariants.{Record as RecordItem}
-use Rattle.ws_record.proofs.Streams.{AllByRecursion-append}
+use Rattle.ws_code.proofs.Lists.{AllByRecursion-append}
 use Rattle.ws_stream.specs.Elements.{element_rules}
 use Rattle.ws_stream.specs.declared.element.Element.{Element}
 use Rattle.ws_text.specs.Items.{EndsHere}

@@ -20,8 +20,8 @@ use Rattle.ws_record.specs.Receiver.{Receiving, HasReceived, IsFeedFault, NoneBe
 use Rattle.ws_record.specs.declared.record.Record.{Record}
 use Rattle.ws_record.specs.declared.record.Item.{Item}
 use Rattle.ws_record.specs.declared.record.Item.TheVariants.{Record as RecordItem, Telnet as TelnetItem}
-use Rattle.ws_record.proofs.Streams.{AllByRecursion-append}
-use Rattle.ws_record.proofs.Writes.{fails_last}
+use Rattle.ws_code.proofs.Lists.{AllByRecursion-append}
+use Rattle.ws_code.proofs.Parts.{fails_last}
 use Rattle.ws_program.specs.declared.verdict.Verdict.TheVariants.{Refused, Truncated}
 use Rattle.ws_program.specs.CheckLine.{line_of, verdict_by}
 use Rattle.ws_program.specs.StreamText.{View, Placed, items_of, lines_of, HoldsItems, IsComplete, AreShown, IsShown}

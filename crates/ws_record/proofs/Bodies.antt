@@ -1,22 +1,7 @@
 use Rattle.ws_record.proofs.Common as C
-use C.{true, ◌≡◌, ℕ, List, [], ◌∷◌, ◌++◌, take, drop, refl, sym, ap, ◌∙◌, append_assoc, append-nil, take-append-drop}
-use C.{Rules, IsSpelled, IsPrefix, IsPrefixFree, place_after, spelling_of, Reading, HasRun, Begins, one_cut, cut_bad}
+use C.{true, ◌≡◌, ℕ, List, [], ◌∷◌, ◌++◌, take, drop, sym, ap, ◌∙◌, append_assoc, append-nil, take-append-drop, Rules}
+use C.{IsSpelled, IsPrefix, IsPrefixFree, place_after, spelling_of, Reading, HasRun, Begins, one_cut, cut_bad}
 use C.{cut_unit, IsBody, HasUnitSoFar}
-
--- a run from where a body begins
-pub from_first : {Place U : Type 0} (rules : Rules Place U) (from to : Reading Place) (values : List ℕ)
-    → (run : HasRun rules from values to) → from.place ≡ rules.first → from.begun ≡ []
-    → (first : HasRun rules (record { place = rules.first; begun = [] }) values to) × (first.units ≡ run.units)
-from_first {Place} {U} rules from to values run ep eb = (
-  record {
-    units = run.units;
-    chain = rw ep at run.chain;
-    behind = run.behind ∙ ap (λ (p : Place). place_after rules p run.units) ep;
-    unfinished = run.unfinished;
-    spelled = run.spelled ∙ ap (λ x. x ++ values) eb;
-  },
-  refl,
-)
 
 -- Bodies by themselves, read from where a body begins.
 module _ {Place U : Type 0} (rules : Rules Place U) (bytes : List ℕ) (to : Reading Place) where

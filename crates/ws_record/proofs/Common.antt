@@ -1,31 +1,36 @@
 -- The names that the proofs cite most, of the crates below and of the specs, passed on from one place.
 
-pub use Rattle.std.proofs.Common.{length-append, append_assoc, MatchResult, length-drop, length-take, eqb-true, Result}
-pub use Rattle.std.proofs.Common.{length, get_or, nat_lt, ne_eqb, Option, Global, IfErr, false, arith, true, List, ◌≡◌}
-pub use Rattle.std.proofs.Common.{◌++◌, take, drop, refl, IfOk, zero, Bool, Some, None, ◌∷◌, sym, ◌∙◌, ◌<◌, ◌⊎◌, Err}
-pub use Rattle.std.proofs.Common.{◌*◌, ◌≤◌, inl, inr, ◌+◌, ◌/◌, ◌%◌, ◌^◌, map, suc, ◌-◌, ◌≢◌, Vec, [], ap, Ok, ℕ}
+pub use Rattle.std.proofs.Common.{true, ◌≡◌, ℕ, List, [], ◌∷◌, ◌++◌, take, drop, refl, sym, ap, ◌∙◌, append_assoc, ◌<◌}
+pub use Rattle.std.proofs.Common.{◌⊎◌, Result, Ok, Err, IfOk, IfErr, MatchResult, length, ◌*◌, ◌≤◌, inl, inr, false}
+pub use Rattle.std.proofs.Common.{arith, eqb-true, ◌+◌, ◌/◌, ◌%◌, ◌^◌, map, zero, suc, get_or, ◌-◌, nat_lt}
+pub use Rattle.std.proofs.Common.{length-append, ◌≢◌, length-drop, Bool, Option, Some, None, length-take, Vec, Global}
 pub use Rattle.std.proofs.Math.ListN.{replicate, get_or-append, drop_of_length-le}
-pub use Rattle.std.proofs.Math.Seq.{get_or-append_right, get_or-append_seam, take-add, take-length}
+pub use Rattle.std.proofs.Math.Seq.{get_or-append_right, get_or-append_seam, take-length}
 pub use Rattle.std.proofs.lemmas.Bool.{cases_lt, le-ltb}
 pub use Rattle.std.proofs.lemmas.Bool.Decides.{nat_tests, eqb_tells}
 pub use Rattle.std.proofs.lemmas.Grind.{flat_map-append}
 pub use Rattle.std.proofs.lemmas.List.{append-nil, take-append-drop, take_more, length-take-le, get_or-drop}
 pub use Rattle.std.proofs.lemmas.List.{length-replicate, take-append-le, take_at, get_or-take, drop-append-le}
-pub use Rattle.std.proofs.lemmas.List.{take_all, map-append, take-take, drop-take}
+pub use Rattle.std.proofs.lemmas.List.{take_all, map-append}
 pub use Rattle.std.proofs.lemmas.Result.{err_from_is_err_and, on_ok_weaker, IfErr-weaker, MatchResult-weaker}
 pub use Rattle.std.specs.List.{flat_map, AllByRecursion}
 pub use Rattle.std.specs.Option.{is_some, unwrap_or}
 pub use Rattle.std.specs.Prelude.{◌==◌, IfSome, slice_index, IfNone, if◌then◌else◌}
+pub use Rattle.ws_code.proofs.Bytes.{AreBytes-apart, SpellsBytes, byte_at, front_bytes, list_bytes}
 pub use Rattle.ws_code.proofs.CodeLaws.{Begins, one_cut, cut_bad, cut_unit, one_begins, one_list, no_end}
 pub use Rattle.ws_code.proofs.CodeLaws.{AreBytes-front, AreBytes-append, zeros_are, CanEnd, chain_append}
 pub use Rattle.ws_code.proofs.CodeLaws.{place_after-append, cut_ends, cut_more, cut_begins, chain_next}
-pub use Rattle.ws_code.proofs.DeviceLaws.{list_gave, list_gave_all, list_no_fault, went_out_none, went_out_both}
-pub use Rattle.ws_code.proofs.DeviceLaws.{failed_within_both, rest_from, gave_more, gave_all, take_some, held_went_out}
+pub use Rattle.ws_code.proofs.Cuts.{cut_at}
+pub use Rattle.ws_code.proofs.DeviceLaws.{list_gave, list_gave_all, list_no_fault, gave_more, gave_all, take_some}
+pub use Rattle.ws_code.proofs.DeviceLaws.{held_went_out, length_rest}
+pub use Rattle.ws_code.proofs.Lists.{AllByRecursion-append, AllByRecursion-front, AllByRecursion-last, one_last}
+pub use Rattle.ws_code.proofs.Lists.{same_front}
+pub use Rattle.ws_code.proofs.Parts.{each_fails, each_more, first_fails, second_fails, third_fails, three_out}
+pub use Rattle.ws_code.proofs.Pieces.{bytes_on, each_on, left_of, room_on, upto}
 pub use Rattle.ws_code.proofs.RunLaws.{run_unit, is_between}
 pub use Rattle.ws_code.specs.Code.{Rules, IsSpelled, IsPrefix, IsPrefixFree, IsChain, IsUnfinished, place_after}
-pub use Rattle.ws_code.specs.Code.{spelling_of, Stands, AreBytes, IsCut}
-pub use Rattle.ws_code.specs.Device.{most_reads, list_gives, GaveAll, MayGive, Gave, MayTake, WentOut, FailedWithin}
-pub use Rattle.ws_code.specs.Device.{Held}
+pub use Rattle.ws_code.specs.Code.{spelling_of, AreBytes, IsCut}
+pub use Rattle.ws_code.specs.Device.{most_reads, list_gives, GaveAll, MayGive, Gave, WentOut, Held}
 pub use Rattle.ws_code.specs.Keep.{holds_last, Keeps}
 pub use Rattle.ws_code.specs.Run.{Reading, HasRun, RunsOn, StopsAtLast}
 pub use Rattle.ws_code.specs.declared.fault.Fault.{Fault}
@@ -38,8 +43,9 @@ pub use Rattle.ws_record.specs.DataStep.{IsWholeRecord}
 pub use Rattle.ws_record.specs.DecodeFrom.{IsSourceFault}
 pub use Rattle.ws_record.specs.Encode.{record_spelling, item_spelling, plain_spelling, CanBeEncoded, CanAllBeEncoded}
 pub use Rattle.ws_record.specs.Encode.{IsInRange, IsFirst, IsBadSequence, IsTooBig}
-pub use Rattle.ws_record.specs.Grammar.{record_bytes, IsInGrammar, opcode_byte, IsBodyBytes, IsStretch, IsStream}
-pub use Rattle.ws_record.specs.Grammar.{IsRecord, IsFramed, HasNoEor, carried, data_of, joined, header, Spells, Holds}
+pub use Rattle.ws_record.specs.Grammar.{IsInGrammar, IsStream, IsRecord, Holds, joined, record_bytes, header}
+pub use Rattle.ws_record.specs.Grammar.{opcode_byte, carried, IsFramed, HasNoEor, IsBodyBytes, IsStretch, Spells}
+pub use Rattle.ws_record.specs.Grammar.{data_of}
 pub use Rattle.ws_record.specs.HeaderSoFar.{HeaderSoFar, declared, head_in}
 pub use Rattle.ws_record.specs.Live.{Watching, Leads, LeadsWith, IsFrontStep, IsLiveStep, CompletesUnit}
 pub use Rattle.ws_record.specs.OpenPrefix.{EndsRecord, LeavesOpen, LastRecordMeets, BeginsList, IsOpenPrefix}
@@ -56,13 +62,16 @@ pub use Rattle.ws_record.specs.Taking.{ArePlain, KeepsTold, IsTaken, IsEnd, IsWo
 pub use Rattle.ws_record.specs.declared.news.News.{News}
 pub use Rattle.ws_record.specs.declared.news.News.TheVariants.{More, Unit as Whole, Open, Close, NoMemory}
 pub use Rattle.ws_record.specs.declared.opcode.Opcode.{Opcode}
-pub use Rattle.ws_record.specs.declared.opcode.Opcode.TheVariants.{NoOperation, Invite, OutputOnly, PutGet, SaveScreen}
-pub use Rattle.ws_record.specs.declared.opcode.Opcode.TheVariants.{RestoreScreen, ReadImmediate, ReadScreen}
-pub use Rattle.ws_record.specs.declared.opcode.Opcode.TheVariants.{CancelInvite, MessageLightOn, MessageLightOff}
+pub use Rattle.ws_record.specs.declared.opcode.Opcode.TheVariants.{NoOperation, Invite, OutputOnly, PutGet}
+pub use Rattle.ws_record.specs.declared.opcode.Opcode.TheVariants.{SaveScreen, RestoreScreen, ReadImmediate}
+pub use Rattle.ws_record.specs.declared.opcode.Opcode.TheVariants.{ReadScreen, CancelInvite, MessageLightOn}
+pub use Rattle.ws_record.specs.declared.opcode.Opcode.TheVariants.{MessageLightOff}
 pub use Rattle.ws_record.specs.declared.record.Head.{Head}
 pub use Rattle.ws_record.specs.declared.record.Item.{Item}
 pub use Rattle.ws_record.specs.declared.record.Item.TheVariants.{Record as RecordItem, Telnet as TelnetItem}
 pub use Rattle.ws_record.specs.declared.record.Record.{Record}
+pub use Rattle.ws_telnet.proofs.OneToken.{begins_token}
+pub use Rattle.ws_telnet.proofs.TokenLists.{all_right}
 pub use Rattle.ws_telnet.specs.Machine.{unfinished_of, sub_of}
 pub use Rattle.ws_telnet.specs.Token.{token_rules, telnet_spelling, doubled, IsTelnet, command_byte, verb_byte}
 pub use Rattle.ws_telnet.specs.Token.{token_spelling, IsToken}

@@ -1,22 +1,13 @@
 use Rattle.ws_record.proofs.Common as C
 use C.{◌≡◌, ℕ, List, [], ◌∷◌, ◌++◌, ◌⊎◌, inl, inr, length, drop, refl, sym, ap, ◌∙◌, append_assoc, append-nil, Rules}
-use C.{IsPrefixFree, Reason, Fault, Refused, Truncated, Memory, one_begins, one_cut, one_list, no_end, token_rules}
+use C.{IsPrefixFree, Reason, Fault, Refused, Truncated, Memory, one_begins, one_cut, one_list, token_rules}
 use C.{token_prefix_free, token_begins, Token, Data, carried, joined, EndsWith, Layer, IsOpen, IsFirstClosed}
-use C.{IsBodyReason, IsReason, IsRefused, IsTruncated, Tokens, Header, Body, IsDecodeFault}
+use C.{IsBodyReason, IsReason, IsRefused, IsTruncated, Tokens, Header, Body, IsDecodeFault, all_right}
+use Rattle.ws_code.proofs.Lists.{same_last}
 use Rattle.ws_record.proofs.Decodes.{closed_is_not}
 use Rattle.ws_record.proofs.Reading.{one_join}
-use Rattle.ws_record.proofs.Streams.{all_right}
 
 -- Bytes are refused at one place and for one reason, or truncated, and not both.
-
-same_last : {X : Type 0} (xs ys : List X) (x y : X) → xs ++ x ∷ [] ≡ ys ++ y ∷ [] → (xs ≡ ys) × (x ≡ y)
-same_last [] [] x y e = (refl, (let f : x ≡ y = cc in f))
-same_last [] (b ∷ ys) x y e = let f : [] ≡ ys ++ y ∷ [] = cc in absurd (no_end ys y [] f)
-same_last (a ∷ xs) [] x y e = let f : xs ++ x ∷ [] ≡ [] = cc in absurd (no_end xs x [] (sym f))
-same_last (a ∷ xs) (b ∷ ys) x y e =
-    let head : a ≡ b = cc in
-    let rest = same_last xs ys x y (let f : xs ++ x ∷ [] ≡ ys ++ y ∷ [] = cc in f) in
-    (ap (λ z. z ∷ xs) head ∙ ap (λ zs. b ∷ zs) rest.0, rest.1)
 
 -- the last of whole tokens, and the record bytes before it
 one_end : (bytes so_far other : List ℕ) (s t : Token) → EndsWith bytes so_far s → EndsWith bytes other t

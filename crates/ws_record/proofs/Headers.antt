@@ -1,23 +1,10 @@
 use Rattle.ws_record.proofs.Common as C
-use C.{take-append-drop, take, ◌≡◌, ℕ, ◌+◌, ◌-◌, ◌*◌, ◌/◌, ◌%◌, ◌<◌, ◌≤◌, ◌^◌, List, [], ◌∷◌, ◌++◌, inl, inr, zero, suc}
-use C.{length, drop, get_or, refl, sym, ap, ◌∙◌, arith, append_assoc, length-append, length-drop, replicate}
-use C.{get_or-append, get_or-append_right, get_or-append_seam, get_or-drop, cases_lt, length-replicate, AreBytes}
-use C.{AreBytes-append, zeros_are, Opcode, Invite, IsFramed, header, opcode_byte, CanBeFramed, HeaderSoFar, declared}
-use Rattle.ws_record.proofs.Prefixes.{AreBytes-apart}
-
--- ten cells and the rest
-pub ten_cells : (xs : List ℕ) → 10 ≤ length xs
-    → xs
-    ≡ get_or xs 0 0 ∷ get_or xs 1 0 ∷ get_or xs 2 0 ∷ get_or xs 3 0 ∷ get_or xs 4 0 ∷ get_or xs 5 0 ∷ get_or xs 6 0
-    ∷ get_or xs 7 0 ∷ get_or xs 8 0 ∷ get_or xs 9 0 ∷ drop 10 xs
-ten_cells (a ∷ b ∷ c ∷ d ∷ e ∷ f ∷ g ∷ h ∷ i ∷ j ∷ xs) k = refl
-ten_cells xs k = absurd (omega arith)
-
--- a byte at a place is one
-pub byte_at : (xs : List ℕ) (i : ℕ) → AreBytes xs → get_or xs i 0 < 256
-byte_at [] i h = omega arith
-byte_at (x ∷ xs) zero h = h.0
-byte_at (x ∷ xs) (suc i) h = byte_at xs i h.1
+use C.{take-append-drop, take, ◌≡◌, ℕ, ◌+◌, ◌-◌, ◌*◌, ◌/◌, ◌%◌, ◌<◌, ◌≤◌, ◌^◌, List, [], ◌∷◌, ◌++◌, inl, inr, length}
+use C.{drop, get_or, refl, sym, ap, ◌∙◌, arith, append_assoc, length-append, length-drop, replicate, get_or-append}
+use C.{get_or-append_right, get_or-append_seam, get_or-drop, cases_lt, length-replicate, AreBytes, AreBytes-append}
+use C.{zeros_are, Opcode, Invite, IsFramed, header, opcode_byte, CanBeFramed, HeaderSoFar, declared, AreBytes-apart}
+use C.{byte_at}
+use Rattle.ws_code.proofs.Lists.{ten_cells}
 
 -- the length of a header is ten
 pub header_length : (n f : ℕ) (o : Opcode) (rest : List ℕ) → length (header n f o ++ rest) ≡ 10 + length rest

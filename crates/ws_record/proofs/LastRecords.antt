@@ -2,11 +2,12 @@ use Rattle.ws_record.proofs.Common as C
 use C.{◌≡◌, ℕ, List, [], ◌∷◌, ◌++◌, inl, inr, refl, sym, ap, ◌∙◌, append_assoc, AllByRecursion, append-nil}
 use C.{flat_map-append, IsChain, IsCut, AreBytes, spelling_of, one_cut, no_end, token_rules, token_prefix_free}
 use C.{token_begins, Token, Eor, IsStream, HasNoEor, joined, carried, EndsRecord, LeavesOpen, LastRecordMeets}
-use Rattle.ws_record.proofs.Prefixes.{parted, last_of, chain_front, data_are_bytes, AreBytes-apart, parts_are_bytes}
-use Rattle.ws_record.proofs.Prefixes.{AllByRecursion-front, AllByRecursion-both, cut_at, all_but_last}
+use C.{AllByRecursion-append, AllByRecursion-front, AllByRecursion-last, AreBytes-apart, cut_at}
+use Rattle.ws_code.proofs.Lists.{AllByRecursion-both, all_but_last, last_of}
+use Rattle.ws_telnet.proofs.TokenLists.{chain_front}
+use Rattle.ws_record.proofs.Prefixes.{parted, data_are_bytes, parts_are_bytes}
 use Rattle.ws_record.proofs.Reading.{one_join}
-use Rattle.ws_record.proofs.Streams.{EachPart, ended_stream, AllByRecursion-append, AllByRecursion-last, joined_eor}
-use Rattle.ws_record.proofs.Streams.{stream_asks, open_stream}
+use Rattle.ws_record.proofs.Streams.{EachPart, ended_stream, joined_eor, stream_asks, open_stream}
 
 -- Where bytes stand in a stream: behind an Eor, or elsewhere.
 module _ (bytes : List ℕ) (parts : List (List Token)) (rest : List Token) (begun : List ℕ)

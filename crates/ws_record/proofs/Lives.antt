@@ -1,63 +1,33 @@
 use Rattle.ws_record.proofs.Common as C
-use C.{Bool, false, ◌≡◌, ◌≢◌, ◌<◌, ◌≤◌, ◌^◌, ne_eqb, refl, ℕ, ◌+◌, List, [], ◌∷◌, ◌++◌, inl, inr, Option, Some, None}
-use C.{◌-◌, ◌⊎◌, length, take, sym, ap, ◌∙◌, arith, append_assoc, length-append, cases_lt, append-nil, Rules}
-use C.{IsUnfinished, IsSpelled, AreBytes, AreBytes-front, CanEnd, no_end, Kept, Reason, token_rules, unfinished_of}
-use C.{sub_of, IAC, Telnet, Data, Eor, TelnetToken, Item, TelnetItem, News, More, Whole, Open, Close, NoMemory, Holds}
-use C.{IsInGrammar, Layer, IsOpen, IsRefused, IsTruncated, RecordSoFar, no_record, Keeping, HasRead, holds_last}
-use C.{Watching, Leads, LeadsWith, IsFrontStep, IsLiveStep, ArePlain, IsTaken, IsEnd, IsWordTaken, IsAdvance}
-use C.{OnLastNews, counted, IsStepOf, doubled_plain, token_begins}
+use C.{Bool, false, ◌≡◌, ◌≢◌, ◌<◌, ◌≤◌, ◌^◌, refl, ℕ, ◌+◌, List, [], ◌∷◌, ◌++◌, inl, inr, Option, None, ◌-◌, length}
+use C.{take, sym, ap, ◌∙◌, arith, append_assoc, length-append, cases_lt, append-nil, Rules, IsUnfinished, IsSpelled}
+use C.{AreBytes, AreBytes-front, CanEnd, Kept, Reason, token_rules, unfinished_of, sub_of, IAC, Telnet, Data, Eor}
+use C.{TelnetToken, Item, TelnetItem, News, More, Whole, Open, Close, NoMemory, Holds, IsInGrammar, Layer, IsOpen}
+use C.{IsRefused, IsTruncated, RecordSoFar, no_record, Keeping, HasRead, holds_last, Watching, Leads, LeadsWith}
+use C.{IsFrontStep, IsLiveStep, ArePlain, IsTaken, IsEnd, IsWordTaken, IsAdvance, OnLastNews, counted, IsStepOf}
+use C.{AllByRecursion-front, AllByRecursion-last, SpellsBytes, one_last}
 use Rattle.ws_telnet.specs.Words.{IsWord}
 use Rattle.ws_telnet.specs.declared.word.Word.{Word}
 use Rattle.ws_telnet.specs.declared.tokens.Tokens.{Tokens}
 use Rattle.ws_telnet.specs.declared.token.Sub.{Sub as ASub}
 use Rattle.ws_record.specs.declared.news.News.TheVariants.{Refused, Failed}
 use Rattle.ws_record.specs.declared.live.Step.{Step}
-use Rattle.ws_record.proofs.Prefixes.{AllByRecursion-front}
-use Rattle.ws_record.proofs.Streams.{AllByRecursion-last}
+use Rattle.ws_telnet.proofs.Unfinished.{iac_goes_on}
+use Rattle.ws_code.proofs.Slots.{only_enough, slot_is}
+use Rattle.ws_telnet.proofs.OneToken.{plain_byte}
 use Rattle.ws_record.proofs.Steps.{holds_nothing, holds_more, holds_data, holds_command, holds_record}
-use Rattle.ws_record.proofs.Refusals.{SpellsBytes, all_open, refuse_token, refuse_data, refuse_end, truncated}
+use Rattle.ws_record.proofs.Refusals.{all_open, refuse_token, refuse_data, refuse_end, truncated}
 use Rattle.ws_record.proofs.Takings.{told_none}
 use Rattle.ws_telnet.specs.declared.word.Word.TheVariants as word
 use Rattle.ws_record.specs.declared.news.News.TheVariants as told
 use Rattle.ws_code.specs.declared.keep.Kept.TheVariants as answer
 use Rattle.ws_record.specs.declared.live.Step.TheVariants as steps
 
--- between tokens a byte other than FF is a token
-plain_byte : (b : ℕ) → b < 256 → b ≢ 0xff → IsSpelled token_rules tt (b ∷ []) (Data b)
-plain_byte b fits ne = record
-    { stands = record { is_unit = fits; may_follow = refl }; spelled = doubled_plain b (ne_eqb b 0xff ne) }
-
--- the end of a list of one
-pub one_last : {X : Type 0} (x : X) (front : List X) (v : X) → x ∷ [] ≡ front ++ v ∷ [] → (front ≡ []) × (v ≡ x)
-one_last x [] v e = (refl, cc)
-one_last x (y ∷ front) v e = absurd (no_end front v [] cc)
-
--- an FF begins a token
-iac_begins : IsUnfinished token_rules tt (IAC ∷ [])
-iac_begins = record {
-  unit = Eor;
-  next = 0xef;
-  rest = [];
-  stands = record { is_unit = tt; may_follow = refl };
-  spelled = refl;
-}
-
-pub fresh_begins : (machine : Tokens) → unfinished_of machine ≡ []
-    → IsUnfinished token_rules tt (unfinished_of machine)
-fresh_begins machine e = rw e (token_begins tt)
-
 -- a decoder whose bytes are counted
 pub counted_is : {Place : Type 0} (live : Watching Place) (taken : ℕ) (failed : Bool) (bytes : List ℕ) → taken
     ≡ length bytes → failed ≡ false → ◌≡◌ {A = Watching Place} (record live { taken = taken; failed = failed })
     (counted live bytes)
 counted_is live taken failed bytes e f = cc
-
--- a machine is inside a token, or between two
-pub word_begun : (machine : Tokens) (begun : List ℕ) (b : ℕ) (w : Word) → IsWord begun b machine w
-    → IsUnfinished token_rules tt (unfinished_of machine)
-word_begun machine begun b word.More i = i.1
-word_begun machine begun b (word.Bad reason) i = fresh_begins _ i.2
-word_begun machine begun b w i = fresh_begins _ i.1
 
 module _ {Place U : Type 0} (rules : Rules Place U) where
   -- values that are no FF
@@ -83,7 +53,7 @@ module _ {Place U : Type 0} (rules : Rules Place U) where
       | inr k ↦ (let first : n ≡ 1 = omega (arith, k, lt) in (
         so_far.bytes,
         IAC ∷ [],
-        rw (first, one) (holds_more _ _ _ _ [] _ (rw fresh at l.holds) iac_begins),
+        rw (first, one) (holds_more _ _ _ _ [] _ (rw fresh at l.holds) iac_goes_on),
       ))
     ]
 
@@ -269,7 +239,7 @@ module _ {Place U : Type 0} (rules : Rules Place U) (can : CanEnd rules) (law : 
 
       -- an FF behind the bytes
       holds_iac : was.begun ≡ [] → Holds rules (bytes ++ IAC ∷ []) items so_far.bytes (IAC ∷ [])
-      holds_iac fresh = holds_more _ _ _ _ [] _ (rw fresh at l.holds) iac_begins
+      holds_iac fresh = holds_more _ _ _ _ [] _ (rw fresh at l.holds) iac_goes_on
 
       -- an FF with the byte behind it
       pub second_word : was.begun ≡ [] → (b : ℕ) (machine : Tokens) (w : Word) (news : News)
@@ -319,15 +289,6 @@ module _ {Place U K : Type 0} (rules : Rules Place U) (holds : K → List U → 
       }
 
 module _ {Place U : Type 0} (rules : Rules Place U) where
-  -- a slot has enough with each unit
-  only_enough : (more : List U) → (more ≡ []) ⊎ (answer.GoOn ≡ answer.Enough) → more ≡ []
-  only_enough more (inl e) = e
-  only_enough more (inr e) = cc
-
-  slot_is : (slot : Option U) (unit : U) → holds_last slot (unit ∷ []) → slot ≡ Some unit
-  slot_is None unit h = absurd (let e : unit ∷ [] ≡ [] = h in cc)
-  slot_is (Some u) unit h = ap Some (one_last _ _ _ h.1).1
-
   -- one that fetched a subnegotiation
   pub fetched : (live : Watching Place) (left : ASub) (bytes : List ℕ) (items : List (Item U))
       (so_far : RecordSoFar U) → Leads rules live bytes items so_far

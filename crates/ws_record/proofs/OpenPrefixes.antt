@@ -3,18 +3,13 @@ use C.{◌≡◌, ℕ, ◌+◌, ◌≤◌, List, [], ◌∷◌, ◌++◌, zero, 
 use C.{length-append, append-nil, take-append-le, take-append-drop, take_at, take_more, flat_map-append, Rules}
 use C.{AreBytes, spelling_of, Reason, Begins, CanEnd, chain_append, token_rules, Eor, IsBodyBytes, IsStream, joined}
 use C.{Layer, IsRight, IsOpen, IsRefused, IsTruncated, IsFirstClosed, Tokens, Header, Body, CanBeFramed, BeginsList}
-use C.{IsOpenPrefix, IsFirstClosedTo, AreOpenBelow, IsRefusedByPrefix, IsTruncatedByPrefix}
+use C.{IsOpenPrefix, IsFirstClosedTo, AreOpenBelow, IsRefusedByPrefix, IsTruncatedByPrefix, SpellsBytes, all_right}
+use Rattle.ws_code.proofs.Lists.{drop-front}
 use Rattle.ws_record.proofs.LastRecords.{last_of_stream, stream_of_last}
 use Rattle.ws_record.proofs.OpenRecords.{nothing_framed}
 use Rattle.ws_record.proofs.Prefixes.{parted, list_cut}
-use Rattle.ws_record.proofs.Refusals.{SpellsBytes, can_be_body, opens}
-use Rattle.ws_record.proofs.Streams.{ended_stream, all_right}
-
--- the front of what stands behind so many elements
-drop-front : {X : Type 0} (n : ℕ) (xs ys : List X) → (m : List X) × (drop n (xs ++ ys) ≡ drop n xs ++ m)
-drop-front zero xs ys = (ys, refl)
-drop-front (suc n) [] ys = (drop (suc n) ys, refl)
-drop-front (suc n) (x ∷ xs) ys = drop-front n xs ys
+use Rattle.ws_record.proofs.Refusals.{can_be_body, opens}
+use Rattle.ws_record.proofs.Streams.{ended_stream}
 
 module _ {Place U : Type 0} (rules : Rules Place U) (begins : Begins rules) (can : CanEnd rules)
     (law : SpellsBytes rules) where

@@ -1,23 +1,17 @@
 use Rattle.ws_record.proofs.Common as C
-use C.{get_or-append_seam, place_after-append, drop_of_length-le, take-append-drop, flat_map-append, AreBytes-append}
-use C.{take-append-le, drop-append-le, length-append, get_or-append, header_reason, IsDataRefused, IsWholeRecord, true}
-use C.{append_assoc, IsPrefixFree, chain_append, IsEndRefused, length-take, slice_index, get_or-take, place_after, ◌≡◌}
-use C.{spelling_of, opcode_byte, HeaderSoFar, RecordSoFar, CanBeFramed, append-nil, no_record, take_all, IsPrefix, ◌+◌}
-use C.{AreBytes, IsFramed, declared, one_cut, cut_bad, head_in, Keeping, HasRead, Option, length, get_or, le-ltb, List}
-use C.{IfSome, HasRun, Begins, Reason, Opcode, header, IsHead, arith, Rules, IsCut, grown, ◌++◌, Some, None, drop, ◌-◌}
-use C.{take, refl, Data, Head, ◌*◌, ◌/◌, ◌%◌, ◌<◌, ◌≤◌, ◌∷◌, inl, inr, sym, ◌∙◌, [], ap, ℕ}
+use C.{◌≡◌, ℕ, ◌+◌, ◌-◌, ◌*◌, ◌/◌, ◌%◌, ◌<◌, ◌≤◌, true, List, [], ◌∷◌, ◌++◌, inl, inr, Option, Some, None, length}
+use C.{drop, take, get_or, refl, sym, ap, ◌∙◌, arith, append_assoc, length-append, length-take, get_or-append}
+use C.{drop_of_length-le, get_or-append_seam, le-ltb, IfSome, slice_index, get_or-take, take-append-le}
+use C.{take-append-drop, drop-append-le, take_all, append-nil, flat_map-append, Rules, IsPrefixFree, IsPrefix, IsCut}
+use C.{AreBytes, place_after, spelling_of, HasRun, AreBytes-append, Begins, one_cut, cut_bad, chain_append}
+use C.{place_after-append, Reason, Data, Opcode, Head, IsFramed, header, opcode_byte, header_reason, HeaderSoFar}
+use C.{declared, head_in, RecordSoFar, no_record, CanBeFramed, IsHead, Keeping, HasRead, IsDataRefused, IsEndRefused}
+use C.{IsWholeRecord, grown, byte_at}
 use Rattle.ws_code.specs.declared.reason.Reason.TheVariants.{TooLong, EndedInside, UnknownOpcode}
+use Rattle.ws_code.proofs.Lists.{empty_take, take_short}
 use Rattle.ws_record.proofs.Reading.{opcode_same}
-use Rattle.ws_record.proofs.Headers.{can_be_framed, can_means, framed_from, header_length, header_append, byte_at}
-use Rattle.ws_record.proofs.Headers.{empty_header, next_cell, no_room, header_parts}
-
--- bytes that are fewer than ten are all of their first ten
-pub take_short : (xs : List ℕ) → length (take 10 xs) < 10 → take 10 xs ≡ xs
-take_short xs h = take_all 10 xs (omega (arith, length-take 10 xs))
-
-empty_take : (xs : List ℕ) → take 10 xs ≡ [] → xs ≡ []
-empty_take [] e = refl
-empty_take (x ∷ xs) e = cc
+use Rattle.ws_record.proofs.Headers.{can_be_framed, can_means, framed_from, header_length, header_append, empty_header}
+use Rattle.ws_record.proofs.Headers.{next_cell, no_room, header_parts}
 
 pub nothing_framed : CanBeFramed []
 nothing_framed = can_be_framed [] tt empty_header (λ k. absurd (omega arith))

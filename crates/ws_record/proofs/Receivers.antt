@@ -2,9 +2,10 @@ use Rattle.ws_record.proofs.Common as C
 use C.{true, false, ◌≡◌, ℕ, ◌+◌, ◌-◌, ◌<◌, ◌≤◌, List, [], ◌∷◌, ◌++◌, Some, None, Result, Ok, Err, length, drop, take}
 use C.{refl, sym, ap, ◌∙◌, arith, append_assoc, length-append, append-nil, take-append-drop, length-take-le, Rules}
 use C.{Fault, Reason, Item, News, IsRefused, RecordSoFar, Watching, Leads, CompletesUnit, EndIn, IsAdvance, goes_on}
-use C.{IsItemOf, Receiving, HasReceived, IsTakeFault, IsFeedFault, NoneBefore}
-use Rattle.ws_record.proofs.Lives.{fetched, one_last, Made}
-use Rattle.ws_record.proofs.Pieces.{IsHeld, left_of, left_joined, bytes_on, upto}
+use C.{IsItemOf, Receiving, HasReceived, IsTakeFault, IsFeedFault, NoneBefore, bytes_on, left_of, one_last, upto}
+use Rattle.ws_code.proofs.Pieces.{left_joined}
+use Rattle.ws_record.proofs.Lives.{fetched, Made}
+use Rattle.ws_record.proofs.Pieces.{IsHeld}
 use Rattle.ws_code.specs.declared.keep.Kept.TheVariants as answer
 use Rattle.ws_code.specs.declared.fault.Fault.TheVariants as faults
 use Rattle.ws_record.specs.declared.news.News.TheVariants as told

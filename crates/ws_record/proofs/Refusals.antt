@@ -1,50 +1,16 @@
 use Rattle.ws_record.proofs.Common as C
-use C.{drop_of_length-le, token_prefix_free, length-replicate, AreBytes-append, AllByRecursion, drop-append-le, length}
-use C.{length-append, IsFirstClosed, IsDataRefused, append_assoc, record_bytes, IsEndRefused, spelling_of, token_rules}
-use C.{IsBodyBytes, IsTruncated, CanBeFramed, append-nil, replicate, IsSpelled, zeros_are, IsStretch, IsRefused, arith}
-use C.{cases_lt, IsPrefix, AreBytes, cut_ends, IsRecord, IsStream, IsReason, EndsWith, IsChain, one_cut, carried, List}
-use C.{IsRight, Reason, CanEnd, Record, joined, header, IsOpen, Tokens, Header, Rules, IsCut, Token, Holds, Layer, ◌≡◌}
-use C.{◌++◌, drop, refl, Data, Item, Body, ◌+◌, ◌-◌, ◌≤◌, ◌∷◌, inl, inr, sym, ◌∙◌, Eor, [], ap, ℕ}
+use C.{◌≡◌, ℕ, ◌+◌, List, [], ◌∷◌, ◌++◌, inl, inr, length, drop, refl, sym, ap, ◌∙◌, arith, append_assoc}
+use C.{AllByRecursion, append-nil, drop-append-le, Rules, IsPrefix, IsCut, IsSpelled, AreBytes, spelling_of, Reason}
+use C.{AreBytes-append, CanEnd, cut_ends, one_cut, token_rules, token_prefix_free, Token, Data, Eor, Record, Item}
+use C.{IsBodyBytes, IsRecord, IsStretch, IsStream, Holds, joined, carried, header, record_bytes, Layer, IsRight}
+use C.{IsOpen, IsRefused, IsTruncated, IsFirstClosed, IsReason, EndsWith, Tokens, Header, Body, CanBeFramed}
+use C.{IsDataRefused, IsEndRefused, AreBytes-apart, SpellsBytes, list_bytes}
+use Rattle.ws_code.proofs.Bytes.{padding}
 use Rattle.ws_record.proofs.Reading.{one_join, parts_no_eor}
 use Rattle.ws_record.proofs.Streams.{EachPart, open_stream, ended_stream, bad_token, bad_data, bad_eor}
-use Rattle.ws_record.proofs.Prefixes.{AreBytes-apart}
 use Rattle.ws_record.proofs.Steps.{parts_of, token_more, holds_data}
 
--- bytes that fill a header up
-padding : (so_far : List ℕ) → (fill : List ℕ) × AreBytes fill × (10 ≤ length (so_far ++ fill))
-    × (drop 10 (so_far ++ fill) ≡ drop 10 so_far)
-padding so_far = elim (cases_lt (length so_far) 10) [
-  | inl h ↦
-      let total : length (so_far ++ replicate (10 - length so_far) 0) ≡ 10 = omega (
-        arith,
-        length-append so_far (replicate (10 - length so_far) 0),
-        length-replicate {A = ℕ} (10 - length so_far) 0,
-      ) in (
-        replicate (10 - length so_far) 0,
-        zeros_are (10 - length so_far),
-        omega arith,
-        drop_of_length-le (so_far ++ replicate (10 - length so_far) 0) {i = 10} (omega arith)
-            ∙ sym (drop_of_length-le so_far {i = 10} (omega arith)),
-      )
-  | inr h ↦ (
-    [],
-    tt,
-    (let f : length (so_far ++ []) ≡ length so_far = ap length (append-nil so_far) in omega arith),
-    ap (drop 10) (append-nil so_far),
-  )
-]
-
 module _ {Place U : Type 0} (rules : Rules Place U) where
-  -- the law on the bytes of spellings
-  abbrev pub SpellsBytes : Type 0
-  SpellsBytes = (u : U) → rules.is_unit u → AreBytes (rules.spelling u)
-
-  pub list_bytes : SpellsBytes → (place : Place) (us : List U) → IsChain rules place us
-      → AreBytes (spelling_of rules us)
-  list_bytes law place [] c = tt
-  list_bytes law place (u ∷ us) c = AreBytes-append (rules.spelling u) (spelling_of rules us) (law u c.0.is_unit)
-      (list_bytes law (rules.after u) us c.1)
-
   -- a record is right to each layer
   pub record_right : (r : Record U) → IsRecord rules r → (l : Layer) → IsRight rules l (record_bytes rules r)
   record_right r is Tokens = tt
@@ -65,14 +31,14 @@ module _ {Place U : Type 0} (rules : Rules Place U) where
   parts_right (s ∷ ss) h l = (rw h.0.carries (record_right _ h.0.is_record l), parts_right ss h.1 l)
 
   -- what is read so far can become right
-  pub can_be_body : CanEnd rules → SpellsBytes → (so_far : List ℕ) (units : List U) (begun : List ℕ)
+  pub can_be_body : CanEnd rules → SpellsBytes rules → (so_far : List ℕ) (units : List U) (begun : List ℕ)
       → IsCut rules (drop 10 so_far) units begun → (more : List ℕ) × AreBytes more
       × IsBodyBytes rules (drop 10 (so_far ++ more))
   can_be_body can law so_far units begun cut =
       let ends = cut_ends rules can (drop 10 so_far) units begun cut in
       let fill = padding so_far in
       let are : AreBytes ends.1 =
-      (AreBytes-apart (drop 10 so_far) _ (rw ends.3 at (list_bytes law _ _ ends.2.chain))).1 in
+      (AreBytes-apart (drop 10 so_far) _ (rw ends.3 at (list_bytes rules law _ _ ends.2.chain))).1 in
       let dropped : drop 10 (so_far ++ (fill.0 ++ ends.1)) ≡ drop 10 so_far ++ ends.1 =
       rw (← append_assoc so_far fill.0 ends.1, drop-append-le 10 (so_far ++ fill.0) ends.1 fill.2, fill.3) in (
         fill.0 ++ ends.1,
@@ -80,7 +46,7 @@ module _ {Place U : Type 0} (rules : Rules Place U) where
         record { units = ends.0; whole = ends.2; spelled = dropped ∙ sym ends.3 },
       )
 
-  pub can_be_right : CanEnd rules → SpellsBytes → (so_far : List ℕ) (units : List U) (begun : List ℕ)
+  pub can_be_right : CanEnd rules → SpellsBytes rules → (so_far : List ℕ) (units : List U) (begun : List ℕ)
       → CanBeFramed so_far → IsCut rules (drop 10 so_far) units begun → (l : Layer) → (more : List ℕ) × AreBytes more
       × IsRight rules l (so_far ++ more)
   can_be_right can law so_far units begun framed cut Tokens = ([], tt, tt)
@@ -98,7 +64,7 @@ module _ {Place U : Type 0} (rules : Rules Place U) where
       opens (open_stream _ _ _ _ _ _ (parts_no_eor _ _ h.each) h.no_eor (parts_right _ h.each l) h.cut are
       (rw h.is_open at right))
 
-  pub all_open : CanEnd rules → SpellsBytes → (bytes : List ℕ) (items : List (Item U)) (so_far begun : List ℕ)
+  pub all_open : CanEnd rules → SpellsBytes rules → (bytes : List ℕ) (items : List (Item U)) (so_far begun : List ℕ)
       (units : List U) (begun_unit : List ℕ) → Holds rules bytes items so_far begun → CanBeFramed so_far
       → IsCut rules (drop 10 so_far) units begun_unit → (l : Layer) → IsOpen rules l bytes
   all_open can law bytes items so_far begun units begun_unit h framed cut l =

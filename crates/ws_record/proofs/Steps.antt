@@ -1,22 +1,8 @@
 use Rattle.ws_record.proofs.Common as C
-use C.{flat_map-append, token_spelling, append_assoc, IsUnfinished, token_begins, record_bytes, token_rules, IsSpelled}
-use C.{TelnetToken, append-nil, map-append, RecordItem, TelnetItem, cut_unit, cut_more, IsRecord, IsToken, Telnet, ◌≡◌}
-use C.{Record, joined, Rules, IsCut, Token, Holds, List, ◌++◌, refl, Data, Item, ◌∷◌, map, sym, ◌∙◌, Eor, [], ap, ℕ}
-use Rattle.ws_record.proofs.Streams.{AllByRecursion-append, joined_more, joined_eor}
-
--- a token whose spelling this is, and one that goes on
-pub is_token : {t : Token} {bytes : List ℕ} → IsToken t → token_spelling t ≡ bytes → IsSpelled token_rules tt bytes t
-is_token is e = record { stands = record { is_unit = is; may_follow = refl }; spelled = e }
-
-pub begins_token : (t : Token) {begun : List ℕ} (next : ℕ) (rest : List ℕ) → IsToken t
-    → token_spelling t ≡ begun ++ next ∷ rest → IsUnfinished token_rules tt begun
-begins_token t next rest is e = record {
-  unit = t;
-  next = next;
-  rest = rest;
-  stands = record { is_unit = is; may_follow = refl };
-  spelled = e;
-}
+use C.{◌≡◌, ℕ, List, [], ◌∷◌, ◌++◌, map, refl, sym, ap, ◌∙◌, append_assoc, append-nil, map-append, flat_map-append}
+use C.{Rules, IsUnfinished, IsCut, IsSpelled, cut_unit, cut_more, token_rules, token_begins, Telnet, Token, Data, Eor}
+use C.{TelnetToken, Record, Item, RecordItem, TelnetItem, IsRecord, Holds, joined, record_bytes, AllByRecursion-append}
+use Rattle.ws_record.proofs.Streams.{joined_more, joined_eor}
 
 module _ {Place U : Type 0} (rules : Rules Place U) where
   -- the parts of the stretches

@@ -1,26 +1,16 @@
 use Rattle.ws_record.proofs.Common as C
-use C.{◌≡◌, ℕ, ◌+◌, ◌-◌, ◌<◌, ◌≤◌, List, [], ◌∷◌, ◌++◌, inl, length, drop, take, get_or, suc, refl, ap, arith}
-use C.{append_assoc, length-append, length-take, drop_of_length-le, append-nil, take-append-drop, take-take, Rules}
-use C.{length-take-le, HasRun, IsSpelled, IsPrefix, IsPrefixFree, AreBytes, Keeps, Reading, RunsOn, StopsAtLast, Kept}
-use C.{Reason, AreBytes-front, Begins, run_unit, News, More, Whole, Open, NoMemory, RecordSoFar, Keeping, HasRead}
-use C.{ArePlain, KeepsTold, IsTaken, IsHeaderStep, grown}
+use C.{◌≡◌, ℕ, ◌+◌, ◌-◌, ◌<◌, ◌≤◌, List, [], ◌∷◌, ◌++◌, inl, length, drop, take, get_or, refl, ap, arith, append_assoc}
+use C.{length-append, length-take, drop_of_length-le, append-nil, take-append-drop, Rules, length-take-le, HasRun}
+use C.{IsSpelled, IsPrefix, IsPrefixFree, AreBytes, Keeps, Reading, RunsOn, StopsAtLast, Kept, Reason, AreBytes-front}
+use C.{Begins, run_unit, News, More, Whole, Open, NoMemory, RecordSoFar, Keeping, HasRead, ArePlain, KeepsTold}
+use C.{IsTaken, IsHeaderStep, grown, AllByRecursion-front, AllByRecursion-last, front_bytes, same_front}
 use Rattle.ws_record.specs.declared.news.News.TheVariants.{Refused}
 use Rattle.ws_record.proofs.OpenRecords.{body_run, body_bad, body_drops}
-use Rattle.ws_record.proofs.Prefixes.{AllByRecursion-front}
-use Rattle.ws_record.proofs.Streams.{AllByRecursion-last}
 use Rattle.ws_code.specs.declared.keep.Kept.TheVariants as answer
 
 module _ {U K : Type 0} where
   pub told_none : (holds : K → List U → List ℕ → Type 0) (keep : K) → KeepsTold holds keep keep [] []
   told_none holds keep units told h = rw (append-nil told) (rw (append-nil units) h)
-
--- the values of a slice are bytes, and so are those of its fronts
-slice_bytes : (xs : List ℕ) → ((i : ℕ) → get_or xs i 0 < 256) → AreBytes xs
-slice_bytes [] h = tt
-slice_bytes (x ∷ xs) h = (h 0, slice_bytes xs (λ i. h (suc i)))
-
-pub front_bytes : (xs : List ℕ) (n : ℕ) → ((i : ℕ) → get_or xs i 0 < 256) → AreBytes (take n xs)
-front_bytes xs n h = AreBytes-front (take n xs) (drop n xs) (rw (take-append-drop n xs) (slice_bytes xs h))
 
 -- what a reader inside a body needs to take these values, so many
 pub record Ready {Place U : Type 0} (rules : Rules Place U) (reader : Keeping Place) (so_far : RecordSoFar U)
@@ -186,11 +176,6 @@ module _ {Place U K : Type 0} (rules : Rules Place U) (holds : K → List U → 
   header_step before to front b (Refused reason) r e s other =
       (front, b, e, (before, [], rw (append-nil so_far.units) r, s))
   header_step before to front b news r e s other = absurd s
-
--- a front of a front
-pub same_front : (piece : List ℕ) (used count : ℕ) → used ≤ length (take count piece) → take used (take count piece)
-    ≡ take used piece
-same_front piece used count k = take-take used count piece (omega (arith, length-take count piece))
 
 pub plain_front : (piece : List ℕ) (used count : ℕ) → used ≤ length (take count piece) → ArePlain (take count piece)
     → ArePlain (take used piece)

@@ -21,6 +21,7 @@ pub use Rattle.ws_code.specs.declared.fault.Fault.{Fault}
 pub use Rattle.ws_code.specs.Device.{MayTake, MayGive, WentOut, FailedWithin, Gave, most_reads, one_more, Held}
 pub use Rattle.ws_code.proofs.DeviceLaws.{went_out_none, went_out_both, failed_within_both, gave_more, gave_all}
 pub use Rattle.ws_code.proofs.DeviceLaws.{take_some, length_rest, held_went_out}
+pub use Rattle.ws_code.proofs.Pieces.{left_of, left_joined, bytes_on}
 pub use Rattle.ws_code.specs.declared.reason.Reason.TheVariants.{RecordBeforeNegotiation, AnswerMismatch}
 pub use Rattle.ws_code.specs.declared.fault.Fault.TheVariants.{Write, Refused, Truncated}
 pub use Rattle.ws_code.specs.Run.{IsAt}
@@ -45,7 +46,6 @@ pub use Rattle.ws_record.specs.declared.record.Record.{Record}
 pub use Rattle.ws_record.specs.declared.record.Item.TheVariants.{Record as RecordItem, Telnet as TelnetItem}
 pub use Rattle.ws_record.specs.Refusal.{IsTruncated}
 pub use Rattle.ws_record.specs.Grammar.{header, IsInGrammar, Holds, joined, commands, command_of}
-pub use Rattle.ws_record.proofs.Pieces.{left_of, left_length, left_joined, bytes_on}
 pub use Rattle.ws_record.specs.Live.{CompletesUnit, Watching, Leads, LeadsWith}
 pub use Rattle.ws_record.specs.DataStep.{record_of}
 pub use Rattle.ws_record.specs.OpenRecord.{RecordSoFar, no_record, Keeping, HasRead, IsHead}

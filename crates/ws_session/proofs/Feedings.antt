@@ -1,6 +1,6 @@
 use Rattle.ws_session.proofs.Common.{◌≡◌, ℕ, ◌+◌, ◌-◌, ◌<◌, ◌≤◌, ◌^◌, zero, suc, inl, inr, List, [], ◌∷◌, ◌++◌}
 use Rattle.ws_session.proofs.Common.{length, take, refl, ap, ◌∙◌, sym, arith, append_assoc, length-append, cases_lt}
-use Rattle.ws_session.proofs.Common.{append-nil, length-take-le, take-take, Rules, Item, left_of, left_length}
+use Rattle.ws_session.proofs.Common.{append-nil, length-take-le, take-take, Rules, Item, left_of, length_rest}
 use Rattle.ws_session.proofs.Common.{left_joined, bytes_on, gone_on, came_append, bytes_came, Act, Arrives, Manner}
 use Rattle.ws_session.proofs.Common.{all_came, items_of, doing, Happen, HoldsItems, HasGone}
 use Rattle.ws_session.specs.Acts.{bytes_of}
@@ -153,7 +153,7 @@ module _ {Place PlaceV Side U V Deed Event : Type 0} (rules : Rules Place U) (ou
           → AllCome Then b its s (take k (left_of piece i)) reply told) → length bytes + length piece + 1 < 2 ^ 64
           → i ≤ length piece → AllCome Then bytes items side (take (i + k) piece) reply told
       front_on Then k reply told next fits inside = then_taken Then k reply told (λ b its s l size. next b its s l
-          (omega (arith, size, fits, inside, left_length piece i, length-take-le i piece inside)))
+          (omega (arith, size, fits, inside, length_rest piece i, length-take-le i piece inside)))
 
       -- nothing is written or told before its last byte
       pub quiet_on : (k : ℕ) → k ≤ length (left_of piece i) → ((b : List ℕ) (its : List (Item U)) (s : Side)
@@ -192,7 +192,7 @@ module _ {Place PlaceV Side U V Deed Event : Type 0} (rules : Rules Place U) (ou
           (bytes_of acts) ∙ ap (λ (x : List ℕ). length bytes + length x) (bytes_came Deed (take i piece)) in
           let some : 0 < k = when (bytes ++ bytes_of acts)
           (items ++ items_of before.happened) (doing manner side before.happened).side before.leads
-          (omega (arith, size, fits, inside, left_length piece i, length-take-le i piece inside)) in
+          (omega (arith, size, fits, inside, length_rest piece i, length-take-le i piece inside)) in
           let m : ℕ = k - 1 in
           let last : suc m ≡ k = omega (arith, some) in
           let at = value_at left m (omega (arith, within, some)) in
@@ -203,5 +203,5 @@ module _ {Place PlaceV Side U V Deed Event : Type 0} (rules : Rules Place U) (ou
             split_on piece i m at.0 at.1 at.2,
             then_taken _ m [] [] (λ b its s l from. silent_then _ b its s left k m (omega (arith, within, some))
                 (held b its s l) (omega (arith, some)) (at_last b its s (take m left) at.0 l
-                (omega (arith, from, fits, inside, left_length piece i, length-take-le i piece inside)) upto)),
+                (omega (arith, from, fits, inside, length_rest piece i, length-take-le i piece inside)) upto)),
           )

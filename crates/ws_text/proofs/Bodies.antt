@@ -3,8 +3,7 @@ use Rattle.std.proofs.Common.{sym, ap, subst, ◌∙◌, arith, length-append}
 use Rattle.std.proofs.Math.Seq.{take-suc}
 use Rattle.std.proofs.lemmas.Grind.{flat_map-append}
 use Rattle.ws_code.specs.Code.{Rules, Stands, IsChain, IsWhole, place_after, spelling_of}
-use Rattle.ws_code.proofs.CodeLaws.{chain_more, place_after_more, chain_append, place_after-append}
-use Rattle.ws_record.proofs.Encodings.{chain_at}
+use Rattle.ws_code.proofs.CodeLaws.{chain_more, place_after_more, chain_append, chain_at, place_after-append}
 use Rattle.ws_record.specs.Encode.{CanBeEncoded}
 use Rattle.ws_record.specs.declared.record.Item.TheVariants as an_item
 use Rattle.ws_record.specs.declared.record.Record.{Record}

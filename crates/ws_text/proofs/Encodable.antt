@@ -1,10 +1,9 @@
 use Rattle.std.proofs.Common.{◌≡◌, ℕ, List, [], ◌∷◌, ◌++◌, refl, sym, subst, arith}
 use Rattle.ws_code.specs.Code.{Rules}
+use Rattle.ws_code.proofs.Lists.{AllByRecursion-append, AllByRecursion-front}
 use Rattle.ws_record.specs.Encode.{CanBeEncoded, CanAllBeEncoded}
 use Rattle.ws_record.specs.declared.record.Item.{Item}
 use Rattle.ws_record.specs.declared.record.Item.TheVariants as an_item
-use Rattle.ws_record.proofs.Prefixes.{AllByRecursion-front}
-use Rattle.ws_record.proofs.Streams.{AllByRecursion-append}
 use Rattle.ws_text.specs.declared.line.Part.{Part}
 use Rattle.ws_text.specs.declared.line.Part.TheVariants.{Nothing, Head, Command, Units}
 use Rattle.ws_text.specs.Items.{Adds, AreItems, Leads, with_more}

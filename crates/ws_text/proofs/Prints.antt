@@ -8,7 +8,7 @@ use Rattle.std.proofs.lemmas.List.{append-nil, take_more, take-append-le}
 use Rattle.hex.specs.Hex.{encode_with, encode_upper}
 use Rattle.ws_code.specs.Device.{MayTake, WentOut, FailedAfter, FailedWithin}
 use Rattle.ws_code.proofs.DeviceLaws.{went_out_none, went_out_both}
-use Rattle.ws_record.proofs.Writes.{fails_last}
+use Rattle.ws_code.proofs.Parts.{fails_last}
 use Rattle.ws_text.specs.declared.output.Output.{Output}
 use Rattle.ws_text.specs.declared.output.Output.TheVariants.{Open, Failed}
 use Rattle.ws_text.specs.ItemLines.{hex_behind_blank}

@@ -1,5 +1,5 @@
 use Rattle.ws_record.proofs.Common.{length, ap, arith}
-use Rattle.ws_record.proofs.Writes.{length_through}
+use Rattle.ws_code.proofs.Lists.{length_through}
 use Rattle.ws_record.proofs.item_writer.body_length.Goals as goal
 
 pub returns-then-length-gt65525-clause-none : goal.returns-then-length-gt65525-clause-none

@@ -1,9 +1,9 @@
 use Rattle.ws_record.proofs.Common as C
 use C.{◌≡◌, ◌∷◌, ◌++◌, ℕ, List, Option, Some, None, ◌+◌, ◌<◌, ◌≤◌, ◌^◌, [], length, arith, flat_map, unwrap_or, IfSome}
 use C.{IfNone, err_from_is_err_and, on_ok_weaker, IfErr-weaker, Rules, spelling_of, doubled, Record, record_bytes}
-use C.{header, record_spelling}
+use C.{header, record_spelling, first_fails, second_fails, third_fails, three_out}
 use Rattle.ws_record.proofs.Headers.{header_length}
-use Rattle.ws_record.proofs.Writes.{record_text, three_out, first_fails, second_fails, third_fails}
+use Rattle.ws_record.proofs.Writes.{record_text}
 use Rattle.ws_record.proofs.item_writer.write_encoded.Goals as goal
 
 known_length : (o : Option ℕ) (n : ℕ) → IfSome o (λ k. (k ≡ n) × (k ≤ 65525)) → IfNone o (65525 < n) → n ≤ 65525

@@ -1,5 +1,4 @@
-use Rattle.ws_record.proofs.Common.{err_from_is_err_and, item_spelling}
-use Rattle.ws_record.proofs.Writes.{each_more, each_fails}
+use Rattle.ws_record.proofs.Common.{err_from_is_err_and, item_spelling, each_fails, each_more}
 use Rattle.ws_record.proofs.item_writer.write_items.Goals.{in-Record+in_ok-write_encoded-in-Record}
 use Rattle.ws_record.proofs.item_writer.write_items.Goals.{in-Telnet+in_ok-write_telnet-in-Telnet}
 use Rattle.ws_record.proofs.item_writer.write_items.Goals as goal

@@ -1,5 +1,5 @@
-use Rattle.ws_record.proofs.Common.{◌∙◌, flat_map, err_from_is_err_and, take_all, doubled}
-use Rattle.ws_record.proofs.Writes.{each_more, each_fails, doubled_each}
+use Rattle.ws_record.proofs.Common.{◌∙◌, flat_map, err_from_is_err_and, take_all, doubled, each_fails, each_more}
+use Rattle.ws_telnet.proofs.Doubling.{doubled_each}
 use Rattle.ws_record.proofs.item_writer.write_units.Goals as goal
 
 pub returns-in_err-write_doubled-clause-err : goal.returns-in_err-write_doubled-clause-err

@@ -1,5 +1,4 @@
-use Rattle.ws_record.proofs.Common.{arith, take_more}
-use Rattle.ws_record.proofs.Streams.{AllByRecursion-append}
+use Rattle.ws_record.proofs.Common.{arith, take_more, AllByRecursion-append}
 use Rattle.ws_record.proofs.open_record.plain_length.Goals as goal
 
 pub loop-index-preserved : goal.loop-index-preserved

@@ -1,7 +1,8 @@
 use Rattle.ws_record.proofs.Common as C
 use C.{inl, inr, get_or, ◌+◌, arith, err_from_is_err_and, on_ok_weaker, IfErr-weaker, iac_or_not, doubled_plain}
-use Rattle.ws_record.proofs.Writes.{run_slice, run_rest, doubling_plain, doubling_iac, doubling_fails, doubling_ends}
-use Rattle.ws_record.proofs.Writes.{doubling_ends_failed}
+use Rattle.ws_telnet.proofs.Doubling.{doubling_ends, doubling_ends_failed, doubling_fails, doubling_iac}
+use Rattle.ws_telnet.proofs.Doubling.{doubling_plain}
+use Rattle.ws_code.proofs.Lists.{run_rest, run_slice}
 use Rattle.ws_record.proofs.record_writer.write_doubled.Goals.{then-byte+in_ok-write_whole, else-byte}
 use Rattle.ws_record.proofs.record_writer.write_doubled.Goals as goal
 

@@ -1,6 +1,7 @@
 use Rattle.ws_record.proofs.Common as C
-use C.{◌≡◌, ◌∷◌, ◌++◌, ℕ, List, [], flat_map, err_from_is_err_and, on_ok_weaker, IfErr-weaker, doubled, record_spelling}
-use Rattle.ws_record.proofs.Writes.{record_text, three_out, first_fails, second_fails, third_fails}
+use C.{◌≡◌, ◌∷◌, ◌++◌, ℕ, List, [], flat_map, err_from_is_err_and, on_ok_weaker, IfErr-weaker, doubled}
+use C.{record_spelling, first_fails, second_fails, third_fails, three_out}
+use Rattle.ws_record.proofs.Writes.{record_text}
 use Rattle.ws_record.proofs.record_writer.write_record.Goals as goal
 
 text_of : {head is : List ℕ} (body : List ℕ) → head ≡ is

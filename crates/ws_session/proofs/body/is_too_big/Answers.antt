@@ -1,5 +1,5 @@
 use Rattle.ws_session.proofs.Common.{length, ap, arith, element_rules}
-use Rattle.ws_record.proofs.Writes.{length_through}
+use Rattle.ws_code.proofs.Lists.{length_through}
 use Rattle.ws_session.proofs.body.is_too_big.Goals as goal
 
 pub returns-then-room-size-clause-big : goal.returns-then-room-size-clause-big

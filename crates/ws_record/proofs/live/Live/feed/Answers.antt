@@ -1,6 +1,6 @@
-use Rattle.ws_record.proofs.Common.{arith, append-nil}
+use Rattle.ws_record.proofs.Common.{arith, append-nil, bytes_on, each_on, length_rest}
 use Rattle.ws_record.proofs.Lives.{front_step, held_at_none}
-use Rattle.ws_record.proofs.Pieces.{IsHeld, left_length, bytes_on, each_on, front_made, more_on}
+use Rattle.ws_record.proofs.Pieces.{IsHeld, front_made, more_on}
 use Rattle.ws_record.proofs.live.Live.feed.Goals as goal
 
 pub loop-used-init : goal.loop-used-init
@@ -35,7 +35,7 @@ loop-used-preserved-in-More g c = (
   omega (
     arith,
     c.advance-advance.ensures.within,
-    left_length c.args.piece.now c.loop-used.used,
+    length_rest c.args.piece.now c.loop-used.used,
     c.loop-used.invariant.0,
   ),
   λ bytes items so_far l fits. (
@@ -52,7 +52,7 @@ loop-used-preserved g c = (
   omega (
     arith,
     c.advance-advance.ensures.within,
-    left_length c.args.piece.now c.loop-used.used,
+    length_rest c.args.piece.now c.loop-used.used,
     c.loop-used.invariant.0,
   ),
   λ bytes items so_far l fits. (

@@ -1,5 +1,6 @@
 use Rattle.ws_record.proofs.Common.{refl}
-use Rattle.ws_record.proofs.Lives.{leads_nothing, fresh_begins}
+use Rattle.ws_telnet.proofs.OneToken.{fresh_begins}
+use Rattle.ws_record.proofs.Lives.{leads_nothing}
 use Rattle.ws_record.proofs.live.Live.new.Goals as goal
 
 pub returns : goal.returns

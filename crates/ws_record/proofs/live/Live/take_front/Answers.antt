@@ -1,8 +1,9 @@
 use Rattle.ws_record.proofs.Common as C
-use C.{◌∷◌, ◌++◌, [], take, get_or, refl, arith, take_more, length-take-le, IAC, unfinished_of, sub_of}
+use C.{◌∷◌, ◌++◌, [], take, get_or, refl, arith, take_more, length-take-le, IAC, unfinished_of, sub_of, front_bytes}
+use Rattle.ws_telnet.proofs.OneToken.{word_begun}
 use Rattle.ws_record.proofs.Lives.{advance_values, carries_values, holds_values, first_word, begin_word, second_word}
-use Rattle.ws_record.proofs.Lives.{held_at_none, held_at_one, word_begun}
-use Rattle.ws_record.proofs.Takings.{front_bytes, plain_front}
+use Rattle.ws_record.proofs.Lives.{held_at_none, held_at_one}
+use Rattle.ws_record.proofs.Takings.{plain_front}
 use Rattle.ws_record.proofs.live.Live.take_front.Goals as goal
 
 pub invariant_of-self : goal.invariant_of-self

@@ -1,5 +1,6 @@
 use Rattle.ws_record.proofs.Common.{Ok, Err, Vec, Global, refl, sym, arith, ◌∙◌, append-nil, err_from_is_err_and}
-use Rattle.ws_record.proofs.Pieces.{IsHeld, left_length, bytes_on, each_on, room_on, front_made}
+use Rattle.ws_record.proofs.Common.{bytes_on, each_on, length_rest, room_on}
+use Rattle.ws_record.proofs.Pieces.{IsHeld, front_made}
 use Rattle.ws_record.proofs.Receivers.{receives, item_given, front_feeds, left_feeds, none_before, feeds_on}
 use Rattle.ws_record.proofs.Lives.{held_at_none}
 use Rattle.ws_record.proofs.receiver.Receiver.feed.Goals as goal
@@ -16,7 +17,7 @@ loop-used-preserved g c = (
   omega (
     arith,
     c.advance-advance.ensures.within,
-    left_length c.args.piece.now c.loop-used.used,
+    length_rest c.args.piece.now c.loop-used.used,
     c.loop-used.invariant.0,
   ),
   λ bytes items t fits. (let inv = c.loop-used.invariant.1 bytes items t fits in
@@ -94,6 +95,6 @@ returns-in_err-item-clause-none_before g c =
     (c.advance-advance.ensures.advance _ _ _ was.leads.1)) c.in_err-item.ensures.item) (omega (
       arith,
       c.advance-advance.ensures.within,
-      left_length c.args.piece.now c.loop-used.used,
+      length_rest c.args.piece.now c.loop-used.used,
       c.loop-used.invariant.0,
     )))

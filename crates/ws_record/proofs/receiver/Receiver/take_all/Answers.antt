@@ -1,6 +1,6 @@
-use Rattle.ws_record.proofs.Common.{inl, inr, refl, arith, err_from_is_err_and, append-nil}
+use Rattle.ws_record.proofs.Common.{inl, inr, refl, arith, err_from_is_err_and, append-nil, bytes_on, length_rest}
+use Rattle.ws_code.proofs.Pieces.{room_next}
 use Rattle.ws_record.proofs.Decodes.{item_completed}
-use Rattle.ws_record.proofs.Pieces.{left_length, bytes_on, room_next}
 use Rattle.ws_record.proofs.Receivers.{left_feeds}
 use Rattle.ws_record.proofs.receiver.Receiver.take_all.Goals as goal
 
@@ -26,7 +26,7 @@ returns-then-is_err-clause-fault g c =
 
 pub loop-used-preserved-else-is_err : goal.loop-used-preserved-else-is_err
 loop-used-preserved-else-is_err g c = (
-  omega (arith, c.in_ok-fed.ensures.used, left_length c.args.piece.now c.loop-used.used, c.loop-used.invariant.0),
+  omega (arith, c.in_ok-fed.ensures.used, length_rest c.args.piece.now c.loop-used.used, c.loop-used.invariant.0),
   λ bytes t fits. rw (rw (c.in-Some.item-is, c.is_err.ensures.negation, c.if-is_err.false) at c.push.ensures.items)
       (rw (c.in-Some.is, bytes_on bytes c.args.piece.now c.loop-used.used c.in_ok-fed.fed.used) at
       (c.in_ok-fed.ensures.taken _ _ (c.loop-used.invariant.1 bytes t fits)
@@ -36,7 +36,7 @@ loop-used-preserved-else-is_err g c = (
 pub loop-used-preserved : goal.loop-used-preserved
 loop-used-preserved g c = (
   omega
-      (arith, c.in_ok-fed.ensures.used, left_length c.args.piece.now c.loop-used.used, c.loop-used.invariant.0),
+      (arith, c.in_ok-fed.ensures.used, length_rest c.args.piece.now c.loop-used.used, c.loop-used.invariant.0),
   λ bytes t fits. rw (
     c.in_default.is,
     bytes_on bytes c.args.piece.now c.loop-used.used c.in_ok-fed.fed.used,

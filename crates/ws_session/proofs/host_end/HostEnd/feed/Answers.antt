@@ -1,4 +1,4 @@
-use Rattle.ws_session.proofs.Common.{err_from_is_err_and, element_rules, answer_rules, left_length, host_manner, length}
+use Rattle.ws_session.proofs.Common.{err_from_is_err_and, element_rules, answer_rules, length_rest, host_manner, length}
 use Rattle.ws_session.proofs.Common.{HasHostFed, HostLeads, HostEvent, HostStep, left_of, Refusal, is_some, Option, ◌∙◌}
 use Rattle.ws_session.proofs.Common.{arith, false, None, Some, refl, take, ◌≡◌, ◌+◌, sym, []}
 use Rattle.ws_session.proofs.Counts.{counted_on, counted_up}
@@ -42,7 +42,7 @@ returns-in_err-reply-clause-counted_up c =
     let why : Refusal = c.in_err-reply.field-0.0 in
     rw
     (p.1, p.2) (counted_up why _ now.self.receiver.live.taken _ now.used _ (length (left_of c.args.piece.now now.used))
-    _ now.invariant.0 f.ensures.within (left_length c.args.piece.now now.used) now.invariant.3 f.ensures.counted
+    _ now.invariant.0 f.ensures.within (length_rest c.args.piece.now now.used) now.invariant.3 f.ensures.counted
     (λ other. f.ensures.used (λ e. other (cc (c.in_err-reply.was, e)))) (rw c.in_err-reply.was at f.ensures.at))
 
 pub returns-then-is_some-2-clause-fed : goal.returns-then-is_some-2-clause-fed
@@ -73,7 +73,7 @@ loop-used-preserved c =
       omega (
         arith,
         c.take_front-front.ensures.within,
-        left_length c.args.piece.now c.loop-used.used,
+        length_rest c.args.piece.now c.loop-used.used,
         c.loop-used.invariant.0,
       ),
       (rw c.in_ok-reply.was at c.take_front-front.ensures.quiet) untold ∙ c.loop-used.invariant.1,

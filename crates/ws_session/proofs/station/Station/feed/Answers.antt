@@ -1,5 +1,5 @@
 use Rattle.ws_session.proofs.Common.{err_from_is_err_and, station_manner, element_rules, answer_rules, StationLeads, []}
-use Rattle.ws_session.proofs.Common.{StationStep, left_length, left_of, Refusal, HasFed, length, arith, false, refl}
+use Rattle.ws_session.proofs.Common.{StationStep, length_rest, left_of, Refusal, HasFed, length, arith, false, refl}
 use Rattle.ws_session.proofs.Common.{take, ◌+◌, ◌∙◌}
 use Rattle.ws_session.proofs.Counts.{counted_on, counted_up}
 use Rattle.ws_session.proofs.StationFeedings.{refused_on, no_reply, fed_on}
@@ -36,7 +36,7 @@ returns-in_err-reply-clause-counted_up c =
     let f = c.take_front-front in
     let why : Refusal = c.in_err-reply.field-0.0 in
     rw (p.1, p.2) (counted_up why _ now.self.live.taken _ now.used _ (length (left_of c.args.piece.now now.used))
-    _ now.invariant.0 f.ensures.within (left_length c.args.piece.now now.used) now.invariant.3 f.ensures.counted
+    _ now.invariant.0 f.ensures.within (length_rest c.args.piece.now now.used) now.invariant.3 f.ensures.counted
     (λ other. f.ensures.used (λ e. other (cc (c.in_err-reply.was, e)))) (rw c.in_err-reply.was at f.ensures.at))
 
 pub returns-then-ends_record-clause-fed : goal.returns-then-ends_record-clause-fed
@@ -66,7 +66,7 @@ loop-used-preserved c = (
   omega (
     arith,
     c.take_front-front.ensures.within,
-    left_length c.args.piece.now c.loop-used.used,
+    length_rest c.args.piece.now c.loop-used.used,
     c.loop-used.invariant.0,
   ),
   (rw c.in_ok-reply.was at c.take_front-front.ensures.quiet) c.if-ends_record.false ∙ c.loop-used.invariant.1,

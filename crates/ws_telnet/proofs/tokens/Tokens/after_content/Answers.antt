@@ -1,4 +1,4 @@
-use Rattle.std.proofs.Common.{◌++◌, ◌∷◌, [], ℕ, List, refl, sym, ap, ne_eqb}
+use Rattle.std.proofs.Common.{◌++◌, ℕ, List, refl, sym, ap, ne_eqb}
 use Rattle.ws_telnet.specs.Machine.{sub_begun}
 use Rattle.ws_telnet.specs.TokenLaws.{doubled_plain}
 use Rattle.ws_telnet.proofs.Unfinished.{sub_so_far_content, sub_ends, content_even}

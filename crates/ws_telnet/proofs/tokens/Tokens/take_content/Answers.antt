@@ -1,7 +1,7 @@
 use Rattle.std.proofs.Common.{◌≡◌, ◌≢◌, ◌++◌, ◌∷◌, [], ℕ, List, ◌≤◌, length, refl, sym, ap, ◌∙◌, arith, eqb-true}
 use Rattle.std.proofs.Common.{length-append}
 use Rattle.std.proofs.lemmas.Bool.{eqb-false}
-use Rattle.ws_code.specs.Code.{AreBytes, IsUnfinished}
+use Rattle.ws_code.specs.Code.{AreBytes}
 use Rattle.ws_telnet.specs.Machine.{sub_begun}
 use Rattle.ws_telnet.specs.Token.{doubled}
 use Rattle.ws_telnet.proofs.Unfinished.{sub_goes_on, sub_so_far_content, IsSubSoFar, sub_full, content_more, bytes_more}
