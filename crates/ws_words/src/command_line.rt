@@ -1,12 +1,13 @@
-ghost use Rattle.std.specs.Prelude.{IfOk};
-ghost use Rattle.ws_words.specs.Tasks.{IsTask};
+ghost use Rattle.std.specs.Prelude.{IfOk, IfSome};
+ghost use Rattle.ws_words.specs.Tasks.{HasPieces, IsTask};
 
+use crate::command_parts::{CommandParts, fault};
 use crate::live_command::{
     Live, color_flag, connect_asked, connect_command, paint_asked, serve_asked, serve_command,
 };
 use clap::error::ErrorKind;
-use clap::{Arg, ArgAction, Command, value_parser};
-use std::alloc::Global;
+use clap::{Arg, ArgAction, ArgMatches, Command, value_parser};
+use std::alloc::{AllocError, Global};
 use std::convert::AsStr;
 use ws_live::Paint;
 
@@ -134,70 +135,87 @@ Examples:
   t5250 show capture.hex | t5250 make";
 
 // The commands that the program knows.
-fn program<'a>(alloc: Global) -> Result<Command<'a>, clap::Error> {
-    let program = Command::new(alloc, "t5250")
+fn program<'a>(alloc: Global) -> Result<Command<'a>, AllocError> {
+    CommandParts::of(bare_program(alloc))
+        .below(check_command(alloc))
+        .below(show_command(alloc))
+        .below(play_command(alloc))
+        .below(make_command(alloc))
+        .below(connect_command(alloc))
+        .below(serve_command(alloc))
+        .finish()
+}
+
+fn bare_program<'a>(alloc: Global) -> Command<'a> {
+    Command::new(alloc, "t5250")
         .version("0.1.0")
         .about("Reads recorded IBM 5250 streams over Telnet (RFC 1205)")
         .after_help(HEX_AND_STATUS)
-        .subcommand_required(true);
-    with_sessions(alloc, with_streams(alloc, program)?)
+        .subcommand_required(true)
 }
 
-// The commands on streams.
-fn with_streams<'a>(alloc: Global, program: Command<'a>) -> Result<Command<'a>, clap::Error> {
-    let check = check_command(alloc)?;
-    let show = show_command(alloc)?;
-    let program = program.subcommand(check)?;
-    Ok(program.subcommand(show)?)
+fn check_command<'a>(alloc: Global) -> CommandParts<'a> {
+    CommandParts::new(
+        alloc,
+        "check",
+        "Tells whether a stream is accepted, refused or truncated",
+        CHECK_EXAMPLES,
+    )
+    .word(answers_flag(alloc))
+    .word(cut(alloc))
+    .word(hex_file(alloc))
 }
 
-// The commands on both ends of a session, and on items as text.
-fn with_sessions<'a>(alloc: Global, program: Command<'a>) -> Result<Command<'a>, clap::Error> {
-    let program = program.subcommand(play_command(alloc)?)?;
-    let program = program.subcommand(make_command(alloc)?)?;
-    let program = program.subcommand(connect_command(alloc)?)?;
-    Ok(program.subcommand(serve_command(alloc)?)?)
+fn show_command<'a>(alloc: Global) -> CommandParts<'a> {
+    CommandParts::new(
+        alloc,
+        "show",
+        "Prints a stream's records and Telnet commands, and the screen that they make",
+        SHOW_EXAMPLES,
+    )
+    .word(answers_flag(alloc))
+    .word(color_flag(alloc))
+    .word(hex_file(alloc))
 }
 
-fn check_command<'a>(alloc: Global) -> Result<Command<'a>, clap::Error> {
-    let cut = Arg::new(alloc, "cut")
+fn play_command<'a>(alloc: Global) -> CommandParts<'a> {
+    CommandParts::new(
+        alloc,
+        "play",
+        "Plays a script of sends, keys and deliveries with both ends",
+        PLAY_EXAMPLES,
+    )
+    .word(screen_flag(alloc))
+    .word(color_flag(alloc))
+    .word(tcp_flag(alloc))
+    .word(script_file(alloc))
+}
+
+fn make_command<'a>(alloc: Global) -> CommandParts<'a> {
+    CommandParts::new(
+        alloc,
+        "make",
+        "Prints a stream as hex text, from the lines that show prints",
+        MAKE_EXAMPLES,
+    )
+    .word(answers_flag(alloc))
+    .word(items_file(alloc))
+}
+
+fn cut<'a>(alloc: Global) -> Arg<'a> {
+    Arg::new(alloc, "cut")
         .long("cut")
         .value_name("N")
         .help("Reads the bytes in pieces of N, from 1 to 65535; the line stays the same")
         .value_parser(value_parser!(u16).range(1..=65535))
-        .action(ArgAction::Set);
-    let check = Command::new(alloc, "check")
-        .about("Tells whether a stream is accepted, refused or truncated")
-        .after_help(CHECK_EXAMPLES)
-        .arg(answers_flag(alloc))?
-        .arg(cut)?
-        .arg(hex_file(alloc))?;
-    Ok(check)
+        .action(ArgAction::Set)
 }
 
-fn show_command<'a>(alloc: Global) -> Result<Command<'a>, clap::Error> {
-    let show = Command::new(alloc, "show")
-        .about("Prints a stream's records and Telnet commands, and the screen that they make")
-        .after_help(SHOW_EXAMPLES)
-        .arg(answers_flag(alloc))?
-        .arg(color_flag(alloc))?
-        .arg(hex_file(alloc))?;
-    Ok(show)
-}
-
-fn play_command<'a>(alloc: Global) -> Result<Command<'a>, clap::Error> {
-    let screen = Arg::new(alloc, "screen")
+fn screen_flag<'a>(alloc: Global) -> Arg<'a> {
+    Arg::new(alloc, "screen")
         .long("screen")
         .help("Prints the station's screen at the end")
-        .action(ArgAction::SetTrue);
-    let play = Command::new(alloc, "play")
-        .about("Plays a script of sends, keys and deliveries with both ends")
-        .after_help(PLAY_EXAMPLES)
-        .arg(screen)?
-        .arg(color_flag(alloc))?
-        .arg(tcp_flag(alloc))?
-        .arg(script_file(alloc))?;
-    Ok(play)
+        .action(ArgAction::SetTrue)
 }
 
 fn tcp_flag<'a>(alloc: Global) -> Arg<'a> {
@@ -215,16 +233,10 @@ fn script_file<'a>(alloc: Global) -> Arg<'a> {
         .action(ArgAction::Set)
 }
 
-fn make_command<'a>(alloc: Global) -> Result<Command<'a>, clap::Error> {
-    let items = Arg::new(alloc, "FILE")
+fn items_file<'a>(alloc: Global) -> Arg<'a> {
+    Arg::new(alloc, "FILE")
         .help("Items as text; without it, standard input is read")
-        .action(ArgAction::Set);
-    let make = Command::new(alloc, "make")
-        .about("Prints a stream as hex text, from the lines that show prints")
-        .after_help(MAKE_EXAMPLES)
-        .arg(answers_flag(alloc))?
-        .arg(items)?;
-    Ok(make)
+        .action(ArgAction::Set)
 }
 
 fn answers_flag<'a>(alloc: Global) -> Arg<'a> {
@@ -244,8 +256,7 @@ fn hex_file<'a>(alloc: Global) -> Arg<'a> {
 /// The fault of words that the program can't even take as text.
 pub fn no_text(alloc: Global) -> Result<clap::Error, clap::Error> {
     let mut program = program(alloc)?;
-    let error = program.error(ErrorKind::InvalidValue, "a word isn't UTF-8")?;
-    Ok(error)
+    Ok(fault(&mut program, ErrorKind::InvalidValue, "a word isn't UTF-8"))
 }
 
 /// What the words ask for, of which the first is the program's name.
@@ -256,33 +267,77 @@ pub fn read_words<'a, S: AsStr>(alloc: Global, words: &'a [S]) -> Result<Task<'a
 {
     let mut program = program(alloc)?;
     let matches = program.try_get_matches_from_mut(words)?;
-    match matches.subcommand() {
-        Some(("check", check)) => Ok(Task::Input(Asked::Check {
-            file: check.get_str("FILE"),
-            // No 0 comes through.
-            cut: check.get_one::<u16>("cut").unwrap_or(u16::MAX).max(1),
-            answers: check.get_flag("answers"),
-        })),
-        Some(("show", show)) => Ok(Task::Input(Asked::Show {
-            file: show.get_str("FILE"),
-            answers: show.get_flag("answers"),
-            paint: paint_asked(show),
-        })),
-        Some(("play", play)) => Ok(Task::Input(Asked::Play {
-            file: play.get_str("SCRIPT"),
-            screen: play.get_flag("screen"),
-            tcp: play.get_flag("tcp"),
-            paint: paint_asked(play),
-        })),
-        Some(("make", make)) => Ok(Task::Input(Asked::Make {
-            file: make.get_str("FILE"),
-            answers: make.get_flag("answers"),
-        })),
-        Some(("connect", words)) => Ok(Task::Live(Live::Connect(connect_asked(
-            &mut program,
-            words,
-        )?))),
-        Some(("serve", words)) => Ok(Task::Live(Live::Serve(serve_asked(&mut program, words)?))),
-        _ => Err(program.error(ErrorKind::MissingSubcommand, "no subcommand")?),
+    task_asked(&mut program, &matches)
+}
+
+// What these words ask for.
+fn task_asked<'a>(
+    program: &mut Command<'a>,
+    words: &ArgMatches<'a>,
+) -> Result<Task<'a>, clap::Error>
+    ensures { IfOk result IsTask }
+{
+    let (name, words) = words.subcommand().unwrap_or(("", words));
+    match name {
+        "connect" => Ok(Task::Live(Live::Connect(connect_asked(program, words)?))),
+        "serve" => Ok(Task::Live(Live::Serve(serve_asked(program, words)?))),
+        _ => match input_asked(name, words) {
+            Some(asked) => Ok(Task::Input(asked)),
+            None => Err(fault(program, ErrorKind::MissingSubcommand, "no subcommand")),
+        },
+    }
+}
+
+// What the words of this command ask for of an input; nothing where it is none of these.
+fn input_asked<'a>(name: &str, words: &ArgMatches<'a>) -> Option<Asked<'a>>
+    ensures { IfSome result HasPieces }
+{
+    match name {
+        "check" => Some(check_asked(words)),
+        "show" => Some(show_asked(words)),
+        "play" => Some(play_asked(words)),
+        "make" => Some(make_asked(words)),
+        _ => None,
+    }
+}
+
+fn check_asked<'a>(words: &ArgMatches<'a>) -> Asked<'a>
+    ensures { HasPieces result }
+{
+    Asked::Check {
+        file: words.get_str("FILE"),
+        // No 0 comes through.
+        cut: words.get_one::<u16>("cut").unwrap_or(u16::MAX).max(1),
+        answers: words.get_flag("answers"),
+    }
+}
+
+fn show_asked<'a>(words: &ArgMatches<'a>) -> Asked<'a>
+    ensures { HasPieces result }
+{
+    Asked::Show {
+        file: words.get_str("FILE"),
+        answers: words.get_flag("answers"),
+        paint: paint_asked(words),
+    }
+}
+
+fn play_asked<'a>(words: &ArgMatches<'a>) -> Asked<'a>
+    ensures { HasPieces result }
+{
+    Asked::Play {
+        file: words.get_str("SCRIPT"),
+        screen: words.get_flag("screen"),
+        tcp: words.get_flag("tcp"),
+        paint: paint_asked(words),
+    }
+}
+
+fn make_asked<'a>(words: &ArgMatches<'a>) -> Asked<'a>
+    ensures { HasPieces result }
+{
+    Asked::Make {
+        file: words.get_str("FILE"),
+        answers: words.get_flag("answers"),
     }
 }

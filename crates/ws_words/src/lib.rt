@@ -2,6 +2,7 @@
 #![tactic(auto)]
 
 mod command_line;
+mod command_parts;
 mod live_address;
 mod live_command;
 

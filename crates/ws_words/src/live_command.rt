@@ -1,3 +1,4 @@
+use crate::command_parts::{CommandParts, fault};
 use crate::live_address::{HostPort, host_and_port, listening_address};
 use clap::error::ErrorKind;
 use clap::{Arg, ArgAction, ArgMatches, Command, value_parser};
@@ -90,41 +91,55 @@ Examples:
   t5250 serve --ready --wait 5 '[::1]:0'";
 
 /// The commands of live sessions.
-pub fn connect_command<'a>(alloc: Global) -> Result<Command<'a>, clap::Error> {
-    let terminal = Arg::new(alloc, "terminal")
+pub fn connect_command<'a>(alloc: Global) -> CommandParts<'a> {
+    let connect = CommandParts::new(
+        alloc,
+        "connect",
+        "Is a station at a host, by a script or line by line",
+        CONNECT_EXAMPLES,
+    )
+    .word(color_flag(alloc))
+    .word(terminal(alloc))
+    .word(host(alloc));
+    with_script(alloc, connect)
+}
+
+pub fn serve_command<'a>(alloc: Global) -> CommandParts<'a> {
+    let serve = CommandParts::new(
+        alloc,
+        "serve",
+        "Is a host for one station, by a script or line by line",
+        SERVE_EXAMPLES,
+    );
+    with_script(alloc, serve.word(address(alloc)))
+}
+
+fn terminal<'a>(alloc: Global) -> Arg<'a> {
+    Arg::new(alloc, "terminal")
         .long("terminal")
         .value_name("NAME")
         .help(
             "The terminal's type: IBM-3179-2 without it, IBM-5251-11, IBM-5291-1, IBM-5292-2 or IBM-3196-A1",
         )
-        .action(ArgAction::Set);
-    let host = Arg::new(alloc, "HOST[:PORT]")
+        .action(ArgAction::Set)
+}
+
+fn host<'a>(alloc: Global) -> Arg<'a> {
+    Arg::new(alloc, "HOST[:PORT]")
         .help(
             "A name or an address, one of IPv6 in brackets before a port; port 23 where none is named",
         )
         .required(true)
-        .action(ArgAction::Set);
-    let command = Command::new(alloc, "connect")
-        .about("Is a station at a host, by a script or line by line")
-        .after_help(CONNECT_EXAMPLES)
-        .arg(color_flag(alloc))?
-        .arg(terminal)?
-        .arg(host)?;
-    with_script(alloc, command)
+        .action(ArgAction::Set)
 }
 
-pub fn serve_command<'a>(alloc: Global) -> Result<Command<'a>, clap::Error> {
-    let address = Arg::new(alloc, "ADDRESS")
+fn address<'a>(alloc: Global) -> Arg<'a> {
+    Arg::new(alloc, "ADDRESS")
         .help(
             "Where it listens: HOST:PORT, with an address of IPv6 in brackets; port 0 takes a free one",
         )
         .required(true)
-        .action(ArgAction::Set);
-    let command = Command::new(alloc, "serve")
-        .about("Is a host for one station, by a script or line by line")
-        .after_help(SERVE_EXAMPLES)
-        .arg(address)?;
-    with_script(alloc, command)
+        .action(ArgAction::Set)
 }
 
 /// The flag for screens in colour.
@@ -145,12 +160,11 @@ pub fn paint_asked(words: &ArgMatches<'_>) -> Paint {
 }
 
 // What both sessions take: the time of a wait, whether `ok` is told, and a script.
-fn with_script<'a>(alloc: Global, command: Command<'a>) -> Result<Command<'a>, clap::Error> {
-    let command = command
-        .arg(wait(alloc))?
-        .arg(ready(alloc))?
-        .arg(script(alloc))?;
-    Ok(command)
+fn with_script<'a>(alloc: Global, command: CommandParts<'a>) -> CommandParts<'a> {
+    command
+        .word(wait(alloc))
+        .word(ready(alloc))
+        .word(script(alloc))
 }
 
 fn wait<'a>(alloc: Global) -> Arg<'a> {
@@ -183,19 +197,21 @@ pub fn connect_asked<'a>(
     words: &ArgMatches<'a>,
 ) -> Result<ConnectAsked<'a>, clap::Error> {
     let Some(host) = host_and_port(words.get_str("HOST[:PORT]").unwrap_or("")) else {
-        return Err(program.error(
+        return Err(fault(
+            program,
             ErrorKind::InvalidValue,
             "no host is named so: HOST, HOST:PORT, [V6]:PORT",
-        )?);
+        ));
     };
     let terminal = match words.get_str("terminal") {
         None => TerminalType::default(),
         Some(name) => match TerminalType::from_name(name.as_bytes()) {
             Some(terminal) => terminal,
-            None => return Err(program.error(
+            None => return Err(fault(
+                program,
                 ErrorKind::InvalidValue,
                 "no terminal has this name",
-            )?),
+            )),
         },
     };
     Ok(ConnectAsked {
@@ -214,10 +230,11 @@ pub fn serve_asked<'a>(
     words: &ArgMatches<'a>,
 ) -> Result<ServeAsked<'a>, clap::Error> {
     let Some(address) = listening_address(words.get_str("ADDRESS").unwrap_or("")) else {
-        return Err(program.error(
+        return Err(fault(
+            program,
             ErrorKind::InvalidValue,
             "no address to listen at: HOST:PORT, [V6]:PORT",
-        )?);
+        ));
     };
     Ok(ServeAsked {
         address,

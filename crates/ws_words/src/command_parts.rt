@@ -1,0 +1,54 @@
+use clap::error::ErrorKind;
+use clap::{Arg, Command};
+use std::alloc::{AllocError, Global};
+
+/// A command to which parts are added one by one. Where memory was wanting for one, it takes no more.
+///
+/// Nothing has to be known of a command but that it is one, so these calls promise nothing. What `clap` promises of each
+/// part, and a way out behind each, would make a command of many parts dear to prove.
+#[derive(Drop)]
+pub struct CommandParts<'a>(Result<Command<'a>, AllocError>);
+
+impl<'a> CommandParts<'a> {
+    /// A command of this name, with what help says of it, before and behind its words.
+    pub fn new(alloc: Global, name: &'a str, about: &'a str, examples: &'a str) -> Self {
+        CommandParts::of(Command::new(alloc, name).about(about).after_help(examples))
+    }
+
+    /// The command as it is.
+    pub fn of(command: Command<'a>) -> Self {
+        CommandParts(Ok(command))
+    }
+
+    /// A flag, an option or a place for a word more.
+    pub fn word(self, word: Arg<'a>) -> Self {
+        match self.0 {
+            Ok(command) => CommandParts(command.arg(word)),
+            Err(lack) => CommandParts(Err(lack)),
+        }
+    }
+
+    /// A command below it more.
+    pub fn below(self, below: CommandParts<'a>) -> Self {
+        match self.0 {
+            Ok(command) => match below.0 {
+                Ok(below) => CommandParts(command.subcommand(below)),
+                Err(lack) => CommandParts(Err(lack)),
+            },
+            Err(lack) => CommandParts(Err(lack)),
+        }
+    }
+
+    /// The command with all its parts.
+    pub fn finish(self) -> Result<Command<'a>, AllocError> {
+        self.0
+    }
+}
+
+/// The fault of words that the program can't take.
+pub fn fault(program: &mut Command<'_>, kind: ErrorKind, why: &str) -> clap::Error {
+    match program.error(kind, why) {
+        Ok(fault) => fault,
+        Err(lack) => lack.into(),
+    }
+}
