@@ -24,10 +24,10 @@ impl fmt::Display for Fault {
         match self {
             Fault::Refused { place, reason } => write!(f, "refused at {place}: {reason}"),
             Fault::Truncated { at } => write!(f, "truncated at {at}"),
-            Fault::Memory => write!(f, "memory"),
-            Fault::Read => write!(f, "cannot read"),
-            Fault::Write => write!(f, "cannot write"),
-            Fault::Failed => write!(f, "failed"),
+            Fault::Memory => f.write_str("memory"),
+            Fault::Read => f.write_str("cannot read"),
+            Fault::Write => f.write_str("cannot write"),
+            Fault::Failed => f.write_str("failed"),
         }
     }
 }

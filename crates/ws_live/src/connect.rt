@@ -15,7 +15,7 @@ use ws_session::{Attached, Event, Station};
 use ws_text::Output;
 
 // What becomes of a wait.
-#[derive(Clone, Copy, Debug, PartialEq, Eq)]
+#[derive(Clone, Copy)]
 enum Waited {
     Met,
     Late,

@@ -11,7 +11,7 @@ use ws_keys::Key;
 use ws_session::Move;
 
 /// Why a line gives no moves.
-#[derive(Clone, Copy, Debug, PartialEq, Eq)]
+#[derive(Clone, Copy)]
 pub enum LineFault {
     /// It is no line of a script.
     Bad,

@@ -10,7 +10,7 @@ use ws_code::{Body, Fault, Nothing, Sink};
 use ws_record::{Advance, Live, News};
 
 // How many items a decoder has met.
-#[derive(Debug, Drop)]
+#[derive(Drop)]
 struct Tally {
     records: u64,
     commands: u64,

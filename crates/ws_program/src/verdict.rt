@@ -8,7 +8,7 @@ use ws_live::put_place_and_reason;
 use ws_text::{Output, put_number, put_text};
 
 /// What holds of a stream.
-#[derive(Clone, Copy, Debug, PartialEq, Eq)]
+#[derive(Clone, Copy)]
 pub enum Verdict {
     /// It is so many records and Telnet commands.
     Accepted { records: u64, commands: u64 },

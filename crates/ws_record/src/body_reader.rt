@@ -19,10 +19,10 @@ pub enum BodyFault {
 
 impl fmt::Display for BodyFault {
     fn fmt<W: fmt::Write>(&self, f: &mut fmt::Formatter<W>) -> fmt::Result {
-        match self {
-            BodyFault::Bad => write!(f, "no body"),
-            BodyFault::Memory => write!(f, "memory"),
-        }
+        f.write_str(match self {
+            BodyFault::Bad => "no body",
+            BodyFault::Memory => "memory",
+        })
     }
 }
 

@@ -39,8 +39,8 @@ impl fmt::Display for EncodeFault {
                 f,
                 "item {index} is a record whose units are no body"
             ),
-            EncodeFault::Memory => write!(f, "memory"),
-            EncodeFault::Write => write!(f, "cannot write"),
+            EncodeFault::Memory => f.write_str("memory"),
+            EncodeFault::Write => f.write_str("cannot write"),
         }
     }
 }

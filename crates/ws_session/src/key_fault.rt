@@ -16,9 +16,9 @@ pub enum KeyFault {
 impl fmt::Display for KeyFault {
     fn fmt<W: fmt::Write>(&self, f: &mut fmt::Formatter<W>) -> fmt::Result {
         match self {
-            KeyFault::Failed => write!(f, "failed"),
-            KeyFault::NotReady => write!(f, "records aren't allowed yet"),
-            KeyFault::Key(refusal) => write!(f, "{refusal}"),
+            KeyFault::Failed => f.write_str("failed"),
+            KeyFault::NotReady => f.write_str("records aren't allowed yet"),
+            KeyFault::Key(refusal) => refusal.fmt(f),
         }
     }
 }

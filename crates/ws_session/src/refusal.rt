@@ -17,8 +17,8 @@ impl fmt::Display for Refusal {
     fn fmt<W: fmt::Write>(&self, f: &mut fmt::Formatter<W>) -> fmt::Result {
         match self {
             Refusal::At { place, reason } => write!(f, "refused at {place}: {reason}"),
-            Refusal::Failed => write!(f, "failed"),
-            Refusal::Memory => write!(f, "memory"),
+            Refusal::Failed => f.write_str("failed"),
+            Refusal::Memory => f.write_str("memory"),
         }
     }
 }

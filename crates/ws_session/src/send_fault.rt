@@ -26,14 +26,14 @@ pub enum SendFault {
 impl fmt::Display for SendFault {
     fn fmt<W: fmt::Write>(&self, f: &mut fmt::Formatter<W>) -> fmt::Result {
         match self {
-            SendFault::Failed => write!(f, "failed"),
-            SendFault::NotAllowed => write!(f, "records aren't allowed yet"),
-            SendFault::ReadOutstanding => write!(f, "a read or a cancel is unanswered"),
-            SendFault::NoReadToCancel => write!(f, "no read can be cancelled"),
-            SendFault::BadSequence => write!(f, "the elements are no body"),
+            SendFault::Failed => f.write_str("failed"),
+            SendFault::NotAllowed => f.write_str("records aren't allowed yet"),
+            SendFault::ReadOutstanding => f.write_str("a read or a cancel is unanswered"),
+            SendFault::NoReadToCancel => f.write_str("no read can be cancelled"),
+            SendFault::BadSequence => f.write_str("the elements are no body"),
             SendFault::Screen(reason) => write!(f, "the screen refuses an element: {reason}"),
-            SendFault::TooBig => write!(f, "the record is of more than 65,535 bytes"),
-            SendFault::Memory => write!(f, "memory"),
+            SendFault::TooBig => f.write_str("the record is of more than 65,535 bytes"),
+            SendFault::Memory => f.write_str("memory"),
         }
     }
 }

@@ -18,7 +18,7 @@ pub struct StationFed {
 }
 
 // What a front of a piece gives: how many bytes it has, and what its last byte gives.
-#[derive(Debug, Drop)]
+#[derive(Drop)]
 pub(crate) struct StationFront {
     pub(crate) used: usize,
     pub(crate) step: Result<StationStep, Refusal>,

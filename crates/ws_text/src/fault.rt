@@ -1,5 +1,5 @@
 /// Why a line gives nothing.
-#[derive(Clone, Copy, Debug, PartialEq, Eq)]
+#[derive(Clone, Copy)]
 pub enum LineFault {
     /// It is no line of the text.
     Bad,

@@ -4,7 +4,7 @@ ghost use Rattle.ws_text.specs.Names.{look_up, kinds, commands, verbs};
 use ws_telnet::{CommandCode, Verb};
 
 /// The kinds of elements that a line has one of.
-#[derive(Clone, Copy, Debug, PartialEq, Eq)]
+#[derive(Clone, Copy)]
 pub enum Kind {
     ClearUnit,
     ClearFormat,

@@ -16,7 +16,7 @@ use ws_record::Opcode;
 use ws_telnet::Telnet;
 
 /// What a line says.
-#[derive(Debug, Drop)]
+#[derive(Drop)]
 pub enum Part<U> {
     /// An empty line, or a comment.
     Nothing,
