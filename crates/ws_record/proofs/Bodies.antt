@@ -1,6 +1,6 @@
 use Rattle.ws_record.proofs.Common as C
-use C.{true, ◌≡◌, ℕ, List, [], ◌∷◌, ◌++◌, take, drop, sym, ap, ◌∙◌, append_assoc, append-nil, take-append-drop, Rules}
-use C.{IsSpelled, IsPrefix, IsPrefixFree, place_after, spelling_of, Reading, HasRun, Begins, one_cut, cut_bad}
+use C.{common_steps, arith, true, ◌≡◌, ℕ, List, [], ◌∷◌, ◌++◌, take, drop, sym, ap, ◌∙◌, append-nil, take-append-drop}
+use C.{Rules, IsSpelled, IsPrefix, IsPrefixFree, place_after, spelling_of, Reading, HasRun, Begins, one_cut, cut_bad}
 use C.{cut_unit, IsBody, HasUnitSoFar}
 
 -- Bodies by themselves, read from where a body begins.
@@ -11,8 +11,7 @@ module _ {Place U : Type 0} (rules : Rules Place U) (bytes : List ℕ) (to : Rea
   ended run fresh ends units same =
       rw same (record {
         whole = record { chain = run.chain; ends = ap rules.may_end (sym run.behind) ∙ ends };
-        spelled = sym (append-nil (spelling_of rules run.units))
-            ∙ ap (λ x. spelling_of rules run.units ++ x) (sym fresh) ∙ run.spelled;
+        spelled = grind (arith, common_steps);
       })
 
   -- inside a unit, or where none may, they are not
@@ -33,9 +32,7 @@ module _ {Place U : Type 0} (rules : Rules Place U) (bytes : List ℕ) (used : �
       → (body : List U) → IsBody rules bytes body → ⊥
   no_body free begins bad body is =
       let all : spelling_of rules body ≡ spelling_of rules run.units ++ (before.begun ++ last ∷ drop used bytes) =
-      is.spelled ∙ sym (take-append-drop used bytes) ∙ ap (λ x. x ++ drop used bytes) split
-      ∙ append_assoc front (last ∷ []) (drop used bytes) ∙ ap (λ x. x ++ last ∷ drop used bytes) (sym run.spelled)
-      ∙ append_assoc (spelling_of rules run.units) before.begun (last ∷ drop used bytes) in
+      (let whole = take-append-drop used bytes in grind (arith, common_steps)) in
       cut_bad rules free begins rules.first run.units body before.begun last (drop used bytes) run.chain
       is.whole.chain (rw run.behind at run.unfinished) (rw run.behind at bad) all
 

@@ -1,26 +1,12 @@
 use Rattle.ws_record.proofs.Common as C
 use C.{◌≡◌, ℕ, ◌*◌, ◌≤◌, List, [], ◌∷◌, ◌++◌, length, drop, take, refl, sym, ap, ◌∙◌, append_assoc, inl, inr}
-use C.{take-append-drop, append-nil, Rules, Reason, Fault, Refused, Truncated, Memory, Item, IsInGrammar, IsStream}
-use C.{Layer, IsRight, IsOpen, IsFirstClosed, IsRefused, IsTruncated, Tokens, Receiving, HasReceived, HasItem, MayGrow}
+use C.{take-append-drop, append-nil, Rules, Reason, Fault, Refused, Truncated, Memory, Item, IsInGrammar}
+use C.{Layer, IsOpen, IsFirstClosed, IsRefused, IsTruncated, Tokens, Receiving, HasReceived, HasItem, MayGrow}
 use C.{IsListFault, IsDecodeFault, MayGive, Gave, GaveAll, IsSourceFault}
-use Rattle.ws_record.proofs.Reading.{parts_no_eor}
-use Rattle.ws_record.proofs.Steps.{parts_of}
-use Rattle.ws_record.proofs.Refusals.{parts_right}
+use Rattle.ws_record.proofs.Refusals.{held}
+use Rattle.ws_record.proofs.Streams.{stream_of}
 
 module _ {Place U : Type 0} (rules : Rules Place U) where
-  -- what is accepted is a stream that is right to each layer
-  accepted_stream : (bytes : List ℕ) (items : List (Item U)) → IsInGrammar rules bytes items → (l : Layer)
-      → IsStream (IsRight rules l) bytes
-  accepted_stream bytes items h l = record {
-    parts = parts_of rules h.stretches;
-    rest = h.rest;
-    no_eor = (parts_no_eor _ _ h.each, h.no_eor);
-    each = parts_right _ _ h.each l;
-    closed = sym h.is_open;
-    tokens = record { chain = h.cut.chain; ends = refl };
-    spelled = sym h.cut.spelled ∙ append-nil _;
-  }
-
   pub closed_is_not : (l : Layer) (bytes : List ℕ) → IsFirstClosed rules l bytes → IsOpen rules l bytes → ⊥
   closed_is_not Tokens bytes c o = c o
   closed_is_not l bytes c o = c.1 o
@@ -31,8 +17,8 @@ module _ {Place U : Type 0} (rules : Rules Place U) where
   not_refused bytes items place reason a r =
       closed_is_not _ _ r.closed (record {
         more = r.after;
-        stream =
-            rw (append_assoc r.before, ← r.split) (accepted_stream _ _ a r.layer);
+        stream = (let h = held rules a r.layer in rw (append_assoc r.before, ← r.split)
+            (stream_of _ h.tokens h.cut.chain (sym h.cut.spelled ∙ append-nil _) h.right h.left));
       })
 
   -- a list in the grammar meets no fault but that of memory
@@ -94,12 +80,8 @@ module _ {Place U S : Type 0} (rules : Rules Place U) (gives : MayGive S) (failu
       → Gave gives failures from to reads (bytes ++ piece) → IsListFault rules bytes piece fault
       → IsSourceFault rules gives failures from to fault
   feed_source reads bytes piece (Refused place reason) gave (inl f) = (bytes ++ piece, reads, gave, f.1)
-  feed_source reads bytes piece Memory gave (inl f) = (
-    bytes ++ piece,
-    reads,
-    gave,
-    inl (bytes ++ f.0, f.1, f.2, rw (f.3, append_assoc bytes), f.4),
-  )
+  feed_source reads bytes piece Memory gave (inl f) =
+      (bytes ++ piece, reads, gave, inl (bytes ++ f.0, f.1, f.2, rw (f.3, append_assoc bytes), f.4))
   feed_source reads bytes piece fault gave (inr f) = rw f.0 (bytes ++ piece, reads, gave, inr f.1)
   feed_source reads bytes piece fault gave (inl f) = absurd f
 

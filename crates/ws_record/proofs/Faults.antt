@@ -1,11 +1,10 @@
 use Rattle.ws_record.proofs.Common as C
-use C.{◌≡◌, ℕ, List, [], ◌∷◌, ◌++◌, ◌⊎◌, inl, inr, length, drop, refl, sym, ap, ◌∙◌, append_assoc, append-nil, Rules}
-use C.{IsPrefixFree, Reason, Fault, Refused, Truncated, Memory, one_begins, one_cut, one_list, token_rules}
-use C.{token_prefix_free, token_begins, Token, Data, carried, joined, EndsWith, Layer, IsOpen, IsFirstClosed}
-use C.{IsBodyReason, IsReason, IsRefused, IsTruncated, Tokens, Header, Body, IsDecodeFault, all_right}
-use Rattle.ws_code.proofs.Lists.{same_last}
+use C.{common_steps, arith, ◌≡◌, ℕ, List, [], ◌∷◌, ◌++◌, ◌⊎◌, inl, inr, length, drop, refl, sym, ap, ◌∙◌, append-nil}
+use C.{Rules, IsPrefixFree, Reason, Fault, Refused, Truncated, Memory, one_begins, one_cut, one_list, token_rules}
+use C.{token_prefix_free, token_begins, Token, Data, joined, EndsWith, Layer, IsOpen, IsFirstClosed, IsBodyReason}
+use C.{IsReason, IsRefused, IsTruncated, Tokens, Header, Body, IsDecodeFault, same_last, IsRight}
 use Rattle.ws_record.proofs.Decodes.{closed_is_not}
-use Rattle.ws_record.proofs.Reading.{one_join}
+use Rattle.ws_record.proofs.Streams.{left_by, left_open, stream_of, stream_right, nothing_asked}
 
 -- Bytes are refused at one place and for one reason, or truncated, and not both.
 
@@ -13,11 +12,9 @@ use Rattle.ws_record.proofs.Reading.{one_join}
 one_end : (bytes so_far other : List ℕ) (s t : Token) → EndsWith bytes so_far s → EndsWith bytes other t
     → (so_far ≡ other) × (s ≡ t)
 one_end bytes so_far other s t e f =
-    let tokens : joined e.parts e.rest ++ s ∷ [] ≡ joined f.parts f.rest ++ t ∷ [] = one_list token_rules
-    token_prefix_free token_begins _ _ e.tokens.chain f.tokens.chain (sym e.spelled ∙ f.spelled) in
-    let last = same_last _ _ s t tokens in
-    let joins = one_join _ _ _ _ e.no_eor.0 f.no_eor.0 e.no_eor.1 f.no_eor.1 last.0 in
-    (e.is_open ∙ ap carried joins.1 ∙ sym f.is_open, last.1)
+    let last = same_last _ _ s t (one_list token_rules token_prefix_free token_begins _ _ e.tokens.chain f.tokens.chain
+    (sym e.spelled ∙ f.spelled)) in
+    (sym (left_open e) ∙ ap (left_by []) last.0 ∙ left_open f, last.1)
 
 module _ {Place U : Type 0} (rules : Rules Place U) where
   one_body_reason : IsPrefixFree rules → (bytes : List ℕ) (t : Token) (r s : Reason) → IsBodyReason rules bytes t r
@@ -44,15 +41,8 @@ module _ {Place U : Type 0} (rules : Rules Place U) where
       let s = o.stream in
       record {
         more = o.more;
-        stream = record {
-          parts = s.parts;
-          rest = s.rest;
-          no_eor = s.no_eor;
-          each = all_right s.parts;
-          closed = s.closed;
-          tokens = s.tokens;
-          spelled = s.spelled;
-        };
+        stream = stream_of _ (joined s.parts s.rest) s.tokens.chain s.spelled (nothing_asked _)
+            (stream_right (IsRight rules Header) s).1;
       }
 
   one_layer : (bytes : List ℕ) (l m : Layer) → IsFirstClosed rules l bytes → IsFirstClosed rules m bytes → l ≡ m
@@ -74,8 +64,8 @@ module _ {Place U : Type 0} (rules : Rules Place U) where
       let o = opened layer in
       closed_is_not rules layer (before ++ byte ∷ []) closed (record {
         more = more ++ o.more;
-        stream = rw (ap (λ x. x ++ o.more) e ∙ append_assoc before (byte ∷ more) o.more
-            ∙ sym (append_assoc before (byte ∷ []) (more ++ o.more))) at o.stream;
+        stream = rw (let same : longer ++ o.more ≡ (before ++ byte ∷ []) ++ (more ++ o.more) =
+            grind (arith, common_steps) in same) at o.stream;
       })
 
   longer : (x y : List ℕ) (b c : ℕ) (v w : List ℕ) (l : Layer) → IsFirstClosed rules l (x ++ b ∷ [])

@@ -5,6 +5,7 @@ pub mod Decodes
 pub mod Encodings
 pub mod Faults
 pub mod Flights
+pub mod HandedOn
 pub mod Fronts
 pub mod Headers
 pub mod LastRecords
@@ -12,7 +13,6 @@ pub mod Lives
 pub mod OpenPrefixes
 pub mod OpenRecords
 pub mod Pieces
-pub mod Prefixes
 pub mod Reading
 pub mod Receivers
 pub mod Refusals

@@ -1,11 +1,11 @@
 use Rattle.ws_record.proofs.Common as C
-use C.{Bool, false, ◌≡◌, ◌≢◌, ◌<◌, ◌≤◌, ◌^◌, refl, ℕ, ◌+◌, List, [], ◌∷◌, ◌++◌, inl, inr, Option, None, ◌-◌, length}
-use C.{take, sym, ap, ◌∙◌, arith, append_assoc, length-append, cases_lt, append-nil, Rules, IsUnfinished, IsSpelled}
+use C.{false, ◌≡◌, ◌≢◌, ◌<◌, ◌≤◌, ◌^◌, refl, ℕ, ◌+◌, List, [], ◌∷◌, ◌++◌, inl, inr, Option, None, ◌-◌, length, take}
+use C.{sym, ap, ◌∙◌, arith, append_assoc, length-append, cases_lt, append-nil, Rules, IsUnfinished, IsSpelled}
 use C.{AreBytes, AreBytes-front, CanEnd, Kept, Reason, token_rules, unfinished_of, sub_of, IAC, Telnet, Data, Eor}
-use C.{TelnetToken, Item, TelnetItem, News, More, Whole, Open, Close, NoMemory, Holds, IsInGrammar, Layer, IsOpen}
-use C.{IsRefused, IsTruncated, RecordSoFar, no_record, Keeping, HasRead, holds_last, Watching, Leads, LeadsWith}
-use C.{IsFrontStep, IsLiveStep, ArePlain, IsTaken, IsEnd, IsWordTaken, IsAdvance, OnLastNews, counted, IsStepOf}
-use C.{AllByRecursion-front, AllByRecursion-last, SpellsBytes, one_last}
+use C.{TelnetToken, Item, TelnetItem, News, More, Whole, Open, Close, NoMemory, Holds, IsInGrammar, IsRefused}
+use C.{IsTruncated, RecordSoFar, no_record, Keeping, HasRead, holds_last, Watching, Leads, LeadsWith, IsFrontStep}
+use C.{IsLiveStep, ArePlain, IsTaken, IsEnd, IsWordTaken, IsAdvance, OnLastNews, IsStepOf, AllByRecursion-front}
+use C.{AllByRecursion-last, SpellsBytes, one_last, Advance, true, IsCut, drop, CompletesUnit, Onward, plain_byte}
 use Rattle.ws_telnet.specs.Words.{IsWord}
 use Rattle.ws_telnet.specs.declared.word.Word.{Word}
 use Rattle.ws_telnet.specs.declared.tokens.Tokens.{Tokens}
@@ -14,7 +14,6 @@ use Rattle.ws_record.specs.declared.news.News.TheVariants.{Refused, Failed}
 use Rattle.ws_record.specs.declared.live.Step.{Step}
 use Rattle.ws_telnet.proofs.Unfinished.{iac_goes_on}
 use Rattle.ws_code.proofs.Slots.{only_enough, slot_is}
-use Rattle.ws_telnet.proofs.OneToken.{plain_byte}
 use Rattle.ws_record.proofs.Steps.{holds_nothing, holds_more, holds_data, holds_command, holds_record}
 use Rattle.ws_record.proofs.Refusals.{all_open, refuse_token, refuse_data, refuse_end, truncated}
 use Rattle.ws_record.proofs.Takings.{told_none}
@@ -23,11 +22,15 @@ use Rattle.ws_record.specs.declared.news.News.TheVariants as told
 use Rattle.ws_code.specs.declared.keep.Kept.TheVariants as answer
 use Rattle.ws_record.specs.declared.live.Step.TheVariants as steps
 
--- a decoder whose bytes are counted
-pub counted_is : {Place : Type 0} (live : Watching Place) (taken : ℕ) (failed : Bool) (bytes : List ℕ) → taken
-    ≡ length bytes → failed ≡ false → ◌≡◌ {A = Watching Place} (record live { taken = taken; failed = failed })
-    (counted live bytes)
-counted_is live taken failed bytes e f = cc
+-- a decoder that has taken these bytes, and works
+abbrev pub working : {Place : Type 0} → Tokens → Keeping Place → List ℕ → Watching Place
+working machine reader bytes = record {
+  taken = length bytes;
+  begun = unfinished_of machine;
+  sub = sub_of machine;
+  reader = reader;
+  failed = false;
+}
 
 module _ {Place U : Type 0} (rules : Rules Place U) where
   -- values that are no FF
@@ -35,7 +38,7 @@ module _ {Place U : Type 0} (rules : Rules Place U) where
       → AreBytes v → ArePlain v → Holds rules (bytes ++ v) items (so_far ++ v) []
   holds_values bytes items so_far [] h are plain = rw (append-nil bytes) (rw (append-nil so_far) h)
   holds_values bytes items so_far (b ∷ v) h are plain =
-      let one = holds_data _ _ _ _ [] b b h (plain_byte b are.0 plain.0) in
+      let one = holds_data _ h b b (plain_byte b are.0 plain.0) in
       let all = holds_values _ _ _ v one are.1 plain.1 in
       rw (append_assoc bytes (b ∷ []) v) at (rw (append_assoc so_far (b ∷ []) v) at all)
 
@@ -46,16 +49,23 @@ module _ {Place U : Type 0} (rules : Rules Place U) where
     held_at_none n lt =
         let zero : n ≡ 0 = omega (arith, lt) in (so_far.bytes, live.begun, rw (zero, append-nil bytes) l.holds)
 
+    -- an FF behind the bytes
+    pub holds_iac : live.begun ≡ [] → Holds rules (bytes ++ IAC ∷ []) items so_far.bytes (IAC ∷ [])
+    holds_iac fresh = holds_more _ (rw fresh at l.holds) (IAC ∷ []) iac_goes_on
+
     pub held_at_one : live.begun ≡ [] → take 1 piece ≡ IAC ∷ [] → (n : ℕ) → n < 2
         → (x begun : List ℕ) × Holds rules (bytes ++ take n piece) items x begun
     held_at_one fresh one n lt = elim (cases_lt n 1) [
       | inl k ↦ held_at_none n k
-      | inr k ↦ (let first : n ≡ 1 = omega (arith, k, lt) in (
-        so_far.bytes,
-        IAC ∷ [],
-        rw (first, one) (holds_more _ _ _ _ [] _ (rw fresh at l.holds) iac_goes_on),
-      ))
+      | inr k ↦
+          (let first : n ≡ 1 = omega (arith, k, lt) in (so_far.bytes, IAC ∷ [], rw (first, one) (holds_iac fresh)))
     ]
+
+  completes : {bytes : List ℕ} {items : List (Item U)} {so_far begun : List ℕ} {b v : ℕ} (units : List U) (unit : U)
+      → Holds rules bytes items so_far begun → IsSpelled token_rules tt (begun ++ b ∷ []) (Data v)
+      → IsCut rules (drop 10 (so_far ++ v ∷ [])) (units ++ unit ∷ []) [] → CompletesUnit rules bytes b
+  completes units unit h s cut = record
+      { items = _; so_far = _; begun = _; value = _; units = units; unit = unit; holds = h; spelled = s; cut = cut }
 
   -- a front that carries values to the open record, the last one with its last byte
   pub record Carries (bytes : List ℕ) (items : List (Item U)) (so_far front values : List ℕ) : Type 0 where
@@ -86,7 +96,7 @@ module _ {Place U : Type 0} (rules : Rules Place U) where
       → Holds rules (bytes ++ f) items so_far begun → IsSpelled token_rules tt (begun ++ b ∷ []) (Data v)
       → Carries bytes items so_far (f ++ b ∷ []) (v ∷ [])
   carries_one bytes items so_far f begun b v h spelled = record {
-    whole = rw (append_assoc bytes f (b ∷ [])) at (holds_data _ _ _ _ _ b v h spelled);
+    whole = rw (append_assoc bytes f (b ∷ [])) at (holds_data _ h b v spelled);
     at_last = λ before last e.
         let ends = one_last v _ _ e in
         (f, b, begun, refl, rw (ap (λ x. so_far ++ x) ends.0 ∙ append-nil so_far) h, rw ends.1 spelled);
@@ -101,7 +111,7 @@ module _ {Place U : Type 0} (rules : Rules Place U) (can : CanEnd rules) (law : 
     holds = holds;
     reads = reads;
     works = works;
-    opened = all_open _ can law _ _ _ _ _ _ holds reads.framed reads.cut;
+    opened = all_open _ can law holds reads.framed reads.cut;
   }
 
   pub leads_nothing : (live : Watching Place) → live.taken ≡ 0 → live.begun ≡ [] → HasRead rules live.reader no_record
@@ -116,88 +126,64 @@ module _ {Place U : Type 0} (rules : Rules Place U) (can : CanEnd rules) (law : 
       (length (bytes ++ f), length-append (bytes ++ f) (b ∷ []), r)
 
   module _ {K : Type 0} (holds : K → List U → List ℕ → Type 0) (may_answer : Kept → Type 0) (old new : K)
-      (bytes : List ℕ) (items : List (Item U)) (so_far : RecordSoFar U) (live : Watching Place) where
-    -- what a front makes of the decoder, whose bytes are counted, and of the keep
+      (bytes : List ℕ) (items : List (Item U)) (so_far : RecordSoFar U) (machine : Tokens) (to : Keeping Place) where
+    -- what a front makes of the decoder and of the keep
     abbrev Advances : List ℕ → News → Type 0
     Advances front news =
-        IsAdvance rules holds may_answer bytes items so_far old front (counted live (bytes ++ front)) new news
+        IsAdvance rules holds may_answer bytes items so_far old front (working machine to (bytes ++ front)) new news
 
     -- the open record takes values
     pub advance_values : (front values : List ℕ) (news : News) → Carries rules bytes items so_far.bytes front values
-        → live.begun ≡ [] → IsTaken rules holds may_answer so_far old values live.reader new news
+        → unfinished_of machine ≡ [] → IsTaken rules holds may_answer so_far old values to new news
         → Advances front news
     advance_values front values More c fresh t =
         (t.0, t.1, record { grown = _; leads = leads refl (rw fresh c.whole) t.2 refl; body = t.3 }, t.4, t.5)
-    advance_values front values Whole c fresh t = (
-      t.0,
-      t.1,
-      t.2,
-      record { grown = _; leads = leads refl (rw fresh c.whole) t.3 refl; body = t.4 },
-      t.5,
-      t.6,
-      t.7,
-      t.8,
-    )
+    advance_values front values Whole c fresh t =
+        let now = bytes ++ front in
+        let on : Onward rules (working machine to now) now items so_far so_far.head (t.0 ++ t.1 ∷ []) t.2 =
+        record { grown = _; leads = leads refl (rw fresh c.whole) t.3 refl; body = t.4 } in
+        (t.0, t.1, t.2, on, t.5, t.6, t.7, t.8)
     advance_values front values (Open head) c fresh t = (t.0, (_, leads refl (rw fresh c.whole) t.1 refl, t.3), t.2)
     advance_values front values (Refused reason) c fresh t =
         let at = c.at_last t.0 t.1 t.2 in
-        refused_last _ _ _ at.3 (refuse_data _ at.4
-        (all_open _ can law _ _ _ _ _ _ at.4 t.3.2.framed t.3.2.cut) _ [] at.5 t.3.3)
+        refused_last _ _ _ at.3 (refuse_data _ at.4 (all_open _ can law at.4 t.3.2.framed t.3.2.cut) _ [] at.5 t.3.3)
     advance_values front values NoMemory c fresh t =
-        let at = c.at_last t.0 t.1 t.2 in (
-          (
-            at.0,
-            at.1,
-            at.3,
-            record {
-              items = _;
-              so_far = _;
-              begun = _;
-              value = _;
-              units = _;
-              unit = _;
-              holds = at.4;
-              spelled = at.5;
-              cut = t.3.2;
-            },
-          ),
-          t.3.3,
-        )
+        let at = c.at_last t.0 t.1 t.2 in ((at.0, at.1, at.3, completes _ t.3.0 t.3.1 at.4 at.5 t.3.2), t.3.3)
     advance_values front values news c fresh t = absurd t
 
     module _ (f begun : List ℕ) (b : ℕ) (h : Holds rules (bytes ++ f) items so_far.bytes begun)
-        (reader : Keeping Place) (reads : HasRead rules reader so_far)
-        (opened : (layer : Layer) → IsOpen rules layer (bytes ++ f)) where
+        (reader : Keeping Place) (reads : HasRead rules reader so_far) where
       -- a token is a command
-      command_advance : (t : Telnet) → IsSpelled token_rules tt (begun ++ b ∷ []) (TelnetToken t) → live.begun ≡ []
-          → live.reader ≡ reader → Leads rules (counted live (bytes ++ (f ++ b ∷ []))) (bytes ++ (f ++ b ∷ []))
+      command_advance : (t : Telnet) → IsSpelled token_rules tt (begun ++ b ∷ []) (TelnetToken t)
+          → unfinished_of machine ≡ [] → to ≡ reader
+          → Leads rules (working machine to (bytes ++ (f ++ b ∷ []))) (bytes ++ (f ++ b ∷ []))
           (items ++ TelnetItem t ∷ []) so_far
       command_advance t spelled fresh same = leads refl
-          (rw (fresh, ← append_assoc bytes f (b ∷ [])) (holds_command _ _ _ _ _ b t h spelled)) (rw same reads) refl
+          (rw (fresh, ← append_assoc bytes f (b ∷ [])) (holds_command _ h b t spelled)) (rw same reads) refl
 
       -- it ends the record
-      end_advance : (news : News) → IsSpelled token_rules tt (begun ++ b ∷ []) Eor → live.begun ≡ []
-          → IsEnd rules so_far live.reader news → new ≡ old → Advances (f ++ b ∷ []) news
+      end_advance : (news : News) → IsSpelled token_rules tt (begun ++ b ∷ []) Eor → unfinished_of machine ≡ []
+          → IsEnd rules so_far to news → new ≡ old → Advances (f ++ b ∷ []) news
       end_advance (Close head) spelled fresh t same = (
         t.0,
         leads refl (rw (fresh, ← append_assoc bytes f (b ∷ []))
-            (holds_record _ _ _ _ _ b _ h spelled t.0.is_record t.0.carries)) t.1 refl,
+            (holds_record _ h b _ spelled t.0.is_record t.0.carries)) t.1 refl,
         same,
       )
       end_advance (Refused reason) spelled fresh t same =
-          refused_last _ f b refl (refuse_end _ h opened b [] spelled t)
+          refused_last _ f b refl (refuse_end _ h (all_open _ can law h reads.framed reads.cut) b [] spelled t)
       end_advance news spelled fresh t same = absurd t
 
       -- a token goes on
-      pub more_advance : IsUnfinished token_rules tt live.begun → live.begun ≡ begun ++ b ∷ [] → live.reader ≡ reader
-          → new ≡ old → Advances (f ++ b ∷ []) More
+      pub more_advance : IsUnfinished token_rules tt (unfinished_of machine) → unfinished_of machine ≡ begun ++ b ∷ []
+          → to ≡ reader → new ≡ old → Advances (f ++ b ∷ []) More
       more_advance u grows same kept = (
         [],
         [],
         record {
           grown = so_far.bytes;
           leads = rw (append-nil so_far.units) (leads refl
-              (rw (grows, ← append_assoc bytes f (b ∷ [])) (holds_more _ _ _ _ _ b h (rw grows at u)))
+              (rw (grows, ← append_assoc bytes f (b ∷ [])) (holds_more _ h (b ∷ []) (rw grows at u)))
               (rw same reads) refl);
           body = sym (append-nil _);
         },
@@ -206,52 +192,20 @@ module _ {Place U : Type 0} (rules : Rules Place U) (can : CanEnd rules) (law : 
       )
 
       -- a word, and what the record has made of it
-      pub word_advance : (machine : Tokens) (w : Word) (news : News) → IsWord begun b machine w
-          → live.begun ≡ unfinished_of machine → live.sub ≡ sub_of machine
-          → IsWordTaken rules holds may_answer so_far reader old w live.reader new news → Advances (f ++ b ∷ []) news
-      word_advance machine word.More news i begins sub t =
-          rw t.0 (more_advance (rw begins i.1) (begins ∙ i.0) t.1 t.2)
-      word_advance machine word.Data news i begins sub t =
-          advance_values _ _ _ (carries_one _ _ _ _ f _ b _ h i.0) (begins ∙ i.1) t
-      word_advance machine word.Eor news i begins sub t = end_advance _ i.0 (begins ∙ i.1) t.0 t.1
-      word_advance machine (word.Command code) news i begins sub t =
-          rw t.0 (command_advance _ i.0 (begins ∙ i.1) t.1, t.2)
-      word_advance machine (word.Option verb option) news i begins sub t =
-          rw t.0 (command_advance _ i.0 (begins ∙ i.1) t.1, t.2)
-      word_advance machine word.Sub news i begins sub t =
-          rw t.0 (rw (← sub) at (command_advance _ i.0 (begins ∙ i.1) t.1), begins ∙ i.1, t.2)
-      word_advance machine (word.Bad reason) news i begins sub t =
-          rw t (refused_last _ f b refl (refuse_token _ h opened b [] i.0 i.1))
-
-    module _ (was : Watching Place) (l : Leads rules was bytes items so_far) where
-      -- a byte of a token that has begun
-      pub first_word : (b : ℕ) (machine : Tokens) (w : Word) (news : News) → IsWord was.begun b machine w
-          → live.begun ≡ unfinished_of machine → live.sub ≡ sub_of machine
-          → IsWordTaken rules holds may_answer so_far was.reader old w live.reader new news → Advances (b ∷ []) news
-      first_word b = word_advance [] was.begun b (rw (append-nil bytes) l.holds) was.reader l.reads
-          (λ layer. rw (append-nil bytes) (l.opened layer))
-
-      -- an FF that ends the piece
-      pub begin_word : was.begun ≡ [] → IsUnfinished token_rules tt live.begun → live.begun ≡ IAC ∷ []
-          → live.reader ≡ was.reader → new ≡ old → Advances (IAC ∷ []) More
-      begin_word fresh u begins = more_advance [] [] IAC (rw (append-nil bytes, ← fresh) l.holds) was.reader l.reads
-          (λ layer. rw (append-nil bytes) (l.opened layer)) u begins
-
-      -- an FF behind the bytes
-      holds_iac : was.begun ≡ [] → Holds rules (bytes ++ IAC ∷ []) items so_far.bytes (IAC ∷ [])
-      holds_iac fresh = holds_more _ _ _ _ [] _ (rw fresh at l.holds) iac_goes_on
-
-      -- an FF with the byte behind it
-      pub second_word : was.begun ≡ [] → (b : ℕ) (machine : Tokens) (w : Word) (news : News)
-          → IsWord (IAC ∷ []) b machine w → live.begun ≡ unfinished_of machine → live.sub ≡ sub_of machine
-          → IsWordTaken rules holds may_answer so_far was.reader old w live.reader new news
-          → Advances (IAC ∷ b ∷ []) news
-      second_word fresh b = word_advance (IAC ∷ []) _ b (holds_iac fresh) _ l.reads
-          (all_open _ can law _ _ _ _ _ _ (holds_iac fresh) l.reads.framed l.reads.cut)
+      pub word_advance : (w : Word) (news : News) → IsWord begun b machine w
+          → IsWordTaken rules holds may_answer so_far reader old w to new news → Advances (f ++ b ∷ []) news
+      word_advance word.More news i t = rw t.0 (more_advance i.1 i.0 t.1 t.2)
+      word_advance word.Data news i t = advance_values _ _ _ (carries_one _ _ _ _ f _ b _ h i.0) i.1 t
+      word_advance word.Eor news i t = end_advance _ i.0 i.1 t.0 t.1
+      word_advance (word.Command code) news i t = rw t.0 (command_advance _ i.0 i.1 t.1, t.2)
+      word_advance (word.Option verb option) news i t = rw t.0 (command_advance _ i.0 i.1 t.1, t.2)
+      word_advance word.Sub news i t = rw t.0 (command_advance _ i.0 i.1 t.1, i.1, t.2)
+      word_advance (word.Bad reason) news i t = rw t (refused_last _ f b refl
+          (refuse_token _ h (all_open _ can law h reads.framed reads.cut) b [] i.0 i.1))
 
     -- the bytes are counted, and what has failed doesn't matter
     pub recount : (front : List ℕ) (now : Watching Place) (news : News)
-        → (OnLastNews news ⊥ → now ≡ counted live (bytes ++ front)) → Advances front news
+        → (OnLastNews news ⊥ → now ≡ working machine to (bytes ++ front)) → Advances front news
         → IsAdvance rules holds may_answer bytes items so_far old front now new news
     recount front now (Refused reason) e a = a
     recount front now NoMemory e a = a
@@ -275,20 +229,42 @@ module _ {Place U K : Type 0} (rules : Rules Place U) (holds : K → List U → 
     pub advance : IsAdvance rules holds may_answer bytes items so_far old front live new news
     pub count : live.taken ≡ length (bytes ++ front)
 
-  -- of a piece of one byte
-  pub made_one : {was : Watching Place} (byte used : ℕ) → Leads rules was bytes items so_far
-      → length bytes + 1 < 2 ^ 64 → used ≤ 1 → ((news ≡ Failed → ⊥) → 0 < used)
-      → (was.taken + used < 2 ^ 64 → live.taken ≡ was.taken + used)
-      → IsAdvance rules holds may_answer bytes items so_far old (take used (byte ∷ [])) live new news
-      → Made (byte ∷ [])
-  made_one byte used l fits few some counted a =
-      let one : used ≡ 1 = omega (arith, few, some (λ e. rw e at a)) in
+module _ {Place U : Type 0} (rules : Rules Place U) where
+  -- the bytes hold these items
+  abbrev pub IsHeld : List (Item U) → List ℕ → Type 0
+  IsHeld items bytes = (so_far begun : List ℕ) × Holds rules bytes items so_far begun
+
+  -- what `Live::advance` says of a piece
+  abbrev pub Advanced : {K : Type 0} → (K → List U → List ℕ → Type 0) → (Kept → Type 0) → Watching Place → K → List ℕ
+      → Advance → Watching Place → K → Type 0
+  Advanced holds may_answer was old piece result live new = record {
+    within : result.used ≤ length piece;
+    used : (result.news ≡ Failed → ⊥) → 0 < result.used;
+    counted : was.taken + result.used < 2 ^ 64 → live.taken ≡ was.taken + result.used;
+    advance : (bytes : List ℕ) (items : List (Item U)) (so_far : RecordSoFar U) → Leads rules was bytes items so_far
+        → length bytes + length piece < 2 ^ 64
+        → IsAdvance rules holds may_answer bytes items so_far old (take result.used piece) live new result.news;
+    first : (bytes : List ℕ) (items : List (Item U)) (so_far : RecordSoFar U) → Leads rules was bytes items so_far
+        → (n : ℕ) → n < result.used → IsHeld items (bytes ++ take n piece);
+    full : was.taken + 1 ≡ 2 ^ 64 → result.news ≡ Failed;
+    failed : was.failed ≡ true → result.news ≡ Failed;
+    after : OnLastNews result.news (live.failed ≡ true);
+  }
+
+  -- what a piece of one byte made
+  pub made_one : {K : Type 0} {holds : K → List U → List ℕ → Type 0} {may_answer : Kept → Type 0} {bytes : List ℕ}
+      {items : List (Item U)} {so_far : RecordSoFar U} {was live : Watching Place} {old new : K} {result : Advance}
+      (byte : ℕ) → Advanced holds may_answer was old (byte ∷ []) result live new → Leads rules was bytes items so_far
+      → length bytes + 1 < 2 ^ 64
+      → Made rules holds may_answer bytes items so_far old live new result.news (byte ∷ [])
+  made_one {bytes = bytes} {result = result} byte e l fits =
+      let a = e.advance _ _ _ l fits in
+      let one : result.used ≡ 1 = omega (arith, e.within, e.used (λ f. rw f at a)) in
       record {
         advance = rw one at a;
-        count = omega (arith, one, l.count, fits, counted, length-append bytes (byte ∷ []));
+        count = omega (arith, one, l.count, fits, e.counted, length-append bytes (byte ∷ []));
       }
 
-module _ {Place U : Type 0} (rules : Rules Place U) where
   -- one that fetched a subnegotiation
   pub fetched : (live : Watching Place) (left : ASub) (bytes : List ℕ) (items : List (Item U))
       (so_far : RecordSoFar U) → Leads rules live bytes items so_far
@@ -296,41 +272,40 @@ module _ {Place U : Type 0} (rules : Rules Place U) where
   fetched live left bytes items so_far l =
       record { count = l.count; holds = l.holds; reads = l.reads; opened = l.opened; works = l.works }
 
-  module _ (bytes : List ℕ) (items : List (Item U)) (so_far : RecordSoFar U) (front : List ℕ)
-      (live new : Watching Place) (slot : Option U) where
-    -- what a front makes of a decoder and a slot
-    abbrev pub MadeInSlot : News → Type 0
-    MadeInSlot news = Made rules (λ (s : Option U) units told. holds_last s units) (λ kept. kept ≡ answer.Enough)
-        bytes items so_far None live slot news front
+  -- what a front makes of a decoder and a slot
+  abbrev pub MadeInSlot : List ℕ → List (Item U) → RecordSoFar U → List ℕ → Watching Place → Option U → News → Type 0
+  MadeInSlot bytes items so_far front live slot news =
+      Made rules (λ (s : Option U) units told. holds_last s units) (λ kept. kept ≡ answer.Enough) bytes items so_far
+      None live slot news front
 
+  module _ {bytes : List ℕ} {items : List (Item U)} {so_far : RecordSoFar U} {front : List ℕ} {live : Watching Place}
+      {slot : Option U} where
     -- the step out of news that came with a slot
-    pub front_step : (news : News) (step : Step U) → MadeInSlot news → IsStepOf live news slot new step
+    pub front_step : (new : Watching Place) (news : News) (step : Step U)
+        → MadeInSlot bytes items so_far front live slot news → IsStepOf live news slot new step
         → IsFrontStep rules new (bytes ++ front) items so_far step
-    front_step More step m s = let a = m.advance in
+    front_step new More step m s = let a = m.advance in
         rw (s.0, s.1) (a.2.grown, rw (only_enough _ a.4, append-nil so_far.units) at a.2.leads)
-    front_step Whole step m s =
+    front_step new Whole step m s =
         let a = m.advance in
         let only : a.0 ≡ [] = only_enough _ a.5 in
         let t = s a.1 (slot_is slot a.1 (rw only at (a.4 [] [] refl))) in
         let on = rw only at a.3 in rw (t.0, t.1) (on.grown, on.leads)
-    front_step (Open head) step m s = let a = m.advance in rw (s.0, s.1) (a.0, (a.1.0, a.1.1))
-    front_step (Close head) step m s = rw (s.0, s.1) (head, m.advance.0.is_head, m.advance.1)
-    front_step (told.Command code) step m s = rw (s.0, s.1) m.advance.0
-    front_step (told.Option verb option) step m s = rw (s.0, s.1) m.advance.0
-    front_step told.Sub step m s = let t = s m.advance.1 in rw (t.0, t.1.1) (fetched _ t.1.0 _ _ _ m.advance.0)
-    front_step (Refused reason) step m s =
+    front_step new (Open head) step m s = let a = m.advance in rw (s.0, s.1) (a.0, (a.1.0, a.1.1))
+    front_step new (Close head) step m s = rw (s.0, s.1) (head, m.advance.0.is_head, m.advance.1)
+    front_step new (told.Command code) step m s = rw (s.0, s.1) m.advance.0
+    front_step new (told.Option verb option) step m s = rw (s.0, s.1) m.advance.0
+    front_step new told.Sub step m s = let t = s m.advance.1 in rw (t.0, t.1.1) (fetched _ t.1.0 _ _ _ m.advance.0)
+    front_step new (Refused reason) step m s =
         let a = m.advance in
         let place : live.taken - 1 ≡ a.0 = omega (arith, m.count, a.1) in
         rw s.0 (omega (arith, place, a.1), rw place a.2)
-    front_step NoMemory step m s = let e : answer.NoMemory ≡ answer.Enough = m.advance.1 in cc
-    front_step Failed step m s = absurd m.advance
+    front_step new NoMemory step m s = let e : answer.NoMemory ≡ answer.Enough = m.advance.1 in cc
+    front_step new Failed step m s = absurd m.advance
 
-  pub more_step : (bytes : List ℕ) (items : List (Item U)) (so_far : RecordSoFar U) (front : List ℕ)
-      (live : Watching Place) (slot : Option U) (news : News) → news ≡ More
-      → MadeInSlot bytes items so_far front live live slot news
-      → LeadsWith rules live (bytes ++ front) items so_far.head so_far.units
-  more_step bytes items so_far front live slot news is m =
-      front_step bytes items so_far front live live slot More steps.More (rw is at m) (refl, refl)
+    pub more_step : {news : News} → MadeInSlot bytes items so_far front live slot news → news ≡ More
+        → LeadsWith rules live (bytes ++ front) items so_far.head so_far.units
+    more_step m is = front_step live More steps.More (rw is at m) (refl, refl)
 
   -- of one byte
   pub live_step : (bytes : List ℕ) (items : List (Item U)) (so_far : RecordSoFar U) (byte : ℕ) (new : Watching Place)

@@ -1,15 +1,14 @@
 use Rattle.ws_record.proofs.Common as C
-use C.{◌≡◌, ℕ, ◌+◌, ◌≤◌, List, [], ◌∷◌, ◌++◌, zero, suc, length, drop, take, refl, sym, ap, ◌∙◌, arith, append_assoc}
-use C.{length-append, append-nil, take-append-le, take-append-drop, take_at, take_more, flat_map-append, Rules}
-use C.{AreBytes, spelling_of, Reason, Begins, CanEnd, chain_append, token_rules, Eor, IsBodyBytes, IsStream, joined}
-use C.{Layer, IsRight, IsOpen, IsRefused, IsTruncated, IsFirstClosed, Tokens, Header, Body, CanBeFramed, BeginsList}
-use C.{IsOpenPrefix, IsFirstClosedTo, AreOpenBelow, IsRefusedByPrefix, IsTruncatedByPrefix, SpellsBytes, all_right}
-use Rattle.ws_code.proofs.Lists.{drop-front}
+use C.{common_steps, ◌≡◌, ℕ, ◌+◌, ◌≤◌, List, [], ◌∷◌, ◌++◌, zero, suc, length, drop, take, refl, sym, ap, ◌∙◌, arith}
+use C.{append_assoc, length-append, append-nil, take-append-le, take-append-drop, take_at, take_more, Rules, AreBytes}
+use C.{spelling_of, Reason, Begins, CanEnd, chain_append, token_rules, Eor, IsBodyBytes, IsStream, joined, Layer}
+use C.{IsRight, IsOpen, IsRefused, IsTruncated, IsFirstClosed, Tokens, Header, Body, CanBeFramed, BeginsList}
+use C.{IsOpenPrefix, IsFirstClosedTo, AreOpenBelow, IsRefusedByPrefix, IsTruncatedByPrefix, SpellsBytes, drop-front}
+use C.{cut_at}
 use Rattle.ws_record.proofs.LastRecords.{last_of_stream, stream_of_last}
 use Rattle.ws_record.proofs.OpenRecords.{nothing_framed}
-use Rattle.ws_record.proofs.Prefixes.{parted, list_cut}
 use Rattle.ws_record.proofs.Refusals.{can_be_body, opens}
-use Rattle.ws_record.proofs.Streams.{ended_stream}
+use Rattle.ws_record.proofs.Streams.{stream_of, left-append, nothing_asked}
 
 module _ {Place U : Type 0} (rules : Rules Place U) (begins : Begins rules) (can : CanEnd rules)
     (law : SpellsBytes rules) where
@@ -31,7 +30,10 @@ module _ {Place U : Type 0} (rules : Rules Place U) (begins : Begins rules) (can
 
   body_goes_on : (r : List ℕ) → BeginsList rules (drop 10 r) → (m : List ℕ) × AreBytes m
       × IsBodyBytes rules (drop 10 (r ++ m))
-  body_goes_on r b = let cut = list_cut _ begins _ b in can_be_body _ can law r _ _ cut.2
+  body_goes_on r b =
+      let found = cut_at rules begins _ _ _ _ b.whole.chain b.spelled in
+      can_be_body _ can law r _ _
+      (record { chain = found.chain; more = found.more; spelled = found.spelled })
 
   -- the tokens of a stream
   tokens_of_stream : (P : List ℕ → Type 0) (bytes more : List ℕ) → IsStream P (bytes ++ more)
@@ -41,19 +43,12 @@ module _ {Place U : Type 0} (rules : Rules Place U) (begins : Begins rules) (can
 
   -- an Eor behind tokens makes a stream of them
   stream_of_tokens : (bytes : List ℕ) → BeginsList token_rules bytes → IsOpen rules Tokens bytes
-  stream_of_tokens bytes b =
-      let q = parted b.units in
-      record {
-        more = b.more ++ 0xff ∷ 0xef ∷ [];
-        stream = ended_stream (IsRight rules Tokens) _ q.parts q.rest q.no_eor.0 q.no_eor.1 (all_right q.parts) tt
-            (rw q.is (chain_append token_rules tt b.units (Eor ∷ []) b.whole.chain
-            (record { is_unit = tt; may_follow = refl }, tt))) (rw (
-              q.is,
-              ← append_assoc bytes b.more (0xff ∷ 0xef ∷ []),
-              ← b.spelled,
-              flat_map-append token_rules.spelling b.units,
-            ));
-      }
+  stream_of_tokens bytes b = record {
+    more = b.more ++ 0xff ∷ 0xef ∷ [];
+    stream = stream_of (IsRight rules Tokens) (b.units ++ Eor ∷ []) (chain_append token_rules tt b.units (Eor ∷ [])
+        b.whole.chain (record { is_unit = tt; may_follow = refl }, tt)) (grind (arith, common_steps))
+        (nothing_asked _) (left-append [] b.units (Eor ∷ []));
+  }
 
   -- open by streams, open by prefixes
   to_prefix : (l : Layer) (bytes : List ℕ) → IsOpen rules l bytes → IsOpenPrefix rules l bytes
@@ -76,20 +71,6 @@ module _ {Place U : Type 0} (rules : Rules Place U) (begins : Begins rules) (can
   -- a prefix of open bytes is open
   open_front : (l : Layer) (x y : List ℕ) → IsOpen rules l (x ++ y) → IsOpen rules l x
   open_front l x y o = record { more = y ++ o.more; stream = rw (append_assoc x y o.more) at o.stream }
-
-  nothing_open : (l : Layer) → IsOpen rules l []
-  nothing_open l = record {
-    more = [];
-    stream = record {
-      parts = [];
-      rest = [];
-      no_eor = (tt, tt);
-      each = tt;
-      closed = refl;
-      tokens = record { chain = tt; ends = refl };
-      spelled = refl;
-    };
-  }
 
   closed_to : (l : Layer) (before : List ℕ) (b : ℕ) → ((m : Layer) → IsOpen rules m before)
       → IsFirstClosed rules l (before ++ b ∷ []) → IsFirstClosedTo rules l (before ++ b ∷ [])
@@ -115,7 +96,7 @@ module _ {Place U : Type 0} (rules : Rules Place U) (begins : Begins rules) (can
 
   open_through : (bytes : List ℕ) (n : ℕ) → n ≤ length bytes → AreOpenBelow rules bytes n → (l : Layer)
       → IsOpen rules l (take n bytes)
-  open_through bytes zero k each l = nothing_open l
+  open_through bytes zero k each l = record { more = []; stream = stream_of _ [] tt refl tt refl }
   open_through bytes (suc n) k each l =
       let next : suc n ≡ n + 1 = omega arith in
       let one_more = take_more bytes n 0 (omega arith) in

@@ -1,11 +1,10 @@
 use Rattle.ws_record.proofs.Common as C
-use C.{true, false, ◌≡◌, ℕ, ◌+◌, ◌-◌, ◌<◌, ◌≤◌, List, [], ◌∷◌, ◌++◌, Some, None, Result, Ok, Err, length, drop, take}
-use C.{refl, sym, ap, ◌∙◌, arith, append_assoc, length-append, append-nil, take-append-drop, length-take-le, Rules}
-use C.{Fault, Reason, Item, News, IsRefused, RecordSoFar, Watching, Leads, CompletesUnit, EndIn, IsAdvance, goes_on}
-use C.{IsItemOf, Receiving, HasReceived, IsTakeFault, IsFeedFault, NoneBefore, bytes_on, left_of, one_last, upto}
-use Rattle.ws_code.proofs.Pieces.{left_joined}
-use Rattle.ws_record.proofs.Lives.{fetched, Made}
-use Rattle.ws_record.proofs.Pieces.{IsHeld}
+use C.{common_steps, true, false, ◌≡◌, ℕ, ◌+◌, ◌-◌, ◌<◌, ◌≤◌, List, [], ◌∷◌, ◌++◌, Some, None, Result, Ok, Err, length}
+use C.{drop, take, Vec, Global, refl, sym, ap, ◌∙◌, arith, append_assoc, length-append, append-nil, take-append-drop}
+use C.{length-take-le, Rules, Fault, Reason, Item, News, IsRefused, RecordSoFar, Watching, Leads, CompletesUnit, EndIn}
+use C.{IsAdvance, goes_on, IsItemOf, Receiving, HasReceived, IsTakeFault, IsFeedFault, NoneBefore, bytes_on, left_of}
+use C.{one_last, upto, left_joined}
+use Rattle.ws_record.proofs.Lives.{fetched, Made, IsHeld}
 use Rattle.ws_code.specs.declared.keep.Kept.TheVariants as answer
 use Rattle.ws_code.specs.declared.fault.Fault.TheVariants as faults
 use Rattle.ws_record.specs.declared.news.News.TheVariants as told
@@ -34,34 +33,29 @@ module _ {Place U : Type 0} (rules : Rules Place U) where
         IsAdvance rules (λ (keep : K) units told. list_of keep ≡ units) (λ kept. kept ≡ answer.Enough → ⊥) bytes items
         so_far old front live new news
 
-    -- and what it made, with the bytes that are taken then
-    abbrev pub MadeInList : List ℕ → List (Item U) → RecordSoFar U → K → Watching Place → K → News → List ℕ → Type 0
-    MadeInList bytes items so_far old live new news front =
-        Made rules (λ (keep : K) units told. list_of keep ≡ units) (λ kept. kept ≡ answer.Enough → ⊥) bytes items
-        so_far old live new news front
-
     -- the units of a front are kept
     pub received_on : (bytes : List ℕ) (items : List (Item U)) (so_far : RecordSoFar U) (old : K) (front : List ℕ)
         (live : Watching Place) (new : K) (news : News) → list_of old ≡ so_far.units → goes_on news ≡ true
         → IsListAdvance bytes items so_far old front live new news
         → HasReceived rules (record { live = live; units = list_of new }) (bytes ++ front) items
-    received_on bytes items so_far old front live new told.More same on a = record {
-      head = so_far.head;
-      leads = (a.2.grown, rw (a.3 so_far.units [] same) a.2.leads);
-    }
+    received_on bytes items so_far old front live new told.More same on a =
+        record { head = so_far.head; leads = (a.2.grown, rw (a.3 so_far.units [] same) a.2.leads) }
     received_on bytes items so_far old front live new told.Unit same on a = absurd (a.7 refl)
-    received_on bytes items so_far old front live new (told.Open head) same on a = record {
-      head = Some head;
-      leads = (a.1.0, rw (ap list_of a.2 ∙ same) a.1.1);
-    }
+    received_on bytes items so_far old front live new (told.Open head) same on a =
+        record { head = Some head; leads = (a.1.0, rw (ap list_of a.2 ∙ same) a.1.1) }
     received_on bytes items so_far old front live new news same on a = cc
 
-    pub receives : {bytes : List ℕ} {items : List (Item U)} {so_far : RecordSoFar U} {old : K} {front : List ℕ}
-        {live : Watching Place} {new : K} (news : News) → list_of old ≡ so_far.units → goes_on news ≡ true
-        → MadeInList bytes items so_far old live new news front
-        → HasReceived rules (record { live = live; units = list_of new }) (bytes ++ front) items
-    receives {bytes} {items} {so_far} {old} {front} news same on m =
-        received_on bytes items so_far old front _ _ news same on m.advance
+  -- what it made of one that keeps the units in a vector, with the bytes that are taken then
+  abbrev MadeInVec : List ℕ → List (Item U) → RecordSoFar U → Vec U Global → Watching Place → Vec U Global → News
+      → List ℕ → Type 0
+  MadeInVec = Made rules (λ (keep : Vec U Global) units told. keep.items ≡ units) (λ kept. kept ≡ answer.Enough → ⊥)
+
+  pub receives : {bytes : List ℕ} {items : List (Item U)} {so_far : RecordSoFar U} {old new : Vec U Global}
+      {front : List ℕ} {live : Watching Place} (news : News) → old.items ≡ so_far.units → goes_on news ≡ true
+      → MadeInVec bytes items so_far old live new news front
+      → HasReceived rules (record { live = live; units = new.items }) (bytes ++ front) items
+  receives {bytes} {items} {so_far} {old} {new} {front} {live} news same on m =
+      received_on (λ (keep : Vec U Global). keep.items) bytes items so_far old front live new news same on m.advance
 
   -- a fault at a front's last byte
   abbrev pub IsFrontFault : List ℕ → List ℕ → Fault → Type 0
@@ -80,29 +74,27 @@ module _ {Place U : Type 0} (rules : Rules Place U) where
       → HasReceived rules (record { live = live; units = units }) bytes items
   with_units {so_far = so_far} e l = record { head = so_far.head; leads = (so_far.bytes, rw e l) }
 
-  module _ {K : Type 0} (list_of : K → List U) (bytes : List ℕ) (items : List (Item U)) (so_far : RecordSoFar U)
-      (old : K) (front : List ℕ) (live : Watching Place) (kept : K) (new : Receiving Place U) where
-    -- what the news of a front are, where they don't go on
-    pub item_given : (news : News) (result : Result (Item U) Fault) → list_of old ≡ so_far.units
-        → goes_on news ≡ false → MadeInList list_of bytes items so_far old live kept news front
-        → IsItemOf (record { live = live; units = list_of kept }) news new result
-        → IsGiven bytes items front new result
-    item_given (told.Close head) result same other m i =
-        rw (i.0, i.1) (record { head = None; leads = ([], rw (ap list_of m.advance.2 ∙ same) m.advance.1) })
-    item_given (told.Command code) result same other m i =
-        rw (i.0, i.1) (with_units (ap list_of m.advance.1 ∙ same) m.advance.0)
-    item_given (told.Option verb option) result same other m i =
-        rw (i.0, i.1) (with_units (ap list_of m.advance.1 ∙ same) m.advance.0)
-    item_given told.Sub result same other m i =
-        let t = i m.advance.1 in
-        rw (t.0, t.1.1) (with_units (ap list_of m.advance.2 ∙ same) (fetched rules _ t.1.0 _ _ _ m.advance.0))
-    item_given (told.Refused reason) result same other m i =
-        let a = m.advance in
-        let place : live.taken - 1 ≡ a.0 = omega (arith, m.count, a.1) in
-        rw i.0 (omega (arith, place, a.1), rw place a.2)
-    item_given told.NoMemory result same other m i = rw i.0 m.advance.0
-    item_given told.Failed result same other m i = absurd m.advance
-    item_given news result same other m i = cc
+  -- what the news of a front are, where they don't go on
+  pub item_given : {bytes : List ℕ} {items : List (Item U)} {so_far : RecordSoFar U} {old kept : Vec U Global}
+      {front : List ℕ} {live : Watching Place} (new : Receiving Place U) (news : News) (result : Result (Item U) Fault)
+      → old.items ≡ so_far.units → goes_on news ≡ false → MadeInVec bytes items so_far old live kept news front
+      → IsItemOf (record { live = live; units = kept.items }) news new result → IsGiven bytes items front new result
+  item_given new (told.Close head) result same other m i =
+      rw (i.0, i.1) (record { head = None; leads = ([], rw (m.advance.2, same) m.advance.1) })
+  item_given new (told.Command code) result same other m i =
+      rw (i.0, i.1) (with_units (rw m.advance.1 same) m.advance.0)
+  item_given new (told.Option verb option) result same other m i =
+      rw (i.0, i.1) (with_units (rw m.advance.1 same) m.advance.0)
+  item_given new told.Sub result same other m i =
+      let t = i m.advance.1 in
+      rw (t.0, t.1.1) (with_units (rw m.advance.2 same) (fetched rules _ t.1.0 _ _ _ m.advance.0))
+  item_given {live = live} new (told.Refused reason) result same other m i =
+      let a = m.advance in
+      let place : live.taken - 1 ≡ a.0 = omega (arith, m.count, a.1) in
+      rw i.0 (omega (arith, place, a.1), rw place a.2)
+  item_given new told.NoMemory result same other m i = rw i.0 m.advance.0
+  item_given new told.Failed result same other m i = absurd m.advance
+  item_given new news result same other m i = cc
 
   -- a fault at the last byte of a front of a piece
   pub front_feeds : (bytes piece : List ℕ) (k : ℕ) (fault : Fault) → k ≤ length piece → 0 < k
@@ -111,13 +103,8 @@ module _ {Place U : Type 0} (rules : Rules Place U) where
     omega (arith, f.0, some, length-append bytes (take k piece), length-take-le k piece within),
     rw (append_assoc bytes (take k piece), take-append-drop k piece) at (refused_append _ _ (drop k piece) _ _ f.1),
   )
-  front_feeds bytes piece k faults.Memory within some f = (
-    f.0,
-    f.1,
-    drop k piece,
-    sym (take-append-drop k piece) ∙ rw (f.2, append_assoc f.0 (f.1 ∷ [])),
-    f.3,
-  )
+  front_feeds bytes piece k faults.Memory within some f =
+      (f.0, f.1, drop k piece, sym (take-append-drop k piece) ∙ rw (f.2, append_assoc f.0 (f.1 ∷ [])), f.3)
   front_feeds bytes piece k fault within some f = absurd f
 
   -- a fault of what is left of a piece
@@ -127,13 +114,9 @@ module _ {Place U : Type 0} (rules : Rules Place U) where
     omega (arith, f.0, length-append bytes (take i piece)),
     rw (append_assoc bytes (take i piece), left_joined piece i) at f.1,
   )
-  left_feeds bytes piece i faults.Memory f = (
-    take i piece ++ f.0,
-    f.1,
-    f.2,
-    sym (left_joined piece i) ∙ rw (f.3, append_assoc (take i piece)),
-    rw (append_assoc bytes (take i piece)) at f.4,
-  )
+  left_feeds bytes piece i faults.Memory f =
+      let same = sym (left_joined piece i) ∙ rw (f.3, append_assoc (take i piece)) in
+      (take i piece ++ f.0, f.1, f.2, same, rw (append_assoc bytes (take i piece)) at f.4)
   left_feeds bytes piece i fault f = absurd f
 
   -- no item is complete before the last byte of a front
@@ -142,14 +125,7 @@ module _ {Place U : Type 0} (rules : Rules Place U) where
       → IsFrontFault (bytes ++ take i piece) (take k (left_of piece i)) fault → i + k ≤ length piece
       → NoneBefore rules bytes piece items fault
   none_before bytes piece items i k (faults.Refused place reason) each f within =
-      λ n few. each n (omega (
-        arith,
-        f.0,
-        few,
-        ap length (bytes_on bytes piece i k),
-        length-append bytes (take (i + k) piece),
-        length-take-le (i + k) piece within,
-      ))
+      λ n few. each n (let long = ap length (bytes_on bytes piece i k) in grind (arith, common_steps))
   none_before bytes piece items i k fault each f within = tt
 
   -- a fault of a single byte

@@ -1,18 +1,18 @@
 use Rattle.ws_record.proofs.Common as C
-use C.{◌≡◌, ℕ, ◌+◌, List, [], ◌∷◌, ◌++◌, inl, inr, length, drop, refl, sym, ap, ◌∙◌, arith, append_assoc}
+use C.{◌≡◌, ℕ, ◌+◌, List, [], ◌∷◌, ◌++◌, inl, inr, map, length, drop, refl, sym, ap, ◌∙◌, arith, append_assoc}
 use C.{AllByRecursion, append-nil, drop-append-le, Rules, IsPrefix, IsCut, IsSpelled, AreBytes, spelling_of, Reason}
 use C.{AreBytes-append, CanEnd, cut_ends, one_cut, token_rules, token_prefix_free, Token, Data, Eor, Record, Item}
 use C.{IsBodyBytes, IsRecord, IsStretch, IsStream, Holds, joined, carried, header, record_bytes, Layer, IsRight}
-use C.{IsOpen, IsRefused, IsTruncated, IsFirstClosed, IsReason, EndsWith, Tokens, Header, Body, CanBeFramed}
-use C.{IsDataRefused, IsEndRefused, AreBytes-apart, SpellsBytes, list_bytes}
-use Rattle.ws_code.proofs.Bytes.{padding}
-use Rattle.ws_record.proofs.Reading.{one_join, parts_no_eor}
-use Rattle.ws_record.proofs.Streams.{EachPart, open_stream, ended_stream, bad_token, bad_data, bad_eor}
-use Rattle.ws_record.proofs.Steps.{parts_of, token_more, holds_data}
+use C.{IsOpen, IsRefused, IsTruncated, IsFirstClosed, IsReason, Tokens, Header, Body, CanBeFramed, IsDataRefused}
+use C.{IsEndRefused, AreBytes-apart, SpellsBytes, list_bytes, padding}
+use Rattle.ws_record.proofs.Reading.{parts_no_eor}
+use Rattle.ws_record.proofs.Streams.{Running, of_parts, left_by, open_stream, ended_stream, bad_token, bad_data}
+use Rattle.ws_record.proofs.Streams.{bad_eor, ends_with_one}
+use Rattle.ws_record.proofs.Steps.{parts_of, holds_data}
 
 module _ {Place U : Type 0} (rules : Rules Place U) where
   -- a record is right to each layer
-  pub record_right : (r : Record U) → IsRecord rules r → (l : Layer) → IsRight rules l (record_bytes rules r)
+  record_right : (r : Record U) → IsRecord rules r → (l : Layer) → IsRight rules l (record_bytes rules r)
   record_right r is Tokens = tt
   record_right r is Header = record {
     flags = r.flags;
@@ -25,10 +25,22 @@ module _ {Place U : Type 0} (rules : Rules Place U) where
   }
   record_right r is Body = record { units = r.body; whole = is.body; spelled = refl }
 
-  pub parts_right : (ss : List (List Token × Record U)) → AllByRecursion (IsStretch rules) ss → (l : Layer)
-      → EachPart (IsRight rules l) (parts_of rules ss)
+  parts_right : (ss : List (List Token × Record U)) → AllByRecursion (IsStretch rules) ss → (l : Layer)
+      → AllByRecursion (IsRight rules l) (map carried (parts_of rules ss))
   parts_right [] h l = tt
   parts_right (s ∷ ss) h l = (rw h.0.carries (record_right _ h.0.is_record l), parts_right ss h.1 l)
+
+  -- what bytes hold is right to each layer
+  pub held : {bytes : List ℕ} {items : List (Item U)} {so_far begun : List ℕ} → Holds rules bytes items so_far begun
+      → (l : Layer) → Running (IsRight rules l) bytes so_far begun
+  held h l =
+      let facts = of_parts _ _ (parts_no_eor _ _ h.each, h.no_eor) in
+      record {
+        tokens = joined (parts_of rules h.stretches) h.rest;
+        cut = h.cut;
+        right = rw facts.1 (parts_right _ h.each l);
+        left = facts.0 ∙ sym h.is_open;
+      }
 
   -- what is read so far can become right
   pub can_be_body : CanEnd rules → SpellsBytes rules → (so_far : List ℕ) (units : List U) (begun : List ℕ)
@@ -46,29 +58,21 @@ module _ {Place U : Type 0} (rules : Rules Place U) where
         record { units = ends.0; whole = ends.2; spelled = dropped ∙ sym ends.3 },
       )
 
-  pub can_be_right : CanEnd rules → SpellsBytes rules → (so_far : List ℕ) (units : List U) (begun : List ℕ)
-      → CanBeFramed so_far → IsCut rules (drop 10 so_far) units begun → (l : Layer) → (more : List ℕ) × AreBytes more
-      × IsRight rules l (so_far ++ more)
-  can_be_right can law so_far units begun framed cut Tokens = ([], tt, tt)
-  can_be_right can law so_far units begun framed cut Header = (framed.more, framed.bytes, framed.framed)
-  can_be_right can law so_far units begun framed cut Body = can_be_body can law _ _ _ cut
-
   pub opens : {l : Layer} {bytes : List ℕ} → (m : List ℕ) × IsStream (IsRight rules l) (bytes ++ m)
       → IsOpen rules l bytes
   opens found = record { more = found.0; stream = found.1 }
 
   -- bytes that hold items, and an open record that can become right, are open
-  pub is_open : (bytes : List ℕ) (items : List (Item U)) (so_far begun more : List ℕ) (l : Layer)
+  is_open : {bytes : List ℕ} {items : List (Item U)} {so_far begun : List ℕ} (more : List ℕ) (l : Layer)
       → Holds rules bytes items so_far begun → AreBytes more → IsRight rules l (so_far ++ more) → IsOpen rules l bytes
-  is_open bytes items so_far begun more l h are right =
-      opens (open_stream _ _ _ _ _ _ (parts_no_eor _ _ h.each) h.no_eor (parts_right _ h.each l) h.cut are
-      (rw h.is_open at right))
+  is_open more l h are right = opens (open_stream (held h l) more are right)
 
-  pub all_open : CanEnd rules → SpellsBytes rules → (bytes : List ℕ) (items : List (Item U)) (so_far begun : List ℕ)
-      (units : List U) (begun_unit : List ℕ) → Holds rules bytes items so_far begun → CanBeFramed so_far
+  pub all_open : CanEnd rules → SpellsBytes rules → {bytes : List ℕ} {items : List (Item U)} {so_far begun : List ℕ}
+      {units : List U} {begun_unit : List ℕ} → Holds rules bytes items so_far begun → CanBeFramed so_far
       → IsCut rules (drop 10 so_far) units begun_unit → (l : Layer) → IsOpen rules l bytes
-  all_open can law bytes items so_far begun units begun_unit h framed cut l =
-      let m = can_be_right can law _ _ _ framed cut l in is_open _ _ _ _ _ l h m.1 m.2
+  all_open can law h framed cut Tokens = is_open [] Tokens h tt tt
+  all_open can law h framed cut Header = is_open framed.more Header h framed.bytes framed.framed
+  all_open can law h framed cut Body = let m = can_be_body can law _ _ _ cut in is_open m.0 Body h m.1 m.2
 
   module _ {bytes : List ℕ} {items : List (Item U)} {so_far begun : List ℕ} (h : Holds rules bytes items so_far begun)
       (opened : (l : Layer) → IsOpen rules l bytes) (b : ℕ) (after : List ℕ) {reason : Reason} where
@@ -89,64 +93,42 @@ module _ {Place U : Type 0} (rules : Rules Place U) where
     -- a byte that no token goes on with is refused
     pub refuse_token : (IsPrefix token_rules tt (begun ++ b ∷ []) → ⊥) → reason ≡ token_rules.reason tt begun b
         → IsRefused rules (bytes ++ b ∷ after) (length bytes) reason
-    refuse_token bad why = refuse Tokens (λ o. bad_token _ _ _ _ b _ h.cut bad o.stream)
+    refuse_token bad why = refuse Tokens (λ o. bad_token (held h Tokens) b _ bad o.stream)
         (joined (parts_of rules h.stretches) h.rest, begun, h.cut, why)
 
-  module _ {bytes : List ℕ} {items : List (Item U)} {so_far begun : List ℕ} (h : Holds rules bytes items so_far begun)
-      (b : ℕ) {t : Token} (s : IsSpelled token_rules tt (begun ++ b ∷ []) t) where
-    cut_of : IsCut token_rules (bytes ++ b ∷ []) (joined (parts_of rules h.stretches) h.rest ++ t ∷ []) []
-    cut_of = token_more rules bytes items so_far _ b t h s
-
-    ends_with : EndsWith (bytes ++ b ∷ []) so_far t
-    ends_with = record {
-      parts = parts_of rules h.stretches;
-      rest = h.rest;
-      no_eor = (parts_no_eor _ _ h.each, h.no_eor);
-      is_open = h.is_open;
-      tokens = record { chain = cut_of.chain; ends = refl };
-      spelled = sym cut_of.spelled ∙ append-nil _;
-    }
-
-  module _ {bytes : List ℕ} {items : List (Item U)} {so_far begun : List ℕ} (h : Holds rules bytes items so_far begun)
-      (opened : (l : Layer) → IsOpen rules l bytes) (b : ℕ) (after : List ℕ) {reason : Reason} where
     -- data with which no right record goes on is refused
     pub refuse_data : {v : ℕ} → IsSpelled token_rules tt (begun ++ b ∷ []) (Data v)
         → IsDataRefused rules so_far v reason → IsRefused rules (bytes ++ b ∷ after) (length bytes) reason
-    refuse_data {v} s refused = elim refused [
-      | inl r ↦ refuse h opened b after Header (is_open _ _ _ [] [] Tokens more tt tt, closed Header r.0)
-          (so_far, Data v, ends_with h b s, r.1)
-      | inr r ↦ refuse h opened b after Body (is_open _ _ _ [] _ Header more r.0.bytes r.0.framed, closed Body r.1)
-          (so_far, Data v, ends_with h b s, r.2)
-    ] where
-      more : Holds rules (bytes ++ b ∷ []) items (so_far ++ v ∷ []) []
-      more = holds_data _ _ _ _ _ b v h s
+    refuse_data {v} s refused =
+        let ends = ends_with_one (held h Tokens) b s in
+        elim refused [
+          | inl r ↦ refuse Header (is_open [] Tokens more tt tt, closed Header r.0) (so_far, Data v, ends, r.1)
+          | inr r ↦
+              refuse Body (is_open _ Header more r.0.bytes r.0.framed, closed Body r.1) (so_far, Data v, ends, r.2)
+        ] where
+          more : Holds rules (bytes ++ b ∷ []) items (so_far ++ v ∷ []) []
+          more = holds_data rules h b v s
 
-      closed : (l : Layer) → ((m : List ℕ) → IsRight rules l (so_far ++ v ∷ m) → ⊥)
-          → IsOpen rules l (bytes ++ b ∷ []) → ⊥
-      closed l bad o = bad_data _ _ _ _ v _ (parts_no_eor _ _ h.each) h.no_eor (cut_of h b s)
-          (λ m. rw h.is_open at (bad m)) o.stream
+          closed : (l : Layer) → ((m : List ℕ) → IsRight rules l (so_far ++ v ∷ m) → ⊥)
+              → IsOpen rules l (bytes ++ b ∷ []) → ⊥
+          closed l bad o = bad_data (held h l) b _ s bad o.stream
 
     -- an Eor behind a record that isn't whole is refused
     pub refuse_end : IsSpelled token_rules tt (begun ++ b ∷ []) Eor → IsEndRefused rules so_far reason
         → IsRefused rules (bytes ++ b ∷ after) (length bytes) reason
-    refuse_end s refused = elim refused [
-      | inl r ↦
-          refuse h opened b after Header (behind Tokens tt, closed Header r.0) (so_far, Eor, ends_with h b s, r.1)
-      | inr r ↦ refuse h opened b after Body (behind Header r.0, closed Body r.1) (so_far, Eor, ends_with h b s, r.2)
-    ]
-      where
-        -- the record ended just before is right
-        behind : (l : Layer) → IsRight rules l so_far → IsOpen rules l (bytes ++ b ∷ [])
-        behind l right = record {
-          more = [];
-          stream = ended_stream _ _ _ _ (parts_no_eor _ _ h.each) h.no_eor (parts_right _ h.each l)
-              (rw h.is_open at right) (cut_of h b s).chain
-              (append-nil (bytes ++ b ∷ []) ∙ sym (cut_of h b s).spelled ∙ append-nil _);
-        }
+    refuse_end s refused =
+        let ends = ends_with_one (held h Tokens) b s in
+        elim refused [
+          | inl r ↦ refuse Header (behind Tokens tt, closed Header r.0) (so_far, Eor, ends, r.1)
+          | inr r ↦ refuse Body (behind Header r.0, closed Body r.1) (so_far, Eor, ends, r.2)
+        ] where
+          -- the record ended just before is right
+          behind : (l : Layer) → IsRight rules l so_far → IsOpen rules l (bytes ++ b ∷ [])
+          behind l right =
+              record { more = []; stream = rw (append-nil (bytes ++ b ∷ [])) (ended_stream (held h l) b s right) }
 
-        closed : (l : Layer) → (IsRight rules l so_far → ⊥) → IsOpen rules l (bytes ++ b ∷ []) → ⊥
-        closed l bad o = bad_eor _ _ _ _ _ (parts_no_eor _ _ h.each) h.no_eor (cut_of h b s) (rw h.is_open at bad)
-            o.stream
+          closed : (l : Layer) → (IsRight rules l so_far → ⊥) → IsOpen rules l (bytes ++ b ∷ []) → ⊥
+          closed l bad o = bad_eor (held h l) b _ s bad o.stream
 
   -- bytes that end inside a record or a token are truncated
   pub truncated : (bytes : List ℕ) (items : List (Item U)) (so_far begun : List ℕ)
@@ -154,9 +136,10 @@ module _ {Place U : Type 0} (rules : Rules Place U) where
       → (so_far ≡ [] → begun ≡ [] → ⊥) → IsTruncated rules bytes
   truncated bytes items so_far begun h opened inside = record {
     opened = opened;
-    unfinished = λ others k. (let same = one_cut token_rules token_prefix_free tt _ _ _ _ h.cut.chain k.cut.chain
-        h.cut.more k.cut.more (h.cut.spelled ∙ sym k.cut.spelled) in
-        inside (h.is_open
-        ∙ ap carried (one_join _ _ _ _ (parts_no_eor _ _ h.each) (parts_no_eor _ _ k.each)
-        h.no_eor k.no_eor same.0).1 ∙ sym k.is_open) same.1);
+    unfinished = λ others k. (
+        let a = held h Tokens in
+        let b = held k Tokens in
+        let same = one_cut token_rules token_prefix_free tt _ _ _ _ a.cut.chain b.cut.chain a.cut.more b.cut.more
+        (a.cut.spelled ∙ sym b.cut.spelled) in
+        inside (sym a.left ∙ ap (left_by []) same.0 ∙ b.left) same.1);
   }

@@ -1,12 +1,14 @@
 use Rattle.ws_record.proofs.Common as C
-use C.{◌≡◌, ℕ, ◌+◌, ◌-◌, ◌<◌, ◌≤◌, List, [], ◌∷◌, ◌++◌, inl, length, drop, take, get_or, refl, ap, arith, append_assoc}
+use C.{◌≡◌, ℕ, ◌+◌, ◌<◌, ◌≤◌, List, [], ◌∷◌, ◌++◌, inl, length, drop, take, get_or, refl, ap, arith, append_assoc}
 use C.{length-append, length-take, drop_of_length-le, append-nil, take-append-drop, Rules, length-take-le, HasRun}
-use C.{IsSpelled, IsPrefix, IsPrefixFree, AreBytes, Keeps, Reading, RunsOn, StopsAtLast, Kept, Reason, AreBytes-front}
-use C.{Begins, run_unit, News, More, Whole, Open, NoMemory, RecordSoFar, Keeping, HasRead, ArePlain, KeepsTold}
-use C.{IsTaken, IsHeaderStep, grown, AllByRecursion-front, AllByRecursion-last, front_bytes, same_front}
+use C.{IsSpelled, IsPrefixFree, AreBytes, Reading, StopsAtLast, Kept, AreBytes-front, Begins, run_unit, News, More}
+use C.{Whole, Open, NoMemory, RecordSoFar, Keeping, HasRead, ArePlain, KeepsTold, IsTaken, IsHeaderStep, grown}
+use C.{AllByRecursion-front, AllByRecursion-last, front_bytes, same_front, IsRun}
 use Rattle.ws_record.specs.declared.news.News.TheVariants.{Refused}
-use Rattle.ws_record.proofs.OpenRecords.{body_run, body_bad, body_drops}
-use Rattle.ws_code.specs.declared.keep.Kept.TheVariants as answer
+use Rattle.ws_record.proofs.OpenRecords.{body_run, body_bad, body_drops, reading_of, moved}
+use Rattle.ws_code.specs.declared.run.Standing.{Standing}
+use Rattle.ws_code.specs.declared.run.End.{End}
+use Rattle.ws_code.specs.declared.run.End.TheVariants as end
 
 module _ {U K : Type 0} where
   pub told_none : (holds : K → List U → List ℕ → Type 0) (keep : K) → KeepsTold holds keep keep [] []
@@ -35,112 +37,88 @@ ready rules values used same r behind some room within are =
       room = omega (arith, left);
     }
 
-abbrev pub reading_of : {Place : Type 0} → Keeping Place → Reading Place
-reading_of k = record { place = k.place; begun = k.begun }
+-- the news of a run's end
+abbrev news_of : End → News
+news_of end.More = More
+news_of end.Enough = Whole
+news_of end.NoMemory = NoMemory
+news_of (end.Bad reason) = Refused reason
 
 module _ {Place U K : Type 0} (rules : Rules Place U) (holds : K → List U → List ℕ → Type 0)
     (may_answer : Kept → Type 0) (reader : Keeping Place) (so_far : RecordSoFar U) (old : K) (v : List ℕ) (used : ℕ)
-    (y : Ready rules reader so_far v used) where
+    (y : Ready rules reader so_far v used) (free : IsPrefixFree rules) (begins : Begins rules) where
   -- the record behind a run over the values
-  ran : {to : Keeping Place} (run : HasRun rules (reading_of reader) v (reading_of to)) → to.header ≡ reader.header
-      → to.left ≡ reader.left - used → HasRead rules to (grown so_far v run.units)
-  ran run e l = body_run rules y.reads y.ten _ v y.are (omega (arith, y.long, y.room)) run e (rw y.long l)
+  ran : {to : Reading Place} (run : HasRun rules (reading_of reader) v to)
+      → HasRead rules (moved reader used to) (grown so_far v run.units)
+  ran run = rw y.long at (body_run rules y.reads y.ten _ v y.are (omega (arith, y.long, y.room)) run)
 
-  -- values with which the body goes on
-  pub taken_more : (to : Keeping Place) (kept new : K)
-      → RunsOn rules holds may_answer (reading_of reader) old v (reading_of to) kept → to.header ≡ reader.header
-      → to.left ≡ reader.left - used
+  -- with a unit at which the run stops
+  unit_read : (stop : StopsAtLast rules holds may_answer (reading_of reader) old v) (unit : U) (to : Reading Place)
+      → IsSpelled rules stop.before.place (stop.before.begun ++ stop.last ∷ []) unit
+      → to ≡ record { place = rules.after unit; begun = [] }
+      → HasRead rules (moved reader used to) (grown so_far v (stop.on.run.units ++ unit ∷ []))
+  unit_read stop unit to spelled stands =
+      let whole = run_unit rules (reading_of reader) stop.front v stop.before to stop.last unit stop.on.run spelled
+      begins stop.split stands in
+      rw whole.1 at (ran whole.0)
+
+  -- What a run over the values makes of the record. Behind a value that is refused, or a unit that isn't kept, no
+  -- matter how the reader and the keep stand.
+  pub taken : (end : End) (to : Reading Place) (standing : Standing Place) (kept new : K)
+      → IsRun rules holds may_answer (reading_of reader) old v to standing kept end
       → ((units : List U) (told : List ℕ) → holds kept units told → holds new units (told ++ v))
-      → IsTaken rules holds may_answer so_far old v to new More
-  taken_more to kept new on e l took = (
-    on.run.units,
+      → IsTaken rules holds may_answer so_far old v (moved reader used to) new (news_of end)
+  taken end.More to standing kept new run took = (
+    run.0.run.units,
     v,
-    ran on.run e l,
+    ran run.0.run,
     body_drops _ y.reads y.ten v,
-    (λ units told h. took _ told (on.kept units told h)),
-    on.on,
+    (λ units told h. took _ told (run.0.kept units told h)),
+    run.0.on,
   )
-
-  module _ (begins : Begins rules) (stop : StopsAtLast rules holds may_answer (reading_of reader) old v) where
-    -- the front before the value where a run stops
-    shorter : length stop.front + 1 ≡ length v
-    shorter = omega (arith, ap length stop.split, length-append stop.front (stop.last ∷ []))
-
-    -- with a unit at which it stops
-    unit_read : (unit : U) (to : Keeping Place)
-        → IsSpelled rules stop.before.place (stop.before.begun ++ stop.last ∷ []) unit → to.header ≡ reader.header
-        → to.left ≡ reader.left - used
-        → ◌≡◌ {A = Reading Place} (reading_of to) (record { place = rules.after unit; begun = [] })
-        → HasRead rules to (grown so_far v (stop.on.run.units ++ unit ∷ []))
-    unit_read unit to spelled e l stands =
-        let whole = run_unit rules (reading_of reader) stop.front v stop.before (reading_of to) stop.last unit
-        stop.on.run spelled begins stop.split stands in
-        rw whole.1 at (ran whole.0 e l)
-
-    pub taken_unit : (unit : U) (to : Keeping Place) (kept new : K)
-        → IsSpelled rules stop.before.place (stop.before.begun ++ stop.last ∷ []) unit
-        → Keeps holds stop.keep kept (unit ∷ []) → may_answer answer.Enough → to.header ≡ reader.header
-        → to.left ≡ reader.left - used
-        → ◌≡◌ {A = Reading Place} (reading_of to) (record { place = rules.after unit; begun = [] })
-        → ((units : List U) (told : List ℕ) → holds kept units told → holds new units (told ++ v))
-        → IsTaken rules holds may_answer so_far old v to new Whole
-    taken_unit unit to kept new spelled keeps may e l stands took = (
-      stop.on.run.units,
-      unit,
-      v,
-      unit_read unit to spelled e l stands,
-      body_drops _ y.reads y.ten v,
-      (λ units told h. took _ told
-          (rw append_assoc at (keeps (units ++ stop.on.run.units) told (stop.on.kept units told h)))),
-      stop.on.on,
-      ap (λ (t : Reading Place). t.begun) stands,
-      may,
-    )
-
-    pub taken_full : (unit : U) (to : Keeping Place) (new : K)
-        → IsSpelled rules stop.before.place (stop.before.begun ++ stop.last ∷ []) unit → may_answer answer.NoMemory
-        → IsTaken rules holds may_answer so_far old v to new NoMemory
-    taken_full unit to new spelled may =
-        let behind : Keeping Place =
-        record { header = reader.header; left = reader.left - used; place = rules.after unit; begun = [] } in (
-          stop.front,
-          stop.last,
-          stop.split,
-          (
-            so_far.units ++ stop.on.run.units,
-            unit,
-            rw (append_assoc so_far.bytes, ← stop.split, append_assoc so_far.units)
-                (unit_read unit behind spelled refl refl refl).cut,
-            may,
-          ),
-        )
-
-    pub taken_bad : IsPrefixFree rules → (reason : Reason) (to : Keeping Place) (new : K)
-        → (IsPrefix rules stop.before.place (stop.before.begun ++ stop.last ∷ []) → ⊥)
-        → reason ≡ rules.reason stop.before.place stop.before.begun stop.last
-        → IsTaken rules holds may_answer so_far old v to new (Refused reason)
-    taken_bad free reason to new bad why =
-        let all : AreBytes (stop.front ++ stop.last ∷ []) = rw stop.split at y.are in
-        let before : Keeping Place = record {
-          header = reader.header;
-          left = reader.left - length stop.front;
-          place = stop.before.place;
-          begun = stop.before.begun;
-        } in
-        let read : HasRead rules before (grown so_far stop.front stop.on.run.units) = body_run rules y.reads y.ten
-        before stop.front (AreBytes-front stop.front (stop.last ∷ []) all) (omega (arith, shorter, y.long, y.room))
-        stop.on.run refl refl in (
-          stop.front,
-          stop.last,
-          stop.split,
-          (
-            before,
-            stop.on.run.units,
-            read,
-            body_bad _ read y.ten free begins _ _ (AllByRecursion-last (λ b. b < 256) stop.front stop.last all)
-                (omega (arith, shorter, y.long, y.room)) bad why,
-          ),
-        )
+  taken end.Enough to standing kept new run took = (
+    run.0.on.run.units,
+    run.1,
+    v,
+    unit_read run.0 run.1 to run.2 run.5,
+    body_drops _ y.reads y.ten v,
+    (λ units told h. took _ told
+        (rw append_assoc at (run.3 (units ++ run.0.on.run.units) told (run.0.on.kept units told h)))),
+    run.0.on.on,
+    ap (λ (t : Reading Place). t.begun) run.5,
+    run.4,
+  )
+  taken end.NoMemory to standing kept new run took =
+      let stop = run.0 in (
+        stop.front,
+        stop.last,
+        stop.split,
+        (
+          so_far.units ++ stop.on.run.units,
+          run.1,
+          rw (append_assoc so_far.bytes, ← stop.split, append_assoc so_far.units)
+              (unit_read stop run.1 (record { place = rules.after run.1; begun = [] }) run.2 refl).cut,
+          run.4,
+        ),
+      )
+  taken (end.Bad reason) to standing kept new run took =
+      let stop = run.0 in
+      let all : AreBytes (stop.front ++ stop.last ∷ []) = rw stop.split at y.are in
+      let shorter : length stop.front + 1 ≤ reader.left =
+      omega (arith, ap length stop.split, length-append stop.front (stop.last ∷ []), y.long, y.room) in
+      let read = body_run rules y.reads y.ten stop.before stop.front (AreBytes-front stop.front (stop.last ∷ []) all)
+      (omega (arith, shorter)) stop.on.run in (
+        stop.front,
+        stop.last,
+        stop.split,
+        (
+          moved reader (length stop.front) stop.before,
+          stop.on.run.units,
+          read,
+          body_bad _ read y.ten free begins _ _ (AllByRecursion-last (λ b. b < 256) stop.front stop.last all)
+              (omega (arith, shorter)) run.1 run.2,
+        ),
+      )
 
 module _ {Place U K : Type 0} (rules : Rules Place U) (holds : K → List U → List ℕ → Type 0)
     (may_answer : Kept → Type 0) (so_far : RecordSoFar U) (keep : K) (v : List ℕ) where

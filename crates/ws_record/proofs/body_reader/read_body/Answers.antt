@@ -1,5 +1,5 @@
-use Rattle.ws_record.proofs.Common.{Bool, true, false, ◌≡◌, [], refl, sym, ap, ◌∙◌, take-length, is_between}
-use Rattle.ws_code.proofs.RunLaws.{from_first}
+use Rattle.ws_record.proofs.Common as C
+use C.{Bool, true, false, ◌≡◌, [], refl, sym, ap, ◌∙◌, take-length, is_between, from_first}
 use Rattle.ws_record.proofs.Bodies.{ended, not_ended, no_body, unit_so_far}
 use Rattle.ws_record.proofs.body_reader.read_body.Goals.{then-at-via-then-at, then-at-via-else-at+then-not-may_end}
 use Rattle.ws_record.proofs.body_reader.read_body.Goals as goal

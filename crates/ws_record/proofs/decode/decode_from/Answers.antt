@@ -1,15 +1,14 @@
 use Rattle.ws_record.proofs.Common as C
-use C.{◌≡◌, ◌++◌, length, take, arith, length-append, inr, length-take-le, err_from_is_err_and, gave_more, gave_all}
-use C.{take_some}
+use C.{◌≡◌, ◌++◌, length, take, arith, length-append, inr, length-take-le, gave_more, gave_all, handed_on, take_some}
 use Rattle.ws_record.proofs.Decodes.{feed_source, end_source}
 use Rattle.ws_record.proofs.decode.decode_from.Goals as goal
 
 pub returns-in_err-finish-in-Ok-eq0-clause-fault : goal.returns-in_err-finish-in-Ok-eq0-clause-fault
 returns-in_err-finish-in-Ok-eq0-clause-fault g c =
-    let p = err_from_is_err_and c.from_residual.result c.from_residual.ensures.1 in
     let zero : c.in-Ok-eq0.field-0 ≡ 0 = omega arith in
-    rw (p.1, p.2) (end_source _ _ _ _ _ _ _ (gave_all g.S.Source.gives g.S.Source.failures _ c.loop.source _
-    c.loop.counter c.loop.invariant.bytes (length c.loop.piece) c.loop.invariant.gave (omega arith) (omega arith)
+    rw (handed_on c.from_residual.result
+    c.from_residual.ensures.1) (end_source _ _ _ _ _ _ _ (gave_all g.S.Source.gives g.S.Source.failures _ c.loop.source
+    _ c.loop.counter c.loop.invariant.bytes (length c.loop.piece) c.loop.invariant.gave (omega arith) (omega arith)
     (rw zero at c.in-Ok-eq0.ensures.ok.1) c.in-Ok-eq0.ensures.ok.2)
     (c.in_err-finish-in-Ok-eq0.ensures.truncated _ _ c.loop.invariant.taken (omega (arith, c.loop.invariant.few))))
 
@@ -25,18 +24,13 @@ returns-in-Ok-eq0-clause-accepted g c =
 
 pub returns-in_err-take_all-in-Ok-clause-fault : goal.returns-in_err-take_all-in-Ok-clause-fault
 returns-in_err-take_all-in-Ok-clause-fault g c =
-    let p = err_from_is_err_and c.from_residual-in_err-take_all-in-Ok.result
-    c.from_residual-in_err-take_all-in-Ok.ensures.1 in
-    rw (p.1, p.2) (feed_source _ _ _ _ _ _ _ _ _ (gave_more g.S.Source.gives g.S.Source.failures _ c.loop.source _
-    c.loop.counter c.loop.invariant.bytes (length c.loop.piece) (take c.in-Ok.given c.read.new.into)
-    c.loop.invariant.gave (omega arith) c.in-Ok.ensures.ok.1
+    rw (handed_on c.from_residual-in_err-take_all-in-Ok.result
+    c.from_residual-in_err-take_all-in-Ok.ensures.1) (feed_source _ _ _ _ _ _ _ _ _ (gave_more g.S.Source.gives
+    g.S.Source.failures _ c.loop.source _ c.loop.counter c.loop.invariant.bytes (length c.loop.piece) (take
+    c.in-Ok.given c.read.new.into) c.loop.invariant.gave (omega arith) c.in-Ok.ensures.ok.1
     (take_some c.read.new.into c.in-Ok.given c.in-Ok.given-test.1 c.in-Ok.ensures.ok.0) c.in-Ok.ensures.ok.2)
-    (c.in_err-take_all-in-Ok.ensures.fault c.loop.invariant.bytes c.loop.invariant.taken (omega (
-      arith,
-      c.loop.invariant.few,
-      length-take-le c.in-Ok.given c.read.new.into c.in-Ok.ensures.ok.0,
-      c.in-Ok.ensures.ok.0,
-    ))))
+    (c.in_err-take_all-in-Ok.ensures.fault c.loop.invariant.bytes c.loop.invariant.taken (omega
+    (arith, length-take-le c.in-Ok.given c.read.new.into c.in-Ok.ensures.ok.0, c.in-Ok.ensures.ok.0))))
 
 pub loop-preserved : goal.loop-preserved
 loop-preserved g c =
@@ -51,10 +45,9 @@ loop-preserved g c =
           (omega (arith, c.loop.invariant.few, long, c.in-Ok.ensures.ok.0));
       few = omega (
         arith,
-        c.loop.invariant.few,
-        long,
         c.in-Ok.ensures.ok.0,
-        length-append c.loop.invariant.bytes (take c.in-Ok.given c.read.new.into),
+        length-append c.loop.invariant.bytes
+            (take c.in-Ok.given c.read.new.into),
       );
     }
 

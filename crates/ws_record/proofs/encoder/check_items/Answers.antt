@@ -1,8 +1,6 @@
-use Rattle.ws_record.proofs.Common as C
-use C.{◌≡◌, Bool, ◌+◌, ◌<◌, length, true, false, refl, arith, is_some, Option, Some, None, IfNone, spelling_of}
-use C.{IsBadSequence, IsTooBig}
+use Rattle.ws_record.proofs.Common.{◌≡◌, Bool, ◌<◌, length, true, false, refl, arith, is_some, Option, Some, None}
+use Rattle.ws_record.proofs.Common.{IfNone, spelling_of, IsBadSequence, IsTooBig}
 use Rattle.ws_record.proofs.Encodings.{first_at}
-use Rattle.ws_record.proofs.Headers.{header_length}
 use Rattle.ws_record.proofs.encoder.check_items.Goals as goal
 
 none_says : {T P : Type 0} (o : Option T) → is_some o ≡ false → IfNone o P → P
@@ -19,16 +17,10 @@ returns-then-not-is_body-clause-fault g c =
 pub returns-then-is_none-clause-fault : goal.returns-then-is_none-clause-fault
 returns-then-is_none-clause-fault g c =
     let rules = g.B.Code.rules in
-    let found = c.in-Record.record in
     let long : 65525 < length (spelling_of rules c.as_slice-units.result.now) =
     none_says c.body_length.result c.if-is_none.ensures c.body_length.ensures.none in
     first_at rules (IsTooBig rules) _ _ _ c.loop-index-test.true c.index-items-index.is c.loop-index.invariant.encoded
     (rw c.in-Record.is (
       rw c.as_slice-units.ensures at (c.if-not-is_body.ensures.0 refl),
-      omega (
-        arith,
-        rw c.as_slice-units.ensures at long,
-        header_length (10 + length (spelling_of rules found.body)) found.flags found.opcode
-            (spelling_of rules found.body),
-      ),
+      omega (arith, rw c.as_slice-units.ensures at long),
     ))

@@ -1,12 +1,11 @@
-use Rattle.ws_record.proofs.Common.{err_from_is_err_and, item_spelling, each_fails, each_more}
+use Rattle.ws_record.proofs.Common.{item_spelling, each_fails, each_more, handed_on}
 use Rattle.ws_record.proofs.item_writer.write_items.Goals.{in-Record+in_ok-write_encoded-in-Record}
 use Rattle.ws_record.proofs.item_writer.write_items.Goals.{in-Telnet+in_ok-write_telnet-in-Telnet}
 use Rattle.ws_record.proofs.item_writer.write_items.Goals as goal
 
 pub returns-in_err-write_encoded-in-Record-clause-err : goal.returns-in_err-write_encoded-in-Record-clause-err
 returns-in_err-write_encoded-in-Record-clause-err g c =
-    let p = err_from_is_err_and c.from_residual.result c.from_residual.ensures.1 in
-    rw (p.1, p.2) (
+    rw (handed_on c.from_residual.result c.from_residual.ensures.1) (
       c.in_err-write_encoded-in-Record.ensures.err.0,
       each_fails _ _ (item_spelling g.B.Code.rules) _ _ _ c.loop-item-test.true c.item-item.is c.loop-item.invariant
           (rw c.in-Record.is c.in_err-write_encoded-in-Record.ensures.err.1),
@@ -14,9 +13,8 @@ returns-in_err-write_encoded-in-Record-clause-err g c =
 
 pub returns-in_err-write_telnet-in-Telnet-clause-err : goal.returns-in_err-write_telnet-in-Telnet-clause-err
 returns-in_err-write_telnet-in-Telnet-clause-err g c =
-    let p = err_from_is_err_and c.from_residual-in_err-write_telnet-in-Telnet.result
-    c.from_residual-in_err-write_telnet-in-Telnet.ensures.1 in
-    rw (p.1, p.2) (
+    rw (handed_on c.from_residual-in_err-write_telnet-in-Telnet.result
+    c.from_residual-in_err-write_telnet-in-Telnet.ensures.1) (
       c.in_err-write_telnet-in-Telnet.ensures.err.0,
       each_fails _ _ (item_spelling g.B.Code.rules) _ _ _ c.loop-item-test.true c.item-item.is c.loop-item.invariant
           (rw c.in-Telnet.is c.in_err-write_telnet-in-Telnet.ensures.err.1),

@@ -1,11 +1,9 @@
-use Rattle.ws_record.proofs.Common.{◌∙◌, flat_map, err_from_is_err_and, take_all, doubled, each_fails, each_more}
-use Rattle.ws_telnet.proofs.Doubling.{doubled_each}
+use Rattle.ws_record.proofs.Common.{◌∙◌, flat_map, take_all, doubled, each_fails, each_more, handed_on, doubled_each}
 use Rattle.ws_record.proofs.item_writer.write_units.Goals as goal
 
 pub returns-in_err-write_doubled-clause-err : goal.returns-in_err-write_doubled-clause-err
 returns-in_err-write_doubled-clause-err g c =
-    let p = err_from_is_err_and c.from_residual.result c.from_residual.ensures.1 in
-    rw (p.1, p.2) (
+    rw (handed_on c.from_residual.result c.from_residual.ensures.1) (
       c.in_err-write_doubled.ensures.err.0,
       rw (doubled_each g.B.Code.rules.spelling c.args.units.now) (each_fails _ _
           (λ (u : g.row.B-Unit.Denot). flat_map doubled (g.B.Code.rules.spelling u)) _ _ _ c.loop-unit-test.true

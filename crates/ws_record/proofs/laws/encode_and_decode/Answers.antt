@@ -1,7 +1,5 @@
-use Rattle.ws_record.proofs.Common as C
-use C.{◌≡◌, [], ◌∷◌, ◌++◌, length, inl, inr, ap, ◌∙◌, arith, length-append, Rules, IsPrefixFree, Begins, IsInGrammar}
-use C.{MayGrow}
-use Rattle.ws_code.proofs.Lists.{both_empty}
+use Rattle.ws_record.proofs.Common.{◌≡◌, [], ◌∷◌, ◌++◌, length, inl, inr, ap, ◌∙◌, arith, length-append, Rules}
+use Rattle.ws_record.proofs.Common.{IsPrefixFree, Begins, IsInGrammar, MayGrow, both_empty}
 use Rattle.ws_record.proofs.Fronts.{one_holding}
 use Rattle.ws_record.proofs.laws.encode_and_decode.Goals as goal
 

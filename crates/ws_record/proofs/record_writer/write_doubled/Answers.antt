@@ -1,15 +1,12 @@
 use Rattle.ws_record.proofs.Common as C
-use C.{inl, inr, get_or, ◌+◌, arith, err_from_is_err_and, on_ok_weaker, IfErr-weaker, iac_or_not, doubled_plain}
-use Rattle.ws_telnet.proofs.Doubling.{doubling_ends, doubling_ends_failed, doubling_fails, doubling_iac}
-use Rattle.ws_telnet.proofs.Doubling.{doubling_plain}
-use Rattle.ws_code.proofs.Lists.{run_rest, run_slice}
+use C.{inl, inr, get_or, ◌+◌, arith, on_ok_weaker, IfErr-weaker, iac_or_not, doubled_plain, handed_on, doubling_ends}
+use C.{doubling_ends_failed, doubling_fails, doubling_iac, doubling_plain, run_rest, run_slice}
 use Rattle.ws_record.proofs.record_writer.write_doubled.Goals.{then-byte+in_ok-write_whole, else-byte}
 use Rattle.ws_record.proofs.record_writer.write_doubled.Goals as goal
 
 pub returns-in_err-write_whole-clause-err : goal.returns-in_err-write_whole-clause-err
 returns-in_err-write_whole-clause-err g c =
-    let p = err_from_is_err_and c.from_residual.result c.from_residual.ensures.1 in
-    rw (p.1, p.2) (
+    rw (handed_on c.from_residual.result c.from_residual.ensures.1) (
       c.in_err-write_whole.ensures.err.0,
       doubling_fails _ _ c.loop-at.invariant c.loop-at-test.true (omega (arith, c.if-byte.true))
           (rw

@@ -1,4 +1,4 @@
-use Rattle.ws_telnet.proofs.Doubling.{IsDoubling}
+use Rattle.ws_record.proofs.Common.{IsDoubling}
 use Rattle.ws_record.proofs.record_writer.write_doubled.Given as goal
 
 abbrev pub invariant-loop-at : goal.invariant-loop-at

@@ -1,6 +1,5 @@
-use Rattle.ws_record.proofs.Common as C
-use C.{◌≡◌, ◌∷◌, ◌++◌, ℕ, List, [], flat_map, err_from_is_err_and, on_ok_weaker, IfErr-weaker, doubled}
-use C.{record_spelling, first_fails, second_fails, third_fails, three_out}
+use Rattle.ws_record.proofs.Common.{◌≡◌, ◌∷◌, ◌++◌, ℕ, List, [], flat_map, on_ok_weaker, IfErr-weaker, doubled}
+use Rattle.ws_record.proofs.Common.{handed_on, record_spelling, first_fails, second_fails, third_fails, three_out}
 use Rattle.ws_record.proofs.Writes.{record_text}
 use Rattle.ws_record.proofs.record_writer.write_record.Goals as goal
 
@@ -10,8 +9,7 @@ text_of {head} body e = rw (← e) (record_text head body)
 
 pub returns-in_err-write_doubled-clause-err : goal.returns-in_err-write_doubled-clause-err
 returns-in_err-write_doubled-clause-err g c =
-    let p = err_from_is_err_and c.from_residual.result c.from_residual.ensures.1 in
-    rw (p.1, p.2) (
+    rw (handed_on c.from_residual.result c.from_residual.ensures.1) (
       c.in_err-write_doubled.ensures.err.0,
       first_fails _ _ (flat_map doubled c.args.body.now) (0xff ∷ 0xef ∷ [])
           (text_of c.args.body.now c.header_bytes.ensures) c.in_err-write_doubled.ensures.err.1,
@@ -19,9 +17,7 @@ returns-in_err-write_doubled-clause-err g c =
 
 pub returns-in_err-write_doubled-2-clause-err : goal.returns-in_err-write_doubled-2-clause-err
 returns-in_err-write_doubled-2-clause-err g c =
-    let p = err_from_is_err_and c.from_residual-in_err-write_doubled-2.result
-    c.from_residual-in_err-write_doubled-2.ensures.1 in
-    rw (p.1, p.2) (
+    rw (handed_on c.from_residual-in_err-write_doubled-2.result c.from_residual-in_err-write_doubled-2.ensures.1) (
       c.in_err-write_doubled-2.ensures.err.0,
       second_fails _ _ _ _ (text_of c.args.body.now c.header_bytes.ensures) c.in_ok-write_doubled.ensures.ok
           c.in_err-write_doubled-2.ensures.err.1,

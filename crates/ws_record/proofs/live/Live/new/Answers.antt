@@ -1,5 +1,4 @@
-use Rattle.ws_record.proofs.Common.{refl}
-use Rattle.ws_telnet.proofs.OneToken.{fresh_begins}
+use Rattle.ws_record.proofs.Common.{refl, fresh_begins}
 use Rattle.ws_record.proofs.Lives.{leads_nothing}
 use Rattle.ws_record.proofs.live.Live.new.Goals as goal
 

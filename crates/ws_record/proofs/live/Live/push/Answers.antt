@@ -2,14 +2,9 @@ use Rattle.ws_record.proofs.Lives.{front_step, live_step, more_step, made_one}
 use Rattle.ws_record.proofs.live.Live.push.Goals as goal
 
 pub returns-in_default-clause-step : goal.returns-in_default-clause-step
-returns-in_default-clause-step g c = λ bytes items so_far l fits.
-    live_step g.B.Code.rules _ _ _ _ _ c.step_of.result (front_step _ _ _ _ _ c.advance.new.self _ c.advance.new.keep
-    c.advance.result.news _ (made_one _ _ _ _ _ _ _ _ _ _ c.args.byte c.advance.result.used l fits
-    c.advance.ensures.within c.advance.ensures.used c.advance.ensures.counted
-    (c.advance.ensures.advance bytes items so_far l fits)) c.step_of.ensures.step)
+returns-in_default-clause-step g c = λ bytes items so_far l fits. live_step g.B.Code.rules _ _ _ _ _ c.step_of.result
+    (front_step _ _ c.advance.result.news _ (made_one _ c.args.byte c.advance.ensures l fits) c.step_of.ensures.step)
 
 pub returns-in-More-clause-step : goal.returns-in-More-clause-step
 returns-in-More-clause-step g c = λ bytes items so_far l fits.
-    more_step g.B.Code.rules _ _ _ _ c.advance.new.self c.advance.new.keep c.advance.result.news c.in-More.is
-    (made_one _ _ _ _ _ _ _ _ _ _ c.args.byte c.advance.result.used l fits c.advance.ensures.within
-    c.advance.ensures.used c.advance.ensures.counted (c.advance.ensures.advance bytes items so_far l fits))
+    more_step g.B.Code.rules (made_one _ c.args.byte c.advance.ensures l fits) c.in-More.is

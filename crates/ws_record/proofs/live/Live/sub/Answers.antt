@@ -5,7 +5,5 @@ pub returns-then-is_inside-clause-kept : goal.returns-then-is_inside-clause-kept
 returns-then-is_inside-clause-kept g c = (c.args.self.now.sub, refl)
 
 pub returns-clause-kept : goal.returns-clause-kept
-returns-clause-kept g c = (
-  sub_of c.sub.new.self,
-  rw (← c.self.view_is, c.sub.ensures.between, c.is_inside.ensures.no c.if-is_inside.false),
-)
+returns-clause-kept g c =
+    (sub_of c.sub.new.self, rw (← c.self.view_is, c.sub.ensures.between, c.is_inside.ensures.no c.if-is_inside.false))

@@ -1,7 +1,6 @@
 use Rattle.ws_record.proofs.Common as C
-use C.{◌∷◌, ◌++◌, [], take, get_or, refl, arith, take_more, length-take-le, IAC, unfinished_of, sub_of, front_bytes}
-use Rattle.ws_telnet.proofs.OneToken.{word_begun}
-use Rattle.ws_record.proofs.Lives.{advance_values, carries_values, holds_values, first_word, begin_word, second_word}
+use C.{◌∷◌, ◌++◌, [], take, get_or, refl, arith, append-nil, take_more, length-take-le, IAC, front_bytes, word_begun}
+use Rattle.ws_record.proofs.Lives.{advance_values, carries_values, holds_values, holds_iac, word_advance, more_advance}
 use Rattle.ws_record.proofs.Lives.{held_at_none, held_at_one}
 use Rattle.ws_record.proofs.Takings.{plain_front}
 use Rattle.ws_record.proofs.live.Live.take_front.Goals as goal
@@ -10,38 +9,27 @@ pub invariant_of-self : goal.invariant_of-self
 invariant_of-self g c = word_begun _ _ _ _ c.go_on-word.ensures
 
 pub returns-then-is_inside-clause-advance : goal.returns-then-is_inside-clause-advance
-returns-then-is_inside-clause-advance g c =
-    λ bytes items so_far l. let was = rw (← c.self.view_is) at l in
-    rw (take_more c.args.piece.now 0 0 c.requires) (first_word g.B.Code.rules
-    g.met.B.Body.can_end g.met.B.Code.bytes g.K.Keep.holds g.K.Keep.may_answer
-    c.args.keep.now c.complete.new.keep bytes items so_far (record c.args.self.now {
-      begun = unfinished_of c.go_on-word.new.self;
-      sub = sub_of c.go_on-word.new.self;
-      reader = c.complete.new.self;
-    }) _ was _ _ c.go_on-word.result c.complete.result
-    c.go_on-word.ensures refl refl (c.complete.ensures so_far was.reads))
+returns-then-is_inside-clause-advance g c = λ bytes items so_far l.
+    let was = rw (← c.self.view_is) at l in
+    rw (take_more c.args.piece.now 0 0 c.requires) (word_advance g.B.Code.rules g.met.B.Body.can_end
+    g.met.B.Code.bytes g.K.Keep.holds g.K.Keep.may_answer c.args.keep.now c.complete.new.keep bytes items so_far
+    c.go_on-word.new.self c.complete.new.self [] _ _ (rw (append-nil bytes) was.holds) _ was.reads
+    c.go_on-word.result c.complete.result c.go_on-word.ensures (c.complete.ensures so_far was.reads))
 
 pub returns-then-is_inside-clause-first : goal.returns-then-is_inside-clause-first
 returns-then-is_inside-clause-first g c = λ bytes items so_far l. held_at_none _ l c.args.piece.now
 
 pub returns-then-piece-clause-advance : goal.returns-then-piece-clause-advance
-returns-then-piece-clause-advance g c =
-    λ bytes items so_far l. let was = rw (← c.self.view_is) at l in
+returns-then-piece-clause-advance g c = λ bytes items so_far l.
+    let was = rw (← c.self.view_is) at l in
     let fresh = c.is_inside.ensures.no c.if-is_inside.false in
-    advance_values g.B.Code.rules g.met.B.Body.can_end g.met.B.Code.bytes g.K.Keep.holds
-    g.K.Keep.may_answer c.args.keep.now c.take.new.keep bytes items so_far
-    (record c.args.self.now {
-      begun = unfinished_of c.self.inside.tokens;
-      sub = sub_of c.self.inside.tokens;
-      reader = c.take.new.self;
-    }) _ _ c.take.result.news
-    (carries_values _ _ _ _ _ (rw fresh at was.holds) (front_bytes c.args.piece.now
-    c.take.result.used (λ i. omega (arith, c.type_inv.piece i))) c.take.ensures.plain)
-    fresh (c.take.ensures.taken so_far was.reads)
+    advance_values g.B.Code.rules g.met.B.Body.can_end g.met.B.Code.bytes g.K.Keep.holds g.K.Keep.may_answer
+    c.args.keep.now c.take.new.keep bytes items so_far c.self.inside.tokens c.take.new.self _ _ c.take.result.news
+    (carries_values _ _ _ _ _ (rw fresh at was.holds) (front_bytes c.args.piece.now c.take.result.used
+    (λ i. omega (arith, c.type_inv.piece i))) c.take.ensures.plain) fresh (c.take.ensures.taken so_far was.reads)
 
 pub returns-then-piece-clause-first : goal.returns-then-piece-clause-first
-returns-then-piece-clause-first g c =
-    λ bytes items so_far l n lt.
+returns-then-piece-clause-first g c = λ bytes items so_far l n lt.
     let was = rw (← c.self.view_is) at l in (
       so_far.bytes ++ take n c.args.piece.now,
       [],
@@ -53,15 +41,13 @@ returns-then-piece-clause-first g c =
     )
 
 pub returns-then-piece-lt2-clause-advance : goal.returns-then-piece-lt2-clause-advance
-returns-then-piece-lt2-clause-advance g c =
-    λ bytes items so_far l. rw (take_more c.args.piece.now 0 0 c.requires, c.if-piece.false) (begin_word
-    g.B.Code.rules g.met.B.Body.can_end g.met.B.Code.bytes g.K.Keep.holds g.K.Keep.may_answer c.args.keep.now
-    c.args.keep.now bytes items so_far (record c.args.self.now {
-      begun = unfinished_of c.begin.new.self;
-      sub = sub_of c.begin.new.self;
-      reader = c.self.inside.open_record;
-    }) _ (rw (← c.self.view_is) at l)
-    (c.is_inside.ensures.no c.if-is_inside.false) c.begin.ensures.more c.begin.ensures.begun refl refl)
+returns-then-piece-lt2-clause-advance g c = λ bytes items so_far l.
+    let was = rw (← c.self.view_is) at l in
+    let fresh = c.is_inside.ensures.no c.if-is_inside.false in
+    rw (take_more c.args.piece.now 0 0 c.requires, c.if-piece.false) (more_advance g.B.Code.rules
+    g.met.B.Body.can_end g.met.B.Code.bytes g.K.Keep.holds g.K.Keep.may_answer c.args.keep.now c.args.keep.now bytes
+    items so_far c.begin.new.self c.self.inside.open_record [] [] IAC (rw (append-nil bytes, ← fresh) was.holds) _
+    was.reads c.begin.ensures.more c.begin.ensures.begun refl refl)
 
 pub returns-then-piece-lt2-clause-first : goal.returns-then-piece-lt2-clause-first
 returns-then-piece-lt2-clause-first g c = λ bytes items so_far l. held_at_none _ l c.args.piece.now
@@ -71,22 +57,16 @@ invariant_of-self-2 g c = word_begun c.after_iac-word.new.self (IAC ∷ []) (get
     c.after_iac-word.ensures
 
 pub returns-clause-advance : goal.returns-clause-advance
-returns-clause-advance g c =
-    λ bytes items so_far l. let was = rw (← c.self.view_is) at l in
+returns-clause-advance g c = λ bytes items so_far l.
+    let was = rw (← c.self.view_is) at l in
     rw (
       take_more c.args.piece.now 1 0 (omega (arith, c.if-piece-lt2.false)),
       take_more c.args.piece.now 0 0 c.requires,
       c.if-piece.false,
-    ) (second_word g.B.Code.rules
-    g.met.B.Body.can_end g.met.B.Code.bytes g.K.Keep.holds g.K.Keep.may_answer
-    c.args.keep.now c.complete-2.new.keep bytes items so_far (record c.args.self.now {
-      begun = unfinished_of c.after_iac-word.new.self;
-      sub = sub_of c.after_iac-word.new.self;
-      reader = c.complete-2.new.self;
-    }) _ was
-    (c.is_inside.ensures.no c.if-is_inside.false) _ _ c.after_iac-word.result
-    c.complete-2.result c.after_iac-word.ensures refl refl
-    (c.complete-2.ensures so_far was.reads))
+    ) (word_advance g.B.Code.rules g.met.B.Body.can_end g.met.B.Code.bytes g.K.Keep.holds g.K.Keep.may_answer
+    c.args.keep.now c.complete-2.new.keep bytes items so_far c.after_iac-word.new.self c.complete-2.new.self
+    (IAC ∷ []) _ _ (holds_iac _ was c.args.piece.now (c.is_inside.ensures.no c.if-is_inside.false)) _ was.reads
+    c.after_iac-word.result c.complete-2.result c.after_iac-word.ensures (c.complete-2.ensures so_far was.reads))
 
 pub returns-clause-first : goal.returns-clause-first
 returns-clause-first g c = λ bytes items so_far l.

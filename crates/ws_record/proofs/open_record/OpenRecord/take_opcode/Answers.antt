@@ -1,4 +1,4 @@
-use Rattle.ws_record.proofs.Common.{◌≡◌, length, refl, ap, ◌∙◌, arith, Head, opcode_byte, head_in, Keeping}
+use Rattle.ws_record.proofs.Common.{◌≡◌, length, refl, ap, ◌∙◌, arith, Opcode, opcode_byte, head_in, Keeping}
 use Rattle.ws_record.proofs.OpenRecords.{opcode_refused, opcode_byte_read}
 use Rattle.ws_record.proofs.Headers.{header_more}
 use Rattle.ws_record.proofs.open_record.OpenRecord.take_opcode.Goals as goal
@@ -14,18 +14,8 @@ returns-in-Some-clause-step g c =
     ap (λ (k : Keeping g.row.B-Place.Denot). length k.header) c.self.view_is ∙ c.requires.header in
     let says : c.head_of-head.result ≡ head_in c.self.inside.header c.in-Some.opcode =
     rw (← c.as_slice.ensures.value) c.head_of-head.ensures in
-    let opcode = c.head_of-head.result.opcode in
-    let spelled : opcode_byte opcode ≡ c.args.byte =
-    ap (λ (h : Head). opcode_byte h.opcode) says ∙ c.in-Some.ensures.some in
-    let right = header_more _ c.args.byte c.self.invariant.right (λ e. absurd (omega arith))
-    (record {
-      kind_high = λ e. absurd (omega arith);
-      kind_low = λ e. absurd (omega arith);
-      reserved_high = λ e. absurd (omega arith);
-      reserved_low = λ e. absurd (omega arith);
-      variable_length = λ e. absurd (omega arith);
-      opcode = λ _. (opcode, spelled);
-    }) in
-    opcode_byte_read g.B.Code.rules reads (omega (arith, nine)) _ c.args.byte (omega arith) right
-    c.push.ensures refl refl c.head_of-head.result.flags c.head_of-head.result.length opcode nine
-    (ap (λ (h : Head). h.length) says) (ap (λ (h : Head). h.flags) says) spelled refl
+    let some : (o : Opcode) × (opcode_byte o ≡ c.args.byte) = (c.in-Some.opcode, c.in-Some.ensures.some) in
+    let right =
+    header_more _ c.args.byte c.self.invariant.right (λ e. absurd (omega arith)) (grind (arith, some, nine)) in
+    opcode_byte_read g.B.Code.rules reads (omega (arith, nine)) _ c.args.byte (omega arith) right c.push.ensures refl
+    refl c.head_of-head.result c.in-Some.opcode nine says c.in-Some.ensures.some refl

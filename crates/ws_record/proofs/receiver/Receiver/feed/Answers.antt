@@ -1,8 +1,7 @@
-use Rattle.ws_record.proofs.Common.{Ok, Err, Vec, Global, refl, sym, arith, ◌∙◌, append-nil, err_from_is_err_and}
-use Rattle.ws_record.proofs.Common.{bytes_on, each_on, length_rest, room_on}
-use Rattle.ws_record.proofs.Pieces.{IsHeld, front_made}
+use Rattle.ws_record.proofs.Common.{Ok, Err, refl, sym, arith, ◌∙◌, append-nil, handed_on, bytes_on, each_on}
+use Rattle.ws_record.proofs.Pieces.{front_made, within_on}
 use Rattle.ws_record.proofs.Receivers.{receives, item_given, front_feeds, left_feeds, none_before, feeds_on}
-use Rattle.ws_record.proofs.Lives.{held_at_none}
+use Rattle.ws_record.proofs.Lives.{held_at_none, IsHeld}
 use Rattle.ws_record.proofs.receiver.Receiver.feed.Goals as goal
 
 pub loop-used-init : goal.loop-used-init
@@ -14,47 +13,31 @@ loop-used-init g c = (
 
 pub loop-used-preserved : goal.loop-used-preserved
 loop-used-preserved g c = (
-  omega (
-    arith,
-    c.advance-advance.ensures.within,
-    length_rest c.args.piece.now c.loop-used.used,
-    c.loop-used.invariant.0,
-  ),
-  λ bytes items t fits. (let inv = c.loop-used.invariant.1 bytes items t fits in
+  within_on c.args.piece.now _ _ c.loop-used.invariant.0 c.advance-advance.ensures.within,
+  λ bytes items t fits. (
+      let inv = c.loop-used.invariant.1 bytes items t fits in
       let was = rw (← c.self-in-loop-used.view_is) at inv.0 in
-      feeds_on g.B.Code.rules bytes c.args.piece.now items c.loop-used.used
-      c.advance-advance.result.used _ (receives _
-      (λ (vec : Vec g.row.B-Unit.Denot Global). vec.items)
-      {old = c.self-in-loop-used.inside.units} {live = c.advance-advance.new.self}
-      {new = c.advance-advance.new.keep} c.advance-advance.result.news refl
-      (sym c.goes_on.ensures ∙ c.if-not-goes_on.false) (front_made _ _ _ bytes c.args.piece.now
-      _ _ _ _ _ _ c.loop-used.used c.advance-advance.result.used was.leads.1 fits
-      c.advance-advance.ensures.within c.advance-advance.ensures.counted
-      (c.advance-advance.ensures.advance _ _ _ was.leads.1))) (each_on
-      (IsHeld g.B.Code.rules items) bytes c.args.piece.now c.loop-used.used
-      c.advance-advance.result.used inv.1
-      (c.advance-advance.ensures.first _ _ _ was.leads.1))),
+      feeds_on g.B.Code.rules bytes c.args.piece.now items c.loop-used.used c.advance-advance.result.used _
+      (receives _ c.advance-advance.result.news refl (sym c.goes_on.ensures ∙ c.if-not-goes_on.false)
+      (front_made g.B.Code.rules c.args.piece.now c.loop-used.used c.advance-advance.ensures bytes was.leads.1 fits))
+      (each_on (IsHeld g.B.Code.rules items) bytes c.args.piece.now c.loop-used.used c.advance-advance.result.used
+      inv.1 (c.advance-advance.ensures.first _ _ _ was.leads.1))),
 )
 
 pub returns-then-not-goes_on-clause-taken : goal.returns-then-not-goes_on-clause-taken
-returns-then-not-goes_on-clause-taken g c =
-    λ bytes items t fits. let inv = c.loop-used.invariant.1 bytes items t fits in
-    let was = rw (← c.self-in-loop-used.view_is) at inv.0 in
+returns-then-not-goes_on-clause-taken g c = λ bytes items t fits.
+    let was = rw (← c.self-in-loop-used.view_is) at (c.loop-used.invariant.1 bytes items t fits).0 in
     rw (bytes_on bytes c.args.piece.now c.loop-used.used c.advance-advance.result.used) at
-    (item_given g.B.Code.rules (λ (vec : Vec g.row.B-Unit.Denot Global). vec.items) _ items _
-    c.self-in-loop-used.inside.units _ c.advance-advance.new.self c.advance-advance.new.keep
-    c.item_of.new.self c.advance-advance.result.news (Ok c.in_ok-item.item) refl
-    (sym c.goes_on.ensures ∙ c.if-not-goes_on.true) (front_made _ _ _ bytes c.args.piece.now _
-    _ _ _ _ _ c.loop-used.used c.advance-advance.result.used was.leads.1 fits
-    c.advance-advance.ensures.within c.advance-advance.ensures.counted
-    (c.advance-advance.ensures.advance _ _ _ was.leads.1)) c.in_ok-item.ensures.item)
+    (item_given g.B.Code.rules c.item_of.new.self c.advance-advance.result.news (Ok c.in_ok-item.item) refl
+    (sym c.goes_on.ensures ∙ c.if-not-goes_on.true) (front_made g.B.Code.rules c.args.piece.now c.loop-used.used
+    c.advance-advance.ensures bytes was.leads.1 fits) c.in_ok-item.ensures.item)
 
 pub returns-then-not-goes_on-clause-first : goal.returns-then-not-goes_on-clause-first
-returns-then-not-goes_on-clause-first g c = λ bytes items t fits n lt.
+returns-then-not-goes_on-clause-first g c = λ bytes items t fits.
     let inv = c.loop-used.invariant.1 bytes items t fits in
     let was = rw (← c.self-in-loop-used.view_is) at inv.0 in
-    each_on (IsHeld g.B.Code.rules items) bytes c.args.piece.now c.loop-used.used c.advance-advance.result.used
-    inv.1 (c.advance-advance.ensures.first _ _ _ was.leads.1) n lt
+    each_on (IsHeld g.B.Code.rules items) bytes c.args.piece.now c.loop-used.used c.advance-advance.result.used inv.1
+    (c.advance-advance.ensures.first _ _ _ was.leads.1)
 
 pub returns-clause-first : goal.returns-clause-first
 returns-clause-first g c = λ bytes items t fits n lt.
@@ -62,39 +45,25 @@ returns-clause-first g c = λ bytes items t fits n lt.
 
 pub returns-in_err-item-clause-fault : goal.returns-in_err-item-clause-fault
 returns-in_err-item-clause-fault g c =
-    let p = err_from_is_err_and c.from_residual.result c.from_residual.ensures.1 in
-    rw (p.1, p.2) (λ bytes items t fits.
-    let inv = c.loop-used.invariant.1 bytes items t fits in
-    let was = rw (← c.self-in-loop-used.view_is) at inv.0 in
-    let a = c.advance-advance.ensures.advance _ _ _ was.leads.1 in
+    rw (handed_on c.from_residual.result c.from_residual.ensures.1) (λ bytes items t fits.
+    let was = rw (← c.self-in-loop-used.view_is) at (c.loop-used.invariant.1 bytes items t fits).0 in
+    let made = front_made g.B.Code.rules c.args.piece.now c.loop-used.used c.advance-advance.ensures bytes was.leads.1
+    fits in
     left_feeds g.B.Code.rules bytes c.args.piece.now c.loop-used.used _ (front_feeds _ _ _
     c.advance-advance.result.used _ c.advance-advance.ensures.within
-    (c.advance-advance.ensures.used (λ e. rw e at (a (room_on bytes c.args.piece.now c.loop-used.used fits))))
-    (item_given g.B.Code.rules (λ (vec : Vec g.row.B-Unit.Denot Global). vec.items) _ items _
-    c.self-in-loop-used.inside.units _ c.advance-advance.new.self c.advance-advance.new.keep c.item_of.new.self
-    c.advance-advance.result.news (Err c.in_err-item.field-0.0) refl
-    (sym c.goes_on.ensures ∙ c.if-not-goes_on.true) (front_made _ _ _ bytes c.args.piece.now _ _ _ _ _ _
-    c.loop-used.used c.advance-advance.result.used was.leads.1 fits c.advance-advance.ensures.within
-    c.advance-advance.ensures.counted (c.advance-advance.ensures.advance _ _ _ was.leads.1))
-    c.in_err-item.ensures.item)))
+    (c.advance-advance.ensures.used (λ e. rw e at (made.advance)))
+    (item_given g.B.Code.rules c.item_of.new.self c.advance-advance.result.news (Err c.in_err-item.field-0.0) refl
+    (sym c.goes_on.ensures ∙ c.if-not-goes_on.true) made c.in_err-item.ensures.item)))
 
 pub returns-in_err-item-clause-none_before : goal.returns-in_err-item-clause-none_before
 returns-in_err-item-clause-none_before g c =
-    let p = err_from_is_err_and c.from_residual.result c.from_residual.ensures.1 in
-    rw (p.1, p.2) (λ bytes items t fits.
+    rw (handed_on c.from_residual.result c.from_residual.ensures.1) (λ bytes items t fits.
     let inv = c.loop-used.invariant.1 bytes items t fits in
     let was = rw (← c.self-in-loop-used.view_is) at inv.0 in
     none_before g.B.Code.rules bytes c.args.piece.now items c.loop-used.used c.advance-advance.result.used _
     (each_on (IsHeld g.B.Code.rules items) bytes c.args.piece.now c.loop-used.used c.advance-advance.result.used
-    inv.1 (c.advance-advance.ensures.first _ _ _ was.leads.1)) (item_given g.B.Code.rules
-    (λ (vec : Vec g.row.B-Unit.Denot Global). vec.items) _ items _ c.self-in-loop-used.inside.units _
-    c.advance-advance.new.self c.advance-advance.new.keep c.item_of.new.self c.advance-advance.result.news
-    (Err c.in_err-item.field-0.0) refl (sym c.goes_on.ensures ∙ c.if-not-goes_on.true) (front_made _ _ _ bytes
-    c.args.piece.now _ _ _ _ _ _ c.loop-used.used c.advance-advance.result.used was.leads.1 fits
-    c.advance-advance.ensures.within c.advance-advance.ensures.counted
-    (c.advance-advance.ensures.advance _ _ _ was.leads.1)) c.in_err-item.ensures.item) (omega (
-      arith,
-      c.advance-advance.ensures.within,
-      length_rest c.args.piece.now c.loop-used.used,
-      c.loop-used.invariant.0,
-    )))
+    inv.1 (c.advance-advance.ensures.first _ _ _ was.leads.1)) (item_given g.B.Code.rules c.item_of.new.self
+    c.advance-advance.result.news (Err c.in_err-item.field-0.0) refl (sym c.goes_on.ensures ∙ c.if-not-goes_on.true)
+    (front_made g.B.Code.rules c.args.piece.now c.loop-used.used c.advance-advance.ensures bytes was.leads.1 fits)
+    c.in_err-item.ensures.item)
+    (within_on c.args.piece.now _ _ c.loop-used.invariant.0 c.advance-advance.ensures.within))

@@ -1,5 +1,5 @@
 use Rattle.ws_record.proofs.Common.{◌++◌, ◌+◌, ◌-◌, ◌<◌, ◌≤◌, ◌^◌, ℕ, List, length, take, Item, HasReceived}
-use Rattle.ws_record.proofs.Pieces.{IsHeld}
+use Rattle.ws_record.proofs.Lives.{IsHeld}
 use Rattle.ws_record.proofs.receiver.Receiver.feed.Given as goal
 
 -- the bytes so far lead to the receiver, with the same items

@@ -1,5 +1,4 @@
-use Rattle.ws_record.proofs.Common.{inl, inr, refl, arith, err_from_is_err_and, append-nil, bytes_on, length_rest}
-use Rattle.ws_code.proofs.Pieces.{room_next}
+use Rattle.ws_record.proofs.Common.{inl, inr, refl, arith, append-nil, bytes_on, length_rest, handed_on, room_next}
 use Rattle.ws_record.proofs.Decodes.{item_completed}
 use Rattle.ws_record.proofs.Receivers.{left_feeds}
 use Rattle.ws_record.proofs.receiver.Receiver.take_all.Goals as goal
@@ -9,9 +8,9 @@ loop-used-init g c = (omega arith, λ bytes t fits. rw (append-nil bytes) t)
 
 pub returns-in_err-fed-clause-fault : goal.returns-in_err-fed-clause-fault
 returns-in_err-fed-clause-fault g c =
-    let p = err_from_is_err_and c.from_residual.result c.from_residual.ensures.1 in
-    rw (p.1, p.2) (λ bytes t fits. inl (left_feeds g.B.Code.rules bytes c.args.piece.now c.loop-used.used _
-    (c.in_err-fed.ensures.fault _ _ (c.loop-used.invariant.1 bytes t fits)
+    rw (handed_on c.from_residual.result
+    c.from_residual.ensures.1) (λ bytes t fits. inl (left_feeds g.B.Code.rules bytes c.args.piece.now c.loop-used.used
+    _ (c.in_err-fed.ensures.fault _ _ (c.loop-used.invariant.1 bytes t fits)
     (room_next bytes c.args.piece.now _ fits c.loop-used.invariant.0))))
 
 pub returns-then-is_err-clause-fault : goal.returns-then-is_err-clause-fault
