@@ -1,9 +1,7 @@
-use crate::vectors::{INVITE, PUT_FF, REFUSED_BODIES, Side, VECTORS};
+use crate::vectors::{INVITE, PUT_FF, REFUSED_BODIES, Side, VECTORS, Vector};
 use crate::{holds, same, same_at, same_bytes};
-use std::alloc::{AllocError, Global};
+use std::alloc::Global;
 use std::process::Abort;
-use std::str;
-use std::test::Fail;
 use ws_code::{Fault, Reason, SliceSource, VecSink};
 use ws_record::{Fed, Head, Item, Live, Opcode, Receiver, Step, decode_all, decode_from};
 use ws_stream::{Answers, Commands, Element};
@@ -62,113 +60,90 @@ const ACCEPTED: [Accepted; 9] = [
 ];
 
 // The lines of an item.
-fn item_text(alloc: Global, place: u64, item: &Item<Element>) -> Result<String, AllocError> {
+pub fn item_text(rt: &impl Abort, alloc: Global, place: u64, item: &Item<Element>) -> String {
     let mut sink = VecSink::new(alloc);
-    match put_item(&mut sink, Output::Open, place, item) {
-        Output::Open => String::from_str(alloc, str::from_utf8(sink.as_slice()).unwrap_or("?")),
-        Output::Failed => Err(AllocError),
-    }
+    let output = put_item(&mut sink, Output::Open, place, item);
+    same(rt, output, Output::Open);
+    String::from_utf8(sink.into_inner()).expect(rt, "a text")
 }
 
-// What the bytes decode to, as text: the items as they are shown with their places, or the fault.
+// Adds the lines of an item whose last byte is at this place.
+fn add_item(rt: &impl Abort, alloc: Global, place: u64, item: &Item<Element>, text: &mut String) {
+    let lines = item_text(rt, alloc, place, item);
+    text.push_str(lines.as_str()).expect(rt, "memory");
+}
+
+fn items_told(rt: &impl Abort, alloc: Global, items: &[Item<Element>], places: &[u64]) -> String {
+    let mut text = String::new(alloc);
+    same(rt, items.len(), places.len());
+    for (item, place) in items.iter().zip(places) {
+        add_item(rt, alloc, *place, item, &mut text);
+    }
+    text
+}
+
+// What the bytes decode to, as text: the items as they are shown with their places.
 pub fn told(
+    rt: &impl Abort,
     alloc: Global,
     found: Result<Vec<Item<Element>>, Fault>,
     places: &[u64],
-) -> Result<String, AllocError> {
-    match found {
-        Ok(items) if items.len() == places.len() => {
-            let mut text = String::new(alloc);
-            for (item, place) in items.iter().zip(places) {
-                text.push_str(item_text(alloc, *place, item)?.as_str())?;
-            }
-            Ok(text)
-        }
-        Ok(items) => {
-            let count = items.len();
-            format!(in alloc; "{count} items")
-        }
-        Err(fault) => fault_told(alloc, fault),
-    }
-}
-
-fn fault_told(alloc: Global, fault: Fault) -> Result<String, AllocError> {
-    match fault {
-        Fault::Refused { place, reason } => {
-            let number = reason.number();
-            format!(in alloc; "refused at {place}: {number}")
-        }
-        Fault::Truncated { at } => format!(in alloc; "truncated at {at}"),
-        other => format!(in alloc; "{other:?}"),
-    }
-}
-
-// Adds the lines of an item that ends before this place.
-fn add_item(
-    alloc: Global,
-    end: u64,
-    item: &Item<Element>,
-    text: &mut String,
-) -> Result<(), AllocError> {
-    let lines = item_text(alloc, end.saturating_sub(1), item)?;
-    text.push_str(lines.as_str())
+) -> String {
+    let items = found.expect(rt, "items");
+    items_told(rt, alloc, items.as_slice(), places)
 }
 
 // Feeds a piece up to its end, behind so many bytes, and adds what it gives to the text.
 fn hear(
+    rt: &impl Abort,
     alloc: Global,
     receiver: &mut Receiver<Commands>,
     before: usize,
     piece: &[u8],
     text: &mut String,
-) -> Result<(), AllocError> {
+) {
     let mut taken = before as u64;
     let mut rest = piece;
     for _ in 0..9 {
-        match receiver.feed(rest) {
-            Ok(
-                Fed {
-                    used,
-                    item: Some(item),
-                },
-            ) => {
-                taken = taken.saturating_add(used as u64);
-                rest = &rest[used..];
-                add_item(alloc, taken, &item, text)?;
-            }
-            Ok(_) => return Ok(()),
-            Err(fault) => return text.push_str(fault_told(alloc, fault)?.as_str()),
+        let Fed { used, item } = receiver.feed(rest).expect(rt, "a piece");
+        taken = taken.saturating_add(used as u64);
+        rest = &rest[used..];
+        match item {
+            Some(item) => add_item(rt, alloc, taken.saturating_sub(1), &item, text),
+            None => return,
         }
     }
-    Ok(())
 }
 
 // What is told of the bytes by a source, and by a receiver.
-fn told_by_source(alloc: Global, bytes: &[u8], places: &[u64]) -> Result<String, AllocError> {
+fn told_by_source(rt: &impl Abort, alloc: Global, bytes: &[u8], places: &[u64]) -> String {
     let mut source = SliceSource::new(bytes);
     let found = decode_from::<Commands, SliceSource>(alloc, &mut source);
-    told(alloc, found, places)
+    told(rt, alloc, found, places)
 }
 
-fn told_by_receiver(alloc: Global, bytes: &[u8]) -> Result<String, AllocError> {
+fn told_by_receiver(rt: &impl Abort, alloc: Global, bytes: &[u8]) -> String {
     let mut receiver = Receiver::<Commands>::new(alloc);
     let mut text = String::new(alloc);
-    hear(alloc, &mut receiver, 0, bytes, &mut text)?;
-    Ok(text)
+    hear(rt, alloc, &mut receiver, 0, bytes, &mut text);
+    text
+}
+
+fn expect_told(rt: &impl Abort, alloc: Global, accepted: &Accepted) {
+    let (row, bytes, places, wanted) = *accepted;
+    let at_once = told(rt, alloc, decode_all::<Commands>(alloc, bytes), places);
+    same_at(rt, row, at_once.as_str(), wanted);
+    let by_source = told_by_source(rt, alloc, bytes, places);
+    same_at(rt, row, by_source.as_str(), wanted);
+    let by_receiver = told_by_receiver(rt, alloc, bytes);
+    same_at(rt, row, by_receiver.as_str(), wanted);
 }
 
 #[test]
-fn commands_decode(rt: HostRuntime) -> Result<(), Fail> {
-    let alloc = rt.alloc();
-    for (row, bytes, places, wanted) in &ACCEPTED {
-        let at_once = told(alloc, decode_all::<Commands>(alloc, bytes), places)?;
-        same_at(&rt, row, at_once.as_str(), *wanted);
-        let by_source = told_by_source(alloc, bytes, places)?;
-        same_at(&rt, row, by_source.as_str(), *wanted);
-        let by_receiver = told_by_receiver(alloc, bytes)?;
-        same_at(&rt, row, by_receiver.as_str(), *wanted);
+fn commands_decode(rt: HostRuntime) {
+    for accepted in &ACCEPTED {
+        expect_told(&rt, rt.alloc(), accepted);
     }
-    Ok(())
 }
 
 // The fault of a stream that is pushed byte by byte. A refusal comes with the byte that it names, and is the last
@@ -186,13 +161,20 @@ fn live_fault(bytes: &[u8]) -> Option<Fault> {
     live.finish().err()
 }
 
+fn expect_live_fault(rt: &impl Abort, vector: &Vector) {
+    if vector.side == Side::FromHost {
+        let found = live_fault(vector.bytes);
+        same_at(rt, vector.name, found, vector.outcome.err());
+    }
+}
+
 #[test]
 fn live_refusals(rt: HostRuntime) {
-    for vector in VECTORS.iter().chain(REFUSED_BODIES.iter()) {
-        if vector.side == Side::FromHost {
-            let name = vector.name;
-            same_at(&rt, name, live_fault(vector.bytes), vector.outcome.err());
-        }
+    for vector in &VECTORS {
+        expect_live_fault(&rt, vector);
+    }
+    for vector in &REFUSED_BODIES {
+        expect_live_fault(&rt, vector);
     }
     query_is_refused(&rt, rt.alloc());
 }
@@ -260,39 +242,36 @@ fn answer_keys(rt: HostRuntime) {
     );
 }
 
-// What is told of `put-ff` in pieces of a size.
-fn put_ff_by(rt: &impl Abort, alloc: Global, size: usize) -> Result<String, AllocError> {
+// `put-ff` in pieces of a size.
+fn put_ff_by(rt: &impl Abort, alloc: Global, size: usize) {
     let mut receiver = Receiver::<Commands>::new(alloc);
     let mut text = String::new(alloc);
     let mut before = 0usize;
     for piece in PUT_FF.chunks(size.max(1)) {
-        hear(alloc, &mut receiver, before, piece, &mut text)?;
+        hear(rt, alloc, &mut receiver, before, piece, &mut text);
         before = before.wrapping_add(piece.len());
     }
     holds(rt, receiver.finish().is_ok());
-    Ok(text)
+    same_at(rt, size, text.as_str(), PUT_FF_SHOWN);
 }
 
-// What is told of it in two pieces, the first of so many bytes.
-fn put_ff_in_two(alloc: Global, size: usize) -> Result<String, AllocError> {
+// The same in two pieces, the first of so many bytes.
+fn put_ff_in_two(rt: &impl Abort, alloc: Global, size: usize) {
     let mut receiver = Receiver::<Commands>::new(alloc);
     let mut text = String::new(alloc);
     let (first, second) = PUT_FF.split_at(size.min(18));
-    hear(alloc, &mut receiver, 0, first, &mut text)?;
-    hear(alloc, &mut receiver, size, second, &mut text)?;
-    Ok(text)
+    hear(rt, alloc, &mut receiver, 0, first, &mut text);
+    hear(rt, alloc, &mut receiver, size, second, &mut text);
+    same_at(rt, size, text.as_str(), PUT_FF_SHOWN);
 }
 
 // `put-ff-in-pieces`: cut in two at each place, and into pieces of each size.
 #[test]
-fn put_ff_in_pieces(rt: HostRuntime) -> Result<(), Fail> {
+fn put_ff_in_pieces(rt: HostRuntime) {
     for size in 1..19 {
-        let text = put_ff_by(&rt, rt.alloc(), size)?;
-        same_at(&rt, size, text.as_str(), PUT_FF_SHOWN);
+        put_ff_by(&rt, rt.alloc(), size);
     }
     for size in 0..19 {
-        let text = put_ff_in_two(rt.alloc(), size)?;
-        same_at(&rt, size, text.as_str(), PUT_FF_SHOWN);
+        put_ff_in_two(&rt, rt.alloc(), size);
     }
-    Ok(())
 }

@@ -1,8 +1,7 @@
 use crate::decoder_rows::{INVITE, PUT_FF, Wanted, made, steps_of};
-use crate::same;
-use std::alloc::{AllocError, Global};
+use crate::{same, same_at};
+use std::alloc::Global;
 use std::process::Abort;
-use std::test::Fail;
 use ws_code::{Fault, Reason};
 use ws_record::{Fed, Item, Live, Opcode, RawBody, Receiver, Step, Stepped};
 use ws_telnet::{CommandCode, Telnet};
@@ -39,58 +38,65 @@ struct Listener {
 }
 
 impl Listener {
-    // Feeds the piece up to its end, at last an empty one: false after a fault.
-    fn hear(&mut self, piece: &[u8]) -> Result<bool, AllocError> {
+    fn new(alloc: Global) -> Self {
+        Listener {
+            receiver: Receiver::new(alloc),
+            taken: 0,
+            items: Vec::new(alloc),
+            fault: None,
+        }
+    }
+
+    // Feeds the piece up to its end, at last an empty one, unless there was a fault.
+    fn hear(&mut self, rt: &impl Abort, piece: &[u8]) {
         let mut rest = piece;
         for _ in 0..20 {
+            if self.fault.is_some() {
+                return;
+            }
             match self.receiver.feed(rest) {
                 Ok(Fed { used, item }) => {
                     self.taken = self.taken.saturating_add(used as u64);
                     rest = &rest[used..];
                     match item {
-                        Some(item) => self.items.push((self.taken.saturating_sub(1), item))?,
-                        None => return Ok(true),
+                        Some(item) => self.note(rt, item),
+                        None => return,
                     }
                 }
-                Err(fault) => {
-                    self.fault = Some(fault);
-                    return Ok(false);
-                }
+                Err(fault) => self.fault = Some(fault),
             }
         }
-        Ok(true)
+    }
+
+    // An item ended with the last byte taken.
+    fn note(&mut self, rt: &impl Abort, item: Item<u8>) {
+        let place = self.taken.saturating_sub(1);
+        self.items.push((place, item)).expect(rt, "memory");
     }
 
     // Asks for the end: the number of bytes, or the fault.
     fn end(&mut self) -> Result<u64, Fault> {
-        if let Some(fault) = self.fault {
-            return Err(fault);
+        match (self.fault, self.receiver.finish()) {
+            (Some(fault), _) => Err(fault),
+            (None, Err(fault)) => Err(fault),
+            (None, Ok(())) => Ok(self.taken),
         }
-        self.receiver.finish()?;
-        Ok(self.taken)
     }
 }
 
 // What a receiver has heard of the bytes, cut so.
-fn heard(alloc: Global, bytes: &[u8], cut: Cut) -> Result<Listener, AllocError> {
-    let mut listener = Listener {
-        receiver: Receiver::new(alloc),
-        taken: 0,
-        items: Vec::new(alloc),
-        fault: None,
-    };
+fn heard(rt: &impl Abort, alloc: Global, bytes: &[u8], cut: Cut) -> Listener {
+    let mut listener = Listener::new(alloc);
     let mut piece = Vec::new(alloc);
     for (at, byte) in bytes.iter().enumerate() {
-        piece.push(*byte)?;
+        piece.push(*byte).expect(rt, "memory");
         if cut.is_behind(at) {
-            if !listener.hear(piece.as_slice())? {
-                return Ok(listener);
-            }
+            listener.hear(rt, piece.as_slice());
             piece.clear();
         }
     }
-    listener.hear(piece.as_slice())?;
-    Ok(listener)
+    listener.hear(rt, piece.as_slice());
+    listener
 }
 
 // Bytes by name, the items that they give with their places, and how many bytes they are or the fault.
@@ -151,12 +157,13 @@ const CUT: [Row; 6] = [
     ),
 ];
 
-fn all_made(alloc: Global, wanted: &[(u64, Wanted)]) -> Result<Vec<(u64, Item<u8>)>, Fail> {
+fn all_made(rt: &impl Abort, alloc: Global, wanted: &[(u64, Wanted)]) -> Vec<(u64, Item<u8>)> {
     let mut items = Vec::new(alloc);
     for (place, item) in wanted {
-        items.push((*place, made(alloc, *item)?))?;
+        let item = made(rt, alloc, *item);
+        items.push((*place, item)).expect(rt, "memory");
     }
-    Ok(items)
+    items
 }
 
 // What is heard of the bytes, cut so: the items, and the end.
@@ -167,42 +174,45 @@ fn expect_heard(
     bytes: &[u8],
     wanted: &[(u64, Item<u8>)],
     end: Result<u64, Fault>,
-) -> Result<(), AllocError> {
-    let mut found = heard(alloc, bytes, cut)?;
-    assert_eq!(rt; found.items.as_slice(), wanted, "{bytes:?}, {cut:?}");
-    assert_eq!(rt; found.end(), end, "{bytes:?}, {cut:?}");
-    Ok(())
+) {
+    let mut found = heard(rt, alloc, bytes, cut);
+    same_at(rt, (bytes, cut), found.items.as_slice(), wanted);
+    same_at(rt, (bytes, cut), found.end(), end);
 }
 
 // The same items at the same places, and the same end, however the bytes are cut.
 #[test]
-fn every_cut(rt: HostRuntime) -> Result<(), Fail> {
+fn every_cut(rt: HostRuntime) {
+    let alloc = rt.alloc();
     for (_row, bytes, wanted, end) in &CUT {
-        let wanted = all_made(rt.alloc(), wanted)?;
+        let items = all_made(&rt, alloc, wanted);
+        let items = items.as_slice();
         for size in 0..20 {
-            for cut in [Cut::Pieces(size), Cut::Two(size)] {
-                expect_heard(&rt, rt.alloc(), cut, bytes, wanted.as_slice(), *end)?;
-            }
+            expect_heard(&rt, alloc, Cut::Pieces(size), bytes, items, *end);
+            expect_heard(&rt, alloc, Cut::Two(size), bytes, items, *end);
         }
     }
-    let wanted = all_made(rt.alloc(), &[(13, Wanted::Record(Opcode::PutGet, b"\xff"))])?;
+    let one_ff = [(13, Wanted::Record(Opcode::PutGet, b"\xff"))];
+    let items = all_made(&rt, alloc, &one_ff);
     for bits in 0..0x2000 {
         let cut = Cut::Bits(bits);
-        expect_heard(&rt, rt.alloc(), cut, ONE_FF, wanted.as_slice(), Ok(14))?;
+        expect_heard(&rt, alloc, cut, ONE_FF, items.as_slice(), Ok(14));
     }
-    Ok(())
+}
+
+// A piece that a receiver refuses.
+fn feed_fails(rt: &impl Abort, receiver: &mut Receiver<RawBody>, piece: &[u8], fault: Fault) {
+    same(rt, receiver.feed(piece).err(), Some(fault));
 }
 
 #[test]
 fn failed_after_refusal(rt: HostRuntime) {
     let mut receiver = Receiver::<RawBody>::new(rt.alloc());
-    let refusal = Fault::Refused {
-        place: 1,
-        reason: Reason::LengthBelowHeader,
-    };
-    same(&rt, receiver.feed(b"\x00\x09").err(), Some(refusal));
-    same(&rt, receiver.feed(b"").err(), Some(Fault::Failed));
-    same(&rt, receiver.feed(b"\x00").err(), Some(Fault::Failed));
+    let (place, reason) = (1, Reason::LengthBelowHeader);
+    let refusal = Fault::Refused { place, reason };
+    feed_fails(&rt, &mut receiver, b"\x00\x09", refusal);
+    feed_fails(&rt, &mut receiver, b"", Fault::Failed);
+    feed_fails(&rt, &mut receiver, b"\x00", Fault::Failed);
     same(&rt, receiver.finish(), Err(Fault::Failed));
     failed_after_an_end(&rt);
 }
@@ -223,57 +233,72 @@ struct Watcher {
 }
 
 impl Watcher {
+    fn new(alloc: Global) -> Self {
+        Watcher {
+            live: Live::new(),
+            taken: 0,
+            steps: Vec::new(alloc),
+        }
+    }
+
     // Feeds the piece up to its end.
-    fn watch(&mut self, piece: &[u8]) -> Result<(), AllocError> {
+    fn watch(&mut self, rt: &impl Abort, piece: &[u8]) {
         let mut rest = piece;
         for _ in 0..20 {
             if rest.is_empty() {
-                return Ok(());
+                return;
             }
             let Stepped { used, step } = self.live.feed(rest);
             self.taken = self.taken.saturating_add(used);
             rest = &rest[used..];
             if !matches!(step, Step::More) {
-                self.steps.push((self.taken.saturating_sub(1), step))?;
+                let place = self.taken.saturating_sub(1);
+                self.steps.push((place, step)).expect(rt, "memory");
             }
         }
-        Ok(())
     }
 }
 
-// The steps of the bytes, cut so.
-fn watched(alloc: Global, bytes: &[u8], cut: Cut) -> Result<Vec<(usize, Step<u8>)>, AllocError> {
-    let mut watcher = Watcher {
-        live: Live::new(),
-        taken: 0,
-        steps: Vec::new(alloc),
-    };
+// What is watched of the bytes, cut so.
+fn watched(rt: &impl Abort, alloc: Global, bytes: &[u8], cut: Cut) -> Watcher {
+    let mut watcher = Watcher::new(alloc);
     let mut piece = Vec::new(alloc);
     for (at, byte) in bytes.iter().enumerate() {
-        piece.push(*byte)?;
+        piece.push(*byte).expect(rt, "memory");
         if cut.is_behind(at) {
-            watcher.watch(piece.as_slice())?;
+            watcher.watch(rt, piece.as_slice());
             piece.clear();
         }
     }
-    watcher.watch(piece.as_slice())?;
-    Ok(watcher.steps)
+    watcher.watch(rt, piece.as_slice());
+    watcher
+}
+
+// The steps of the bytes, cut so.
+fn expect_watched(
+    rt: &impl Abort,
+    alloc: Global,
+    cut: Cut,
+    bytes: &[u8],
+    wanted: &[(usize, Step<u8>)],
+) {
+    let found = watched(rt, alloc, bytes, cut);
+    same_at(rt, (bytes, cut), found.steps.as_slice(), wanted);
 }
 
 // The steps of single bytes, at the same places, however the bytes are cut; and bytes behind a step are left.
 #[test]
-fn steps_of_every_cut(rt: HostRuntime) -> Result<(), Fail> {
-    for (row, bytes, _wanted, _end) in &CUT {
-        let wanted = steps_of(rt.alloc(), bytes)?;
+fn steps_of_every_cut(rt: HostRuntime) {
+    let alloc = rt.alloc();
+    for (_row, bytes, _wanted, _end) in &CUT {
+        let steps = steps_of(&rt, alloc, bytes);
+        let steps = steps.as_slice();
         for size in 0..20 {
-            for cut in [Cut::Pieces(size), Cut::Two(size)] {
-                let found = watched(rt.alloc(), bytes, cut)?;
-                assert_eq!(rt; found, wanted, "{row}, {cut:?}");
-            }
+            expect_watched(&rt, alloc, Cut::Pieces(size), bytes, steps);
+            expect_watched(&rt, alloc, Cut::Two(size), bytes, steps);
         }
     }
     bytes_behind_a_step_are_left(&rt);
-    Ok(())
 }
 
 fn bytes_behind_a_step_are_left(rt: &impl Abort) {

@@ -27,13 +27,9 @@ const STREAM: &[u8] =
 
 // The items of the text make up the bytes.
 fn expect_stream(rt: &impl Abort, alloc: Global, text: &[u8], wanted: &[u8]) {
-    match read_items(alloc, text) {
-        Ok(items) => match encode::<Commands>(alloc, items.as_slice()) {
-            Ok(bytes) => same_bytes(rt, bytes.as_slice(), wanted),
-            Err(_) => assert!(rt; false),
-        },
-        Err(_) => assert!(rt; false),
-    }
+    let items = read_items(alloc, text).expect(rt, "items");
+    let bytes = encode::<Commands>(alloc, items.as_slice());
+    same_bytes(rt, bytes.expect(rt, "bytes").as_slice(), wanted);
 }
 
 #[test]

@@ -42,53 +42,71 @@ const ATTRIBUTES: [(u8, Color, &str); 32] = [
     (0x3f, Color::Green, "H"),
 ];
 
+fn expect_style(rt: &impl Abort, byte: u8, color: Color, marks: &str) {
+    let attribute = Attribute::from_byte(byte).expect(rt, "an attribute");
+    let style = Style {
+        color,
+        is_reversed: marks.contains('R'),
+        is_underscored: marks.contains('U'),
+        is_blinking: marks.contains('B'),
+        has_separators: marks.contains('S'),
+    };
+    same(rt, attribute.byte(), byte);
+    same_at(rt, byte, attribute.color(), style);
+    same_at(rt, byte, attribute.is_hidden(), marks == "H");
+}
+
 #[test]
 fn attributes_in_colour(rt: HostRuntime) {
-    for (byte, color, marks) in ATTRIBUTES {
-        let attribute = Attribute::from_byte(byte).expect(&rt, "an attribute");
-        let style = Style {
-            color,
-            is_reversed: marks.contains('R'),
-            is_underscored: marks.contains('U'),
-            is_blinking: marks.contains('B'),
-            has_separators: marks.contains('S'),
-        };
-        same(&rt, attribute.byte(), byte);
-        same_at(&rt, byte, attribute.color(), style);
-        same_at(&rt, byte, attribute.is_hidden(), marks == "H");
+    for (byte, color, marks) in &ATTRIBUTES {
+        expect_style(&rt, *byte, *color, marks);
     }
     same(&rt, Attribute::from_byte(0x1f), None);
     same(&rt, Attribute::from_byte(0x40), None);
 }
 
-// Reversed, intense and underscored by the low three bits, the attribute's low digit and the one that blinks.
+// Reversed, intense and underscored, by an attribute's low three bits.
+const LOW_BITS: [(u8, bool, bool, bool); 8] = [
+    (0, false, false, false),
+    (1, true, false, false),
+    (2, false, true, false),
+    (3, true, true, false),
+    (4, false, false, true),
+    (5, true, false, true),
+    (6, false, true, true),
+    (7, true, true, true),
+];
+
+// Blinking, and with column separators, by its other bits.
+const HIGH_BITS: [(u8, bool, bool); 4] = [
+    (0x20, false, false),
+    (0x28, true, false),
+    (0x30, false, true),
+    (0x38, true, true),
+];
+
+fn expect_low_bits(rt: &impl Abort, attribute: Attribute, bits: &(u8, bool, bool, bool)) {
+    let (low, reversed, intense, underscored) = *bits;
+    same(rt, attribute.is_reversed(), reversed);
+    same(rt, attribute.is_intense(), intense);
+    same(rt, attribute.is_underscored(), underscored);
+    same(rt, attribute.is_hidden(), low == 7);
+}
+
+fn expect_high_bits(rt: &impl Abort, attribute: Attribute, bits: &(u8, bool, bool)) {
+    let (_high, blinks, separates) = *bits;
+    same(rt, attribute.is_blinking(), blinks);
+    same(rt, attribute.has_separators(), separates);
+}
+
 #[test]
 fn attributes_in_monochrome(rt: HostRuntime) {
-    let low_bits = [
-        (0, false, false, false),
-        (1, true, false, false),
-        (2, false, true, false),
-        (3, true, true, false),
-        (4, false, false, true),
-        (5, true, false, true),
-        (6, false, true, true),
-        (7, true, true, true),
-    ];
-    let high_bits = [
-        (0x20, false, false),
-        (0x28, true, false),
-        (0x30, false, true),
-        (0x38, true, true),
-    ];
-    for (high, blinks, separates) in high_bits {
-        for (low, reversed, intense, underscored) in low_bits {
-            let attribute = Attribute::from_byte(high + low).expect(&rt, "an attribute");
-            same(&rt, attribute.is_reversed(), reversed);
-            same(&rt, attribute.is_intense(), intense);
-            same(&rt, attribute.is_underscored(), underscored);
-            same(&rt, attribute.is_blinking(), blinks);
-            same(&rt, attribute.has_separators(), separates);
-            same(&rt, attribute.is_hidden(), low == 7);
+    for high in &HIGH_BITS {
+        for low in &LOW_BITS {
+            let byte = high.0 | low.0;
+            let attribute = Attribute::from_byte(byte).expect(&rt, "an attribute");
+            expect_low_bits(&rt, attribute, low);
+            expect_high_bits(&rt, attribute, high);
         }
     }
 }
@@ -111,8 +129,8 @@ fn screen_with(rt: &impl Abort, runs: &[(u8, u8, &[u8])]) -> Screen {
 fn check_cells(rt: &impl Abort, screen: &Screen, cells: &[(u8, u8, char, u8)]) {
     for (row, col, character, byte) in cells {
         let cell = at(rt, *row, *col);
-        assert_eq!(rt; screen.shown(cell), *character, "{row} {col}");
-        assert_eq!(rt; screen.attribute_at(cell).byte(), *byte, "{row} {col}");
+        same_at(rt, (*row, *col), screen.shown(cell), *character);
+        same_at(rt, (*row, *col), screen.attribute_at(cell).byte(), *byte);
     }
 }
 
@@ -132,11 +150,16 @@ fn dup_in_a_hidden_part(rt: HostRuntime) {
         (24, 80, ' ', 0x22),
     ];
     check_cells(&rt, &screen, &cells);
-    let row = screen.row(2);
-    same(&rt, row[1].attribute, Attribute::default());
-    same(&rt, row[2].attribute.byte(), 0x22);
-    same(&rt, (row[2].character, row[3].character), ('*', 'B'));
+    expect_row(&rt, &screen);
     same(&rt, screen.line(2).as_str().trim_end(), "  *B");
+}
+
+// The second row of that screen.
+fn expect_row(rt: &impl Abort, screen: &Screen) {
+    let row = screen.row(2);
+    same(rt, row[1].attribute, Attribute::default());
+    same(rt, row[2].attribute.byte(), 0x22);
+    same(rt, (row[2].character, row[3].character), ('*', 'B'));
 }
 
 // An attribute in the last cell changes nothing at the first.
@@ -150,10 +173,15 @@ fn attribute_in_the_last_cell(rt: HostRuntime) {
         (24, 80, ' ', 0x21),
     ];
     check_cells(&rt, &screen, &cells);
+    expect_shown_cells(&rt, &screen);
+}
+
+// All cells of that screen at once.
+fn expect_shown_cells(rt: &impl Abort, screen: &Screen) {
     let mut shown = [Default::default(); 1920];
     screen.show_cells(Address::default(), &mut shown);
-    same(&rt, shown[0].character, 'A');
-    same(&rt, shown[1919].attribute.byte(), 0x20);
-    same(&rt, shown[1918].attribute.byte(), 0x21);
-    same(&rt, shown[1840], screen.row(24)[0]);
+    same(rt, shown[0].character, 'A');
+    same(rt, shown[1919].attribute.byte(), 0x20);
+    same(rt, shown[1918].attribute.byte(), 0x21);
+    same(rt, shown[1840], screen.row(24)[0]);
 }

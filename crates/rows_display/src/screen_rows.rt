@@ -1,4 +1,4 @@
-use crate::{same, same_at};
+use crate::{holds, same, same_at};
 use std::process::Abort;
 use ws_code::{Address, Aid, Body, Code, DataByte, Ffw, Reason};
 use ws_screen::{CellEdit, ReadKind, Screen, apply_elements};
@@ -50,10 +50,9 @@ fn screen_with(rt: &impl Abort, elements: &[Element]) -> Screen {
     screen
 }
 
-// Why a new screen refuses one of the elements.
-fn refusal(rt: &impl Abort, elements: &[Element]) -> Option<Reason> {
-    let mut screen = Screen::new();
-    apply_all(rt, &mut screen, elements)
+// Applies an element that isn't refused.
+fn applies(rt: &impl Abort, screen: &mut Screen, element: Element) {
+    same(rt, apply_all(rt, screen, &[element]), None);
 }
 
 // The length and the format word of the input field that holds a cell.
@@ -66,55 +65,57 @@ fn field_at(rt: &impl Abort, screen: &Screen, at: u16) -> Option<(u16, u16)> {
 fn full_table(rt: &impl Abort, descending: bool) -> Screen {
     let mut screen = screen_with(rt, &[begin()]);
     for count in 0..256u16 {
-        let at = if descending {
-            3 * (255 - count)
-        } else {
-            3 * count
-        };
-        let field = [Element::Sba(place(rt, at)), input(rt, 0x4000, 0x20, 1)];
-        let refused = apply_all(rt, &mut screen, &field);
-        same(rt, refused, None);
+        let number = if descending { 255 - count } else { count };
+        applies(rt, &mut screen, Element::Sba(place(rt, 3 * number)));
+        applies(rt, &mut screen, input(rt, 0x4000, 0x20, 1));
     }
     screen
 }
 
+// A screen with a field at its end, which is defined again.
+fn last_field_again(rt: &impl Abort) {
+    let first = [begin(), sba(rt, 24, 79), input(rt, 0x4000, 0x20, 1)];
+    let mut screen = screen_with(rt, &first);
+    same(rt, screen.cell(place(rt, 1918)), 0x20);
+    same(rt, screen.cell(place(rt, 1919)), 0x00);
+    same(rt, field_at(rt, &screen, 1919), Some((1, 0x4000)));
+    applies(rt, &mut screen, sba(rt, 24, 79));
+    applies(rt, &mut screen, input(rt, 0x4800, 0x20, 0));
+    same(rt, field_at(rt, &screen, 1919), Some((1, 0x4800)));
+    same(rt, screen.field_count(), 1);
+}
+
+// One field more than there may be, and one that is defined again.
+fn one_field_more(rt: &impl Abort) {
+    let mut full = full_table(rt, false);
+    let one_more = [Element::Sba(place(rt, 768)), input(rt, 0x4000, 0x20, 1)];
+    let refused = apply_all(rt, &mut full, &one_more);
+    same(rt, refused, Some(Reason::TableFull));
+    applies(rt, &mut full, Element::Sba(place(rt, 300)));
+    applies(rt, &mut full, input(rt, 0x4800, 0x20, 1));
+    same(rt, full.field_count(), 256);
+}
+
+// An input field, by the row and column of its attribute and its length, and why it is refused behind a field of ten
+// cells at 6, 53.
+const REFUSED_FIELDS: [(u8, u8, u16, Reason); 3] = [
+    (24, 79, 2, Reason::FieldPastEnd),
+    (24, 79, 0, Reason::ZeroLength),
+    (6, 54, 4, Reason::FieldOverlap),
+];
+
 #[test]
 fn field_limits(rt: HostRuntime) {
-    let mut screen = screen_with(
-        &rt,
-        &[begin(), sba(&rt, 24, 79), input(&rt, 0x4000, 0x20, 1)],
-    );
-    same(&rt, screen.cell(place(&rt, 1918)), 0x20);
-    same(&rt, screen.cell(place(&rt, 1919)), 0x00);
-    same(&rt, field_at(&rt, &screen, 1919), Some((1, 0x4000)));
-    let again = [sba(&rt, 24, 79), input(&rt, 0x4800, 0x20, 0)];
-    same(&rt, apply_all(&rt, &mut screen, &again), None);
-    same(&rt, field_at(&rt, &screen, 1919), Some((1, 0x4800)));
-    same(&rt, screen.field_count(), 1);
-
-    let too_long = [begin(), sba(&rt, 24, 79), input(&rt, 0x4000, 0x20, 2)];
-    same(&rt, refusal(&rt, &too_long), Some(Reason::FieldPastEnd));
-    let empty = [begin(), sba(&rt, 24, 79), input(&rt, 0x4000, 0x20, 0)];
-    same(&rt, refusal(&rt, &empty), Some(Reason::ZeroLength));
-    let overlapping = [
-        begin(),
-        sba(&rt, 6, 52),
-        input(&rt, 0x4000, 0x20, 10),
-        sba(&rt, 6, 54),
-        input(&rt, 0x4000, 0x20, 4),
-    ];
-    same(&rt, refusal(&rt, &overlapping), Some(Reason::FieldOverlap));
-
-    let mut full = full_table(&rt, false);
-    let one_more = [Element::Sba(place(&rt, 768)), input(&rt, 0x4000, 0x20, 1)];
-    same(
-        &rt,
-        apply_all(&rt, &mut full, &one_more),
-        Some(Reason::TableFull),
-    );
-    let held = [Element::Sba(place(&rt, 300)), input(&rt, 0x4800, 0x20, 1)];
-    same(&rt, apply_all(&rt, &mut full, &held), None);
-    same(&rt, full.field_count(), 256);
+    last_field_again(&rt);
+    for (row, col, length, reason) in &REFUSED_FIELDS {
+        let first = [begin(), sba(&rt, 6, 52), input(&rt, 0x4000, 0x20, 10)];
+        let mut screen = screen_with(&rt, &first);
+        applies(&rt, &mut screen, sba(&rt, *row, *col));
+        let field = input(&rt, 0x4000, 0x20, *length);
+        let refused = apply_all(&rt, &mut screen, &[field]);
+        same(&rt, refused, Some(*reason));
+    }
+    one_field_more(&rt);
 }
 
 #[test]
@@ -144,7 +145,7 @@ fn hidden_field_and_dup(rt: HostRuntime) {
     same(&rt, line.as_str().len(), 80);
     same(&rt, line.as_str().trim_end(), "     *a");
     same(&rt, screen.cursor().place(), 1);
-    assert!(rt; !screen.locked());
+    holds(&rt, !screen.locked());
 }
 
 #[test]
@@ -163,7 +164,7 @@ fn modified_nulled_and_locked(rt: HostRuntime) {
         same_at(&rt, at, screen.cell(place(&rt, at)), byte);
     }
     same(&rt, field_at(&rt, &screen, 1), Some((2, 0x4000)));
-    assert!(rt; screen.locked());
+    holds(&rt, screen.locked());
 }
 
 #[test]
@@ -178,50 +179,53 @@ fn backward_address(rt: HostRuntime) {
     }
 }
 
-// The codes of CC1 on open fields with MDT off and on, and on bypass fields with MDT off and on:
-// which fields are nulled, which MDTs are on afterwards, and the lock.
+// The format words of open fields with MDT off and on, and of bypass fields with MDT off and on, and their places.
+const CC1_FIELDS: [(u16, u16); 4] = [(0x4000, 1), (0x4800, 4), (0x6000, 7), (0x6800, 10)];
+
+// The codes of CC1, the bytes of these fields and their format words afterwards, and the lock.
+#[rattlefmt::skip]
+const CC1_CODES: [(u8, [u8; 4], [u16; 4], bool); 8] = [
+    (0, [0xC1, 0xC1, 0xC1, 0xC1], [0x4000, 0x4800, 0x6000, 0x6800], false),
+    (1, [0xC1, 0xC1, 0xC1, 0xC1], [0x4000, 0x4800, 0x6000, 0x6800], true),
+    (2, [0xC1, 0xC1, 0xC1, 0xC1], [0x4000, 0x4000, 0x6000, 0x6800], true),
+    (3, [0xC1, 0xC1, 0xC1, 0xC1], [0x4000, 0x4000, 0x6000, 0x6000], true),
+    (4, [0xC1, 0x00, 0xC1, 0xC1], [0x4000, 0x4800, 0x6000, 0x6800], true),
+    (5, [0x00, 0x00, 0xC1, 0xC1], [0x4000, 0x4000, 0x6000, 0x6800], true),
+    (6, [0xC1, 0x00, 0xC1, 0xC1], [0x4000, 0x4000, 0x6000, 0x6800], true),
+    (7, [0x00, 0x00, 0xC1, 0xC1], [0x4000, 0x4000, 0x6000, 0x6000], true),
+];
+
+// A screen with those fields, each of one cell with C1, on which the code of CC1 was written.
+fn screen_of_code(rt: &impl Abort, code: u8) -> Screen {
+    let mut screen = screen_with(rt, &[begin()]);
+    for (word, _place) in &CC1_FIELDS {
+        applies(rt, &mut screen, input(rt, *word, 0x20, 1));
+        applies(rt, &mut screen, put(rt, 0xC1));
+        applies(rt, &mut screen, put(rt, 0x40));
+    }
+    let cc1 = code << 5 | 31;
+    applies(rt, &mut screen, Element::Write { cc1, cc2: 0 });
+    screen
+}
+
 #[test]
 fn cc1_codes(rt: HostRuntime) {
-    let words = [0x4000, 0x4800, 0x6000, 0x6800];
-    let none = [false, false, false, false];
-    let modified = [false, true, false, false];
-    let open = [true, true, false, false];
-    let both = [false, true, false, true];
-    let bypass = [false, false, false, true];
-    let rows = [
-        (0, none, both, false),
-        (1, none, both, true),
-        (2, none, bypass, true),
-        (3, none, none, true),
-        (4, modified, both, true),
-        (5, open, bypass, true),
-        (6, modified, bypass, true),
-        (7, open, none, true),
-    ];
-    for (code, nulled, modified_after, locked) in rows {
-        let mut screen = screen_with(&rt, &[begin()]);
-        for word in words {
-            let field = [input(&rt, word, 0x20, 1), put(&rt, 0xC1), put(&rt, 0x40)];
-            same(&rt, apply_all(&rt, &mut screen, &field), None);
-        }
-        let cc1 = code * 32 + 31;
-        same(
-            &rt,
-            apply_all(&rt, &mut screen, &[Element::Write { cc1, cc2: 0 }]),
-            None,
-        );
-        same_at(&rt, code, screen.locked(), locked);
-        for (field, at) in [(0, 1), (1, 4), (2, 7), (3, 10)] {
-            let byte = if nulled[field] { 0x00 } else { 0xC1 };
-            assert_eq!(rt; screen.cell(place(&rt, at)), byte, "code {code} at {at}");
-            let (_, word) = field_at(&rt, &screen, at).expect(&rt, "a field");
-            assert_eq!(rt;
-                word / 0x800 % 2 == 1,
-                modified_after[field],
-                "code {code} at {at}"
-            );
+    for (code, bytes, words, locked) in &CC1_CODES {
+        let screen = screen_of_code(&rt, *code);
+        same_at(&rt, *code, screen.locked(), *locked);
+        for (index, (_word, at)) in CC1_FIELDS.iter().enumerate() {
+            let row = (*code, *at);
+            same_at(&rt, row, screen.cell(place(&rt, *at)), bytes[index]);
+            let field = field_at(&rt, &screen, *at);
+            same_at(&rt, row, field, Some((1, words[index])));
         }
     }
+}
+
+// An element, and the home behind it.
+fn expect_home(rt: &impl Abort, screen: &mut Screen, element: Element, home: u16) {
+    applies(rt, screen, element);
+    same(rt, screen.home().place(), home);
 }
 
 // The home after each element: where an Insert Cursor set it, else at the first cell of the first
@@ -230,82 +234,85 @@ fn cc1_codes(rt: HostRuntime) {
 fn homes(rt: HostRuntime) {
     let header = SohBytes::new(&[]).expect(&rt, "a header");
     let mut screen = screen_with(&rt, &[begin()]);
-    let rows = [
-        ([Element::Sba(place(&rt, 100))], 0),
-        ([input(&rt, 0x4000, 0x20, 1)], 101),
-        ([Element::Sba(place(&rt, 20))], 101),
-        ([input(&rt, 0x6000, 0x20, 1)], 101),
-        ([Element::Sba(place(&rt, 40))], 101),
-        ([input(&rt, 0x4000, 0x20, 1)], 41),
-        ([Element::Ic(place(&rt, 5))], 5),
-        ([Element::Soh(header)], 0),
-    ];
-    for (element, home) in &rows {
-        same(&rt, apply_all(&rt, &mut screen, element), None);
-        same(&rt, screen.home().place(), *home);
-    }
+    expect_home(&rt, &mut screen, Element::Sba(place(&rt, 100)), 0);
+    expect_home(&rt, &mut screen, input(&rt, 0x4000, 0x20, 1), 101);
+    expect_home(&rt, &mut screen, Element::Sba(place(&rt, 20)), 101);
+    expect_home(&rt, &mut screen, input(&rt, 0x6000, 0x20, 1), 101);
+    expect_home(&rt, &mut screen, Element::Sba(place(&rt, 40)), 101);
+    expect_home(&rt, &mut screen, input(&rt, 0x4000, 0x20, 1), 41);
+    expect_home(&rt, &mut screen, Element::Ic(place(&rt, 5)), 5);
+    expect_home(&rt, &mut screen, Element::Soh(header), 0);
+}
+
+// The lock, the message light, the blinking cursor, and whether a write goes on.
+fn states_are(rt: &impl Abort, screen: &Screen, states: [bool; 4]) {
+    same(rt, screen.locked(), states[0]);
+    same(rt, screen.message(), states[1]);
+    same(rt, screen.blink(), states[2]);
+    same(rt, screen.writing(), states[3]);
+}
+
+// The read that waits for a key.
+fn waits_for(rt: &impl Abort, screen: &Screen, read: Option<ReadKind>) {
+    same(rt, screen.pending(), read);
+}
+
+// A screen with a field of each kind, on which a write went on and ended.
+fn written_screen(rt: &impl Abort) -> Screen {
+    let mut screen = Screen::new();
+    states_are(rt, &screen, [true, false, false, false]);
+    same(rt, screen.cursor().place(), 0);
+    screen.begin_write(0, 0x19);
+    holds(rt, screen.writing());
+    let header = SohBytes::new(&[0, 0, 0, 0, 0x80, 0, 1]).expect(rt, "a header");
+    applies(rt, &mut screen, Element::Soh(header));
+    applies(rt, &mut screen, output(rt, 0x22, 3));
+    applies(rt, &mut screen, sba(rt, 2, 1));
+    applies(rt, &mut screen, input(rt, 0x4000, 0x20, 3));
+    applies(rt, &mut screen, Element::Ic(place(rt, 5)));
+    applies(rt, &mut screen, Element::Mc(place(rt, 7)));
+    let to = place(rt, 81);
+    let kinds = EraseList::new(&[0xFF]).expect(rt, "a type");
+    applies(rt, &mut screen, Element::Ea { to, kinds });
+    same(rt, screen.home().place(), 5);
+    screen.end_write();
+    states_are(rt, &screen, [false, true, true, false]);
+    same(rt, screen.cursor().place(), 7);
+    screen
+}
+
+// Another screen becomes as this one; its read is cancelled, and its message light turned off.
+fn assign_and_cancel(rt: &impl Abort, screen: &Screen) {
+    let mut other = Screen::new();
+    other.assign(screen);
+    same(rt, other.fields().as_slice(), screen.fields().as_slice());
+    waits_for(rt, &other, Some(ReadKind::Mdt));
+    other.cancel_read();
+    waits_for(rt, &other, None);
+    other.set_message(false);
+    holds(rt, other.locked());
+    holds(rt, !other.message());
 }
 
 // What the other orders, the reads, the opcodes and the end of a write do.
 #[test]
 fn states(rt: HostRuntime) {
-    let mut screen = Screen::new();
-    assert!(rt; screen.locked() && !screen.message() && !screen.blink() && !screen.writing());
-    same(&rt, screen.cursor().place(), 0);
-    screen.begin_write(0, 0x19);
-    assert!(rt; screen.writing());
-    let orders = [
-        Element::Soh(SohBytes::new(&[0, 0, 0, 0, 0x80, 0, 1]).expect(&rt, "a header")),
-        output(&rt, 0x22, 3),
-        sba(&rt, 2, 1),
-        input(&rt, 0x4000, 0x20, 3),
-        Element::Ic(place(&rt, 5)),
-        Element::Mc(place(&rt, 7)),
-        Element::Ea {
-            to: place(&rt, 81),
-            kinds: EraseList::new(&[0xFF]).expect(&rt, "a type"),
-        },
-    ];
-    same(&rt, apply_all(&rt, &mut screen, &orders), None);
-    same(&rt, screen.home().place(), 5);
-    screen.end_write();
-    assert!(rt; !screen.locked() && screen.message() && screen.blink() && !screen.writing());
-    same(&rt, screen.cursor().place(), 7);
-
-    let read = [Element::ReadMdt { cc1: 0x20, cc2: 0 }];
-    same(&rt, apply_all(&rt, &mut screen, &read), None);
-    same(&rt, screen.pending(), Some(ReadKind::Mdt));
-    let mut other = Screen::new();
-    other.assign(&screen);
-    same(&rt, other.fields().as_slice(), screen.fields().as_slice());
-    same(&rt, other.pending(), Some(ReadKind::Mdt));
-    other.cancel_read();
-    same(&rt, other.pending(), None);
-    other.set_message(false);
-    assert!(rt; other.locked() && !other.message());
-    let read = [Element::ReadInput { cc1: 0, cc2: 0 }];
-    same(&rt, apply_all(&rt, &mut screen, &read), None);
-    same(&rt, screen.pending(), Some(ReadKind::Input));
-    let read = [Element::ReadMdtAlternate {
-        cc1: 0x20,
-        cc2: 0x06,
-    }];
-    same(&rt, apply_all(&rt, &mut screen, &read), None);
-    same(&rt, screen.pending(), Some(ReadKind::MdtAlternate));
-    assert!(rt; screen.locked() && !screen.message());
-    same(
-        &rt,
-        apply_all(&rt, &mut screen, &[Element::ClearFormat]),
-        None,
-    );
-    same(&rt, screen.pending(), None);
+    let mut screen = written_screen(&rt);
+    applies(&rt, &mut screen, Element::ReadMdt { cc1: 0x20, cc2: 0 });
+    waits_for(&rt, &screen, Some(ReadKind::Mdt));
+    assign_and_cancel(&rt, &screen);
+    applies(&rt, &mut screen, Element::ReadInput { cc1: 0, cc2: 0 });
+    waits_for(&rt, &screen, Some(ReadKind::Input));
+    let read = Element::ReadMdtAlternate { cc1: 0x20, cc2: 6 };
+    applies(&rt, &mut screen, read);
+    waits_for(&rt, &screen, Some(ReadKind::MdtAlternate));
+    holds(&rt, screen.locked());
+    holds(&rt, !screen.message());
+    applies(&rt, &mut screen, Element::ClearFormat);
+    waits_for(&rt, &screen, None);
     same(&rt, screen.field_count(), 0);
     same(&rt, screen.cursor().place(), 7);
-    same(
-        &rt,
-        apply_all(&rt, &mut screen, &[Element::ClearUnit]),
-        None,
-    );
+    applies(&rt, &mut screen, Element::ClearUnit);
     same(&rt, screen.cursor().place(), 0);
     same(&rt, screen.line(1).as_str().trim_end(), "");
 }
@@ -321,40 +328,51 @@ impl CellEdit for Unchanged {
     fn carry_out(&self, _cells: &mut [u8]) {}
 }
 
-// A body on a screen, and what a key may do to it then.
-#[test]
-fn a_body_and_what_a_key_may_do(rt: HostRuntime) {
+// A screen with a body of a header and one field that is read.
+fn screen_with_body(rt: &impl Abort) -> Screen {
+    let header = SohBytes::new(&[0, 0, 0, 0, 0, 0, 4]).expect(rt, "a header");
     let body = [
         begin(),
-        Element::Soh(SohBytes::new(&[0, 0, 0, 0, 0, 0, 4]).expect(&rt, "a header")),
-        sba(&rt, 6, 52),
-        input(&rt, 0x4000, 0x20, 10),
+        Element::Soh(header),
+        sba(rt, 6, 52),
+        input(rt, 0x4000, 0x20, 10),
         Element::ReadMdtAlternate { cc1: 0, cc2: 0 },
     ];
     let mut screen = Screen::new();
     screen.end_write();
     let whole = is_body(&body);
     assert!(rt; whole);
-    same(&rt, apply_elements(&mut screen, &body), Ok(()));
-    screen.known();
-    let enter = Aid::from_byte(0xF1).expect(&rt, "Enter");
-    assert!(rt; screen.returns_data(enter));
-    let third = Aid::function(3).expect(&rt, "F3");
-    assert!(rt; !screen.returns_data(third));
+    same(rt, apply_elements(&mut screen, &body), Ok(()));
+    screen
+}
 
-    let field = screen.open_field().expect(&rt, "an open field");
+// The field at the cursor is edited and erased.
+fn edit_and_erase(rt: &impl Abort, screen: &mut Screen) {
+    let field = screen.open_field().expect(rt, "an open field");
     let on_screen = field.start.place() as u32 + field.length as u32 <= 1920;
     assert!(rt; on_screen);
-    same(&rt, screen.field_cells(&field), [0; 10].as_slice());
-    screen.edit_field(&field, &Unchanged, place(&rt, 453));
-    same(&rt, field_at(&rt, &screen, 452), Some((10, 0x4800)));
-    same(&rt, screen.cursor().place(), 453);
-    screen.move_cursor(place(&rt, 7));
-    same(&rt, screen.cursor().place(), 7);
+    same(rt, screen.field_cells(&field), [0; 10].as_slice());
+    screen.edit_field(&field, &Unchanged, place(rt, 453));
+    same(rt, field_at(rt, screen, 452), Some((10, 0x4800)));
+    same(rt, screen.cursor().place(), 453);
+    screen.move_cursor(place(rt, 7));
+    same(rt, screen.cursor().place(), 7);
     screen.erase_input();
-    same(&rt, field_at(&rt, &screen, 452), Some((10, 0x4000)));
-    same(&rt, screen.cursor().place(), 452);
+    same(rt, field_at(rt, screen, 452), Some((10, 0x4000)));
+    same(rt, screen.cursor().place(), 452);
+}
+
+// A body on a screen, and what a key may do to it then.
+#[test]
+fn a_body_and_what_a_key_may_do(rt: HostRuntime) {
+    let mut screen = screen_with_body(&rt);
+    screen.known();
+    let enter = Aid::from_byte(0xF1).expect(&rt, "Enter");
+    holds(&rt, screen.returns_data(enter));
+    let third = Aid::function(3).expect(&rt, "F3");
+    holds(&rt, !screen.returns_data(third));
+    edit_and_erase(&rt, &mut screen);
     screen.answer_read();
-    assert!(rt; screen.locked());
-    same(&rt, screen.pending(), None);
+    holds(&rt, screen.locked());
+    waits_for(&rt, &screen, None);
 }

@@ -1,5 +1,6 @@
 // Screens that a host's bytes make, for rows of several files.
 
+use crate::holds;
 use std::process::Abort;
 use ws_code::{Address, Aid, Body, Code, Push};
 use ws_keys::Key;
@@ -26,8 +27,7 @@ fn first_element(place: Place, bytes: &[u8]) -> Option<(Element, usize)> {
 pub fn apply(rt: &impl Abort, screen: &mut Screen, element: &Element) {
     let may_follow = Commands::may_follow(Commands::first(), element) || screen.writing();
     assert!(rt; may_follow);
-    let applied = screen.apply(element);
-    assert!(rt; applied.is_ok());
+    holds(rt, screen.apply(element).is_ok());
 }
 
 // A new screen to which a host's body was applied, and its write ended.

@@ -1,7 +1,7 @@
 // What a host reads from answers, and from the contents of signed numeric fields.
 
-use crate::same;
 use crate::screens::{ONE_FIELD, apply, one_field, screen_with, two_fields};
+use crate::{holds, same, same_at, same_bytes};
 use std::alloc::Global;
 use std::process::Abort;
 use ws_code::{Address, Aid, Code, DataByte, Ffw, Push, Reason};
@@ -23,8 +23,7 @@ fn first_part(place: AnswerPlace, bytes: &[u8]) -> Option<(AnswerPart, usize)> {
 }
 
 fn put(rt: &impl Abort, parts: &mut Vec<AnswerPart>, part: AnswerPart) {
-    let pushed = parts.push(part);
-    assert!(rt; pushed.is_ok());
+    parts.push(part).expect(rt, "memory");
 }
 
 // The parts of an answer's body.
@@ -43,8 +42,7 @@ fn parts_of(rt: &impl Abort, alloc: Global, body: &[u8]) -> Vec<AnswerPart> {
 }
 
 fn put_byte(rt: &impl Abort, bytes: &mut Vec<u8>, byte: u8) {
-    let pushed = bytes.push(byte);
-    assert!(rt; pushed.is_ok());
+    bytes.push(byte).expect(rt, "memory");
 }
 
 fn put_place(rt: &impl Abort, bytes: &mut Vec<u8>, place: Address) {
@@ -62,9 +60,7 @@ fn listing(rt: &impl Abort, alloc: Global, answer: &HostAnswer) -> Vec<u8> {
         let content = field.content.as_slice();
         assert!(rt; content.len() < 256);
         put_byte(rt, &mut bytes, content.len() as u8);
-        for byte in content {
-            put_byte(rt, &mut bytes, *byte);
-        }
+        bytes.extend_from_slice(content).expect(rt, "memory");
     }
     bytes
 }
@@ -75,8 +71,7 @@ fn expect_read(rt: &impl Abort, alloc: Global, host: &[u8], answer: &[u8], read:
     let kind = screen.pending().expect(rt, "a read");
     let parts = parts_of(rt, alloc, answer);
     let fields = split_answer(alloc, &screen, kind, parts.as_slice()).expect(rt, "an answer");
-    let found = listing(rt, alloc, &fields);
-    same(rt, found.as_slice(), read);
+    same_bytes(rt, listing(rt, alloc, &fields).as_slice(), read);
 }
 
 #[test]
@@ -85,13 +80,8 @@ fn split_bob(rt: HostRuntime) {
     let answer = [0x06, 0x38, 0xF1, 0x11, 0x06, 0x35, 0xC2, 0xD6, 0xC2];
     let read = [0x06, 0x38, 0xF1, 0x06, 0x35, 3, 0xC2, 0xD6, 0xC2];
     expect_read(&rt, alloc, &ONE_FIELD, &answer, &read);
-    expect_mismatch(
-        &rt,
-        alloc,
-        &screen_with(&rt, &ONE_FIELD),
-        ReadKind::Mdt,
-        b"HB",
-    );
+    let screen = screen_with(&rt, &ONE_FIELD);
+    expect_mismatch(&rt, alloc, &screen, ReadKind::Mdt, b"HB");
 }
 
 #[test]
@@ -171,48 +161,51 @@ fn expect_mismatch(
     }
     let read = split_answer(alloc, screen, kind, parts.as_slice());
     let refused = matches!(read, Err(HostFault::Reason(Reason::AnswerMismatch)));
-    assert!(rt; refused);
+    same_at(rt, letters, refused, true);
 }
+
+const MISMATCHES_OF_MODIFIED_FIELDS: [&[u8]; 11] = [
+    // no head, or not first
+    b"", b"EB", b"BH",
+    // a second head
+    b"HH", b"HEBH",
+    // a byte before the first address
+    b"HB", b"HBE",
+    // no field starts there
+    b"HXB",
+    // addresses that don't ascend
+    b"HLE", b"HEE",
+    // more than the field's cells
+    b"HEBBBBB",
+];
 
 #[test]
 fn mismatches_of_modified_fields(rt: HostRuntime) {
     let alloc = rt.alloc();
     let screen = screen_with(&rt, &two_fields(0x48, 0x48, 0x52));
-    let mdt = ReadKind::Mdt;
-    // no head, or not first
-    expect_mismatch(&rt, alloc, &screen, mdt, b"");
-    expect_mismatch(&rt, alloc, &screen, mdt, b"EB");
-    expect_mismatch(&rt, alloc, &screen, mdt, b"BH");
-    // a second head
-    expect_mismatch(&rt, alloc, &screen, mdt, b"HH");
-    expect_mismatch(&rt, alloc, &screen, mdt, b"HEBH");
-    // a byte before the first address
-    expect_mismatch(&rt, alloc, &screen, mdt, b"HB");
-    expect_mismatch(&rt, alloc, &screen, mdt, b"HBE");
-    // no field starts there
-    expect_mismatch(&rt, alloc, &screen, mdt, b"HXB");
-    // addresses that don't ascend
-    expect_mismatch(&rt, alloc, &screen, mdt, b"HLE");
-    expect_mismatch(&rt, alloc, &screen, mdt, b"HEE");
-    // more than the field's cells, or than its digit cells
-    expect_mismatch(&rt, alloc, &screen, mdt, b"HEBBBBB");
-    expect_mismatch(&rt, alloc, &screen, ReadKind::MdtAlternate, b"HEBBBBB");
+    for letters in &MISMATCHES_OF_MODIFIED_FIELDS {
+        expect_mismatch(&rt, alloc, &screen, ReadKind::Mdt, letters);
+    }
+    let alternate = ReadKind::MdtAlternate;
+    expect_mismatch(&rt, alloc, &screen, alternate, b"HEBBBBB");
+    // more than the field's digit cells
     let signed = screen_with(&rt, &one_field(0x47, 0x00, 2, 0x52));
-    expect_mismatch(&rt, alloc, &signed, mdt, b"HLBB");
+    expect_mismatch(&rt, alloc, &signed, ReadKind::Mdt, b"HLBB");
 }
+
+const MISMATCHES_OF_ALL_INPUT: [&[u8]; 5] = [
+    // a byte too few, a byte too many
+    b"HB", b"HBBB",
+    // an address, a second head, no head
+    b"HLBB", b"HBBH", b"BB",
+];
 
 #[test]
 fn mismatches_of_all_input(rt: HostRuntime) {
-    let alloc = rt.alloc();
     let screen = screen_with(&rt, &one_field(0x48, 0x00, 2, 0x42));
-    let input = ReadKind::Input;
-    // a byte too few, a byte too many
-    expect_mismatch(&rt, alloc, &screen, input, b"HB");
-    expect_mismatch(&rt, alloc, &screen, input, b"HBBB");
-    // an address, a second head, no head
-    expect_mismatch(&rt, alloc, &screen, input, b"HLBB");
-    expect_mismatch(&rt, alloc, &screen, input, b"HBBH");
-    expect_mismatch(&rt, alloc, &screen, input, b"BB");
+    for letters in &MISMATCHES_OF_ALL_INPUT {
+        expect_mismatch(&rt, rt.alloc(), &screen, ReadKind::Input, letters);
+    }
 }
 
 // A new screen with fields of the same length, so many places apart, all of them modified.
@@ -286,12 +279,12 @@ fn signed_contents(rt: HostRuntime) {
     expect_number(&rt, &[0xF0, 0xF0, 0xF1, 0xD2], true, &[0, 0, 1, 2]);
     expect_number(&rt, &[], false, &[]);
     expect_number(&rt, &[0x40; 1918], false, &[]);
-    assert!(rt; decode_signed(&[0x40; 1919]).is_none());
+    holds(&rt, decode_signed(&[0x40; 1919]).is_none());
 }
 
 #[test]
 fn blank_after_digit(rt: HostRuntime) {
-    assert!(rt; decode_signed(&[0xF1, 0x40]).is_none());
-    assert!(rt; decode_signed(&[0xD1, 0xF2]).is_none());
-    assert!(rt; decode_signed(&[0x00, 0xF2]).is_none());
+    holds(&rt, decode_signed(&[0xF1, 0x40]).is_none());
+    holds(&rt, decode_signed(&[0xD1, 0xF2]).is_none());
+    holds(&rt, decode_signed(&[0x00, 0xF2]).is_none());
 }

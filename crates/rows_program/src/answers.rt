@@ -2,22 +2,19 @@
 use crate::same_at;
 use std::net::{Net, TcpListener, TcpStream};
 use std::process::Abort;
-use std::test::Fail;
 use ws_code::{Sink, VecSink};
 use ws_live::BufferedSink;
 use ws_program::{RunFault, answer, answer_buffered, status};
 use ws_words::{Task, read_words};
 
 // What the program comes to, and what the sink is given.
-pub fn answer_words<R: Net<Listener = TcpListener, Stream = TcpStream> + AllocGlobal, S: Sink>(
-    rt: &R,
-    words: &[&str],
-    input: &[u8],
-    sink: &mut S,
-) -> Result<Result<bool, RunFault>, Fail> {
-    match read_words(rt.alloc(), words)? {
-        Task::Input(asked) => Ok(answer(rt, rt.alloc(), asked, input, sink)),
-        Task::Live(_) => Err("a live session".into()),
+pub fn answer_words<
+    R: Net<Listener = TcpListener, Stream = TcpStream> + Abort + AllocGlobal,
+    S: Sink,
+>(rt: &R, words: &[&str], input: &[u8], sink: &mut S) -> Result<bool, RunFault> {
+    match read_words(rt.alloc(), words) {
+        Ok(Task::Input(asked)) => answer(rt, rt.alloc(), asked, input, sink),
+        _ => panic!(rt; "an input is asked for"),
     }
 }
 
@@ -28,12 +25,26 @@ pub fn expect_answer<R: Net<Listener = TcpListener, Stream = TcpStream> + Abort 
     input: &str,
     outcome: Result<bool, RunFault>,
     written: &str,
-) -> Result<(), Fail> {
+) {
     let mut sink = VecSink::new(rt.alloc());
-    let found = answer_words(rt, words, input.as_bytes(), &mut sink)?;
+    let found = answer_words(rt, words, input.as_bytes(), &mut sink);
     same_at(rt, input, found, outcome);
     same_at(rt, input, sink.as_slice(), written.as_bytes());
-    Ok(())
+}
+
+// What the program comes to that writes through a buffer, and the buffer.
+pub fn buffered_outcome<
+    R: Net<Listener = TcpListener, Stream = TcpStream> + Abort + AllocGlobal,
+    S: Sink,
+>(rt: &R, words: &[&str], input: &str, sink: S) -> (Result<bool, RunFault>, BufferedSink<S>) {
+    let mut buffer = BufferedSink::new(sink);
+    match read_words(rt.alloc(), words) {
+        Ok(Task::Input(asked)) => {
+            let outcome = answer_buffered(rt, rt.alloc(), asked, input.as_bytes(), &mut buffer);
+            (outcome, buffer)
+        }
+        _ => panic!(rt; "an input is asked for"),
+    }
 }
 
 // What the program writes through its buffer, where all goes well.
@@ -41,15 +52,12 @@ pub fn buffered_answer<R: Net<Listener = TcpListener, Stream = TcpStream> + Abor
     rt: &R,
     words: &[&str],
     input: &str,
-) -> Result<VecSink, Fail> {
-    let Task::Input(asked) = read_words(rt.alloc(), words)? else {
-        return Err("a live session".into());
-    };
-    let mut sink = BufferedSink::new(VecSink::new(rt.alloc()));
-    let outcome = answer_buffered(rt, rt.alloc(), asked, input.as_bytes(), &mut sink);
+) -> VecSink {
+    let sink = VecSink::new(rt.alloc());
+    let (outcome, buffer) = buffered_outcome(rt, words, input, sink);
     same_at(rt, input, status(&outcome), 0);
     same_at(rt, input, outcome, Ok(true));
-    Ok(sink.into_inner())
+    buffer.into_inner()
 }
 
 // Expects what the program writes through its buffer.
@@ -58,8 +66,7 @@ pub fn expect_buffered<R: Net<Listener = TcpListener, Stream = TcpStream> + Abor
     words: &[&str],
     input: &str,
     written: &str,
-) -> Result<(), Fail> {
-    let sink = buffered_answer(rt, words, input)?;
-    assert_eq!(rt; sink.as_slice(), written.as_bytes(), "{words:?} {input}");
-    Ok(())
+) {
+    let sink = buffered_answer(rt, words, input);
+    same_at(rt, (words, input), sink.as_slice(), written.as_bytes());
 }

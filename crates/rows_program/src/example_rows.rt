@@ -1,12 +1,9 @@
 // The scripts and captures of examples/, letter for letter, and what the program prints of each. `examples/run.sh` looks
 // whether they still are the same.
-use crate::answers::{buffered_answer, expect_buffered};
+use crate::answers::{buffered_answer, buffered_outcome, expect_buffered};
 use crate::same_at;
-use std::test::Fail;
 use ws_code::FailingSink;
-use ws_live::BufferedSink;
-use ws_program::{RunFault, answer_buffered, hex_bytes};
-use ws_words::{Task, read_words};
+use ws_program::{RunFault, hex_bytes};
 
 // A script and its lines with the screen; a capture of what its host sends, and what `check` and `show` print of it.
 struct Example<'a> {
@@ -223,77 +220,74 @@ at 55 record flags 0000 opcode 3
   HEAD 3 20 33
 ";
 
+const CHECK: &[&str] = &["t5250", "check"];
+
+const CHECK_CUT: &[&str] = &["t5250", "check", "--cut", "1"];
+
+const SHOW: &[&str] = &["t5250", "show"];
+
+const PLAY: &[&str] = &["t5250", "play", "--screen"];
+
+const PLAY_OVER_TCP: &[&str] = &["t5250", "play", "--tcp", "--screen"];
+
+const MAKE: &[&str] = &["t5250", "make"];
+
+const RUNS_OF_ANSWERS: [(&[&str], &str); 3] = [
+    (&["t5250", "check", "--answers"], ANSWERS_CHECKED),
+    (
+        &["t5250", "check", "--answers", "--cut", "1"],
+        ANSWERS_CHECKED,
+    ),
+    (&["t5250", "show", "--answers"], ANSWERS_SHOWN),
+];
+
 #[test]
-fn answers_print_their_lines(rt: HostRuntime) -> Result<(), Fail> {
-    let runs: [(&[&str], &str); 3] = [
-        (&["t5250", "check", "--answers"], ANSWERS_CHECKED),
-        (
-            &["t5250", "check", "--answers", "--cut", "1"],
-            ANSWERS_CHECKED,
-        ),
-        (&["t5250", "show", "--answers"], ANSWERS_SHOWN),
-    ];
-    for (words, wanted) in &runs {
-        expect_buffered(&rt, words, ANSWERS, wanted)?;
+fn answers_print_their_lines(rt: HostRuntime) {
+    for (words, wanted) in &RUNS_OF_ANSWERS {
+        expect_buffered(&rt, words, ANSWERS, wanted);
     }
-    Ok(())
 }
 
 #[test]
-fn examples_print_their_lines(rt: HostRuntime) -> Result<(), Fail> {
-    let played: [&[&str]; 2] = [
-        &["t5250", "play", "--screen"],
-        &["t5250", "play", "--tcp", "--screen"],
-    ];
-    let checked: [&[&str]; 2] = [&["t5250", "check"], &["t5250", "check", "--cut", "1"]];
+fn examples_print_their_lines(rt: HostRuntime) {
     for example in &EXAMPLES {
-        for words in &played {
-            expect_buffered(&rt, words, example.script, example.played)?;
-        }
-        for words in &checked {
-            expect_buffered(&rt, words, example.capture, example.checked)?;
-        }
-        expect_buffered(&rt, &["t5250", "show"], example.capture, example.shown)?;
+        expect_buffered(&rt, PLAY, example.script, example.played);
+        expect_buffered(&rt, PLAY_OVER_TCP, example.script, example.played);
+        expect_buffered(&rt, CHECK, example.capture, example.checked);
+        expect_buffered(&rt, CHECK_CUT, example.capture, example.checked);
+        expect_buffered(&rt, SHOW, example.capture, example.shown);
     }
-    Ok(())
 }
 
 // What `make` makes of the lines of `show` is the capture, which is laid out otherwise.
 #[test]
-fn shown_lines_make_their_capture(rt: HostRuntime) -> Result<(), Fail> {
+fn shown_lines_make_their_capture(rt: HostRuntime) {
+    let alloc = rt.alloc();
     for example in &EXAMPLES {
-        let sink = buffered_answer(&rt, &["t5250", "make"], example.shown)?;
-        let made = hex_bytes(rt.alloc(), sink.as_slice())?;
-        let wanted = hex_bytes(rt.alloc(), example.capture.as_bytes())?;
-        same_at(&rt, example.shown, made.as_slice(), wanted.as_slice());
+        let sink = buffered_answer(&rt, MAKE, example.shown);
+        let made = hex_bytes(alloc, sink.as_slice());
+        let wanted = hex_bytes(alloc, example.capture.as_bytes());
+        same_at(&rt, example.shown, made.is_ok(), true);
+        same_at(&rt, example.shown, made, wanted);
     }
-    Ok(())
 }
 
 // A sink behind the buffer takes one byte a write, and fails after so many: what went out is the line's front.
 #[test]
-fn buffered_line_fails(rt: HostRuntime) -> Result<(), Fail> {
+fn buffered_line_fails(rt: HostRuntime) {
     let line = b"accepted: 0 records, 0 commands, 0 bytes\n".as_slice();
-    for calls in 0..=41u64 {
-        let Task::Input(asked) = read_words(rt.alloc(), &["t5250", "check"])? else {
-            return Err("a live session".into());
-        };
-        let mut sink = BufferedSink::new(FailingSink::new(rt.alloc(), calls));
-        let outcome = answer_buffered(&rt, rt.alloc(), asked, b"", &mut sink);
+    for calls in 0..=41u8 {
+        let sink = FailingSink::new(rt.alloc(), u64::from(calls));
+        let (outcome, mut buffer) = buffered_outcome(&rt, CHECK, "", sink);
         let wanted = if calls < 41 {
             Err(RunFault::Write)
         } else {
             Ok(true)
         };
         same_at(&rt, calls, outcome, wanted);
-        same_at(&rt, calls, sink.flush(), Ok(()));
-        let sink = sink.into_inner();
-        same_at(
-            &rt,
-            calls,
-            Some(sink.as_slice()),
-            line.get(..calls as usize),
-        );
+        same_at(&rt, calls, buffer.flush(), Ok(()));
+        let written = buffer.into_inner();
+        let front = line.get(..usize::from(calls));
+        same_at(&rt, calls, Some(written.as_slice()), front);
     }
-    Ok(())
 }

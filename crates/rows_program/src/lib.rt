@@ -31,23 +31,35 @@ fn same<T: PartialEq + std::fmt::Debug + Drop>(rt: &impl std::process::Abort, fo
 
 // The same, and tells the row.
 #[cfg(test)]
-fn same_at<N: std::fmt::Display + Drop, T: PartialEq + std::fmt::Debug + Drop>(
+fn same_at<N: std::fmt::Debug + Drop, T: PartialEq + std::fmt::Debug + Drop>(
     rt: &impl std::process::Abort,
     row: N,
     found: T,
     wanted: T,
 ) {
-    assert_eq!(rt; found, wanted, "{row}");
+    assert_eq!(rt; found, wanted, "{row:?}");
 }
 
 // Expects the same bytes.
 #[cfg(test)]
 fn same_bytes(rt: &impl std::process::Abort, found: &[u8], wanted: &[u8]) {
-    assert_eq!(rt; found, wanted);
+    same(rt, found, wanted);
 }
 
 // Expects that something holds.
 #[cfg(test)]
 fn holds(rt: &impl std::process::Abort, fact: bool) {
     assert!(rt; fact);
+}
+
+// Expects that what is told has this text.
+#[cfg(test)]
+fn says<T: std::fmt::Display + Drop>(
+    rt: &impl std::process::Abort,
+    alloc: std::alloc::Global,
+    told: T,
+    text: &str,
+) {
+    let found = told.to_string(alloc).expect(rt, "memory");
+    same(rt, found.as_str(), text);
 }

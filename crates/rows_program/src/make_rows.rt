@@ -1,7 +1,6 @@
 // Items as text through the program's own call: streams of hex, and texts that have a bad line.
 use crate::answers::{answer_words, expect_answer};
 use crate::{holds, same, same_at, same_bytes};
-use std::test::Fail;
 use ws_code::{FailingSink, VecSink};
 use ws_program::{RunFault, answer};
 use ws_words::Asked;
@@ -30,11 +29,10 @@ const STREAMS: [(&str, &str); 7] = [
 ];
 
 #[test]
-fn streams_from_text(rt: HostRuntime) -> Result<(), Fail> {
+fn streams_from_text(rt: HostRuntime) {
     for (text, wanted) in &STREAMS {
-        expect_answer(&rt, MAKE, text, Ok(true), wanted)?;
+        expect_answer(&rt, MAKE, text, Ok(true), wanted);
     }
-    Ok(())
 }
 
 const ANSWERS: [(&str, &str); 5] = [
@@ -56,11 +54,10 @@ const ANSWERS: [(&str, &str); 5] = [
 
 // What `show --answers` prints of the example's answers, and other forms.
 #[test]
-fn answers_from_text(rt: HostRuntime) -> Result<(), Fail> {
+fn answers_from_text(rt: HostRuntime) {
     for (text, wanted) in &ANSWERS {
-        expect_answer(&rt, MAKE_ANSWERS, text, Ok(true), wanted)?;
+        expect_answer(&rt, MAKE_ANSWERS, text, Ok(true), wanted);
     }
-    Ok(())
 }
 
 const BAD_LINES_OF_ANSWERS: [(&str, u64); 21] = [
@@ -89,11 +86,10 @@ const BAD_LINES_OF_ANSWERS: [(&str, u64); 21] = [
 
 // The same line rules, and where the parts of an answer can't stand.
 #[test]
-fn bad_lines_of_answers(rt: HostRuntime) -> Result<(), Fail> {
+fn bad_lines_of_answers(rt: HostRuntime) {
     for (text, line) in &BAD_LINES_OF_ANSWERS {
-        expect_answer(&rt, MAKE_ANSWERS, text, Err(RunFault::Line(*line)), "")?;
+        expect_answer(&rt, MAKE_ANSWERS, text, Err(RunFault::Line(*line)), "");
     }
-    Ok(())
 }
 
 const BAD_LINES_OF_TEXT: [(&str, u64); 8] = [
@@ -109,33 +105,28 @@ const BAD_LINES_OF_TEXT: [(&str, u64); 8] = [
 
 // Nothing is written before a bad line is met.
 #[test]
-fn bad_lines_of_text(rt: HostRuntime) -> Result<(), Fail> {
+fn bad_lines_of_text(rt: HostRuntime) {
     for (text, line) in &BAD_LINES_OF_TEXT {
-        expect_answer(&rt, MAKE, text, Err(RunFault::Line(*line)), "")?;
+        expect_answer(&rt, MAKE, text, Err(RunFault::Line(*line)), "");
     }
-    Ok(())
 }
 
 // A sink that takes one byte a write, and fails after so many.
 #[test]
-fn made_line_fails(rt: HostRuntime) -> Result<(), Fail> {
-    for calls in 0..=5u64 {
-        let mut sink = FailingSink::new(rt.alloc(), calls);
-        let outcome = answer_words(&rt, MAKE, b"telnet NOP", &mut sink)?;
+fn made_line_fails(rt: HostRuntime) {
+    let line = b"FFF1\n".as_slice();
+    for calls in 0..=5u8 {
+        let mut sink = FailingSink::new(rt.alloc(), u64::from(calls));
+        let outcome = answer_words(&rt, MAKE, b"telnet NOP", &mut sink);
         let wanted = if calls < 5 {
             Err(RunFault::Write)
         } else {
             Ok(true)
         };
         same_at(&rt, calls, outcome, wanted);
-        same_at(
-            &rt,
-            calls,
-            Some(sink.as_slice()),
-            b"FFF1\n".get(..calls as usize),
-        );
+        let front = line.get(..usize::from(calls));
+        same_at(&rt, calls, Some(sink.as_slice()), front);
     }
-    Ok(())
 }
 
 // Here no growth is refused; tests/run_without_memory.py runs this with each one refused in turn.

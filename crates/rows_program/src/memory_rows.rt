@@ -3,7 +3,7 @@
 // tests with each one refused in turn, so nothing here rests on memory, but what a call under test gave.
 use crate::{holds, same, same_bytes};
 use arrayvec::ArrayVec;
-use std::alloc::{AllocError, Global};
+use std::alloc::Global;
 use std::process::Abort;
 use ws_code::{Address, Aid, DataByte, Fault, Ffw, List, SliceSource, VecSink, WriteSink};
 use ws_keys::{HostAnswer, HostFault, Key};
@@ -198,23 +198,29 @@ fn host_end_within_memory(rt: HostRuntime) {
     push_within(&rt, &mut host);
 }
 
+// The elements of `bob` in a list, where there is memory for it.
+fn form_list(rt: &impl Abort, alloc: Global) -> Option<List<Element>> {
+    match Vec::from_array(alloc, form(rt)) {
+        Ok(elements) => Some(List::of(elements)),
+        Err(_) => None,
+    }
+}
+
 // An opening, `bob`'s form and Enter.
-fn moves(rt: &impl Abort, alloc: Global) -> Result<Vec<Move>, AllocError> {
-    let mut moves = Vec::new(alloc);
-    for _delivery in 0..3u8 {
-        moves.push(Move::ToStation(usize::MAX))?;
-        moves.push(Move::ToHost(usize::MAX))?;
-    }
-    let mut body = Vec::new(alloc);
-    for element in form(rt) {
-        body.push(element)?;
-    }
-    moves.push(Move::Send(Opcode::PutGet, List::of(body)))?;
-    moves.push(Move::ToStation(usize::MAX))?;
+fn moves(rt: &impl Abort, form: List<Element>) -> [Move; 10] {
     let enter = Aid::from_byte(0xf1).expect(rt, "a key");
-    moves.push(Move::Key(Key::Aid(enter)))?;
-    moves.push(Move::ToHost(usize::MAX))?;
-    Ok(moves)
+    [
+        Move::ToStation(usize::MAX),
+        Move::ToHost(usize::MAX),
+        Move::ToStation(usize::MAX),
+        Move::ToHost(usize::MAX),
+        Move::ToStation(usize::MAX),
+        Move::ToHost(usize::MAX),
+        Move::Send(Opcode::PutGet, form),
+        Move::ToStation(usize::MAX),
+        Move::Key(Key::Aid(enter)),
+        Move::ToHost(usize::MAX),
+    ]
 }
 
 // The host end was ready, and was then answered without any field.
@@ -228,13 +234,14 @@ fn are_answered(events: &[Event]) -> bool {
     }
 }
 
-// To make the list of moves is none of the calls under test.
+// To make the list of elements is none of the calls under test.
 #[test]
 fn world_within_memory(rt: HostRuntime) {
-    let Ok(moves) = moves(&rt, rt.alloc()) else {
+    let Some(form) = form_list(&rt, rt.alloc()) else {
         return;
     };
-    match World::run(rt.alloc(), TerminalType::default(), moves.as_slice()) {
+    let moves = moves(&rt, form);
+    match World::run(rt.alloc(), TerminalType::default(), &moves) {
         Ok(report) => holds(&rt, are_answered(report.events.as_slice())),
         Err(fault) => same(&rt, fault, Fault::Memory),
     }
@@ -265,10 +272,10 @@ fn program_within_memory(rt: HostRuntime) {
     }
     let mut sink = VecSink::new(alloc);
     let found = check_to::<Commands, VecSink>(alloc, BOB, 7, &mut sink);
-    assert!(rt; is_printed_within(found, &sink, BOB_LINE), "check_to");
+    holds(&rt, is_printed_within(found, &sink, BOB_LINE));
     let mut sink = VecSink::new(alloc);
     let found = show_to(alloc, BOB, &mut sink);
-    assert!(rt; is_printed_within(found, &sink, BOB_SHOWN), "show_to");
+    holds(&rt, is_printed_within(found, &sink, BOB_SHOWN));
     let script = b"settle\nsend 3 0440041100081106341D400020000A04520000\ntype BOB\nkey Enter\n";
     match read_script(alloc, script) {
         Ok(moves) => same(&rt, moves.len(), 13),
@@ -348,7 +355,8 @@ fn records_without_memory(rt: HostRuntime) {
         Item::Record(invite),
     ];
     let mut sink = fixed_sink();
-    assert_eq!(rt; encode_to::<Commands, FixedSink>(&items, &mut sink), Ok(()));
+    let written = encode_to::<Commands, FixedSink>(&items, &mut sink);
+    same(&rt, written, Ok(()));
     let written = sink.into_inner();
     holds(&rt, written.as_slice().starts_with(b"\xff\xf1"));
     holds(&rt, written.as_slice().ends_with(INVITE));

@@ -1,8 +1,8 @@
 ghost use Rattle.ws_words.specs.Tasks.{HasPieces};
 
-use crate::{holds, same, same_at, same_bytes};
-use std::alloc::{AllocError, Global};
-use std::test::Fail;
+use crate::{holds, same, same_at, same_bytes, says};
+use std::alloc::Global;
+use std::process::Abort;
 use ws_code::{FailingSink, Fault, List, Reason, VecSink};
 use ws_keys::KeyRefusal;
 use ws_live::{Paint, play_to};
@@ -110,7 +110,7 @@ fn asked(screen: bool, tcp: bool) -> Asked<'static>
 }
 
 #[test]
-fn played(rt: HostRuntime) -> Result<(), Fail> {
+fn played(rt: HostRuntime) {
     for (name, script, screen, wanted) in &PLAYED {
         for tcp in [false, true] {
             let mut sink = VecSink::new(rt.alloc());
@@ -120,94 +120,98 @@ fn played(rt: HostRuntime) -> Result<(), Fail> {
             same_at(&rt, name, sink.as_slice(), wanted.as_bytes());
         }
     }
-    Ok(())
+}
+
+// What is done, and 200 deliveries of a byte each way.
+fn add_settled(rt: &impl Abort, script: &mut String, part: &str) {
+    script.push_str(part).expect(rt, "memory");
+    for _ in 0..200 {
+        script.push_str("down 1\nup 1\n").expect(rt, "memory");
+    }
 }
 
 // `play-bob`, each settling in 200 deliveries of a byte each way.
-fn bob_in_bytes(alloc: Global) -> Result<String, AllocError> {
+fn bob_in_bytes(rt: &impl Abort, alloc: Global) -> String {
+    let send = "send 3 0440041100081106341D400020000A04520000\n";
     let mut script = String::new(alloc);
-    for part in [
-        "",
-        "send 3 0440041100081106341D400020000A04520000\n",
-        "type BOB\nkey Enter\n",
-    ] {
-        script.push_str(part)?;
-        for _ in 0..200 {
-            script.push_str("down 1\nup 1\n")?;
-        }
-    }
-    Ok(script)
+    add_settled(rt, &mut script, "");
+    add_settled(rt, &mut script, send);
+    add_settled(rt, &mut script, "type BOB\nkey Enter\n");
+    script
 }
 
 // `byte-by-byte`.
 #[test]
-fn byte_by_byte(rt: HostRuntime) -> Result<(), Fail> {
-    let script = bob_in_bytes(rt.alloc())?;
+fn byte_by_byte(rt: HostRuntime) {
+    let script = bob_in_bytes(&rt, rt.alloc());
     let mut sink = VecSink::new(rt.alloc());
     let play = asked(false, false);
     let outcome = answer(&rt, rt.alloc(), play, script.as_bytes(), &mut sink);
     same(&rt, outcome, Ok(true));
     same_bytes(&rt, sink.as_slice(), PLAY_BOB.3.as_bytes());
-    Ok(())
 }
 
 // A bad line ends the program before anything is run; a sink that fails holds a part of the text.
 #[test]
-fn unplayed(rt: HostRuntime) -> Result<(), Fail> {
+fn unplayed(rt: HostRuntime) {
     let mut sink = VecSink::new(rt.alloc());
     let screen = asked(true, false);
     let outcome = answer(&rt, rt.alloc(), screen, b"settle\nhello\n", &mut sink);
     same(&rt, status(&outcome), 2);
     same(&rt, outcome, Err(RunFault::Line(2)));
     holds(&rt, sink.as_slice().is_empty());
-    let line = RunFault::Line(2).to_string(rt.alloc())?;
-    same(&rt, line.as_str(), "script line 2");
+    says(&rt, rt.alloc(), RunFault::Line(2), "script line 2");
     let mut sink = FailingSink::new(rt.alloc(), 30);
     let screen = asked(true, false);
     let bob = PLAY_BOB.1.as_bytes();
     let outcome = answer(&rt, rt.alloc(), screen, bob, &mut sink);
     same(&rt, outcome, Err(RunFault::Write));
-    Ok(())
 }
 
 // Events that no script brings out, and their lines: ends that refuse, and names of faults that no session of these two
 // ends has.
-fn refusals(alloc: Global) -> Result<Vec<Event>, AllocError> {
-    let refusals = vec![in alloc;
+fn refusals() -> [Event; 8] {
+    let station = Event::StationRefused {
+        place: 20,
+        reason: Reason::PastEnd,
+    };
+    let host = Event::HostRefused {
+        place: u64::MAX,
+        reason: Reason::UnaskedAnswer,
+    };
+    [
         Event::KeyRefused(KeyFault::Failed),
         Event::KeyRefused(KeyFault::Key(KeyRefusal::Locked)),
         Event::SendRefused(SendFault::Failed),
         Event::SendRefused(SendFault::BadSequence),
         Event::SendRefused(SendFault::TooBig),
         Event::SendRefused(SendFault::Memory),
-        Event::StationRefused {
-            place: 20,
-            reason: Reason::PastEnd,
-        },
-        Event::HostRefused {
-            place: u64::MAX,
-            reason: Reason::UnaskedAnswer,
-        },
-    ]?;
-    Ok(refusals)
+        station,
+        host,
+    ]
 }
 
 const REFUSED: &str =
     "key refused Failed\nkey refused Locked\nsend refused Failed\nsend refused BadSequence\nsend refused TooBig\nsend refused Memory\nstation refused at 20: reason 51 PastEnd\nhost refused at 18446744073709551615: reason 62 UnaskedAnswer\n";
 
-#[test]
-fn reported(rt: HostRuntime) -> Result<(), Fail> {
-    let report = Report {
-        events: List::of(refusals(rt.alloc())?),
+// A report of these events, of ends that are new.
+fn report_of(alloc: Global, events: Vec<Event>) -> Report {
+    Report {
+        events: List::of(events),
         station: Station::new(TerminalType::default()),
-        host: HostEnd::new(rt.alloc()),
-        to_station: List::of(Vec::new(rt.alloc())),
-        to_host: List::of(Vec::new(rt.alloc())),
-    };
+        host: HostEnd::new(alloc),
+        to_station: List::of(Vec::new(alloc)),
+        to_host: List::of(Vec::new(alloc)),
+    }
+}
+
+#[test]
+fn reported(rt: HostRuntime) {
+    let events = Vec::from_array(rt.alloc(), refusals()).expect(&rt, "memory");
+    let report = report_of(rt.alloc(), events);
     let mut sink = VecSink::new(rt.alloc());
     same(&rt, play_to(&report, false, &mut sink), Ok(false));
     same_bytes(&rt, sink.as_slice(), REFUSED.as_bytes());
     let mut sink = FailingSink::new(rt.alloc(), 5);
     same(&rt, play_to(&report, false, &mut sink), Err(Fault::Write));
-    Ok(())
 }

@@ -1,9 +1,8 @@
 use crate::answers::{answer_words, expect_answer};
-use crate::{holds, same, same_at, same_bytes};
+use crate::{holds, same, same_at, same_bytes, says};
 use std::alloc::Global;
 use std::io;
 use std::process::Abort;
-use std::test::Fail;
 use ws_code::{FailingSink, Fault, Reason, VecSink};
 use ws_live::Paint;
 use ws_program::{RunFault, TextFault, check_to, hex_bytes, status};
@@ -11,16 +10,22 @@ use ws_record::RawBody;
 use ws_text::TextFault as ItemsFault;
 use ws_words::{Asked, Task, read_words};
 
+fn expect_bytes(rt: &impl Abort, alloc: Global, text: &[u8], bytes: &[u8]) {
+    let read = hex_bytes(alloc, text).expect(rt, "bytes");
+    same_bytes(rt, read.as_slice(), bytes);
+}
+
+const NOT_HEX: [&[u8]; 3] = [b"0", b"0g", b"00\x0b00"];
+
 #[test]
-fn hex_texts(rt: HostRuntime) -> Result<(), Fail> {
-    let read = hex_bytes(rt.alloc(), b" 00 0A\tfF\r\n1\n2")?;
-    same_bytes(&rt, read.as_slice(), &[0x00, 0x0a, 0xff, 0x12]);
-    holds(&rt, hex_bytes(rt.alloc(), b" \n")?.is_empty());
-    for text in [b"0".as_slice(), b"0g".as_slice(), b"00\x0b00".as_slice()] {
+fn hex_texts(rt: HostRuntime) {
+    let bytes = [0x00, 0x0a, 0xff, 0x12];
+    expect_bytes(&rt, rt.alloc(), b" 00 0A\tfF\r\n1\n2", &bytes);
+    expect_bytes(&rt, rt.alloc(), b" \n", &[]);
+    for text in &NOT_HEX {
         let fault = hex_bytes(rt.alloc(), text).err();
         same(&rt, fault, Some(TextFault::NotHex));
     }
-    Ok(())
 }
 
 const FILE: Option<&str> = Some("a.hex");
@@ -33,153 +38,41 @@ const CHECK: Asked = Asked::Check {
 };
 
 // Words, and what they ask for.
+#[rattlefmt::skip]
 const COMMAND_LINES: [(&[&str], Asked); 18] = [
     (&["t5250", "check"], CHECK),
-    (
-        &["t5250", "check", "a.hex"],
-        Asked::Check {
-            file: FILE,
-            cut: u16::MAX,
-            answers: false,
-        },
-    ),
-    (
-        &["t5250", "check", "--cut", "1"],
-        Asked::Check {
-            file: None,
-            cut: 1,
-            answers: false,
-        },
-    ),
-    (
-        &["t5250", "check", "--cut=65535", "a.hex"],
-        Asked::Check {
-            file: FILE,
-            cut: 65535,
-            answers: false,
-        },
-    ),
-    (
-        &["t5250", "check", "a.hex", "--cut", "7"],
-        Asked::Check {
-            file: FILE,
-            cut: 7,
-            answers: false,
-        },
-    ),
-    (
-        &["t5250", "check", "--answers"],
-        Asked::Check {
-            file: None,
-            cut: u16::MAX,
-            answers: true,
-        },
-    ),
-    (
-        &["t5250", "check", "--cut", "7", "--answers", "a.hex"],
-        Asked::Check {
-            file: FILE,
-            cut: 7,
-            answers: true,
-        },
-    ),
-    (
-        &["t5250", "check", "--", "--answers"],
-        Asked::Check {
-            file: Some("--answers"),
-            cut: u16::MAX,
-            answers: false,
-        },
-    ),
-    (
-        &["t5250", "show"],
-        Asked::Show {
-            file: None,
-            answers: false,
-            paint: Paint::Plain,
-        },
-    ),
-    (
-        &["t5250", "show", "--answers", "a.hex"],
-        Asked::Show {
-            file: FILE,
-            answers: true,
-            paint: Paint::Plain,
-        },
-    ),
-    (
-        &["t5250", "play"],
-        Asked::Play {
-            file: None,
-            screen: false,
-            tcp: false,
-            paint: Paint::Plain,
-        },
-    ),
-    (
-        &["t5250", "play", "a.hex"],
-        Asked::Play {
-            file: FILE,
-            screen: false,
-            tcp: false,
-            paint: Paint::Plain,
-        },
-    ),
-    (
-        &["t5250", "play", "--screen", "a.hex"],
-        Asked::Play {
-            file: FILE,
-            screen: true,
-            tcp: false,
-            paint: Paint::Plain,
-        },
-    ),
-    (
-        &["t5250", "play", "a.hex", "--tcp"],
-        Asked::Play {
-            file: FILE,
-            screen: false,
-            tcp: true,
-            paint: Paint::Plain,
-        },
-    ),
-    (
-        &["t5250", "show", "--color", "a.hex"],
-        Asked::Show {
-            file: FILE,
-            answers: false,
-            paint: Paint::Color,
-        },
-    ),
-    (
-        &["t5250", "play", "--color", "--screen"],
-        Asked::Play {
-            file: None,
-            screen: true,
-            tcp: false,
-            paint: Paint::Color,
-        },
-    ),
-    (
-        &["t5250", "make"],
-        Asked::Make {
-            file: None,
-            answers: false,
-        },
-    ),
-    (
-        &["t5250", "make", "--answers", "a.hex"],
-        Asked::Make {
-            file: FILE,
-            answers: true,
-        },
-    ),
+    (&["t5250", "check", "a.hex"], Asked::Check { file: FILE, cut: u16::MAX, answers: false }),
+    (&["t5250", "check", "--cut", "1"], Asked::Check { file: None, cut: 1, answers: false }),
+    (&["t5250", "check", "--cut=65535", "a.hex"], Asked::Check { file: FILE, cut: 65535, answers: false }),
+    (&["t5250", "check", "a.hex", "--cut", "7"], Asked::Check { file: FILE, cut: 7, answers: false }),
+    (&["t5250", "check", "--answers"], Asked::Check { file: None, cut: u16::MAX, answers: true }),
+    (&["t5250", "check", "--cut", "7", "--answers", "a.hex"], Asked::Check { file: FILE, cut: 7, answers: true }),
+    (&["t5250", "check", "--", "--answers"], Asked::Check { file: Some("--answers"), cut: u16::MAX, answers: false }),
+    (&["t5250", "show"], Asked::Show { file: None, answers: false, paint: Paint::Plain }),
+    (&["t5250", "show", "--answers", "a.hex"], Asked::Show { file: FILE, answers: true, paint: Paint::Plain }),
+    (&["t5250", "play"], Asked::Play { file: None, screen: false, tcp: false, paint: Paint::Plain }),
+    (&["t5250", "play", "a.hex"], Asked::Play { file: FILE, screen: false, tcp: false, paint: Paint::Plain }),
+    (&["t5250", "play", "--screen", "a.hex"],
+        Asked::Play { file: FILE, screen: true, tcp: false, paint: Paint::Plain }),
+    (&["t5250", "play", "a.hex", "--tcp"], Asked::Play { file: FILE, screen: false, tcp: true, paint: Paint::Plain }),
+    (&["t5250", "show", "--color", "a.hex"], Asked::Show { file: FILE, answers: false, paint: Paint::Color }),
+    (&["t5250", "play", "--color", "--screen"],
+        Asked::Play { file: None, screen: true, tcp: false, paint: Paint::Color }),
+    (&["t5250", "make"], Asked::Make { file: None, answers: false }),
+    (&["t5250", "make", "--answers", "a.hex"], Asked::Make { file: FILE, answers: true }),
 ];
 
+fn expect_asked(rt: &impl Abort, alloc: Global, words: &[&str], asked: Asked) {
+    match read_words(alloc, words) {
+        Ok(task) => same(rt, task, Task::Input(asked)),
+        Err(_) => panic!(rt; "{words:?}"),
+    }
+}
+
 #[test]
-fn command_lines(rt: HostRuntime) -> Result<(), Fail> {
+fn command_lines(rt: HostRuntime) {
     for (words, asked) in &COMMAND_LINES {
-        same(&rt, read_words(rt.alloc(), words)?, Task::Input(*asked));
+        expect_asked(&rt, rt.alloc(), words, *asked);
     }
     let show = Asked::Show {
         file: FILE,
@@ -188,7 +81,6 @@ fn command_lines(rt: HostRuntime) -> Result<(), Fail> {
     };
     same(&rt, show.file(), FILE);
     same(&rt, CHECK.file(), None);
-    Ok(())
 }
 
 const WRONG_COMMAND_LINES: [&[&str]; 19] = [
@@ -217,25 +109,27 @@ const HELP: [&[&str]; 2] = [&["t5250", "--help"], &["t5250", "show", "--help"]];
 
 // Whether the words are refused with an error, or with help, which is none.
 fn is_error(alloc: Global, words: &[&str]) -> Option<bool> {
-    read_words(alloc, words)
-        .err()
-        .map(|fault| fault.use_stderr())
+    match read_words(alloc, words) {
+        Ok(_) => None,
+        Err(fault) => Some(fault.use_stderr()),
+    }
 }
 
 #[test]
 fn wrong_command_lines(rt: HostRuntime) {
     for words in &WRONG_COMMAND_LINES {
-        assert_eq!(rt; is_error(rt.alloc(), words), Some(true), "{words:?}");
+        same_at(&rt, *words, is_error(rt.alloc(), words), Some(true));
     }
     for words in &HELP {
-        same(&rt, is_error(rt.alloc(), words), Some(false));
+        same_at(&rt, *words, is_error(rt.alloc(), words), Some(false));
     }
 }
 
-fn expect_line(rt: &impl Abort, alloc: Global, fault: RunFault, line: &str) -> Result<(), Fail> {
-    let text = fault.to_string(alloc)?;
-    same(rt, text.as_str(), line);
-    Ok(())
+fn expect_line<F: Drop>(rt: &impl Abort, alloc: Global, fault: F, line: &str)
+where
+    RunFault: From<F>,
+{
+    says(rt, alloc, RunFault::from(fault), line);
 }
 
 const FAULTS: [(Fault, &str); 6] = [
@@ -255,22 +149,20 @@ const FAULTS: [(Fault, &str); 6] = [
 
 // The lines of status 2, and the fault that each comes from.
 #[test]
-fn fault_lines(rt: HostRuntime) -> Result<(), Fail> {
+fn fault_lines(rt: HostRuntime) {
     let alloc = rt.alloc();
-    expect_line(&rt, alloc, RunFault::Read, "cannot read")?;
-    expect_line(&rt, alloc, RunFault::from(TextFault::NotHex), "not hex")?;
-    expect_line(&rt, alloc, RunFault::from(TextFault::Memory), "memory")?;
-    let bad_line = RunFault::from(ItemsFault::Line(7));
-    expect_line(&rt, alloc, bad_line, "script line 7")?;
-    expect_line(&rt, alloc, RunFault::from(ItemsFault::Memory), "memory")?;
+    says(&rt, alloc, RunFault::Read, "cannot read");
+    expect_line(&rt, alloc, TextFault::NotHex, "not hex");
+    expect_line(&rt, alloc, TextFault::Memory, "memory");
+    expect_line(&rt, alloc, ItemsFault::Line(7), "script line 7");
+    expect_line(&rt, alloc, ItemsFault::Memory, "memory");
     for (fault, line) in &FAULTS {
-        expect_line(&rt, alloc, RunFault::from(*fault), line)?;
+        expect_line(&rt, alloc, *fault, line);
     }
     let missing = io::Error::from(io::ErrorKind::NotFound);
-    expect_line(&rt, alloc, RunFault::from(missing), "cannot read")?;
+    expect_line(&rt, alloc, missing, "cannot read");
     let wanting = io::Error::from(io::ErrorKind::OutOfMemory);
-    expect_line(&rt, alloc, RunFault::from(wanting), "memory")?;
-    Ok(())
+    expect_line(&rt, alloc, wanting, "memory");
 }
 
 const CHECK_ANSWERS: &[&str] = &["t5250", "check", "--answers"];
@@ -335,7 +227,7 @@ const ANSWERED: [(&[&str], &str, &str, u8); 12] = [
 ];
 
 #[test]
-fn answered(rt: HostRuntime) -> Result<(), Fail> {
+fn answered(rt: HostRuntime) {
     for (words, text, wanted, exit) in &ANSWERED {
         let outcome = match *exit {
             0 => Ok(true),
@@ -343,12 +235,11 @@ fn answered(rt: HostRuntime) -> Result<(), Fail> {
             _ => Err(RunFault::NotHex),
         };
         same_at(&rt, text, status(&outcome), *exit);
-        expect_answer(&rt, words, text, outcome, wanted)?;
+        expect_answer(&rt, words, text, outcome, wanted);
     }
     let mut sink = FailingSink::new(rt.alloc(), 40);
-    let outcome = answer_words(&rt, CUT_ANSWERS, BOB_ANSWER.as_bytes(), &mut sink)?;
+    let outcome = answer_words(&rt, CUT_ANSWERS, BOB_ANSWER.as_bytes(), &mut sink);
     same(&rt, outcome, Err(RunFault::Write));
-    Ok(())
 }
 
 const CHECKED: [(&[u8], &str, bool); 10] = [
@@ -386,7 +277,7 @@ const CHECKED: [(&[u8], &str, bool); 10] = [
 
 // The line that is written of a stream, in pieces of every size up to its own, and the status.
 #[test]
-fn check_lines(rt: HostRuntime) -> Result<(), Fail> {
+fn check_lines(rt: HostRuntime) {
     for (bytes, wanted, accepted) in &CHECKED {
         for cut in 1..26u16 {
             let mut sink = VecSink::new(rt.alloc());
@@ -395,5 +286,4 @@ fn check_lines(rt: HostRuntime) -> Result<(), Fail> {
             same_bytes(&rt, sink.as_slice(), wanted.as_bytes());
         }
     }
-    Ok(())
 }

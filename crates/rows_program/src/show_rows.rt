@@ -1,5 +1,4 @@
 use crate::{same, same_at, same_bytes};
-use std::test::Fail;
 use ws_code::VecSink;
 use ws_program::{check_to, show_to};
 use ws_stream::Commands;
@@ -65,29 +64,24 @@ const SHOWN: [Row; 9] = [
 
 // Streams as they are shown, and the status.
 #[test]
-fn show_lines(rt: HostRuntime) -> Result<(), Fail> {
+fn show_lines(rt: HostRuntime) {
     for (row, bytes, wanted, accepted) in &SHOWN {
         let mut sink = VecSink::new(rt.alloc());
         let found = show_to(rt.alloc(), bytes, &mut sink);
         same_at(&rt, row, found, Ok(*accepted));
-        let text = String::from_utf8(sink.into_inner()).or(Err("no text"))?;
+        let text = String::from_utf8(sink.into_inner()).expect(&rt, "a text");
         same_at(&rt, row, text.as_str(), *wanted);
     }
-    Ok(())
 }
 
 // `show-past-end`: the grammar accepts what the screen refuses.
 #[test]
-fn check_past_end(rt: HostRuntime) -> Result<(), Fail> {
+fn check_past_end(rt: HostRuntime) {
     let bytes =
         b"\x00\x13\x12\xa0\x00\x00\x04\x00\x00\x03\x04\x11\x00\x00\x11\x18\x50\xc1\xc2\xff\xef";
     let mut sink = VecSink::new(rt.alloc());
     let found = check_to::<Commands, _>(rt.alloc(), bytes, 7, &mut sink);
     same(&rt, found, Ok(true));
-    same_bytes(
-        &rt,
-        sink.as_slice(),
-        b"accepted: 1 records, 0 commands, 21 bytes\n",
-    );
-    Ok(())
+    let line = b"accepted: 1 records, 0 commands, 21 bytes\n";
+    same_bytes(&rt, sink.as_slice(), line);
 }

@@ -1,7 +1,6 @@
 use crate::{same, same_at};
-use std::alloc::{AllocError, Global};
+use std::alloc::Global;
 use std::process::Abort;
-use std::test::Fail;
 use ws_code::VecSink;
 use ws_program::{TextFault, check_to, hex_bytes, show_to};
 use ws_stream::Commands;
@@ -10,76 +9,86 @@ use ws_stream::Commands;
 // a list or a record is full.
 const SIZES: [(usize, usize); 3] = [(0, 301), (4_095, 4_098), (65_524, 65_537)];
 
-#[test]
-fn hex_texts_of_each_size(rt: HostRuntime) -> Result<(), Fail> {
-    for (first, end) in &SIZES {
-        for size in *first..*end {
-            let text = vec![in rt.alloc(); b'0'; size]?;
-            match hex_bytes(rt.alloc(), text.as_slice()) {
-                Ok(bytes) => {
-                    same(&rt, size % 2, 0);
-                    same(&rt, bytes.len(), size / 2);
-                }
-                Err(fault) => {
-                    same_at(&rt, size, size % 2, 1);
-                    same(&rt, fault, TextFault::NotHex);
-                }
-            }
+fn expect_read(rt: &impl Abort, alloc: Global, size: usize) {
+    let text = vec![in alloc; b'0'; size].expect(rt, "memory");
+    match hex_bytes(alloc, text.as_slice()) {
+        Ok(bytes) => {
+            same_at(rt, size, size % 2, 0);
+            same_at(rt, size, bytes.len(), size / 2);
+        }
+        Err(fault) => {
+            same_at(rt, size, size % 2, 1);
+            same(rt, fault, TextFault::NotHex);
         }
     }
-    Ok(())
+}
+
+#[test]
+fn hex_texts_of_each_size(rt: HostRuntime) {
+    for (first, end) in &SIZES {
+        for size in *first..*end {
+            expect_read(&rt, rt.alloc(), size);
+        }
+    }
 }
 
 // NOP after NOP, and half of one where the size is odd.
-fn nops(alloc: Global, size: usize) -> Result<Vec<u8>, AllocError> {
+fn nops(rt: &impl Abort, alloc: Global, size: usize) -> Vec<u8> {
     let mut bytes = Vec::new(alloc);
     for at in 0..size {
-        bytes.push(if at % 2 == 0 { 0xff } else { 0xf1 })?;
+        let byte = if at % 2 == 0 { 0xff } else { 0xf1 };
+        bytes.push(byte).expect(rt, "memory");
     }
-    Ok(bytes)
+    bytes
 }
 
 // What is written of so many bytes of NOPs.
-fn nops_checked(alloc: Global, size: usize) -> Result<String, AllocError> {
+fn nops_checked(rt: &impl Abort, alloc: Global, size: usize) -> String {
     let commands = size / 2;
-    if size % 2 == 0 {
+    let line = if size % 2 == 0 {
         format!(in alloc; "accepted: 0 records, {commands} commands, {size} bytes\n")
     } else {
         format!(in alloc; "truncated at {size}\n")
-    }
+    };
+    line.expect(rt, "memory")
 }
 
-fn expect_checked(rt: &impl Abort, alloc: Global, size: usize) -> Result<(), AllocError> {
-    let bytes = nops(alloc, size)?;
-    let wanted = nops_checked(alloc, size)?;
+fn expect_checked(rt: &impl Abort, alloc: Global, size: usize, bytes: &[u8]) {
+    let wanted = nops_checked(rt, alloc, size);
     let mut sink = VecSink::new(alloc);
-    let found = check_to::<Commands, _>(alloc, bytes.as_slice(), 7, &mut sink);
+    let found = check_to::<Commands, _>(alloc, bytes, 7, &mut sink);
     same_at(rt, size, found, Ok(size % 2 == 0));
     same_at(rt, size, sink.as_slice(), wanted.as_bytes());
-    Ok(())
+}
+
+fn lines_in(text: &[u8]) -> usize {
+    let mut count = 0usize;
+    for byte in text {
+        if *byte == b'\n' {
+            count = count.wrapping_add(1);
+        }
+    }
+    count
 }
 
 // A line for each command, and two behind them of a whole stream's screen, or one of what is cut off.
-fn expect_shown(rt: &impl Abort, alloc: Global, size: usize) -> Result<(), AllocError> {
-    let bytes = nops(alloc, size)?;
+fn expect_shown(rt: &impl Abort, alloc: Global, size: usize, bytes: &[u8]) {
     let mut sink = VecSink::new(alloc);
-    let found = show_to(alloc, bytes.as_slice(), &mut sink);
+    let found = show_to(alloc, bytes, &mut sink);
     let whole = size % 2 == 0;
     same_at(rt, size, found, Ok(whole));
-    let shown = sink.as_slice().iter();
-    let lines = shown.filter(|byte| **byte == b'\n').count();
     let behind = if whole { 2 } else { 1 };
+    let lines = lines_in(sink.as_slice());
     same_at(rt, size, lines, (size / 2).wrapping_add(behind));
-    Ok(())
 }
 
 #[test]
-fn streams_of_each_size(rt: HostRuntime) -> Result<(), Fail> {
+fn streams_of_each_size(rt: HostRuntime) {
     for (first, end) in &SIZES {
         for size in *first..*end {
-            expect_checked(&rt, rt.alloc(), size)?;
-            expect_shown(&rt, rt.alloc(), size)?;
+            let bytes = nops(&rt, rt.alloc(), size);
+            expect_checked(&rt, rt.alloc(), size, bytes.as_slice());
+            expect_shown(&rt, rt.alloc(), size, bytes.as_slice());
         }
     }
-    Ok(())
 }

@@ -1,10 +1,9 @@
 use crate::play_rows::{PLAY_BOB, PLAYED};
-use crate::{holds, same, same_at, same_bytes};
-use std::alloc::{AllocError, Global};
+use crate::{holds, same, same_at, same_bytes, says};
+use std::alloc::Global;
 use std::io;
 use std::net::{Net, Shutdown, SocketAddr, TcpListener, TcpStream};
 use std::process::Abort;
-use std::test::Fail;
 use ws_code::{Fault, VecSink};
 use ws_live::{play_to, read_script};
 use ws_nego::TerminalType;
@@ -14,14 +13,14 @@ use ws_session::{Move, Report, World};
 const TERMINAL: TerminalType = TerminalType::Ibm3179Model2;
 
 // More bytes in flight than go in one piece: so many empty records, and then one that turns the light on.
-fn many_records(alloc: Global) -> Result<String, AllocError> {
+fn many_records(rt: &impl Abort, alloc: Global) -> String {
     let mut script = String::new(alloc);
-    script.push_str("settle\n")?;
+    script.push_str("settle\n").expect(rt, "memory");
     for _ in 0..900 {
-        script.push_str("send 1\n")?;
+        script.push_str("send 1\n").expect(rt, "memory");
     }
-    script.push_str("send 11\nsettle\n")?;
-    Ok(script)
+    script.push_str("send 11\nsettle\n").expect(rt, "memory");
+    script
 }
 
 fn moves_of<R: Abort + AllocGlobal>(rt: &R, script: &str) -> Vec<Move> {
@@ -37,13 +36,12 @@ fn told<R: Abort + AllocGlobal>(rt: &R, report: &Report) -> VecSink {
 
 // `tcp-plays-alike`: each row of `play`, and a session of many records.
 #[test]
-fn tcp_plays_alike(rt: HostRuntime) -> Result<(), Fail> {
+fn tcp_plays_alike(rt: HostRuntime) {
     for row in &PLAYED {
         expect_alike(&rt, row.1);
     }
-    let many = many_records(rt.alloc())?;
+    let many = many_records(&rt, rt.alloc());
     expect_alike(&rt, many.as_str());
-    Ok(())
 }
 
 // What is played over a connection and in one place is told alike, and crosses alike.
@@ -56,11 +54,8 @@ fn expect_alike<R: Net<Listener = TcpListener, Stream = TcpStream> + Abort + All
     let by_run = World::run(rt.alloc(), TERMINAL, moves.as_slice()).expect(rt, script);
     let lines = told(rt, &by_run);
     same_at(rt, script, told(rt, &by_tcp).as_slice(), lines.as_slice());
-    same_bytes(
-        rt,
-        by_tcp.to_station.as_slice(),
-        by_run.to_station.as_slice(),
-    );
+    let to_station = by_run.to_station.as_slice();
+    same_bytes(rt, by_tcp.to_station.as_slice(), to_station);
     same_bytes(rt, by_tcp.to_host.as_slice(), by_run.to_host.as_slice());
 }
 
@@ -136,13 +131,19 @@ impl<R: Net<Listener = TcpListener, Stream = TcpStream>> Net for FailingNet<'_, 
     }
 }
 
-// The fault is told by this line, as the program's too.
-fn expect_line(rt: &impl Abort, alloc: Global, fault: TcpFault, line: &str) -> Result<(), Fail> {
-    let text = fault.to_string(alloc)?;
-    same(rt, text.as_str(), line);
-    let text = RunFault::from(fault).to_string(alloc)?;
-    same(rt, text.as_str(), line);
-    Ok(())
+// A session over a connection that fails ends with this fault, which is told by this line, as the program's too.
+fn expect_failing<R: Net<Listener = TcpListener, Stream = TcpStream> + Abort + AllocGlobal>(
+    rt: &R,
+    moves: &[Move],
+    at: Failing,
+    wanted: TcpFault,
+    line: &str,
+) {
+    let net = FailingNet { rt, at };
+    let played = play_tcp(&net, rt.alloc(), TERMINAL, moves);
+    same_at(rt, at, played.err(), Some(wanted));
+    says(rt, rt.alloc(), wanted, line);
+    says(rt, rt.alloc(), RunFault::from(wanted), line);
 }
 
 const FAILING: [(Failing, TcpFault, &str); 5] = [
@@ -154,16 +155,10 @@ const FAILING: [(Failing, TcpFault, &str); 5] = [
 ];
 
 #[test]
-fn failing_connections(rt: HostRuntime) -> Result<(), Fail> {
+fn failing_connections(rt: HostRuntime) {
     let moves = moves_of(&rt, PLAY_BOB.1);
     for (at, wanted, line) in &FAILING {
-        let net = FailingNet { rt: &rt, at: *at };
-        let played = play_tcp(&net, rt.alloc(), TERMINAL, moves.as_slice());
-        let fault = played.err().ok_or("played")?;
-        assert_eq!(rt; fault, *wanted, "{at:?}");
-        expect_line(&rt, rt.alloc(), fault, line)?;
+        expect_failing(&rt, moves.as_slice(), *at, *wanted, line);
     }
-    let text = TcpFault::from(Fault::Memory).to_string(rt.alloc())?;
-    same(&rt, text.as_str(), "memory");
-    Ok(())
+    says(&rt, rt.alloc(), TcpFault::from(Fault::Memory), "memory");
 }

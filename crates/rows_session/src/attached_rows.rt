@@ -2,7 +2,7 @@
 use crate::end_rows::{
     BOB, BOB_ANSWER, CANCEL, OPENED, OPENING, joined, key_named, keys_of, new_station, record,
 };
-use crate::same;
+use crate::{holds, same};
 use std::alloc::Global;
 use std::process::Abort;
 use ws_code::{FailingSink, Fault, Reason, Sink, SliceSource, VecSink};
@@ -45,7 +45,8 @@ fn a_station_at_its_line(rt: HostRuntime) {
     let form = record(&rt, alloc, BOB);
     let stream = joined(&rt, alloc, &[OPENING, form.as_slice()]);
     let station = new_station();
-    assert!(rt; !station.is_ready() && station.refused().is_none());
+    holds(&rt, !station.is_ready());
+    holds(&rt, station.refused().is_none());
     let source = SliceSource::new(stream.as_slice());
     let mut line = Attached::new(station, source, VecSink::new(alloc));
     station_hears(&rt, &mut line, Ok(Some(Applied)));
@@ -68,7 +69,7 @@ fn host_hears(rt: &impl Abort, line: &mut HostLine, wanted: Result<Option<HostEv
 
 fn hears_an_answer(rt: &impl Abort, line: &mut HostLine) {
     let heard = line.hear();
-    assert!(rt; matches!(heard, Ok(Some(HostEvent::Answer(_)))));
+    holds(rt, matches!(heard, Ok(Some(HostEvent::Answer(_)))));
 }
 
 fn sends(
@@ -88,7 +89,9 @@ fn cancels(rt: &impl Abort, line: &mut HostLine, wanted: Result<Option<SendFault
 fn opened_line<'a>(rt: &impl Abort, alloc: Global, stream: &'a [u8]) -> HostLine<'a> {
     let mut host = HostEnd::new(alloc);
     host.open();
-    assert!(rt; !host.is_ready() && host.terminal().is_none() && host.refused().is_none());
+    holds(rt, !host.is_ready());
+    holds(rt, host.terminal().is_none());
+    holds(rt, host.refused().is_none());
     Attached::new(host, SliceSource::new(stream), VecSink::new(alloc))
 }
 

@@ -3,8 +3,8 @@ use crate::calling::{Ended, Heard, ask, await_event, feed_piece, hear, screen_of
 use crate::end_rows::{
     BOB, BOB_ANSWER, OPENED, OPENING, PAST_END, joined, key_named, new_station, record,
 };
-use crate::same;
-use std::alloc::{AllocError, Global};
+use crate::{holds, same};
+use std::alloc::Global;
 use std::process::Abort;
 use ws_code::{Address, Fault, Reason, Sink, StuckSink, VecSink};
 use ws_keys::{HostAnswer, Key, KeyRefusal};
@@ -14,14 +14,13 @@ use ws_session::{HostEnd, HostEvent, KeyFault, Refusal, Station};
 use ws_stream::{Commands, Element};
 
 #[test]
-fn elements_are_seen_before_a_refusal(rt: HostRuntime) -> Result<(), AllocError> {
+fn elements_are_seen_before_a_refusal(rt: HostRuntime) {
     // Write to Display, then a Set Buffer Address to column 81.
     let bytes = b"\x00\x11\x12\xa0\x00\x00\x04\x00\x00\x03\x04\x11\x00\x00\x11\x18\x51\xff\xef";
-    let seen = see(rt.alloc(), bytes)?;
+    let seen = see(rt.alloc(), bytes).expect(&rt, "memory");
     let wanted = [Element::Write { cc1: 0, cc2: 0 }];
     same(&rt, seen.elements.as_slice(), wanted.as_slice());
     same(&rt, seen.refused, Some((16, Reason::BadAddress)));
-    Ok(())
 }
 
 // The items of a stream that comes in pieces of this length.
@@ -33,7 +32,7 @@ fn items_of(rt: &impl Abort, alloc: Global, bytes: &[u8], size: usize) -> Vec<It
         let fed = feed_piece(&mut receiver, piece, &mut items);
         same(rt, fed, Ok(()));
     }
-    assert!(rt; receiver.finish().is_ok());
+    holds(rt, receiver.finish().is_ok());
     items
 }
 

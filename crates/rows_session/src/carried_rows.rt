@@ -1,5 +1,5 @@
 // Sessions over lines that fail, or bring something else than what was written.
-use crate::same;
+use crate::{holds, same};
 use std::alloc::Global;
 use std::process::Abort;
 use ws_code::{
@@ -43,7 +43,7 @@ fn opened_by(rt: &impl Abort, alloc: Global, brought: &[u8], read: &[u8]) -> Rep
 
 fn is_in_flight(rt: &impl Abort, report: &Report, to_station: &[u8]) {
     same(rt, report.to_station.as_slice(), to_station);
-    assert!(rt; report.to_host.as_slice().is_empty());
+    holds(rt, report.to_host.as_slice().is_empty());
 }
 
 // Who refused a byte in a session that tells nothing else, which byte, and why.
@@ -65,7 +65,7 @@ fn lines_that_bring_what_was_written(rt: HostRuntime) {
     let report = opening_report(alloc, &mut down, WILL_TERMINAL).expect(&rt, "an opening");
     same(&rt, down.sink.as_slice(), DO_TERMINAL);
     is_in_flight(&rt, &report, SEND_TERMINAL);
-    assert!(rt; report.events.as_slice().is_empty());
+    holds(&rt, report.events.as_slice().is_empty());
 }
 
 // What was read arrives, whatever was written: the station refuses FF 00, and takes nothing behind it.

@@ -1,4 +1,4 @@
-use crate::{same, same_at};
+use crate::{holds, same, same_at};
 use std::alloc::Global;
 use std::process::Abort;
 use ws_code::{Address, Body, Code, DataByte, VecSink};
@@ -122,7 +122,7 @@ fn screen_with(rt: &impl Abort, runs: &[Run]) -> Screen {
 fn printed(rt: &impl Abort, alloc: Global, paint: Paint, screen: &Screen) -> String {
     let mut sink = VecSink::new(alloc);
     let output = put_screen(&mut sink, Output::Open, paint, screen);
-    assert!(rt; output != Output::Failed);
+    holds(rt, output != Output::Failed);
     String::from_utf8(sink.into_inner()).expect(rt, "a text")
 }
 
@@ -176,9 +176,9 @@ fn row_of(rt: &impl Abort, alloc: Global, byte: u8, codes: Option<&str>) -> Stri
 #[test]
 fn colored_attributes(rt: HostRuntime) {
     let alloc = rt.alloc();
-    for (byte, codes) in CODES {
-        let screen = screen_with(&rt, &[(1, 1, &[byte, 0xe7, 0x20, 0xe8])]);
-        let row = row_of(&rt, alloc, byte, codes);
+    for (byte, codes) in &CODES {
+        let screen = screen_with(&rt, &[(1, 1, &[*byte, 0xe7, 0x20, 0xe8])]);
+        let row = row_of(&rt, alloc, *byte, *codes);
         is_shown(&rt, alloc, row.as_str(), &screen, row.as_str());
     }
 }

@@ -1,5 +1,5 @@
 // What the rows of both ends share: the opening of a session, one form with its answer, and ends that are ready.
-use crate::same;
+use crate::{holds, same};
 use std::alloc::Global;
 use std::process::Abort;
 use ws_code::{Aid, VecSink};
@@ -7,7 +7,7 @@ use ws_keys::Key;
 use ws_nego::TerminalType;
 use ws_record::{Item, Opcode, decode_all, write_record};
 use ws_session::{HostEnd, HostEvent, Station};
-use ws_stream::Commands;
+use ws_stream::{Commands, Element};
 
 // A host end's opening: DO 18, SEND, and the four requests. What a station answers.
 pub(crate) const OPENING: &[u8] =
@@ -63,13 +63,11 @@ pub(crate) fn joined(rt: &impl Abort, alloc: Global, pieces: &[&[u8]]) -> Vec<u8
     bytes
 }
 
-// The keys of characters.
-pub(crate) fn typed(rt: &impl Abort, alloc: Global, text: &str) -> Vec<Key> {
-    let mut keys = Vec::new(alloc);
+// Adds the keys of characters.
+fn type_to(rt: &impl Abort, keys: &mut Vec<Key>, text: &str) {
     for character in text.chars() {
         keys.push(Key::Char(character)).expect(rt, "memory");
     }
-    keys
 }
 
 // The keys of words: each is a key's name, or else is typed.
@@ -78,11 +76,7 @@ pub(crate) fn keys_of(rt: &impl Abort, alloc: Global, words: &str) -> Vec<Key> {
     for word in words.split(' ') {
         match key_named(word) {
             Some(key) => keys.push(key).expect(rt, "memory"),
-            None => {
-                for key in typed(rt, alloc, word) {
-                    keys.push(key).expect(rt, "memory");
-                }
-            }
+            None => type_to(rt, &mut keys, word),
         }
     }
     keys
@@ -92,7 +86,8 @@ pub(crate) fn keys_of(rt: &impl Abort, alloc: Global, words: &str) -> Vec<Key> {
 pub(crate) fn record(rt: &impl Abort, alloc: Global, body: &[u8]) -> Vec<u8> {
     let mut sink = VecSink::new(alloc);
     assert!(rt; body.len() <= 65525);
-    assert!(rt; write_record(&mut sink, 0, Opcode::PutGet, body).is_ok());
+    let written = write_record(&mut sink, 0, Opcode::PutGet, body);
+    holds(rt, written.is_ok());
     sink.into_inner()
 }
 
@@ -153,25 +148,23 @@ pub(crate) fn ready_host(rt: &impl Abort, alloc: Global) -> HostEnd {
 pub(crate) fn last_event(rt: &impl Abort, host: &mut HostEnd, bytes: &[u8]) -> Option<HostEvent> {
     let mut told = None;
     for byte in bytes {
-        assert!(rt; told.is_none());
-        match host.push(*byte) {
-            Ok(step) => told = step.event,
-            Err(_) => panic!(rt; "a byte that is taken"),
-        }
+        holds(rt, told.is_none());
+        told = host.push(*byte).expect(rt, "a byte that is taken").event;
     }
     told
+}
+
+// The host end sends a record of these elements, which is these bytes.
+fn send_elements(rt: &impl Abort, host: &mut HostEnd, body: &[Element], bytes: &[u8]) {
+    let sent = host.send(Opcode::PutGet, body).expect(rt, "sent");
+    same(rt, sent.as_slice(), bytes);
 }
 
 // The host end sends this record.
 pub(crate) fn send(rt: &impl Abort, alloc: Global, host: &mut HostEnd, bytes: &[u8]) {
     let items = decode_all::<Commands>(alloc, bytes).expect(rt, "a stream");
     match items.as_slice() {
-        [Item::Record(whole)] => {
-            let sent = host
-                .send(Opcode::PutGet, whole.body.as_slice())
-                .expect(rt, "sent");
-            same(rt, sent.as_slice(), bytes);
-        }
+        [Item::Record(whole)] => send_elements(rt, host, whole.body.as_slice(), bytes),
         _ => panic!(rt; "a record"),
     }
 }

@@ -1,15 +1,7 @@
 // The texts of the faults of a session.
 
-use crate::same;
-use std::alloc::Global;
-use std::fmt::Display;
-use std::process::Abort;
+use crate::says;
 use ws_session::{KeyFault, KeyRefusal, Reason, Refusal, SendFault};
-
-fn says<T: Display + Drop>(rt: &impl Abort, alloc: Global, fault: T, text: &str) {
-    let found = format!(in alloc; "{fault}").expect(rt, "memory");
-    same(rt, found.as_str(), text);
-}
 
 const SENDING_FAULTS: [(SendFault, &str); 8] = [
     (SendFault::Failed, "failed"),
@@ -30,8 +22,8 @@ const SENDING_FAULTS: [(SendFault, &str); 8] = [
 
 #[test]
 fn sending_faults_have_their_texts(rt: HostRuntime) {
-    for (fault, text) in SENDING_FAULTS {
-        says(&rt, rt.alloc(), fault, text);
+    for (fault, text) in &SENDING_FAULTS {
+        says(&rt, rt.alloc(), *fault, text);
     }
 }
 
@@ -55,10 +47,10 @@ const KEY_FAULTS: [(KeyFault, &str); 3] = [
 
 #[test]
 fn refusals_have_their_texts(rt: HostRuntime) {
-    for (refusal, text) in REFUSALS {
-        says(&rt, rt.alloc(), refusal, text);
+    for (refusal, text) in &REFUSALS {
+        says(&rt, rt.alloc(), *refusal, text);
     }
-    for (fault, text) in KEY_FAULTS {
-        says(&rt, rt.alloc(), fault, text);
+    for (fault, text) in &KEY_FAULTS {
+        says(&rt, rt.alloc(), *fault, text);
     }
 }

@@ -1,7 +1,7 @@
 // A station that is fed pieces, beside one that is pushed each byte.
 use crate::end_rows::{BOB, CANCEL, OPENING, PAST_END, joined, new_station, record};
 use crate::same_at;
-use std::alloc::{AllocError, Global};
+use std::alloc::Global;
 use std::process::Abort;
 use ws_session::Station;
 
@@ -25,51 +25,48 @@ impl Heard {
     }
 
     // What came with the last byte taken.
-    fn note(&mut self, reply: &[u8], ends_record: bool) -> Result<(), AllocError> {
+    fn note(&mut self, rt: &impl Abort, reply: &[u8], ends_record: bool) {
         if ends_record || !reply.is_empty() {
-            self.written.extend_from_slice(reply)?;
-            self.places.push(self.taken)?;
+            self.written.extend_from_slice(reply).expect(rt, "memory");
+            self.places.push(self.taken).expect(rt, "memory");
         }
-        Ok(())
     }
 
     // Takes the bytes one after another, up to the first that is refused.
-    fn push(&mut self, bytes: &[u8]) -> Result<(), AllocError> {
+    fn push(&mut self, rt: &impl Abort, bytes: &[u8]) {
         for byte in bytes {
             let before = self.station.records();
             match self.station.push(*byte) {
                 Ok(reply) => {
                     self.taken = self.taken.saturating_add(1);
                     let ends_record = self.station.records() != before;
-                    self.note(reply.as_slice(), ends_record)?;
+                    self.note(rt, reply.as_slice(), ends_record);
                 }
-                Err(_) => return Ok(()),
+                Err(_) => return,
             }
         }
-        Ok(())
     }
 
     // Takes a piece whole, unless a byte of it is refused.
-    fn feed(&mut self, piece: &[u8]) -> Result<(), AllocError> {
+    fn feed(&mut self, rt: &impl Abort, piece: &[u8]) {
         let mut rest = piece;
         for _ in 0..20u8 {
             match self.station.feed(rest) {
                 Ok(fed) => {
                     rest = &rest[fed.used..];
                     self.taken = self.taken.saturating_add(fed.used);
-                    self.note(fed.reply.as_slice(), fed.ends_record)?;
+                    self.note(rt, fed.reply.as_slice(), fed.ends_record);
                 }
-                Err(_) => return Ok(()),
+                Err(_) => return,
             }
         }
-        Ok(())
     }
 }
 
 fn feed_all(rt: &impl Abort, fed: &mut Heard, bytes: &[u8], size: usize) {
     assert!(rt; size > 0);
     for piece in bytes.chunks(size) {
-        assert!(rt; fed.feed(piece).is_ok());
+        fed.feed(rt, piece);
     }
 }
 
@@ -83,7 +80,7 @@ fn same_heard(rt: &impl Abort, size: usize, fed: &Heard, pushed: &Heard) {
 // The same is written and ends behind the same bytes, whatever pieces come, and the same byte is refused.
 fn feeds_as_pushed(rt: &impl Abort, alloc: Global, bytes: &[u8]) {
     let mut pushed = Heard::new(alloc);
-    assert!(rt; pushed.push(bytes).is_ok());
+    pushed.push(rt, bytes);
     for size in [1usize, 2, 3, 5, 8, 13, 64, 4096] {
         let mut fed = Heard::new(alloc);
         feed_all(rt, &mut fed, bytes, size);

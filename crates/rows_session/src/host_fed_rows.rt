@@ -1,7 +1,7 @@
 // A host end that is fed pieces, beside one that is pushed each byte.
 use crate::end_rows::{BOB_ANSWER, CANCEL, OPENED, joined, waiting_host};
-use crate::same_at;
-use std::alloc::{AllocError, Global};
+use crate::{holds, same_at};
+use std::alloc::Global;
 use std::process::Abort;
 use ws_code::VecSink;
 use ws_record::{Opcode, write_record};
@@ -29,45 +29,42 @@ impl Heard {
     }
 
     // What came with the last byte taken.
-    fn note(&mut self, reply: &[u8], event: Option<HostEvent>) -> Result<(), AllocError> {
+    fn note(&mut self, rt: &impl Abort, reply: &[u8], event: Option<HostEvent>) {
         if event.is_some() || !reply.is_empty() {
-            self.written.extend_from_slice(reply)?;
-            self.places.push(self.taken)?;
+            self.written.extend_from_slice(reply).expect(rt, "memory");
+            self.places.push(self.taken).expect(rt, "memory");
         }
         if let Some(event) = event {
-            self.told.push(event)?;
+            self.told.push(event).expect(rt, "memory");
         }
-        Ok(())
     }
 
     // Takes the bytes one after another, up to the first that is refused.
-    fn push(&mut self, bytes: &[u8]) -> Result<(), AllocError> {
+    fn push(&mut self, rt: &impl Abort, bytes: &[u8]) {
         for byte in bytes {
             match self.host.push(*byte) {
                 Ok(HostStep { reply, event }) => {
                     self.taken = self.taken.saturating_add(1);
-                    self.note(reply.as_slice(), event)?;
+                    self.note(rt, reply.as_slice(), event);
                 }
-                Err(_) => return Ok(()),
+                Err(_) => return,
             }
         }
-        Ok(())
     }
 
     // Takes a piece whole, unless a byte of it is refused.
-    fn feed(&mut self, piece: &[u8]) -> Result<(), AllocError> {
+    fn feed(&mut self, rt: &impl Abort, piece: &[u8]) {
         let mut rest = piece;
         for _ in 0..20u8 {
             match self.host.feed(rest) {
                 Ok(HostFed { used, reply, event }) => {
                     rest = &rest[used..];
                     self.taken = self.taken.saturating_add(used);
-                    self.note(reply.as_slice(), event)?;
+                    self.note(rt, reply.as_slice(), event);
                 }
-                Err(_) => return Ok(()),
+                Err(_) => return,
             }
         }
-        Ok(())
     }
 }
 
@@ -84,7 +81,7 @@ fn host_end(rt: &impl Abort, alloc: Global, is_ready: bool) -> HostEnd {
 fn feed_all(rt: &impl Abort, fed: &mut Heard, bytes: &[u8], size: usize) {
     assert!(rt; size > 0);
     for piece in bytes.chunks(size) {
-        assert!(rt; fed.feed(piece).is_ok());
+        fed.feed(rt, piece);
     }
 }
 
@@ -99,7 +96,7 @@ fn same_heard(rt: &impl Abort, size: usize, fed: &Heard, pushed: &Heard) {
 // The same is written and told behind the same bytes, whatever pieces come, and the same byte is refused.
 fn feeds_as_pushed(rt: &impl Abort, alloc: Global, is_ready: bool, bytes: &[u8]) {
     let mut pushed = Heard::new(alloc, host_end(rt, alloc, is_ready));
-    assert!(rt; pushed.push(bytes).is_ok());
+    pushed.push(rt, bytes);
     for size in [1usize, 2, 3, 5, 8, 13, 64, 4096] {
         let mut fed = Heard::new(alloc, host_end(rt, alloc, is_ready));
         feed_all(rt, &mut fed, bytes, size);
@@ -111,7 +108,8 @@ fn feeds_as_pushed(rt: &impl Abort, alloc: Global, is_ready: bool, bytes: &[u8])
 fn pieces_are_fed_to_a_host_end(rt: HostRuntime) {
     let alloc = rt.alloc();
     let mut sink = VecSink::new(alloc);
-    assert!(rt; write_record(&mut sink, ATN, Opcode::NoOperation, &[]).is_ok());
+    let written = write_record(&mut sink, ATN, Opcode::NoOperation, &[]);
+    holds(&rt, written.is_ok());
     let attention = sink.into_inner();
     let silent = b"\xff\xf1\xff\xfc\x21".as_slice();
     for (is_ready, rows) in [

@@ -3,7 +3,7 @@ use crate::end_rows::{
     BOB, BOB_ANSWER, CANCEL, OPENING, joined, keys_of, last_event, ready_host, ready_station,
     record, replies, send, send_body, waiting_host,
 };
-use crate::same;
+use crate::{holds, same};
 use std::alloc::Global;
 use std::process::Abort;
 use ws_code::{Reason, SliceSource, VecSink};
@@ -16,7 +16,7 @@ use ws_stream::{AnswerPart, Answers, Element};
 fn host_refuses(rt: &impl Abort, host: &mut HostEnd, bytes: &[u8], place: usize, why: Reason) {
     for (at, byte) in bytes.iter().enumerate() {
         match host.push(*byte) {
-            Ok(_) => assert!(rt; at < place),
+            Ok(_) => holds(rt, at < place),
             Err(Refusal::At { reason, .. }) => {
                 same(rt, (at, reason), (place, why));
                 return;
@@ -54,8 +54,8 @@ fn cancels(rt: &impl Abort, host: &mut HostEnd) {
 
 fn hears_of_its_cancel(rt: &impl Abort, host: &mut HostEnd) {
     let told = last_event(rt, host, CANCEL);
-    assert!(rt; matches!(&told, Some(HostEvent::Cancelled)));
-    assert!(rt; host.asked().is_none());
+    holds(rt, matches!(&told, Some(HostEvent::Cancelled)));
+    holds(rt, host.asked().is_none());
 }
 
 #[test]
@@ -96,7 +96,7 @@ fn terminals_are_named(rt: HostRuntime) {
     host_refuses(&rt, &mut opened_host(alloc), wide, 19, reason);
     let mut host = opened_host(alloc);
     for byte in b"\xff\xfb\x18\xff\xfa\x18\x00ibm-3179-2\xff\xf0".as_slice() {
-        assert!(rt; host.push(*byte).is_ok());
+        holds(&rt, host.push(*byte).is_ok());
     }
 }
 
@@ -143,7 +143,6 @@ const ZERO_FILLED: &[u8] = b"\x04\x11\x00\x08\x11\x06\x34\x1d\x47\x05\x20\x00\x0
 
 // A form, the keys that answer it, how many of them are refused, the answer as a station writes it,
 // and what a host end reads from it, as `flat` gives it.
-#[derive(Clone, Copy)]
 struct AnsweredForm {
     body: &'static [u8],
     keys: &'static str,
@@ -325,11 +324,11 @@ fn is_read(rt: &impl Abort, alloc: Global, host: &mut HostEnd, form: &AnsweredFo
 #[test]
 fn answers_are_written_and_read(rt: HostRuntime) {
     let alloc = rt.alloc();
-    for form in ANSWERED_FORMS {
+    for form in &ANSWERED_FORMS {
         let sent = record(&rt, alloc, form.body);
         let mut host = ready_host(&rt, alloc);
         send(&rt, alloc, &mut host, sent.as_slice());
-        is_answered(&rt, alloc, sent.as_slice(), &form);
-        is_read(&rt, alloc, &mut host, &form);
+        is_answered(&rt, alloc, sent.as_slice(), form);
+        is_read(&rt, alloc, &mut host, form);
     }
 }

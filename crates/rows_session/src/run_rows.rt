@@ -2,7 +2,7 @@
 use crate::end_rows::{
     BOB, BOB_ANSWER, OPENED, OPENING, joined, key_named, keys_of, new_station, record,
 };
-use crate::same;
+use crate::{holds, same};
 use arrayvec::ArrayVec;
 use std::alloc::Global;
 use std::process::Abort;
@@ -123,17 +123,17 @@ const STOPPED: [(&[u8], Fault); 4] = [
 
 #[test]
 fn a_run_tells_where_it_stops(rt: HostRuntime) {
-    for (bytes, fault) in STOPPED {
+    for (bytes, fault) in &STOPPED {
         let mut source = SliceSource::new(bytes);
         let stopped = run(&mut source, &mut StuckSink, &[]);
-        same(&rt, stopped, Err(fault));
+        same(&rt, stopped, Err(*fault));
     }
 }
 
 fn filled<const N: usize>(rt: &impl Abort, parts: &[&[u8]]) -> ArrayVec<u8, N> {
     let mut bytes: ArrayVec<u8, N> = ArrayVec::new();
     for part in parts {
-        assert!(rt; bytes.try_extend_from_slice(part).is_ok());
+        holds(rt, bytes.try_extend_from_slice(part).is_ok());
     }
     bytes
 }
@@ -144,7 +144,7 @@ fn takes_and_answers(rt: &impl Abort, stream: &[u8], keys: &[(u32, Key)]) {
     let mut replies: ArrayVec<u8, 31> = ArrayVec::new();
     for byte in stream {
         let reply = station.push(*byte).expect(rt, "a byte");
-        assert!(rt; replies.try_extend_from_slice(reply.as_slice()).is_ok());
+        holds(rt, replies.try_extend_from_slice(reply.as_slice()).is_ok());
     }
     same(rt, replies.as_slice(), OPENED);
     answers_bob(rt, &mut station, keys);
@@ -154,7 +154,7 @@ fn takes_and_answers(rt: &impl Abort, stream: &[u8], keys: &[(u32, Key)]) {
 fn answers_bob(rt: &impl Abort, station: &mut Station, keys: &[(u32, Key)]) {
     let mut last = None;
     for (_, key) in keys {
-        assert!(rt; last.is_none());
+        holds(rt, last.is_none());
         last = station.key(*key).expect(rt, "a key that is taken");
     }
     match last {

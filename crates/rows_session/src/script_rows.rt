@@ -1,4 +1,4 @@
-use crate::same;
+use crate::{same, same_at, says};
 use std::alloc::{AllocError, Global};
 use std::process::Abort;
 use ws_code::{Aid, List};
@@ -71,13 +71,11 @@ const BAD: [(&[u8], u64); 57] = [
 
 #[test]
 fn bad_lines(rt: HostRuntime) {
-    for (text, number) in BAD {
+    for (text, number) in &BAD {
         let fault = read_script(rt.alloc(), text).err();
-        assert_eq!(rt; fault, Some(ScriptFault::Line(number)), "{text:?}");
+        same_at(&rt, *text, fault, Some(ScriptFault::Line(*number)));
     }
-    let fault = ScriptFault::Line(12);
-    let line = format!(in rt.alloc(); "{fault}").expect(&rt, "memory");
-    same(&rt, line.as_str(), "script line 12");
+    says(&rt, rt.alloc(), ScriptFault::Line(12), "script line 12");
 }
 
 fn moves_of(rt: &impl Abort, alloc: Global, text: &[u8]) -> Vec<Move> {
@@ -124,6 +122,8 @@ const GOOD_MOVES: [&str; 15] = [
     "up all",
 ];
 
+const NO_MOVES: [&[u8]; 3] = [b"", b"\n\r\n", b"#"];
+
 #[test]
 fn good_lines(rt: HostRuntime) {
     let alloc = rt.alloc();
@@ -138,8 +138,8 @@ fn good_lines(rt: HostRuntime) {
         same(&rt, Some(words.as_str()), wanted.next().copied());
     }
     same(&rt, wanted.next(), None);
-    for empty in [b"".as_slice(), b"\n\r\n".as_slice(), b"#".as_slice()] {
-        assert!(rt; moves_of(&rt, alloc, empty).is_empty());
+    for empty in &NO_MOVES {
+        same(&rt, moves_of(&rt, alloc, empty).len(), 0);
     }
 }
 
@@ -188,11 +188,11 @@ const ANSWERING: [(&str, u8); 12] = [
 #[test]
 fn key_names(rt: HostRuntime) {
     let alloc = rt.alloc();
-    for (name, key) in KEYS {
-        is_named(&rt, alloc, name, key);
+    for (name, key) in &KEYS {
+        is_named(&rt, alloc, name, *key);
     }
-    for (name, byte) in ANSWERING {
-        let aid = Aid::from_byte(byte).expect(&rt, "a key");
+    for (name, byte) in &ANSWERING {
+        let aid = Aid::from_byte(*byte).expect(&rt, "a key");
         is_named(&rt, alloc, name, Key::Aid(aid));
     }
     for number in 1..=24u8 {

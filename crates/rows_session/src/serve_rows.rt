@@ -1,5 +1,5 @@
 //! Rows of scripts for a host: records that are sent in words.
-use crate::same;
+use crate::{same, same_at};
 use std::alloc::Global;
 use std::process::Abort;
 use ws_code::List;
@@ -80,22 +80,19 @@ fn sent<'a>(rt: &impl Abort, lines: &'a [HostLine]) -> (Opcode, &'a List<Element
 
 #[test]
 fn words_are_the_same(rt: HostRuntime) {
-    for (words, hex) in SAME {
+    for (words, hex) in &SAME {
         let told = lines_of(&rt, rt.alloc(), words);
         let wanted = lines_of(&rt, rt.alloc(), hex);
         same(&rt, told.len(), wanted.len());
-        same(
-            &rt,
-            sent(&rt, told.as_slice()),
-            sent(&rt, wanted.as_slice()),
-        );
+        let sent_in_hex = sent(&rt, wanted.as_slice());
+        same(&rt, sent(&rt, told.as_slice()), sent_in_hex);
     }
 }
 
 #[test]
 fn bad_lines(rt: HostRuntime) {
-    for (text, number) in BAD {
+    for (text, number) in &BAD {
         let fault = read_lines::<HostLine>(rt.alloc(), text).err();
-        assert_eq!(rt; fault, Some(ScriptFault::Line(number)), "{text:?}");
+        same_at(&rt, *text, fault, Some(ScriptFault::Line(*number)));
     }
 }

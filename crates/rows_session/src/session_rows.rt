@@ -1,11 +1,11 @@
 // Whole sessions by scripts of a move a line, as `t5250 play` reads them, and `trickle`: a byte down
 // and a byte up, 200 times.
-use crate::end_rows::{key_named, typed};
+use crate::end_rows::key_named;
 use crate::{same, same_at};
 use std::alloc::Global;
 use std::process::Abort;
 use ws_code::{Address, List};
-use ws_keys::{HostAnswer, KeyRefusal};
+use ws_keys::{HostAnswer, Key, KeyRefusal};
 use ws_nego::TerminalType;
 use ws_record::{Opcode, read_body};
 use ws_screen::Screen;
@@ -105,9 +105,9 @@ fn to_and_fro(rt: &impl Abort, moves: &mut Vec<Move>, count: usize, times: u8) {
     }
 }
 
-fn add_keys(rt: &impl Abort, alloc: Global, moves: &mut Vec<Move>, text: &str) {
-    for key in typed(rt, alloc, text) {
-        add(rt, moves, Move::Key(key));
+fn add_keys(rt: &impl Abort, moves: &mut Vec<Move>, text: &str) {
+    for character in text.chars() {
+        add(rt, moves, Move::Key(Key::Char(character)));
     }
 }
 
@@ -128,7 +128,7 @@ fn add_line(rt: &impl Abort, alloc: Global, moves: &mut Vec<Move>, line: &str) {
     match command {
         "settle" => to_and_fro(rt, moves, usize::MAX, 4),
         "trickle" => to_and_fro(rt, moves, 1, 200),
-        "type" => add_keys(rt, alloc, moves, words),
+        "type" => add_keys(rt, moves, words),
         _ => add(rt, moves, step_of(rt, alloc, command, words)),
     }
 }
@@ -157,7 +157,6 @@ fn name_of(event: &Event) -> &'static str {
 }
 
 // A session and the events that it tells.
-#[derive(Clone, Copy)]
 struct Told {
     name: &'static str,
     script: &'static str,
@@ -202,14 +201,13 @@ fn tells(rt: &impl Abort, name: &str, events: &[Event], words: &str) {
 
 #[test]
 fn sessions_tell_their_events_in_order(rt: HostRuntime) {
-    for told in TOLD {
+    for told in &TOLD {
         let report = play(&rt, rt.alloc(), told.script);
         tells(&rt, told.name, report.events.as_slice(), told.events);
     }
 }
 
 // Where the cursor was, and what the one field of the only answer holds.
-#[derive(Clone, Copy)]
 struct Answered {
     script: &'static str,
     column: u8,
@@ -262,12 +260,12 @@ fn is_answered(rt: &impl Abort, events: &[Event], row: &Answered) {
 
 #[test]
 fn answers_hold_what_was_typed(rt: HostRuntime) {
-    for row in ANSWERED {
+    for row in &ANSWERED {
         let report = play(&rt, rt.alloc(), row.script);
-        is_answered(&rt, report.events.as_slice(), &row);
-        assert!(rt; report.host.asked().is_none());
-        assert!(rt; report.to_station.as_slice().is_empty());
-        assert!(rt; report.to_host.as_slice().is_empty());
+        is_answered(&rt, report.events.as_slice(), row);
+        same(&rt, report.host.asked().is_none(), true);
+        same(&rt, report.to_station.as_slice().is_empty(), true);
+        same(&rt, report.to_host.as_slice().is_empty(), true);
     }
 }
 
@@ -296,7 +294,6 @@ fn typed_while_arriving_stays_on_the_screen(rt: HostRuntime) {
 
 // What is in flight to the station and to the host end behind so many full deliveries of an opening,
 // first one to the station (RFC 4777).
-#[derive(Clone, Copy)]
 struct InFlight {
     deliveries: usize,
     to_station: &'static [u8],
@@ -357,7 +354,7 @@ fn deliveries(rt: &impl Abort, alloc: Global, count: usize) -> Vec<Move> {
 #[test]
 fn opening_in_full_deliveries(rt: HostRuntime) {
     let alloc = rt.alloc();
-    for row in OPENING {
+    for row in &OPENING {
         let moves = deliveries(&rt, alloc, row.deliveries);
         let report = run(&rt, alloc, moves.as_slice());
         same(&rt, report.to_station.as_slice(), row.to_station);

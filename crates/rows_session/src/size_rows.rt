@@ -1,6 +1,6 @@
 // Bodies and answers of all lengths: with memory enough none is refused for want of it.
 use crate::end_rows::{joined, ready_host, record, send_body};
-use crate::{same, same_at};
+use crate::{holds, same, same_at};
 use std::alloc::Global;
 use std::process::Abort;
 use ws_code::{Address, DataByte, List, Reason};
@@ -13,7 +13,7 @@ use ws_stream::{AnswerPart, Answers, Element};
 const LARGER: [usize; 6] = [4095, 4096, 4097, 32767, 32768, 65525];
 
 fn add<T: Drop>(rt: &impl Abort, items: &mut Vec<T>, item: T) {
-    assert!(rt; items.push(item).is_ok());
+    items.push(item).expect(rt, "memory");
 }
 
 // A body of so many bytes, four at least: Write to Display, letters, and as many addresses with a letter as there is
@@ -65,7 +65,7 @@ fn refuses(rt: &impl Abort, size: usize, host: &mut HostEnd, bytes: &[u8]) {
 fn bodies_of_all_lengths(rt: HostRuntime) {
     let alloc = rt.alloc();
     let mut host = ready_host(&rt, alloc);
-    assert!(rt; host.send(Opcode::OutputOnly, &[]).is_ok());
+    holds(&rt, host.send(Opcode::OutputOnly, &[]).is_ok());
     for size in (4..=300usize).chain(LARGER.iter().copied()) {
         let body = body_of(&rt, alloc, size);
         same(&rt, body.len(), size);
@@ -156,7 +156,7 @@ fn sessions_of_all_lengths(rt: HostRuntime) {
         let report = report.expect(&rt, "memory");
         let told = matches!(report.events.as_slice(), [Event::Host(HostEvent::Ready(_))]);
         same_at(&rt, size, told, true);
-        assert!(rt; report.to_station.as_slice().is_empty());
+        holds(&rt, report.to_station.as_slice().is_empty());
         same_at(&rt, size, report.station.records(), 1);
     }
 }

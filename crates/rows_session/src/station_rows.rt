@@ -3,7 +3,7 @@ use crate::end_rows::{
     BOB, OPENING, PAST_END, key_named, keys_of, last_event, new_station, push_all, ready_host,
     ready_station, record, replies,
 };
-use crate::{same, same_at};
+use crate::{holds, same, same_at};
 use std::alloc::Global;
 use std::process::Abort;
 use ws_code::{Address, Fault, Reason, StuckSink, VecSink};
@@ -74,13 +74,12 @@ const OPENED_BY: [(&[u8], &[u8]); 6] = [
 fn station_opening(rt: HostRuntime) {
     let alloc = rt.alloc();
     let mut station = new_station();
-    for (taken, written) in OPENED_BY {
+    for (taken, written) in &OPENED_BY {
         replies(&rt, alloc, &mut station, taken, written);
     }
 }
 
 // What a new station takes, and what it writes by that the first time and each later time.
-#[derive(Clone, Copy)]
 struct Flood {
     taken: &'static [u8],
     first: &'static [u8],
@@ -110,7 +109,7 @@ const FLOODS: [Flood; 3] = [
 #[test]
 fn floods_are_answered(rt: HostRuntime) {
     let alloc = rt.alloc();
-    for flood in FLOODS {
+    for flood in &FLOODS {
         let mut station = new_station();
         replies(&rt, alloc, &mut station, flood.taken, flood.first);
         for _ in 1..10_000u16 {
@@ -123,7 +122,7 @@ fn same_cells(rt: &impl Abort, one: &Screen, other: &Screen) {
     for row in 1..=24u8 {
         for column in 1..=80u8 {
             let at = Address::new(row, column).expect(rt, "a cell");
-            assert_eq!(rt; one.cell(at), other.cell(at), "{row} {column}");
+            same_at(rt, (row, column), one.cell(at), other.cell(at));
         }
     }
 }
@@ -199,7 +198,7 @@ fn keys_are_refused(rt: HostRuntime) {
     let alloc = rt.alloc();
     let unready = "Enter:not-ready Attention:not-ready SystemRequest:not-ready Tab:locked";
     press_all(&rt, alloc, &mut new_station(), unready);
-    for (body, presses) in KEYS_REFUSED {
+    for (body, presses) in &KEYS_REFUSED {
         let mut station = ready_station(&rt, alloc, body);
         press_all(&rt, alloc, &mut station, presses);
     }
@@ -207,7 +206,7 @@ fn keys_are_refused(rt: HostRuntime) {
 
 fn takes(rt: &impl Abort, station: &mut Station, bytes: &[u8]) {
     for byte in bytes {
-        assert!(rt; station.push(*byte).is_ok());
+        holds(rt, station.push(*byte).is_ok());
     }
 }
 
@@ -254,17 +253,23 @@ const ATTENTION_RECORDS: [(&str, &[u8]); 2] = [
     ),
 ];
 
+// The key sends this record.
+fn sends(rt: &impl Abort, alloc: Global, station: &mut Station, name: &str, written: &[u8]) {
+    let key = key_named(name).expect(rt, "a key");
+    match station.key(key) {
+        Ok(Some(answer)) => is_written(rt, alloc, &answer, written),
+        _ => panic!(rt; "a record"),
+    }
+}
+
 #[test]
 fn attention_records(rt: HostRuntime) {
     let alloc = rt.alloc();
     let mut station = ready_station(&rt, alloc, b"");
-    for (name, written) in ATTENTION_RECORDS {
-        let key = key_named(name).expect(&rt, "a key");
-        match station.key(key) {
-            Ok(Some(answer)) => is_written(&rt, alloc, &answer, written),
-            _ => panic!(rt; "a record"),
-        }
+    for (name, written) in &ATTENTION_RECORDS {
+        sends(&rt, alloc, &mut station, name, written);
         let mut host = ready_host(&rt, alloc);
-        same(&rt, word_of(last_event(&rt, &mut host, written)), name);
+        let told = last_event(&rt, &mut host, written);
+        same(&rt, word_of(told), *name);
     }
 }

@@ -1,8 +1,8 @@
 use crate::{holds, same, same_at, same_bytes};
 use arrayvec::ArrayVec;
-use std::alloc::{AllocError, Global};
+use std::alloc::Global;
+use std::fmt::Display;
 use std::process::Abort;
-use std::test::Fail;
 use ws_code::{
     Address, Adjust, Aid, ByteList, DataByte, Fault, Ffw, List, Reason, Shift, ShortList, ebcdic,
     word,
@@ -69,55 +69,59 @@ fn reasons_have_their_numbers_and_names(rt: HostRuntime) {
 }
 
 // Whether a text is short, and begins with a number and a colon.
-fn is_sentence(alloc: Global, text: &str, number: u8) -> Result<bool, AllocError> {
-    let front = format!(in alloc; "{number}: ")?;
-    Ok(text.starts_with(front.as_str()) && text.len() < 80)
+fn is_sentence(rt: &impl Abort, alloc: Global, text: &str, number: u8) -> bool {
+    let front = format!(in alloc; "{number}: ").expect(rt, "memory");
+    text.starts_with(front.as_str()) && text.len() < 80
 }
 
 #[test]
-fn sentences_begin_with_the_number(rt: HostRuntime) -> Result<(), Fail> {
+fn sentences_begin_with_the_number(rt: HostRuntime) {
     for (reason, number, _name) in &REASONS {
-        holds(&rt, is_sentence(rt.alloc(), reason.text(), *number)?);
+        holds(&rt, is_sentence(&rt, rt.alloc(), reason.text(), *number));
     }
     let query = "30: structured fields aren't part of the profile";
     same(&rt, Reason::StructuredField.text(), query);
-    Ok(())
+}
+
+// What is told has this text.
+fn says<T: Display + Drop>(rt: &impl Abort, alloc: Global, told: T, text: &str) {
+    let found = told.to_string(alloc).expect(rt, "memory");
+    same(rt, found.as_str(), text);
+}
+
+const FAULTS: [(Fault, &str); 6] = [
+    (
+        Fault::Refused {
+            place: 7,
+            reason: Reason::BadVariableLength,
+        },
+        "refused at 7: reason 13 BadVariableLength",
+    ),
+    (Fault::Truncated { at: 12 }, "truncated at 12"),
+    (Fault::Memory, "memory"),
+    (Fault::Read, "cannot read"),
+    (Fault::Write, "cannot write"),
+    (Fault::Failed, "failed"),
+];
+
+#[test]
+fn faults_have_their_texts(rt: HostRuntime) {
+    for (fault, text) in &FAULTS {
+        says(&rt, rt.alloc(), *fault, text);
+    }
+    says(&rt, rt.alloc(), Reason::Roll, "reason 33 Roll");
+}
+
+fn list_to(rt: &impl Abort, alloc: Global, last: u16) -> List<u16> {
+    List::of([1, 2, last].to_vec(alloc).expect(rt, "memory"))
 }
 
 #[test]
-fn faults_have_their_texts(rt: HostRuntime) -> Result<(), Fail> {
-    let refused = Fault::Refused {
-        place: 7,
-        reason: Reason::BadVariableLength,
-    };
-    let texts = [
-        (refused, "refused at 7: reason 13 BadVariableLength"),
-        (Fault::Truncated { at: 12 }, "truncated at 12"),
-        (Fault::Memory, "memory"),
-        (Fault::Read, "cannot read"),
-        (Fault::Write, "cannot write"),
-        (Fault::Failed, "failed"),
-    ];
-    for (fault, text) in &texts {
-        same(&rt, fault.to_string(rt.alloc())?.as_str(), *text);
-    }
-    let reason = Reason::Roll.to_string(rt.alloc())?;
-    same(&rt, reason.as_str(), "reason 33 Roll");
-    Ok(())
-}
-
-fn list_to(alloc: Global, last: u16) -> Result<List<u16>, AllocError> {
-    Ok(List::of([1, 2, last].to_vec(alloc)?))
-}
-
-#[test]
-fn lists_are_compared_by_what_they_hold(rt: HostRuntime) -> Result<(), Fail> {
-    for (last, is_same) in [(3, true), (4, false)] {
-        let found = list_to(rt.alloc(), 3)? == list_to(rt.alloc(), last)?;
-        same(&rt, found, is_same);
-    }
+fn lists_are_compared_by_what_they_hold(rt: HostRuntime) {
+    let list = list_to(&rt, rt.alloc(), 3);
+    same(&rt, list == list_to(&rt, rt.alloc(), 3), true);
+    same(&rt, list == list_to(&rt, rt.alloc(), 4), false);
     short_lists_are_compared(&rt);
-    Ok(())
 }
 
 fn short_lists_are_compared(rt: &impl Abort) {
@@ -133,8 +137,8 @@ fn short_lists_are_compared(rt: &impl Abort) {
 }
 
 #[test]
-fn lists_keep_what_they_hold(rt: HostRuntime) -> Result<(), Fail> {
-    let list = List::of([1u16, 2, 3].to_vec(rt.alloc())?);
+fn lists_keep_what_they_hold(rt: HostRuntime) {
+    let list = list_to(&rt, rt.alloc(), 3);
     same(&rt, list.as_slice(), [1, 2, 3].as_slice());
     same(&rt, list.into_inner().as_slice(), [1, 2, 3].as_slice());
     let mut bytes = ArrayVec::new();
@@ -142,7 +146,6 @@ fn lists_keep_what_they_hold(rt: HostRuntime) -> Result<(), Fail> {
     let bytes = ByteList::<4>::of(bytes);
     same_bytes(&rt, bytes.as_slice(), &[0x41]);
     same_bytes(&rt, bytes.into_inner().as_slice(), &[0x41]);
-    Ok(())
 }
 
 // The code points of bytes 40 to FE, sixteen to a line.
@@ -176,28 +179,35 @@ fn code_page(rt: HostRuntime) {
     same(&rt, ebcdic::from_char('€'), None);
 }
 
+// Rows and columns, and the places of their cells.
+const CELLS: [(u8, u8, u16); 5] = [
+    (1, 1, 0),
+    (1, 80, 79),
+    (2, 1, 80),
+    (6, 53, 452),
+    (24, 80, 1919),
+];
+
+const NO_CELLS: [(u8, u8); 4] = [(0, 1), (25, 1), (1, 0), (1, 81)];
+
+fn expect_cell(rt: &impl Abort, row: u8, col: u8, place: u16) {
+    let address = Address::new(row, col).expect(rt, "row and column");
+    same(rt, address.place(), place);
+    let found = Address::at(place).expect(rt, "place");
+    same(rt, found, address);
+    same(rt, (found.row(), found.col()), (row, col));
+}
+
 #[test]
-fn addresses(rt: HostRuntime) -> Result<(), Fail> {
-    let cells = [
-        (1, 1, 0),
-        (1, 80, 79),
-        (2, 1, 80),
-        (6, 53, 452),
-        (24, 80, 1919),
-    ];
-    for (row, col, place) in cells {
-        let address = Address::new(row, col).ok_or("row and column")?;
-        same(&rt, address.place(), place);
-        let found = Address::at(place).ok_or("place")?;
-        same(&rt, found, address);
-        same(&rt, (found.row(), found.col()), (row, col));
+fn addresses(rt: HostRuntime) {
+    for (row, col, place) in &CELLS {
+        expect_cell(&rt, *row, *col, *place);
     }
-    for (row, col) in [(0, 1), (25, 1), (1, 0), (1, 81)] {
-        same(&rt, Address::new(row, col), None);
+    for (row, col) in &NO_CELLS {
+        same(&rt, Address::new(*row, *col), None);
     }
     same(&rt, Address::at(1920), None);
     same(&rt, Address::default().place(), 0);
-    Ok(())
 }
 
 // The bytes of the attention keys that aren't function keys, and whether field data come with them:
@@ -229,48 +239,60 @@ fn carries_data(byte: u8) -> Option<bool> {
     FUNCTION_KEYS.contains(&byte).then_some(true)
 }
 
+// A byte that is a key's has it back, and tells whether field data come with it.
+fn expect_key(rt: &impl Abort, byte: u8) {
+    let found = match Aid::from_byte(byte) {
+        Some(key) => {
+            same(rt, key.byte(), byte);
+            Some(key.carries_data())
+        }
+        None => None,
+    };
+    same_at(rt, byte, found, carries_data(byte));
+}
+
 #[test]
-fn attention_keys(rt: HostRuntime) -> Result<(), Fail> {
+fn attention_keys(rt: HostRuntime) {
     for byte in 0..=255u8 {
-        let carries = Aid::from_byte(byte).map(|key| key.carries_data());
-        same_at(&rt, byte, carries, carries_data(byte));
-        let again = Aid::from_byte(byte).map_or(byte, |key| key.byte());
-        same(&rt, again, byte);
+        expect_key(&rt, byte);
     }
-    function_keys(&rt)
+    function_keys(&rt);
+}
+
+fn expect_function_key(rt: &impl Abort, number: u8, byte: u8) {
+    let key = Aid::function(number).expect(rt, "function key");
+    same_at(rt, number, key.byte(), byte);
+    same(rt, key.function_number(), Some(number));
 }
 
 // Each function key has its byte and its number, and no other key has one.
-fn function_keys(rt: &impl Abort) -> Result<(), Fail> {
+fn function_keys(rt: &impl Abort) {
     for (at, byte) in FUNCTION_KEYS.iter().enumerate() {
-        let number = at as u8 + 1;
-        let key = Aid::function(number).ok_or("function key")?;
-        same_at(rt, number, key.byte(), *byte);
-        same(rt, key.function_number(), Some(number));
+        expect_function_key(rt, at as u8 + 1, *byte);
     }
     for (byte, _) in &OTHER_KEYS {
-        let key = Aid::from_byte(*byte).ok_or("key")?;
+        let key = Aid::from_byte(*byte).expect(rt, "key");
         same(rt, key.function_number(), None);
     }
-    for number in [0, 25] {
-        same(rt, Aid::function(number), None);
-    }
-    Ok(())
+    same(rt, Aid::function(0), None);
+    same(rt, Aid::function(25), None);
 }
 
+const ORDERS: [u8; 11] = [
+    0x01, 0x02, 0x03, 0x04, 0x10, 0x11, 0x12, 0x13, 0x14, 0x15, 0x1d,
+];
+
+// A byte is data, and has its value, unless it begins an order.
 #[test]
 fn data_bytes(rt: HostRuntime) {
-    let orders = [
-        0x01, 0x02, 0x03, 0x04, 0x10, 0x11, 0x12, 0x13, 0x14, 0x15, 0x1d,
-    ];
     for byte in 0..=255u8 {
-        let value = DataByte::new(byte).map(|data| data.value());
-        let expected = if orders.contains(&byte) {
-            None
-        } else {
-            Some(byte)
-        };
-        same(&rt, value, expected);
+        match DataByte::new(byte) {
+            Some(data) => {
+                same(&rt, data.value(), byte);
+                same_at(&rt, byte, ORDERS.contains(&byte), false);
+            }
+            None => same_at(&rt, byte, ORDERS.contains(&byte), true),
+        }
     }
 }
 
@@ -302,8 +324,12 @@ const FORMAT_WORDS: [FormatRow; 2] = [
     },
 ];
 
-fn expect_format(rt: &impl Abort, row: &FormatRow) -> Result<(), Fail> {
-    let word = Ffw::new(row.value).ok_or("format word")?;
+fn word_of(rt: &impl Abort, value: u16) -> Ffw {
+    Ffw::new(value).expect(rt, "format word")
+}
+
+fn expect_format(rt: &impl Abort, row: &FormatRow) {
+    let word = word_of(rt, row.value);
     same(rt, word.bypass(), row.has_all);
     same(rt, word.dup(), row.has_all);
     same(rt, word.modified(), row.has_all);
@@ -313,7 +339,6 @@ fn expect_format(rt: &impl Abort, row: &FormatRow) -> Result<(), Fail> {
     same(rt, word.adjust(), row.adjust);
     let turned = word.with_modified(!row.has_all);
     same(rt, turned.value(), row.turned);
-    Ok(())
 }
 
 const SHIFTS: [(u16, Shift); 4] = [
@@ -325,22 +350,22 @@ const SHIFTS: [(u16, Shift); 4] = [
 
 const ADJUSTS: [(u16, Adjust); 2] = [(0x4005, Adjust::RightZero), (0x4007, Adjust::MandatoryFill)];
 
+const NO_FORMAT_WORDS: [u16; 4] = [0x3fff, 0x4400, 0x4600, 0x8000];
+
 #[test]
-fn format_words(rt: HostRuntime) -> Result<(), Fail> {
+fn format_words(rt: HostRuntime) {
     for row in &FORMAT_WORDS {
-        expect_format(&rt, row)?;
+        expect_format(&rt, row);
     }
     for (value, shift) in &SHIFTS {
-        same(&rt, Ffw::new(*value).ok_or("shift")?.shift(), *shift);
+        same(&rt, word_of(&rt, *value).shift(), *shift);
     }
     for (value, adjust) in &ADJUSTS {
-        let word = Ffw::new(*value).ok_or("adjust")?;
-        same(&rt, word.adjust(), Some(*adjust));
+        same(&rt, word_of(&rt, *value).adjust(), Some(*adjust));
     }
-    for value in [0x3fff, 0x4400, 0x4600, 0x8000] {
-        same(&rt, Ffw::new(value), None);
+    for value in &NO_FORMAT_WORDS {
+        same(&rt, Ffw::new(*value), None);
     }
     same(&rt, Ffw::new(0x4000), Some(Ffw::default()));
     same(&rt, Ffw::new(word(0x41, 0x02)), Ffw::new(0x4102));
-    Ok(())
 }

@@ -2,13 +2,13 @@ ghost use Rattle.std.specs.Prelude.{◌≡◌, List, ℕ, length, IfOk};
 ghost use Rattle.ws_code.specs.Device.{GaveAll};
 
 use crate::{holds, same, same_at, same_bytes};
-use std::alloc::{AllocError, Global};
+use std::alloc::Global;
 use std::io;
 use std::io::{ErrorKind, Read, Write};
-use std::test::Fail;
+use std::process::Abort;
 use ws_code::{
-    DeviceFailed, FailingSink, FailingSource, Fault, ReadSource, SliceSource, Source, StuckSink,
-    VecSink, WriteSink, write_whole,
+    DeviceFailed, FailingSink, FailingSource, Fault, ReadSource, Sink, SliceSource, Source,
+    StuckSink, VecSink, WriteSink, write_whole,
 };
 
 // Counts the bytes of a source by small reads.
@@ -64,57 +64,65 @@ fn sources_give_all_bytes(rt: HostRuntime) {
     holds(&rt, reader.into_inner().is_empty());
 }
 
-#[test]
-fn a_source_fails_at_each_read(rt: HostRuntime) {
-    for reads in 0..7 {
-        let mut source = FailingSource::new(b"bytes", reads);
-        let counted = count_all(&mut source);
-        if reads < 6 {
-            same_at(&rt, reads, counted, Err(Fault::Read));
-            same(&rt, source.failures(), 1);
-        } else {
-            same(&rt, counted, Ok(5));
-            same(&rt, source.failures(), 0);
-        }
-    }
+// What is counted of a source that fails behind so many reads, and how many failures it tells.
+fn counts_behind(rt: &impl Abort, reads: u64, counted: Result<u64, Fault>, failures: u64) {
+    let mut source = FailingSource::new(b"bytes", reads);
+    same_at(rt, reads, count_all(&mut source), counted);
+    same(rt, source.failures(), failures);
 }
 
 #[test]
-fn sinks_keep_their_bytes(rt: HostRuntime) -> Result<(), Fail> {
+fn a_source_fails_at_each_read(rt: HostRuntime) {
+    for reads in 0..6 {
+        counts_behind(&rt, reads, Err(Fault::Read), 1);
+    }
+    counts_behind(&rt, 6, Ok(5), 0);
+}
+
+// What writing these bytes to the sink comes to.
+fn writes<S: Sink>(rt: &impl Abort, sink: &mut S, bytes: &[u8], written: Result<(), Fault>) {
+    same_at(rt, bytes.len(), write_whole(sink, bytes), written);
+}
+
+#[test]
+fn sinks_keep_their_bytes(rt: HostRuntime) {
     let mut sink = VecSink::new(rt.alloc());
-    same(&rt, write_whole(&mut sink, b"one "), Ok(()));
-    same(&rt, write_whole(&mut sink, b""), Ok(()));
-    same(&rt, write_whole(&mut sink, b"two"), Ok(()));
+    writes(&rt, &mut sink, b"one ", Ok(()));
+    writes(&rt, &mut sink, b"", Ok(()));
+    writes(&rt, &mut sink, b"two", Ok(()));
     same_bytes(&rt, sink.as_slice(), b"one two");
     same(&rt, sink.failures(), 0);
-    same_bytes(&rt, kept(rt.alloc(), b"three")?.as_slice(), b"three");
+    let three = kept(rt.alloc(), b"three").expect(&rt, "memory");
+    same_bytes(&rt, three.as_slice(), b"three");
     let mut writer = WriteSink::new(Vec::new(rt.alloc()));
-    same(&rt, write_whole(&mut writer, b"four"), Ok(()));
+    writes(&rt, &mut writer, b"four", Ok(()));
     same(&rt, writer.failures(), 0);
     same_bytes(&rt, writer.into_inner().as_slice(), b"four");
-    Ok(())
+}
+
+// What writing comes to in a sink that fails behind so many writes, and how many failures it tells.
+fn writes_behind(
+    rt: &impl Abort,
+    alloc: Global,
+    calls: u8,
+    written: Result<(), Fault>,
+    failures: u64,
+) {
+    let mut sink = FailingSink::new(alloc, u64::from(calls));
+    same_at(rt, calls, write_whole(&mut sink, b"bytes"), written);
+    let front = b"bytes".as_slice().get(..usize::from(calls));
+    same_at(rt, calls, Some(sink.as_slice()), front);
+    same_at(rt, calls, sink.failures(), failures);
 }
 
 #[test]
 fn a_sink_fails_at_each_write(rt: HostRuntime) {
-    for writes in 0..6usize {
-        let mut sink = FailingSink::new(rt.alloc(), writes as u64);
-        let written = write_whole(&mut sink, b"bytes");
-        same_bytes(&rt, sink.as_slice(), &b"bytes"[..writes]);
-        if writes < 5 {
-            same_at(&rt, writes, written, Err(Fault::Write));
-            same(&rt, sink.failures(), 1);
-        } else {
-            same(&rt, written, Ok(()));
-            same(&rt, sink.failures(), 0);
-        }
+    for calls in 0..5u8 {
+        writes_behind(&rt, rt.alloc(), calls, Err(Fault::Write), 1);
     }
-    same(
-        &rt,
-        write_whole(&mut StuckSink, b"bytes"),
-        Err(Fault::Write),
-    );
-    same(&rt, write_whole(&mut StuckSink, b""), Ok(()));
+    writes_behind(&rt, rt.alloc(), 5, Ok(()), 0);
+    writes(&rt, &mut StuckSink, b"bytes", Err(Fault::Write));
+    writes(&rt, &mut StuckSink, b"", Ok(()));
 }
 
 // A reader that gives one byte a read. The read after `before_failure` ones fails, and no other.
@@ -183,43 +191,39 @@ impl Write for FailsOnceWriter {
 #[test]
 fn a_writer_fails_once(rt: HostRuntime) {
     let text = b"bytes".as_slice();
-    for writes in 0..5usize {
+    for calls in 0..5usize {
         let mut sink = WriteSink::new(FailsOnceWriter {
             held: Vec::new(rt.alloc()),
-            before_failure: Some(writes),
+            before_failure: Some(calls),
         });
-        same_at(&rt, writes, write_whole(&mut sink, text), Err(Fault::Write));
+        writes(&rt, &mut sink, text, Err(Fault::Write));
         same(&rt, sink.failures(), 1);
-        same_at(&rt, writes, write_whole(&mut sink, &text[writes..]), Ok(()));
+        writes(&rt, &mut sink, &text[calls..], Ok(()));
         same(&rt, sink.failures(), 1);
-        let writer = sink.into_inner();
-        same_bytes(&rt, writer.held.as_slice(), text);
+        same_bytes(&rt, sink.into_inner().held.as_slice(), text);
     }
 }
 
-// Whether a sink keeps a text of this length.
-fn is_kept(alloc: Global, length: usize) -> Result<bool, AllocError> {
-    let text = vec![in alloc; 0x40u8; length]?;
-    match kept(alloc, text.as_slice()) {
-        Ok(held) => Ok(held.as_slice() == text.as_slice()),
-        Err(_) => Ok(false),
-    }
+// A sink keeps a text of this length.
+fn keeps(rt: &impl Abort, alloc: Global, length: usize) {
+    let text = vec![in alloc; 0x40u8; length].expect(rt, "memory");
+    let held = kept(alloc, text.as_slice()).expect(rt, "memory");
+    same_at(rt, length, held.as_slice() == text.as_slice(), true);
 }
 
 // With ample memory no growth is refused.
 #[test]
-fn a_sink_with_memory_never_fails(rt: HostRuntime) -> Result<(), Fail> {
+fn a_sink_with_memory_never_fails(rt: HostRuntime) {
     for length in 0..=300usize {
-        same_at(&rt, length, is_kept(rt.alloc(), length)?, true);
+        keeps(&rt, rt.alloc(), length);
     }
     for length in [4_095, 4_096, 4_097, 65_525, 65_535] {
-        same_at(&rt, length, is_kept(rt.alloc(), length)?, true);
+        keeps(&rt, rt.alloc(), length);
     }
     let mut bytewise = VecSink::new(rt.alloc());
     for _ in 0..65_535u32 {
-        same(&rt, write_whole(&mut bytewise, &[0x40]), Ok(()));
+        writes(&rt, &mut bytewise, &[0x40], Ok(()));
     }
     same(&rt, bytewise.as_slice().len(), 65_535);
     same(&rt, bytewise.failures(), 0);
-    Ok(())
 }

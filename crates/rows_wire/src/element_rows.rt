@@ -1,16 +1,20 @@
 use crate::{holds, same, same_bytes};
 use arrayvec::ArrayVec;
 use std::process::Abort;
-use std::test::Fail;
 use ws_code::{Address, Body, Code, DataByte, Ffw, Push};
 use ws_stream::{Commands, Element, EraseList, FieldStart, Place, SohBytes, is_body};
 
-// What the bytes of an element lead to.
-#[derive(Clone, Copy, Debug, PartialEq, Eq)]
-enum Answer {
-    More,
-    Unit { at: usize },
-    Bad { at: usize, reason: u8 },
+// What the bytes of an element lead to: the place of its last byte, or of the one that is refused and the reason.
+type Answer = Option<(usize, Result<(), u8>)>;
+
+const MORE: Answer = None;
+
+fn unit(at: usize) -> Answer {
+    Some((at, Ok(())))
+}
+
+fn bad(at: usize, reason: u8) -> Answer {
+    Some((at, Err(reason)))
 }
 
 fn answer_to(place: Place, bytes: &[u8]) -> Answer {
@@ -18,16 +22,11 @@ fn answer_to(place: Place, bytes: &[u8]) -> Answer {
     for (at, byte) in bytes.iter().enumerate() {
         match machine.push(*byte) {
             Push::More => {}
-            Push::Unit(_) => return Answer::Unit { at },
-            Push::Bad(reason) => {
-                return Answer::Bad {
-                    at,
-                    reason: reason.number(),
-                };
-            }
+            Push::Unit(_) => return unit(at),
+            Push::Bad(reason) => return bad(at, reason.number()),
         }
     }
-    Answer::More
+    MORE
 }
 
 // The element that the last byte ends, spelled again.
@@ -50,37 +49,23 @@ fn spelled_again(bytes: &[u8]) -> Option<ArrayVec<u8, 32>> {
 
 // The bytes stand in a body behind a Write to Display, and are refused at the place in the body.
 fn expect_refused(rt: &impl Abort, bytes: &[u8], place: usize, reason: u8) {
-    let write = [0x04, 0x11, 0x00, 0x00];
-    same(
-        rt,
-        answer_to(Commands::first(), &write),
-        Answer::Unit { at: 3 },
-    );
-    let at = place.saturating_sub(4);
-    same(
-        rt,
-        answer_to(Place::Anything, bytes),
-        Answer::Bad { at, reason },
-    );
+    let write = answer_to(Commands::first(), &[0x04, 0x11, 0x00, 0x00]);
+    same(rt, write, unit(3));
+    let found = answer_to(Place::Anything, bytes);
+    same(rt, found, bad(place.saturating_sub(4), reason));
 }
 
 // Read MDT Fields Alternate is taken.
 #[test]
 fn alternate_refused(rt: HostRuntime) {
-    same(
-        &rt,
-        answer_to(Commands::first(), &[0x04, 0x82, 0x00, 0x00]),
-        Answer::Unit { at: 3 },
-    );
+    let found = answer_to(Commands::first(), &[0x04, 0x82, 0x00, 0x00]);
+    same(&rt, found, unit(3));
 }
 
 #[test]
 fn immediate_still_refused(rt: HostRuntime) {
-    same(
-        &rt,
-        answer_to(Commands::first(), &[0x04, 0x72, 0x00, 0x00]),
-        Answer::Bad { at: 1, reason: 36 },
-    );
+    let found = answer_to(Commands::first(), &[0x04, 0x72, 0x00, 0x00]);
+    same(&rt, found, bad(1, 36));
 }
 
 // A length above 7.
@@ -111,15 +96,10 @@ fn format_byte(rt: HostRuntime) {
 
 #[test]
 fn left_out_shift(rt: HostRuntime) {
-    for high in [0x44, 0x46] {
-        expect_refused(&rt, &[0x1d, high], 5, 42);
-    }
-    // signed numeric
-    same(
-        &rt,
-        answer_to(Place::Anything, &[0x1d, 0x47, 0x00, 0x20, 0x00, 0x05]),
-        Answer::Unit { at: 5 },
-    );
+    expect_refused(&rt, &[0x1d, 0x44], 5, 42);
+    expect_refused(&rt, &[0x1d, 0x46], 5, 42);
+    let signed_numeric = [0x1d, 0x47, 0x00, 0x20, 0x00, 0x05];
+    same(&rt, answer_to(Place::Anything, &signed_numeric), unit(5));
 }
 
 #[test]
@@ -129,11 +109,7 @@ fn repeat_of_an_order(rt: HostRuntime) {
 
 #[test]
 fn no_escape(rt: HostRuntime) {
-    same(
-        &rt,
-        answer_to(Commands::first(), &[0x40]),
-        Answer::Bad { at: 0, reason: 20 },
-    );
+    same(&rt, answer_to(Commands::first(), &[0x40]), bad(0, 20));
 }
 
 #[test]
@@ -153,14 +129,10 @@ fn field_cut_short(rt: HostRuntime) {
     expect_refused(&rt, &field, 23, 41);
 }
 
-fn bad(at: usize, reason: u8) -> Answer {
-    Answer::Bad { at, reason }
-}
-
 fn after_escape(byte: u8) -> Answer {
     match byte {
-        0x40 | 0x50 => Answer::Unit { at: 1 },
-        0x11 | 0x42 | 0x52 | 0x82 => Answer::More,
+        0x40 | 0x50 => unit(1),
+        0x11 | 0x42 | 0x52 | 0x82 => MORE,
         0xf3 => bad(1, 30),
         0x20 => bad(1, 31),
         0x02 | 0x03 | 0x12 | 0x13 => bad(1, 32),
@@ -175,61 +147,43 @@ fn after_escape(byte: u8) -> Answer {
 fn after_field(byte: u8) -> Answer {
     match byte {
         0x00..=0x1f | 0x80..=0xff => bad(1, 29),
-        0x20..=0x3f => Answer::More,
+        0x20..=0x3f => MORE,
         _ if matches!(byte & 0x07, 4 | 6) => bad(1, 42),
-        _ => Answer::More,
+        _ => MORE,
     }
 }
 
 fn for_commands(byte: u8) -> Answer {
     match byte {
-        0x04 => Answer::More,
+        0x04 => MORE,
         _ => bad(0, 20),
     }
 }
 
 fn for_orders(byte: u8) -> Answer {
     match byte {
-        0x01..=0x04 | 0x11 | 0x13 | 0x14 | 0x1d => Answer::More,
+        0x01..=0x04 | 0x11 | 0x13 | 0x14 | 0x1d => MORE,
         0x10 => bad(0, 39),
         0x12 => bad(0, 38),
         0x15 => bad(0, 40),
-        _ => Answer::Unit { at: 0 },
+        _ => unit(0),
     }
 }
 
 // Each byte after 04, after 1D, and as the first of an element.
 #[test]
 fn every_byte(rt: HostRuntime) {
+    let commands = Place::CommandsOnly;
+    let anything = Place::Anything;
     for byte in 0..=255u8 {
-        same(
-            &rt,
-            answer_to(Place::CommandsOnly, &[0x04, byte]),
-            after_escape(byte),
-        );
-        same(
-            &rt,
-            answer_to(Place::Anything, &[0x04, byte]),
-            after_escape(byte),
-        );
-        same(
-            &rt,
-            answer_to(Place::Anything, &[0x1d, byte]),
-            after_field(byte),
-        );
-        same(
-            &rt,
-            answer_to(Place::CommandsOnly, &[byte]),
-            for_commands(byte),
-        );
-        same(&rt, answer_to(Place::Anything, &[byte]), for_orders(byte));
+        let escaped = after_escape(byte);
+        same(&rt, answer_to(commands, &[0x04, byte]), escaped);
+        same(&rt, answer_to(anything, &[0x04, byte]), escaped);
+        let field = answer_to(anything, &[0x1d, byte]);
+        same(&rt, field, after_field(byte));
+        same(&rt, answer_to(commands, &[byte]), for_commands(byte));
+        same(&rt, answer_to(anything, &[byte]), for_orders(byte));
     }
-}
-
-fn expect_again(rt: &impl Abort, bytes: &[u8]) -> Result<(), Fail> {
-    let again = spelled_again(bytes).ok_or("not read")?;
-    same_bytes(rt, again.as_slice(), bytes);
-    Ok(())
 }
 
 const ELEMENTS: [&[u8]; 17] = [
@@ -253,37 +207,35 @@ const ELEMENTS: [&[u8]; 17] = [
 ];
 
 #[test]
-fn elements_again(rt: HostRuntime) -> Result<(), Fail> {
+fn elements_again(rt: HostRuntime) {
     for bytes in &ELEMENTS {
-        expect_again(&rt, bytes)?;
+        let again = spelled_again(bytes).expect(&rt, "not read");
+        same_bytes(&rt, again.as_slice(), bytes);
     }
-    Ok(())
 }
 
 #[test]
-fn constructors(rt: HostRuntime) -> Result<(), Fail> {
-    let soh = SohBytes::new(&[0x00, 0x00, 0x00, 0x18]).ok_or("SOH")?;
+fn constructors(rt: HostRuntime) {
+    let soh = SohBytes::new(&[0x00, 0x00, 0x00, 0x18]).expect(&rt, "SOH");
     same_bytes(&rt, soh.as_slice(), &[0x00, 0x00, 0x00, 0x18]);
     holds(&rt, SohBytes::new(&[0x00, 0x00, 0x01]).is_none());
     holds(&rt, SohBytes::new(&[0x00; 8]).is_none());
-    let kinds = EraseList::new(&[0xff, 0x00]).ok_or("EA")?;
+    let kinds = EraseList::new(&[0xff, 0x00]).expect(&rt, "EA");
     same_bytes(&rt, kinds.as_slice(), &[0xff, 0x00]);
     holds(&rt, EraseList::new(&[]).is_none());
     holds(&rt, EraseList::new(&[0x00; 5]).is_none());
     holds(&rt, EraseList::new(&[0x01]).is_none());
-    expect_field(&rt)?;
+    expect_field(&rt);
     fields_are_compared(&rt);
     bad_fields(&rt);
-    Ok(())
 }
 
-fn expect_field(rt: &impl Abort) -> Result<(), Fail> {
-    let field = FieldStart::new(Ffw::new(0x4800), &[0x8001], 0x20, 10).ok_or("SF")?;
+fn expect_field(rt: &impl Abort) {
+    let field = FieldStart::new(Ffw::new(0x4800), &[0x8001], 0x20, 10).expect(rt, "SF");
     same(rt, field.format(), Ffw::new(0x4800));
     same(rt, field.controls(), [0x8001].as_slice());
     same(rt, field.attribute(), 0x20);
     same(rt, field.length(), 10);
-    Ok(())
 }
 
 fn fields_are_compared(rt: &impl Abort) {
@@ -340,30 +292,27 @@ fn expect_order(rt: &impl Abort, element: &Element) {
 }
 
 #[test]
-fn may_follow(rt: HostRuntime) -> Result<(), Fail> {
+fn may_follow(rt: HostRuntime) {
     for (element, next) in &COMMANDS {
         expect_command(&rt, element, *next);
     }
-    let to = Address::new(6, 53).ok_or("address")?;
-    let byte = DataByte::new(0x40).ok_or("byte")?;
+    let to = Address::new(6, 53).expect(&rt, "address");
+    let byte = DataByte::new(0x40).expect(&rt, "byte");
     expect_order(&rt, &Element::Sba(to));
     expect_order(&rt, &Element::Ra { to, byte });
     expect_order(&rt, &Element::Put(byte));
-    Ok(())
 }
 
 #[test]
-fn bodies(rt: HostRuntime) -> Result<(), Fail> {
-    let byte = DataByte::new(0xc1).ok_or("byte")?;
+fn bodies(rt: HostRuntime) {
+    let byte = DataByte::new(0xc1).expect(&rt, "byte");
     let put = Element::Put(byte);
     let write = Element::Write { cc1: 0, cc2: 8 };
     let read = Element::ReadMdt { cc1: 0, cc2: 0 };
     holds(&rt, is_body(&[]));
-    holds(&rt, !is_body(&[Element::Put(byte)]));
-    holds(
-        &rt,
-        !is_body(&[Element::ReadMdt { cc1: 0, cc2: 0 }, Element::Put(byte)]),
-    );
     holds(&rt, is_body(&[Element::ClearUnit, write, put, read]));
-    Ok(())
+    let put = Element::Put(byte);
+    let read = Element::ReadMdt { cc1: 0, cc2: 0 };
+    holds(&rt, !is_body(&[read, put]));
+    holds(&rt, !is_body(&[Element::Put(byte)]));
 }

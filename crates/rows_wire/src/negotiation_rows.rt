@@ -1,4 +1,4 @@
-use crate::{holds, same, same_bytes};
+use crate::{holds, same, same_at, same_bytes};
 use std::process::Abort;
 use std::test::*;
 use ws_code::Reason;
@@ -22,13 +22,13 @@ fn terminal_type(rt: &impl Abort, bytes: &[u8]) -> Telnet {
 
 // The station's end replies so to a token.
 fn station_replies(rt: &impl Abort, station: &mut StationOptions, token: &Telnet, reply: &[u8]) {
-    assert_eq!(rt; station.answer(token).as_slice(), reply, "at {token:?}");
+    same_at(rt, token, station.answer(token).as_slice(), reply);
 }
 
 // The host's end takes a token, and replies so.
 fn host_replies(rt: &impl Abort, host: &mut HostOptions, token: &Telnet, reply: &[u8]) {
     let written = host.answer(token).expect(rt, "no refusal");
-    assert_eq!(rt; written.as_slice(), reply, "at {token:?}");
+    same_at(rt, token, written.as_slice(), reply);
 }
 
 fn host_refuses(rt: &impl Abort, host: &mut HostOptions, token: &Telnet) {

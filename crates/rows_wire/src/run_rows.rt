@@ -1,6 +1,5 @@
 use crate::{same, same_bytes};
 use arrayvec::ArrayVec;
-use std::test::Fail;
 use ws_code::{Body, Code, End, Keep, Nothing, Reason, Run, Standing};
 use ws_stream::{Commands, Element};
 
@@ -10,9 +9,9 @@ const BODY: [u8; 23] = [
     0x00, 0x01, 0x04, 0x00, 0x00, 0x00, 0x18,
 ];
 
-fn run_whole<C: Code, K: Keep<C::Unit>>(values: &[u8], keep: &mut K) -> Run {
-    let place = C::first();
-    let mut machine = C::start(place);
+fn run_whole<K: Keep<Element>>(values: &[u8], keep: &mut K) -> Run {
+    let place = Commands::first();
+    let mut machine = Commands::start(place);
     let mut at = Standing {
         place,
         is_inside: false,
@@ -21,25 +20,25 @@ fn run_whole<C: Code, K: Keep<C::Unit>>(values: &[u8], keep: &mut K) -> Run {
 }
 
 #[test]
-fn a_list_keeps_each_element(rt: HostRuntime) -> Result<(), Fail> {
+fn a_list_keeps_each_element(rt: HostRuntime) {
     let mut elements = Vec::new(rt.alloc());
-    let run = run_whole::<Commands, _>(&BODY, &mut elements);
+    let run = run_whole(&BODY, &mut elements);
     same(&rt, (run.used, run.end), (23, End::More));
     same(&rt, elements.len(), 7);
     let mut spelled = Vec::new(rt.alloc());
     for element in elements.as_slice() {
         let mut spelling = ArrayVec::new();
         Commands::spell(element, &mut spelling);
-        spelled.extend_from_slice(spelling.as_slice())?;
+        let added = spelled.extend_from_slice(spelling.as_slice());
+        added.expect(&rt, "memory");
     }
     same_bytes(&rt, spelled.as_slice(), &BODY);
-    Ok(())
 }
 
 #[test]
 fn a_slot_has_enough_with_one(rt: HostRuntime) {
     let mut slot = None;
-    let run = run_whole::<Commands, _>(&BODY, &mut slot);
+    let run = run_whole(&BODY, &mut slot);
     same(&rt, (run.used, run.end), (2, End::Enough));
     same(&rt, slot, Some(Element::ClearUnit));
 }
@@ -63,7 +62,7 @@ fn a_run_ends_at_a_refused_byte(rt: HostRuntime) {
         (&[0x04, 0xf3, 0x00], 2, End::Bad(Reason::StructuredField)),
     ];
     for (values, used, end) in rows {
-        let run = run_whole::<Commands, _>(values, &mut Nothing);
+        let run = run_whole(values, &mut Nothing);
         same(&rt, (run.used, run.end), (used, end));
     }
 }

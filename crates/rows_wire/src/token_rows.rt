@@ -1,55 +1,51 @@
 use crate::{holds, same, same_at, same_bytes};
 use arrayvec::ArrayVec;
-use std::alloc::{AllocError, Global};
+use std::alloc::Global;
 use std::process::Abort;
-use std::test::Fail;
-use ws_code::{ByteList, Code, FailingSink, Fault, Push, Reason, VecSink};
+use ws_code::{Code, FailingSink, Fault, Push, Reason, VecSink};
 use ws_telnet::{
     CommandCode, IAC, SB, Sub, Telnet, Token, Tokens, Verb, Word, spell, write_telnet, write_token,
 };
 
-// The last unit that the bytes bring, or the place at which they are refused and the reason.
-fn last_unit<C: Code>(bytes: &[u8]) -> Result<Option<C::Unit>, (usize, Reason)> {
-    let mut machine = C::start(C::first());
-    let mut last = None;
+// The token that the bytes bring with the one at a place, or the reason for which that one is refused. `None` where the
+// token goes on.
+type Answer = Option<(usize, Result<Token, Reason>)>;
+
+fn answer_to(bytes: &[u8]) -> Answer {
+    let mut machine = Tokens::start(Tokens::first());
     for (at, byte) in bytes.iter().enumerate() {
         match machine.push(*byte) {
             Push::More => {}
-            Push::Unit(unit) => {
-                C::known(&unit);
-                machine = C::start(C::after(&unit));
-                last = Some(unit);
-            }
-            Push::Bad(reason) => return Err((at, reason)),
+            Push::Unit(token) => return Some((at, Ok(token))),
+            Push::Bad(reason) => return Some((at, Err(reason))),
         }
     }
-    Ok(last)
-}
-
-fn last_token(bytes: &[u8]) -> Result<Option<Token>, (usize, Reason)> {
-    last_unit::<Tokens>(bytes)
+    None
 }
 
 // The place at which the bytes are refused, and the reason.
 fn refusal(bytes: &[u8]) -> Option<(usize, Reason)> {
-    last_token(bytes).err()
+    match answer_to(bytes) {
+        Some((at, Err(reason))) => Some((at, reason)),
+        _ => None,
+    }
 }
 
 // IAC SB, the option 18 (hexadecimal), so many bytes 41, and what follows.
-fn begun_sub(alloc: Global, count: usize, end: &[u8]) -> Result<Vec<u8>, AllocError> {
-    let mut bytes = [0xff, 0xfa, 0x18].to_vec(alloc)?;
+fn begun_sub(rt: &impl Abort, alloc: Global, count: usize, end: &[u8]) -> Vec<u8> {
+    let mut bytes = [0xff, 0xfa, 0x18].to_vec(alloc).expect(rt, "memory");
     for _ in 0..count {
-        bytes.extend_from_slice(&[0x41])?;
+        bytes.push(0x41).expect(rt, "memory");
     }
-    bytes.extend_from_slice(end)?;
-    Ok(bytes)
+    bytes.extend_from_slice(end).expect(rt, "memory");
+    bytes
 }
 
 // The token has the spelling, is read from it, and is written so.
 fn check_spelling(rt: &impl Abort, alloc: Global, token: &Token, wanted: &[u8]) {
     check_spelled(rt, token, wanted);
-    match last_token(wanted) {
-        Ok(Some(read)) => check_spelled(rt, &read, wanted),
+    match answer_to(wanted) {
+        Some((at, Ok(read))) => check_read(rt, &read, at, wanted),
         _ => panic!(rt; "{token:?} isn't read"),
     }
     let mut sink = VecSink::new(alloc);
@@ -60,12 +56,20 @@ fn check_spelling(rt: &impl Abort, alloc: Global, token: &Token, wanted: &[u8]) 
     }
 }
 
+// The token is read with the last of its bytes, and spelled so.
+fn check_read(rt: &impl Abort, token: &Token, at: usize, wanted: &[u8]) {
+    same(rt, at.checked_add(1), Some(wanted.len()));
+    Tokens::known(token);
+    same(rt, Tokens::after(token), Tokens::first());
+    check_spelled(rt, token, wanted);
+}
+
 // The token is spelled so, whatever stood there.
 fn check_spelled(rt: &impl Abort, token: &Token, wanted: &[u8]) {
     let mut spelling = ArrayVec::new();
     spelling.push(0x55);
     spell(token, &mut spelling);
-    assert_eq!(rt; spelling.as_slice(), wanted, "the spelling of {token:?}");
+    same_at(rt, token, spelling.as_slice(), wanted);
 }
 
 fn check_written(rt: &impl Abort, alloc: Global, telnet: &Telnet, wanted: &[u8]) {
@@ -84,40 +88,40 @@ const REFUSED: [(&[u8], usize, Reason); 3] = [
 const TOO_LONG: [(usize, &[u8], usize); 2] = [(65, b"", 67), (64, b"\xff\xff", 68)];
 
 #[test]
-fn bad_tokens(rt: HostRuntime) -> Result<(), Fail> {
+fn bad_tokens(rt: HostRuntime) {
     for (bytes, at, reason) in &REFUSED {
         same(&rt, refusal(bytes), Some((*at, *reason)));
     }
     for (count, end, at) in &TOO_LONG {
-        let bytes = begun_sub(rt.alloc(), *count, end)?;
+        let bytes = begun_sub(&rt, rt.alloc(), *count, end);
         let wanted = Some((*at, Reason::SubTooLong));
         same(&rt, refusal(bytes.as_slice()), wanted);
     }
-    let longest = begun_sub(rt.alloc(), 64, &[0xff, 0xf0])?;
-    match last_token(longest.as_slice()) {
-        Ok(Some(Token::Telnet(Telnet::Sub(sub)))) => {
+    let longest = begun_sub(&rt, rt.alloc(), 64, &[0xff, 0xf0]);
+    match answer_to(longest.as_slice()) {
+        Some((68, Ok(Token::Telnet(Telnet::Sub(sub))))) => {
             same(&rt, sub.option, 0x18);
             same_bytes(&rt, sub.data_.as_slice(), &[0x41; 64]);
         }
         _ => panic!(rt; "no subnegotiation"),
     }
-    Ok(())
 }
+
+const WORDS: [(u8, Word); 9] = [
+    (0xff, Word::Data),
+    (0xef, Word::Eor),
+    (0xf1, Word::Command(CommandCode::Nop)),
+    (0xf9, Word::Command(CommandCode::GoAhead)),
+    (0xfa, Word::More),
+    (0xfb, Word::More),
+    (0xfe, Word::More),
+    (0xf0, Word::Bad(Reason::StraySe)),
+    (0xee, Word::Bad(Reason::BadCommand)),
+];
 
 #[test]
 fn the_byte_behind_an_ff_is_a_word(rt: HostRuntime) {
-    let rows = [
-        (0xff, Word::Data),
-        (0xef, Word::Eor),
-        (0xf1, Word::Command(CommandCode::Nop)),
-        (0xf9, Word::Command(CommandCode::GoAhead)),
-        (0xfa, Word::More),
-        (0xfb, Word::More),
-        (0xfe, Word::More),
-        (0xf0, Word::Bad(Reason::StraySe)),
-        (0xee, Word::Bad(Reason::BadCommand)),
-    ];
-    for (byte, word) in &rows {
+    for (byte, word) in &WORDS {
         let mut tokens = Tokens::start(());
         same(&rt, tokens.after_iac(*byte), *word);
         same(&rt, tokens.is_inside(), *word == Word::More);
@@ -131,85 +135,81 @@ fn spell_ff(rt: HostRuntime) {
     same_bytes(&rt, spelling.as_slice(), &[0xff, 0xff]);
 }
 
+const COMMANDS: [(CommandCode, u8); 9] = [
+    (CommandCode::Nop, 0xf1),
+    (CommandCode::DataMark, 0xf2),
+    (CommandCode::Break, 0xf3),
+    (CommandCode::InterruptProcess, 0xf4),
+    (CommandCode::AbortOutput, 0xf5),
+    (CommandCode::AreYouThere, 0xf6),
+    (CommandCode::EraseCharacter, 0xf7),
+    (CommandCode::EraseLine, 0xf8),
+    (CommandCode::GoAhead, 0xf9),
+];
+
 #[test]
 fn each_command_has_its_spelling(rt: HostRuntime) {
-    let commands = [
-        (CommandCode::Nop, 0xf1),
-        (CommandCode::DataMark, 0xf2),
-        (CommandCode::Break, 0xf3),
-        (CommandCode::InterruptProcess, 0xf4),
-        (CommandCode::AbortOutput, 0xf5),
-        (CommandCode::AreYouThere, 0xf6),
-        (CommandCode::EraseCharacter, 0xf7),
-        (CommandCode::EraseLine, 0xf8),
-        (CommandCode::GoAhead, 0xf9),
-    ];
-    for (code, byte) in &commands {
+    for (code, byte) in &COMMANDS {
         same(&rt, code.byte(), *byte);
         let token = Token::Telnet(Telnet::Command(*code));
         check_spelling(&rt, rt.alloc(), &token, &[0xff, *byte]);
     }
 }
 
+const VERBS: [(Verb, u8); 4] = [
+    (Verb::Will, 0xfb),
+    (Verb::Wont, 0xfc),
+    (Verb::Do, 0xfd),
+    (Verb::Dont, 0xfe),
+];
+
 #[test]
 fn each_token_has_its_spelling(rt: HostRuntime) {
-    let verbs = [
-        (Verb::Will, 0xfb),
-        (Verb::Wont, 0xfc),
-        (Verb::Do, 0xfd),
-        (Verb::Dont, 0xfe),
-    ];
-    for (verb, byte) in verbs {
-        same(&rt, verb.byte(), byte);
-        let token = Token::Telnet(Telnet::Option(verb, 0xff));
-        check_spelling(&rt, rt.alloc(), &token, &[0xff, byte, 0xff]);
+    for (verb, byte) in &VERBS {
+        same(&rt, verb.byte(), *byte);
+        let token = Token::Telnet(Telnet::Option(*verb, 0xff));
+        check_spelling(&rt, rt.alloc(), &token, &[0xff, *byte, 0xff]);
     }
     check_spelling(&rt, rt.alloc(), &Token::Data(0x41), &[0x41]);
     check_spelling(&rt, rt.alloc(), &Token::Data(0xff), &[0xff, 0xff]);
     check_spelling(&rt, rt.alloc(), &Token::Eor, &[0xff, 0xef]);
-    let mut content = ArrayVec::new();
-    content.push(0x00);
-    content.push(0xff);
-    content.push(0x41);
-    let sub = Sub {
-        option: 0x18,
-        data_: ByteList::of(content),
-    };
+    let sub = Sub::new(0x18, &[0x00, 0xff, 0x41]).expect(&rt, "short");
+    let token = Token::Telnet(Telnet::Sub(sub));
     let wanted = [0xff, 0xfa, 0x18, 0x00, 0xff, 0xff, 0x41, 0xff, 0xf0];
-    check_spelling(
-        &rt,
-        rt.alloc(),
-        &Token::Telnet(Telnet::Sub(sub)),
-        wanted.as_slice(),
-    );
+    check_spelling(&rt, rt.alloc(), &token, &wanted);
+}
+
+// A token is written to a sink that fails behind so many bytes.
+fn cut_behind(rt: &impl Abort, alloc: Global, calls: u8, wanted: Result<(), Fault>) {
+    let telnet = Telnet::Option(Verb::Do, 0x19);
+    let front = b"\xff\xfd\x19".as_slice().get(..usize::from(calls));
+    let mut sink = FailingSink::new(alloc, u64::from(calls));
+    same_at(rt, calls, write_telnet(&mut sink, &telnet), wanted);
+    same_at(rt, calls, Some(sink.as_slice()), front);
+    let mut sink = FailingSink::new(alloc, u64::from(calls));
+    let written = write_token(&mut sink, &Token::Telnet(telnet));
+    same_at(rt, calls, written, wanted);
+    same_at(rt, calls, Some(sink.as_slice()), front);
 }
 
 #[test]
 fn a_spelling_is_cut_where_the_sink_fails(rt: HostRuntime) {
-    let token = Token::Telnet(Telnet::Option(Verb::Do, 0x19));
-    let telnet = Telnet::Option(Verb::Do, 0x19);
-    for writes in 0..4usize {
-        let wanted = if writes < 3 {
-            Err(Fault::Write)
-        } else {
-            Ok(())
-        };
-        let mut sink = FailingSink::new(rt.alloc(), writes as u64);
-        same_at(&rt, writes, write_token(&mut sink, &token), wanted);
-        same_bytes(&rt, sink.as_slice(), &[0xff, 0xfd, 0x19][..writes]);
-        let mut sink = FailingSink::new(rt.alloc(), writes as u64);
-        same_at(&rt, writes, write_telnet(&mut sink, &telnet), wanted);
-        same_bytes(&rt, sink.as_slice(), &[0xff, 0xfd, 0x19][..writes]);
+    for calls in 0..3 {
+        cut_behind(&rt, rt.alloc(), calls, Err(Fault::Write));
     }
+    cut_behind(&rt, rt.alloc(), 3, Ok(()));
+}
+
+fn check_sub(rt: &impl Abort, data: &[u8]) {
+    let sub = Sub::new(0x18, data).expect(rt, "at most 64 bytes");
+    same(rt, sub.option, 0x18);
+    same_bytes(rt, sub.data_.as_slice(), data);
 }
 
 #[test]
 fn subnegotiation_limit(rt: HostRuntime) {
-    let bytes = [0xff; 65];
-    for length in [0, 1, 64] {
-        let sub = Sub::new(0x18, &bytes[..length]).expect(&rt, "at most 64 bytes");
-        same(&rt, sub.option, 0x18);
-        same(&rt, sub.data_.as_slice(), &bytes[..length]);
-    }
-    holds(&rt, Sub::new(0x18, &bytes).is_none());
+    check_sub(&rt, &[]);
+    check_sub(&rt, &[0xff]);
+    check_sub(&rt, &[0xff; 64]);
+    holds(&rt, Sub::new(0x18, &[0xff; 65]).is_none());
 }
