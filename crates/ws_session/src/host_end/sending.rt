@@ -28,7 +28,8 @@ impl HostEnd {
             (λ sent. IsSent self.new bytes items (host_send side opcode body.now) sent.items)
             (IsSendFault (host_send side opcode body.now)) }
         ensures same { OnErr result (self.new ≡ self.old) }
-        ensures full { self.old.receiver.live.taken + 1 ≡ 2 ^ 64 → result ≡ Err SendFault.Failed }
+        ensures full { self.old.receiver.live.taken + 1 ≡ 2 ^ 64
+            → result ≡ Err SendFault.Failed }
         ensures failed { IsSome self.old.ended → result ≡ Err SendFault.Failed }
     {
         if self.ended.is_some() {
@@ -79,7 +80,8 @@ impl HostEnd {
             (λ sent. IsSent self.new bytes items (host_cancel side) sent.items)
             (λ fault. host_cancel side ≡ RefusesSend fault) }
         ensures same { OnErr result (self.new ≡ self.old) }
-        ensures full { self.old.receiver.live.taken + 1 ≡ 2 ^ 64 → result ≡ Err SendFault.Failed }
+        ensures full { self.old.receiver.live.taken + 1 ≡ 2 ^ 64
+            → result ≡ Err SendFault.Failed }
         ensures failed { IsSome self.old.ended → result ≡ Err SendFault.Failed }
     {
         if self.ended.is_some() {
