@@ -14,8 +14,10 @@ use Rattle.ws_telnet.specs.declared.token.Token.TheVariants.{Eor}
 use Rattle.ws_record.specs.declared.record.Record.{Record}
 use Rattle.ws_record.specs.declared.record.Item.{Item}
 use Rattle.ws_record.specs.declared.record.Item.TheVariants.{Record as RecordItem, Telnet as TelnetItem}
-use Rattle.ws_record.specs.Grammar.{Holds, HasNoEor, IsStretch, joined, commands, command_of}
-use Rattle.ws_record.proofs.Reading.{one_part, no_part, one_stretches, parts_no_eor}
+use Rattle.ws_telnet.specs.Streams.{HasNoEor, joined, command_of}
+use Rattle.ws_telnet.proofs.TokenLists.{one_part, no_part}
+use Rattle.ws_record.specs.Grammar.{Holds, IsStretch, commands}
+use Rattle.ws_record.proofs.Reading.{one_stretches, parts_no_eor}
 
 -- The items that a front of some bytes holds begin those that all of them hold.
 

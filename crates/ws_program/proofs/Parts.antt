@@ -6,7 +6,7 @@ use Rattle.std.proofs.Math.Seq.{take-append-add}
 use Rattle.std.proofs.lemmas.List.{append-nil, take-take, take_all}
 use Rattle.ws_code.specs.Code.{Rules, IsPrefixFree}
 use Rattle.ws_code.proofs.CodeLaws.{Begins}
-use Rattle.ws_record.specs.Grammar.{IsStream}
+use Rattle.ws_telnet.specs.Streams.{IsStream}
 use Rattle.ws_record.specs.Refusal.{Layer, IsRight, IsOpen, IsFirstClosed, IsRefused}
 use Rattle.ws_record.specs.Refusal.Layer.{Tokens, Header, Body}
 use Rattle.ws_record.specs.declared.record.Item.{Item}

@@ -8,7 +8,8 @@ use Rattle.ws_telnet.specs.Token.{token_rules, IsToken}
 use Rattle.ws_telnet.specs.declared.token.Token.{Token}
 use Rattle.ws_telnet.specs.declared.token.Token.TheVariants.{Data, Eor, Telnet as TelnetToken}
 use Rattle.ws_record.specs.Encode.{CanBeEncoded, CanAllBeEncoded, IsInRange}
-use Rattle.ws_record.specs.Grammar.{IsInGrammar, IsStretch, commands, joined}
+use Rattle.ws_record.specs.Grammar.{IsInGrammar, IsStretch, commands}
+use Rattle.ws_telnet.specs.Streams.{joined}
 use Rattle.ws_record.specs.declared.record.Record.{Record}
 use Rattle.ws_record.specs.declared.record.Item.{Item}
 use Rattle.ws_record.specs.declared.record.Item.TheVariants.{Record as RecordItem}

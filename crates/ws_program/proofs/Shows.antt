@@ -14,7 +14,8 @@ use Rattle.ws_code.specs.declared.fault.Fault.TheVariants as faults
 use Rattle.ws_code.specs.declared.reason.Reason.{Reason}
 use Rattle.ws_telnet.specs.declared.token.Token.{Token}
 use Rattle.ws_telnet.specs.declared.token.Telnet.{Telnet}
-use Rattle.ws_record.specs.Grammar.{IsInGrammar, IsStretch, commands, command_of}
+use Rattle.ws_telnet.specs.Streams.{command_of}
+use Rattle.ws_record.specs.Grammar.{IsInGrammar, IsStretch, commands}
 use Rattle.ws_record.specs.Refusal.{IsOpen, IsRefused, IsTruncated}
 use Rattle.ws_record.specs.Receiver.{Receiving, HasReceived, IsFeedFault, NoneBefore}
 use Rattle.ws_record.specs.declared.record.Record.{Record}

@@ -48,18 +48,18 @@ pub use Rattle.ws_record.specs.DataStep.{IsWholeRecord}
 pub use Rattle.ws_record.specs.DecodeFrom.{IsSourceFault}
 pub use Rattle.ws_record.specs.Encode.{record_spelling, item_spelling, plain_spelling, CanBeEncoded, CanAllBeEncoded}
 pub use Rattle.ws_record.specs.Encode.{IsInRange, IsFirst, IsBadSequence, IsTooBig}
-pub use Rattle.ws_record.specs.Grammar.{IsInGrammar, IsStream, IsRecord, Holds, joined, record_bytes, header}
-pub use Rattle.ws_record.specs.Grammar.{opcode_byte, carried, IsFramed, HasNoEor, IsBodyBytes, IsStretch, Spells}
-pub use Rattle.ws_record.specs.Grammar.{data_of, commands}
+pub use Rattle.ws_record.specs.Grammar.{IsInGrammar, IsRecord, Holds, record_bytes, header}
+pub use Rattle.ws_record.specs.Grammar.{opcode_byte, IsFramed, IsBodyBytes, IsStretch, Spells}
+pub use Rattle.ws_record.specs.Grammar.{commands}
 pub use Rattle.ws_record.specs.HeaderSoFar.{HeaderSoFar, declared, head_in}
 pub use Rattle.ws_record.specs.Live.{Watching, Leads, LeadsWith, IsFrontStep, IsLiveStep, CompletesUnit}
-pub use Rattle.ws_record.specs.OpenPrefix.{EndsRecord, LeavesOpen, LastRecordMeets, BeginsList, IsOpenPrefix}
+pub use Rattle.ws_record.specs.OpenPrefix.{BeginsList, IsOpenPrefix}
 pub use Rattle.ws_record.specs.OpenPrefix.{IsFirstClosedTo, AreOpenBelow, IsRefusedByPrefix, IsTruncatedByPrefix}
 pub use Rattle.ws_record.specs.OpenRecord.{CanBeFramed, RecordSoFar, no_record, Keeping, HasRead, IsHead}
 pub use Rattle.ws_record.specs.OpenRecord.{IsDataRefused, IsEndRefused}
 pub use Rattle.ws_record.specs.Receiver.{MayGrow, IsDecodeFault, Receiving, HasReceived, HasItem, IsListFault}
 pub use Rattle.ws_record.specs.Receiver.{IsTakeFault, IsFeedFault, NoneBefore, given}
-pub use Rattle.ws_record.specs.Refusal.{IsRefused, IsTruncated, Layer, IsRight, IsOpen, IsFirstClosed, EndsWith}
+pub use Rattle.ws_record.specs.Refusal.{IsRefused, IsTruncated, Layer, IsRight, IsOpen, IsFirstClosed}
 pub use Rattle.ws_record.specs.Refusal.{header_reason, IsBodyReason, IsReason}
 pub use Rattle.ws_record.specs.Refusal.Layer.{Tokens, Header, Body}
 pub use Rattle.ws_record.specs.Steps.{counted, IsStepOf, IsItemOf}
@@ -80,6 +80,8 @@ pub use Rattle.ws_telnet.proofs.Doubling.{doubling_fails, doubling_iac, doubling
 pub use Rattle.ws_telnet.proofs.OneToken.{begins_token, plain_byte, is_token, fresh_begins, word_begun}
 pub use Rattle.ws_telnet.proofs.TokenLists.{all_right, chain_front, data_chain}
 pub use Rattle.ws_telnet.specs.Machine.{unfinished_of, sub_of}
+pub use Rattle.ws_telnet.specs.Streams.{data_of, carried, HasNoEor, joined, IsStream, EndsWith}
+pub use Rattle.ws_telnet.specs.Streams.{EndsRecord, LeavesOpen, LastRecordMeets}
 pub use Rattle.ws_telnet.specs.Token.{token_rules, telnet_spelling, doubled, IsTelnet, command_byte, verb_byte}
 pub use Rattle.ws_telnet.specs.Token.{token_spelling, IsToken}
 pub use Rattle.ws_telnet.specs.TokenLaws.{iac_or_not, doubled_plain, token_prefix_free, token_begins, token_nonempty}

@@ -4,7 +4,7 @@ use C.{take-append-drop, append-nil, Rules, Reason, Fault, Refused, Truncated, M
 use C.{Layer, IsOpen, IsFirstClosed, IsRefused, IsTruncated, Tokens, Receiving, HasReceived, HasItem, MayGrow}
 use C.{IsListFault, IsDecodeFault, MayGive, Gave, GaveAll, IsSourceFault}
 use Rattle.ws_record.proofs.Refusals.{held}
-use Rattle.ws_record.proofs.Streams.{stream_of}
+use Rattle.ws_telnet.proofs.Streams.{stream_of}
 
 module _ {Place U : Type 0} (rules : Rules Place U) where
   pub closed_is_not : (l : Layer) (bytes : List ℕ) → IsFirstClosed rules l bytes → IsOpen rules l bytes → ⊥

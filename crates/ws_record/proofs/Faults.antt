@@ -1,20 +1,13 @@
 use Rattle.ws_record.proofs.Common as C
 use C.{common_steps, arith, ◌≡◌, ℕ, List, [], ◌∷◌, ◌++◌, ◌⊎◌, inl, inr, length, drop, refl, sym, ap, ◌∙◌, append-nil}
-use C.{Rules, IsPrefixFree, Reason, Fault, Refused, Truncated, Memory, one_begins, one_cut, one_list, token_rules}
-use C.{token_prefix_free, token_begins, Token, Data, joined, EndsWith, Layer, IsOpen, IsFirstClosed, IsBodyReason}
-use C.{IsReason, IsRefused, IsTruncated, Tokens, Header, Body, IsDecodeFault, same_last, IsRight}
+use C.{Rules, IsPrefixFree, Reason, Fault, Refused, Truncated, Memory, one_begins, one_cut, token_rules}
+use C.{token_prefix_free, Token, Data, joined, Layer, IsOpen, IsFirstClosed, IsBodyReason}
+use C.{IsReason, IsRefused, IsTruncated, Tokens, Header, Body, IsDecodeFault, IsRight}
 use Rattle.ws_record.proofs.Decodes.{closed_is_not}
-use Rattle.ws_record.proofs.Streams.{left_by, left_open, stream_of, stream_right, nothing_asked}
+use Rattle.ws_telnet.proofs.LastRecords.{one_end}
+use Rattle.ws_telnet.proofs.Streams.{stream_of, stream_right, nothing_asked}
 
 -- Bytes are refused at one place and for one reason, or truncated, and not both.
-
--- the last of whole tokens, and the record bytes before it
-one_end : (bytes so_far other : List ℕ) (s t : Token) → EndsWith bytes so_far s → EndsWith bytes other t
-    → (so_far ≡ other) × (s ≡ t)
-one_end bytes so_far other s t e f =
-    let last = same_last _ _ s t (one_list token_rules token_prefix_free token_begins _ _ e.tokens.chain f.tokens.chain
-    (sym e.spelled ∙ f.spelled)) in
-    (sym (left_open e) ∙ ap (left_by []) last.0 ∙ left_open f, last.1)
 
 module _ {Place U : Type 0} (rules : Rules Place U) where
   one_body_reason : IsPrefixFree rules → (bytes : List ℕ) (t : Token) (r s : Reason) → IsBodyReason rules bytes t r

@@ -8,7 +8,6 @@ pub mod Flights
 pub mod HandedOn
 pub mod Fronts
 pub mod Headers
-pub mod LastRecords
 pub mod Lives
 pub mod OpenPrefixes
 pub mod OpenRecords
@@ -17,6 +16,5 @@ pub mod Reading
 pub mod Receivers
 pub mod Refusals
 pub mod Steps
-pub mod Streams
 pub mod Takings
 pub mod Writes

@@ -5,10 +5,10 @@ use C.{spelling_of, Reason, Begins, CanEnd, chain_append, token_rules, Eor, IsBo
 use C.{IsRight, IsOpen, IsRefused, IsTruncated, IsFirstClosed, Tokens, Header, Body, CanBeFramed, BeginsList}
 use C.{IsOpenPrefix, IsFirstClosedTo, AreOpenBelow, IsRefusedByPrefix, IsTruncatedByPrefix, SpellsBytes, drop-front}
 use C.{cut_at}
-use Rattle.ws_record.proofs.LastRecords.{last_of_stream, stream_of_last}
+use Rattle.ws_telnet.proofs.LastRecords.{last_of_stream, stream_of_last}
 use Rattle.ws_record.proofs.OpenRecords.{nothing_framed}
 use Rattle.ws_record.proofs.Refusals.{can_be_body, opens}
-use Rattle.ws_record.proofs.Streams.{stream_of, left-append, nothing_asked}
+use Rattle.ws_telnet.proofs.Streams.{stream_of, left-append, nothing_asked}
 
 module _ {Place U : Type 0} (rules : Rules Place U) (begins : Begins rules) (can : CanEnd rules)
     (law : SpellsBytes rules) where

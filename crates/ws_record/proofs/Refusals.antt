@@ -6,8 +6,8 @@ use C.{IsBodyBytes, IsRecord, IsStretch, IsStream, Holds, joined, carried, heade
 use C.{IsOpen, IsRefused, IsTruncated, IsFirstClosed, IsReason, Tokens, Header, Body, CanBeFramed, IsDataRefused}
 use C.{IsEndRefused, AreBytes-apart, SpellsBytes, list_bytes, padding}
 use Rattle.ws_record.proofs.Reading.{parts_no_eor}
-use Rattle.ws_record.proofs.Streams.{Running, of_parts, left_by, open_stream, ended_stream, bad_token, bad_data}
-use Rattle.ws_record.proofs.Streams.{bad_eor, ends_with_one}
+use Rattle.ws_telnet.proofs.Streams.{Running, of_parts, left_by, open_stream, ended_stream, bad_token, bad_data}
+use Rattle.ws_telnet.proofs.Streams.{bad_eor, ends_with_one}
 use Rattle.ws_record.proofs.Steps.{parts_of, holds_data}
 
 module _ {Place U : Type 0} (rules : Rules Place U) where

@@ -1,13 +1,12 @@
 -- Records (RFC 1205, section 3)
 
-use Rattle.std.specs.Prelude.{◌≡◌, ◌≢◌, ℕ, ◌+◌, ◌^◌, ◌<◌, List, [], ◌∷◌, ◌++◌, map, length}
+use Rattle.std.specs.Prelude.{◌≡◌, ℕ, ◌+◌, ◌^◌, ◌<◌, List, [], ◌∷◌, ◌++◌, map, length}
 use Rattle.std.specs.List.{flat_map, AllByRecursion}
 use Rattle.ws_code.specs.Code.{Rules, IsWhole, IsCut, spelling_of}
 pub use Rattle.ws_code.specs.TwoBytes.{two_bytes}
+use Rattle.ws_telnet.specs.Streams.{carried, command_of, joined, HasNoEor}
 use Rattle.ws_telnet.specs.Token.{token_rules}
-use Rattle.ws_telnet.specs.declared.token.Telnet.{Telnet}
 use Rattle.ws_telnet.specs.declared.token.Token.{Token}
-use Rattle.ws_telnet.specs.declared.token.Token.TheVariants.{Data, Eor, Telnet as TelnetToken}
 use Rattle.ws_record.specs.declared.opcode.Opcode.{Opcode}
 use Rattle.ws_record.specs.declared.opcode.Opcode.TheVariants.{NoOperation, Invite, OutputOnly, PutGet, SaveScreen}
 use Rattle.ws_record.specs.declared.opcode.Opcode.TheVariants.{RestoreScreen, ReadImmediate, ReadScreen, CancelInvite}
@@ -60,45 +59,11 @@ module _ {Place U : Type 0} where
     pub flags_fit : r.flags < 2 ^ 16
     pub length_fits : length (record_bytes rules r) < 2 ^ 16
 
--- Streams (RFC 885: EOR ends a record; RFC 854: a command may stand between any two tokens)
-
--- the record bytes that a token carries, and the command that it is
-abbrev pub data_of : Token → List ℕ
-data_of (Data b) = b ∷ []
-data_of Eor = []
-data_of (TelnetToken t) = []
-
--- the Telnet command that a token is, if it is one
-abbrev pub command_of : Token → List Telnet
-command_of (Data b) = []
-command_of Eor = []
-command_of (TelnetToken t) = t ∷ []
-
--- the data bytes that tokens carry, without their escapes
-abbrev pub carried : List Token → List ℕ
-carried tokens = flat_map data_of tokens
+-- Items (RFC 854: a command may stand between any two tokens; RFC 885: EOR ends a record)
 
 -- the Telnet commands among tokens, in order, as items
 abbrev pub commands : {U : Type 0} → List Token → List (Item U)
 commands tokens = map TelnetItem (flat_map command_of tokens)
-
--- none of the tokens ends a record
-abbrev pub HasNoEor : List Token → Type 0
-HasNoEor tokens = AllByRecursion (λ t. t ≢ Eor) tokens
-
--- the parts, each with an Eor behind it, and the rest
-abbrev pub joined : List (List Token) → List Token → List Token
-joined parts rest = flat_map (λ part. part ++ Eor ∷ []) parts ++ rest
-
--- A stream whose records' bytes are all so. Nothing stands in an open record.
-pub record IsStream (P : List ℕ → Type 0) (bytes : List ℕ) : Type 0 where
-  pub parts : List (List Token)
-  pub rest : List Token
-  pub no_eor : AllByRecursion HasNoEor parts × HasNoEor rest
-  pub each : AllByRecursion (λ part. P (carried part)) parts
-  pub closed : carried rest ≡ []
-  pub tokens : IsWhole token_rules (joined parts rest)
-  pub spelled : bytes ≡ spelling_of token_rules (joined parts rest)
 
 module _ {Place U : Type 0} where
   -- tokens before an Eor, and the record whose bytes they carry

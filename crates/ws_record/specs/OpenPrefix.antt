@@ -2,16 +2,14 @@
 -- record alone
 -- (RFC 854: commands among data, FF doubled; RFC 885: EOR ends a record; RFC 1205, section 3: a record's header)
 
-use Rattle.std.specs.Prelude.{◌≡◌, ℕ, ◌+◌, ◌<◌, List, [], ◌∷◌, ◌++◌, ◌⊎◌, length, drop, take}
-use Rattle.std.specs.List.{AllByRecursion}
-use Rattle.ws_code.specs.Code.{Rules, IsWhole, IsCut, spelling_of}
+use Rattle.std.specs.Prelude.{◌≡◌, ℕ, ◌+◌, ◌<◌, List, [], ◌∷◌, ◌++◌, length, drop, take}
+use Rattle.ws_code.specs.Code.{Rules, IsWhole, spelling_of}
 use Rattle.ws_code.specs.declared.reason.Reason.{Reason}
+use Rattle.ws_telnet.specs.Streams.{LastRecordMeets}
 use Rattle.ws_telnet.specs.Token.{token_rules}
-use Rattle.ws_telnet.specs.declared.token.Token.{Token}
-use Rattle.ws_telnet.specs.declared.token.Token.TheVariants.{Eor}
 use Rattle.ws_record.specs.declared.record.Item.{Item}
-use Rattle.ws_record.specs.Grammar.{IsFramed, IsBodyBytes, IsInGrammar, HasNoEor, joined, carried}
-use Rattle.ws_record.specs.Refusal.{EndsWith, Layer, IsReason}
+use Rattle.ws_record.specs.Grammar.{IsFramed, IsBodyBytes, IsInGrammar}
+use Rattle.ws_record.specs.Refusal.{Layer, IsReason}
 use Rattle.ws_record.specs.Refusal.Layer.{Tokens, Header, Body}
 use Rattle.ws_record.specs.OpenRecord.{CanBeFramed}
 
@@ -21,27 +19,6 @@ pub record BeginsList {Place U : Type 0} (rules : Rules Place U) (bytes : List �
   pub more : List ℕ
   pub whole : IsWhole rules units
   pub spelled : spelling_of rules units ≡ bytes ++ more
-
--- The bytes end with a whole EOR command, and these are the data bytes before it, back to the EOR before that.
-abbrev pub EndsRecord : List ℕ → List ℕ → Type 0
-EndsRecord bytes ended = EndsWith bytes ended Eor
-
--- The bytes end elsewhere, perhaps inside a command, and these are the data bytes since the last whole EOR.
-pub record LeavesOpen (bytes record_so_far : List ℕ) : Type 0 where
-  pub parts : List (List Token)
-  pub rest : List Token
-  pub begun : List ℕ
-  pub no_eor : AllByRecursion HasNoEor parts × HasNoEor rest
-  pub cut : IsCut token_rules bytes (joined parts rest) begun
-  pub is_open : record_so_far ≡ carried rest
-  pub elsewhere : (ended : List ℕ) → EndsRecord bytes ended → ⊥
-
--- Where an EOR ends the bytes, the record which it ends meets the one demand; elsewhere the record so far meets the
--- other.
-abbrev pub LastRecordMeets : (List ℕ → Type 0) → (List ℕ → Type 0) → List ℕ → Type 0
-LastRecordMeets AtEnd SoFar bytes =
-    ((ended : List ℕ) × EndsRecord bytes ended × AtEnd ended)
-    ⊎ ((record_so_far : List ℕ) × LeavesOpen bytes record_so_far × SoFar record_so_far)
 
 module _ {Place U : Type 0} where
   -- The prefix is open to the layer. Behind an EOR the record is whole and of its declared length, and its body is

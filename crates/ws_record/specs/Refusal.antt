@@ -1,25 +1,16 @@
 -- Refusals: the first byte at which bytes can't be continued, in some layer
 
 use Rattle.std.specs.Prelude.{◌≡◌, ℕ, List, [], ◌∷◌, ◌++◌, length, drop, nat_lt, if◌then◌else◌}
-use Rattle.std.specs.List.{AllByRecursion}
-use Rattle.ws_code.specs.Code.{Rules, IsWhole, IsCut, spelling_of, place_after}
+use Rattle.ws_code.specs.Code.{Rules, IsCut, place_after}
 use Rattle.ws_code.specs.declared.reason.Reason.{Reason}
 use Rattle.ws_code.specs.declared.reason.Reason.TheVariants.{LengthBelowHeader, BadType, BadReserved, BadVariableLength}
 use Rattle.ws_code.specs.declared.reason.Reason.TheVariants.{UnknownOpcode, TooLong, TooShort, EndedInside}
+use Rattle.ws_telnet.specs.Streams.{IsStream, EndsWith}
 use Rattle.ws_telnet.specs.Token.{token_rules}
 use Rattle.ws_telnet.specs.declared.token.Token.{Token}
 use Rattle.ws_telnet.specs.declared.token.Token.TheVariants.{Data}
 use Rattle.ws_record.specs.declared.record.Item.{Item}
-use Rattle.ws_record.specs.Grammar.{IsFramed, IsBodyBytes, IsStream, IsInGrammar, HasNoEor, joined, carried}
-
--- the bytes are whole tokens, the last of them after the record bytes so far
-pub record EndsWith (bytes record_so_far : List ℕ) (last : Token) : Type 0 where
-  pub parts : List (List Token)
-  pub rest : List Token
-  pub no_eor : AllByRecursion HasNoEor parts × HasNoEor rest
-  pub is_open : record_so_far ≡ carried rest
-  pub tokens : IsWhole token_rules (joined parts rest ++ last ∷ [])
-  pub spelled : bytes ≡ spelling_of token_rules (joined parts rest ++ last ∷ [])
+use Rattle.ws_record.specs.Grammar.{IsFramed, IsBodyBytes, IsInGrammar}
 
 -- A layer knows less of a record than the next: to the lowest all bytes are a record.
 pub data Layer : Type 0 where

@@ -45,7 +45,8 @@ pub use Rattle.ws_record.specs.declared.opcode.Opcode.TheVariants.{CancelInvite,
 pub use Rattle.ws_record.specs.declared.record.Record.{Record}
 pub use Rattle.ws_record.specs.declared.record.Item.TheVariants.{Record as RecordItem, Telnet as TelnetItem}
 pub use Rattle.ws_record.specs.Refusal.{IsTruncated}
-pub use Rattle.ws_record.specs.Grammar.{header, IsInGrammar, Holds, joined, commands, command_of}
+pub use Rattle.ws_record.specs.Grammar.{header, IsInGrammar, Holds, commands}
+pub use Rattle.ws_telnet.specs.Streams.{joined, command_of}
 pub use Rattle.ws_record.specs.Live.{CompletesUnit, Watching, Leads, LeadsWith}
 pub use Rattle.ws_record.specs.DataStep.{record_of}
 pub use Rattle.ws_record.specs.OpenRecord.{RecordSoFar, no_record, Keeping, HasRead, IsHead}

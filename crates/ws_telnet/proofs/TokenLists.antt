@@ -1,9 +1,10 @@
-use Rattle.std.proofs.Common.{ℕ, List, [], ◌∷◌, ◌++◌, refl, map}
+use Rattle.std.proofs.Common.{◌≡◌, ℕ, List, [], ◌∷◌, ◌++◌, refl, sym, ◌∙◌, map, append_assoc}
 use Rattle.std.specs.List.{AllByRecursion}
 use Rattle.ws_code.specs.Code.{IsChain, AreBytes}
+use Rattle.ws_telnet.specs.Streams.{HasNoEor, joined}
 use Rattle.ws_telnet.specs.Token.{token_rules}
 use Rattle.ws_telnet.specs.declared.token.Token.{Token}
-use Rattle.ws_telnet.specs.declared.token.Token.TheVariants.{Data}
+use Rattle.ws_telnet.specs.declared.token.Token.TheVariants.{Data, Eor}
 
 -- Lists of tokens.
 
@@ -25,3 +26,30 @@ pub data_chain : (bytes : List ℕ) → AreBytes bytes → IsChain token_rules t
 unfolding data_tokens
 data_chain [] h = tt
 data_chain (b ∷ bytes) h = (record { is_unit = h.0; may_follow = refl }, data_chain bytes h.1)
+
+-- what stands before the first Eor is determined
+pub one_part : (p q x y : List Token) → HasNoEor p → HasNoEor q → p ++ Eor ∷ x ≡ q ++ Eor ∷ y → (p ≡ q) × (x ≡ y)
+one_part [] [] x y hp hq e = (refl, cc)
+one_part [] (t ∷ q) x y hp hq e = absurd (hq.0 (let f : Eor ≡ t = cc in sym f))
+one_part (s ∷ p) [] x y hp hq e = absurd (hp.0 cc)
+one_part (s ∷ p) (t ∷ q) x y hp hq e =
+    let found : (p ≡ q) × (x ≡ y) = one_part p q x y hp.1 hq.1 (cc) in
+    let same : s ≡ t = cc in let lists : p ≡ q = found.0 in (cc, found.1)
+
+pub no_part : (p q y : List Token) → HasNoEor p → p ≡ q ++ Eor ∷ y → ⊥
+no_part [] [] y hp e = cc
+no_part [] (t ∷ q) y hp e = cc
+no_part (s ∷ p) [] y hp e = hp.0 cc
+no_part (s ∷ p) (t ∷ q) y hp e = no_part p q y hp.1 cc
+
+-- tokens have one cut into parts and a rest
+pub one_join : (ps qs : List (List Token)) (x y : List Token) → AllByRecursion HasNoEor ps
+    → AllByRecursion HasNoEor qs → HasNoEor x → HasNoEor y → joined ps x ≡ joined qs y → (ps ≡ qs) × (x ≡ y)
+one_join [] [] x y hp hq hx hy e = (refl, e)
+one_join [] (q ∷ qs) x y hp hq hx hy e = absurd (no_part x q (joined qs y) hx (e ∙ simp append_assoc))
+one_join (p ∷ ps) [] x y hp hq hx hy e = absurd (no_part y p (joined ps x) hy (sym e ∙ simp append_assoc))
+one_join (p ∷ ps) (q ∷ qs) x y hp hq hx hy e =
+    let f : p ++ Eor ∷ joined ps x ≡ q ++ Eor ∷ joined qs y = simp append_assoc at e in
+    let first : (p ≡ q) × (joined ps x ≡ joined qs y) = one_part p q _ _ hp.0 hq.0 f in
+    let others : (ps ≡ qs) × (x ≡ y) = one_join ps qs x y hp.1 hq.1 hx hy first.1 in
+    let heads : p ≡ q = first.0 in let tails : ps ≡ qs = others.0 in (cc, others.1)

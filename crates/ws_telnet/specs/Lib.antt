@@ -1,4 +1,5 @@
 pub mod Machine
+pub mod Streams
 pub mod Token
 pub mod TokenLaws
 pub mod Words

@@ -1,11 +1,22 @@
-use Rattle.ws_record.proofs.Common as C
-use C.{common_steps, arith, ◌≡◌, ℕ, List, [], ◌∷◌, ◌++◌, inl, inr, sym, ◌∙◌, append_assoc, AllByRecursion, append-nil}
-use C.{flat_map-append, IsChain, IsCut, AreBytes, spelling_of, one_cut, no_end, token_rules, token_prefix_free}
-use C.{token_begins, token_spelling, Token, Data, Eor, TelnetToken, IsStream, joined, EndsRecord, LastRecordMeets}
-use C.{AllByRecursion-append, AllByRecursion-last, AreBytes-apart, AreBytes-append, cut_at, IsToken}
-use C.{AllByRecursion-both, all_but_last, last_of, same_last, chain_front, token_nonempty}
-use Rattle.ws_record.proofs.Streams.{left_by, ended_by, left-append, ended-append, of_parts, left_open, parted}
-use Rattle.ws_record.proofs.Streams.{ends_with, stream_of, stream_right, stream_asks, open_stream}
+use Rattle.std.proofs.Common.{ap, append_assoc}
+use Rattle.std.proofs.Common.{arith, ◌≡◌, ℕ, List, [], ◌∷◌, ◌++◌, inl, inr, sym, ◌∙◌}
+use Rattle.std.proofs.lemmas.Grind.{common_steps, flat_map-append}
+use Rattle.std.proofs.lemmas.List.{append-nil}
+use Rattle.std.specs.List.{AllByRecursion}
+use Rattle.ws_code.proofs.Bytes.{AreBytes-apart}
+use Rattle.ws_code.proofs.CodeLaws.{one_list, one_cut, no_end, AreBytes-append}
+use Rattle.ws_code.proofs.Cuts.{cut_at}
+use Rattle.ws_code.proofs.Lists.{AllByRecursion-append, AllByRecursion-last, AllByRecursion-both, all_but_last, last_of}
+use Rattle.ws_code.proofs.Lists.{same_last}
+use Rattle.ws_code.specs.Code.{IsChain, IsCut, AreBytes, spelling_of}
+use Rattle.ws_telnet.proofs.Streams.{ends_with, stream_of, stream_right, stream_asks, open_stream}
+use Rattle.ws_telnet.proofs.Streams.{left_by, ended_by, left-append, ended-append, of_parts, left_open, parted}
+use Rattle.ws_telnet.proofs.TokenLists.{chain_front}
+use Rattle.ws_telnet.specs.Streams.{EndsWith, IsStream, joined, EndsRecord, LastRecordMeets}
+use Rattle.ws_telnet.specs.Token.{token_rules, token_spelling, IsToken}
+use Rattle.ws_telnet.specs.TokenLaws.{token_prefix_free, token_begins, token_nonempty}
+use Rattle.ws_telnet.specs.declared.token.Token.TheVariants.{Data, Eor, Telnet as TelnetToken}
+use Rattle.ws_telnet.specs.declared.token.Token.{Token}
 
 -- Where bytes stand in a stream: behind an Eor, or elsewhere.
 
@@ -141,3 +152,11 @@ module _ (P Q : List ℕ → Type 0) where
           | inl none ↦ rw none tt
           | inr q ↦ rw q.2 (but_last q.0 q.1 (rw q.2 at cut) other)
         ]
+
+-- the last of whole tokens, and the record bytes before it
+pub one_end : (bytes so_far other : List ℕ) (s t : Token) → EndsWith bytes so_far s → EndsWith bytes other t
+    → (so_far ≡ other) × (s ≡ t)
+one_end bytes so_far other s t e f =
+    let last = same_last _ _ s t (one_list token_rules token_prefix_free token_begins _ _ e.tokens.chain f.tokens.chain
+    (sym e.spelled ∙ f.spelled)) in
+    (sym (left_open e) ∙ ap (left_by []) last.0 ∙ left_open f, last.1)
