@@ -1,3 +1,5 @@
+use Rattle.std.proofs.Common.{arith}
+use Rattle.std.proofs.lemmas.Grind.{common_steps}
 use Rattle.std.proofs.Common.{◌≡◌, length, arith}
 use Rattle.ws_text.proofs.AnswerWordLaws.{no_key}
 use Rattle.ws_text.proofs.Lists.{texts, three_words, no_fill}
@@ -15,3 +17,12 @@ returns-in_err-read_byte c =
     let three : length c.args.words.now ≡ 3 = omega (arith, c.in-len3.len_at_least, c.in-len3.len_below) in
     rw c.from_residual-in_err-read_byte.ensures
     (no_key (texts c.args.words.now) _ _ _ (three_words _ c.args.words.now three) c.in_err-read_byte.ensures)
+
+pub returns-in_default : goal.returns-in_default
+returns-in_default c = grind (arith, common_steps)
+
+pub returns-in_err-aid : goal.returns-in_err-aid
+returns-in_err-aid c = grind (arith, common_steps)
+
+pub returns : goal.returns
+returns c = grind (arith, common_steps)

@@ -1,3 +1,5 @@
+use Rattle.std.proofs.Common.{arith}
+use Rattle.std.proofs.lemmas.Grind.{common_steps}
 use Rattle.std.proofs.Common.{◌≡◌, length, arith}
 use Rattle.ws_text.proofs.Lists.{texts, three_words, no_fill}
 use Rattle.ws_text.proofs.element_words.read_repeat.Goals as goal
@@ -8,3 +10,15 @@ returns-in_err-to c =
     rw c.from_residual.ensures
     (λ fill h. no_fill (texts c.args.words.now) _ _ _ (three_words _ c.args.words.now three) c.in_err-to.ensures
     fill.0 h.0 h.1)
+
+pub returns-in_default : goal.returns-in_default
+returns-in_default c = grind (arith, common_steps)
+
+pub returns-in_err-read_byte : goal.returns-in_err-read_byte
+returns-in_err-read_byte c = grind (arith, common_steps)
+
+pub returns-in_err-byte : goal.returns-in_err-byte
+returns-in_err-byte c = grind (arith, common_steps)
+
+pub returns : goal.returns
+returns c = grind (arith, common_steps)

@@ -1,3 +1,5 @@
+use Rattle.std.proofs.Common.{arith}
+use Rattle.std.proofs.lemmas.Grind.{common_steps}
 use Rattle.std.proofs.Common.{◌≡◌, ◌≤◌, List, ℕ, length, ap, ◌∙◌, sym, subst, get_or, take, drop, ◌-◌}
 use Rattle.ws_text.specs.Words.{IsSmall}
 use Rattle.ws_text.specs.ElementWords.{AreBytes}
@@ -20,3 +22,27 @@ returns-in_ok-new-in-None-verb_named c =
           (sym bytes) c.in_ok-bytes-in-None-verb_named.ensures.0,
       subst (λ (b : List ℕ). length b ≤ 64) (sym bytes) c.in_ok-bytes-in-None-verb_named.ensures.1,
     )
+
+pub returns-then-not-is_empty : goal.returns-then-not-is_empty
+returns-then-not-is_empty c = grind (arith, common_steps)
+
+pub returns-then-ne : goal.returns-then-ne
+returns-then-ne c = grind (arith, common_steps)
+
+pub returns-in_err-option-in-None-verb_named : goal.returns-in_err-option-in-None-verb_named
+returns-in_err-option-in-None-verb_named c = grind (arith, common_steps)
+
+pub returns-in_err-bytes-in-None-verb_named : goal.returns-in_err-bytes-in-None-verb_named
+returns-in_err-bytes-in-None-verb_named c = grind (arith, common_steps)
+
+pub returns-in_err-new-in-None-verb_named : goal.returns-in_err-new-in-None-verb_named
+returns-in_err-new-in-None-verb_named c = grind (arith, common_steps)
+
+pub returns-in-Some : goal.returns-in-Some
+returns-in-Some c = grind (arith, common_steps)
+
+pub returns-in-None : goal.returns-in-None
+returns-in-None c = grind (arith, common_steps)
+
+pub returns-in_ok-read_small-in-Some-verb_named : goal.returns-in_ok-read_small-in-Some-verb_named
+returns-in_ok-read_small-in-Some-verb_named c = grind (arith, common_steps)
