@@ -3,16 +3,16 @@
 pub use Rattle.std.proofs.Common.{true, ◌≡◌, ℕ, List, [], ◌∷◌, ◌++◌, take, drop, refl, sym, ap, ◌∙◌, append_assoc, ◌<◌}
 pub use Rattle.std.proofs.Common.{◌⊎◌, Result, Ok, Err, IfOk, IfErr, MatchResult, length, ◌*◌, ◌≤◌, inl, inr, false}
 pub use Rattle.std.proofs.Common.{arith, eqb-true, ◌+◌, ◌/◌, ◌%◌, ◌^◌, map, zero, suc, get_or, ◌-◌, nat_lt}
-pub use Rattle.std.proofs.Common.{length-append, ◌≢◌, length-drop, Bool, Option, Some, None, length-take, Vec, Global}
-pub use Rattle.std.proofs.Common.{subst₂, subst}
+pub use Rattle.std.proofs.Common.{length-append, ◌≢◌, Bool, Option, Some, None, length-take, Vec, Global, subst₂}
+pub use Rattle.std.proofs.Common.{subst, ◌↔◌}
 pub use Rattle.std.proofs.Math.ListN.{replicate, get_or-append, drop_of_length-le}
-pub use Rattle.std.proofs.Math.Seq.{get_or-append_right, get_or-append_seam, take-length}
-pub use Rattle.std.proofs.lemmas.Bool.{cases_lt, le-ltb, cases_order}
+pub use Rattle.std.proofs.Math.Seq.{get_or-append_seam, take-length}
+pub use Rattle.std.proofs.lemmas.Bool.{cases_lt, cases_order}
 pub use Rattle.std.proofs.lemmas.Bool.Decides.{nat_tests, eqb_tells}
 pub use Rattle.std.proofs.lemmas.Grind.{flat_map-append, common_steps}
-pub use Rattle.std.proofs.lemmas.List.{append-nil, take-append-drop, take_more, length-take-le, get_or-drop}
-pub use Rattle.std.proofs.lemmas.List.{length-replicate, take-append-le, take_at, get_or-take, drop-append-le}
-pub use Rattle.std.proofs.lemmas.List.{take_all, map-append, append_cancel_left, nil_from_length}
+pub use Rattle.std.proofs.lemmas.List.{append-nil, take-append-drop, take_more, length-take-le, length-replicate}
+pub use Rattle.std.proofs.lemmas.List.{take-append-le, take_at, drop-append-le, take_all, map-append}
+pub use Rattle.std.proofs.lemmas.List.{append_cancel_left, nil_from_length}
 pub use Rattle.std.proofs.lemmas.Result.{on_ok_weaker, IfErr-weaker, MatchResult-weaker}
 pub use Rattle.std.specs.List.{flat_map, AllByRecursion}
 pub use Rattle.std.specs.Option.{is_some, unwrap_or}
@@ -20,7 +20,7 @@ pub use Rattle.std.specs.Prelude.{◌==◌, IfSome, slice_index, IfNone, if◌th
 pub use Rattle.ws_code.proofs.Bytes.{AreBytes-apart, SpellsBytes, byte_at, front_bytes, list_bytes, padding}
 pub use Rattle.ws_code.proofs.CodeLaws.{Begins, one_cut, cut_bad, cut_unit, one_begins, one_list, no_end}
 pub use Rattle.ws_code.proofs.CodeLaws.{AreBytes-front, AreBytes-append, zeros_are, CanEnd, chain_append}
-pub use Rattle.ws_code.proofs.CodeLaws.{place_after-append, cut_ends, cut_more, cut_begins, chain_next, chain_at}
+pub use Rattle.ws_code.proofs.CodeLaws.{place_after-append, cut_ends, cut_begins, chain_next, chain_at}
 pub use Rattle.ws_code.proofs.Cuts.{cut_at}
 pub use Rattle.ws_code.proofs.DeviceLaws.{list_gave, list_gave_all, list_no_fault, gave_more, gave_all, take_some}
 pub use Rattle.ws_code.proofs.DeviceLaws.{held_went_out, length_rest}
@@ -34,13 +34,12 @@ pub use Rattle.ws_code.proofs.RunLaws.{run_unit, is_between, from_first}
 pub use Rattle.ws_code.specs.Code.{Rules, IsSpelled, IsPrefix, IsPrefixFree, IsChain, IsUnfinished, place_after}
 pub use Rattle.ws_code.specs.Code.{spelling_of, AreBytes, IsCut}
 pub use Rattle.ws_code.specs.Device.{most_reads, list_gives, GaveAll, MayGive, Gave, WentOut, Held}
-pub use Rattle.ws_code.specs.Keep.{holds_last, Keeps}
-pub use Rattle.ws_code.specs.Run.{Reading, HasRun, RunsOn, StopsAtLast, IsRun}
+pub use Rattle.ws_code.specs.Keep.{holds_last}
+pub use Rattle.ws_code.specs.Run.{Reading, HasRun, StopsAtLast, IsRun}
 pub use Rattle.ws_code.specs.declared.fault.Fault.{Fault}
 pub use Rattle.ws_code.specs.declared.fault.Fault.TheVariants.{Refused, Truncated, Memory, Read}
 pub use Rattle.ws_code.specs.declared.keep.Kept.{Kept}
 pub use Rattle.ws_code.specs.declared.reason.Reason.{Reason}
-pub use Rattle.ws_record.proofs.HandedOn.{handed_on}
 pub use Rattle.ws_record.specs.Advance.{IsAdvance, OnLastNews, goes_on, Onward}
 pub use Rattle.ws_record.specs.Arrived.{ending_at, arrived}
 pub use Rattle.ws_record.specs.Body.{IsBody, HasUnitSoFar}
@@ -53,8 +52,8 @@ pub use Rattle.ws_record.specs.Grammar.{opcode_byte, IsFramed, IsBodyBytes, IsSt
 pub use Rattle.ws_record.specs.Grammar.{commands}
 pub use Rattle.ws_record.specs.HeaderSoFar.{HeaderSoFar, declared, head_in}
 pub use Rattle.ws_record.specs.Live.{Watching, Leads, LeadsWith, IsFrontStep, IsLiveStep, CompletesUnit}
-pub use Rattle.ws_record.specs.OpenPrefix.{BeginsList, IsOpenPrefix}
-pub use Rattle.ws_record.specs.OpenPrefix.{IsFirstClosedTo, AreOpenBelow, IsRefusedByPrefix, IsTruncatedByPrefix}
+pub use Rattle.ws_record.specs.OpenPrefix.{BeginsList, IsOpenPrefix, IsFirstClosedTo}
+pub use Rattle.ws_record.specs.OpenPrefix.{AreOpenBelow, IsRefusedByPrefix, IsTruncatedByPrefix}
 pub use Rattle.ws_record.specs.OpenRecord.{CanBeFramed, RecordSoFar, no_record, Keeping, HasRead, IsHead}
 pub use Rattle.ws_record.specs.OpenRecord.{IsDataRefused, IsEndRefused}
 pub use Rattle.ws_record.specs.Receiver.{MayGrow, IsDecodeFault, Receiving, HasReceived, HasItem, IsListFault}
@@ -62,7 +61,7 @@ pub use Rattle.ws_record.specs.Receiver.{IsTakeFault, IsFeedFault, NoneBefore, g
 pub use Rattle.ws_record.specs.Refusal.{IsRefused, IsTruncated, Layer, IsRight, IsOpen, IsFirstClosed}
 pub use Rattle.ws_record.specs.Refusal.{header_reason, IsBodyReason, IsReason}
 pub use Rattle.ws_record.specs.Refusal.Layer.{Tokens, Header, Body}
-pub use Rattle.ws_record.specs.Steps.{counted, IsStepOf, IsItemOf}
+pub use Rattle.ws_record.specs.Steps.{IsStepOf, IsItemOf}
 pub use Rattle.ws_record.specs.Taking.{ArePlain, KeepsTold, IsTaken, IsEnd, IsWordTaken, grown, EndIn, IsHeaderStep}
 pub use Rattle.ws_record.specs.declared.news.Advance.{Advance}
 pub use Rattle.ws_record.specs.declared.news.News.{News}
@@ -78,10 +77,10 @@ pub use Rattle.ws_record.specs.declared.record.Record.{Record}
 pub use Rattle.ws_telnet.proofs.Doubling.{doubled_each, IsDoubling, doubling_ends, doubling_ends_failed}
 pub use Rattle.ws_telnet.proofs.Doubling.{doubling_fails, doubling_iac, doubling_plain}
 pub use Rattle.ws_telnet.proofs.OneToken.{begins_token, plain_byte, is_token, fresh_begins, word_begun}
-pub use Rattle.ws_telnet.proofs.TokenLists.{all_right, chain_front, data_chain}
+pub use Rattle.ws_telnet.proofs.TokenLists.{chain_front, data_chain}
 pub use Rattle.ws_telnet.specs.Machine.{unfinished_of, sub_of}
-pub use Rattle.ws_telnet.specs.Streams.{data_of, carried, HasNoEor, joined, IsStream, EndsWith}
-pub use Rattle.ws_telnet.specs.Streams.{EndsRecord, LeavesOpen, LastRecordMeets}
+pub use Rattle.ws_telnet.specs.Streams.{IsStream, joined, carried, HasNoEor, data_of}
+pub use Rattle.ws_telnet.specs.Streams.{EndsRecord, LastRecordMeets, EndsWith}
 pub use Rattle.ws_telnet.specs.Token.{token_rules, telnet_spelling, doubled, IsTelnet, command_byte, verb_byte}
 pub use Rattle.ws_telnet.specs.Token.{token_spelling, IsToken}
 pub use Rattle.ws_telnet.specs.TokenLaws.{iac_or_not, doubled_plain, token_prefix_free, token_begins, token_nonempty}
@@ -90,3 +89,9 @@ pub use Rattle.ws_telnet.specs.declared.token.Telnet.{Telnet}
 pub use Rattle.ws_telnet.specs.declared.token.Telnet.TheVariants.{Command, Option as Negotiate, Sub as Subnegotiate}
 pub use Rattle.ws_telnet.specs.declared.token.Token.{Token}
 pub use Rattle.ws_telnet.specs.declared.token.Token.TheVariants.{Data, Eor, Telnet as TelnetToken}
+use Rattle.std.proofs.lemmas.Result.{err_from_is_err_and}
+use Rattle.std.specs.Result.{IsErrAnd}
+
+-- the answer by which a `?` hands on a fault
+pub handed_on : {T E : Type 0} {fault : E} (r : Result T E) → IsErrAnd r (λ e. e ≡ fault) → r ≡ Err fault
+handed_on r is = let p = err_from_is_err_and r is in p.1 ∙ ap Err p.2

@@ -1,11 +1,86 @@
 use Rattle.ws_record.proofs.Common as C
-use C.{common_steps, arith, ◌≡◌, ℕ, List, [], ◌∷◌, ◌++◌, ◌⊎◌, inl, inr, length, drop, refl, sym, ap, ◌∙◌, append-nil}
-use C.{Rules, IsPrefixFree, Reason, Fault, Refused, Truncated, Memory, one_begins, one_cut, token_rules}
-use C.{token_prefix_free, Token, Data, joined, Layer, IsOpen, IsFirstClosed, IsBodyReason}
-use C.{IsReason, IsRefused, IsTruncated, Tokens, Header, Body, IsDecodeFault, IsRight}
-use Rattle.ws_record.proofs.Decodes.{closed_is_not}
+use C.{◌≡◌, ℕ, ◌*◌, ◌≤◌, List, [], ◌∷◌, ◌++◌, length, drop, take, sym, ap, ◌∙◌, append_assoc, inl, inr}
+use C.{take-append-drop, append-nil, Rules, Reason, Fault, Refused, Truncated, Memory, Item, IsInGrammar, Layer, IsOpen}
+use C.{IsFirstClosed, IsRefused, IsTruncated, Tokens, Receiving, HasReceived, HasItem, MayGrow, IsListFault}
+use C.{IsDecodeFault, MayGive, Gave, GaveAll, IsSourceFault, ◌<◌, ◌⊎◌, Result, Ok, Err, IfOk, IfErr, MatchResult}
+use C.{IsPrefixFree, most_reads, list_gives, Read, Begins, list_gave, list_gave_all, list_no_fault, common_steps, arith}
+use C.{one_begins, one_cut, token_rules, token_prefix_free, Token, Data, joined}
+use C.{IsBodyReason, IsReason, Header, Body, IsRight}
+use Rattle.ws_record.proofs.Refusals.{held}
 use Rattle.ws_telnet.proofs.LastRecords.{one_end}
 use Rattle.ws_telnet.proofs.Streams.{stream_of, stream_right, nothing_asked}
+use Rattle.ws_record.proofs.Receivers.{refused_append}
+use Rattle.ws_record.proofs.Reading.{one_items}
+
+module _ {Place U : Type 0} (rules : Rules Place U) where
+  pub closed_is_not : (l : Layer) (bytes : List ℕ) → IsFirstClosed rules l bytes → IsOpen rules l bytes → ⊥
+  closed_is_not Tokens bytes c o = c o
+  closed_is_not l bytes c o = c.1 o
+
+  -- and so none of its bytes is refused
+  pub not_refused : (bytes : List ℕ) (items : List (Item U)) (place : ℕ) (reason : Reason)
+      → IsInGrammar rules bytes items → IsRefused rules bytes place reason → ⊥
+  not_refused bytes items place reason a r =
+      closed_is_not _ _ r.closed (record {
+        more = r.after;
+        stream = (let h = held rules a r.layer in rw (append_assoc r.before, ← r.split)
+            (stream_of _ h.tokens h.cut.chain (sym h.cut.spelled ∙ append-nil _) h.right h.left));
+      })
+
+  -- a list in the grammar meets no fault but that of memory
+  pub only_memory : (bytes : List ℕ) (items : List (Item U)) (fault : Fault) → IsInGrammar rules bytes items
+      → IsDecodeFault rules bytes fault → fault ≡ Memory
+  only_memory bytes items fault a f =
+      let whole : IsTruncated rules bytes → ⊥ = λ t. t.unfinished items a in
+      grind (arith, not_refused bytes items)
+
+module _ {Place U : Type 0} (rules : Rules Place U) where
+  -- a fault of the first piece
+  pub feed_decodes : (bytes : List ℕ) (fault : Fault) → IsListFault rules [] bytes fault
+      → IsDecodeFault rules bytes fault
+  feed_decodes bytes fault f = grind arith
+
+  -- what may grow does whatever follows
+  pub grows_more : (bytes more : List ℕ) → MayGrow rules bytes → MayGrow rules (bytes ++ more)
+  grows_more bytes more (inl u) =
+      inl (u.0, u.1, u.2 ++ more, ap (λ x. x ++ more) u.3 ∙ append_assoc u.0 (u.1 ∷ u.2) more, u.4)
+  grows_more bytes more (inr i) =
+      inr (i.0, i.1 ++ more, ap (λ x. x ++ more) i.2 ∙ append_assoc i.0 i.1 more, i.3, i.4, i.5, i.6, i.7)
+
+  -- a growth that was refused for an item of a piece
+  pub item_completed : (bytes piece : List ℕ) (items : List (Item U)) (item : Item U) (used : ℕ)
+      (new : Receiving Place U) → HasReceived rules new (bytes ++ take used piece) (items ++ item ∷ [])
+      → HasItem rules (bytes ++ piece)
+  item_completed bytes piece items item used new t = (
+    bytes ++ take used piece,
+    drop used piece,
+    sym (append_assoc bytes (take used piece) (drop used piece)
+        ∙ ap (λ x. bytes ++ x) (take-append-drop used piece)),
+    items,
+    item,
+    t.leads.0,
+    new.live.begun,
+    t.leads.1.holds,
+  )
+
+-- What the loop over a source keeps: the bytes that it gave lead to the receiver, and are at most 4,096 a read.
+pub record Reading {Place U S : Type 0} (rules : Rules Place U) (gives : MayGive S) (failures : S → ℕ) (from to : S)
+    (reads : ℕ) (receiver : Receiving Place U) (items : List (Item U)) : Type 0 where
+  pub bytes : List ℕ
+  pub gave : Gave gives failures from to reads bytes
+  pub taken : HasReceived rules receiver bytes items
+  pub few : length bytes ≤ 4096 * reads
+
+module _ {Place U S : Type 0} (rules : Rules Place U) (gives : MayGive S) (failures : S → ℕ) (from to : S) where
+  -- a fault of a piece that a source gave
+  pub feed_source : (reads : ℕ) (bytes piece : List ℕ) (fault : Fault)
+      → Gave gives failures from to reads (bytes ++ piece) → IsListFault rules bytes piece fault
+      → IsSourceFault rules gives failures from to fault
+  feed_source reads bytes piece (Refused place reason) gave (inl f) = (bytes ++ piece, reads, gave, f.1)
+  feed_source reads bytes piece Memory gave (inl f) =
+      (bytes ++ piece, reads, gave, inl (bytes ++ f.0, f.1, f.2, rw (f.3, append_assoc bytes), f.4))
+  feed_source reads bytes piece fault gave (inr f) = rw f.0 (bytes ++ piece, reads, gave, inr f.1)
+  feed_source reads bytes piece fault gave (inl f) = absurd f
 
 -- Bytes are refused at one place and for one reason, or truncated, and not both.
 
@@ -22,14 +97,14 @@ module _ {Place U : Type 0} (rules : Rules Place U) where
   one_reason free Tokens before b r s p q =
       let cut = one_cut token_rules token_prefix_free tt _ _ _ _ p.2.chain q.2.chain p.2.more q.2.more
       (p.2.spelled ∙ sym q.2.spelled) in rw (p.3, q.3, cut.1)
-  one_reason free Header before b r s p q = let last = one_end _ _ _ _ _ p.2 q.2 in rw (p.3, q.3, last.0, last.1)
+  one_reason free Header before b r s p q = let last = one_end _ _ _ _ _ p.2 q.2 in cc
   one_reason free Body before b r s p q =
       let last = one_end _ _ _ _ _ p.2 q.2 in
       let moved : IsBodyReason rules (drop 10 q.0) p.1 r = rw last.0 at p.3 in
       one_body_reason free _ _ r s (rw last.1 at moved) q.3
 
   -- to the lowest layer all bytes are a record
-  open_tokens : (bytes : List ℕ) → IsOpen rules Header bytes → IsOpen rules Tokens bytes
+  pub open_tokens : (bytes : List ℕ) → IsOpen rules Header bytes → IsOpen rules Tokens bytes
   open_tokens bytes o =
       let s = o.stream in
       record {
@@ -39,15 +114,7 @@ module _ {Place U : Type 0} (rules : Rules Place U) where
       }
 
   one_layer : (bytes : List ℕ) (l m : Layer) → IsFirstClosed rules l bytes → IsFirstClosed rules m bytes → l ≡ m
-  one_layer bytes Tokens Tokens p q = refl
-  one_layer bytes Tokens Header p q = absurd (p q.0)
-  one_layer bytes Tokens Body p q = absurd (p (open_tokens _ q.0))
-  one_layer bytes Header Tokens p q = absurd (q p.0)
-  one_layer bytes Header Header p q = refl
-  one_layer bytes Header Body p q = absurd (p.1 q.0)
-  one_layer bytes Body Tokens p q = absurd (q (open_tokens _ p.0))
-  one_layer bytes Body Header p q = absurd (q.1 p.0)
-  one_layer bytes Body Body p q = refl
+  one_layer bytes l m p q = grind (arith, open_tokens)
 
   -- behind a byte at which a layer is closed nothing is open
   behind : (before : List ℕ) (byte : ℕ) (more longer : List ℕ) (layer : Layer)
@@ -97,13 +164,51 @@ module _ {Place U : Type 0} (rules : Rules Place U) where
   -- so two decoders of the bytes meet one fault, unless a growth was refused
   pub one_fault : IsPrefixFree rules → (bytes : List ℕ) (fault other : Fault) → IsDecodeFault rules bytes fault
       → IsDecodeFault rules bytes other → (fault ≡ Memory) ⊎ (other ≡ Memory) ⊎ (fault ≡ other)
-  one_fault free bytes Memory other a b = inl refl
-  one_fault free bytes fault Memory a b = inr (inl refl)
-  one_fault free bytes (Refused p r) (Refused q s) a b =
-      let same = one_refused free bytes p q r s a b in inr (inr (rw (same.0, same.1)))
-  one_fault free bytes (Refused p r) (Truncated n) a b = absurd (refused_or_truncated bytes p r a b.1)
-  one_fault free bytes (Truncated n) (Refused q s) a b = absurd (refused_or_truncated bytes q s b a.1)
-  one_fault free bytes (Truncated n) (Truncated m) a b = inr (inr (ap Truncated (a.0 ∙ sym b.0)))
-  one_fault free bytes (Refused p r) other a b = absurd b
-  one_fault free bytes (Truncated n) other a b = absurd b
-  one_fault free bytes fault other a b = absurd a
+  one_fault free bytes fault other a b = grind (arith, one_refused free bytes, refused_or_truncated bytes)
+
+-- Decoding bytes at once, and through a source over them.
+
+module _ {Place U : Type 0} (rules : Rules Place U) (failures : List ℕ → ℕ) where
+  -- the fault of a source over bytes is one of these bytes
+  pub source_fault : (bytes to : List ℕ) → length bytes < most_reads → (fault : Fault)
+      → IsSourceFault rules list_gives failures bytes to fault → IsDecodeFault rules bytes fault
+  source_fault bytes to few (Refused place reason) f =
+      let whole : bytes ≡ f.0 ++ to = (list_gave failures bytes to f.1 f.0 f.2).0 in
+      rw whole (refused_append _ _ to _ _ f.3)
+  source_fault bytes to few (Truncated n) f =
+      let whole : f.0 ≡ bytes = (list_gave_all failures bytes to f.0 f.1).0 in
+      (f.2 ∙ ap length whole, rw whole at f.3)
+  source_fault bytes to few Memory f =
+      let whole : bytes ≡ f.0 ++ to = (list_gave failures bytes to f.1 f.0 f.2).0 in
+      rw whole (grows_more rules f.0 to f.3)
+  source_fault bytes to few Read f = absurd (list_no_fault failures bytes to f.0 few f.1)
+  source_fault bytes to few fault f = absurd f
+
+  -- the answer of a source over bytes is one to these bytes
+  pub source_accepts : {A : Type 0} (from_source : Result A Fault) (items : A → List (Item U))
+      (bytes from to : List ℕ) → from ≡ bytes
+      → IfOk from_source
+      (λ a. (given : List ℕ) × GaveAll list_gives failures from to given × IsInGrammar rules given (items a))
+      → IfOk from_source (λ a. IsInGrammar rules bytes (items a))
+  source_accepts (Ok a) items bytes from to same q = rw ((list_gave_all failures from to q.0 q.1).0 ∙ same) at q.2
+  source_accepts (Err f) items bytes from to same q = tt
+
+  pub source_faults : {A : Type 0} (from_source : Result A Fault) (bytes from to : List ℕ) → from ≡ bytes
+      → length bytes < most_reads → IfErr from_source (λ f. IsSourceFault rules list_gives failures from to f)
+      → IfErr from_source (λ f. IsDecodeFault rules bytes f)
+  source_faults (Ok a) bytes from to same few q = tt
+  source_faults (Err f) bytes from to same few q = source_fault _ to few f (rw same at q)
+
+module _ {Place U : Type 0} (rules : Rules Place U) where
+  -- both answers
+  pub both_ways : {A : Type 0} → IsPrefixFree rules → Begins rules → (at_once from_source : Result A Fault)
+      (items : A → List (Item U)) (bytes : List ℕ) → IfOk at_once (λ a. IsInGrammar rules bytes (items a))
+      → IfErr at_once (λ f. IsDecodeFault rules bytes f)
+      → IfOk from_source (λ a. IsInGrammar rules bytes (items a))
+      → IfErr from_source (λ f. IsDecodeFault rules bytes f)
+      → MatchResult at_once (λ a. MatchResult from_source (λ b. items a ≡ items b) (λ f. f ≡ Memory))
+      (λ f. MatchResult from_source (λ b. f ≡ Memory) (λ e. (f ≡ Memory) ⊎ (e ≡ Memory) ⊎ (f ≡ e)))
+  both_ways free begins (Ok a) (Ok b) items bytes p fp q fq = one_items _ free begins p q
+  both_ways free begins (Ok a) (Err f) items bytes p fp q fq = only_memory _ _ _ f p fq
+  both_ways free begins (Err f) (Ok b) items bytes p fp q fq = only_memory _ _ _ f q fp
+  both_ways free begins (Err f) (Err e) items bytes p fp q fq = one_fault _ free _ f e fp fq

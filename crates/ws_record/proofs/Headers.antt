@@ -1,8 +1,8 @@
-use Rattle.ws_record.proofs.Common as C
-use C.{◌≡◌, ℕ, ◌+◌, ◌-◌, ◌*◌, ◌<◌, ◌≤◌, List, [], ◌∷◌, ◌++◌, inl, inr, length, drop, get_or, refl, sym, ap, ◌∙◌}
-use C.{arith, append_assoc, length-append, replicate, get_or-append, get_or-append_seam, cases_lt, length-replicate}
-use C.{AreBytes, AreBytes-append, zeros_are, Opcode, Invite, IsFramed, header, opcode_byte, CanBeFramed, HeaderSoFar}
-use C.{declared, byte_at, ten_cells, common_steps, subst, zero, suc}
+use Rattle.ws_record.proofs.Common.{◌≡◌, ℕ, ◌+◌, ◌-◌, ◌*◌, ◌<◌, ◌≤◌, List, [], ◌∷◌, ◌++◌, inl, inr, length, drop}
+use Rattle.ws_record.proofs.Common.{get_or, refl, ◌∙◌, arith, append_assoc, length-append, replicate, get_or-append}
+use Rattle.ws_record.proofs.Common.{get_or-append_seam, cases_lt, length-replicate, AreBytes, AreBytes-append}
+use Rattle.ws_record.proofs.Common.{zeros_are, Opcode, Invite, IsFramed, header, opcode_byte, CanBeFramed, HeaderSoFar}
+use Rattle.ws_record.proofs.Common.{declared, byte_at, ten_cells, common_steps, zero, suc}
 
 -- the length of a header is ten
 pub header_length : (n f : ℕ) (o : Opcode) (rest : List ℕ) → length (header n f o ++ rest) ≡ 10 + length rest
@@ -28,24 +28,12 @@ header_parts xs n flags opcode are h long says flag_bytes op =
     ten_cells xs long ∙ grind (arith, byte_at xs 0 are, byte_at xs 1 are, byte_at xs 7 are, byte_at xs 8 are)
 
 header_right : (n f : ℕ) (o : Opcode) (rest : List ℕ) → 10 ≤ n → HeaderSoFar (header n f o ++ rest)
-header_right n f o rest long = record {
-  declares = λ _. omega arith;
-  kind_high = λ _. refl;
-  kind_low = λ _. refl;
-  reserved_high = λ _. refl;
-  reserved_low = λ _. refl;
-  variable_length = λ _. refl;
-  opcode = λ _. (o, refl);
-}
+header_right n f o rest long = grind (arith, common_steps)
 
 -- what a right record says of its length and of its header
 framed_means : (xs : List ℕ) → IsFramed xs → (declared xs ≡ length xs) × HeaderSoFar xs
 framed_means xs f =
-    let long : 10 ≤ length xs =
-    omega (arith, ap length f.spelled, header_length (length xs) f.flags f.opcode f.rest) in (
-      omega (arith, ap declared f.spelled),
-      subst HeaderSoFar (sym f.spelled) (header_right (length xs) f.flags f.opcode f.rest long),
-    )
+    let long = header_length (length xs) f.flags f.opcode f.rest in grind (arith, common_steps, header_right)
 
 -- more bytes behind a whole header, and the front of a right one
 pub header_append : (xs ys : List ℕ) → 10 ≤ length xs → HeaderSoFar xs → HeaderSoFar (xs ++ ys)

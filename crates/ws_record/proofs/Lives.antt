@@ -1,11 +1,11 @@
 use Rattle.ws_record.proofs.Common as C
-use C.{false, ◌≡◌, ◌≢◌, ◌<◌, ◌≤◌, ◌^◌, refl, ℕ, ◌+◌, List, [], ◌∷◌, ◌++◌, inl, inr, Option, None, ◌-◌, length, take}
-use C.{sym, ap, ◌∙◌, arith, append_assoc, length-append, cases_lt, append-nil, Rules, IsUnfinished, IsSpelled}
-use C.{AreBytes, AreBytes-front, CanEnd, Kept, Reason, token_rules, unfinished_of, sub_of, IAC, Telnet, Data, Eor}
-use C.{TelnetToken, Item, TelnetItem, News, More, Whole, Open, Close, NoMemory, Holds, IsInGrammar, IsRefused}
-use C.{IsTruncated, RecordSoFar, no_record, Keeping, HasRead, holds_last, Watching, Leads, LeadsWith, IsFrontStep}
-use C.{IsLiveStep, ArePlain, IsTaken, IsEnd, IsWordTaken, IsAdvance, OnLastNews, IsStepOf, AllByRecursion-front}
-use C.{AllByRecursion-last, SpellsBytes, one_last, Advance, true, IsCut, drop, CompletesUnit, Onward, plain_byte}
+use C.{common_steps, ◌≡◌, ℕ, ◌+◌, ◌<◌, ◌≤◌, ◌^◌, List, ◌++◌, Option, None, length, take, arith, Rules, Item, More}
+use C.{RecordSoFar, Watching, Leads, LeadsWith, Kept, bytes_on, each_on, left_of, length_rest, room_on, upto}
+use C.{holds_last, Advance, false, ◌≢◌, refl, [], ◌∷◌, inl, inr, sym, ap, ◌∙◌, append_assoc, length-append, cases_lt}
+use C.{append-nil, IsUnfinished, IsSpelled, AreBytes, AreBytes-front, CanEnd, token_rules, unfinished_of, sub_of, IAC}
+use C.{Telnet, Data, Eor, TelnetToken, TelnetItem, News, Whole, Open, Close, NoMemory, Holds, Keeping, HasRead}
+use C.{IsFrontStep, IsLiveStep, ArePlain, IsTaken, IsEnd, IsWordTaken, IsAdvance, OnLastNews, IsStepOf}
+use C.{AllByRecursion-front, AllByRecursion-last, SpellsBytes, one_last, true, Onward, plain_byte}
 use Rattle.ws_telnet.specs.Words.{IsWord}
 use Rattle.ws_telnet.specs.declared.word.Word.{Word}
 use Rattle.ws_telnet.specs.declared.tokens.Tokens.{Tokens}
@@ -14,12 +14,11 @@ use Rattle.ws_record.specs.declared.news.News.TheVariants.{Refused, Failed}
 use Rattle.ws_record.specs.declared.live.Step.{Step}
 use Rattle.ws_telnet.proofs.Unfinished.{iac_goes_on}
 use Rattle.ws_code.proofs.Slots.{only_enough, slot_is}
-use Rattle.ws_record.proofs.Steps.{holds_nothing, holds_more, holds_data, holds_command, holds_record}
-use Rattle.ws_record.proofs.Refusals.{all_open, refuse_token, refuse_data, refuse_end, truncated}
-use Rattle.ws_record.proofs.Takings.{told_none}
+use Rattle.ws_record.proofs.Encodings.{holds_more, holds_data, holds_command, holds_record}
+use Rattle.ws_record.proofs.Refusals.{all_open, refuse_token, refuse_data, refuse_end}
+use Rattle.ws_code.specs.declared.keep.Kept.TheVariants as answer
 use Rattle.ws_telnet.specs.declared.word.Word.TheVariants as word
 use Rattle.ws_record.specs.declared.news.News.TheVariants as told
-use Rattle.ws_code.specs.declared.keep.Kept.TheVariants as answer
 use Rattle.ws_record.specs.declared.live.Step.TheVariants as steps
 
 -- a decoder that has taken these bytes, and works
@@ -61,12 +60,6 @@ module _ {Place U : Type 0} (rules : Rules Place U) where
           (let first : n ≡ 1 = omega (arith, k, lt) in (so_far.bytes, IAC ∷ [], rw (first, one) (holds_iac fresh)))
     ]
 
-  completes : {bytes : List ℕ} {items : List (Item U)} {so_far begun : List ℕ} {b v : ℕ} (units : List U) (unit : U)
-      → Holds rules bytes items so_far begun → IsSpelled token_rules tt (begun ++ b ∷ []) (Data v)
-      → IsCut rules (drop 10 (so_far ++ v ∷ [])) (units ++ unit ∷ []) [] → CompletesUnit rules bytes b
-  completes units unit h s cut = record
-      { items = _; so_far = _; begun = _; value = _; units = units; unit = unit; holds = h; spelled = s; cut = cut }
-
   -- a front that carries values to the open record, the last one with its last byte
   pub record Carries (bytes : List ℕ) (items : List (Item U)) (so_far front values : List ℕ) : Type 0 where
     pub whole : Holds rules (bytes ++ front) items (so_far ++ values) []
@@ -103,7 +96,7 @@ module _ {Place U : Type 0} (rules : Rules Place U) where
   }
 
 module _ {Place U : Type 0} (rules : Rules Place U) (can : CanEnd rules) (law : SpellsBytes rules) where
-  leads : {live : Watching Place} {bytes : List ℕ} {items : List (Item U)} {so_far : RecordSoFar U}
+  pub leads : {live : Watching Place} {bytes : List ℕ} {items : List (Item U)} {so_far : RecordSoFar U}
       → live.taken ≡ length bytes → Holds rules bytes items so_far.bytes live.begun → HasRead rules live.reader so_far
       → live.failed ≡ false → Leads rules live bytes items so_far
   leads count holds reads works = record {
@@ -113,17 +106,6 @@ module _ {Place U : Type 0} (rules : Rules Place U) (can : CanEnd rules) (law : 
     works = works;
     opened = all_open _ can law holds reads.framed reads.cut;
   }
-
-  pub leads_nothing : (live : Watching Place) → live.taken ≡ 0 → live.begun ≡ [] → HasRead rules live.reader no_record
-      → live.failed ≡ false → Leads rules live [] [] no_record
-  leads_nothing live count fresh reads works = leads count (rw fresh (holds_nothing rules)) reads works
-
-  -- a refusal at the last byte of a front
-  refused_last : (bytes : List ℕ) {front : List ℕ} (f : List ℕ) (b : ℕ) {reason : Reason} → front ≡ f ++ b ∷ []
-      → IsRefused rules ((bytes ++ f) ++ b ∷ []) (length (bytes ++ f)) reason
-      → (place : ℕ) × (length (bytes ++ front) ≡ place + 1) × IsRefused rules (bytes ++ front) place reason
-  refused_last bytes f b e r = rw (e, ← append_assoc bytes f (b ∷ []))
-      (length (bytes ++ f), length-append (bytes ++ f) (b ∷ []), r)
 
   module _ {K : Type 0} (holds : K → List U → List ℕ → Type 0) (may_answer : Kept → Type 0) (old new : K)
       (bytes : List ℕ) (items : List (Item U)) (so_far : RecordSoFar U) (machine : Tokens) (to : Keeping Place) where
@@ -146,9 +128,28 @@ module _ {Place U : Type 0} (rules : Rules Place U) (can : CanEnd rules) (law : 
     advance_values front values (Open head) c fresh t = (t.0, (_, leads refl (rw fresh c.whole) t.1 refl, t.3), t.2)
     advance_values front values (Refused reason) c fresh t =
         let at = c.at_last t.0 t.1 t.2 in
-        refused_last _ _ _ at.3 (refuse_data _ at.4 (all_open _ can law at.4 t.3.2.framed t.3.2.cut) _ [] at.5 t.3.3)
+        rw (at.3, ← append_assoc bytes at.0 (at.1 ∷ []))
+        (refuse_data _ can law at.4 t.3.2.framed t.3.2.cut _ at.5 t.3.3)
     advance_values front values NoMemory c fresh t =
-        let at = c.at_last t.0 t.1 t.2 in ((at.0, at.1, at.3, completes _ t.3.0 t.3.1 at.4 at.5 t.3.2), t.3.3)
+        let at = c.at_last t.0 t.1 t.2 in (
+          (
+            at.0,
+            at.1,
+            at.3,
+            record {
+              items = items;
+              so_far = so_far.bytes ++ t.0;
+              begun = at.2;
+              value = t.1;
+              units = t.3.0;
+              unit = t.3.1;
+              holds = at.4;
+              spelled = at.5;
+              cut = t.3.2;
+            },
+          ),
+          t.3.3,
+        )
     advance_values front values news c fresh t = absurd t
 
     module _ (f begun : List ℕ) (b : ℕ) (h : Holds rules (bytes ++ f) items so_far.bytes begun)
@@ -171,7 +172,7 @@ module _ {Place U : Type 0} (rules : Rules Place U) (can : CanEnd rules) (law : 
         same,
       )
       end_advance (Refused reason) spelled fresh t same =
-          refused_last _ f b refl (refuse_end _ h (all_open _ can law h reads.framed reads.cut) b [] spelled t)
+          rw (← append_assoc bytes f (b ∷ [])) (refuse_end _ can law h reads.framed reads.cut b spelled t)
       end_advance news spelled fresh t same = absurd t
 
       -- a token goes on
@@ -187,7 +188,7 @@ module _ {Place U : Type 0} (rules : Rules Place U) (can : CanEnd rules) (law : 
               (rw same reads) refl);
           body = sym (append-nil _);
         },
-        rw kept (told_none holds old),
+        λ units told h. rw (append-nil told, append-nil units, kept) h,
         inl refl,
       )
 
@@ -200,8 +201,8 @@ module _ {Place U : Type 0} (rules : Rules Place U) (can : CanEnd rules) (law : 
       word_advance (word.Command code) news i t = rw t.0 (command_advance _ i.0 i.1 t.1, t.2)
       word_advance (word.Option verb option) news i t = rw t.0 (command_advance _ i.0 i.1 t.1, t.2)
       word_advance word.Sub news i t = rw t.0 (command_advance _ i.0 i.1 t.1, i.1, t.2)
-      word_advance (word.Bad reason) news i t = rw t (refused_last _ f b refl
-          (refuse_token _ h (all_open _ can law h reads.framed reads.cut) b [] i.0 i.1))
+      word_advance (word.Bad reason) news i t = rw (t, ← append_assoc bytes f (b ∷ []))
+          (refuse_token _ can law h reads.framed reads.cut b i.0 i.1)
 
     -- the bytes are counted, and what has failed doesn't matter
     pub recount : (front : List ℕ) (now : Watching Place) (news : News)
@@ -211,15 +212,6 @@ module _ {Place U : Type 0} (rules : Rules Place U) (can : CanEnd rules) (law : 
     recount front now NoMemory e a = a
     recount front now Failed e a = a
     recount front now news e a = rw (e tt) a
-
-module _ {Place U : Type 0} (rules : Rules Place U) {live : Watching Place} {bytes : List ℕ} {items : List (Item U)}
-    {so_far : RecordSoFar U} (l : Leads rules live bytes items so_far) where
-  -- the end of the stream
-  pub accepted : live.begun ≡ [] → so_far ≡ no_record → IsInGrammar rules bytes items
-  accepted e f = rw (ap (λ (r : RecordSoFar U). r.bytes) f) at (rw e at l.holds)
-
-  pub cut_short : (so_far.bytes ≡ [] → live.begun ≡ [] → ⊥) → IsTruncated rules bytes
-  cut_short inside = truncated _ _ _ _ _ l.holds l.opened inside
 
 module _ {Place U K : Type 0} (rules : Rules Place U) (holds : K → List U → List ℕ → Type 0)
     (may_answer : Kept → Type 0) (bytes : List ℕ) (items : List (Item U)) (so_far : RecordSoFar U) (old : K)
@@ -291,17 +283,8 @@ module _ {Place U : Type 0} (rules : Rules Place U) where
         let only : a.0 ≡ [] = only_enough _ a.5 in
         let t = s a.1 (slot_is slot a.1 (rw only at (a.4 [] [] refl))) in
         let on = rw only at a.3 in rw (t.0, t.1) (on.grown, on.leads)
-    front_step new (Open head) step m s = let a = m.advance in rw (s.0, s.1) (a.0, (a.1.0, a.1.1))
-    front_step new (Close head) step m s = rw (s.0, s.1) (head, m.advance.0.is_head, m.advance.1)
-    front_step new (told.Command code) step m s = rw (s.0, s.1) m.advance.0
-    front_step new (told.Option verb option) step m s = rw (s.0, s.1) m.advance.0
     front_step new told.Sub step m s = let t = s m.advance.1 in rw (t.0, t.1.1) (fetched _ t.1.0 _ _ _ m.advance.0)
-    front_step new (Refused reason) step m s =
-        let a = m.advance in
-        let place : live.taken - 1 ≡ a.0 = omega (arith, m.count, a.1) in
-        rw s.0 (omega (arith, place, a.1), rw place a.2)
-    front_step new NoMemory step m s = let e : answer.NoMemory ≡ answer.Enough = m.advance.1 in cc
-    front_step new Failed step m s = absurd m.advance
+    front_step new news step m s = let a = m.advance in let count = m.count in grind arith
 
     pub more_step : {news : News} → MadeInSlot bytes items so_far front live slot news → news ≡ More
         → LeadsWith rules live (bytes ++ front) items so_far.head so_far.units
@@ -314,3 +297,46 @@ module _ {Place U : Type 0} (rules : Rules Place U) where
   live_step bytes items so_far byte new (steps.Refused place reason) f =
       (omega (arith, f.0, length-append bytes (byte ∷ [])), f.1)
   live_step bytes items so_far byte new step f = f
+
+module _ {Place U : Type 0} (rules : Rules Place U) where
+  -- what a front of what is left of a piece made
+  pub front_made : {K : Type 0} {holds : K → List U → List ℕ → Type 0} {may_answer : Kept → Type 0}
+      {was live : Watching Place} {old new : K} {result : Advance} {items : List (Item U)} {so_far : RecordSoFar U}
+      (piece : List ℕ) (i : ℕ) → Advanced rules holds may_answer was old (left_of piece i) result live new
+      → (bytes : List ℕ) → Leads rules was (bytes ++ take i piece) items so_far
+      → length bytes + length piece + 1 < 2 ^ 64
+      → Made rules holds may_answer (bytes ++ take i piece) items so_far old live new result.news
+      (take result.used (left_of piece i))
+  front_made {result = result} piece i e bytes l fits =
+      let room = room_on bytes piece i fits in
+      record { advance = e.advance _ _ _ l room; count = grind (arith, common_steps) }
+
+  -- what a decoder and a slot make of a piece
+  abbrev pub AdvancedInSlot : Watching Place → List ℕ → Advance → Watching Place → Option U → Type 0
+  AdvancedInSlot was piece result live slot =
+      Advanced rules (λ (s : Option U) units told. holds_last s units) (λ kept. kept ≡ answer.Enough) was None piece
+      result live slot
+
+  -- a front of the piece leads to the decoder, and nothing is complete with its bytes
+  abbrev pub IsLed : Watching Place → List ℕ → ℕ → Watching Place → Type 0
+  IsLed from piece used live = (used ≤ length piece)
+      × ((bytes : List ℕ) (items : List (Item U)) (so_far : RecordSoFar U) → Leads rules from bytes items so_far
+      → length bytes + length piece + 1 < 2 ^ 64
+      → LeadsWith rules live (bytes ++ take used piece) items so_far.head so_far.units
+      × ((n : ℕ) → n ≤ used → IsHeld rules items (bytes ++ take n piece)))
+
+  pub led_on : {from was live : Watching Place} {result : Advance} (piece : List ℕ) (i : ℕ) (slot : Option U)
+      → AdvancedInSlot was (left_of piece i) result live slot → result.news ≡ More → IsLed from piece i was
+      → IsLed from piece (i + result.used) live
+  led_on {live = live} {result = result} piece i slot e more led = (
+    omega (arith, led.0, e.within, length_rest piece i),
+    λ bytes items so_far l fits. (
+        let before = led.1 bytes items so_far l fits in
+        let on = rw (bytes_on bytes piece i result.used) at
+        (more_step rules (front_made piece i e bytes before.0.1 fits) more) in (
+          on,
+          upto (λ n. IsHeld rules items (bytes ++ take n piece)) (i + result.used) (each_on (IsHeld rules items) bytes
+              piece i
+              result.used before.1 (e.first _ _ _ before.0.1)) (on.0, live.begun, on.1.holds),
+        )),
+  )

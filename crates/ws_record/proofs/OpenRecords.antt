@@ -1,36 +1,27 @@
 use Rattle.ws_record.proofs.Common as C
-use C.{◌≡◌, ℕ, ◌+◌, ◌-◌, ◌*◌, ◌<◌, ◌≤◌, true, List, [], ◌∷◌, ◌++◌, inl, inr, Option, Some, None, length, drop, take}
-use C.{get_or, refl, sym, ap, ◌∙◌, arith, append_assoc, length-append, length-take, drop_of_length-le, IfSome}
-use C.{slice_index, take-append-le, drop-append-le, take_all, append-nil, Rules, IsPrefixFree, IsPrefix}
-use C.{AreBytes, place_after, spelling_of, HasRun, AreBytes-append, Begins, one_cut, cut_bad, chain_append}
-use C.{place_after-append, Reason, Data, Opcode, Head, IsFramed, header, opcode_byte, header_reason, HeaderSoFar}
-use C.{declared, head_in, RecordSoFar, no_record, CanBeFramed, IsHead, Keeping, HasRead, IsDataRefused, IsEndRefused}
-use C.{IsWholeRecord, grown, byte_at, empty_take, take_short, common_steps, Reading}
+use C.{common_steps, ◌≡◌, ℕ, ◌+◌, ◌<◌, ◌≤◌, List, [], ◌∷◌, ◌++◌, inl, length, drop, take, get_or, refl, ap, arith}
+use C.{append_assoc, length-append, length-take, drop_of_length-le, append-nil, take-append-drop, Rules, length-take-le}
+use C.{HasRun, IsSpelled, IsPrefixFree, AreBytes, Reading, StopsAtLast, Kept, AreBytes-front, Begins, run_unit, News}
+use C.{More, Whole, Open, NoMemory, RecordSoFar, Keeping, HasRead, ArePlain, IsTaken, IsHeaderStep, grown}
+use C.{AllByRecursion-front, AllByRecursion-last, front_bytes, same_front, IsRun, ◌-◌, ◌*◌, true, inr, Option, Some}
+use C.{None, sym, ◌∙◌, IfSome, slice_index, take-append-le, drop-append-le, take_all, IsPrefix, place_after}
+use C.{spelling_of, AreBytes-append, one_cut, cut_bad, chain_append, place_after-append, Reason, Data, Opcode, Head}
+use C.{IsFramed, opcode_byte, header_reason, HeaderSoFar, declared, head_in, no_record, CanBeFramed, IsHead}
+use C.{IsDataRefused, IsEndRefused, IsWholeRecord, byte_at, empty_take, take_short}
+use Rattle.ws_record.specs.declared.news.News.TheVariants.{Refused}
+use Rattle.ws_code.specs.declared.run.Standing.{Standing}
+use Rattle.ws_code.specs.declared.run.End.{End}
 use Rattle.ws_code.specs.declared.reason.Reason.TheVariants.{TooLong, EndedInside, UnknownOpcode}
-use Rattle.ws_record.proofs.Headers.{can_be_framed, can_means, header_length, header_append, empty_header, next_cell}
-use Rattle.ws_record.proofs.Headers.{no_room, header_parts}
+use Rattle.ws_record.proofs.Headers.{can_be_framed, can_means, header_append, empty_header, next_cell, no_room}
+use Rattle.ws_record.proofs.Headers.{header_parts}
+use Rattle.ws_code.specs.declared.run.End.TheVariants as end
 
 pub nothing_framed : CanBeFramed []
 nothing_framed = can_be_framed [] tt empty_header (λ k. absurd (omega arith))
 
 -- a head comes with the tenth byte
 no_head : (head : Option Head) (bytes : List ℕ) → IsHead head bytes → length bytes < 10 → head ≡ None
-no_head None bytes is short = refl
-no_head (Some h) bytes is short =
-    absurd (omega (arith, length-take 10 bytes, ap length is.2, header_length h.length h.flags h.opcode []))
-
-some_head : (head : Option Head) (bytes : List ℕ) → IsHead head bytes → 10 ≤ length bytes
-    → (h : Head) × (head ≡ Some h)
-some_head None bytes is long = absurd (omega (arith, is))
-some_head (Some h) bytes is long = (h, refl)
-
--- and says what the first two bytes declare
-pub head_declares : (h : Head) (bytes : List ℕ) → IsHead (Some h) bytes → declared bytes ≡ h.length
-head_declares h bytes is = grind (arith, common_steps)
-
--- data behind ten bytes is refused as too long
-too_long : (xs : List ℕ) (b : ℕ) → 10 ≤ length xs → TooLong ≡ header_reason xs (Data b)
-too_long xs b long = grind (arith, common_steps)
+no_head head bytes is short = grind (arith, common_steps)
 
 -- where a reader stands in a body, and one that took so many bytes of the body more
 abbrev pub reading_of : {Place : Type 0} → Keeping Place → Reading Place
@@ -87,27 +78,25 @@ module _ {Place U : Type 0} (rules : Rules Place U) where
       are : AreBytes (so_far.bytes ++ b ∷ [])
       are = AreBytes-append so_far.bytes (b ∷ []) r.bytes (fits, tt)
 
-      nothing_behind : drop 10 (so_far.bytes ++ b ∷ []) ≡ []
-      nothing_behind = drop_of_length-le (so_far.bytes ++ b ∷ []) {i = 10}
-          (omega (arith, few, length-append so_far.bytes (b ∷ [])))
-
-      all_there : take 10 (so_far.bytes ++ b ∷ []) ≡ so_far.bytes ++ b ∷ []
-      all_there = take_all 10 (so_far.bytes ++ b ∷ []) (omega (arith, few, length-append so_far.bytes (b ∷ [])))
-
       header_grown : (after : Option Head) → IsHead after (so_far.bytes ++ b ∷ [])
           → IfSome after (λ h. length (so_far.bytes ++ b ∷ []) + new.left ≡ h.length)
           → HasRead rules new (record so_far { bytes = so_far.bytes ++ b ∷ []; head = after })
       header_grown after is left =
+          let n = length-append so_far.bytes (b ∷ []) in
           let on : HeaderSoFar (so_far.bytes ++ b ∷ []) = rw same at right in
           record {
             bytes = are;
-            framed = can_be_framed _ are on
-                (λ k. omega (arith, few, length-append so_far.bytes (b ∷ []), on.declares k));
+            framed = can_be_framed _ are on (λ k. omega (arith, few, n, on.declares k));
             head = is;
-            header = rw (all_there, ← same) e;
+            header = rw (take_all 10 (so_far.bytes ++ b ∷ []) (omega (arith, few, n)), ← same) e;
             left = left;
             at_place = p ∙ r.at_place;
-            cut = rw (nothing_behind, ← drop_of_length-le so_far.bytes {i = 10} (omega (arith, few)), f) r.cut;
+            cut = rw (
+              drop_of_length-le (so_far.bytes ++ b ∷ []) {i = 10} (omega (arith, few, n)),
+              ←
+                  drop_of_length-le so_far.bytes {i = 10} (omega (arith, few)),
+              f,
+            ) r.cut;
           }
 
       pub header_byte : length reader.header < 9
@@ -134,7 +123,7 @@ module _ {Place U : Type 0} (rules : Rules Place U) where
             header_grown _ (
               omega (arith, flags_are, byte_at xs 7 are, byte_at xs 8 are),
               omega (arith, n_is, byte_at xs 0 are, byte_at xs 1 are),
-              all_there ∙ cells ∙ ap (λ x. header head.length head.flags head.opcode ++ x) nothing_behind,
+              grind (arith, common_steps),
             ) (omega (arith, on.declares (omega arith))),
           )
 
@@ -151,22 +140,24 @@ module _ {Place U : Type 0} (rules : Rules Place U) where
     long = omega (arith, ap length r.header, length-take 10 so_far.bytes)
 
     some : (h : Head) × (so_far.head ≡ Some h)
-    some = some_head so_far.head so_far.bytes r.head long
+    some = elim so_far.head as (λ o. IsHead o so_far.bytes → (h : Head) × (o ≡ Some h)) [
+      | None ↦ λ is. absurd (omega (arith, is, long))
+      | Some h ↦ λ is. (h, refl)
+    ] r.head
 
     counted : length so_far.bytes + reader.left ≡ declared so_far.bytes
-    counted = let s = some in rw s.1 at r.left ∙ sym (head_declares s.0 _ (rw s.1 at r.head))
+    counted = let s = some in let n = rw s.1 at r.left in let is = rw s.1 at r.head in grind (arith, common_steps)
 
     more_framed : (v : List ℕ) → AreBytes v → length v ≤ reader.left → CanBeFramed (so_far.bytes ++ v)
     more_framed v are room =
-        let l = long in
         let n = counted in
         can_be_framed _ (AreBytes-append so_far.bytes v r.bytes are)
-        (header_append _ v l (can_means _ r.framed)) (λ _. grind (arith, common_steps))
+        (header_append _ v long (can_means _ r.framed)) (λ _. grind (arith, common_steps, long))
 
     pub body_refused : (b : ℕ) → reader.left ≡ 0 → IsDataRefused rules so_far.bytes b TooLong
     body_refused b none = inl (
       (λ m f. no_room so_far.bytes b m f (omega (arith, long)) (omega (arith, counted))),
-      too_long so_far.bytes b long,
+      grind (arith, common_steps, long),
     )
 
     -- what the body's bytes are
@@ -226,7 +217,135 @@ module _ {Place U : Type 0} (rules : Rules Place U) where
     end_whole begins new head opcode none stops ends op says e p f =
         let s = some in
         let is : IsHead (Some s.0) so_far.bytes = rw s.1 at r.head in
-        let count : length so_far.bytes ≡ s.0.length = omega (arith, counted, head_declares s.0 so_far.bytes is) in
+        let count : length so_far.bytes ≡ s.0.length = omega (arith, rw s.1 at r.left) in
         let whole : IsWholeRecord rules so_far s.0 = grind (arith, common_steps) in
         let same : s.0 ≡ head = grind (arith, common_steps) in
         (rw same at whole, reads_nothing begins _ e p f)
+
+-- what a reader inside a body needs to take these values, so many
+pub record Ready {Place U : Type 0} (rules : Rules Place U) (reader : Keeping Place) (so_far : RecordSoFar U)
+    (v : List ℕ) (used : ℕ) : Type 0 where
+  pub reads : HasRead rules reader so_far
+  pub ten : length reader.header ≡ 10
+  pub are : AreBytes v
+  pub long : length v ≡ used
+  pub room : used ≤ reader.left
+
+pub ready : {Place U : Type 0} (rules : Rules Place U) {self reader : Keeping Place} {so_far : RecordSoFar U}
+    (values : List ℕ) (used : ℕ) → reader ≡ self → HasRead rules self so_far
+    → (0 < reader.left → length reader.header ≡ 10) → 0 < length values → length values ≤ self.left
+    → used ≤ length values → ((i : ℕ) → get_or values i 0 < 256) → Ready rules reader so_far (take used values) used
+ready rules values used same r behind some room within are =
+    let left = ap (λ (k : Keeping _). k.left) same in
+    record {
+      reads = rw same r;
+      ten = behind (omega (arith, left));
+      are = front_bytes values used are;
+      long = length-take-le used values within;
+      room = omega (arith, left);
+    }
+
+-- the news of a run's end
+abbrev news_of : End → News
+news_of end.More = More
+news_of end.Enough = Whole
+news_of end.NoMemory = NoMemory
+news_of (end.Bad reason) = Refused reason
+
+module _ {Place U K : Type 0} (rules : Rules Place U) (holds : K → List U → List ℕ → Type 0)
+    (may_answer : Kept → Type 0) (reader : Keeping Place) (so_far : RecordSoFar U) (old : K) (v : List ℕ) (used : ℕ)
+    (y : Ready rules reader so_far v used) (free : IsPrefixFree rules) (begins : Begins rules) where
+  -- the record behind a run over the values
+  ran : {to : Reading Place} (run : HasRun rules (reading_of reader) v to)
+      → HasRead rules (moved reader used to) (grown so_far v run.units)
+  ran run = rw y.long at (body_run rules y.reads y.ten _ v y.are (omega (arith, y.long, y.room)) run)
+
+  -- with a unit at which the run stops
+  unit_read : (stop : StopsAtLast rules holds may_answer (reading_of reader) old v) (unit : U) (to : Reading Place)
+      → IsSpelled rules stop.before.place (stop.before.begun ++ stop.last ∷ []) unit
+      → to ≡ record { place = rules.after unit; begun = [] }
+      → HasRead rules (moved reader used to) (grown so_far v (stop.on.run.units ++ unit ∷ []))
+  unit_read stop unit to spelled stands =
+      let whole = run_unit rules (reading_of reader) stop.front v stop.before to stop.last unit stop.on.run spelled
+      begins stop.split stands in
+      rw whole.1 at (ran whole.0)
+
+  -- What a run over the values makes of the record. Behind a value that is refused, or a unit that isn't kept, no
+  -- matter how the reader and the keep stand.
+  pub taken : (end : End) (to : Reading Place) (standing : Standing Place) (kept new : K)
+      → IsRun rules holds may_answer (reading_of reader) old v to standing kept end
+      → ((units : List U) (told : List ℕ) → holds kept units told → holds new units (told ++ v))
+      → IsTaken rules holds may_answer so_far old v (moved reader used to) new (news_of end)
+  taken end.More to standing kept new run took = (
+    run.0.run.units,
+    v,
+    ran run.0.run,
+    body_drops _ y.reads y.ten v,
+    (λ units told h. took _ told (run.0.kept units told h)),
+    run.0.on,
+  )
+  taken end.Enough to standing kept new run took = (
+    run.0.on.run.units,
+    run.1,
+    v,
+    unit_read run.0 run.1 to run.2 run.5,
+    body_drops _ y.reads y.ten v,
+    (λ units told h. took _ told
+        (rw append_assoc at (run.3 (units ++ run.0.on.run.units) told (run.0.on.kept units told h)))),
+    run.0.on.on,
+    ap (λ (t : Reading Place). t.begun) run.5,
+    run.4,
+  )
+  taken end.NoMemory to standing kept new run took =
+      let stop = run.0 in (
+        stop.front,
+        stop.last,
+        stop.split,
+        (
+          so_far.units ++ stop.on.run.units,
+          run.1,
+          rw (append_assoc so_far.bytes, ← stop.split, append_assoc so_far.units)
+              (unit_read stop run.1 (record { place = rules.after run.1; begun = [] }) run.2 refl).cut,
+          run.4,
+        ),
+      )
+  taken (end.Bad reason) to standing kept new run took =
+      let stop = run.0 in
+      let all : AreBytes (stop.front ++ stop.last ∷ []) = rw stop.split at y.are in
+      let shorter : length stop.front + 1 ≤ reader.left =
+      omega (arith, ap length stop.split, length-append stop.front (stop.last ∷ []), y.long, y.room) in
+      let read = body_run rules y.reads y.ten stop.before stop.front (AreBytes-front stop.front (stop.last ∷ []) all)
+      (omega (arith, shorter)) stop.on.run in (
+        stop.front,
+        stop.last,
+        stop.split,
+        (
+          moved reader (length stop.front) stop.before,
+          stop.on.run.units,
+          read,
+          body_bad _ read y.ten free begins _ _ (AllByRecursion-last (λ b. b < 256) stop.front stop.last all)
+              (omega (arith, shorter)) run.1 run.2,
+        ),
+      )
+
+module _ {Place U K : Type 0} (rules : Rules Place U) (holds : K → List U → List ℕ → Type 0)
+    (may_answer : Kept → Type 0) (so_far : RecordSoFar U) (keep : K) (v : List ℕ) where
+  -- a value of a header behind others: it is whole with it, or the value is refused
+  pub header_step : (before to : Keeping Place) (front : List ℕ) (b : ℕ) (news : News)
+      → HasRead rules before (record so_far { bytes = so_far.bytes ++ front }) → v ≡ front ++ b ∷ []
+      → IsHeaderStep rules to (record so_far { bytes = so_far.bytes ++ front }) b news → (news ≡ More → ⊥)
+      → IsTaken rules holds may_answer so_far keep v to keep news
+  header_step before to front b More r e s other = absurd (other refl)
+  header_step before to front b (Open head) r e s other =
+      let same : (so_far.bytes ++ front) ++ b ∷ [] ≡ so_far.bytes ++ v = rw (e, append_assoc) in
+      let short : length (so_far.bytes ++ front) < 10 = rw s.0 at r.head in
+      (s.0, rw same at s.1, refl, grind (arith, common_steps, same))
+  header_step before to front b (Refused reason) r e s other =
+      (front, b, e, (before, [], rw (append-nil so_far.units) r, s))
+  header_step before to front b news r e s other = absurd s
+
+pub plain_front : (piece : List ℕ) (used count : ℕ) → used ≤ length (take count piece) → ArePlain (take count piece)
+    → ArePlain (take used piece)
+plain_front piece used count k plain =
+    rw (same_front piece used count k) at (AllByRecursion-front _ (take used (take count piece))
+    (drop used (take count piece)) (rw (← take-append-drop used (take count piece)) at plain))

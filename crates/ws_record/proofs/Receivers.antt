@@ -1,9 +1,9 @@
-use Rattle.ws_record.proofs.Common as C
-use C.{common_steps, true, false, ◌≡◌, ℕ, ◌+◌, ◌-◌, ◌<◌, ◌≤◌, List, [], ◌∷◌, ◌++◌, Some, None, Result, Ok, Err, length}
-use C.{drop, take, Vec, Global, refl, sym, ap, ◌∙◌, arith, append_assoc, length-append, append-nil, take-append-drop}
-use C.{length-take-le, Rules, Fault, Reason, Item, News, IsRefused, RecordSoFar, Watching, Leads, CompletesUnit, EndIn}
-use C.{IsAdvance, goes_on, IsItemOf, Receiving, HasReceived, IsTakeFault, IsFeedFault, NoneBefore, bytes_on, left_of}
-use C.{one_last, upto, left_joined}
+use Rattle.ws_record.proofs.Common.{common_steps, true, false, ◌≡◌, ℕ, ◌+◌, ◌<◌, ◌≤◌, List, [], ◌∷◌, ◌++◌, Some, None}
+use Rattle.ws_record.proofs.Common.{Result, Ok, Err, length, drop, take, Vec, Global, sym, ap, ◌∙◌, arith, append_assoc}
+use Rattle.ws_record.proofs.Common.{length-append, append-nil, take-append-drop, length-take-le, Rules, Fault, Reason}
+use Rattle.ws_record.proofs.Common.{Item, News, IsRefused, RecordSoFar, Watching, Leads, CompletesUnit, EndIn}
+use Rattle.ws_record.proofs.Common.{IsAdvance, goes_on, IsItemOf, Receiving, HasReceived, IsTakeFault, IsFeedFault}
+use Rattle.ws_record.proofs.Common.{NoneBefore, bytes_on, left_of, one_last, left_joined}
 use Rattle.ws_record.proofs.Lives.{fetched, Made, IsHeld}
 use Rattle.ws_code.specs.declared.keep.Kept.TheVariants as answer
 use Rattle.ws_code.specs.declared.fault.Fault.TheVariants as faults
@@ -40,10 +40,9 @@ module _ {Place U : Type 0} (rules : Rules Place U) where
         → HasReceived rules (record { live = live; units = list_of new }) (bytes ++ front) items
     received_on bytes items so_far old front live new told.More same on a =
         record { head = so_far.head; leads = (a.2.grown, rw (a.3 so_far.units [] same) a.2.leads) }
-    received_on bytes items so_far old front live new told.Unit same on a = absurd (a.7 refl)
     received_on bytes items so_far old front live new (told.Open head) same on a =
         record { head = Some head; leads = (a.1.0, rw (ap list_of a.2 ∙ same) a.1.1) }
-    received_on bytes items so_far old front live new news same on a = cc
+    received_on bytes items so_far old front live new news same on a = grind arith
 
   -- what it made of one that keeps the units in a vector, with the bytes that are taken then
   abbrev MadeInVec : List ℕ → List (Item U) → RecordSoFar U → Vec U Global → Watching Place → Vec U Global → News
@@ -88,13 +87,7 @@ module _ {Place U : Type 0} (rules : Rules Place U) where
   item_given new told.Sub result same other m i =
       let t = i m.advance.1 in
       rw (t.0, t.1.1) (with_units (rw m.advance.2 same) (fetched rules _ t.1.0 _ _ _ m.advance.0))
-  item_given {live = live} new (told.Refused reason) result same other m i =
-      let a = m.advance in
-      let place : live.taken - 1 ≡ a.0 = omega (arith, m.count, a.1) in
-      rw i.0 (omega (arith, place, a.1), rw place a.2)
-  item_given new told.NoMemory result same other m i = rw i.0 m.advance.0
-  item_given new told.Failed result same other m i = absurd m.advance
-  item_given new news result same other m i = cc
+  item_given new news result same other m i = let a = m.advance in let count = m.count in grind arith
 
   -- a fault at the last byte of a front of a piece
   pub front_feeds : (bytes piece : List ℕ) (k : ℕ) (fault : Fault) → k ≤ length piece → 0 < k
@@ -124,28 +117,14 @@ module _ {Place U : Type 0} (rules : Rules Place U) where
       → ((n : ℕ) → n < i + k → IsHeld rules items (bytes ++ take n piece))
       → IsFrontFault (bytes ++ take i piece) (take k (left_of piece i)) fault → i + k ≤ length piece
       → NoneBefore rules bytes piece items fault
-  none_before bytes piece items i k (faults.Refused place reason) each f within =
-      λ n few. each n (let long = ap length (bytes_on bytes piece i k) in grind (arith, common_steps))
-  none_before bytes piece items i k fault each f within = tt
+  none_before bytes piece items i k fault each f within =
+      let long = ap length (bytes_on bytes piece i k) in grind (arith, common_steps)
 
   -- a fault of a single byte
   pub front_takes : (bytes : List ℕ) (byte : ℕ) (fault : Fault) → IsFrontFault bytes (byte ∷ []) fault
       → IsTakeFault rules bytes byte fault
   front_takes bytes byte (faults.Refused place reason) f =
-      let at : place ≡ length bytes = omega (arith, f.0, length-append bytes (byte ∷ [])) in (at, f.1)
+      (omega (arith, f.0, length-append bytes (byte ∷ [])), f.1)
   front_takes bytes byte faults.Memory f =
       let ends = one_last _ _ _ f.2 in let here = rw ends.0 at f.3 in rw ends.1 at (rw (append-nil bytes) at here)
   front_takes bytes byte fault f = absurd f
-
-  -- with a front more with which no item is complete
-  pub feeds_on : (bytes piece : List ℕ) (items : List (Item U)) (i k : ℕ) (new : Receiving Place U)
-      → HasReceived rules new ((bytes ++ take i piece) ++ take k (left_of piece i)) items
-      → ((n : ℕ) → n < i + k → IsHeld rules items (bytes ++ take n piece))
-      → HasReceived rules new (bytes ++ take (i + k) piece) items
-      × ((n : ℕ) → n ≤ i + k → IsHeld rules items (bytes ++ take n piece))
-  feeds_on bytes piece items i k new h before =
-      let on = rw (bytes_on bytes piece i k) at h in (
-        on,
-        upto (λ n. IsHeld rules items (bytes ++ take n piece)) (i + k) before
-            (on.leads.0, new.live.begun, on.leads.1.holds),
-      )

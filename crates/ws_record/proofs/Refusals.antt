@@ -1,14 +1,14 @@
 use Rattle.ws_record.proofs.Common as C
-use C.{◌≡◌, ℕ, ◌+◌, List, [], ◌∷◌, ◌++◌, inl, inr, map, length, drop, refl, sym, ap, ◌∙◌, arith, append_assoc}
-use C.{AllByRecursion, append-nil, drop-append-le, Rules, IsPrefix, IsCut, IsSpelled, AreBytes, spelling_of, Reason}
+use C.{common_steps, length-append, ◌≡◌, ℕ, ◌+◌, List, [], ◌∷◌, ◌++◌, inl, inr, map, length, drop, refl, sym, ap, ◌∙◌}
+use C.{arith, AllByRecursion, append-nil, Rules, IsPrefix, IsCut, IsSpelled, AreBytes, spelling_of, Reason}
 use C.{AreBytes-append, CanEnd, cut_ends, one_cut, token_rules, token_prefix_free, Token, Data, Eor, Record, Item}
-use C.{IsBodyBytes, IsRecord, IsStretch, IsStream, Holds, joined, carried, header, record_bytes, Layer, IsRight}
-use C.{IsOpen, IsRefused, IsTruncated, IsFirstClosed, IsReason, Tokens, Header, Body, CanBeFramed, IsDataRefused}
-use C.{IsEndRefused, AreBytes-apart, SpellsBytes, list_bytes, padding}
+use C.{IsBodyBytes, IsRecord, IsStretch, IsStream, Holds, joined, carried, record_bytes, Layer, IsRight, IsOpen}
+use C.{IsRefused, IsTruncated, IsFirstClosed, IsReason, Tokens, Header, Body, CanBeFramed, IsDataRefused, IsEndRefused}
+use C.{AreBytes-apart, SpellsBytes, list_bytes, padding}
 use Rattle.ws_record.proofs.Reading.{parts_no_eor}
 use Rattle.ws_telnet.proofs.Streams.{Running, of_parts, left_by, open_stream, ended_stream, bad_token, bad_data}
 use Rattle.ws_telnet.proofs.Streams.{bad_eor, ends_with_one}
-use Rattle.ws_record.proofs.Steps.{parts_of, holds_data}
+use Rattle.ws_record.proofs.Encodings.{parts_of, holds_data}
 
 module _ {Place U : Type 0} (rules : Rules Place U) where
   -- a record is right to each layer
@@ -20,8 +20,7 @@ module _ {Place U : Type 0} (rules : Rules Place U) where
     rest = spelling_of rules r.body;
     flags_fit = is.flags_fit;
     length_fits = is.length_fits;
-    spelled = (let lengths : 10 + length (spelling_of rules r.body) ≡ length (record_bytes rules r) = omega arith in
-        ap (λ n. header n r.flags r.opcode ++ spelling_of rules r.body) lengths);
+    spelled = grind (arith, common_steps);
   }
   record_right r is Body = record { units = r.body; whole = is.body; spelled = refl }
 
@@ -50,12 +49,10 @@ module _ {Place U : Type 0} (rules : Rules Place U) where
       let ends = cut_ends rules can (drop 10 so_far) units begun cut in
       let fill = padding so_far in
       let are : AreBytes ends.1 =
-      (AreBytes-apart (drop 10 so_far) _ (rw ends.3 at (list_bytes rules law _ _ ends.2.chain))).1 in
-      let dropped : drop 10 (so_far ++ (fill.0 ++ ends.1)) ≡ drop 10 so_far ++ ends.1 =
-      rw (← append_assoc so_far fill.0 ends.1, drop-append-le 10 (so_far ++ fill.0) ends.1 fill.2, fill.3) in (
+      (AreBytes-apart (drop 10 so_far) _ (rw ends.3 at (list_bytes rules law _ _ ends.2.chain))).1 in (
         fill.0 ++ ends.1,
         AreBytes-append fill.0 ends.1 fill.1 are,
-        record { units = ends.0; whole = ends.2; spelled = dropped ∙ sym ends.3 },
+        record { units = ends.0; whole = ends.2; spelled = grind (arith, common_steps) },
       )
 
   pub opens : {l : Layer} {bytes : List ℕ} → (m : List ℕ) × IsStream (IsRight rules l) (bytes ++ m)
@@ -74,31 +71,39 @@ module _ {Place U : Type 0} (rules : Rules Place U) where
   all_open can law h framed cut Header = is_open framed.more Header h framed.bytes framed.framed
   all_open can law h framed cut Body = let m = can_be_body can law _ _ _ cut in is_open m.0 Body h m.1 m.2
 
-  module _ {bytes : List ℕ} {items : List (Item U)} {so_far begun : List ℕ} (h : Holds rules bytes items so_far begun)
-      (opened : (l : Layer) → IsOpen rules l bytes) (b : ℕ) (after : List ℕ) {reason : Reason} where
+  -- a refusal at a byte more
+  module _ (can : CanEnd rules) (law : SpellsBytes rules) {bytes : List ℕ} {items : List (Item U)}
+      {so_far begun : List ℕ} (h : Holds rules bytes items so_far begun) (framed : CanBeFramed so_far) {units : List U}
+      {begun_unit : List ℕ} (cut : IsCut rules (drop 10 so_far) units begun_unit) (b : ℕ) {reason : Reason} where
     refuse : (layer : Layer) → IsFirstClosed rules layer (bytes ++ b ∷ []) → IsReason rules layer bytes b reason
-        → IsRefused rules (bytes ++ b ∷ after) (length bytes) reason
-    refuse layer closed why = record {
-      before = bytes;
-      byte = b;
-      after = after;
-      split = refl;
-      at_place = refl;
-      layer = layer;
-      opened = opened;
-      closed = closed;
-      why = why;
-    }
+        → (place : ℕ) × (length (bytes ++ b ∷ []) ≡ place + 1) × IsRefused rules (bytes ++ b ∷ []) place reason
+    refuse layer closed why = (
+      length bytes,
+      length-append bytes (b ∷ []),
+      record {
+        before = bytes;
+        byte = b;
+        after = [];
+        split = refl;
+        at_place = refl;
+        layer = layer;
+        opened = all_open can law h framed cut;
+        closed = closed;
+        why = why;
+      },
+    )
 
     -- a byte that no token goes on with is refused
     pub refuse_token : (IsPrefix token_rules tt (begun ++ b ∷ []) → ⊥) → reason ≡ token_rules.reason tt begun b
-        → IsRefused rules (bytes ++ b ∷ after) (length bytes) reason
+        → (place : ℕ) × (length (bytes ++ b ∷ []) ≡ place + 1)
+        × IsRefused rules (bytes ++ b ∷ []) place reason
     refuse_token bad why = refuse Tokens (λ o. bad_token (held h Tokens) b _ bad o.stream)
         (joined (parts_of rules h.stretches) h.rest, begun, h.cut, why)
 
     -- data with which no right record goes on is refused
     pub refuse_data : {v : ℕ} → IsSpelled token_rules tt (begun ++ b ∷ []) (Data v)
-        → IsDataRefused rules so_far v reason → IsRefused rules (bytes ++ b ∷ after) (length bytes) reason
+        → IsDataRefused rules so_far v reason → (place : ℕ) × (length (bytes ++ b ∷ []) ≡ place + 1)
+        × IsRefused rules (bytes ++ b ∷ []) place reason
     refuse_data {v} s refused =
         let ends = ends_with_one (held h Tokens) b s in
         elim refused [
@@ -115,7 +120,8 @@ module _ {Place U : Type 0} (rules : Rules Place U) where
 
     -- an Eor behind a record that isn't whole is refused
     pub refuse_end : IsSpelled token_rules tt (begun ++ b ∷ []) Eor → IsEndRefused rules so_far reason
-        → IsRefused rules (bytes ++ b ∷ after) (length bytes) reason
+        → (place : ℕ) × (length (bytes ++ b ∷ []) ≡ place + 1)
+        × IsRefused rules (bytes ++ b ∷ []) place reason
     refuse_end s refused =
         let ends = ends_with_one (held h Tokens) b s in
         elim refused [

@@ -1,10 +1,10 @@
-use Rattle.std.proofs.Common.{ap, append_assoc}
+use Rattle.std.proofs.Common.{append_assoc, ap}
 use Rattle.std.proofs.Common.{arith, ◌≡◌, ℕ, List, [], ◌∷◌, ◌++◌, inl, inr, sym, ◌∙◌}
 use Rattle.std.proofs.lemmas.Grind.{common_steps, flat_map-append}
 use Rattle.std.proofs.lemmas.List.{append-nil}
 use Rattle.std.specs.List.{AllByRecursion}
 use Rattle.ws_code.proofs.Bytes.{AreBytes-apart}
-use Rattle.ws_code.proofs.CodeLaws.{one_list, one_cut, no_end, AreBytes-append}
+use Rattle.ws_code.proofs.CodeLaws.{one_cut, no_end, AreBytes-append, one_list}
 use Rattle.ws_code.proofs.Cuts.{cut_at}
 use Rattle.ws_code.proofs.Lists.{AllByRecursion-append, AllByRecursion-last, AllByRecursion-both, all_but_last, last_of}
 use Rattle.ws_code.proofs.Lists.{same_last}
@@ -12,7 +12,7 @@ use Rattle.ws_code.specs.Code.{IsChain, IsCut, AreBytes, spelling_of}
 use Rattle.ws_telnet.proofs.Streams.{ends_with, stream_of, stream_right, stream_asks, open_stream}
 use Rattle.ws_telnet.proofs.Streams.{left_by, ended_by, left-append, ended-append, of_parts, left_open, parted}
 use Rattle.ws_telnet.proofs.TokenLists.{chain_front}
-use Rattle.ws_telnet.specs.Streams.{EndsWith, IsStream, joined, EndsRecord, LastRecordMeets}
+use Rattle.ws_telnet.specs.Streams.{IsStream, joined, EndsRecord, LastRecordMeets, EndsWith}
 use Rattle.ws_telnet.specs.Token.{token_rules, token_spelling, IsToken}
 use Rattle.ws_telnet.specs.TokenLaws.{token_prefix_free, token_begins, token_nonempty}
 use Rattle.ws_telnet.specs.declared.token.Token.TheVariants.{Data, Eor, Telnet as TelnetToken}
@@ -25,11 +25,6 @@ behind_eor : {bytes ended begun : List ℕ} {tokens : List Token} → IsCut toke
     → (e : EndsRecord bytes ended) → (tokens ≡ joined e.parts e.rest ++ Eor ∷ []) × (begun ≡ [])
 behind_eor cut e = one_cut token_rules token_prefix_free tt _ _ _ [] cut.chain e.tokens.chain cut.more
     (token_begins tt) (cut.spelled ∙ e.spelled ∙ sym (append-nil _))
-
--- tokens behind whose last one nothing has begun
-ends_here : {bytes : List ℕ} (us : List Token) (t : Token) → IsCut token_rules bytes (us ++ t ∷ []) []
-    → bytes ≡ spelling_of token_rules (us ++ t ∷ [])
-ends_here us t cut = sym cut.spelled ∙ append-nil _
 
 last_token : (us : List Token) (t : Token) → IsChain token_rules tt (us ++ t ∷ []) → IsToken t
 last_token [] t c = c.0.is_unit
@@ -45,13 +40,6 @@ ended_are_bytes so_far (Eor ∷ tokens) c are = (are, ended_are_bytes [] tokens 
 ended_are_bytes so_far (TelnetToken t ∷ tokens) c are = ended_are_bytes so_far tokens c.1 are
 
 module _ (P : List ℕ → Type 0) where
-  stream_of_bytes : (bytes : List ℕ) → IsStream P bytes → IsStream (λ x. P x × AreBytes x) bytes
-  stream_of_bytes bytes s =
-      let right = stream_right P s in
-      let tokens = joined s.parts s.rest in
-      stream_of (λ x. P x × AreBytes x) tokens s.tokens.chain s.spelled
-      (AllByRecursion-both P AreBytes _ right.0 (ended_are_bytes [] tokens s.tokens.chain tt)) right.1
-
   -- Where all but the last byte begin a stream, the records are right that tokens before the last byte end.
   earlier_right : (before : List ℕ) (b : ℕ) (more : List ℕ) (us : List Token) (w : List ℕ)
       → IsChain token_rules tt us → before ++ b ∷ [] ≡ spelling_of token_rules us ++ w → (w ≡ [] → ⊥)
@@ -75,6 +63,7 @@ module _ (P Q : List ℕ → Type 0) where
             → ((ended : List ℕ) → EndsRecord bytes ended → ⊥) → LastRecordMeets P Q bytes
         elsewhere tokens begun cut other =
             let q = parted tokens in
+            let right = stream_right P s in
             inr (
               left_by [] tokens,
               record {
@@ -86,16 +75,18 @@ module _ (P Q : List ℕ → Type 0) where
                 is_open = rw q.is at (of_parts _ _ q.no_eor).0;
                 elsewhere = other;
               },
-              elim (stream_asks (λ x. P x × AreBytes x) more cut (stream_of_bytes P _ s)).1 [
-                | inl q ↦ begin _ q.0 q.1.0 (AreBytes-apart _ _ q.1.1).1
-                | inr q ↦ rw q nothing
-              ],
+              elim (stream_asks (λ x. P x × AreBytes x) more cut (stream_of (λ x. P x × AreBytes x) _ s.tokens.chain
+                  s.spelled (AllByRecursion-both P AreBytes _ right.0 (ended_are_bytes [] _ s.tokens.chain tt))
+                  right.1)).1 [
+                    | inl q ↦ begin _ q.0 q.1.0 (AreBytes-apart _ _ q.1.1).1
+                    | inr q ↦ rw q nothing
+                  ],
             )
 
         at_last : (us : List Token) (t : Token) → IsCut token_rules bytes (us ++ t ∷ []) [] → LastRecordMeets P Q bytes
         at_last us Eor cut = inl (
           left_by [] us,
-          ends_with us Eor cut.chain (ends_here us Eor cut),
+          ends_with us Eor cut.chain (sym cut.spelled ∙ append-nil _),
           AllByRecursion-last P (ended_by [] us) _
               (rw (ended-append [] us (Eor ∷ [])) at (stream_asks P more cut s).0),
         )
@@ -138,7 +129,7 @@ module _ (P Q : List ℕ → Type 0) where
         but_last : (us : List Token) (t : Token) → IsCut token_rules (before ++ b ∷ []) (us ++ t ∷ []) []
             → ((ended : List ℕ) → EndsRecord (before ++ b ∷ []) ended → ⊥)
             → AllByRecursion P (ended_by [] (us ++ t ∷ []))
-        but_last us Eor cut other = absurd (other _ (ends_with us Eor cut.chain (ends_here us Eor cut)))
+        but_last us Eor cut other = absurd (other _ (ends_with us Eor cut.chain (sym cut.spelled ∙ append-nil _)))
         but_last us t cut other = rw (ended-append [] us (t ∷ []), append-nil (ended_by [] us))
             (earlier_right P before b more us (token_spelling t) (chain_front us _ cut.chain)
             (grind (arith, common_steps))

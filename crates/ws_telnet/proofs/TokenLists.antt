@@ -1,5 +1,6 @@
-use Rattle.std.proofs.Common.{◌≡◌, ℕ, List, [], ◌∷◌, ◌++◌, refl, sym, ◌∙◌, map, append_assoc}
+use Rattle.std.proofs.Common.{◌≡◌, ℕ, List, [], ◌∷◌, ◌++◌, refl, sym, ◌∙◌, map, append_assoc, arith}
 use Rattle.std.specs.List.{AllByRecursion}
+use Rattle.ws_code.proofs.CodeLaws.{no_end}
 use Rattle.ws_code.specs.Code.{IsChain, AreBytes}
 use Rattle.ws_telnet.specs.Streams.{HasNoEor, joined}
 use Rattle.ws_telnet.specs.Token.{token_rules}
@@ -33,12 +34,10 @@ one_part [] [] x y hp hq e = (refl, cc)
 one_part [] (t ∷ q) x y hp hq e = absurd (hq.0 (let f : Eor ≡ t = cc in sym f))
 one_part (s ∷ p) [] x y hp hq e = absurd (hp.0 cc)
 one_part (s ∷ p) (t ∷ q) x y hp hq e =
-    let found : (p ≡ q) × (x ≡ y) = one_part p q x y hp.1 hq.1 (cc) in
-    let same : s ≡ t = cc in let lists : p ≡ q = found.0 in (cc, found.1)
+    let found = one_part p q x y hp.1 hq.1 cc in grind arith
 
 pub no_part : (p q y : List Token) → HasNoEor p → p ≡ q ++ Eor ∷ y → ⊥
-no_part [] [] y hp e = cc
-no_part [] (t ∷ q) y hp e = cc
+no_part [] q y hp e = no_end q Eor y e
 no_part (s ∷ p) [] y hp e = hp.0 cc
 no_part (s ∷ p) (t ∷ q) y hp e = no_part p q y hp.1 cc
 
@@ -50,6 +49,5 @@ one_join [] (q ∷ qs) x y hp hq hx hy e = absurd (no_part x q (joined qs y) hx 
 one_join (p ∷ ps) [] x y hp hq hx hy e = absurd (no_part y p (joined ps x) hy (sym e ∙ simp append_assoc))
 one_join (p ∷ ps) (q ∷ qs) x y hp hq hx hy e =
     let f : p ++ Eor ∷ joined ps x ≡ q ++ Eor ∷ joined qs y = simp append_assoc at e in
-    let first : (p ≡ q) × (joined ps x ≡ joined qs y) = one_part p q _ _ hp.0 hq.0 f in
-    let others : (ps ≡ qs) × (x ≡ y) = one_join ps qs x y hp.1 hq.1 hx hy first.1 in
-    let heads : p ≡ q = first.0 in let tails : ps ≡ qs = others.0 in (cc, others.1)
+    let first = one_part p q _ _ hp.0 hq.0 f in
+    let others = one_join ps qs x y hp.1 hq.1 hx hy first.1 in grind arith

@@ -1,16 +1,21 @@
-use Rattle.ws_record.proofs.Common as C
-use C.{◌≡◌, ◌++◌, length, take, arith, length-append, inr, length-take-le, gave_more, gave_all, handed_on, take_some}
-use Rattle.ws_record.proofs.Decodes.{feed_source, end_source}
+use Rattle.ws_record.proofs.Common.{refl, ◌≡◌, ◌++◌, length, take, arith, length-append, inr, length-take-le, gave_more}
+use Rattle.ws_record.proofs.Common.{gave_all, handed_on, take_some}
+use Rattle.ws_record.proofs.Faults.{feed_source}
 use Rattle.ws_record.proofs.decode.decode_from.Goals as goal
 
 pub returns-in_err-finish-in-Ok-eq0-clause-fault : goal.returns-in_err-finish-in-Ok-eq0-clause-fault
 returns-in_err-finish-in-Ok-eq0-clause-fault g c =
     let zero : c.in-Ok-eq0.field-0 ≡ 0 = omega arith in
-    rw (handed_on c.from_residual.result
-    c.from_residual.ensures.1) (end_source _ _ _ _ _ _ _ (gave_all g.S.Source.gives g.S.Source.failures _ c.loop.source
-    _ c.loop.counter c.loop.invariant.bytes (length c.loop.piece) c.loop.invariant.gave (omega arith) (omega arith)
-    (rw zero at c.in-Ok-eq0.ensures.ok.1) c.in-Ok-eq0.ensures.ok.2)
-    (c.in_err-finish-in-Ok-eq0.ensures.truncated _ _ c.loop.invariant.taken (omega (arith, c.loop.invariant.few))))
+    let cut = c.in_err-finish-in-Ok-eq0.ensures.truncated _ _ c.loop.invariant.taken
+    (omega (arith, c.loop.invariant.few)) in
+    rw (handed_on c.from_residual.result c.from_residual.ensures.1, cut.0) (
+      c.loop.invariant.bytes,
+      (gave_all g.S.Source.gives g.S.Source.failures _ c.loop.source _ c.loop.counter c.loop.invariant.bytes
+          (length c.loop.piece) c.loop.invariant.gave (omega arith) (omega arith) (rw zero at c.in-Ok-eq0.ensures.ok.1)
+          c.in-Ok-eq0.ensures.ok.2),
+      refl,
+      cut.1,
+    )
 
 pub returns-in-Ok-eq0-clause-accepted : goal.returns-in-Ok-eq0-clause-accepted
 returns-in-Ok-eq0-clause-accepted g c =

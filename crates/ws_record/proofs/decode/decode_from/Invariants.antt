@@ -1,4 +1,4 @@
-use Rattle.ws_record.proofs.Decodes.{Reading}
+use Rattle.ws_record.proofs.Faults.{Reading}
 use Rattle.ws_record.proofs.decode.decode_from.Given as goal
 
 abbrev pub invariant-loop : goal.invariant-loop

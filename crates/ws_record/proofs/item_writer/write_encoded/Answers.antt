@@ -1,9 +1,8 @@
-use Rattle.ws_record.proofs.Common as C
-use C.{◌≡◌, ◌∷◌, ◌++◌, ℕ, List, Option, Some, None, ◌+◌, ◌<◌, ◌≤◌, [], length, arith, flat_map, unwrap_or, IfSome}
-use C.{IfNone, on_ok_weaker, IfErr-weaker, spelling_of, doubled, record_bytes, handed_on, header, record_spelling}
-use C.{first_fails, second_fails, third_fails, three_out}
+use Rattle.ws_record.proofs.Common.{◌≡◌, ◌∷◌, ◌++◌, ℕ, List, Option, Some, None, ◌+◌, ◌<◌, ◌≤◌, [], length, arith}
+use Rattle.ws_record.proofs.Common.{flat_map, unwrap_or, IfSome, IfNone, on_ok_weaker, IfErr-weaker, spelling_of}
+use Rattle.ws_record.proofs.Common.{doubled, record_bytes, handed_on, record_spelling, append_assoc, flat_map-append}
+use Rattle.ws_record.proofs.Common.{first_fails, second_fails, third_fails, three_out}
 use Rattle.ws_record.proofs.Headers.{header_length}
-use Rattle.ws_record.proofs.Writes.{record_text}
 use Rattle.ws_record.proofs.item_writer.write_encoded.Given.{Over}
 use Rattle.ws_record.proofs.item_writer.write_encoded.Goals.{After-header_bytes}
 use Rattle.ws_record.proofs.item_writer.write_encoded.Goals as goal
@@ -26,7 +25,7 @@ text g c =
     (rw same at c.body_length.ensures.none)
     (omega (arith, c.requires, header_length (10 + length body) r.flags r.opcode body)) in
     rw (c.header_bytes.ensures, c.unwrap_or-length.ensures, same, known)
-    (record_text (header (10 + length body) r.flags r.opcode) body)
+    (simp (append_assoc, flat_map-append))
 
 pub returns-in_err-write_doubled-clause-err : goal.returns-in_err-write_doubled-clause-err
 returns-in_err-write_doubled-clause-err g c =

@@ -1,4 +1,4 @@
-use Rattle.ws_record.proofs.BothWays.{source_accepts, source_faults, both_ways}
+use Rattle.ws_record.proofs.Faults.{source_accepts, source_faults, both_ways}
 use Rattle.ws_record.proofs.laws.decode_both_ways.Goals as goal
 
 pub returns-clause-source_accepted : goal.returns-clause-source_accepted

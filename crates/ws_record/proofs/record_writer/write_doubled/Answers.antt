@@ -1,6 +1,6 @@
-use Rattle.ws_record.proofs.Common as C
-use C.{inl, inr, get_or, ◌+◌, arith, on_ok_weaker, IfErr-weaker, iac_or_not, doubled_plain, handed_on, doubling_ends}
-use C.{doubling_ends_failed, doubling_fails, doubling_iac, doubling_plain, run_rest, run_slice}
+use Rattle.ws_record.proofs.Common.{inl, inr, get_or, ◌+◌, arith, on_ok_weaker, IfErr-weaker, iac_or_not, doubled_plain}
+use Rattle.ws_record.proofs.Common.{handed_on, doubling_ends, doubling_ends_failed, doubling_fails, doubling_iac}
+use Rattle.ws_record.proofs.Common.{doubling_plain, run_rest, run_slice}
 use Rattle.ws_record.proofs.record_writer.write_doubled.Goals.{then-byte+in_ok-write_whole, else-byte}
 use Rattle.ws_record.proofs.record_writer.write_doubled.Goals as goal
 

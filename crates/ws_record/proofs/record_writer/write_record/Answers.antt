@@ -1,11 +1,11 @@
 use Rattle.ws_record.proofs.Common.{◌≡◌, ◌∷◌, ◌++◌, ℕ, List, [], flat_map, on_ok_weaker, IfErr-weaker, doubled}
-use Rattle.ws_record.proofs.Common.{handed_on, record_spelling, first_fails, second_fails, third_fails, three_out}
-use Rattle.ws_record.proofs.Writes.{record_text}
+use Rattle.ws_record.proofs.Common.{handed_on, append_assoc, flat_map-append, record_spelling, first_fails}
+use Rattle.ws_record.proofs.Common.{second_fails, third_fails, three_out}
 use Rattle.ws_record.proofs.record_writer.write_record.Goals as goal
 
 text_of : {head is : List ℕ} (body : List ℕ) → head ≡ is
     → flat_map doubled head ++ (flat_map doubled body ++ 0xff ∷ 0xef ∷ []) ≡ record_spelling (is ++ body)
-text_of {head} body e = rw (← e) (record_text head body)
+text_of {head} body e = rw (← e) (simp (append_assoc, flat_map-append))
 
 pub returns-in_err-write_doubled-clause-err : goal.returns-in_err-write_doubled-clause-err
 returns-in_err-write_doubled-clause-err g c =

@@ -1,6 +1,5 @@
 use Rattle.ws_record.proofs.Common.{arith, append-nil, bytes_on, each_on}
-use Rattle.ws_record.proofs.Lives.{front_step, held_at_none, IsHeld}
-use Rattle.ws_record.proofs.Pieces.{front_made, led_on}
+use Rattle.ws_record.proofs.Lives.{front_step, held_at_none, IsHeld, front_made, led_on}
 use Rattle.ws_record.proofs.live.Live.feed.Goals as goal
 
 pub loop-used-init : goal.loop-used-init

@@ -1,5 +1,5 @@
 use Rattle.ws_record.proofs.Common.{◌-◌, length}
-use Rattle.ws_record.proofs.Pieces.{IsLed}
+use Rattle.ws_record.proofs.Lives.{IsLed}
 use Rattle.ws_record.proofs.live.Live.feed.Given as goal
 
 abbrev pub invariant-loop-used : goal.invariant-loop-used

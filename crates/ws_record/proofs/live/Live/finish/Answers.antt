@@ -1,5 +1,5 @@
 use Rattle.ws_record.proofs.Common.{ap, Truncated}
-use Rattle.ws_record.proofs.Lives.{cut_short}
+use Rattle.ws_record.proofs.Refusals.{truncated}
 use Rattle.ws_record.proofs.live.Live.finish.Goals.{then-is_inside-via-then-is_inside}
 use Rattle.ws_record.proofs.live.Live.finish.Goals.{then-is_inside-via-else-is_inside+then-not-is_empty}
 use Rattle.ws_record.proofs.live.Live.finish.Goals as goal
@@ -9,7 +9,7 @@ returns-then-is_inside-clause-truncated g c =
     λ bytes items so_far l fits.
     let old = rw (← c.self.view_is) at l in (
       ap Truncated old.count,
-      cut_short _ old (λ e f. elim c.then-is_inside.branch [
+      truncated _ _ _ _ _ old.holds old.opened (λ e f. elim c.then-is_inside.branch [
         | then-is_inside-via-then-is_inside w ↦ c.is_inside.ensures.yes w.if-is_inside.true f
         | then-is_inside-via-else-is_inside+then-not-is_empty w ↦
             (w.is_empty.ensures so_far old.reads).1 w.if-not-is_empty.true e

@@ -1,8 +1,8 @@
-use Rattle.ws_record.proofs.Common as C
-use C.{◌∷◌, ◌++◌, [], take, get_or, refl, arith, append-nil, take_more, length-take-le, IAC, front_bytes, word_begun}
+use Rattle.ws_record.proofs.Common.{◌∷◌, ◌++◌, [], take, get_or, refl, arith, append-nil, take_more, length-take-le}
+use Rattle.ws_record.proofs.Common.{IAC, front_bytes, word_begun}
 use Rattle.ws_record.proofs.Lives.{advance_values, carries_values, holds_values, holds_iac, word_advance, more_advance}
 use Rattle.ws_record.proofs.Lives.{held_at_none, held_at_one}
-use Rattle.ws_record.proofs.Takings.{plain_front}
+use Rattle.ws_record.proofs.OpenRecords.{plain_front}
 use Rattle.ws_record.proofs.live.Live.take_front.Goals as goal
 
 pub invariant_of-self : goal.invariant_of-self
@@ -12,9 +12,8 @@ pub returns-then-is_inside-clause-advance : goal.returns-then-is_inside-clause-a
 returns-then-is_inside-clause-advance g c = λ bytes items so_far l.
     let was = rw (← c.self.view_is) at l in
     rw (take_more c.args.piece.now 0 0 c.requires) (word_advance g.B.Code.rules g.met.B.Body.can_end
-    g.met.B.Code.bytes g.K.Keep.holds g.K.Keep.may_answer c.args.keep.now c.complete.new.keep bytes items so_far
-    c.go_on-word.new.self c.complete.new.self [] _ _ (rw (append-nil bytes) was.holds) _ was.reads
-    c.go_on-word.result c.complete.result c.go_on-word.ensures (c.complete.ensures so_far was.reads))
+    g.met.B.Code.bytes g.K.Keep.holds g.K.Keep.may_answer _ _ _ _ _ _ _ [] _ _ (rw (append-nil bytes) was.holds) _
+    was.reads c.go_on-word.result _ c.go_on-word.ensures (c.complete.ensures so_far was.reads))
 
 pub returns-then-is_inside-clause-first : goal.returns-then-is_inside-clause-first
 returns-then-is_inside-clause-first g c = λ bytes items so_far l. held_at_none _ l c.args.piece.now
@@ -24,9 +23,9 @@ returns-then-piece-clause-advance g c = λ bytes items so_far l.
     let was = rw (← c.self.view_is) at l in
     let fresh = c.is_inside.ensures.no c.if-is_inside.false in
     advance_values g.B.Code.rules g.met.B.Body.can_end g.met.B.Code.bytes g.K.Keep.holds g.K.Keep.may_answer
-    c.args.keep.now c.take.new.keep bytes items so_far c.self.inside.tokens c.take.new.self _ _ c.take.result.news
-    (carries_values _ _ _ _ _ (rw fresh at was.holds) (front_bytes c.args.piece.now c.take.result.used
-    (λ i. omega (arith, c.type_inv.piece i))) c.take.ensures.plain) fresh (c.take.ensures.taken so_far was.reads)
+    c.args.keep.now _ _ _ _ _ _ _ _ c.take.result.news (carries_values _ _ _ _ _ (rw fresh at was.holds) (front_bytes
+    c.args.piece.now c.take.result.used (λ i. omega (arith, c.type_inv.piece i))) c.take.ensures.plain) fresh
+    (c.take.ensures.taken so_far was.reads)
 
 pub returns-then-piece-clause-first : goal.returns-then-piece-clause-first
 returns-then-piece-clause-first g c = λ bytes items so_far l n lt.
@@ -45,9 +44,8 @@ returns-then-piece-lt2-clause-advance g c = λ bytes items so_far l.
     let was = rw (← c.self.view_is) at l in
     let fresh = c.is_inside.ensures.no c.if-is_inside.false in
     rw (take_more c.args.piece.now 0 0 c.requires, c.if-piece.false) (more_advance g.B.Code.rules
-    g.met.B.Body.can_end g.met.B.Code.bytes g.K.Keep.holds g.K.Keep.may_answer c.args.keep.now c.args.keep.now bytes
-    items so_far c.begin.new.self c.self.inside.open_record [] [] IAC (rw (append-nil bytes, ← fresh) was.holds) _
-    was.reads c.begin.ensures.more c.begin.ensures.begun refl refl)
+    g.met.B.Body.can_end g.met.B.Code.bytes g.K.Keep.holds g.K.Keep.may_answer _ _ _ _ _ _ _ [] [] _
+    (rw (append-nil bytes, ← fresh) was.holds) _ was.reads c.begin.ensures.more c.begin.ensures.begun refl refl)
 
 pub returns-then-piece-lt2-clause-first : goal.returns-then-piece-lt2-clause-first
 returns-then-piece-lt2-clause-first g c = λ bytes items so_far l. held_at_none _ l c.args.piece.now
@@ -64,9 +62,9 @@ returns-clause-advance g c = λ bytes items so_far l.
       take_more c.args.piece.now 0 0 c.requires,
       c.if-piece.false,
     ) (word_advance g.B.Code.rules g.met.B.Body.can_end g.met.B.Code.bytes g.K.Keep.holds g.K.Keep.may_answer
-    c.args.keep.now c.complete-2.new.keep bytes items so_far c.after_iac-word.new.self c.complete-2.new.self
-    (IAC ∷ []) _ _ (holds_iac _ was c.args.piece.now (c.is_inside.ensures.no c.if-is_inside.false)) _ was.reads
-    c.after_iac-word.result c.complete-2.result c.after_iac-word.ensures (c.complete-2.ensures so_far was.reads))
+    c.args.keep.now _ _ _ _ _ _ (IAC ∷ []) _ _ (holds_iac _ was c.args.piece.now (c.is_inside.ensures.no
+    c.if-is_inside.false)) _ was.reads c.after_iac-word.result _ c.after_iac-word.ensures
+    (c.complete-2.ensures so_far was.reads))
 
 pub returns-clause-first : goal.returns-clause-first
 returns-clause-first g c = λ bytes items so_far l.

@@ -1,5 +1,5 @@
 use Rattle.ws_record.proofs.Common.{same_front}
-use Rattle.ws_record.proofs.Takings.{plain_front}
+use Rattle.ws_record.proofs.OpenRecords.{plain_front}
 use Rattle.ws_record.proofs.open_record.OpenRecord.take.Goals as goal
 
 pub returns-then-self-gt0-clause-plain : goal.returns-then-self-gt0-clause-plain

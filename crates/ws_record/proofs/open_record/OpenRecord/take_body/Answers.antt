@@ -1,6 +1,5 @@
 use Rattle.ws_record.proofs.Common.{arith}
-use Rattle.ws_record.proofs.OpenRecords.{reading_of}
-use Rattle.ws_record.proofs.Takings.{ready, taken}
+use Rattle.ws_record.proofs.OpenRecords.{reading_of, ready, taken}
 use Rattle.ws_code.specs.declared.run.End.TheVariants as end
 use Rattle.ws_record.proofs.open_record.OpenRecord.take_body.Goals as goal
 

@@ -1,6 +1,10 @@
-use Rattle.ws_record.proofs.Common.{◌≡◌, ◌<◌, ◌+◌, length, take, refl, arith, append_assoc, take_more}
-use Rattle.ws_record.proofs.Takings.{header_goes_on, header_step}
+use Rattle.ws_record.proofs.Common.{common_steps, ◌≡◌, ◌<◌, ◌+◌, ◌++◌, ℕ, List, [], length, take, drop, inl, refl, ap}
+use Rattle.ws_record.proofs.Common.{arith, append_assoc, take_more, append-nil, length-take}
+use Rattle.ws_record.proofs.OpenRecords.{header_step}
 use Rattle.ws_record.proofs.open_record.OpenRecord.take_header.Goals as goal
+
+few_dropped : (xs ys : List ℕ) → length (xs ++ ys) < 10 → drop 10 (xs ++ ys) ≡ drop 10 xs ++ []
+few_dropped xs ys few = grind (arith, common_steps)
 
 pub loop-index-preserved : goal.loop-index-preserved
 loop-index-preserved g c =
@@ -25,10 +29,20 @@ returns-in_default g c = record {
 }
 
 pub returns-clause-taken : goal.returns-clause-taken
-returns-clause-taken g c =
-    λ so_far r. let all : c.loop-index.index ≡ length c.args.values.now = omega arith in
-    let short : length c.loop-index.self.header < 10 =
-    c.loop-index.invariant.1 (omega (arith, all, c.requires.some)) in
-    header_goes_on g.B.Code.rules g.K.Keep.holds g.K.Keep.may_answer so_far c.args._keep.now
-    (take (length c.args.values.now) c.args.values.now) c.loop-index.self
-    (rw all at (c.loop-index.invariant.2 so_far r)) short
+returns-clause-taken g c = λ so_far r.
+    let all : c.loop-index.index ≡ length c.args.values.now = omega arith in
+    let reads = rw all at (c.loop-index.invariant.2 so_far r) in
+    let v : List ℕ = take (length c.args.values.now) c.args.values.now in
+    let few : length (so_far.bytes ++ v) < 10 = omega (
+      arith,
+      ap length reads.header,
+      length-take 10 (so_far.bytes ++ v),
+      c.loop-index.invariant.1 (omega (arith, all, c.requires.some)),
+    ) in (
+      [],
+      [],
+      rw (append-nil so_far.units) reads,
+      few_dropped so_far.bytes v few,
+      λ units told h. rw (append-nil told, append-nil units) h,
+      inl refl,
+    )

@@ -1,7 +1,7 @@
-use Rattle.ws_record.proofs.Common.{Ok, Err, refl, sym, arith, ◌∙◌, append-nil, handed_on, bytes_on, each_on}
-use Rattle.ws_record.proofs.Pieces.{front_made, within_on}
-use Rattle.ws_record.proofs.Receivers.{receives, item_given, front_feeds, left_feeds, none_before, feeds_on}
-use Rattle.ws_record.proofs.Lives.{held_at_none, IsHeld}
+use Rattle.ws_record.proofs.Common.{Ok, Err, refl, sym, arith, ◌∙◌, append-nil, handed_on, bytes_on, each_on, ◌++◌, ◌+◌}
+use Rattle.ws_record.proofs.Common.{take, length_rest, upto}
+use Rattle.ws_record.proofs.Lives.{front_made, held_at_none, IsHeld}
+use Rattle.ws_record.proofs.Receivers.{receives, item_given, front_feeds, left_feeds, none_before}
 use Rattle.ws_record.proofs.receiver.Receiver.feed.Goals as goal
 
 pub loop-used-init : goal.loop-used-init
@@ -13,24 +13,34 @@ loop-used-init g c = (
 
 pub loop-used-preserved : goal.loop-used-preserved
 loop-used-preserved g c = (
-  within_on c.args.piece.now _ _ c.loop-used.invariant.0 c.advance-advance.ensures.within,
+  omega (
+    arith,
+    c.loop-used.invariant.0,
+    c.advance-advance.ensures.within,
+    length_rest c.args.piece.now c.loop-used.used,
+  ),
   λ bytes items t fits. (
       let inv = c.loop-used.invariant.1 bytes items t fits in
       let was = rw (← c.self-in-loop-used.view_is) at inv.0 in
-      feeds_on g.B.Code.rules bytes c.args.piece.now items c.loop-used.used c.advance-advance.result.used _
-      (receives _ c.advance-advance.result.news refl (sym c.goes_on.ensures ∙ c.if-not-goes_on.false)
-      (front_made g.B.Code.rules c.args.piece.now c.loop-used.used c.advance-advance.ensures bytes was.leads.1 fits))
-      (each_on (IsHeld g.B.Code.rules items) bytes c.args.piece.now c.loop-used.used c.advance-advance.result.used
-      inv.1 (c.advance-advance.ensures.first _ _ _ was.leads.1))),
+      let on = rw (bytes_on bytes c.args.piece.now c.loop-used.used c.advance-advance.result.used) at
+      (receives g.B.Code.rules c.advance-advance.result.news refl (sym c.goes_on.ensures ∙ c.if-not-goes_on.false)
+      (front_made _ c.args.piece.now c.loop-used.used c.advance-advance.ensures bytes was.leads.1 fits)) in (
+        on,
+        upto (λ n. IsHeld g.B.Code.rules items (bytes ++ take n c.args.piece.now))
+            (c.loop-used.used + c.advance-advance.result.used) (each_on (IsHeld g.B.Code.rules items) bytes
+            c.args.piece.now c.loop-used.used c.advance-advance.result.used inv.1
+            (c.advance-advance.ensures.first _ _ _ was.leads.1)) (on.leads.0, _, on.leads.1.holds),
+      )),
 )
 
 pub returns-then-not-goes_on-clause-taken : goal.returns-then-not-goes_on-clause-taken
 returns-then-not-goes_on-clause-taken g c = λ bytes items t fits.
     let was = rw (← c.self-in-loop-used.view_is) at (c.loop-used.invariant.1 bytes items t fits).0 in
+    let made = front_made g.B.Code.rules c.args.piece.now c.loop-used.used c.advance-advance.ensures bytes was.leads.1
+    fits in
     rw (bytes_on bytes c.args.piece.now c.loop-used.used c.advance-advance.result.used) at
-    (item_given g.B.Code.rules c.item_of.new.self c.advance-advance.result.news (Ok c.in_ok-item.item) refl
-    (sym c.goes_on.ensures ∙ c.if-not-goes_on.true) (front_made g.B.Code.rules c.args.piece.now c.loop-used.used
-    c.advance-advance.ensures bytes was.leads.1 fits) c.in_ok-item.ensures.item)
+    (item_given _ _ c.advance-advance.result.news (Ok c.in_ok-item.item) refl
+    (sym c.goes_on.ensures ∙ c.if-not-goes_on.true) made c.in_ok-item.ensures.item)
 
 pub returns-then-not-goes_on-clause-first : goal.returns-then-not-goes_on-clause-first
 returns-then-not-goes_on-clause-first g c = λ bytes items t fits.
@@ -49,10 +59,9 @@ returns-in_err-item-clause-fault g c =
     let was = rw (← c.self-in-loop-used.view_is) at (c.loop-used.invariant.1 bytes items t fits).0 in
     let made = front_made g.B.Code.rules c.args.piece.now c.loop-used.used c.advance-advance.ensures bytes was.leads.1
     fits in
-    left_feeds g.B.Code.rules bytes c.args.piece.now c.loop-used.used _ (front_feeds _ _ _
-    c.advance-advance.result.used _ c.advance-advance.ensures.within
-    (c.advance-advance.ensures.used (λ e. rw e at (made.advance)))
-    (item_given g.B.Code.rules c.item_of.new.self c.advance-advance.result.news (Err c.in_err-item.field-0.0) refl
+    left_feeds g.B.Code.rules bytes c.args.piece.now c.loop-used.used _ (front_feeds _ _ _ _ _
+    c.advance-advance.ensures.within (c.advance-advance.ensures.used (λ e. rw e at (made.advance)))
+    (item_given _ _ c.advance-advance.result.news (Err c.in_err-item.field-0.0) refl
     (sym c.goes_on.ensures ∙ c.if-not-goes_on.true) made c.in_err-item.ensures.item)))
 
 pub returns-in_err-item-clause-none_before : goal.returns-in_err-item-clause-none_before
@@ -66,4 +75,9 @@ returns-in_err-item-clause-none_before g c =
     c.advance-advance.result.news (Err c.in_err-item.field-0.0) refl (sym c.goes_on.ensures ∙ c.if-not-goes_on.true)
     (front_made g.B.Code.rules c.args.piece.now c.loop-used.used c.advance-advance.ensures bytes was.leads.1 fits)
     c.in_err-item.ensures.item)
-    (within_on c.args.piece.now _ _ c.loop-used.invariant.0 c.advance-advance.ensures.within))
+    (omega (
+      arith,
+      c.loop-used.invariant.0,
+      c.advance-advance.ensures.within,
+      length_rest c.args.piece.now c.loop-used.used,
+    )))
