@@ -1,4 +1,4 @@
-use Rattle.ws_record.proofs.Common.{ap, Truncated}
+use Rattle.ws_record.proofs.Common.{common_steps, arith, ap, Truncated}
 use Rattle.ws_record.proofs.Refusals.{truncated}
 use Rattle.ws_record.proofs.live.Live.finish.Goals.{then-is_inside-via-then-is_inside}
 use Rattle.ws_record.proofs.live.Live.finish.Goals.{then-is_inside-via-else-is_inside+then-not-is_empty}
@@ -15,3 +15,9 @@ returns-then-is_inside-clause-truncated g c =
             (w.is_empty.ensures so_far old.reads).1 w.if-not-is_empty.true e
       ]),
     )
+
+pub returns-clause-ok : goal.returns-clause-ok
+returns-clause-ok g c = grind (arith, common_steps)
+
+pub returns-clause-truncated : goal.returns-clause-truncated
+returns-clause-truncated g c = grind (arith, common_steps)

@@ -1,4 +1,4 @@
-use Rattle.ws_record.proofs.Common.{arith}
+use Rattle.ws_record.proofs.Common.{common_steps, arith}
 use Rattle.ws_record.proofs.OpenRecords.{reading_of, ready, taken}
 use Rattle.ws_code.specs.declared.run.End.TheVariants as end
 use Rattle.ws_record.proofs.open_record.OpenRecord.take_body.Goals as goal
@@ -32,3 +32,6 @@ returns-in-Bad-clause-taken g c = λ so_far r.
     taken _ g.K.Keep.holds g.K.Keep.may_answer _ _ _ _ _ y g.met.B.Code.prefix_free g.met.B.Code.begins (end.Bad
     c.in-Bad.reason) (reading_of c.args.self.now) c.run-used.new.at _ c.took.new.self (rw c.in-Bad.is at
     c.run-used.ensures.run) c.took.ensures
+
+pub invariant_of-self : goal.invariant_of-self
+invariant_of-self g c = grind (arith, common_steps)

@@ -1,0 +1,8 @@
+use Rattle.ws_record.proofs.Common.{common_steps, arith}
+use Rattle.ws_record.proofs.live.Live.step_of.Goals as goal
+
+pub returns-in-Command-clause-step : goal.returns-in-Command-clause-step
+returns-in-Command-clause-step g c = grind (arith, common_steps)
+
+pub returns-in-Refused-clause-step : goal.returns-in-Refused-clause-step
+returns-in-Refused-clause-step g c = grind (arith, common_steps)

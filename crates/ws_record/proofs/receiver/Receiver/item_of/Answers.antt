@@ -1,0 +1,5 @@
+use Rattle.ws_record.proofs.Common.{common_steps, arith}
+use Rattle.ws_record.proofs.receiver.Receiver.item_of.Goals as goal
+
+pub returns-in-Refused-clause-item : goal.returns-in-Refused-clause-item
+returns-in-Refused-clause-item g c = grind (arith, common_steps)
