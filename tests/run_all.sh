@@ -43,7 +43,7 @@ part() {
 # The C library comes first: a live session of the program is compared with one of C programs over it.
 if command -v cc >/dev/null && command -v make >/dev/null; then
     part "C library" 60 tests/build_c_library.sh
-    part "C interface" 30 make -C c check
+    part "C interface" 30 make --no-print-directory -C c check
 else
     echo "left out: the C interface, since cc or make isn't there" | tee -a "$folder/left_out"
 fi
