@@ -31,7 +31,8 @@ pub(crate) struct Player {
 impl Player {
     // Presses a key, and writes what it sends.
     fn press<S: Sink>(&mut self, sink: &mut S, key: Key) -> Result<(), Fault>
-        ensures done { OnOk result ((bytes : List ℕ) (items : List (Item Element)) (side : StationSide)
+        ensures done { OnOk result
+            ((bytes : List ℕ) (items : List (Item Element)) (side : StationSide)
             → StationLeads self.old.station bytes items side → length bytes + 1 < 2 ^ 64
             → HasDone S.takes S.failures bytes items self.old self.new sink.old sink.new
             (at_moment side (Presses key))) }
@@ -59,7 +60,8 @@ impl Player {
         sink: &mut S,
         keys: &[(u32, Key)],
     ) -> Result<(), Fault>
-        ensures done { OnOk result ((bytes : List ℕ) (items : List (Item Element)) (side : StationSide)
+        ensures done { OnOk result
+            ((bytes : List ℕ) (items : List (Item Element)) (side : StationSide)
             → StationLeads self.old.station bytes items side → length bytes + 1 < 2 ^ 64
             → HasDone S.takes S.failures bytes items self.old self.new sink.old sink.new
             (outcome side (due self.old.records (drop self.old.pressed keys.now)))) }
@@ -84,12 +86,14 @@ impl Player {
 
     // Takes a byte, writes what it gives, and behind a record presses the keys that are due.
     fn take<S: Sink>(&mut self, sink: &mut S, keys: &[(u32, Key)], byte: u8) -> Result<(), Fault>
-        ensures come { OnOk result ((start : S) (terminal : ATerminal) (bytes : List ℕ) (items : List (Item Element))
+        ensures come { OnOk result
+            ((start : S) (terminal : ATerminal) (bytes : List ℕ) (items : List (Item Element))
             → HasCome S.takes S.failures terminal keys.now start self.old sink.old bytes items
             → length bytes + 2 < 2 ^ 64
             → (next : List (Item Element)) × HasCome S.takes S.failures terminal keys.now
             start self.new sink.new (bytes ++ byte ∷ []) next) }
-        ensures fault { IfErr result (λ fault. (start : S) (terminal : ATerminal) (bytes : List ℕ)
+        ensures fault { IfErr result (λ fault.
+            (start : S) (terminal : ATerminal) (bytes : List ℕ)
             (items : List (Item Element))
             → HasCome S.takes S.failures terminal keys.now start self.old sink.old bytes items
             → length bytes + 2 < 2 ^ 64
@@ -114,12 +118,14 @@ impl Player {
         keys: &[(u32, Key)],
         piece: &[u8],
     ) -> Result<(), Fault>
-        ensures come { OnOk result ((start : S) (terminal : ATerminal) (bytes : List ℕ) (items : List (Item Element))
+        ensures come { OnOk result
+            ((start : S) (terminal : ATerminal) (bytes : List ℕ) (items : List (Item Element))
             → HasCome S.takes S.failures terminal keys.now start self.old sink.old bytes items
             → length bytes + length piece.now + 1 < 2 ^ 64
             → (next : List (Item Element)) × HasCome S.takes S.failures terminal keys.now
             start self.new sink.new (bytes ++ piece.now) next) }
-        ensures fault { IfErr result (λ fault. (start : S) (terminal : ATerminal) (bytes : List ℕ)
+        ensures fault { IfErr result (λ fault.
+            (start : S) (terminal : ATerminal) (bytes : List ℕ)
             (items : List (Item Element))
             → HasCome S.takes S.failures terminal keys.now start self.old sink.old bytes items
             → length bytes + length piece.now + 1 < 2 ^ 64

@@ -8,7 +8,7 @@ use Rattle.ws_telnet.specs.declared.token.Telnet.{Telnet}
 use Rattle.ws_telnet.specs.declared.token.Token.{Token}
 use Rattle.ws_telnet.specs.declared.token.Token.TheVariants.{Data, Eor, Telnet as TelnetToken}
 
--- the record bytes that a token carries, and the command that it is
+-- the data bytes that a token carries
 abbrev pub data_of : Token → List ℕ
 data_of (Data b) = b ∷ []
 data_of Eor = []
@@ -20,7 +20,7 @@ command_of (Data b) = []
 command_of Eor = []
 command_of (TelnetToken t) = t ∷ []
 
--- the data bytes that tokens carry, without their escapes
+-- those of tokens, without their escapes
 abbrev pub carried : List Token → List ℕ
 carried tokens = flat_map data_of tokens
 
