@@ -21,7 +21,7 @@ use Rattle.ws_record.specs.Receiver.{Receiving, HasReceived, IsFeedFault, NoneBe
 use Rattle.ws_record.specs.declared.record.Record.{Record}
 use Rattle.ws_record.specs.declared.record.Item.{Item}
 use Rattle.ws_record.specs.declared.record.Item.TheVariants.{Record as RecordItem, Telnet as TelnetItem}
-use Rattle.ws_code.proofs.Lists.{AllByRecursion-append}
+use Rattle.ws_code.proofs.Lists.{AllByRecursion-append, AllByRecursion-last}
 use Rattle.ws_code.proofs.Parts.{fails_last}
 use Rattle.ws_program.specs.declared.verdict.Verdict.TheVariants.{Refused, Truncated}
 use Rattle.ws_program.specs.CheckLine.{line_of, verdict_by}
@@ -30,10 +30,6 @@ use Rattle.ws_program.specs.StreamText.{AreFirstLines, IsShowFault, IsStop, IsWh
 use Rattle.ws_program.specs.StreamText.{IsNext, IsNextFault}
 
 -- Items that are shown one after another.
-
-last_of : {X : Type 0} (P : X → Type 0) (xs : List X) (x : X) → AllByRecursion P (xs ++ x ∷ []) → P x
-last_of P [] x h = h.0
-last_of P (y ∷ ys) x h = last_of P ys x h.1
 
 module _ {U : Type 0} where
   items_more : (placed : List (Placed U)) (x : Placed U) → items_of (placed ++ x ∷ []) ≡ items_of placed ++ x.1 ∷ []
@@ -51,8 +47,7 @@ module _ {Place U : Type 0} where
       (before ++ items_of placed) x → view.fault (before ++ items_of placed) x.1 ≡ None
       → AreShown rules view bytes before (placed ++ x ∷ [])
   shown_more rules view bytes before [] x s c none = (
-    subst (λ (z : List (Item U)). IsComplete rules bytes z x)
-        (append-nil before) c,
+    subst (λ (z : List (Item U)). IsComplete rules bytes z x) (append-nil before) c,
     ap (λ (z : List (Item U)). view.fault z x.1) (sym (append-nil before)) ∙ none,
     tt,
   )
@@ -67,7 +62,6 @@ module _ {Place U : Type 0} where
       )
 
   -- the records that bytes hold have whole bodies
-
   telnets_whole : (rules : Rules Place U) (ts : List Telnet) → AllByRecursion (IsWholeItem rules) (map TelnetItem ts)
   telnets_whole rules [] = tt
   telnets_whole rules (t ∷ ts) = (tt, telnets_whole rules ts)
@@ -84,7 +78,7 @@ module _ {Place U : Type 0} where
   last_whole : (rules : Rules Place U) (bytes : List ℕ) (items : List (Item U)) (item : Item U)
       → HoldsItems rules bytes (items ++ item ∷ []) → IsWholeItem rules item
   last_whole rules bytes items item h =
-      last_of (IsWholeItem rules) items item (subst (AllByRecursion (IsWholeItem rules)) (sym h.2.are_items)
+      AllByRecursion-last (IsWholeItem rules) items item (subst (AllByRecursion (IsWholeItem rules)) (sym h.2.are_items)
       (AllByRecursion-append (IsWholeItem rules) _ (commands h.2.rest) (stretches_whole rules h.2.stretches h.2.each)
       (telnets_whole rules (flat_map command_of h.2.rest))))
 
@@ -112,12 +106,8 @@ taken_before rules bytes rest receiver items is taken = record {
 pub fewer_left : {Place U : Type 0} {rules : Rules Place U} {bytes : List ℕ} {items : List (Item U)}
     {old new : Receiving Place U} {x : Placed U} → IsNextItem rules bytes items old new x
     → length bytes - new.live.taken < length bytes - old.live.taken
-fewer_left {Place} {U} {rules} {bytes} {items} {old} {new} {x} is = omega (
-  arith,
-  is.further,
-  is.taken.leads.1.count,
-  length-take new.live.taken bytes,
-)
+fewer_left {Place} {U} {rules} {bytes} {items} {old} {new} {x} is =
+    omega (arith, is.further, is.taken.leads.1.count, length-take new.live.taken bytes)
 
 module _ {Place U : Type 0} {rules : Rules Place U} {bytes rest : List ℕ} {old : Receiving Place U}
     {items : List (Item U)} (t : Taken rules bytes rest old items) where
