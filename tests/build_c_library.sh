@@ -22,4 +22,4 @@ done
 mkdir -p out
 exec "$kit/bin/rattle" build --crate-name ws_c src/lib.rt --crate-type staticlib "${words[@]}" \
     --antt-project "$kit/rattle/logic/antt-project.json" --logic-built "$kit/logic_built" --toolchain "$kit/toolchain" \
-    --jobs 2 -o out/libws_c.a
+    --jobs 1 -o out/libws_c.a

@@ -38,7 +38,9 @@ part() {
 }
 
 # Two checks at a time, each by one process: one that is shared out among copies of the prover takes a quarter more
-# processor time, and more than two slow each other down.
+# processor time, and more than two slow each other down. The prover's allocator keeps the pages that it has: to give them
+# back and to ask for them again takes a twentieth of a check.
+export MIMALLOC_PURGE_DELAY=-1
 [ "${1:-}" != --prove ] || part "rt ci" 168 env RT_JOBS=2 rt ci
 # The C library comes first: a live session of the program is compared with one of C programs over it.
 if command -v cc >/dev/null && command -v make >/dev/null; then

@@ -1,5 +1,3 @@
-ghost use Rattle.ws_words.specs.Tasks.{HasPieces};
-
 use crate::{holds, same, same_at, same_bytes, says};
 use std::alloc::Global;
 use std::process::Abort;
@@ -98,9 +96,7 @@ pub const PLAYED: [Row; 13] = [
 ];
 
 // What is asked of a play without a file.
-fn asked(screen: bool, tcp: bool) -> Asked<'static>
-    ensures { HasPieces result }
-{
+fn asked(screen: bool, tcp: bool) -> Asked<'static> {
     Asked::Play {
         file: None,
         screen,

@@ -2,6 +2,7 @@ use crate::answers::{answer_words, expect_answer};
 use crate::{holds, same, same_at, same_bytes, says};
 use std::alloc::Global;
 use std::io;
+use std::num::NonZeroU16;
 use std::process::Abort;
 use ws_code::{FailingSink, Fault, Reason, VecSink};
 use ws_live::Paint;
@@ -33,21 +34,19 @@ const FILE: Option<&str> = Some("a.hex");
 // What is asked of a check without any word.
 const CHECK: Asked = Asked::Check {
     file: None,
-    cut: u16::MAX,
+    cut: NonZeroU16::MAX,
     answers: false,
 };
 
 // Words, and what they ask for.
 #[rattlefmt::skip]
-const COMMAND_LINES: [(&[&str], Asked); 18] = [
+const COMMAND_LINES: [(&[&str], Asked); 16] = [
     (&["t5250", "check"], CHECK),
-    (&["t5250", "check", "a.hex"], Asked::Check { file: FILE, cut: u16::MAX, answers: false }),
-    (&["t5250", "check", "--cut", "1"], Asked::Check { file: None, cut: 1, answers: false }),
-    (&["t5250", "check", "--cut=65535", "a.hex"], Asked::Check { file: FILE, cut: 65535, answers: false }),
-    (&["t5250", "check", "a.hex", "--cut", "7"], Asked::Check { file: FILE, cut: 7, answers: false }),
-    (&["t5250", "check", "--answers"], Asked::Check { file: None, cut: u16::MAX, answers: true }),
-    (&["t5250", "check", "--cut", "7", "--answers", "a.hex"], Asked::Check { file: FILE, cut: 7, answers: true }),
-    (&["t5250", "check", "--", "--answers"], Asked::Check { file: Some("--answers"), cut: u16::MAX, answers: false }),
+    (&["t5250", "check", "a.hex"], Asked::Check { file: FILE, cut: NonZeroU16::MAX, answers: false }),
+    (&["t5250", "check", "--cut", "1"], Asked::Check { file: None, cut: NonZeroU16::MIN, answers: false }),
+    (&["t5250", "check", "--cut=65535", "a.hex"], Asked::Check { file: FILE, cut: NonZeroU16::MAX, answers: false }),
+    (&["t5250", "check", "--answers"], Asked::Check { file: None, cut: NonZeroU16::MAX, answers: true }),
+    (&["t5250", "check", "--", "--answers"], Asked::Check { file: Some("--answers"), cut: NonZeroU16::MAX, answers: false }),
     (&["t5250", "show"], Asked::Show { file: None, answers: false, paint: Paint::Plain }),
     (&["t5250", "show", "--answers", "a.hex"], Asked::Show { file: FILE, answers: true, paint: Paint::Plain }),
     (&["t5250", "play"], Asked::Play { file: None, screen: false, tcp: false, paint: Paint::Plain }),
@@ -62,6 +61,15 @@ const COMMAND_LINES: [(&[&str], Asked); 18] = [
     (&["t5250", "make", "--answers", "a.hex"], Asked::Make { file: FILE, answers: true }),
 ];
 
+// Words that ask for pieces of seven bytes, and whether of a station's answers.
+const SEVENS: [(&[&str], bool); 2] = [
+    (&["t5250", "check", "a.hex", "--cut", "7"], false),
+    (
+        &["t5250", "check", "--cut", "7", "--answers", "a.hex"],
+        true,
+    ),
+];
+
 fn expect_asked(rt: &impl Abort, alloc: Global, words: &[&str], asked: Asked) {
     match read_words(alloc, words) {
         Ok(task) => same(rt, task, Task::Input(asked)),
@@ -73,6 +81,15 @@ fn expect_asked(rt: &impl Abort, alloc: Global, words: &[&str], asked: Asked) {
 fn command_lines(rt: HostRuntime) {
     for (words, asked) in &COMMAND_LINES {
         expect_asked(&rt, rt.alloc(), words, *asked);
+    }
+    let cut = NonZeroU16::MIN.saturating_add(6);
+    for (words, answers) in &SEVENS {
+        let asked = Asked::Check {
+            file: FILE,
+            cut,
+            answers: *answers,
+        };
+        expect_asked(&rt, rt.alloc(), words, asked);
     }
     let show = Asked::Show {
         file: FILE,

@@ -5,7 +5,6 @@ ghost use Rattle.ws_program.specs.Answering.{HasAnswered, HasChecked, HasShown, 
 ghost use Rattle.ws_text.specs.AnswerWords.{answer_wording};
 ghost use Rattle.ws_text.specs.ElementWords.{element_wording};
 ghost use Rattle.ws_text.specs.Shown.{Shows, ShowsAnswers};
-ghost use Rattle.ws_words.specs.Tasks.{HasPieces};
 ghost use Rattle.ws_program.specs.HexText.{IsHexOf};
 ghost use Rattle.ws_program.specs.Checking.{IsCheckFault};
 ghost use Rattle.ws_program.specs.Making.{HasMade, IsMakeFault};
@@ -43,7 +42,6 @@ pub fn answer<R: Net<Listener = TcpListener, Stream = TcpStream>, S: Sink>(
     text: &[u8],
     sink: &mut S,
 ) -> Result<bool, RunFault>
-    requires { HasPieces asked }
     ensures done { IfOk result (λ accepted.
         HasAnswered S.takes S.failures sink.old sink.new asked.entry text.now accepted) }
     ensures fault { IfErr result (λ fault.
@@ -52,9 +50,9 @@ pub fn answer<R: Net<Listener = TcpListener, Stream = TcpStream>, S: Sink>(
     match asked {
         Asked::Check { cut, answers, .. } => {
             if answers {
-                check_text::<Answers, S>(alloc, text, cut, sink)
+                check_text::<Answers, S>(alloc, text, cut.get(), sink)
             } else {
-                check_text::<Commands, S>(alloc, text, cut, sink)
+                check_text::<Commands, S>(alloc, text, cut.get(), sink)
             }
         }
         Asked::Show { answers, paint, .. } => {
@@ -96,7 +94,6 @@ pub fn answer_buffered<R: Net<Listener = TcpListener, Stream = TcpStream>, S: Si
     text: &[u8],
     sink: &mut BufferedSink<S>,
 ) -> Result<bool, RunFault>
-    requires pieces { HasPieces asked }
     requires empty { sink.old.held ≡ [] }
     ensures done { IfOk result (λ accepted. HasAnswered
         S.takes S.failures sink.old.sink sink.new.sink asked.entry text.now accepted) }

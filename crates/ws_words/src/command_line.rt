@@ -1,6 +1,3 @@
-ghost use Rattle.std.specs.Prelude.{IfOk, IfSome};
-ghost use Rattle.ws_words.specs.Tasks.{HasPieces, IsTask};
-
 use crate::command_parts::{CommandParts, fault};
 use crate::live_command::{
     Live, color_flag, connect_asked, connect_command, paint_asked, serve_asked, serve_command,
@@ -9,6 +6,7 @@ use clap::error::ErrorKind;
 use clap::{Arg, ArgAction, ArgMatches, Command, value_parser};
 use std::alloc::{AllocError, Global};
 use std::convert::AsStr;
+use std::num::NonZeroU16;
 use ws_live::Paint;
 
 /// What a command line asks for.
@@ -27,7 +25,7 @@ pub enum Asked<'a> {
     /// commands.
     Check {
         file: Option<&'a str>,
-        cut: u16,
+        cut: NonZeroU16,
         answers: bool,
     },
     /// To show the items of a hex text: as a host's commands, with the screen that they make in a paint, or as a
@@ -262,9 +260,7 @@ pub fn no_text(alloc: Global) -> Result<clap::Error, clap::Error> {
 /// What the words ask for, of which the first is the program's name.
 ///
 /// Without `--cut` the bytes are read in the largest pieces.
-pub fn read_words<'a, S: AsStr>(alloc: Global, words: &'a [S]) -> Result<Task<'a>, clap::Error>
-    ensures { IfOk result IsTask }
-{
+pub fn read_words<'a, S: AsStr>(alloc: Global, words: &'a [S]) -> Result<Task<'a>, clap::Error> {
     let mut program = program(alloc)?;
     let matches = program.try_get_matches_from_mut(words)?;
     task_asked(&mut program, &matches)
@@ -274,9 +270,7 @@ pub fn read_words<'a, S: AsStr>(alloc: Global, words: &'a [S]) -> Result<Task<'a
 fn task_asked<'a>(
     program: &mut Command<'a>,
     words: &ArgMatches<'a>,
-) -> Result<Task<'a>, clap::Error>
-    ensures { IfOk result IsTask }
-{
+) -> Result<Task<'a>, clap::Error> {
     let (name, words) = words.subcommand().unwrap_or(("", words));
     match name {
         "connect" => Ok(Task::Live(Live::Connect(connect_asked(program, words)?))),
@@ -289,9 +283,7 @@ fn task_asked<'a>(
 }
 
 // What the words of this command ask for of an input; nothing where it is none of these.
-fn input_asked<'a>(name: &str, words: &ArgMatches<'a>) -> Option<Asked<'a>>
-    ensures { IfSome result HasPieces }
-{
+fn input_asked<'a>(name: &str, words: &ArgMatches<'a>) -> Option<Asked<'a>> {
     match name {
         "check" => Some(check_asked(words)),
         "show" => Some(show_asked(words)),
@@ -301,20 +293,16 @@ fn input_asked<'a>(name: &str, words: &ArgMatches<'a>) -> Option<Asked<'a>>
     }
 }
 
-fn check_asked<'a>(words: &ArgMatches<'a>) -> Asked<'a>
-    ensures { HasPieces result }
-{
+fn check_asked<'a>(words: &ArgMatches<'a>) -> Asked<'a> {
+    let cut = words.get_one::<u16>("cut").unwrap_or(u16::MAX);
     Asked::Check {
         file: words.get_str("FILE"),
-        // No 0 comes through.
-        cut: words.get_one::<u16>("cut").unwrap_or(u16::MAX).max(1),
+        cut: NonZeroU16::new(cut).unwrap_or(NonZeroU16::MAX),
         answers: words.get_flag("answers"),
     }
 }
 
-fn show_asked<'a>(words: &ArgMatches<'a>) -> Asked<'a>
-    ensures { HasPieces result }
-{
+fn show_asked<'a>(words: &ArgMatches<'a>) -> Asked<'a> {
     Asked::Show {
         file: words.get_str("FILE"),
         answers: words.get_flag("answers"),
@@ -322,9 +310,7 @@ fn show_asked<'a>(words: &ArgMatches<'a>) -> Asked<'a>
     }
 }
 
-fn play_asked<'a>(words: &ArgMatches<'a>) -> Asked<'a>
-    ensures { HasPieces result }
-{
+fn play_asked<'a>(words: &ArgMatches<'a>) -> Asked<'a> {
     Asked::Play {
         file: words.get_str("SCRIPT"),
         screen: words.get_flag("screen"),
@@ -333,9 +319,7 @@ fn play_asked<'a>(words: &ArgMatches<'a>) -> Asked<'a>
     }
 }
 
-fn make_asked<'a>(words: &ArgMatches<'a>) -> Asked<'a>
-    ensures { HasPieces result }
-{
+fn make_asked<'a>(words: &ArgMatches<'a>) -> Asked<'a> {
     Asked::Make {
         file: words.get_str("FILE"),
         answers: words.get_flag("answers"),

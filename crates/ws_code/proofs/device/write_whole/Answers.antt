@@ -1,4 +1,5 @@
 use Rattle.std.proofs.Common.{◌-◌, length, take, drop, arith, sym, subst}
+use Rattle.std.proofs.lemmas.Grind.{common_steps}
 use Rattle.ws_code.specs.Device.{WentOut}
 use Rattle.ws_code.proofs.DeviceLaws.{went_out_one, went_out_both, take_front, length_rest}
 use Rattle.ws_code.proofs.device.write_whole.Goals as goal
@@ -17,3 +18,6 @@ loop-at-preserved g c =
       went_out = subst (WentOut g.S.Sink.takes g.S.Sink.failures c.args.sink.now c.write.new.self)
           (sym (take_front bytes at c.in-Ok.taken c.loop-at.invariant.within)) both;
     }
+
+pub returns-in-Err-clause-ok : goal.returns-in-Err-clause-ok
+returns-in-Err-clause-ok c = grind (arith, common_steps)

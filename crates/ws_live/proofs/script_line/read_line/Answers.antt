@@ -1,9 +1,10 @@
-use Rattle.std.proofs.Common.{◌++◌, List, ℕ, [], refl, sym, ◌∙◌, subst, inl}
+use Rattle.std.proofs.Common.{◌++◌, List, ℕ, [], refl, sym, ◌∙◌, subst, inl, arith}
 use Rattle.std.specs.Prelude.{codes}
 use Rattle.std.specs.Str.{IsUtf8}
 use Rattle.ws_session.specs.declared.world.Move.{Move}
 use Rattle.std.proofs.lemmas.List.{append-nil}
 use Rattle.std.proofs.lemmas.Result.{on_ok_weaker, IfErr-weaker}
+use Rattle.std.proofs.lemmas.Grind.{common_steps}
 use Rattle.ws_live.specs.Script.{Means, IsLine}
 use Rattle.ws_live.specs.Script.Means.{comment}
 use Rattle.ws_live.specs.ScriptFaults.{IsLineFault, IsGoodSoFar}
@@ -64,3 +65,6 @@ returns-in-Some-clause-fault c =
     (λ fault h. fault_on (Means text) (IsLine line) fault (λ refused moves l. refused moves
     (subst (λ (z : List ℕ). Means z moves) (sym same) l.1))
     (λ good. (c.in-Ok.ensures.cases.1, subst IsGoodSoFar same good)) h) c.read_command.ensures.fault
+
+pub returns-in_default-clause-ok : goal.returns-in_default-clause-ok
+returns-in_default-clause-ok c = grind (arith, common_steps)

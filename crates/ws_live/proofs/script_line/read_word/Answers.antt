@@ -1,5 +1,6 @@
-use Rattle.std.proofs.Common.{[], ◌∷◌, refl}
+use Rattle.std.proofs.Common.{[], ◌∷◌, refl, arith}
 use Rattle.std.proofs.lemmas.Result.{on_ok_weaker, IfErr-weaker}
+use Rattle.std.proofs.lemmas.Grind.{common_steps}
 use Rattle.ws_session.specs.declared.world.Move.TheVariants.{Cancel}
 use Rattle.ws_live.specs.Script.{Means, settling}
 use Rattle.ws_live.specs.Script.Means.{one, settle}
@@ -19,3 +20,6 @@ pub returns-in-settle-clause-fault : goal.returns-in-settle-clause-fault
 returns-in-settle-clause-fault c = IfErr-weaker c.settle.result _ _
     (λ fault e. only_memory (Means c.args.word.now) fault e (settling, settle c.in-settle.is refl))
     c.settle.ensures.fault
+
+pub returns-in_default-clause-fault : goal.returns-in_default-clause-fault
+returns-in_default-clause-fault c = grind (arith, common_steps)

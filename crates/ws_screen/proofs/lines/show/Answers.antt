@@ -4,6 +4,7 @@ use Rattle.std.specs.List.{range_with_len}
 use Rattle.std.proofs.lemmas.List.{take_more_set}
 use Rattle.std.proofs.lemmas.List.Elements.{All-push}
 use Rattle.std.proofs.lemmas.List.FromFn.{map-range_with_len_more}
+use Rattle.std.proofs.lemmas.Grind.{common_steps}
 use Rattle.ws_stream.specs.FieldOrder.{is_attribute}
 use Rattle.ws_screen.specs.Lines.{attribute_at, shown_at, shown_under}
 use Rattle.ws_screen.specs.declared.shown.Shown.{Shown}
@@ -33,3 +34,6 @@ loop-index-preserved c =
           ∙ ap (λ a. if is_attribute byte then byte else a) c.loop-index.invariant.in_force
           ∙ sym (attribute_at-more cells at inside) ∙ ap (attribute_at cells) (sym next);
     }
+
+pub loop-index-init : goal.loop-index-init
+loop-index-init c = grind (arith, common_steps)

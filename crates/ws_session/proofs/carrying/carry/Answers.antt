@@ -1,7 +1,9 @@
+use Rattle.std.proofs.Common.{arith}
 use Rattle.ws_session.proofs.Common.{◌≡◌, ◌≢◌, ℕ, ◌+◌, ◌-◌, ◌≤◌, List, ◌++◌, Some, length, take, drop, sym, ap, ◌∙◌}
 use Rattle.ws_session.proofs.Common.{subst, arith, length-append, length-take-le, take-append-le, take-append-add}
 use Rattle.ws_session.proofs.Common.{one_more, gave_more, take_some, length_rest}
 use Rattle.std.proofs.lemmas.Slice.{take-put_mid_below}
+use Rattle.std.proofs.lemmas.Grind.{common_steps}
 use Rattle.ws_session.proofs.carrying.carry.Goals as goal
 
 -- the front of a slice behind a read into the rest of it
@@ -88,3 +90,6 @@ returns-in-Err-clause-fault g c =
       };
       few = inv.gave.1;
     }
+
+pub returns-clause-carried : goal.returns-clause-carried
+returns-clause-carried c = grind (arith, common_steps)
