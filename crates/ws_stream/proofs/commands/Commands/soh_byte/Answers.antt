@@ -1,4 +1,5 @@
 use Rattle.std.proofs.Common.{◌≡◌, length, refl, sym, ap, ◌∙◌, arith, inl, inr}
+use Rattle.std.proofs.lemmas.Grind.{common_steps}
 use Rattle.ws_stream.specs.Machine.{unfinished_in}
 use Rattle.ws_stream.specs.declared.element.Element.TheVariants.{Soh}
 use Rattle.ws_stream.specs.declared.commands.phase.Phase.{Phase}
@@ -32,3 +33,6 @@ returns g c =
     c.push.ensures few in
     let begun = ap (λ (p : Phase). unfinished_in p bytes old.kinds old.controls) c.requires.phase in
     inl ((refl, begun ∙ found.0, found.1), refl)
+
+pub returns-then-byte-ne0 : goal.returns-then-byte-ne0
+returns-then-byte-ne0 c = grind (arith, common_steps)
