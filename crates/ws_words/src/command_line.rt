@@ -294,6 +294,7 @@ fn input_asked<'a>(name: &str, words: &ArgMatches<'a>) -> Option<Asked<'a>> {
 }
 
 fn check_asked<'a>(words: &ArgMatches<'a>) -> Asked<'a> {
+    // The parser of `--cut` lets no 0 through.
     let cut = words.get_one::<u16>("cut").unwrap_or(u16::MAX);
     Asked::Check {
         file: words.get_str("FILE"),

@@ -50,8 +50,8 @@ impl World {
             × (length (all_read ups) + 1 < 2 ^ 64 → HostIsLed r.host (all_read ups))
             × (AreFaithful downs → AreFaithful ups → IsReport r.events r.station r.host
             r.to_station r.to_host (after_moves (new_world terminal) moves.now))) }
-        ensures fault { IfErr result (AreEnded S.takes S.failures R.gives R.failures T.takes T.failures
-            Q.gives Q.failures down.old down.new up.old up.new) }
+        ensures fault { IfErr result (AreEnded S.takes S.failures R.gives R.failures
+            T.takes T.failures Q.gives Q.failures down.old down.new up.old up.new) }
     {
         let mut world = World::new(alloc, terminal)?;
         for step in moves {
@@ -72,8 +72,8 @@ impl World {
             × HasMoved (ends_of self.old) step.now downs ups (ends_of self.new)
             × (AreFaithful downs → AreFaithful ups → (t : ATerminal) (w : AWorld)
             → Runs t self.old w → Runs t self.new (after_move w step.now))) }
-        ensures fault { IfErr result (AreEnded S.takes S.failures R.gives R.failures T.takes T.failures
-            Q.gives Q.failures down.old down.new up.old up.new) }
+        ensures fault { IfErr result (AreEnded S.takes S.failures R.gives R.failures
+            T.takes T.failures Q.gives Q.failures down.old down.new up.old up.new) }
     {
         match step {
             Move::Send(opcode, body) => self.order(*opcode, body.as_slice()),
@@ -94,7 +94,8 @@ impl World {
             × ComesDown (ends_of self.old) count crossings (ends_of self.new)
             × (AreFaithful crossings → (t : ATerminal) (w : AWorld)
             → Runs t self.old w → Runs t self.new (spec.bytes_to_station count w))) }
-        ensures fault { IfErr result (IsEnded S.takes S.failures R.gives R.failures line.old line.new) }
+        ensures fault { IfErr result
+            (IsEnded S.takes S.failures R.gives R.failures line.old line.new) }
     {
         let mut left = count;
         while left > 0 {
@@ -121,7 +122,8 @@ impl World {
             × ComesDown (ends_of self.old) piece (crossing ∷ []) (ends_of self.new)
             × (crossing.read ≡ crossing.sent → (t : ATerminal) (w : AWorld)
             → Runs t self.old w → Runs t self.new (spec.bytes_to_station piece w))) }
-        ensures fault { IfErr result (IsEnded S.takes S.failures R.gives R.failures line.old line.new) }
+        ensures fault { IfErr result
+            (IsEnded S.takes S.failures R.gives R.failures line.old line.new) }
     {
         self.known_wires();
         let mut taken = [0u8; PIECE];
@@ -146,7 +148,8 @@ impl World {
             × ComesUp (ends_of self.old) count crossings (ends_of self.new)
             × (AreFaithful crossings → (t : ATerminal) (w : AWorld)
             → Runs t self.old w → Runs t self.new (spec.bytes_to_host count w))) }
-        ensures fault { IfErr result (IsEnded S.takes S.failures R.gives R.failures line.old line.new) }
+        ensures fault { IfErr result
+            (IsEnded S.takes S.failures R.gives R.failures line.old line.new) }
     {
         let mut left = count;
         while left > 0 {
@@ -173,7 +176,8 @@ impl World {
             × ComesUp (ends_of self.old) piece (crossing ∷ []) (ends_of self.new)
             × (crossing.read ≡ crossing.sent → (t : ATerminal) (w : AWorld)
             → Runs t self.old w → Runs t self.new (spec.bytes_to_host piece w))) }
-        ensures fault { IfErr result (IsEnded S.takes S.failures R.gives R.failures line.old line.new) }
+        ensures fault { IfErr result
+            (IsEnded S.takes S.failures R.gives R.failures line.old line.new) }
     {
         self.known_wires();
         let mut taken = [0u8; PIECE];

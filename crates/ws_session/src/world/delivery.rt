@@ -50,7 +50,8 @@ impl Reported for HostEnd {
     ghost refusal = { λ place reason. HostRefused place reason };
 
     fn event(event: Option<HostEvent>) -> Option<Event>
-        ensures told { as_list result ≡ flat_map (λ told. HostEventOf told ∷ []) (as_list event) }
+        ensures told { as_list result
+            ≡ flat_map (λ told. HostEventOf told ∷ []) (as_list event) }
     {
         match event {
             Some(event) => Some(Event::Host(event)),
