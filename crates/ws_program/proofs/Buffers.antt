@@ -10,7 +10,8 @@ use Rattle.ws_program.specs.Answering.{HasAnswered, IsAnswerFault}
 use Rattle.ws_words.specs.declared.command_line.Asked.{Asked}
 use Rattle.ws_words.specs.declared.command_line.Asked.TheVariants.{Check, Show, Play, Make}
 use Rattle.ws_program.specs.declared.fault.RunFault.{RunFault}
-use Rattle.ws_program.specs.declared.fault.RunFault.TheVariants.{Read, NotHex, Line, Memory, Write, NoConnection, Refused}
+use Rattle.ws_program.specs.declared.fault.RunFault.TheVariants.{Read, NotHex, Line, Memory}
+use Rattle.ws_program.specs.declared.fault.RunFault.TheVariants.{Write, NoConnection, Refused}
 use Rattle.ws_program.specs.declared.fault.RunFault.TheVariants.{Truncated, Failed}
 
 -- What the program does behind a buffer, where the rest goes out or doesn't.
