@@ -7,7 +7,7 @@ ghost use Rattle.ws_code.specs.declared.run.End.{End as AnEnd};
 use crate::{End, Keep, Kept, Reason, Run, Standing};
 
 /// What a machine answers to a byte.
-#[derive(Debug, Drop)]
+#[derive(Drop)]
 pub enum Push<U> {
     /// The bytes so far begin some unit's spelling.
     More,

@@ -6,7 +6,7 @@ use std::alloc::Global;
 use std::marker::Model;
 
 /// Gives the bytes of a slice one by one, for so many reads. Each read after these fails. It is for tests.
-#[derive(Debug, Drop)]
+#[derive(Drop)]
 pub struct FailingSource<'a> {
     rest: &'a [u8],
     calls: u64,
@@ -60,7 +60,7 @@ impl Source for FailingSource<'_> {
 }
 
 /// Keeps what is written, one byte for each of so many writes. Each write after these fails. It is for tests.
-#[derive(Debug, Drop)]
+#[derive(Drop)]
 pub struct FailingSink {
     bytes: Vec<u8>,
     calls: u64,
@@ -119,7 +119,7 @@ impl Sink for FailingSink {
 }
 
 /// Takes no byte, and never fails otherwise. It is for tests.
-#[derive(Clone, Copy, Debug, PartialEq, Eq)]
+#[derive(Clone, Copy)]
 pub struct StuckSink;
 
 impl Sink for StuckSink {

@@ -3,7 +3,7 @@ ghost use Rattle.ws_code.specs.declared.keep.Kept.{Kept};
 ghost use Rattle.ws_code.specs.Keep.{KeepsOne, holds_last};
 
 /// What became of a unit.
-#[derive(Clone, Copy, Debug, PartialEq, Eq)]
+#[derive(Clone, Copy)]
 pub enum Kept {
     /// It is kept, and so will the next one be.
     GoOn,
@@ -70,7 +70,7 @@ impl<U: Drop> Keep<U> for Option<U> {
 }
 
 /// Keeps nothing, and so allocates no memory.
-#[derive(Clone, Copy, Debug, PartialEq, Eq)]
+#[derive(Clone, Copy)]
 pub struct Nothing;
 
 impl<U: Drop> Keep<U> for Nothing {

@@ -6,7 +6,7 @@ use std::alloc::Global;
 use std::marker::Model;
 
 /// Gives the bytes of a slice. It never fails.
-#[derive(Debug, Drop)]
+#[derive(Drop)]
 pub struct SliceSource<'a> {
     rest: &'a [u8],
 }
@@ -58,7 +58,7 @@ pub fn slices_are_given_whole()
 {}
 
 /// Keeps what is written in a `Vec` that grows. A growth that is refused is a failure, and the bytes stay.
-#[derive(Debug, Drop)]
+#[derive(Drop)]
 pub struct VecSink {
     bytes: Vec<u8>,
     failures: u64,

@@ -14,14 +14,14 @@ pub enum End {
 }
 
 /// How many values were taken, and how the run ended.
-#[derive(Clone, Copy, Debug, PartialEq, Eq)]
+#[derive(Clone, Copy)]
 pub struct Run {
     pub used: usize,
     pub end: End,
 }
 
 /// Where the unit stands that is read, and whether it is unfinished.
-#[derive(Clone, Copy, Debug)]
+#[derive(Clone, Copy)]
 pub struct Standing<P> {
     pub place: P,
     pub is_inside: bool,

@@ -6,7 +6,7 @@ use std::io::{Read, Write};
 use std::marker::Model;
 
 /// Gives what a reader of the standard library gives, as a file or a socket. Each error of it is a failure.
-#[derive(Debug, Drop)]
+#[derive(Drop)]
 pub struct ReadSource<R> {
     reader: R,
     failures: u64,
@@ -64,7 +64,7 @@ impl<R: Read> Source for ReadSource<R> {
 }
 
 /// Hands bytes to a writer of the standard library, as a file or a socket. Each error of it is a failure.
-#[derive(Debug, Drop)]
+#[derive(Drop)]
 pub struct WriteSink<W> {
     writer: W,
     failures: u64,

@@ -13,7 +13,7 @@ pub const BUFFER_SIZE: usize = 8192;
 ///
 /// It takes no memory. A failed write of the sink comes as the failure of the call that would have handed the bytes on,
 /// and what was held is dropped then, so that no byte goes out twice.
-#[derive(Debug, Drop)]
+#[derive(Drop)]
 pub struct BufferedSink<S> {
     sink: S,
     held: ArrayVec<u8, BUFFER_SIZE>,

@@ -15,7 +15,7 @@ use ws_code::List;
 use ws_keys::Key;
 
 /// A line of a script for a station at a host.
-#[derive(Debug, Drop)]
+#[derive(Drop)]
 pub enum StationLine {
     /// An empty line or a comment.
     Nothing,
@@ -30,7 +30,7 @@ pub enum StationLine {
 }
 
 /// What a station waits for.
-#[derive(Debug, Drop)]
+#[derive(Drop)]
 pub enum Awaited {
     /// The keyboard is unlocked.
     Unlocked,

@@ -15,7 +15,7 @@ use ws_session::Attached;
 use ws_text::{Output, put_text};
 
 /// How a line of a live session closed.
-#[derive(Clone, Copy, Debug, PartialEq, Eq)]
+#[derive(Clone, Copy)]
 pub enum Closing {
     /// It was an empty line or a comment.
     Nothing,
@@ -32,7 +32,7 @@ pub enum Closing {
 }
 
 /// What the lines of a live session came to.
-#[derive(Clone, Copy, Debug, PartialEq, Eq)]
+#[derive(Clone, Copy)]
 pub struct Ran {
     /// None closed late or ended, and nothing was refused.
     pub all_well: bool,
@@ -75,7 +75,7 @@ impl Closing {
 }
 
 /// What was made of a line: whether all of its text so far went out, and how it closed.
-#[derive(Clone, Copy, Debug, PartialEq, Eq)]
+#[derive(Clone, Copy)]
 pub struct Carried {
     pub output: Output,
     pub outcome: Result<Closing, Fault>,

@@ -21,7 +21,7 @@ use ws_stream::Element;
 use ws_text::{TextFault, read_items};
 
 /// A line of a script for a host of one station.
-#[derive(Debug, Drop)]
+#[derive(Drop)]
 pub enum HostLine {
     /// An empty line or a comment.
     Nothing,

@@ -16,7 +16,7 @@ use ws_code::{ByteList, Reason};
 use ws_telnet::{BINARY, END_OF_RECORD, Sub, TERMINAL_TYPE, Telnet, Verb};
 
 /// What a host end knows of a direction.
-#[derive(Clone, Copy, Debug, PartialEq, Eq)]
+#[derive(Clone, Copy)]
 pub enum Mode {
     Off,
     /// The host end has asked for it, and has no answer yet.
@@ -25,7 +25,7 @@ pub enum Mode {
 }
 
 /// What a host end knows of the terminal's name.
-#[derive(Clone, Copy, Debug, PartialEq, Eq)]
+#[derive(Clone, Copy, PartialEq, Eq)]
 pub enum TerminalName {
     Unknown,
     /// SEND was written, and no name has come yet.
@@ -35,7 +35,7 @@ pub enum TerminalName {
 
 /// The options of a host end. It asks for the terminal's name first, and once it has accepted one
 /// for BINARY and END-OF-RECORD in both directions (RFC 854, 856, 885, 1091; RFC 4777, section 2).
-#[derive(Debug, Drop)]
+#[derive(Drop)]
 pub struct HostOptions {
     modes: OptionTable<Mode>,
     name: TerminalName,

@@ -18,7 +18,7 @@ pub const SEND: u8 = 1;
 
 /// One direction of an option: the end that performs it, and the option (RFC 854, "GENERAL
 /// CONSIDERATIONS").
-#[derive(Clone, Copy, Debug, PartialEq, Eq)]
+#[derive(Clone, Copy)]
 pub enum Direction {
     StationBinary,
     StationTerminalType,
@@ -28,7 +28,7 @@ pub enum Direction {
 }
 
 /// An entry for each direction.
-#[derive(Clone, Copy, Debug, PartialEq, Eq)]
+#[derive(Clone, Copy)]
 pub struct OptionTable<T> {
     pub station_binary: T,
     pub station_terminal_type: T,

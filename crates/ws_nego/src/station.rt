@@ -14,7 +14,7 @@ use ws_telnet::{Sub, TERMINAL_TYPE, Telnet, Verb};
 /// The options of a display station. It performs BINARY, TERMINAL-TYPE and END-OF-RECORD when it is
 /// asked to, lets the host end perform BINARY and END-OF-RECORD, and never asks by itself (RFC 854,
 /// 856, 885, 1091; RFC 4777, section 2).
-#[derive(Debug, Drop)]
+#[derive(Drop)]
 pub struct StationOptions {
     terminal: TerminalType,
     on: OptionTable<bool>,

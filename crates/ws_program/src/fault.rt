@@ -37,7 +37,7 @@ pub enum RunFault {
 }
 
 /// What ends the program before it runs, or in running.
-#[derive(Debug, Drop)]
+#[derive(Drop)]
 pub enum CommandFault {
     /// The command line asks for nothing that the program knows, or for help.
     Words(clap::Error),

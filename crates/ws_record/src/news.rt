@@ -7,7 +7,7 @@ use ws_telnet::{CommandCode, Verb};
 
 /// What is complete with the last byte that a decoder took. It is small: a unit is in the keep, and a subnegotiation
 /// is fetched by a call of its own.
-#[derive(Clone, Copy, Debug, PartialEq, Eq)]
+#[derive(Clone, Copy)]
 pub enum News {
     /// Nothing, but for units with which the keep goes on.
     More,
@@ -50,7 +50,7 @@ impl News {
 }
 
 /// How many bytes were taken, and what is complete with the last of them.
-#[derive(Clone, Copy, Debug, PartialEq, Eq)]
+#[derive(Clone, Copy)]
 pub struct Advance {
     pub used: usize,
     pub news: News,

@@ -5,7 +5,7 @@ use arrayvec::ArrayVec;
 use ws_code::{Body, Code, Push};
 
 /// A body of plain bytes: every byte is a unit, and every list of them may end.
-#[derive(Debug, Drop)]
+#[derive(Drop)]
 pub struct RawBody;
 
 impl Code for RawBody {

@@ -3,7 +3,7 @@ ghost use Rattle.std.specs.Prelude.{◌≡◌, Some, IsSome};
 use ws_code::Address;
 
 /// What is kept of a Write to Display until its end.
-#[derive(Clone, Copy, Debug)]
+#[derive(Clone, Copy)]
 pub struct OpenWrite {
     /// Where the next byte goes: a cell's place, or 1,920, which is past the last cell.
     pub address: u16,

@@ -2,7 +2,7 @@ use crate::HostEvent;
 use ws_nego::Reply;
 
 /// What a piece gave a host end.
-#[derive(Debug, Drop)]
+#[derive(Drop)]
 pub struct HostFed {
     /// How many bytes of the piece were taken.
     pub used: usize,

@@ -7,7 +7,7 @@ use ws_code::ByteList;
 use ws_nego::Reply;
 
 /// What a piece gave.
-#[derive(Debug, Drop)]
+#[derive(Drop)]
 pub struct StationFed {
     /// How many bytes of the piece were taken.
     pub used: usize,

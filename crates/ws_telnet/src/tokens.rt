@@ -10,7 +10,7 @@ use arrayvec::ArrayVec;
 use ws_code::{ByteList, Code, Push, Reason};
 
 // What a machine waits for.
-#[derive(Clone, Copy, Debug, PartialEq, Eq)]
+#[derive(Clone, Copy)]
 enum Phase {
     Begin,
     Iac,
@@ -28,7 +28,7 @@ enum Phase {
 /// - `BadSub` (3) at a byte other than FF and F0 after an FF in a subnegotiation's data;
 /// - `SubTooLong` (4) at the byte that completes a 65th byte of a subnegotiation's data: another than FF, or
 ///   the second FF of a pair.
-#[derive(Debug, Drop)]
+#[derive(Drop)]
 pub struct Tokens {
     phase: Phase,
     option: u8,
