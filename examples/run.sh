@@ -1,7 +1,7 @@
 #!/usr/bin/env bash
 # Runs every example with the program, and compares what it prints. The program is the first argument, or what
-# `rt run` in crates/t5250 leaves in its out folder. A test of that crate has the same examples as text; this looks
-# whether they are the same. The last line counts what was compared.
+# `rt run` in crates/t5250 leaves in its out folder. A test, crates/rows_program/src/example_rows.rt, has the same
+# examples as text; this looks whether they are the same. The last line counts what was compared.
 set -u
 program=$(realpath "${1:-$(dirname "$0")/../crates/t5250/out/t5250}") || exit 2
 cd "$(dirname "$0")" || exit 2

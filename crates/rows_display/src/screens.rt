@@ -2,7 +2,7 @@
 
 use crate::holds;
 use std::process::Abort;
-use ws_code::{Address, Aid, Body, Code, Push};
+use ws_code::{Address, Aid, Body, Code, Standing};
 use ws_keys::Key;
 use ws_screen::Screen;
 use ws_stream::{Commands, Element, Place};
@@ -13,15 +13,13 @@ pub fn at(rt: &impl Abort, row: u8, col: u8) -> Address {
 
 // The element that bytes begin with, and the number of its bytes.
 fn first_element(place: Place, bytes: &[u8]) -> Option<(Element, usize)> {
-    let mut machine = Commands::start(place);
-    for (at, byte) in bytes.iter().enumerate() {
-        match machine.push(*byte) {
-            Push::More => {}
-            Push::Unit(element) => return Some((element, at + 1)),
-            Push::Bad(_) => return None,
-        }
-    }
-    None
+    let mut at = Standing {
+        place,
+        is_inside: false,
+    };
+    let mut slot = None;
+    let run = Commands::start(place).run(&mut at, bytes, &mut slot);
+    Some((slot?, run.used))
 }
 
 pub fn apply(rt: &impl Abort, screen: &mut Screen, element: &Element) {

@@ -23,7 +23,14 @@ const STREAMS: [(&str, &str); 7] = [
         "FFFD18\nFFFA1801FFF0\nFFF1\n",
     ),
     (
-        "record opcode 3\n  WRITE 00 08\n  TEXT Ab 1\n  PUT c8C9\ntelnet AYT\nrecord opcode 2\nscreen\n",
+        "record opcode 3
+  WRITE 00 08
+  TEXT Ab 1
+  PUT c8C9
+telnet AYT
+record opcode 2
+screen
+",
         "001412A000000400000304110008C18240F1C8C9FFEF\nFFF6\n000A12A0000004000002FFEF\n",
     ),
 ];
@@ -38,11 +45,30 @@ fn streams_from_text(rt: HostRuntime) {
 const ANSWERS: [(&str, &str); 5] = [
     ("", ""),
     (
-        "at 2 telnet WILL 24\nat 18 telnet SB 24 0049424D2D333137392D32\nat 40 record flags 0000 opcode 3\n  HEAD 3 24 35\n  AT 3 20\n  BYTES F4F7F1F1\nat 55 record flags 0000 opcode 3\n  HEAD 3 20 33\n",
-        "FFFB18\nFFFA180049424D2D333137392D32FFF0\n001412A0000004000003031835110314F4F7F1F1FFEF\n000D12A0000004000003031433FFEF\n",
+        "at 2 telnet WILL 24
+at 18 telnet SB 24 0049424D2D333137392D32
+at 40 record flags 0000 opcode 3
+  HEAD 3 24 35
+  AT 3 20
+  BYTES F4F7F1F1
+at 55 record flags 0000 opcode 3
+  HEAD 3 20 33
+",
+        "FFFB18
+FFFA180049424D2D333137392D32FFF0
+001412A0000004000003031835110314F4F7F1F1FFEF
+000D12A0000004000003031433FFEF
+",
     ),
     (
-        "# two runs\r\nrecord opcode 3\r\n  HEAD 24 80 f1\r\n  BYTES c1\r\n  TEXT Bc\r\n\r\nscreen\r\nand more",
+        "# two runs\r
+record opcode 3\r
+  HEAD 24 80 f1\r
+  BYTES c1\r
+  TEXT Bc\r
+\r
+screen\r
+and more",
         "001012A00000040000031850F1C1C283FFEF\n",
     ),
     ("record flags 4000 opcode 0", "000A12A0000004400000FFEF\n"),

@@ -29,9 +29,25 @@ pub const PLAYED: [Row; 13] = [
     ),
     (
         "typed-while-arriving",
-        "settle\nsend 3 0440041100081106341D400020000A04520000\nsettle\ntype B\nsend 11\ndown 5\ntype O\ndown all\nkey Enter\nsettle\n",
+        "settle
+send 3 0440041100081106341D400020000A04520000
+settle
+type B
+send 11
+down 5
+type O
+down all
+key Enter
+settle
+",
         true,
-        "host ready IBM-3179-2\nanswer 6 55 F1\n  field 6 53 C2D6\nscreen\n 6                                                     BO\ncursor 6 55, locked, message on, blink off, fields 1\n",
+        "host ready IBM-3179-2
+answer 6 55 F1
+  field 6 53 C2D6
+screen
+ 6                                                     BO
+cursor 6 55, locked, message on, blink off, fields 1
+",
     ),
     (
         "typed-too-early",
@@ -41,7 +57,11 @@ pub const PLAYED: [Row; 13] = [
     ),
     (
         "descending-fields: a field without content",
-        "settle\nsend 3 041100081106341D4800200006C100C21103011D480020000404520000\nsettle\nkey Enter\nsettle",
+        "settle
+send 3 041100081106341D4800200006C100C21103011D480020000404520000
+settle
+key Enter
+settle",
         false,
         "host ready IBM-3179-2\nanswer 3 2 F1\n  field 3 2\n  field 6 53 C140C2\n",
     ),
@@ -55,25 +75,79 @@ pub const PLAYED: [Row; 13] = [
         "not-ready",
         "key Enter\nkey Tab\nsend 3 0440\ncancel\n",
         false,
-        "key refused NotReady\nkey refused Locked\nsend refused NotAllowed\nsend refused NotAllowed\n",
+        "key refused NotReady
+key refused Locked
+send refused NotAllowed
+send refused NotAllowed
+",
     ),
     (
         "key-refusals",
-        "settle\nkey Tab\nsend 3 0440041100081106341D400020000A04520000\nsettle\ntype \u{20ac}\nkey Dup\nkey Left\ntype A\nkey Right\ntype ABCDEFGHIJ\ninsert A\nkey Enter\nkey Enter\nsettle\n",
+        "settle
+key Tab
+send 3 0440041100081106341D400020000A04520000
+settle
+type \u{20ac}
+key Dup
+key Left
+type A
+key Right
+type ABCDEFGHIJ
+insert A
+key Enter
+key Enter
+settle
+",
         false,
-        "host ready IBM-3179-2\nkey refused Locked\nkey refused WrongCharacter\nkey refused DupNotAllowed\nkey refused Protected\nkey refused NoRoom\nkey refused Locked\nanswer 6 53 F1\n  field 6 53 C1C2C3C4C5C6C7C8C9D1\n",
+        "host ready IBM-3179-2
+key refused Locked
+key refused WrongCharacter
+key refused DupNotAllowed
+key refused Protected
+key refused NoRoom
+key refused Locked
+answer 6 53 F1
+  field 6 53 C1C2C3C4C5C6C7C8C9D1
+",
     ),
     (
         "key-refusals: no read, and a field that has to be entered",
-        "settle\nsend 3 0440041100081106341D400020000A\nsettle\nkey Enter\nsend 3 0440041100081106341D400820000A04520000\nsettle\nkey Enter\nkey Clear\nsettle\n",
+        "settle
+send 3 0440041100081106341D400020000A
+settle
+key Enter
+send 3 0440041100081106341D400820000A04520000
+settle
+key Enter
+key Clear
+settle
+",
         false,
-        "host ready IBM-3179-2\nkey refused NoReadPending\nkey refused MandatoryEnter\nanswer 6 53 BD\n",
+        "host ready IBM-3179-2
+key refused NoReadPending
+key refused MandatoryEnter
+answer 6 53 BD
+",
     ),
     (
         "host-refusals",
-        "settle\ncancel\nsend 3 04110000111850C1C2\nsend 3 0440041100081106341D400020000A04520000\nsend 2 0440\ncancel\ncancel\nsettle\n",
+        "settle
+cancel
+send 3 04110000111850C1C2
+send 3 0440041100081106341D400020000A04520000
+send 2 0440
+cancel
+cancel
+settle
+",
         false,
-        "host ready IBM-3179-2\nsend refused NoReadToCancel\nsend refused Screen 51\nsend refused ReadOutstanding\nsend refused NoReadToCancel\ncancelled\n",
+        "host ready IBM-3179-2
+send refused NoReadToCancel
+send refused Screen 51
+send refused ReadOutstanding
+send refused NoReadToCancel
+cancelled
+",
     ),
     (
         "three deliveries each way open the session",
@@ -187,8 +261,15 @@ fn refusals() -> [Event; 8] {
     ]
 }
 
-const REFUSED: &str =
-    "key refused Failed\nkey refused Locked\nsend refused Failed\nsend refused BadSequence\nsend refused TooBig\nsend refused Memory\nstation refused at 20: reason 51 PastEnd\nhost refused at 18446744073709551615: reason 62 UnaskedAnswer\n";
+const REFUSED: &str = "key refused Failed
+key refused Locked
+send refused Failed
+send refused BadSequence
+send refused TooBig
+send refused Memory
+station refused at 20: reason 51 PastEnd
+host refused at 18446744073709551615: reason 62 UnaskedAnswer
+";
 
 // A report of these events, of ends that are new.
 fn report_of(alloc: Global, events: Vec<Event>) -> Report {

@@ -9,19 +9,38 @@ const SHOWN: [Row; 9] = [
     (
         "show-hi",
         b"\x00\x15\x12\xa0\x00\x00\x04\x00\x00\x02\x04\x40\x04\x11\x00\x08\x11\x01\x02\xc8\xc9\xff\xef",
-        "at 22 record flags 0000 opcode 2\n  CLEAR-UNIT\n  WRITE 00 08\n  SBA 1 2\n  PUT C8C9\nscreen\n 1  HI\ncursor 1 1, unlocked, message off, blink off, fields 0\n",
+        "at 22 record flags 0000 opcode 2
+  CLEAR-UNIT
+  WRITE 00 08
+  SBA 1 2
+  PUT C8C9
+screen
+ 1  HI
+cursor 1 1, unlocked, message off, blink off, fields 0
+",
         true,
     ),
     (
         "show-soh-and-field",
         b"\x00\x18\x12\xa0\x00\x00\x04\x00\x00\x03\x04\x11\x00\x08\x01\x00\x1d\x48\x00\x80\x01\x20\x00\x0a\xff\xef",
-        "at 25 record flags 0000 opcode 3\n  WRITE 00 08\n  SOH\n  SF 4800 8001 20 10\nscreen\ncursor 1 2, unlocked, message off, blink off, fields 1\n",
+        "at 25 record flags 0000 opcode 3
+  WRITE 00 08
+  SOH
+  SF 4800 8001 20 10
+screen
+cursor 1 2, unlocked, message off, blink off, fields 1
+",
         true,
     ),
     (
         "show-past-end",
         b"\x00\x13\x12\xa0\x00\x00\x04\x00\x00\x03\x04\x11\x00\x00\x11\x18\x50\xc1\xc2\xff\xef",
-        "at 20 record flags 0000 opcode 3\n  WRITE 00 00\n  SBA 24 80\n  PUT C1C2\nrefused at 20: reason 51 PastEnd\n",
+        "at 20 record flags 0000 opcode 3
+  WRITE 00 00
+  SBA 24 80
+  PUT C1C2
+refused at 20: reason 51 PastEnd
+",
         false,
     ),
     (
@@ -39,25 +58,75 @@ const SHOWN: [Row; 9] = [
     (
         "each element",
         b"\x00\x3a\x12\xa0\x00\x00\x04\x00\x00\x02\x04\x50\x04\x11\x20\x1d\x01\x04\x00\x00\x00\x18\x1d\x22\x00\x03\x02\x01\x05\x5c\x03\x01\x07\x03\x00\xff\xff\x13\x0c\x02\x14\x0c\x03\x11\x0c\x01\xc1\x04\x42\x00\x00\x04\x52\x00\x00\x04\x82\x01\x80\xff\xef",
-        "at 60 record flags 0000 opcode 2\n  CLEAR-FORMAT\n  WRITE 20 1D\n  SOH 00000018\n  SF 22 3\n  RA 1 5 5C\n  EA 1 7 00FF\n  IC 12 2\n  MC 12 3\n  SBA 12 1\n  PUT C1\n  READ-INPUT 00 00\n  READ-MDT 00 00\n  READ-MDT-ALTERNATE 01 80\nscreen\n 1  ****\n12 A\ncursor 12 3, unlocked, message on, blink on, fields 0\n",
+        "at 60 record flags 0000 opcode 2
+  CLEAR-FORMAT
+  WRITE 20 1D
+  SOH 00000018
+  SF 22 3
+  RA 1 5 5C
+  EA 1 7 00FF
+  IC 12 2
+  MC 12 3
+  SBA 12 1
+  PUT C1
+  READ-INPUT 00 00
+  READ-MDT 00 00
+  READ-MDT-ALTERNATE 01 80
+screen
+ 1  ****
+12 A
+cursor 12 3, unlocked, message on, blink on, fields 0
+",
         true,
     ),
     (
         "each Telnet command",
         b"\xff\xf1\xff\xf2\xff\xf3\xff\xf4\xff\xf5\xff\xf6\xff\xf7\xff\xf8\xff\xf9\xff\xfb\x00\xff\xfc\x19\xff\xfd\x18\xff\xfe\xff\xff\xfa\x18\xff\xf0\xff\xfa\x18\x01\xff\xff\xff\xf0",
-        "at 1 telnet NOP\nat 3 telnet DM\nat 5 telnet BRK\nat 7 telnet IP\nat 9 telnet AO\nat 11 telnet AYT\nat 13 telnet EC\nat 15 telnet EL\nat 17 telnet GA\nat 20 telnet WILL 0\nat 23 telnet WONT 25\nat 26 telnet DO 24\nat 29 telnet DONT 255\nat 34 telnet SB 24\nat 42 telnet SB 24 01FF\nscreen\ncursor 1 1, locked, message off, blink off, fields 0\n",
+        "at 1 telnet NOP
+at 3 telnet DM
+at 5 telnet BRK
+at 7 telnet IP
+at 9 telnet AO
+at 11 telnet AYT
+at 13 telnet EC
+at 15 telnet EL
+at 17 telnet GA
+at 20 telnet WILL 0
+at 23 telnet WONT 25
+at 26 telnet DO 24
+at 29 telnet DONT 255
+at 34 telnet SB 24
+at 42 telnet SB 24 01FF
+screen
+cursor 1 1, locked, message off, blink off, fields 0
+",
         true,
     ),
     (
         "flags, two runs and the message light on",
         b"\x00\x14\x12\xa0\x00\x00\x04\x00\x00\x03\x04\x11\x00\x08\xc1\x11\x01\x02\xc2\xc3\xff\xef\x00\x0a\x12\xa0\x00\x00\x04\x40\x04\x0b\xff\xef",
-        "at 21 record flags 0000 opcode 3\n  WRITE 00 08\n  PUT C1\n  SBA 1 2\n  PUT C2C3\nat 33 record flags 4004 opcode 11\nscreen\n 1 ABC\ncursor 1 1, unlocked, message on, blink off, fields 0\n",
+        "at 21 record flags 0000 opcode 3
+  WRITE 00 08
+  PUT C1
+  SBA 1 2
+  PUT C2C3
+at 33 record flags 4004 opcode 11
+screen
+ 1 ABC
+cursor 1 1, unlocked, message on, blink off, fields 0
+",
         true,
     ),
     (
         "the message light off and an invite cancelled",
         b"\x00\x0e\x12\xa0\x00\x00\x04\x00\x00\x02\x04\x11\x00\x09\xff\xef\x00\x0a\x12\xa0\x00\x00\x04\x00\x00\x0c\xff\xef\x00\x0a\x12\xa0\x00\x00\x04\x00\x00\x0a\xff\xef",
-        "at 15 record flags 0000 opcode 2\n  WRITE 00 09\nat 27 record flags 0000 opcode 12\nat 39 record flags 0000 opcode 10\nscreen\ncursor 1 1, locked, message off, blink off, fields 0\n",
+        "at 15 record flags 0000 opcode 2
+  WRITE 00 09
+at 27 record flags 0000 opcode 12
+at 39 record flags 0000 opcode 10
+screen
+cursor 1 1, locked, message off, blink off, fields 0
+",
         true,
     ),
 ];

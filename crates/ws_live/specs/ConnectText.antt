@@ -158,6 +158,7 @@ module _ {S K : Type 0} (takes : MayTake K) (failures : K → ℕ) (gives : MayG
         ⊎ ((told : List Applied) × HasWaited Met' from told to × (length told ≡ most_reads)
         × (waited ≡ Failed fault.Read)))
 
+    -- what is awaited: one more record, or a screen by which it is met
     abbrev pub IsWaited : Awaited → Parts → Waited → Parts → Type 0
     IsWaited Record from waited to = HearsOne from waited to
     IsWaited awaited from waited to = WaitsFor (IsMet awaited) from waited to

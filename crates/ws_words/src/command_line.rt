@@ -1,6 +1,6 @@
-use crate::command_parts::{CommandParts, fault};
+use crate::command_parts::{CommandParts, fault, flag, place};
 use crate::live_command::{
-    Live, color_flag, connect_asked, connect_command, paint_asked, serve_asked, serve_command,
+    COLOR_HELP, Live, connect_asked, connect_command, paint_asked, serve_asked, serve_command,
 };
 use clap::error::ErrorKind;
 use clap::{Arg, ArgAction, ArgMatches, Command, value_parser};
@@ -132,6 +132,20 @@ Examples:
   t5250 make --answers answers.text
   t5250 show capture.hex | t5250 make";
 
+// What help says of the words of a command.
+const ANSWERS_HELP: &str = "Reads what a station sends, and not what a host sends";
+
+const HEX_HELP: &str = "A hex text; without it, standard input is read";
+
+const SCREEN_HELP: &str = "Prints the station's screen at the end";
+
+const TCP_HELP: &str =
+    "Carries the bytes over a TCP connection on 127.0.0.1; what is printed stays the same";
+
+const SCRIPT_HELP: &str = "A script; without it, standard input is read";
+
+const ITEMS_HELP: &str = "Items as text; without it, standard input is read";
+
 // The commands that the program knows.
 fn program<'a>(alloc: Global) -> Result<Command<'a>, AllocError> {
     CommandParts::of(bare_program(alloc))
@@ -159,9 +173,9 @@ fn check_command<'a>(alloc: Global) -> CommandParts<'a> {
         "Tells whether a stream is accepted, refused or truncated",
         CHECK_EXAMPLES,
     )
-    .word(answers_flag(alloc))
+    .word(flag(alloc, "answers", ANSWERS_HELP))
     .word(cut(alloc))
-    .word(hex_file(alloc))
+    .word(place(alloc, "FILE", HEX_HELP, false))
 }
 
 fn show_command<'a>(alloc: Global) -> CommandParts<'a> {
@@ -171,9 +185,9 @@ fn show_command<'a>(alloc: Global) -> CommandParts<'a> {
         "Prints a stream's records and Telnet commands, and the screen that they make",
         SHOW_EXAMPLES,
     )
-    .word(answers_flag(alloc))
-    .word(color_flag(alloc))
-    .word(hex_file(alloc))
+    .word(flag(alloc, "answers", ANSWERS_HELP))
+    .word(flag(alloc, "color", COLOR_HELP))
+    .word(place(alloc, "FILE", HEX_HELP, false))
 }
 
 fn play_command<'a>(alloc: Global) -> CommandParts<'a> {
@@ -183,10 +197,10 @@ fn play_command<'a>(alloc: Global) -> CommandParts<'a> {
         "Plays a script of sends, keys and deliveries with both ends",
         PLAY_EXAMPLES,
     )
-    .word(screen_flag(alloc))
-    .word(color_flag(alloc))
-    .word(tcp_flag(alloc))
-    .word(script_file(alloc))
+    .word(flag(alloc, "screen", SCREEN_HELP))
+    .word(flag(alloc, "color", COLOR_HELP))
+    .word(flag(alloc, "tcp", TCP_HELP))
+    .word(place(alloc, "SCRIPT", SCRIPT_HELP, false))
 }
 
 fn make_command<'a>(alloc: Global) -> CommandParts<'a> {
@@ -196,8 +210,8 @@ fn make_command<'a>(alloc: Global) -> CommandParts<'a> {
         "Prints a stream as hex text, from the lines that show prints",
         MAKE_EXAMPLES,
     )
-    .word(answers_flag(alloc))
-    .word(items_file(alloc))
+    .word(flag(alloc, "answers", ANSWERS_HELP))
+    .word(place(alloc, "FILE", ITEMS_HELP, false))
 }
 
 fn cut<'a>(alloc: Global) -> Arg<'a> {
@@ -206,48 +220,6 @@ fn cut<'a>(alloc: Global) -> Arg<'a> {
         .value_name("N")
         .help("Reads the bytes in pieces of N, from 1 to 65535; the line stays the same")
         .value_parser(value_parser!(u16).range(1..=65535))
-        .action(ArgAction::Set)
-}
-
-fn screen_flag<'a>(alloc: Global) -> Arg<'a> {
-    Arg::new(alloc, "screen")
-        .long("screen")
-        .help("Prints the station's screen at the end")
-        .action(ArgAction::SetTrue)
-}
-
-fn tcp_flag<'a>(alloc: Global) -> Arg<'a> {
-    Arg::new(alloc, "tcp")
-        .long("tcp")
-        .help(
-            "Carries the bytes over a TCP connection on 127.0.0.1; what is printed stays the same",
-        )
-        .action(ArgAction::SetTrue)
-}
-
-fn script_file<'a>(alloc: Global) -> Arg<'a> {
-    Arg::new(alloc, "SCRIPT")
-        .help("A script; without it, standard input is read")
-        .action(ArgAction::Set)
-}
-
-fn items_file<'a>(alloc: Global) -> Arg<'a> {
-    Arg::new(alloc, "FILE")
-        .help("Items as text; without it, standard input is read")
-        .action(ArgAction::Set)
-}
-
-fn answers_flag<'a>(alloc: Global) -> Arg<'a> {
-    Arg::new(alloc, "answers")
-        .long("answers")
-        .help("Reads what a station sends, and not what a host sends")
-        .action(ArgAction::SetTrue)
-}
-
-// A hex text; without it, standard input is read.
-fn hex_file<'a>(alloc: Global) -> Arg<'a> {
-    Arg::new(alloc, "FILE")
-        .help("A hex text; without it, standard input is read")
         .action(ArgAction::Set)
 }
 

@@ -1,5 +1,5 @@
 use clap::error::ErrorKind;
-use clap::{Arg, Command};
+use clap::{Arg, ArgAction, Command};
 use std::alloc::{AllocError, Global};
 
 /// A command to which parts are added one by one. Where memory was wanting for one, it takes no more.
@@ -43,6 +43,22 @@ impl<'a> CommandParts<'a> {
     pub fn finish(self) -> Result<Command<'a>, AllocError> {
         self.0
     }
+}
+
+/// A flag, which is given or not.
+pub fn flag<'a>(alloc: Global, name: &'a str, help: &'a str) -> Arg<'a> {
+    Arg::new(alloc, name)
+        .long(name)
+        .help(help)
+        .action(ArgAction::SetTrue)
+}
+
+/// A place for a word, which may be left out unless it is required.
+pub fn place<'a>(alloc: Global, name: &'a str, help: &'a str, is_required: bool) -> Arg<'a> {
+    Arg::new(alloc, name)
+        .help(help)
+        .required(is_required)
+        .action(ArgAction::Set)
 }
 
 /// The fault of words that the program can't take.

@@ -1,4 +1,4 @@
-use crate::command_parts::{CommandParts, fault};
+use crate::command_parts::{CommandParts, fault, flag, place};
 use crate::live_address::{HostPort, host_and_port, listening_address};
 use clap::error::ErrorKind;
 use clap::{Arg, ArgAction, ArgMatches, Command, value_parser};
@@ -90,6 +90,21 @@ Examples:
   t5250 serve 127.0.0.1:5250 sign-on.serve
   t5250 serve --ready --wait 5 '[::1]:0'";
 
+// What help says of the words of a command.
+/// Of the flag for screens in colour.
+pub const COLOR_HELP: &str = "Prints the rows of a screen in colour, by sequences of ECMA-48";
+
+const HOST_HELP: &str =
+    "A name or an address, one of IPv6 in brackets before a port; port 23 where none is named";
+
+const ADDRESS_HELP: &str =
+    "Where it listens: HOST:PORT, with an address of IPv6 in brackets; port 0 takes a free one";
+
+const READY_HELP: &str =
+    "Prints `ok` behind each line's output, for a program that drives the session";
+
+const SCRIPT_HELP: &str = "A script; without it, standard input is read a line at a time";
+
 /// The commands of live sessions.
 pub fn connect_command<'a>(alloc: Global) -> CommandParts<'a> {
     let connect = CommandParts::new(
@@ -98,9 +113,9 @@ pub fn connect_command<'a>(alloc: Global) -> CommandParts<'a> {
         "Is a station at a host, by a script or line by line",
         CONNECT_EXAMPLES,
     )
-    .word(color_flag(alloc))
+    .word(flag(alloc, "color", COLOR_HELP))
     .word(terminal(alloc))
-    .word(host(alloc));
+    .word(place(alloc, "HOST[:PORT]", HOST_HELP, true));
     with_script(alloc, connect)
 }
 
@@ -111,7 +126,10 @@ pub fn serve_command<'a>(alloc: Global) -> CommandParts<'a> {
         "Is a host for one station, by a script or line by line",
         SERVE_EXAMPLES,
     );
-    with_script(alloc, serve.word(address(alloc)))
+    with_script(
+        alloc,
+        serve.word(place(alloc, "ADDRESS", ADDRESS_HELP, true)),
+    )
 }
 
 fn terminal<'a>(alloc: Global) -> Arg<'a> {
@@ -122,32 +140,6 @@ fn terminal<'a>(alloc: Global) -> Arg<'a> {
             "The terminal's type: IBM-3179-2 without it, IBM-5251-11, IBM-5291-1, IBM-5292-2 or IBM-3196-A1",
         )
         .action(ArgAction::Set)
-}
-
-fn host<'a>(alloc: Global) -> Arg<'a> {
-    Arg::new(alloc, "HOST[:PORT]")
-        .help(
-            "A name or an address, one of IPv6 in brackets before a port; port 23 where none is named",
-        )
-        .required(true)
-        .action(ArgAction::Set)
-}
-
-fn address<'a>(alloc: Global) -> Arg<'a> {
-    Arg::new(alloc, "ADDRESS")
-        .help(
-            "Where it listens: HOST:PORT, with an address of IPv6 in brackets; port 0 takes a free one",
-        )
-        .required(true)
-        .action(ArgAction::Set)
-}
-
-/// The flag for screens in colour.
-pub fn color_flag<'a>(alloc: Global) -> Arg<'a> {
-    Arg::new(alloc, "color")
-        .long("color")
-        .help("Prints the rows of a screen in colour, by sequences of ECMA-48")
-        .action(ArgAction::SetTrue)
 }
 
 /// The paint of screens that these words ask for.
@@ -163,8 +155,8 @@ pub fn paint_asked(words: &ArgMatches<'_>) -> Paint {
 fn with_script<'a>(alloc: Global, command: CommandParts<'a>) -> CommandParts<'a> {
     command
         .word(wait(alloc))
-        .word(ready(alloc))
-        .word(script(alloc))
+        .word(flag(alloc, "ready", READY_HELP))
+        .word(place(alloc, "SCRIPT", SCRIPT_HELP, false))
 }
 
 fn wait<'a>(alloc: Global) -> Arg<'a> {
@@ -175,19 +167,6 @@ fn wait<'a>(alloc: Global) -> Arg<'a> {
             "The time of a whole await, of connecting and of a write, from 1 to 86400; 30 without it",
         )
         .value_parser(value_parser!(u32).range(1..=86400))
-        .action(ArgAction::Set)
-}
-
-fn ready<'a>(alloc: Global) -> Arg<'a> {
-    Arg::new(alloc, "ready")
-        .long("ready")
-        .help("Prints `ok` behind each line's output, for a program that drives the session")
-        .action(ArgAction::SetTrue)
-}
-
-fn script<'a>(alloc: Global) -> Arg<'a> {
-    Arg::new(alloc, "SCRIPT")
-        .help("A script; without it, standard input is read a line at a time")
         .action(ArgAction::Set)
 }
 
