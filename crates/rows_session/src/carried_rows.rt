@@ -1,5 +1,5 @@
 // Sessions over lines that fail, or bring something else than what was written.
-use crate::{holds, same};
+use crate::same;
 use std::alloc::Global;
 use std::process::Abort;
 use ws_code::{
@@ -30,20 +30,9 @@ fn opening_report<S: Sink, R: Source>(
     World::run_carried(alloc, TerminalType::Ibm3179Model2, &OPENING, down, &mut up)
 }
 
-// The same where the line down writes into a vector and brings these bytes.
-fn opened_by(rt: &impl Abort, alloc: Global, brought: &[u8], read: &[u8]) -> Report {
-    let mut down = Line {
-        sink: VecSink::new(alloc),
-        source: SliceSource::new(brought),
-    };
-    let report = opening_report(alloc, &mut down, read).expect(rt, "an opening");
-    same(rt, down.sink.as_slice(), DO_TERMINAL);
-    report
-}
-
 fn is_in_flight(rt: &impl Abort, report: &Report, to_station: &[u8]) {
-    same(rt, report.to_station.as_slice(), to_station);
-    holds(rt, report.to_host.as_slice().is_empty());
+    let in_flight = (report.to_station.as_slice(), report.to_host.as_slice());
+    same(rt, in_flight, (to_station, b"".as_slice()));
 }
 
 // Who refused a byte in a session that tells nothing else, which byte, and why.
@@ -65,16 +54,51 @@ fn lines_that_bring_what_was_written(rt: HostRuntime) {
     let report = opening_report(alloc, &mut down, WILL_TERMINAL).expect(&rt, "an opening");
     same(&rt, down.sink.as_slice(), DO_TERMINAL);
     is_in_flight(&rt, &report, SEND_TERMINAL);
-    holds(&rt, report.events.as_slice().is_empty());
+    same(&rt, report.events.as_slice().len(), 0);
 }
 
-// What was read arrives, whatever was written: the station refuses FF 00, and takes nothing behind it.
+// What the lines bring in place of what was written, who refuses it, and what the host end has refused then.
+struct Brought {
+    to_station: &'static [u8],
+    to_host: &'static [u8],
+    by: &'static str,
+    host: Option<(u64, Reason)>,
+}
+
+const OTHER_BYTES: [Brought; 2] = [
+    Brought {
+        to_station: b"\xff\x00\xff",
+        to_host: b"",
+        by: "station",
+        host: None,
+    },
+    Brought {
+        to_station: DO_TERMINAL,
+        to_host: b"\xff\x00\xff",
+        by: "host",
+        host: Some((1, Reason::BadCommand)),
+    },
+];
+
+// What was read arrives, whatever was written: an end refuses FF 00, and takes nothing behind it.
 #[test]
-fn a_line_that_brings_other_bytes(rt: HostRuntime) {
-    let report = opened_by(&rt, rt.alloc(), b"\xff\x00\xff", b"");
-    is_in_flight(&rt, &report, b"");
-    let refused = refusal_of(&rt, &report);
-    same(&rt, refused, ("station", 1, Reason::BadCommand));
+fn lines_that_bring_other_bytes(rt: HostRuntime) {
+    for brought in &OTHER_BYTES {
+        let mut down = Line {
+            sink: VecSink::new(rt.alloc()),
+            source: SliceSource::new(brought.to_station),
+        };
+        let report = opening_report(rt.alloc(), &mut down, brought.to_host);
+        let report = report.expect(&rt, "an opening");
+        same(&rt, down.sink.as_slice(), DO_TERMINAL);
+        is_in_flight(&rt, &report, b"");
+        same(
+            &rt,
+            refusal_of(&rt, &report),
+            (brought.by, 1, Reason::BadCommand),
+        );
+        same(&rt, report.host.refused(), brought.host);
+    }
 }
 
 // The opening ends with this fault.
@@ -88,55 +112,36 @@ fn fails<S: Sink, R: Source>(
     same(rt, opening_report(alloc, down, read).err(), Some(fault));
 }
 
-fn write_fails(rt: &impl Abort, alloc: Global, calls: usize) {
+// The line down takes so many bytes before a write fails, and gives so many before a read fails.
+fn stops_behind(
+    rt: &impl Abort,
+    alloc: Global,
+    (taken, given): (usize, usize),
+    read: &[u8],
+    fault: Fault,
+) {
     let mut down = Line {
-        sink: FailingSink::new(alloc, calls as u64),
-        source: SliceSource::new(DO_TERMINAL),
+        sink: FailingSink::new(alloc, taken as u64),
+        source: FailingSource::new(DO_TERMINAL, given as u64),
     };
-    fails(rt, alloc, &mut down, WILL_TERMINAL, Fault::Write);
-    same(rt, Some(down.sink.as_slice()), DO_TERMINAL.get(..calls));
-}
-
-fn read_fails(rt: &impl Abort, alloc: Global, calls: u64) {
-    let mut down = Line {
-        sink: VecSink::new(alloc),
-        source: FailingSource::new(DO_TERMINAL, calls),
-    };
-    fails(rt, alloc, &mut down, WILL_TERMINAL, Fault::Read);
-}
-
-// The station's bytes end behind so many.
-fn ends_early(rt: &impl Abort, alloc: Global, at: usize) {
-    let mut down = Line {
-        sink: VecSink::new(alloc),
-        source: SliceSource::new(DO_TERMINAL),
-    };
-    let read = WILL_TERMINAL.get(..at).expect(rt, "a front");
-    let fault = Fault::Truncated { at: at as u64 };
     fails(rt, alloc, &mut down, read, fault);
+    same(rt, Some(down.sink.as_slice()), DO_TERMINAL.get(..taken));
 }
 
+// A write fails, a read fails, or the station's bytes end early.
 #[test]
 fn lines_that_fail(rt: HostRuntime) {
     let alloc = rt.alloc();
-    for calls in 0..3u8 {
-        write_fails(&rt, alloc, usize::from(calls));
-        read_fails(&rt, alloc, u64::from(calls));
-        ends_early(&rt, alloc, usize::from(calls));
+    for at in 0..3usize {
+        stops_behind(&rt, alloc, (at, 3), WILL_TERMINAL, Fault::Write);
+        stops_behind(&rt, alloc, (3, at), WILL_TERMINAL, Fault::Read);
+        let front = WILL_TERMINAL.get(..at).expect(&rt, "a front");
+        let ends = Fault::Truncated { at: at as u64 };
+        stops_behind(&rt, alloc, (3, 3), front, ends);
     }
     let mut down = Line {
         sink: StuckSink,
         source: SliceSource::new(DO_TERMINAL),
     };
     fails(&rt, alloc, &mut down, WILL_TERMINAL, Fault::Write);
-}
-
-// The same of the line up: the host end refuses FF 00, and takes nothing behind it.
-#[test]
-fn a_line_up_that_brings_other_bytes(rt: HostRuntime) {
-    let report = opened_by(&rt, rt.alloc(), DO_TERMINAL, b"\xff\x00\xff");
-    is_in_flight(&rt, &report, b"");
-    let reason = Reason::BadCommand;
-    same(&rt, report.host.refused(), Some((1, reason)));
-    same(&rt, refusal_of(&rt, &report), ("host", 1, reason));
 }

@@ -3,11 +3,12 @@ use crate::{holds, same};
 use std::alloc::Global;
 use std::process::Abort;
 use ws_code::{Aid, VecSink};
-use ws_keys::Key;
+use ws_keys::{HostAnswer, Key};
+use ws_live::read_script;
 use ws_nego::TerminalType;
-use ws_record::{Item, Opcode, decode_all, write_record};
-use ws_session::{HostEnd, HostEvent, Station};
-use ws_stream::{Commands, Element};
+use ws_record::{Opcode, read_body, write_record};
+use ws_session::{HostEnd, HostEvent, Move, Refusal, Station};
+use ws_stream::Commands;
 
 // A host end's opening: DO 18, SEND, and the four requests. What a station answers.
 pub(crate) const OPENING: &[u8] =
@@ -16,41 +17,35 @@ pub(crate) const OPENING: &[u8] =
 pub(crate) const OPENED: &[u8] =
     b"\xff\xfb\x18\xff\xfa\x18\x00IBM-3179-2\xff\xf0\xff\xfb\x19\xff\xfd\x19\xff\xfb\x00\xff\xfd\x00";
 
-// Clear Unit, Write to Display, a field of ten cells at 6, 53, Read MDT Fields; and B, O, B, Enter.
+// Clear Unit, Write to Display, a field of ten cells at 6, 53, Read MDT Fields; the record of it, and that behind the
+// opening.
 pub(crate) const BOB: &[u8] =
     b"\x04\x40\x04\x11\x00\x08\x11\x06\x34\x1d\x40\x00\x20\x00\x0a\x04\x52\x00\x00";
 
+pub(crate) const BOB_RECORD: &[u8] = b"\x00\x1d\x12\xa0\x00\x00\x04\x00\x00\x03\
+\x04\x40\x04\x11\x00\x08\x11\x06\x34\x1d\x40\x00\x20\x00\x0a\x04\x52\x00\x00\xff\xef";
+
+pub(crate) const OPENING_AND_BOB: &[u8; 52] =
+    b"\xff\xfd\x18\xff\xfa\x18\x01\xff\xf0\xff\xfd\x19\xff\xfb\x19\xff\xfd\x00\xff\xfb\x00\
+\x00\x1d\x12\xa0\x00\x00\x04\x00\x00\x03\
+\x04\x40\x04\x11\x00\x08\x11\x06\x34\x1d\x40\x00\x20\x00\x0a\x04\x52\x00\x00\xff\xef";
+
+// The answer of B, O, B, Enter, and what it says, as `is_told` has it.
 pub(crate) const BOB_ANSWER: &[u8] =
     b"\x00\x13\x12\xa0\x00\x00\x04\x00\x00\x03\x06\x38\xf1\x11\x06\x35\xc2\xd6\xc2\xff\xef";
 
+pub(crate) const BOB_TOLD: &[u8] = b"\x06\x38\xf1\x06\x35\xc2\xd6\xc2";
+
 pub(crate) const CANCEL: &[u8] = b"\x00\x0a\x12\xa0\x00\x00\x04\x00\x00\x0a\xff\xef";
 
-// The body of a record that a screen refuses at its end.
-pub(crate) const PAST_END: &[u8] = b"\x04\x11\x00\x00\x11\x18\x50\xc1\xc2";
+// A record that a screen refuses at its end.
+pub(crate) const PAST_END: &[u8] =
+    b"\x00\x13\x12\xa0\x00\x00\x04\x00\x00\x03\x04\x11\x00\x00\x11\x18\x50\xc1\xc2\xff\xef";
 
-// The key of this name; Insert inserts an A.
-pub(crate) fn key_named(name: &str) -> Option<Key> {
-    let aid = match name {
-        "Enter" => 0xf1,
-        "F2" => 0x32,
-        "F3" => 0x33,
-        "Help" => 0xf3,
-        "Clear" => 0xbd,
-        "FieldExit" => return Some(Key::FieldExit),
-        "FieldMinus" => return Some(Key::FieldMinus),
-        "Tab" => return Some(Key::Tab),
-        "Left" => return Some(Key::Left),
-        "Right" => return Some(Key::Right),
-        "Dup" => return Some(Key::Dup),
-        "Insert" => return Some(Key::Insert('A')),
-        "Attention" => return Some(Key::Attention),
-        "SystemRequest" => return Some(Key::SystemRequest),
-        _ => return None,
-    };
-    match Aid::from_byte(aid) {
-        Some(aid) => Some(Key::Aid(aid)),
-        None => None,
-    }
+pub(crate) const ATTENTION: &[u8] = b"\x00\x0a\x12\xa0\x00\x00\x04\x40\x00\x00\xff\xef";
+
+pub(crate) fn enter(rt: &impl Abort) -> Key {
+    Key::Aid(Aid::from_byte(0xf1).expect(rt, "a key"))
 }
 
 // Pieces, one behind another. A test ends where memory is wanting, here and below, so that its callers have no error to
@@ -63,20 +58,14 @@ pub(crate) fn joined(rt: &impl Abort, alloc: Global, pieces: &[&[u8]]) -> Vec<u8
     bytes
 }
 
-// Adds the keys of characters.
-fn type_to(rt: &impl Abort, keys: &mut Vec<Key>, text: &str) {
-    for character in text.chars() {
-        keys.push(Key::Char(character)).expect(rt, "memory");
-    }
-}
-
-// The keys of words: each is a key's name, or else is typed.
-pub(crate) fn keys_of(rt: &impl Abort, alloc: Global, words: &str) -> Vec<Key> {
+// The keys of a script, each of which is due behind one record.
+pub(crate) fn keys_of(rt: &impl Abort, alloc: Global, script: &str) -> Vec<(u32, Key)> {
+    let moves = read_script(alloc, script.as_bytes()).expect(rt, "a script");
     let mut keys = Vec::new(alloc);
-    for word in words.split(' ') {
-        match key_named(word) {
-            Some(key) => keys.push(key).expect(rt, "memory"),
-            None => type_to(rt, &mut keys, word),
+    for step in moves.as_slice() {
+        match step {
+            Move::Key(key) => keys.push((1, *key)).expect(rt, "memory"),
+            _ => panic!(rt; "a key"),
         }
     }
     keys
@@ -154,29 +143,40 @@ pub(crate) fn last_event(rt: &impl Abort, host: &mut HostEnd, bytes: &[u8]) -> O
     told
 }
 
-// The host end sends a record of these elements, which is these bytes.
-fn send_elements(rt: &impl Abort, host: &mut HostEnd, body: &[Element], bytes: &[u8]) {
-    let sent = host.send(Opcode::PutGet, body).expect(rt, "sent");
-    same(rt, sent.as_slice(), bytes);
-}
-
-// The host end sends this record.
-pub(crate) fn send(rt: &impl Abort, alloc: Global, host: &mut HostEnd, bytes: &[u8]) {
-    let items = decode_all::<Commands>(alloc, bytes).expect(rt, "a stream");
-    match items.as_slice() {
-        [Item::Record(whole)] => send_elements(rt, host, whole.body.as_slice(), bytes),
-        _ => panic!(rt; "a record"),
-    }
-}
-
 // The host end sends a record of this body.
-pub(crate) fn send_body(rt: &impl Abort, alloc: Global, host: &mut HostEnd, body: &[u8]) {
-    send(rt, alloc, host, record(rt, alloc, body).as_slice());
+pub(crate) fn send(rt: &impl Abort, alloc: Global, host: &mut HostEnd, body: &[u8]) {
+    let elements = read_body::<Commands>(alloc, body).expect(rt, "a body");
+    let sent = host.send(Opcode::PutGet, elements.as_slice());
+    let sent = sent.expect(rt, "sent");
+    same(rt, sent.as_slice(), record(rt, alloc, body).as_slice());
 }
 
 // A host end that has sent a form and waits for its answer.
 pub(crate) fn waiting_host(rt: &impl Abort, alloc: Global) -> HostEnd {
     let mut host = ready_host(rt, alloc);
-    send_body(rt, alloc, &mut host, BOB);
+    send(rt, alloc, &mut host, BOB);
     host
+}
+
+// Why a host end refuses the first of these bytes that it doesn't take.
+pub(crate) fn refusal_of(host: &mut HostEnd, bytes: &[u8]) -> Option<Refusal> {
+    for byte in bytes {
+        if let Err(refusal) = host.push(*byte) {
+            return Some(refusal);
+        }
+    }
+    None
+}
+
+// An answer says this: the cursor and the AID, and of each field the address and the content.
+pub(crate) fn is_told(rt: &impl Abort, alloc: Global, answer: &HostAnswer, wanted: &[u8]) {
+    let head = [answer.cursor.row(), answer.cursor.col(), answer.aid.byte()];
+    let mut bytes = joined(rt, alloc, &[&head]);
+    for field in answer.fields.as_slice() {
+        let place = [field.address.row(), field.address.col()];
+        for part in [place.as_slice(), field.content.as_slice()] {
+            bytes.extend_from_slice(part).expect(rt, "memory");
+        }
+    }
+    same(rt, bytes.as_slice(), wanted);
 }

@@ -1,103 +1,73 @@
 // A station that is fed pieces, beside one that is pushed each byte.
-use crate::end_rows::{BOB, CANCEL, OPENING, PAST_END, joined, new_station, record};
+use crate::end_rows::{BOB_RECORD, CANCEL, OPENING, PAST_END, joined, new_station};
 use crate::same_at;
 use std::alloc::Global;
 use std::process::Abort;
+use ws_nego::Reply;
 use ws_session::Station;
 
-// A station, how many bytes it has taken, all that it wrote, and behind how many bytes it wrote or a record ended.
-#[derive(Drop)]
-struct Heard {
-    station: Station,
-    taken: usize,
-    written: Vec<u8>,
-    places: Vec<usize>,
-}
+// What a station wrote, behind how many bytes it did or a record ended, and whether one did.
+type Heard = Vec<(usize, Reply, bool)>;
 
-impl Heard {
-    fn new(alloc: Global) -> Self {
-        Heard {
-            station: new_station(),
-            taken: 0,
-            written: Vec::new(alloc),
-            places: Vec::new(alloc),
-        }
-    }
-
-    // What came with the last byte taken.
-    fn note(&mut self, rt: &impl Abort, reply: &[u8], ends_record: bool) {
-        if ends_record || !reply.is_empty() {
-            self.written.extend_from_slice(reply).expect(rt, "memory");
-            self.places.push(self.taken).expect(rt, "memory");
-        }
-    }
-
-    // Takes the bytes one after another, up to the first that is refused.
-    fn push(&mut self, rt: &impl Abort, bytes: &[u8]) {
-        for byte in bytes {
-            let before = self.station.records();
-            match self.station.push(*byte) {
-                Ok(reply) => {
-                    self.taken = self.taken.saturating_add(1);
-                    let ends_record = self.station.records() != before;
-                    self.note(rt, reply.as_slice(), ends_record);
-                }
-                Err(_) => return,
-            }
-        }
-    }
-
-    // Takes a piece whole, unless a byte of it is refused.
-    fn feed(&mut self, rt: &impl Abort, piece: &[u8]) {
-        let mut rest = piece;
-        for _ in 0..20u8 {
-            match self.station.feed(rest) {
-                Ok(fed) => {
-                    rest = &rest[fed.used..];
-                    self.taken = self.taken.saturating_add(fed.used);
-                    self.note(rt, fed.reply.as_slice(), fed.ends_record);
-                }
-                Err(_) => return,
-            }
+// Takes the bytes one after another, up to the first that is refused.
+fn push(rt: &impl Abort, station: &mut Station, bytes: &[u8], heard: &mut Heard) {
+    for (at, byte) in bytes.iter().enumerate() {
+        let before = station.records();
+        let Ok(reply) = station.push(*byte) else {
+            return;
+        };
+        let ends_record = station.records() != before;
+        if ends_record || !reply.as_slice().is_empty() {
+            heard
+                .push((at.saturating_add(1), reply, ends_record))
+                .expect(rt, "memory");
         }
     }
 }
 
-fn feed_all(rt: &impl Abort, fed: &mut Heard, bytes: &[u8], size: usize) {
+// Takes the pieces of this size, each whole unless a byte of it is refused.
+fn feed(rt: &impl Abort, station: &mut Station, bytes: &[u8], size: usize, heard: &mut Heard) {
+    let mut taken = 0usize;
     assert!(rt; size > 0);
     for piece in bytes.chunks(size) {
-        fed.feed(rt, piece);
+        let mut rest = piece;
+        for _ in 0..20u8 {
+            if let Ok(fed) = station.feed(rest) {
+                rest = &rest[fed.used..];
+                taken = taken.saturating_add(fed.used);
+                if fed.ends_record || !fed.reply.as_slice().is_empty() {
+                    heard
+                        .push((taken, fed.reply, fed.ends_record))
+                        .expect(rt, "memory");
+                }
+            }
+        }
     }
-}
-
-fn same_heard(rt: &impl Abort, size: usize, fed: &Heard, pushed: &Heard) {
-    same_at(rt, size, fed.written.as_slice(), pushed.written.as_slice());
-    same_at(rt, size, fed.places.as_slice(), pushed.places.as_slice());
-    same_at(rt, size, fed.station.refused(), pushed.station.refused());
-    same_at(rt, size, fed.station.records(), pushed.station.records());
 }
 
 // The same is written and ends behind the same bytes, whatever pieces come, and the same byte is refused.
 fn feeds_as_pushed(rt: &impl Abort, alloc: Global, bytes: &[u8]) {
-    let mut pushed = Heard::new(alloc);
-    pushed.push(rt, bytes);
+    let mut pushed = new_station();
+    let mut wanted = Vec::new(alloc);
+    push(rt, &mut pushed, bytes, &mut wanted);
     for size in [1usize, 2, 3, 5, 8, 13, 64, 4096] {
-        let mut fed = Heard::new(alloc);
-        feed_all(rt, &mut fed, bytes, size);
-        same_heard(rt, size, &fed, &pushed);
+        let mut fed = new_station();
+        let mut heard = Vec::new(alloc);
+        feed(rt, &mut fed, bytes, size, &mut heard);
+        same_at(rt, size, heard.as_slice(), wanted.as_slice());
+        let ended = (fed.refused(), fed.records());
+        same_at(rt, size, ended, (pushed.refused(), pushed.records()));
     }
 }
 
 #[test]
 fn pieces_are_fed_as_bytes_are_pushed(rt: HostRuntime) {
     let alloc = rt.alloc();
-    let bob = record(&rt, alloc, BOB);
-    let refused = record(&rt, alloc, PAST_END);
     let silent = b"\xff\xf1\xff\xfd\x18".as_slice();
     for rows in [
         [OPENING, silent, b"", b""],
-        [OPENING, bob.as_slice(), CANCEL, silent],
-        [OPENING, bob.as_slice(), refused.as_slice(), CANCEL],
+        [OPENING, BOB_RECORD, CANCEL, silent],
+        [OPENING, BOB_RECORD, PAST_END, CANCEL],
         [CANCEL, OPENING, b"", b""],
         [OPENING, b"\xff\x02", CANCEL, b""],
     ] {

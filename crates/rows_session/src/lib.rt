@@ -12,7 +12,7 @@ mod end_rows;
 #[cfg(test)]
 mod attached_rows;
 #[cfg(test)]
-mod calling_tests;
+mod calling_rows;
 #[cfg(test)]
 mod carried_rows;
 #[cfg(test)]

@@ -1,10 +1,7 @@
 // Runs of a station over devices.
-use crate::end_rows::{
-    BOB, BOB_ANSWER, OPENED, OPENING, joined, key_named, keys_of, new_station, record,
-};
+use crate::end_rows::{BOB_ANSWER, OPENED, OPENING_AND_BOB, enter, new_station};
 use crate::{holds, same};
 use arrayvec::ArrayVec;
-use std::alloc::Global;
 use std::process::Abort;
 use ws_code::{
     FailingSink, FailingSource, Fault, Reason, Sink, SliceSource, Source, StuckSink, VecSink,
@@ -14,29 +11,20 @@ use ws_keys::{Answer, Key};
 use ws_nego::TerminalType;
 use ws_session::{Station, run_station};
 
-// The opening and a record.
-fn opening_and_form(rt: &impl Abort, alloc: Global) -> Vec<u8> {
-    let form = record(rt, alloc, BOB);
-    let stream = joined(rt, alloc, &[OPENING, form.as_slice()]);
-    same(rt, stream.len(), 52);
-    stream
-}
-
-// What a station writes at them and at the keys.
-fn opened_and_answered(rt: &impl Abort, alloc: Global) -> Vec<u8> {
-    let text = joined(rt, alloc, &[OPENED, BOB_ANSWER]);
-    same(rt, text.len(), 52);
-    text
-}
+// What a station writes at the opening, the form and its keys: `OPENED` and `BOB_ANSWER`.
+const TEXT: &[u8; 52] =
+    b"\xff\xfb\x18\xff\xfa\x18\x00IBM-3179-2\xff\xf0\xff\xfb\x19\xff\xfd\x19\xff\xfb\x00\xff\xfd\x00\
+\x00\x13\x12\xa0\x00\x00\x04\x00\x00\x03\x06\x38\xf1\x11\x06\x35\xc2\xd6\xc2\xff\xef";
 
 // Tab before the first record, and B, O, B, Enter behind it.
-fn keys_due(rt: &impl Abort, alloc: Global) -> Vec<(u32, Key)> {
-    let mut keys: Vec<(u32, Key)> = Vec::new(alloc);
-    keys.push((0, Key::Tab)).expect(rt, "memory");
-    for key in keys_of(rt, alloc, "BOB Enter") {
-        keys.push((1, key)).expect(rt, "memory");
-    }
-    keys
+fn keys_due(rt: &impl Abort) -> [(u32, Key); 5] {
+    [
+        (0, Key::Tab),
+        (1, Key::Char('B')),
+        (1, Key::Char('O')),
+        (1, Key::Char('B')),
+        (1, enter(rt)),
+    ]
 }
 
 // How many keys a run of a station refuses, or why it stops.
@@ -56,16 +44,14 @@ fn run<S: Source, K: Sink>(
 #[test]
 fn a_run_stops_where_a_write_fails(rt: HostRuntime) {
     let alloc = rt.alloc();
-    let stream = opening_and_form(&rt, alloc);
-    let text = opened_and_answered(&rt, alloc);
-    let keys = keys_due(&rt, alloc);
+    let keys = keys_due(&rt);
     for calls in 0..=52usize {
-        let mut source = SliceSource::new(stream.as_slice());
+        let mut source = SliceSource::new(OPENING_AND_BOB);
         let mut sink = FailingSink::new(alloc, calls as u64);
-        let refused = run(&mut source, &mut sink, keys.as_slice());
+        let refused = run(&mut source, &mut sink, &keys);
         let wanted = if calls < 52 { Err(Fault::Write) } else { Ok(1) };
         same(&rt, refused, wanted);
-        same(&rt, Some(sink.as_slice()), text.as_slice().get(..calls));
+        same(&rt, Some(sink.as_slice()), TEXT.get(..calls));
     }
 }
 
@@ -87,17 +73,15 @@ fn written_behind(read: u64, before: usize) -> usize {
 #[test]
 fn a_run_stops_where_a_read_fails(rt: HostRuntime) {
     let alloc = rt.alloc();
-    let stream = opening_and_form(&rt, alloc);
-    let text = opened_and_answered(&rt, alloc);
-    let keys = keys_due(&rt, alloc);
+    let keys = keys_due(&rt);
     let mut written = 0usize;
     for read in 0..=52u64 {
         written = written_behind(read, written);
-        let mut source = FailingSource::new(stream.as_slice(), read);
+        let mut source = FailingSource::new(OPENING_AND_BOB, read);
         let mut sink = VecSink::new(alloc);
-        let refused = run(&mut source, &mut sink, keys.as_slice());
+        let refused = run(&mut source, &mut sink, &keys);
         same(&rt, refused, Err(Fault::Read));
-        same(&rt, Some(sink.as_slice()), text.as_slice().get(..written));
+        same(&rt, Some(sink.as_slice()), TEXT.get(..written));
     }
 }
 
@@ -130,28 +114,15 @@ fn a_run_tells_where_it_stops(rt: HostRuntime) {
     }
 }
 
-fn filled<const N: usize>(rt: &impl Abort, parts: &[&[u8]]) -> ArrayVec<u8, N> {
-    let mut bytes: ArrayVec<u8, N> = ArrayVec::new();
-    for part in parts {
-        holds(rt, bytes.try_extend_from_slice(part).is_ok());
-    }
-    bytes
-}
-
-// The same by bytes and keys.
-fn takes_and_answers(rt: &impl Abort, stream: &[u8], keys: &[(u32, Key)]) {
+// The same by bytes and keys, the last of which answers; the others tell nothing.
+fn takes_and_answers(rt: &impl Abort, keys: &[(u32, Key)]) {
     let mut station = new_station();
     let mut replies: ArrayVec<u8, 31> = ArrayVec::new();
-    for byte in stream {
+    for byte in OPENING_AND_BOB {
         let reply = station.push(*byte).expect(rt, "a byte");
         holds(rt, replies.try_extend_from_slice(reply.as_slice()).is_ok());
     }
     same(rt, replies.as_slice(), OPENED);
-    answers_bob(rt, &mut station, keys);
-}
-
-// The last of the keys answers, and the others tell nothing.
-fn answers_bob(rt: &impl Abort, station: &mut Station, keys: &[(u32, Key)]) {
     let mut last = None;
     for (_, key) in keys {
         holds(rt, last.is_none());
@@ -166,20 +137,11 @@ fn answers_bob(rt: &impl Abort, station: &mut Station, keys: &[(u32, Key)]) {
 // Nothing here takes memory, so that all is the same where every growth is refused.
 #[test]
 fn bob_without_memory(rt: HostRuntime) {
-    let head = b"\x00\x1d\x12\xa0\x00\x00\x04\x00\x00\x03".as_slice();
-    let stream = filled::<52>(&rt, &[OPENING, head, BOB, b"\xff\xef"]);
-    let enter = key_named("Enter").expect(&rt, "a key");
-    let keys = [
-        (1u32, Key::Char('B')),
-        (1, Key::Char('O')),
-        (1, Key::Char('B')),
-        (1, enter),
-    ];
-    let mut source = SliceSource::new(stream.as_slice());
+    let due = keys_due(&rt);
+    let keys = due.get(1..).expect(&rt, "the keys behind the form");
+    let mut source = SliceSource::new(OPENING_AND_BOB);
     let mut sink = WriteSink::new(ArrayVec::<u8, 52>::new());
-    same(&rt, run(&mut source, &mut sink, &keys), Ok(0));
-    let written = sink.into_inner();
-    same(&rt, written.as_slice().get(..31), Some(OPENED));
-    same(&rt, written.as_slice().get(31..), Some(BOB_ANSWER));
-    takes_and_answers(&rt, stream.as_slice(), &keys);
+    same(&rt, run(&mut source, &mut sink, keys), Ok(0));
+    same(&rt, sink.into_inner().as_slice(), TEXT.as_slice());
+    takes_and_answers(&rt, keys);
 }

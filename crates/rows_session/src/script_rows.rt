@@ -1,15 +1,17 @@
 use crate::{same, same_at, says};
-use std::alloc::{AllocError, Global};
+use std::alloc::Global;
 use std::process::Abort;
-use ws_code::{Aid, List};
+use ws_code::Aid;
 use ws_keys::Key;
 use ws_live::{ScriptFault, read_script};
-use ws_record::Opcode;
 use ws_session::Move;
-use ws_stream::Element;
 
 // Scripts, and their first bad line.
-const BAD: [(&[u8], u64); 57] = [
+const BAD: [(&[u8], u64); 58] = [
+    (
+        b"# a comment, \xc3\xa4\n\ncancel\r\ndown 000000007\nup all\nsend 03 0440c1\n",
+        6,
+    ),
     (b"hello", 1),
     (b"# \xff", 1),
     (b"\n\xc3\n", 2),
@@ -82,107 +84,108 @@ fn moves_of(rt: &impl Abort, alloc: Global, text: &[u8]) -> Vec<Move> {
     read_script(alloc, text).expect(rt, "moves")
 }
 
-// A move in words: a count of bytes that are delivered, or all; what a record has; the letter of a key.
-fn told(alloc: Global, step: &Move) -> Result<String, AllocError> {
-    match step {
-        Move::ToStation(usize::MAX) => format!(in alloc; "down all"),
-        Move::ToStation(count) => format!(in alloc; "down {count}"),
-        Move::ToHost(usize::MAX) => format!(in alloc; "up all"),
-        Move::ToHost(count) => format!(in alloc; "up {count}"),
-        Move::Send(opcode, body) => told_record(alloc, *opcode, body),
-        Move::Cancel => format!(in alloc; "cancel"),
-        Move::Key(Key::Insert(letter)) => format!(in alloc; "insert {letter}"),
-        Move::Key(_) => format!(in alloc; "another key"),
-    }
-}
-
-fn told_record(alloc: Global, opcode: Opcode, body: &List<Element>) -> Result<String, AllocError> {
-    let count = body.as_slice().len();
-    format!(in alloc; "{opcode:?} of {count}")
-}
-
+// A script whose lines are good.
 const GOOD: &[u8] =
     b"cancel\r\ndown 000000007\nup all\nsend 03 04400411AbfFc1\nsend 12\ntype \ninsert \xc3\xa4 \n#\nsettle";
 
+// Its moves, as they are shown.
 const GOOD_MOVES: [&str; 15] = [
-    "cancel",
-    "down 7",
-    "up all",
-    "PutGet of 3",
-    "MessageLightOff of 0",
-    "insert \u{e4}",
-    "insert  ",
-    "down all",
-    "up all",
-    "down all",
-    "up all",
-    "down all",
-    "up all",
-    "down all",
-    "up all",
+    "Cancel",
+    "ToStation(7)",
+    "ToHost(18446744073709551615)",
+    "Send(PutGet, List { items: [ClearUnit, Write { cc1: 171, cc2: 255 }, Put(DataByte { value: 193 })] })",
+    "Send(MessageLightOff, List { items: [] })",
+    "Key(Insert('\u{e4}'))",
+    "Key(Insert(' '))",
+    "ToStation(18446744073709551615)",
+    "ToHost(18446744073709551615)",
+    "ToStation(18446744073709551615)",
+    "ToHost(18446744073709551615)",
+    "ToStation(18446744073709551615)",
+    "ToHost(18446744073709551615)",
+    "ToStation(18446744073709551615)",
+    "ToHost(18446744073709551615)",
 ];
 
-const NO_MOVES: [&[u8]; 3] = [b"", b"\n\r\n", b"#"];
+// Scripts, and their moves.
+const MOVES: [(&[u8], &[&str]); 4] = [
+    (GOOD, &GOOD_MOVES),
+    (b"", &[]),
+    (b"\n\r\n", &[]),
+    (b"#", &[]),
+];
 
 #[test]
 fn good_lines(rt: HostRuntime) {
     let alloc = rt.alloc();
-    let text =
-        "# a comment, \u{e4}\n\ncancel\r\ndown 000000007\nup all\nsend 03 0440c1\n".as_bytes();
-    let fault = read_script(alloc, text).err();
-    same(&rt, fault, Some(ScriptFault::Line(6)));
-    let moves = moves_of(&rt, alloc, GOOD);
-    let mut wanted = GOOD_MOVES.iter();
-    for step in moves.as_slice() {
-        let words = told(alloc, step).expect(&rt, "memory");
-        same(&rt, Some(words.as_str()), wanted.next().copied());
-    }
-    same(&rt, wanted.next(), None);
-    for empty in &NO_MOVES {
-        same(&rt, moves_of(&rt, alloc, empty).len(), 0);
+    for (script, wanted) in &MOVES {
+        let moves = moves_of(&rt, alloc, script);
+        same(&rt, moves.len(), wanted.len());
+        for (at, step) in moves.as_slice().iter().enumerate() {
+            let shown = format!(in alloc; "{step:?}").expect(&rt, "memory");
+            same(&rt, Some(&shown.as_str()), wanted.get(at));
+        }
     }
 }
 
-// A script's line presses this key by its name.
-fn is_named(rt: &impl Abort, alloc: Global, name: &str, wanted: Key) {
-    let line = format!(in alloc; "key {name}").expect(rt, "memory");
+// A script's line presses this key.
+fn is_named(rt: &impl Abort, alloc: Global, line: &str, wanted: Key) {
     match moves_of(rt, alloc, line.as_bytes()).as_slice() {
-        [Move::Key(key)] => same(rt, *key, wanted),
+        [Move::Key(key)] => same_at(rt, line, *key, wanted),
         _ => panic!(rt; "a key"),
     }
 }
 
 const KEYS: [(&str, Key); 14] = [
-    ("Left", Key::Left),
-    ("Right", Key::Right),
-    ("Up", Key::Up),
-    ("Down", Key::Down),
-    ("Home", Key::Home),
-    ("Tab", Key::Tab),
-    ("BackTab", Key::BackTab),
-    ("FieldExit", Key::FieldExit),
-    ("FieldMinus", Key::FieldMinus),
-    ("Dup", Key::Dup),
-    ("Delete", Key::Delete),
-    ("EraseInput", Key::EraseInput),
-    ("Attention", Key::Attention),
-    ("SystemRequest", Key::SystemRequest),
+    ("key Left", Key::Left),
+    ("key Right", Key::Right),
+    ("key Up", Key::Up),
+    ("key Down", Key::Down),
+    ("key Home", Key::Home),
+    ("key Tab", Key::Tab),
+    ("key BackTab", Key::BackTab),
+    ("key FieldExit", Key::FieldExit),
+    ("key FieldMinus", Key::FieldMinus),
+    ("key Dup", Key::Dup),
+    ("key Delete", Key::Delete),
+    ("key EraseInput", Key::EraseInput),
+    ("key Attention", Key::Attention),
+    ("key SystemRequest", Key::SystemRequest),
 ];
 
 // Keys that answer, by their attention identifiers.
-const ANSWERING: [(&str, u8); 12] = [
-    ("Enter", 0xf1),
-    ("Clear", 0xbd),
-    ("Help", 0xf3),
-    ("RollDown", 0xf4),
-    ("RollUp", 0xf5),
-    ("Print", 0xf6),
-    ("RecordBackspace", 0xf8),
-    ("F1", 0x31),
-    ("F9", 0x39),
-    ("F12", 0x3c),
-    ("F13", 0xb1),
-    ("F24", 0xbc),
+const ANSWERING: [(&str, u8); 31] = [
+    ("key Enter", 0xf1),
+    ("key Clear", 0xbd),
+    ("key Help", 0xf3),
+    ("key RollDown", 0xf4),
+    ("key RollUp", 0xf5),
+    ("key Print", 0xf6),
+    ("key RecordBackspace", 0xf8),
+    ("key F1", 0x31),
+    ("key F2", 0x32),
+    ("key F3", 0x33),
+    ("key F4", 0x34),
+    ("key F5", 0x35),
+    ("key F6", 0x36),
+    ("key F7", 0x37),
+    ("key F8", 0x38),
+    ("key F9", 0x39),
+    ("key F10", 0x3a),
+    ("key F11", 0x3b),
+    ("key F12", 0x3c),
+    ("key F13", 0xb1),
+    ("key F14", 0xb2),
+    ("key F15", 0xb3),
+    ("key F16", 0xb4),
+    ("key F17", 0xb5),
+    ("key F18", 0xb6),
+    ("key F19", 0xb7),
+    ("key F20", 0xb8),
+    ("key F21", 0xb9),
+    ("key F22", 0xba),
+    ("key F23", 0xbb),
+    ("key F24", 0xbc),
 ];
 
 #[test]
@@ -194,10 +197,5 @@ fn key_names(rt: HostRuntime) {
     for (name, byte) in &ANSWERING {
         let aid = Aid::from_byte(*byte).expect(&rt, "a key");
         is_named(&rt, alloc, name, Key::Aid(aid));
-    }
-    for number in 1..=24u8 {
-        let name = format!(in alloc; "F{number}").expect(&rt, "memory");
-        let aid = Aid::function(number).expect(&rt, "a key");
-        is_named(&rt, alloc, name.as_str(), Key::Aid(aid));
     }
 }

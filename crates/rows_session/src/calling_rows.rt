@@ -1,15 +1,16 @@
 // The callers of `calling.rt`, at work.
 use crate::calling::{Ended, Heard, ask, await_event, feed_piece, hear, screen_of, see, strike};
 use crate::end_rows::{
-    BOB, BOB_ANSWER, OPENED, OPENING, PAST_END, joined, key_named, new_station, record,
+    ATTENTION, BOB, BOB_ANSWER, BOB_RECORD, BOB_TOLD, OPENED, OPENING, PAST_END, enter, is_told,
+    joined, new_station,
 };
 use crate::{holds, same};
 use std::alloc::Global;
 use std::process::Abort;
-use ws_code::{Address, Fault, Reason, Sink, StuckSink, VecSink};
-use ws_keys::{HostAnswer, Key, KeyRefusal};
+use ws_code::{Fault, Reason, Sink, StuckSink, VecSink};
+use ws_keys::{Key, KeyRefusal};
 use ws_nego::TerminalType;
-use ws_record::{Item, Receiver, decode_all};
+use ws_record::{Item, Receiver, decode_all, read_body};
 use ws_session::{HostEnd, HostEvent, KeyFault, Refusal, Station};
 use ws_stream::{Commands, Element};
 
@@ -39,14 +40,12 @@ fn items_of(rt: &impl Abort, alloc: Global, bytes: &[u8], size: usize) -> Vec<It
 #[test]
 fn pieces_give_items_and_a_screen(rt: HostRuntime) {
     let alloc = rt.alloc();
-    let bob = record(&rt, alloc, BOB);
     for size in [1usize, 2, 7, 40] {
-        let items = items_of(&rt, alloc, bob.as_slice(), size);
+        let items = items_of(&rt, alloc, BOB_RECORD, size);
         let screen = screen_of(items.as_slice()).expect(&rt, "a screen");
         same(&rt, screen.fields().len(), 1);
     }
-    let past_end = record(&rt, alloc, PAST_END);
-    let items = decode_all::<Commands>(alloc, past_end.as_slice()).expect(&rt, "a stream");
+    let items = decode_all::<Commands>(alloc, PAST_END).expect(&rt, "a stream");
     let refused = screen_of(items.as_slice()).err();
     same(&rt, refused, Some(Reason::PastEnd));
 }
@@ -71,10 +70,6 @@ fn strikes<S: Sink>(
     same(rt, strike(station, key, up), wanted);
 }
 
-fn enter(rt: &impl Abort) -> Key {
-    key_named("Enter").expect(rt, "a key")
-}
-
 #[test]
 fn an_emulator(rt: HostRuntime) {
     let alloc = rt.alloc();
@@ -82,8 +77,7 @@ fn an_emulator(rt: HostRuntime) {
     let mut up = VecSink::new(alloc);
     hears(&rt, &mut station, OPENING, &mut up, Ok(()));
     same(&rt, up.as_slice(), OPENED);
-    let bob = record(&rt, alloc, BOB);
-    hears(&rt, &mut station, bob.as_slice(), &mut up, Ok(()));
+    hears(&rt, &mut station, BOB_RECORD, &mut up, Ok(()));
     for letter in ['B', 'O', 'B'] {
         let key = Key::Char(letter);
         strikes(&rt, &mut station, key, &mut up, Ok(None));
@@ -98,47 +92,34 @@ fn an_emulator(rt: HostRuntime) {
     hears(&rt, &mut station, b"\xff\xf0", &mut up, Err(refused));
 }
 
-fn heard(rt: &impl Abort, alloc: Global, host: &mut HostEnd, bytes: &[u8]) -> Heard {
+// The host end hears so many of the bytes, and tells this.
+fn tells(rt: &impl Abort, alloc: Global, host: &mut HostEnd, bytes: &[u8], heard: Heard) {
     let mut down = VecSink::new(alloc);
-    await_event(host, bytes, &mut down).expect(rt, "told")
+    let told = await_event(host, bytes, &mut down).expect(rt, "told");
+    same(rt, (told.used, told.event), (heard.used, heard.event));
 }
 
-// Sends a form by its elements, and asks for its fields.
-fn asks(rt: &impl Abort, alloc: Global, host: &mut HostEnd, bytes: &[u8]) {
-    let items = decode_all::<Commands>(alloc, bytes).expect(rt, "a stream");
-    let [Item::Record(whole)] = items.as_slice() else {
-        panic!(rt; "a record")
-    };
-    let mut down = VecSink::new(alloc);
-    let asked = ask(host, whole.body.as_slice(), &mut down);
-    same(rt, asked, Ok(()));
-    same(rt, down.as_slice(), bytes);
-}
-
-// A host end that has sent a record and asked for its fields.
+// A host end that has sent a form by its elements, and asked for its fields.
 fn asking_host(rt: &impl Abort, alloc: Global) -> HostEnd {
     let mut host = HostEnd::new(alloc);
     host.open();
-    let told = heard(rt, alloc, &mut host, OPENED);
-    let ready = HostEvent::Ready(TerminalType::Ibm3179Model2);
-    same(rt, told.event, Some(ready));
-    same(rt, told.used, OPENED.len());
-    let bob = record(rt, alloc, BOB);
-    asks(rt, alloc, &mut host, bob.as_slice());
+    let event = Some(HostEvent::Ready(TerminalType::Ibm3179Model2));
+    let used = OPENED.len();
+    tells(rt, alloc, &mut host, OPENED, Heard { used, event });
+    let form = read_body::<Commands>(alloc, BOB).expect(rt, "a body");
+    let mut down = VecSink::new(alloc);
+    same(rt, ask(&mut host, form.as_slice(), &mut down), Ok(()));
+    same(rt, down.as_slice(), BOB_RECORD);
     host
 }
 
-fn is_bob(rt: &impl Abort, answer: &HostAnswer) {
-    let [field] = answer.fields.as_slice() else {
-        panic!(rt; "a field")
-    };
-    same(rt, Some(field.address), Address::new(6, 53));
-    same(rt, field.content.as_slice(), b"\xc2\xd6\xc2".as_slice());
-}
-
-fn tells_bob(rt: &impl Abort, event: &Option<HostEvent>) {
-    match event {
-        Some(HostEvent::Answer(answer)) => is_bob(rt, answer),
+// The host end hears the bytes of B, O, B from the eleventh on, and tells them.
+fn tells_bob(rt: &impl Abort, alloc: Global, host: &mut HostEnd, bytes: &[u8]) {
+    let mut down = VecSink::new(alloc);
+    let told = await_event(host, bytes, &mut down).expect(rt, "told");
+    same(rt, told.used.checked_add(10), Some(BOB_ANSWER.len()));
+    match &told.event {
+        Some(HostEvent::Answer(answer)) => is_told(rt, alloc, answer, BOB_TOLD),
         _ => panic!(rt; "an answer"),
     }
 }
@@ -148,17 +129,20 @@ fn tells_bob(rt: &impl Abort, event: &Option<HostEvent>) {
 fn a_harness(rt: HostRuntime) {
     let alloc = rt.alloc();
     let mut host = asking_host(&rt, alloc);
-    let attention = b"\x00\x0a\x12\xa0\x00\x00\x04\x40\x00\x00\xff\xef";
-    let came = joined(&rt, alloc, &[BOB_ANSWER, attention]);
-    let first = came.as_slice().get(..10).expect(&rt, "ten bytes");
-    let rest = came.as_slice().get(10..).expect(&rt, "the others");
-    let piece = heard(&rt, alloc, &mut host, first);
-    same(&rt, (piece.used, piece.event), (10, None));
-    let answer = heard(&rt, alloc, &mut host, rest);
-    tells_bob(&rt, &answer.event);
-    same(&rt, answer.used.checked_add(10), Some(BOB_ANSWER.len()));
-    let rest = rest.get(answer.used..).expect(&rt, "what was not used");
-    let behind = heard(&rt, alloc, &mut host, rest);
-    let attended = (12, Some(HostEvent::Attention));
-    same(&rt, (behind.used, behind.event), attended);
+    let came = joined(&rt, alloc, &[BOB_ANSWER, ATTENTION]);
+    let (first, rest) = came
+        .as_slice()
+        .split_at_checked(10)
+        .expect(&rt, "ten bytes");
+    let nothing = Heard {
+        used: 10,
+        event: None,
+    };
+    tells(&rt, alloc, &mut host, first, nothing);
+    tells_bob(&rt, alloc, &mut host, rest);
+    let attention = Heard {
+        used: 12,
+        event: Some(HostEvent::Attention),
+    };
+    tells(&rt, alloc, &mut host, ATTENTION, attention);
 }
