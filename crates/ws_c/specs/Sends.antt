@@ -28,7 +28,7 @@ use Rattle.ws_c.specs.declared.status.Status.TheVariants.{Done, Refused, Failed,
 use Rattle.ws_c.specs.declared.status.Status.TheVariants.{BadArgument, NotReady, ReadOutstanding, NoReadToCancel}
 use Rattle.ws_c.specs.declared.status.Status.TheVariants.{TooBig}
 use Rattle.ws_c.specs.declared.told.Told.{Told}
-use Rattle.ws_record.specs.Body.{IsBody, IsBodyFault}
+use Rattle.ws_record.specs.Body.{IsBody, IsBodyFault, HasUnitSoFar}
 use Rattle.ws_c.specs.Calls.{holds_front, told_length}
 use Rattle.ws_c.specs.Held.{OnHost}
 
@@ -37,10 +37,11 @@ pub record IsOpcodeFrom (byte : ℕ) (opcode : Option Opcode) : Type 0 where
   pub some : IfSome opcode (λ o. (opcode_byte o ≡ byte) × (o ≢ CancelInvite))
   pub none : IfNone opcode ((o : Opcode) → opcode_byte o ≡ byte → o ≢ CancelInvite → ⊥)
 
--- the body that bytes spell, or why none is read
+-- the body that bytes spell, or why none is read; memory is wanting only where a front of them spells a unit
 abbrev pub IsReadFrom : {Place U : Type 0} → Rules Place U → List ℕ → Result (List U) BodyFault → Type 0
 IsReadFrom rules bytes (Ok body) = IsBody rules bytes body
-IsReadFrom rules bytes (Err fault) = IsBodyFault (IsBody rules bytes) fault
+IsReadFrom rules bytes (Err Bad) = IsBodyFault (IsBody rules bytes) Bad
+IsReadFrom rules bytes (Err BodyMemory) = HasUnitSoFar rules bytes
 
 -- a host's end at a send
 pub record HostSent (old new : HostParts) (opcode : Opcode) (body : List Element)

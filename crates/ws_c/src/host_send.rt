@@ -109,7 +109,7 @@ fn read_elements(alloc: Global, bytes: &[u8]) -> Result<List<Element>, BodyFault
 {
     match read_body::<Commands>(alloc, bytes) {
         Ok(body) => Ok(List::of(body)),
-        Err(fault) => Err(fault),
+        Err(why) => Err(why),
     }
 }
 
