@@ -1,12 +1,14 @@
+use crate::encoder_rows::record;
 use crate::escaped::Escaped;
+use crate::feed_rows::{Wants, expect_each_way, steps_of};
 use crate::vectors::LENGTH_255;
 use crate::{same, same_at};
 use std::alloc::Global;
 use std::process::Abort;
-use ws_code::{Fault, List, Reason, SliceSource};
+use ws_code::{Body, Fault, Reason};
 use ws_record::{
-    Head, Item, Live, Opcode, RawBody, Record, Step, decode_all, decode_from, fronts_hold_items,
-    one_fault, one_reading, one_refusal, one_truncation,
+    Head, Item, Opcode, RawBody, Step, decode_all, fronts_hold_items, one_fault, one_reading,
+    one_refusal, one_truncation,
 };
 use ws_telnet::{CommandCode, Sub, Telnet};
 
@@ -19,8 +21,8 @@ pub enum Wanted<'a> {
     Sub(u8, &'a [u8]),
 }
 
-// Bytes by name, and the items that they give.
-type Accepted<'a> = (&'a str, &'a [u8], &'a [Wanted<'a>]);
+// Bytes by name, the items that they give, and the places of the items' last bytes.
+type Accepted<'a> = (&'a str, &'a [u8], &'a [Wanted<'a>], &'a [u64]);
 
 // Bytes by name, the place of the one that is refused, and why.
 type Refused<'a> = (&'a str, &'a [u8], u64, Reason);
@@ -29,27 +31,19 @@ pub const INVITE: Wanted = Wanted::Record(Opcode::Invite, b"");
 
 pub const PUT_FF: Wanted = Wanted::Record(Opcode::PutGet, b"\x04\x11\x00\x08\xff");
 
-fn sub(rt: &impl Abort, option: u8, data: &[u8]) -> Telnet {
-    Telnet::Sub(Sub::new(option, data).expect(rt, "not too much data"))
-}
-
-fn record(rt: &impl Abort, alloc: Global, opcode: Opcode, body: &[u8]) -> Item<u8> {
-    Item::Record(Record {
-        flags: 0,
-        opcode,
-        body: List::of(body.to_vec(alloc).expect(rt, "memory")),
-    })
-}
-
 pub fn made(rt: &impl Abort, alloc: Global, wanted: Wanted) -> Item<u8> {
     match wanted {
-        Wanted::Record(opcode, body) => record(rt, alloc, opcode, body),
+        Wanted::Record(opcode, body) => record(opcode, body.to_vec(alloc).expect(rt, "memory")),
         Wanted::Command(code) => Item::Telnet(Telnet::Command(code)),
         Wanted::Sub(option, data) => Item::Telnet(sub(rt, option, data)),
     }
 }
 
-fn all_made(rt: &impl Abort, alloc: Global, wanted: &[Wanted]) -> Vec<Item<u8>> {
+fn sub(rt: &impl Abort, option: u8, data: &[u8]) -> Telnet {
+    Telnet::Sub(Sub::new(option, data).expect(rt, "not too much data"))
+}
+
+pub fn all_made(rt: &impl Abort, alloc: Global, wanted: &[Wanted]) -> Vec<Item<u8>> {
     let mut items = Vec::new(alloc);
     for item in wanted {
         items.push(made(rt, alloc, *item)).expect(rt, "memory");
@@ -57,45 +51,49 @@ fn all_made(rt: &impl Abort, alloc: Global, wanted: &[Wanted]) -> Vec<Item<u8>> 
     items
 }
 
-// The steps that the bytes give one by one with their places, but for those with which nothing is complete.
-pub(crate) fn steps_of(rt: &impl Abort, alloc: Global, bytes: &[u8]) -> Vec<(usize, Step<u8>)> {
-    let mut live = Live::<RawBody>::new();
-    let mut steps = Vec::new(alloc);
-    for (at, byte) in bytes.iter().enumerate() {
-        let step = live.push(*byte);
-        if !matches!(step, Step::More) {
-            steps.push((at, step)).expect(rt, "memory");
-        }
-    }
-    steps
-}
+const DATA_64: &[u8] = b"AAAAAAAAAAAAAAAAAAAAAAAAAAAAAAAAAAAAAAAAAAAAAAAAAAAAAAAAAAAAAAAA";
 
-const ACCEPTED: [Accepted; 7] = [
-    ("empty-stream", b"", &[]),
+// Subnegotiations with as many bytes as there may be, and with one too many.
+const SUB_64: &[u8] =
+    b"\xff\xfa\x18AAAAAAAAAAAAAAAAAAAAAAAAAAAAAAAAAAAAAAAAAAAAAAAAAAAAAAAAAAAAAAAA\xff\xf0";
+
+const SUB_65: &[u8] =
+    b"\xff\xfa\x18AAAAAAAAAAAAAAAAAAAAAAAAAAAAAAAAAAAAAAAAAAAAAAAAAAAAAAAAAAAAAAAAA";
+
+const SUB_64_AND_FF: &[u8] =
+    b"\xff\xfa\x18AAAAAAAAAAAAAAAAAAAAAAAAAAAAAAAAAAAAAAAAAAAAAAAAAAAAAAAAAAAAAAAA\xff\xff";
+
+const ACCEPTED: [Accepted; 8] = [
+    ("empty-stream", b"", &[], &[]),
     (
         "empty-stream, a command",
         b"\xff\xf1",
         &[Wanted::Command(CommandCode::Nop)],
+        &[1],
     ),
     (
         "invite",
         b"\x00\x0a\x12\xa0\x00\x00\x04\x00\x00\x01\xff\xef",
         &[INVITE],
+        &[11],
     ),
     (
         "put-ff",
         b"\x00\x0f\x12\xa0\x00\x00\x04\x00\x00\x03\x04\x11\x00\x08\xff\xff\xff\xef",
         &[PUT_FF],
+        &[17],
     ),
     (
         "nop-inside-a-header",
         b"\x00\x0a\xff\xf1\x12\xa0\x00\x00\x04\x00\x00\x01\xff\xef",
         &[Wanted::Command(CommandCode::Nop), INVITE],
+        &[3, 13],
     ),
     (
         "invite-twice",
         b"\x00\x0a\x12\xa0\x00\x00\x04\x00\x00\x01\xff\xef\x00\x0a\x12\xa0\x00\x00\x04\x00\x00\x01\xff\xef",
         &[INVITE, INVITE],
+        &[11, 23],
     ),
     (
         "sub-inside-a-record",
@@ -104,10 +102,17 @@ const ACCEPTED: [Accepted; 7] = [
             Wanted::Sub(0x18, b"\x01"),
             Wanted::Record(Opcode::PutGet, b"\x41"),
         ],
+        &[15, 18],
+    ),
+    (
+        "bad-tokens, as many bytes as there may be",
+        SUB_64,
+        &[Wanted::Sub(0x18, DATA_64)],
+        &[68],
     ),
 ];
 
-const REFUSED: [Refused; 13] = [
+const REFUSED: [Refused; 15] = [
     (
         "header-too-early, length",
         b"\x00\x09",
@@ -134,6 +139,13 @@ const REFUSED: [Refused; 13] = [
         b"\xff\xfa\x18\xff\x01",
         4,
         Reason::BadSub,
+    ),
+    ("bad-tokens, 65 bytes", SUB_65, 67, Reason::SubTooLong),
+    (
+        "bad-tokens, 64 bytes and FF",
+        SUB_64_AND_FF,
+        68,
+        Reason::SubTooLong,
     ),
     (
         "data-past-the-length",
@@ -168,27 +180,41 @@ const REFUSED: [Refused; 13] = [
     ),
 ];
 
-// The bytes give these items or this fault, at once and from a source.
-fn expect_both_ways(
+// All decoders give of each row's bytes what the row says.
+fn expect_rows<B: Body<Unit = u8>>(
     rt: &impl Abort,
     alloc: Global,
-    row: &str,
-    bytes: &[u8],
-    wanted: Result<Vec<Item<u8>>, Fault>,
+    accepted: &[Accepted],
+    refused: &[Refused],
 ) {
-    let found = decode_all::<RawBody>(alloc, bytes);
-    same_at(rt, row, &found, &wanted);
-    let mut source = SliceSource::new(bytes);
-    let found = decode_from::<RawBody, SliceSource>(alloc, &mut source);
-    same_at(rt, row, found, wanted);
+    for (row, bytes, items, places) in accepted {
+        let items = all_made(rt, alloc, items);
+        let wants = Wants {
+            items: items.as_slice(),
+            places,
+            end: Ok(bytes.len() as u64),
+        };
+        expect_each_way::<B, u8>(rt, alloc, row, bytes, &wants);
+    }
+    for (row, bytes, place, reason) in refused {
+        let (place, reason) = (*place, *reason);
+        let fault = Fault::Refused { place, reason };
+        expect_each_way::<B, u8>(rt, alloc, row, bytes, &nothing(fault));
+    }
+}
+
+// No item, and the fault.
+fn nothing<'a>(fault: Fault) -> Wants<'a, u8> {
+    Wants {
+        items: &[],
+        places: &[],
+        end: Err(fault),
+    }
 }
 
 #[test]
-fn whole_lists(rt: HostRuntime) {
-    for (row, bytes, wanted) in &ACCEPTED {
-        let wanted = all_made(&rt, rt.alloc(), wanted);
-        expect_both_ways(&rt, rt.alloc(), row, bytes, Ok(wanted));
-    }
+fn raw_lists(rt: HostRuntime) {
+    expect_rows::<RawBody>(&rt, rt.alloc(), &ACCEPTED, &REFUSED);
     one_reading::<RawBody>();
     one_fault::<RawBody>();
     fronts_hold_items::<RawBody>();
@@ -196,61 +222,32 @@ fn whole_lists(rt: HostRuntime) {
     one_truncation::<RawBody>();
 }
 
+const TOO_EARLY: [&[u8]; 2] = [b"\x00\x0a\x12", b"\xff"];
+
+// `header-too-early`: bytes that end too early, and a record before bytes that are refused.
 #[test]
-fn refused_and_truncated_lists(rt: HostRuntime) {
-    for (row, bytes, place, reason) in &REFUSED {
-        let (place, reason) = (*place, *reason);
-        let refused = Fault::Refused { place, reason };
-        expect_both_ways(&rt, rt.alloc(), row, bytes, Err(refused));
-    }
-    for bytes in [b"\x00\x0a\x12".as_slice(), b"\xff"] {
+fn header_too_early(rt: HostRuntime) {
+    let row = "header-too-early";
+    for bytes in &TOO_EARLY {
         let at = bytes.len() as u64;
-        let row = "header-too-early";
-        let truncated = Fault::Truncated { at };
-        expect_both_ways(&rt, rt.alloc(), row, bytes, Err(truncated));
+        let wants = nothing(Fault::Truncated { at });
+        expect_each_way::<RawBody, u8>(&rt, rt.alloc(), row, bytes, &wants);
     }
-}
-
-// The front of a subnegotiation with 64 bytes 41, and what follows.
-fn begun_sub(rt: &impl Abort, alloc: Global, tail: &[u8]) -> Vec<u8> {
-    let mut bytes = Vec::new(alloc);
-    bytes
-        .extend_from_slice(b"\xff\xfa\x18")
-        .expect(rt, "memory");
-    bytes.extend_from_slice(&[0x41; 64]).expect(rt, "memory");
-    bytes.extend_from_slice(tail).expect(rt, "memory");
-    bytes
-}
-
-fn expect_too_long(rt: &impl Abort, alloc: Global, tail: &[u8], at: usize) {
-    let bytes = begun_sub(rt, alloc, tail);
-    let (place, reason) = (at as u64, Reason::SubTooLong);
-    let fault = decode_all::<RawBody>(alloc, bytes.as_slice()).err();
-    same(rt, fault, Some(Fault::Refused { place, reason }));
-    let wanted = [(at, Step::Refused { place, reason })];
-    expect_steps(rt, alloc, bytes.as_slice(), &wanted);
-}
-
-// `bad-tokens`: a subnegotiation with as many bytes as there may be, and with one too many.
-#[test]
-fn bad_tokens(rt: HostRuntime) {
-    let alloc = rt.alloc();
-    expect_too_long(&rt, alloc, b"\x41", 67);
-    expect_too_long(&rt, alloc, b"\xff\xff", 68);
-    let bytes = begun_sub(&rt, alloc, b"\xff\xf0");
-    let data = [0x41; 64];
-    let items = all_made(&rt, alloc, &[Wanted::Sub(0x18, &data)]);
-    let found = decode_all::<RawBody>(alloc, bytes.as_slice());
-    same(&rt, found, Ok(items));
-    let wanted = [(68, Step::Telnet(sub(&rt, 0x18, &data)))];
-    expect_steps(&rt, alloc, bytes.as_slice(), &wanted);
+    let (place, reason) = (13, Reason::LengthBelowHeader);
+    let bytes = b"\x00\x0a\x12\xa0\x00\x00\x04\x00\x00\x01\xff\xef\x00\x09";
+    let items = [made(&rt, rt.alloc(), INVITE)];
+    let wants = Wants {
+        items: &items,
+        places: &[11],
+        end: Err(Fault::Refused { place, reason }),
+    };
+    expect_each_way::<RawBody, u8>(&rt, rt.alloc(), row, bytes, &wants);
 }
 
 // `length-255`: the length's FF is doubled too.
 #[test]
 fn length_255(rt: HostRuntime) {
-    let found = decode_all::<RawBody>(rt.alloc(), LENGTH_255);
-    let items = found.expect(&rt, "a stream");
+    let items = decode_all::<RawBody>(rt.alloc(), LENGTH_255).expect(&rt, "a stream");
     same(&rt, LENGTH_255.len(), 258);
     match items.as_slice() {
         [Item::Record(record)] => same(&rt, record.body.as_slice().len(), 245),
@@ -263,11 +260,13 @@ const ACCEPTED_ESCAPED: [Accepted; 2] = [
         "no unit",
         b"\x00\x0a\x12\xa0\x00\x00\x04\x00\x00\x01\xff\xef",
         &[INVITE],
+        &[11],
     ),
     (
         "04 first",
         b"\x00\x0c\x12\xa0\x00\x00\x04\x00\x00\x03\x04\xc1\xff\xef",
         &[Wanted::Record(Opcode::PutGet, b"\x04\xc1")],
+        &[13],
     ),
 ];
 
@@ -289,21 +288,12 @@ const REFUSED_ESCAPED: [Refused; 2] = [
 // A body whose first byte must be 04, behind which it may not end.
 #[test]
 fn another_body(rt: HostRuntime) {
-    for (row, bytes, wanted) in &ACCEPTED_ESCAPED {
-        let wanted = all_made(&rt, rt.alloc(), wanted);
-        let found = decode_all::<Escaped>(rt.alloc(), bytes);
-        same_at(&rt, row, found, Ok(wanted));
-    }
-    for (row, bytes, place, reason) in &REFUSED_ESCAPED {
-        let (place, reason) = (*place, *reason);
-        let fault = decode_all::<Escaped>(rt.alloc(), bytes).err();
-        same_at(&rt, row, fault, Some(Fault::Refused { place, reason }));
-    }
+    expect_rows::<Escaped>(&rt, rt.alloc(), &ACCEPTED_ESCAPED, &REFUSED_ESCAPED);
 }
 
 // The bytes give these steps, each at its place.
 fn expect_steps(rt: &impl Abort, alloc: Global, bytes: &[u8], wanted: &[(usize, Step<u8>)]) {
-    let found = steps_of(rt, alloc, bytes);
+    let found = steps_of::<RawBody>(rt, alloc, bytes);
     same_at(rt, bytes, found.as_slice(), wanted);
 }
 
@@ -354,6 +344,18 @@ fn live_steps(rt: HostRuntime) {
         (18, Step::Close),
     ];
     expect_steps(&rt, rt.alloc(), with_sub, &wanted);
+}
+
+// `bad-tokens`: a subnegotiation with as many bytes as there may be, and with one too many.
+#[test]
+fn bad_tokens(rt: HostRuntime) {
+    let wanted = [(68, Step::Telnet(sub(&rt, 0x18, DATA_64)))];
+    expect_steps(&rt, rt.alloc(), SUB_64, &wanted);
+    let reason = Reason::SubTooLong;
+    let wanted = [(67, Step::Refused { place: 67, reason })];
+    expect_steps(&rt, rt.alloc(), SUB_65, &wanted);
+    let wanted = [(68, Step::Refused { place: 68, reason })];
+    expect_steps(&rt, rt.alloc(), SUB_64_AND_FF, &wanted);
 }
 
 const REFUSED_BEFORE_A_HEADER: [(&[u8], Reason); 3] = [

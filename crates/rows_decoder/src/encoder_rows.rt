@@ -1,20 +1,18 @@
+use crate::decoder_rows::{INVITE, PUT_FF, Wanted, all_made, made};
 use crate::escaped::Escaped;
-use crate::{holds, same, same_at, same_bytes, says};
+use crate::{holds, same, same_at, same_bytes, says, vectors};
 use std::alloc::Global;
+use std::fmt::Debug;
 use std::process::Abort;
-use ws_code::{FailingSink, Fault, List, Sink, StuckSink, VecSink};
+use ws_code::{Body, FailingSink, FailingSource, Fault, List, StuckSink, VecSink};
 use ws_record::{
-    EncodeFault, Item, Opcode, RawBody, Record, encode, encode_and_decode, encode_to,
+    EncodeFault, Item, Opcode, RawBody, Record, decode_from, encode, encode_and_decode, encode_to,
     encoding_spells_its_items, write_record,
 };
 use ws_telnet::{CommandCode, Sub, Telnet, Verb};
 
-const PUT_FF: [u8; 18] = [
-    0x00, 0x0f, 0x12, 0xa0, 0x00, 0x00, 0x04, 0x00, 0x00, 0x03, 0x04, 0x11, 0x00, 0x08, 0xff, 0xff,
-    0xff, 0xef,
-];
-
-fn record(opcode: Opcode, body: Vec<u8>) -> Item<u8> {
+// A record whose flags are all 0.
+pub fn record<U: Drop>(opcode: Opcode, body: Vec<U>) -> Item<U> {
     Item::Record(Record {
         flags: 0,
         opcode,
@@ -22,31 +20,17 @@ fn record(opcode: Opcode, body: Vec<u8>) -> Item<u8> {
     })
 }
 
-fn item(rt: &impl Abort, alloc: Global, opcode: Opcode, bytes: &[u8]) -> Item<u8> {
-    record(opcode, bytes.to_vec(alloc).expect(rt, "memory"))
-}
-
 // A record whose body is so many times the byte.
-fn repeated(rt: &impl Abort, alloc: Global, byte: u8, count: usize) -> Item<u8> {
+pub fn repeated(rt: &impl Abort, alloc: Global, byte: u8, count: usize) -> Item<u8> {
     let body = vec![in alloc; byte; count].expect(rt, "memory");
     record(Opcode::PutGet, body)
 }
 
-// A record of an escape and so many bytes.
-fn escaped(rt: &impl Abort, alloc: Global, count: usize) -> Item<u8> {
-    let mut body = Vec::new(alloc);
-    body.push(0x04).expect(rt, "memory");
-    for _ in 0..count {
-        body.push(0x41).expect(rt, "memory");
-    }
-    record(Opcode::PutGet, body)
-}
-
 // The fault of the items, into memory and into a sink that stays empty.
-fn expect_fault<B: ws_code::Body<Unit = u8>>(
+pub fn expect_fault<B: Body<Unit = U>, U: Drop>(
     rt: &impl Abort,
     alloc: Global,
-    items: &[Item<u8>],
+    items: &[Item<U>],
     fault: EncodeFault,
 ) {
     let mut sink = VecSink::new(alloc);
@@ -56,69 +40,86 @@ fn expect_fault<B: ws_code::Body<Unit = u8>>(
     same(rt, encode::<B>(alloc, items).err(), Some(fault));
 }
 
-// The ways to bytes write `put-ff` of the items, and of the body.
-fn expect_put_ff(rt: &impl Abort, alloc: Global, items: &[Item<u8>], body: &[u8; 5]) {
+// The items are encoded to these bytes, into memory and into a sink, and come back.
+pub fn expect_encoded<B: Body<Unit = U>, U: PartialEq + Debug + Drop>(
+    rt: &impl Abort,
+    alloc: Global,
+    items: &[Item<U>],
+    bytes: &[u8],
+) {
+    let encoded = encode::<B>(alloc, items).expect(rt, "encoded");
+    same_bytes(rt, encoded.as_slice(), bytes);
     let mut sink = VecSink::new(alloc);
-    let written = encode_to::<RawBody, VecSink>(items, &mut sink);
+    let written = encode_to::<B, VecSink>(items, &mut sink);
     same(rt, written, Ok(()));
-    same_bytes(rt, sink.as_slice(), &PUT_FF);
-    let mut sink = VecSink::new(alloc);
-    let written = write_record(&mut sink, 0, Opcode::PutGet, body);
-    same(rt, written, Ok(()));
-    same_bytes(rt, sink.as_slice(), &PUT_FF);
+    same_bytes(rt, sink.as_slice(), bytes);
+    let back = encode_and_decode::<B>(alloc, items).expect(rt, "items");
+    same(rt, back.as_slice(), items);
 }
 
-const PUT_FF_BODY: [u8; 5] = [0x04, 0x11, 0x00, 0x08, 0xff];
-
-// The items are encoded and decoded again to the record of `put-ff`.
-fn expect_back(rt: &impl Abort, alloc: Global, items: &[Item<u8>]) {
-    let found = encode_and_decode::<RawBody>(alloc, items).expect(rt, "items");
-    match found.as_slice() {
-        [Item::Record(record)] => {
-            same(rt, record.opcode, Opcode::PutGet);
-            same_bytes(rt, record.body.as_slice(), &PUT_FF_BODY);
+// A source of the bytes fails behind so many reads: a fault, but for the last, which says that there is no more.
+pub fn expect_reads<B: Body<Unit = U>, U: PartialEq + Debug + Drop>(
+    rt: &impl Abort,
+    alloc: Global,
+    bytes: &[u8],
+    items: &[Item<U>],
+) {
+    for reads in 0..=bytes.len().saturating_add(1) {
+        let mut source = FailingSource::new(bytes, reads as u64);
+        let found = decode_from::<B, FailingSource>(alloc, &mut source);
+        let fails = reads <= bytes.len();
+        same_at(rt, reads, source.failures(), u64::from(fails));
+        match found {
+            Ok(found) if !fails => same_at(rt, reads, found.as_slice(), items),
+            found => same_at(rt, reads, found.err(), Some(Fault::Read)),
         }
-        _ => panic!(rt; "a record"),
+    }
+}
+
+// The items, which the bytes spell, are written to a sink that fails behind so many bytes.
+pub fn expect_writes<B: Body<Unit = U>, U: Drop>(
+    rt: &impl Abort,
+    alloc: Global,
+    items: &[Item<U>],
+    bytes: &[u8],
+) {
+    for calls in 0..=bytes.len() {
+        let mut sink = FailingSink::new(alloc, calls as u64);
+        let written = encode_to::<B, FailingSink>(items, &mut sink).err();
+        let fails = calls < bytes.len();
+        same_at(rt, calls, written, fails.then_some(EncodeFault::Write));
+        same_at(rt, calls, sink.as_slice(), &bytes[..calls]);
+        same_at(rt, calls, sink.failures(), u64::from(fails));
     }
 }
 
 #[test]
 fn put_ff(rt: HostRuntime) {
-    let items = [item(&rt, rt.alloc(), Opcode::PutGet, &PUT_FF_BODY)];
-    let encoded = encode::<RawBody>(rt.alloc(), &items).expect(&rt, "encoded");
-    same_bytes(&rt, encoded.as_slice(), &PUT_FF);
-    expect_put_ff(&rt, rt.alloc(), &items, &PUT_FF_BODY);
-    expect_back(&rt, rt.alloc(), &items);
+    let items = [made(&rt, rt.alloc(), PUT_FF)];
+    expect_encoded::<RawBody, u8>(&rt, rt.alloc(), &items, vectors::PUT_FF);
     encoding_spells_its_items::<RawBody>();
 }
 
-// Writes `put-ff` to a sink that fails behind so many bytes.
-fn expect_writes(
-    rt: &impl Abort,
-    alloc: Global,
-    items: &[Item<u8>],
-    calls: u8,
-    wanted: Result<(), EncodeFault>,
-) {
-    let front = PUT_FF.as_slice().get(..usize::from(calls));
-    let mut sink = FailingSink::new(alloc, u64::from(calls));
-    let written = encode_to::<RawBody, FailingSink>(items, &mut sink);
-    same_at(rt, calls, written, wanted);
-    same_at(rt, calls, Some(sink.as_slice()), front);
-    same_at(rt, calls, sink.failures(), u64::from(calls < 18));
-    let mut sink = FailingSink::new(alloc, u64::from(calls));
-    let written = write_record(&mut sink, 0, Opcode::PutGet, &PUT_FF_BODY);
-    same_at(rt, calls, written.is_ok(), wanted.is_ok());
-    same_at(rt, calls, Some(sink.as_slice()), front);
+const PUT_FF_BODY: &[u8] = b"\x04\x11\x00\x08\xff";
+
+// `decode-source-fails`: a read that fails is a fault, wherever it comes.
+#[test]
+fn decode_source_fails(rt: HostRuntime) {
+    let items = [made(&rt, rt.alloc(), INVITE)];
+    expect_reads::<RawBody, u8>(&rt, rt.alloc(), vectors::INVITE, &items);
 }
 
+// `encode-sink-fails`, also where the record is written by itself.
 #[test]
 fn encode_sink_fails(rt: HostRuntime) {
-    let items = [item(&rt, rt.alloc(), Opcode::PutGet, &PUT_FF_BODY)];
-    for calls in 0..18u8 {
-        expect_writes(&rt, rt.alloc(), &items, calls, Err(EncodeFault::Write));
+    let items = [made(&rt, rt.alloc(), PUT_FF)];
+    expect_writes::<RawBody, u8>(&rt, rt.alloc(), &items, vectors::PUT_FF);
+    for calls in 0..=vectors::PUT_FF.len() {
+        let mut sink = FailingSink::new(rt.alloc(), calls as u64);
+        let written = write_record(&mut sink, 0, Opcode::PutGet, PUT_FF_BODY);
+        same_at(&rt, calls, written.is_ok(), calls == 18);
+        same_at(&rt, calls, sink.as_slice(), &vectors::PUT_FF[..calls]);
     }
-    expect_writes(&rt, rt.alloc(), &items, 18, Ok(()));
 }
 
 #[test]
@@ -131,84 +132,80 @@ fn largest_raw_record(rt: HostRuntime) {
     holds(&rt, encoded.ends_with(b"\x40\x40\xff\xef"));
     let items = [repeated(&rt, alloc, 0x40, 65_526)];
     let fault = EncodeFault::TooBig { index: 0 };
-    expect_fault::<RawBody>(&rt, alloc, &items, fault);
+    expect_fault::<RawBody, u8>(&rt, alloc, &items, fault);
 }
 
-fn expect_bad_sequence(rt: &impl Abort, alloc: Global, items: &[Item<u8>], index: usize) {
-    let fault = EncodeFault::BadSequence { index };
-    expect_fault::<Escaped>(rt, alloc, items, fault);
-}
+const ESCAPED_BYTES: Wanted = Wanted::Record(Opcode::PutGet, b"\x04\x41\x41");
 
-// Two records, of which the first is too big, and one that begins with no escape.
-fn first_too_big(rt: &impl Abort, alloc: Global) {
-    let items = [escaped(rt, alloc, 65_525), repeated(rt, alloc, 0xc1, 1)];
-    let fault = EncodeFault::TooBig { index: 0 };
-    expect_fault::<Escaped>(rt, alloc, &items, fault);
-}
+const ESCAPE_ALONE: Wanted = Wanted::Record(Opcode::PutGet, b"\x04");
 
-// A record that begins with no escape, or ends behind one, behind another that is whole.
-fn second_bad(rt: &impl Abort, alloc: Global) {
-    let no_escape = [
-        escaped(rt, alloc, 2),
-        repeated(rt, alloc, 0xc1, 1),
-        repeated(rt, alloc, 0xc1, 1),
-    ];
-    expect_bad_sequence(rt, alloc, &no_escape, 1);
-    let ends_early = [escaped(rt, alloc, 2), escaped(rt, alloc, 0)];
-    expect_bad_sequence(rt, alloc, &ends_early, 1);
-}
+const NO_ESCAPE: Wanted = Wanted::Record(Opcode::PutGet, b"\xc1");
+
+// Records that begin with no escape, or end behind one: the place of the first.
+const BAD_SEQUENCES: [(&[Wanted], usize); 3] = [
+    (&[NO_ESCAPE], 0),
+    (&[ESCAPED_BYTES, NO_ESCAPE, NO_ESCAPE], 1),
+    (&[ESCAPED_BYTES, ESCAPE_ALONE], 1),
+];
 
 #[test]
 fn bad_sequence_first(rt: HostRuntime) {
     let alloc = rt.alloc();
-    expect_bad_sequence(&rt, alloc, &[repeated(&rt, alloc, 0xc1, 1)], 0);
+    for (wanted, index) in &BAD_SEQUENCES {
+        let items = all_made(&rt, alloc, wanted);
+        let fault = EncodeFault::BadSequence { index: *index };
+        expect_fault::<Escaped, u8>(&rt, alloc, items.as_slice(), fault);
+    }
     let too_big_too = [repeated(&rt, alloc, 0xc1, 65_526)];
-    expect_bad_sequence(&rt, alloc, &too_big_too, 0);
+    let fault = EncodeFault::BadSequence { index: 0 };
+    expect_fault::<Escaped, u8>(&rt, alloc, &too_big_too, fault);
     first_too_big(&rt, alloc);
-    second_bad(&rt, alloc);
-    let items = [escaped(&rt, alloc, 1)];
-    let encoded = encode::<Escaped>(alloc, &items).expect(&rt, "encoded");
-    let wanted = b"\x00\x0c\x12\xa0\x00\x00\x04\x00\x00\x03\x04\x41\xff\xef";
-    same_bytes(&rt, encoded.as_slice(), wanted);
+    let items = [made(&rt, alloc, Wanted::Record(Opcode::PutGet, b"\x04\x41"))];
+    let bytes = b"\x00\x0c\x12\xa0\x00\x00\x04\x00\x00\x03\x04\x41\xff\xef";
+    expect_encoded::<Escaped, u8>(&rt, alloc, &items, bytes);
+}
+
+// Two records, of which the first, an escape and 65,525 bytes, is too big, and one that begins with no escape.
+fn first_too_big(rt: &impl Abort, alloc: Global) {
+    let mut body = vec![in alloc; 0x41; 65_526].expect(rt, "memory");
+    if let Some(first) = body.get_mut(0) {
+        *first = 0x04;
+    }
+    let items = [record(Opcode::PutGet, body), made(rt, alloc, NO_ESCAPE)];
+    let fault = EncodeFault::TooBig { index: 0 };
+    expect_fault::<Escaped, u8>(rt, alloc, &items, fault);
 }
 
 // Commands stand between records, and a subnegotiation's FF is doubled.
 #[test]
 fn commands_between_records(rt: HostRuntime) {
-    let none: [Item<u8>; 0] = [];
-    let encoded = encode::<RawBody>(rt.alloc(), &none).expect(&rt, "encoded");
-    holds(&rt, encoded.is_empty());
+    expect_encoded::<RawBody, u8>(&rt, rt.alloc(), &[], b"");
     let sub = Sub::new(0x18, &[0x01, 0xff]).expect(&rt, "two bytes");
     let items = [
         Item::Telnet(Telnet::Command(CommandCode::Nop)),
-        item(&rt, rt.alloc(), Opcode::Invite, &[0x41]),
+        made(&rt, rt.alloc(), Wanted::Record(Opcode::Invite, b"\x41")),
         Item::Telnet(Telnet::Option(Verb::Will, 0x19)),
         Item::Telnet(Telnet::Sub(sub)),
     ];
-    let encoded = encode::<RawBody>(rt.alloc(), &items).expect(&rt, "encoded");
-    let wanted =
+    let bytes =
         b"\xff\xf1\x00\x0b\x12\xa0\x00\x00\x04\x00\x00\x01\x41\xff\xef\xff\xfb\x19\xff\xfa\x18\x01\xff\xff\xff\xf0";
-    same_bytes(&rt, encoded.as_slice(), wanted);
+    expect_encoded::<RawBody, u8>(&rt, rt.alloc(), &items, bytes);
 }
 
-fn expect_written<S: Sink>(
-    rt: &impl Abort,
-    sink: &mut S,
-    flags: u16,
-    opcode: Opcode,
-    wanted: Result<(), Fault>,
-) {
-    same(rt, write_record(sink, flags, opcode, &[]), wanted);
-}
-
+// What a record's writer writes of a head and a body.
 #[test]
-fn flags_and_an_empty_body(rt: HostRuntime) {
+fn records_are_written(rt: HostRuntime) {
     let mut sink = VecSink::new(rt.alloc());
-    expect_written(&rt, &mut sink, 0x80ff, Opcode::CancelInvite, Ok(()));
-    let wanted = b"\x00\x0a\x12\xa0\x00\x00\x04\x80\xff\xff\x0a\xff\xef";
-    same_bytes(&rt, sink.as_slice(), wanted);
-    let fault = Err(Fault::Write);
-    expect_written(&rt, &mut StuckSink, 0, Opcode::Invite, fault);
+    let written = write_record(&mut sink, 0, Opcode::PutGet, PUT_FF_BODY);
+    same(&rt, written, Ok(()));
+    same_bytes(&rt, sink.as_slice(), vectors::PUT_FF);
+    let mut sink = VecSink::new(rt.alloc());
+    let written = write_record(&mut sink, 0x80ff, Opcode::CancelInvite, &[]);
+    let bytes = b"\x00\x0a\x12\xa0\x00\x00\x04\x80\xff\xff\x0a\xff\xef";
+    same(&rt, written, Ok(()));
+    same_bytes(&rt, sink.as_slice(), bytes);
+    let written = write_record(&mut StuckSink, 0, Opcode::Invite, &[]);
+    same(&rt, written, Err(Fault::Write));
 }
 
 const TEXTS: [(EncodeFault, &str); 4] = [

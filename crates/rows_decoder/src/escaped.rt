@@ -6,7 +6,7 @@ use ws_code::{Body, Code, Push, Reason};
 
 /// A body for tests: bytes, the first of which must be 04, an escape. Behind an escape it may not end. A place is
 /// the byte before it, if there is one.
-#[derive(Debug, Drop)]
+#[derive(Drop)]
 pub struct Escaped {
     before: Option<u8>,
 }

@@ -1,36 +1,16 @@
 // Streams that are cut short, and streams in which a byte is another: all decoders say the same of them, and
 // what is accepted comes back from its encoding.
-use crate::vectors::{INVITE, LENGTH_255, REFUSED_BODIES, Side, VECTORS, Vector};
-use crate::{holds, same, same_at};
+use crate::feed_rows::{Cut, heard};
+use crate::same_at;
+use crate::vectors::{LENGTH_255, REFUSED_BODIES, Side, VECTORS, Vector};
 use std::alloc::Global;
 use std::process::Abort;
 use ws_code::{Body, Code, Fault, List, Reason};
-use ws_record::{Head, Item, Live, Receiver, Record, Step, decode_all, encode};
+use ws_record::{Head, Item, Live, Record, Step, decode_all, encode};
 use ws_stream::{Answers, Commands};
-use ws_telnet::{CommandCode, Telnet};
 
 // What a decoder has found: the items of a stream, or its fault.
 type Found<B> = Result<Vec<Item<<B as Code>::Unit>>, Fault>;
-
-// What a receiver gives that is fed byte by byte.
-fn fed<B: Body>(rt: &impl Abort, alloc: Global, bytes: &[u8]) -> Found<B> {
-    let mut receiver = Receiver::<B>::new(alloc);
-    let mut items = Vec::new(alloc);
-    for byte in bytes {
-        match receiver.feed(&[*byte]) {
-            Ok(fed) => {
-                if let Some(item) = fed.item {
-                    items.push(item).expect(rt, "memory");
-                }
-            }
-            Err(fault) => return Err(fault),
-        }
-    }
-    match receiver.finish() {
-        Ok(()) => Ok(items),
-        Err(fault) => Err(fault),
-    }
-}
 
 // What the steps of a live decoder make up: items, and the head and the units of a record that isn't whole.
 #[derive(Drop)]
@@ -94,12 +74,14 @@ fn watched<B: Body>(rt: &impl Abort, alloc: Global, bytes: &[u8]) -> Found<B> {
     }
 }
 
-// Whether so many items were found, and are spelled by these bytes, which spell no others.
-fn are_spelled<B: Body>(alloc: Global, found: &Found<B>, count: usize, bytes: &[u8]) -> bool {
-    let Ok(items) = found else {
-        return false;
-    };
-    match encode::<B>(alloc, items.as_slice()) {
+// Whether these are so many items, and are spelled by these bytes, which spell no others.
+fn are_spelled<B: Body>(
+    alloc: Global,
+    items: &[Item<B::Unit>],
+    count: usize,
+    bytes: &[u8],
+) -> bool {
+    match encode::<B>(alloc, items) {
         Ok(spelling) => items.len() == count && spelling.as_slice() == bytes,
         Err(_) => false,
     }
@@ -108,23 +90,25 @@ fn are_spelled<B: Body>(alloc: Global, found: &Found<B>, count: usize, bytes: &[
 // What all decoders say of the bytes: how many items they are, or the fault. None where two differ, or where the
 // items don't come back from their encoding.
 fn answer<B: Body>(rt: &impl Abort, alloc: Global, bytes: &[u8]) -> Option<Result<usize, Fault>> {
-    let in_bytes = fed::<B>(rt, alloc, bytes);
+    let in_bytes = heard::<B>(rt, alloc, bytes, Cut::Pieces(1));
     let in_steps = watched::<B>(rt, alloc, bytes);
-    match decode_all::<B>(alloc, bytes) {
-        Ok(items) => {
+    match (decode_all::<B>(alloc, bytes), in_steps) {
+        (Ok(items), Ok(in_steps)) => {
             let count = items.len();
             let spelling = encode::<B>(alloc, items.as_slice()).expect(rt, "a spelling");
             let spelled = spelling.as_slice();
-            let back = decode_all::<B>(alloc, spelled);
-            let same = are_spelled::<B>(alloc, &in_bytes, count, spelled)
-                && are_spelled::<B>(alloc, &in_steps, count, spelled)
-                && are_spelled::<B>(alloc, &back, count, spelled);
+            let back = decode_all::<B>(alloc, spelled).expect(rt, "items");
+            let same = in_bytes.end.is_ok()
+                && are_spelled::<B>(alloc, in_bytes.items.as_slice(), count, spelled)
+                && are_spelled::<B>(alloc, in_steps.as_slice(), count, spelled)
+                && are_spelled::<B>(alloc, back.as_slice(), count, spelled);
             same.then_some(Ok(count))
         }
-        Err(fault) => {
-            let same = in_bytes.err() == Some(fault) && in_steps.err() == Some(fault);
+        (Err(fault), Err(in_steps)) => {
+            let same = in_bytes.end.err() == Some(fault) && in_steps == fault;
             same.then_some(Err(fault))
         }
+        _ => None,
     }
 }
 
@@ -165,6 +149,21 @@ fn truncation(rt: HostRuntime) {
     }
 }
 
+// The fault of a stream that is pushed byte by byte. A refusal comes with the byte that it names, and is the last
+// step that says anything.
+fn live_fault(bytes: &[u8]) -> Option<Fault> {
+    let mut live = Live::<Commands>::new();
+    for (at, byte) in bytes.iter().enumerate() {
+        if let Step::Refused { place, reason } = live.push(*byte) {
+            if place != at as u64 || !matches!(live.push(0), Step::Failed) {
+                return Some(Fault::Failed);
+            }
+            return Some(Fault::Refused { place, reason });
+        }
+    }
+    live.finish().err()
+}
+
 fn expect_fronts(rt: &impl Abort, alloc: Global, vector: &Vector) {
     let name = vector.name;
     for count in 0..vector.bytes.len() {
@@ -174,27 +173,28 @@ fn expect_fronts(rt: &impl Abort, alloc: Global, vector: &Vector) {
     }
     let found = answer_from(rt, vector.side, alloc, vector.bytes);
     same_at(rt, name, found, Some(vector.outcome));
+    if matches!(vector.side, Side::FromHost) {
+        let found = live_fault(vector.bytes);
+        same_at(rt, name, found, vector.outcome.err());
+    }
 }
 
 // The decoders say the same for each value of the byte at a place.
-fn expect_each_value(rt: &impl Abort, alloc: Global, vector: &Vector, bytes: &mut [u8], at: usize) {
+fn expect_each_value(rt: &impl Abort, alloc: Global, vector: &Vector, at: usize) {
+    let mut bytes = vector.bytes.to_vec(alloc).expect(rt, "memory");
     for value in 0..=255u8 {
         if let Some(byte) = bytes.get_mut(at) {
             *byte = value;
         }
-        let found = answer_from(rt, vector.side, alloc, bytes);
-        same_at(rt, (vector.name, at, value), found.is_some(), true);
+        let found = answer_from(rt, vector.side, alloc, bytes.as_slice());
+        same_at(rt, bytes.as_slice(), found.is_some(), true);
     }
 }
 
 // The same for each place of a stream.
 fn expect_each_place(rt: &impl Abort, alloc: Global, vector: &Vector) {
-    let mut bytes = vector.bytes.to_vec(alloc).expect(rt, "memory");
-    for (at, kept) in vector.bytes.iter().enumerate() {
-        expect_each_value(rt, alloc, vector, bytes.as_mut_slice(), at);
-        if let Some(byte) = bytes.get_mut(at) {
-            *byte = *kept;
-        }
+    for at in 0..vector.bytes.len() {
+        expect_each_value(rt, alloc, vector, at);
     }
 }
 
@@ -218,52 +218,66 @@ fn change_of_length_255(rt: HostRuntime) {
     }
 }
 
-// A byte of `invite`, its new value, the place that is then refused, and why.
-const CHANGED_INVITES: [(usize, u8, u64, Reason); 10] = [
-    (0, 0x01, 11, Reason::TooShort),
-    (1, 0x0b, 11, Reason::TooShort),
-    (2, 0x13, 2, Reason::BadType),
-    (4, 0x01, 4, Reason::BadReserved),
-    (6, 0x05, 6, Reason::BadVariableLength),
-    (9, 0x07, 9, Reason::UnknownOpcode),
-    (9, 0xff, 10, Reason::UnknownOpcode),
-    (10, 0x41, 10, Reason::TooLong),
-    (11, 0xff, 11, Reason::TooLong),
-    (11, 0xf0, 11, Reason::StraySe),
+// `invite` with another value for one byte, the place that is then refused, and why.
+const CHANGED_INVITES: [(&[u8], u64, Reason); 10] = [
+    (
+        b"\x01\x0a\x12\xa0\x00\x00\x04\x00\x00\x01\xff\xef",
+        11,
+        Reason::TooShort,
+    ),
+    (
+        b"\x00\x0b\x12\xa0\x00\x00\x04\x00\x00\x01\xff\xef",
+        11,
+        Reason::TooShort,
+    ),
+    (
+        b"\x00\x0a\x13\xa0\x00\x00\x04\x00\x00\x01\xff\xef",
+        2,
+        Reason::BadType,
+    ),
+    (
+        b"\x00\x0a\x12\xa0\x01\x00\x04\x00\x00\x01\xff\xef",
+        4,
+        Reason::BadReserved,
+    ),
+    (
+        b"\x00\x0a\x12\xa0\x00\x00\x05\x00\x00\x01\xff\xef",
+        6,
+        Reason::BadVariableLength,
+    ),
+    (
+        b"\x00\x0a\x12\xa0\x00\x00\x04\x00\x00\x07\xff\xef",
+        9,
+        Reason::UnknownOpcode,
+    ),
+    (
+        b"\x00\x0a\x12\xa0\x00\x00\x04\x00\x00\xff\xff\xef",
+        10,
+        Reason::UnknownOpcode,
+    ),
+    (
+        b"\x00\x0a\x12\xa0\x00\x00\x04\x00\x00\x01\x41\xef",
+        10,
+        Reason::TooLong,
+    ),
+    (
+        b"\x00\x0a\x12\xa0\x00\x00\x04\x00\x00\x01\xff\xff",
+        11,
+        Reason::TooLong,
+    ),
+    (
+        b"\x00\x0a\x12\xa0\x00\x00\x04\x00\x00\x01\xff\xf0",
+        11,
+        Reason::StraySe,
+    ),
 ];
 
 #[test]
 fn changed_invites(rt: HostRuntime) {
-    let alloc = rt.alloc();
-    for (at, value, place, reason) in &CHANGED_INVITES {
+    for (bytes, place, reason) in &CHANGED_INVITES {
         let (place, reason) = (*place, *reason);
-        let bytes = invite_with(&rt, alloc, *at, *value);
-        let found = answer::<Commands>(&rt, alloc, bytes.as_slice());
+        let found = answer::<Commands>(&rt, rt.alloc(), bytes);
         let wanted = Some(Err(Fault::Refused { place, reason }));
-        same_at(&rt, (*at, *value), found, wanted);
+        same_at(&rt, bytes, found, wanted);
     }
-    command_in_an_open_record(&rt, alloc);
-}
-
-// `invite` with another value for one byte.
-fn invite_with(rt: &impl Abort, alloc: Global, at: usize, value: u8) -> Vec<u8> {
-    let mut bytes = INVITE.to_vec(alloc).expect(rt, "memory");
-    match bytes.get_mut(at) {
-        Some(byte) => *byte = value,
-        None => panic!(rt; "a byte"),
-    }
-    bytes
-}
-
-// With F1 for its last byte a command is told, and the record is still open.
-fn command_in_an_open_record(rt: &impl Abort, alloc: Global) {
-    let mut receiver = Receiver::<Commands>::new(alloc);
-    for byte in &INVITE[..11] {
-        let fed = receiver.feed(&[*byte]).expect(rt, "a byte");
-        holds(rt, fed.item.is_none());
-    }
-    let fed = receiver.feed(b"\xf1").expect(rt, "a command");
-    let nop = Item::Telnet(Telnet::Command(CommandCode::Nop));
-    same(rt, fed.item, Some(nop));
-    same(rt, receiver.finish(), Err(Fault::Truncated { at: 12 }));
 }

@@ -2,13 +2,13 @@
 use ws_code::{Fault, Reason};
 
 // What the bodies of a stream's records are.
-#[derive(Clone, Copy, Debug, PartialEq, Eq)]
+#[derive(Clone, Copy)]
 pub enum Side {
     FromHost,
     FromStation,
 }
 
-#[derive(Clone, Copy, Debug)]
+#[derive(Clone, Copy)]
 pub struct Vector<'a> {
     pub name: &'a str,
     pub side: Side,
