@@ -153,7 +153,8 @@ fn field_of(
     told: &mut ReadFieldTold,
 ) -> Status
     ensures { OnHost handle.old.owned.value handle.new.owned.value result
-        (λ old new. (new ≡ old) × IsFieldRead old.answer index result told.new buffer.old buffer.new)
+        (λ old new. (new ≡ old)
+        × IsFieldRead old.answer index result told.new buffer.old buffer.new)
         ((told.new ≡ no_read_field) × (buffer.new ≡ buffer.old)) }
 {
     *told = ReadFieldTold::nothing();
@@ -180,7 +181,8 @@ pub extern "C" fn ws_c_host_answer_field(
 ) -> u32
     ensures { (status : AStatus) × (result ≡ status_number status)
         × OnHost handle.old.owned.value handle.new.owned.value status
-        (λ old new. (new ≡ old) × IsFieldRead old.answer index status told.new buffer.old buffer.new)
+        (λ old new. (new ≡ old)
+        × IsFieldRead old.answer index status told.new buffer.old buffer.new)
         ((told.new ≡ no_read_field) × (buffer.new ≡ buffer.old)) }
 {
     field_of(alloc, handle, index, buffer, told).number()

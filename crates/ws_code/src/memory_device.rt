@@ -50,7 +50,8 @@ impl Source for SliceSource<'_> {
 /// it. A reader meets no fault in a slice of fewer than 4,294,967,296 bytes.
 pub fn slices_are_given_whole()
     ensures front { (from to : List ℕ) (reads : ℕ) (bytes : List ℕ)
-        → Gave list_gives (λ _. 0) from to reads bytes → (from ≡ bytes ++ to) × (reads ≤ length bytes) }
+        → Gave list_gives (λ _. 0) from to reads bytes → (from ≡ bytes ++ to)
+        × (reads ≤ length bytes) }
     ensures whole { (from to bytes : List ℕ)
         → GaveAll list_gives (λ _. 0) from to bytes → (bytes ≡ from) × (to ≡ []) }
     ensures no_fault { (from to bytes : List ℕ) → length from < most_reads

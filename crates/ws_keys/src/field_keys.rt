@@ -17,7 +17,8 @@ pub fn entered_field(screen: &Screen) -> Result<Field, KeyRefusal>
     ensures { MatchResult result
         (λ field. (screen.now.locked ≡ false) × (open_field screen.now ≡ Some field)
         × (1 ≤ field.length) × (field.start + field.length ≤ CELLS))
-        (λ why. Spec.first_of (Spec.locked_refusal screen.now ∷ Spec.protected_refusal screen.now ∷ []) ≡ Some why) }
+        (λ why. Spec.first_of
+        (Spec.locked_refusal screen.now ∷ Spec.protected_refusal screen.now ∷ []) ≡ Some why) }
 {
     if screen.locked() {
         return Err(KeyRefusal::Locked);
@@ -34,7 +35,8 @@ pub fn change_field(screen: &mut Screen, field: &Field, change: Change, to: Addr
     requires asked { AsksChange change field.now.format
         (screen.old.cursor - field.now.start) field.now.length }
     ensures { screen.new ≡ after_edit (field_edit field.now
-        (after_change change field.now.format (cells_of screen.old field.now) (screen.old.cursor - field.now.start)) to)
+        (after_change change field.now.format (cells_of screen.old field.now)
+        (screen.old.cursor - field.now.start)) to)
         screen.old }
 {
     let edit = FieldEdit {

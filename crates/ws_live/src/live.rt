@@ -98,7 +98,8 @@ pub trait Watch {
 pub trait LiveMove<E, S, K>: LiveLine {
     // At a watch that may tell this, and with screens in this paint, the line came to this at the one state, printed
     // this text, and left the other.
-    ghost runs: { (Bool → Type 0) → APaint → Self → AttachedParts E S K → Result AClosing AFault → List ℕ
+    ghost runs: { (Bool → Type 0) → APaint → Self → AttachedParts E S K → Result AClosing AFault
+        → List ℕ
         → AttachedParts E S K → Type 0 };
 
     /// Carries the line out, and prints what it tells.

@@ -50,7 +50,8 @@ where
     ensures fault { IfErr result (λ fault. (lines : List AStationLine)
         × MatchOption script (Unit {0}) (λ asked. lines ≡ asked.items)
         × IsSessionFault
-        (StationRuns K.takes K.failures S.gives S.failures (W.tells watch.now) paint) ready O.takes O.failures attached.old attached.new out.old.sink out.new.sink
+        (StationRuns K.takes K.failures S.gives S.failures (W.tells watch.now) paint) ready
+        O.takes O.failures attached.old attached.new out.old.sink out.new.sink
         (is_some script) lines fault) }
 {
     match carry_session(rt, attached, watch, script, ready, paint, out) {

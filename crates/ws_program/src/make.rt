@@ -24,7 +24,8 @@ pub fn make_to<B: Body, S: Sink>(
     ensures ok { OnOk result
         (WentOut S.takes S.failures sink.old sink.new (made_text B.rules items.now)) }
     ensures fault { IfErr result
-        (IsTextFault S.takes S.failures sink.old sink.new (λ text. text ≡ made_text B.rules items.now)) }
+        (IsTextFault S.takes S.failures sink.old sink.new
+        (λ text. text ≡ made_text B.rules items.now)) }
 {
     let text = hex_lines::<B>(alloc, items)?;
     match put(sink, Output::Open, text.as_slice()) {

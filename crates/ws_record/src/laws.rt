@@ -51,7 +51,8 @@ pub fn one_fault<B: Body>()
 /// others.
 pub fn encoding_spells_its_items<B: Body>()
     ensures accepted { (items : List (Item B.Unit)) → CanAllBeEncoded B.rules items
-        → AllByRecursion IsInRange items → IsInGrammar B.rules (plain_spelling B.rules items) items }
+        → AllByRecursion IsInRange items
+        → IsInGrammar B.rules (plain_spelling B.rules items) items }
     ensures only { (items others : List (Item B.Unit)) → CanAllBeEncoded B.rules items
         → AllByRecursion IsInRange items → Spells B.rules (plain_spelling B.rules items) others
         → others ≡ items }
@@ -63,7 +64,8 @@ pub fn fronts_hold_items<B: Body>()
     ensures held { (items : List (Item B.Unit)) → CanAllBeEncoded B.rules items
         → AllByRecursion IsInRange items → (front rest : List ℕ)
         → plain_spelling B.rules items ≡ front ++ rest
-        → (so_far begun : List ℕ) × Holds B.rules front (arrived B.rules items (length front)) so_far begun }
+        → (so_far begun : List ℕ)
+        × Holds B.rules front (arrived B.rules items (length front)) so_far begun }
     ensures unrefused { (items : List (Item B.Unit)) → CanAllBeEncoded B.rules items
         → AllByRecursion IsInRange items → (front rest : List ℕ)
         → plain_spelling B.rules items ≡ front ++ rest

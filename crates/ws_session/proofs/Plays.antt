@@ -128,9 +128,6 @@ pub next_key : (keys : List (ℕ × Key)) (p : ℕ) (k : ℕ × Key) → p < len
 next_key keys p k h e = drop-cons keys p k h ∙ ap (λ z. z ∷ drop (suc p) keys) (sym e) ∙ ap (λ n. k ∷ drop n keys)
     (sym (add-one p))
 
-pub none_left : (keys : List (ℕ × Key)) (p : ℕ) → length keys ≤ p → drop p keys ≡ []
-none_left keys p h = drop_all p keys h
-
 -- the tests that the code makes
 pub not_reached : (records here n k : ℕ) → here ≡ records → here < n → n ≡ k → nat_lt records k ≡ true
 not_reached records here n k e h f = grind (arith, nat_tests, e, h, f)

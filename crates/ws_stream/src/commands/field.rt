@@ -72,7 +72,8 @@ impl Commands {
         requires begun { IsUnfinished element_rules self.old.place
             (START_OF_FIELD ∷ words_bytes format self.old.controls ++ high ∷ []) }
         ensures { GoesOn self.old.place
-            (START_OF_FIELD ∷ words_bytes format self.old.controls ++ high ∷ []) byte self.new result }
+            (START_OF_FIELD ∷ words_bytes format self.old.controls ++ high ∷ []) byte self.new
+            result }
     {
         self.controls.push(word(high, byte));
         self.wait_for(Phase::FieldNext(format))
@@ -85,7 +86,8 @@ impl Commands {
         requires begun { IsUnfinished element_rules self.old.place
             (START_OF_FIELD ∷ front_bytes format self.old.controls ++ attribute ∷ []) }
         ensures { GoesOn self.old.place
-            (START_OF_FIELD ∷ front_bytes format self.old.controls ++ attribute ∷ []) byte self.new result }
+            (START_OF_FIELD ∷ front_bytes format self.old.controls ++ attribute ∷ []) byte self.new
+            result }
     {
         self.wait_for(Phase::LengthLow(format, attribute, byte))
     }
@@ -104,7 +106,8 @@ impl Commands {
         requires begun { IsUnfinished element_rules self.old.place
             (START_OF_FIELD ∷ front_bytes format self.old.controls ++ attribute ∷ high ∷ []) }
         ensures { Takes K.holds K.may_answer self.old.place
-            (START_OF_FIELD ∷ front_bytes format self.old.controls ++ attribute ∷ high ∷ []) keep.old byte
+            (START_OF_FIELD ∷ front_bytes format self.old.controls ++ attribute ∷ high ∷ [])
+            keep.old byte
             self.new keep.new result }
     {
         let controls = match format {

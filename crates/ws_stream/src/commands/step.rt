@@ -109,7 +109,8 @@ impl Commands {
         ensures used { result.used ≤ length values.now }
         ensures whole { result.end ≡ AnEnd.More → result.used ≡ length values.now }
         ensures run { IsRun element_rules K.holds K.may_answer (reading_of self.old) keep.old
-            (take result.used values.now) (reading_of self.new) (standing_of self.new) keep.new result.end }
+            (take result.used values.now) (reading_of self.new)
+            (standing_of self.new) keep.new result.end }
     {
         for (index, value) in values.iter().enumerate() {
             match self.take(keep, *value) {

@@ -1,6 +1,6 @@
-use Rattle.ws_session.proofs.Common.{◌+◌, sym, ap, ◌∙◌, err_from_is_err_and, due, later}
+use Rattle.ws_session.proofs.Common.{◌+◌, sym, ap, ◌∙◌, drop_all, err_from_is_err_and, due, later}
 use Rattle.ws_session.proofs.Plays.{pressing_starts, pressing_next, pressing_ends, pressing_fails, none_due}
-use Rattle.ws_session.proofs.Plays.{next_key, none_left, not_reached, is_reached}
+use Rattle.ws_session.proofs.Plays.{next_key, not_reached, is_reached}
 use Rattle.ws_session.proofs.player.Player.press_due.Goals as goal
 
 pub loop-self-init : goal.loop-self-init
@@ -52,9 +52,9 @@ loop-self-preserved g c =
 
 pub returns-clause-done : goal.returns-clause-done
 returns-clause-done g c = pressing_ends _ _ _ _ _ _ _ c.loop-self.invariant
-    (ap (due c.args.self.now.records) (none_left c.args.keys.now c.loop-self.self.pressed c.loop-self-test.false))
+    (ap (due c.args.self.now.records) (drop_all c.loop-self.self.pressed c.args.keys.now c.loop-self-test.false))
 
 pub returns-clause-left : goal.returns-clause-left
 returns-clause-left g c =
-    let none = none_left c.args.keys.now c.loop-self.self.pressed c.loop-self-test.false in
+    let none = drop_all c.loop-self.self.pressed c.args.keys.now c.loop-self-test.false in
     none ∙ ap (later c.args.self.now.records) (sym none) ∙ sym c.loop-self.invariant.later_is
