@@ -3,7 +3,7 @@ use C.{failed_within_both, HasWrittenFront, flat_map-append, outcome_of_both, st
 use C.{went_out_both, went_out_none, item_spelling, if◌then◌else◌, refusal_count, StationLeads, IsKeyRefusal, nat_tests}
 use C.{answer_rules, append_assoc, FailedWithin, idle_outcome, StationParts, StationGoes, StationSide, station_key, ◌∙◌}
 use C.{KeyReaction, AnswerPart, append-nil, RefusesKey, HasWritten, IsKeyTaken, drop-cons, at_moment, KeyFault, add-one}
-use C.{drop_all, Outcome, Applied, MayTake, HasDone, Element, Presses, outcome, Moment, false}
+use C.{Outcome, Applied, MayTake, HasDone, Element, Presses, outcome, Moment, false}
 use C.{at_key, nat_lt, length, get_or, Player, arith, later, drop, refl, true, Item, List, Bool, ◌++◌, suc, min, ◌^◌, ℕ}
 use C.{sym, ◌≡◌, ◌<◌, ◌∷◌, Key, ◌-◌, ◌+◌, Did, ap₂, due, ◌≤◌, [], ap}
 use Rattle.ws_session.proofs.EndDeeds.{key_did}
