@@ -113,7 +113,8 @@ pub use Rattle.ws_session.specs.StationSide.{Silent, Answers, Signals, station_k
 pub use Rattle.ws_session.specs.StationSide.{key_by_refusal, new_station_side, presses, answer_record}
 pub use Rattle.ws_session.specs.HostSide.{HostSide, sent_record, is_outstanding, after_read, tells, ready_event}
 pub use Rattle.ws_session.specs.HostSide.{host_negotiates, host_reads, host_reads_by, host_ends_cancel, signal}
-pub use Rattle.ws_session.specs.HostSide.{host_takes_record, host_takes, HostOutput, SendReaction, RefusesSend, Sends}
+pub use Rattle.ws_session.specs.HostSide.{host_takes_record, host_takes, HostOutput, TellsAnswer, SendReaction}
+pub use Rattle.ws_session.specs.HostSide.{RefusesSend, Sends}
 pub use Rattle.ws_session.specs.HostSide.{host_cancel, host_send, asked_read, host_sends_body, new_host_side}
 pub use Rattle.ws_session.specs.HostSide.{is_too_big, ready_by_terminal}
 pub use Rattle.ws_session.specs.Reaction.{empty_record, Refuses, GoesOn, Reaction}

@@ -52,7 +52,7 @@ IsHostNewsTaken old news.NoMemory new result = HasEnded old Memory new result
 IsHostNewsTaken old news.Failed new result = HasEnded old Failed new result
 
 -- what the last of these bytes gives, where no item is complete before it; memory is wanting only where a unit is
--- complete with it, or an item that isn't refused
+-- complete with it, or an answer that isn't refused
 abbrev pub IsHostFronted : HostParts → HostParts → List ℕ → List (Item AnswerPart) → HostSide
     → Result HostStep Refusal → Type 0
 IsHostFronted old new bytes items side (Ok step) = HostStaysInside old new bytes items side step
