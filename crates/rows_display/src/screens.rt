@@ -13,12 +13,13 @@ pub fn at(rt: &impl Abort, row: u8, col: u8) -> Address {
 
 // The element that bytes begin with, and the number of its bytes.
 fn first_element(place: Place, bytes: &[u8]) -> Option<(Element, usize)> {
+    let mut machine = Commands::start(place);
     let mut at = Standing {
         place,
         is_inside: false,
     };
     let mut slot = None;
-    let run = Commands::start(place).run(&mut at, bytes, &mut slot);
+    let run = machine.run(&mut at, bytes, &mut slot);
     Some((slot?, run.used))
 }
 

@@ -13,10 +13,6 @@ use Rattle.ws_text.proofs.Lists.{texts}
 
 -- The words of a Start of Field.
 
-pub pairs_length : (words : List (List ℕ)) (n : List ℕ) → ArePairs words n → length n ≡ length words
-pairs_length [] n a = ap length a
-pairs_length (word ∷ words) n a = omega (arith, pairs_length words a.1 a.3, ap length a.4)
-
 pairs_more : (words : List (List ℕ)) (word : List ℕ) (n : List ℕ) (m : ℕ) → ArePairs words n → IsHexPair word m
     → ArePairs (words ++ word ∷ []) (n ++ m ∷ [])
 pairs_more [] word n m a b = (m, [], b, refl, ap (λ z. z ++ m ∷ []) a)

@@ -1,5 +1,7 @@
 pub mod FieldWords
+pub mod HexRuns
 pub mod HexWords
+pub mod WordCounts
 pub mod LineEnds
 pub mod LineWords
 pub mod Lists

@@ -1,4 +1,4 @@
-use Rattle.std.proofs.Common.{◌≡◌, ◌⊎◌, inl, inr, ℕ, List, [], ◌∷◌, ◌++◌, length, drop, Bor, ◌+◌, refl, sym}
+use Rattle.std.proofs.Common.{◌≡◌, inl, inr, ℕ, List, [], ◌∷◌, ◌++◌, length, drop, Bor, ◌+◌, refl, sym}
 use Rattle.std.proofs.Common.{ap, subst, ◌∙◌}
 use Rattle.std.specs.Prelude.{codes, Option, Some, None, MatchOption}
 use Rattle.std.specs.Str.Pattern.{FindsTextPrefix}
@@ -17,13 +17,9 @@ use Rattle.ws_text.proofs.Lists.{differ}
 
 -- a fault of a part, as one of what holds the part
 pub fault_on : {X Y : Type 0} (P : X → Type 0) (Q : Y → Type 0) (fault : LineFault)
-    → (((x : X) → P x → ⊥) → (y : Y) → Q y → ⊥) → IsFault P fault → IsFault Q fault
-fault_on P Q Bad f h = f h
-fault_on P Q Memory f h = tt
-
-pub fault_by : {X : Type 0} (P : X → Type 0) (fault : LineFault) → (fault ≡ Bad → (x : X) → P x → ⊥) → IsFault P fault
-fault_by P Bad h = h refl
-fault_by P Memory h = tt
+    → (((x : X) → P x → ⊥) → (y : Y) → Q y → ⊥) → ((x : X) → P x → (y : Y) × Q y) → IsFault P fault → IsFault Q fault
+fault_on P Q Bad f g h = f h
+fault_on P Q Memory f g h = g h.0 h.1
 
 -- a line of units begins no item
 pub indented_item : {U : Type 0} (words rest : List (List ℕ)) (says : Part U) → words ≡ [] ∷ rest

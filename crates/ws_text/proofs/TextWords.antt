@@ -1,10 +1,9 @@
-use Rattle.std.proofs.Common.{◌≡◌, ◌≢◌, ◌⊎◌, ℕ, ◌+◌, ◌<◌, List, [], ◌∷◌, ◌++◌, Bool, true, false, ◌==◌}
+use Rattle.std.proofs.Common.{◌≡◌, ℕ, List, [], ◌∷◌, ◌++◌, Bool, true, false, ◌==◌}
 use Rattle.std.proofs.Common.{length, get_or, drop, Bor, refl, sym, ap, subst, ◌∙◌, arith}
 use Rattle.std.specs.Prelude.{codes}
 use Rattle.std.specs.Prelude.{Option, Some, None}
 use Rattle.ws_text.specs.Words.{words_of}
 use Rattle.ws_text.specs.declared.line.Part.{Part}
-use Rattle.ws_text.specs.declared.line.Part.TheVariants as part
 use Rattle.ws_text.specs.TextLines.{AreTyped, AreUnits, IsWorded, Means}
 use Rattle.ws_text.specs.TextLines.AreUnits.{one, run}
 use Rattle.ws_text.specs.TextLines.Means.{empty, comment, typed, worded}
@@ -43,13 +42,12 @@ no_typed_line w clear line text e bad says (worded h) =
 -- a line that is neither empty nor a comment nor characters
 pub no_worded : {U : Type 0} (w : Wording U) (line : List ℕ) → (line ≡ [] → ⊥) → ((text : List ℕ) → line ≡ codes "#"
     ++ text → ⊥)
-    → ((text : List ℕ) → line ≡ codes "  TEXT " ++ text → ⊥) → (words : List (List ℕ)) → words ≡ words_of line
-    → ((says : Part U) → IsWorded w words says → ⊥) → (says : Part U) → Means w line says → ⊥
-no_worded w line some plain other words e bad says (empty f g) = some f
-no_worded w line some plain other words e bad says (comment text f g) = plain text f
-no_worded w line some plain other words e bad says (typed text us f h g) = other text f
-no_worded w line some plain other words e bad says (worded h) =
-    bad says (subst (λ (z : List (List ℕ)). IsWorded w z says) (sym e) h)
+    → ((text : List ℕ) → line ≡ codes "  TEXT " ++ text → ⊥)
+    → ((says : Part U) → IsWorded w (words_of line) says → ⊥) → (says : Part U) → Means w line says → ⊥
+no_worded w line some plain other bad says (empty f g) = some f
+no_worded w line some plain other bad says (comment text f g) = plain text f
+no_worded w line some plain other bad says (typed text us f h g) = other text f
+no_worded w line some plain other bad says (worded h) = bad says h
 
 pub is_nil_by : (text : List ℕ) (r : Bool) → r ≡ (length text == 0) → r ≡ true → text ≡ []
 is_nil_by text r e h = is_none text (sym e ∙ h)

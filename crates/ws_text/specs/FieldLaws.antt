@@ -1,6 +1,6 @@
 -- The words of a Start of Field say one.
 
-use Rattle.std.specs.Prelude.{◌≡◌, ℕ, ◌+◌, List, [], ◌∷◌, ◌++◌, Option, Some, None, length, refl}
+use Rattle.std.specs.Prelude.{◌≡◌, ℕ, ◌≤◌, List, [], ◌∷◌, ◌++◌, Option, Some, None, length, refl}
 use Rattle.std.proofs.Common.{sym, ap, subst, ◌∙◌, arith, length-append}
 use Rattle.hex.proofs.HexLemmas.{decode_of-same}
 use Rattle.ws_stream.specs.FieldOrder.{FieldOrder, IsFieldOrder, HasFormat}
@@ -93,3 +93,22 @@ one_field words f g a b =
     (one_format g.format g.controls _ b.legal.formatted refl) in
     same_order f g formats.0 formats.1 (byte_same b.attribute f.attribute g.attribute p.attribute b.is_attribute)
     (p.length.2 ∙ sym b.is_length.2)
+
+-- as many numbers as words
+pub pairs_length : (words : List (List ℕ)) (n : List ℕ) → ArePairs words n → length n ≡ length words
+pairs_length [] n a = ap length a
+pairs_length (word ∷ words) n a = omega (arith, pairs_length words a.1 a.3, ap length a.4)
+
+few_pairs : (o : Option ℕ) (controls : List ℕ) → length controls ≤ 8 → length (format_and_controls o controls) ≤ 9
+few_pairs None controls h = omega (arith, h)
+few_pairs (Some f) controls h = omega (arith, h)
+
+-- a field has at most eleven words
+pub few_in_field : (words : List (List ℕ)) (f : FieldOrder) → AreField words f → length words ≤ 11
+few_in_field words f a = omega (
+  arith,
+  ap length a.split,
+  length-append a.pairs (a.attribute ∷ a.length ∷ []),
+  pairs_length a.pairs (format_and_controls f.format f.controls) a.are_pairs,
+  few_pairs f.format f.controls a.legal.few,
+)

@@ -1,6 +1,6 @@
 -- Words say one thing.
 
-use Rattle.std.specs.Prelude.{◌≡◌, ℕ, List, [], ◌∷◌, Option, Some, codes, length, get_or}
+use Rattle.std.specs.Prelude.{◌≡◌, ℕ, ◌≤◌, List, [], ◌∷◌, Option, Some, codes, length, get_or}
 use Rattle.std.proofs.Common.{inl, inr, sym, ap, subst, ◌∙◌, arith}
 use Rattle.hex.proofs.HexLemmas.{decode_of-same}
 use Rattle.ws_code.specs.Address.{place_of}
@@ -17,8 +17,8 @@ use Rattle.ws_text.specs.ElementWords.{AreControls, AreBytes, ArePlace, AreFill,
 use Rattle.ws_text.specs.ElementWords.{IsOneElement}
 use Rattle.ws_text.specs.ElementWords.{element_wording}
 use Rattle.ws_text.specs.AnswerWords.{IsOnePart, answer_wording}
-use Rattle.ws_text.specs.FieldLaws.{byte_same, one_field}
-use Rattle.ws_text.specs.Wording.{IsClear}
+use Rattle.ws_text.specs.FieldLaws.{byte_same, one_field, few_in_field}
+use Rattle.ws_text.specs.Wording.{IsClear, HasFewWords}
 
 -- the first word, and what stands behind it
 abbrev pub head_of : List (List ℕ) → List ℕ
@@ -184,3 +184,33 @@ answers_clear = record {
   apart = λ e. omega (arith, ap length e);
   one = one_part;
 }
+
+-- bytes stand in one word at most
+pub few_bytes : (words : List (List ℕ)) (bytes : List ℕ) → AreBytes words bytes → length words ≤ 1
+few_bytes words bytes (inl none) = omega (arith, ap length none.0)
+few_bytes words bytes (inr hex) = omega (arith, ap length hex.1)
+
+-- no element has more than eleven words behind its name
+few_said : (kind : Kind) (words : List (List ℕ)) (e : Element) → Says kind words e → length words ≤ 11
+few_said ClearUnit words e h = omega (arith, ap length h.0)
+few_said ClearFormat words e h = omega (arith, ap length h.0)
+few_said Write words e h = omega (arith, ap length h.1.2)
+few_said ReadInput words e h = omega (arith, ap length h.1.2)
+few_said ReadMdt words e h = omega (arith, ap length h.1.2)
+few_said ReadMdtAlternate words e h = omega (arith, ap length h.1.2)
+few_said Soh words e h = omega (arith, few_bytes words h.0 h.1)
+few_said Ra words e h = omega (arith, ap length h.1.1.2)
+few_said Ea words e h = omega (arith, ap length h.1.1.2)
+few_said Sba words e h = omega (arith, ap length h.1.2)
+few_said Ic words e h = omega (arith, ap length h.1.2)
+few_said Mc words e h = omega (arith, ap length h.1.2)
+few_said Sf words e h = few_in_field words h.0 h.1
+
+pub few_of_element : HasFewWords element_wording
+few_of_element name words e h = few_said h.0 words e h.2
+
+-- nor has a part of an answer
+pub few_of_part : HasFewWords answer_wording
+few_of_part name words (Head cursor aid) h = omega (arith, ap length h.1.1.2)
+few_of_part name words (At place) h = omega (arith, ap length h.1.2)
+few_of_part name words (Byte byte) h = absurd h

@@ -1,6 +1,6 @@
 -- How the units of a body are written in words.
 
-use Rattle.std.specs.Prelude.{◌≡◌, ◌≢◌, ℕ, List, true, codes}
+use Rattle.std.specs.Prelude.{◌≡◌, ◌≢◌, ℕ, ◌≤◌, List, true, length, codes}
 use Rattle.ws_code.specs.Code.{Rules}
 
 -- Bytes stand in runs, in hex behind a name or as characters. Any other unit has a name of its own, and words behind
@@ -18,6 +18,10 @@ pub record IsClear {U : Type 0} (w : Wording U) : Type 0 where
   pub no_bytes : (words : List (List ℕ)) (u : U) → ¬ w.IsOne w.bytes words u
   pub apart : w.bytes ≢ codes "TEXT"
   pub one : (name : List ℕ) (words : List (List ℕ)) (u v : U) → w.IsOne name words u → w.IsOne name words v → u ≡ v
+
+-- at most eleven words stand behind the name of a unit
+abbrev pub HasFewWords : {U : Type 0} → Wording U → Type 0
+HasFewWords {U} w = (name : List ℕ) (words : List (List ℕ)) (u : U) → w.IsOne name words u → length words ≤ 11
 
 -- a body that may end behind any unit, so that each line of it is right or wrong by itself
 abbrev pub EndsEverywhere : {Place U : Type 0} → Rules Place U → Type 0

@@ -7,9 +7,8 @@ ghost use Rattle.ws_stream.specs.declared.answer_part.AnswerPart.{AnswerPart as 
 ghost use Rattle.ws_stream.specs.declared.element.Element.{Element as AnElement};
 ghost use Rattle.ws_text.specs.AnswerWords.{answer_wording};
 ghost use Rattle.ws_text.specs.ElementWords.{element_wording};
-ghost use Rattle.ws_text.specs.Faults.{IsFault};
 ghost use Rattle.ws_text.specs.Reading.{AreSound, so_far};
-ghost use Rattle.ws_text.specs.Items.{AreItems, IsTextFault, Reads};
+ghost use Rattle.ws_text.specs.Items.{AreItems, IsLineFault, IsTextFault, Reads};
 ghost use Rattle.ws_text.specs.Shown.{Shows, ShowsAnswers};
 
 use crate::fault::LineFault;
@@ -26,7 +25,7 @@ use ws_stream::{AnswerPart, Answers, Commands, Element};
 pub enum TextFault {
     /// This line, counted from 1, is the first bad one.
     Line(u64),
-    /// A growth was refused.
+    /// A growth was refused: behind good lines, at one that is good by itself, or behind all lines.
     Memory,
 }
 
@@ -34,7 +33,7 @@ pub enum TextFault {
 ///
 /// `Line` where a line is bad, with the number of the first one: it has no such form, a number is out of range, a
 /// character has no byte in code page 037, or elements can't stand there or make the record too long (RFC 1205,
-/// section 3). `Memory` where a growth was refused.
+/// section 3). `Memory` where a growth was refused. No line of a bad form is told so, and the lines before are good.
 ///
 /// Where the lines spell items, they spell no others: the result is these very items, want of memory aside. Each of
 /// them can be encoded. And whatever items `encode` accepts, the text that `show` prints of them spells them.
@@ -116,7 +115,7 @@ fn read_next<B: Worded>(
     ensures given { IfOk result (λ new.
         Reads B.rules B.wording line.now (so_far reading) (so_far new)) }
     ensures fault { IfErr result
-        (IsFault (Reads B.rules B.wording line.now (so_far reading))) }
+        (IsLineFault B.rules B.wording line.now (so_far reading)) }
 {
     match read_line::<B>(alloc, line) {
         Ok(part) => add::<B>(alloc, reading, part),

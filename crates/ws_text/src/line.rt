@@ -2,13 +2,14 @@ ghost use Rattle.std.specs.Prelude.{◌≡◌, ◌∷◌, [], ℕ, List as Seq, 
 ghost use Rattle.ws_text.specs.declared.line.Part.{Part as APart};
 ghost use Rattle.ws_text.specs.Faults.{IsFault};
 ghost use Rattle.ws_text.specs.TextLines as Spec;
+ghost use Rattle.ws_text.specs.Words.{words_of};
 
 use crate::fault::LineFault;
 use crate::head_words::read_head;
-use crate::runs::{run_of, typed};
+use crate::runs::{read_run, typed};
 use crate::telnet_words::read_telnet;
 use crate::worded::Worded;
-use crate::words::{read_hex, words_of};
+use crate::words::words_of;
 use std::alloc::Global;
 use std::str;
 use ws_code::List;
@@ -52,10 +53,18 @@ fn read_text<B: Worded>(alloc: Global, text: &str) -> Result<Part<B::Unit>, Line
             Ok(units) => Ok(Part::Units(List::of(units))),
             Err(fault) => Err(fault),
         },
-        None => match words_of(alloc, text) {
-            Ok(words) => read_words::<B>(alloc, words.as_slice()),
-            Err(_) => Err(LineFault::Memory),
-        },
+        None => read_worded::<B>(alloc, text),
+    }
+}
+
+// What a line of words says.
+fn read_worded<B: Worded>(alloc: Global, text: &str) -> Result<Part<B::Unit>, LineFault>
+    ensures ok { IfOk result (Spec.IsWorded B.wording (words_of text.now)) }
+    ensures fault { IfErr result (IsFault (Spec.IsWorded B.wording (words_of text.now))) }
+{
+    match words_of(text) {
+        Some(words) => read_words::<B>(alloc, words.as_slice()),
+        None => Err(LineFault::Bad),
     }
 }
 
@@ -129,17 +138,6 @@ fn read_units<B: Worded>(
     match B::read_unit(name, words) {
         Some(unit) => alone(alloc, unit),
         None => Err(LineFault::Bad),
-    }
-}
-
-// A run of bytes, in hex.
-fn read_run<B: Worded>(alloc: Global, hex: &str) -> Result<Vec<B::Unit>, LineFault>
-    ensures ok { IfOk result (λ units. Spec.IsRun B.wording hex.now units.items) }
-    ensures fault { IfErr result (IsFault (Spec.IsRun B.wording hex.now)) }
-{
-    match read_hex(alloc, hex) {
-        Ok(bytes) => run_of::<B>(alloc, bytes.as_slice()),
-        Err(fault) => Err(fault),
     }
 }
 

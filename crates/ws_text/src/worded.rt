@@ -1,8 +1,8 @@
 ghost use Rattle.std.specs.Prelude.{◌≡◌, map, refl, MatchOption};
 ghost use Rattle.ws_text.specs.AnswerWords.{answer_wording};
 ghost use Rattle.ws_text.specs.ElementWords.{element_wording};
-ghost use Rattle.ws_text.specs.WordLaws.{answers_clear, elements_clear};
-ghost use Rattle.ws_text.specs.Wording.{Wording, IsClear, EndsEverywhere};
+ghost use Rattle.ws_text.specs.WordLaws.{answers_clear, elements_clear, few_of_element, few_of_part};
+ghost use Rattle.ws_text.specs.Wording.{Wording, IsClear, HasFewWords, EndsEverywhere};
 
 use crate::answer_words::read_part;
 use crate::element_words::read_element;
@@ -31,6 +31,9 @@ pub trait Worded: Body {
     // Words say one thing.
     ghost clear: { IsClear wording };
 
+    // No unit has many words.
+    ghost few: { HasFewWords wording };
+
     // Each line of a body is right or wrong by itself.
     ghost ends: { EndsEverywhere Self.rules };
 }
@@ -39,6 +42,8 @@ impl Worded for Commands {
     ghost wording = { element_wording };
 
     ghost clear = { elements_clear };
+
+    ghost few = { few_of_element };
 
     ghost ends = { λ _. refl };
 
@@ -59,6 +64,8 @@ impl Worded for Answers {
     ghost wording = { answer_wording };
 
     ghost clear = { answers_clear };
+
+    ghost few = { few_of_part };
 
     ghost ends = { λ _. refl };
 

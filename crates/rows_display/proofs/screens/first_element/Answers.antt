@@ -1,9 +1,13 @@
-use Rattle.std.proofs.Common.{ℕ, List, sym, subst}
+use Rattle.std.proofs.Common.{ℕ, List, refl, sym, subst}
 use Rattle.ws_code.specs.Code.{IsUnfinished}
+use Rattle.ws_code.proofs.RunLaws.{is_between}
 use Rattle.ws_stream.specs.Elements.{element_rules}
 use Rattle.ws_stream.specs.ElementLaws.{element_begins}
 use Rattle.rows_display.proofs.screens.first_element.Goals as goal
 
-pub loop-at-init : goal.loop-at-init
-loop-at-init c = subst (λ (l : List ℕ). IsUnfinished element_rules c.start-machine.result.place l)
-    (sym c.start-machine.ensures.fresh) (element_begins c.start-machine.result.place)
+pub run-run-requires : goal.run-run-requires
+run-run-requires c =
+    let place = c.start-machine.result.place in
+    let unfinished = subst (λ (x : List ℕ). IsUnfinished element_rules place x) (sym c.start-machine.ensures.fresh)
+    (element_begins place) in
+    is_between element_rules _ _ unfinished (sym c.start-machine.ensures.place) refl c.start-machine.ensures.fresh

@@ -1,7 +1,8 @@
-use Rattle.std.proofs.Common.{◌≡◌, take, arith, length-take}
+use Rattle.std.proofs.Common.{take, arith, length-take}
 use Rattle.std.proofs.lemmas.List.{length-map}
 use Rattle.ws_text.proofs.Lists.{texts}
-use Rattle.ws_text.proofs.FieldWords.{pair_at, pairs_length, pairs_step}
+use Rattle.ws_text.specs.FieldLaws.{pairs_length}
+use Rattle.ws_text.proofs.FieldWords.{pair_at, pairs_step}
 use Rattle.ws_text.proofs.field_words.read_pairs.Goals as goal
 
 pub returns-in_err-read_pair : goal.returns-in_err-read_pair

@@ -1,4 +1,4 @@
-use Rattle.std.proofs.Common.{◌≡◌, sym, subst, List, ℕ}
+use Rattle.std.proofs.Common.{sym, subst, List, ℕ}
 use Rattle.std.proofs.lemmas.Result.{IfOk-weaker, IfErr-weaker}
 use Rattle.ws_text.specs.Faults.{IsFault}
 use Rattle.ws_text.specs.TextLines.{Means, IsLine}
@@ -19,5 +19,7 @@ returns-clause-fault g c =
     IfErr-weaker c.read_text.result _ (IsFault (IsLine g.B.Worded.wording c.args.line.now))
     (λ fault h. fault_on _ (IsLine g.B.Worded.wording c.args.line.now) fault
     (λ bad says l. bad says (subst (λ (z : List ℕ). Means g.B.Worded.wording z says)
-    (sym c.in-Ok.ensures.cases.0) l.1)) h)
+    (sym c.in-Ok.ensures.cases.0) l.1))
+    (λ says m. let means = subst (λ (z : List ℕ). Means g.B.Worded.wording z says) c.in-Ok.ensures.cases.0 m in
+    (says, (c.in-Ok.ensures.cases.1, means))) h)
     c.read_text.ensures.fault

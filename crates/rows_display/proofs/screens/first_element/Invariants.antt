@@ -1,7 +1,0 @@
-use Rattle.ws_code.specs.Code.{IsUnfinished}
-use Rattle.ws_stream.specs.Elements.{element_rules}
-use Rattle.ws_stream.specs.UnfinishedElement.{unfinished_of}
-use Rattle.rows_display.proofs.screens.first_element.Given as goal
-
-abbrev pub invariant-loop-at : goal.invariant-loop-at
-invariant-loop-at l = IsUnfinished element_rules l.machine.place (unfinished_of l.machine)

@@ -1,0 +1,124 @@
+use Rattle.std.proofs.Common.{◌≡◌, ℕ, ◌+◌, ◌*◌, List, [], ◌∷◌, ◌++◌, ◌==◌, Bool, true, false, length, map, take}
+use Rattle.std.proofs.Common.{drop, refl, sym, ap, subst, ◌∙◌, arith}
+use Rattle.std.specs.Prelude.{Result, Ok, Err, Option, Some, None, MatchOption}
+use Rattle.std.specs.List.{AllByRecursion}
+use Rattle.std.proofs.lemmas.List.{append-nil}
+use Rattle.std.proofs.lemmas.Bool.{false≢true}
+use Rattle.hex.specs.Hex.{decode_of, decode_pairs, pair_value, ◌>>=◌}
+use Rattle.hex.specs.declared.error.FromHexError.{FromHexError}
+use Rattle.hex.proofs.HexLemmas.{decode_of-ok, decode_of-even, decode_pairs-ok}
+use Rattle.hex.proofs.Pairs.{prepend, prepend-cons_byte, decode_start, decode_pairs-ok_pair, decode_pairs-err_pair}
+use Rattle.ws_code.specs.DataByte.{IsData}
+use Rattle.ws_text.specs.FieldLaws.{byte_same}
+use Rattle.ws_text.specs.TextLines.{IsRun}
+use Rattle.ws_text.specs.Words.{IsHexByte}
+use Rattle.ws_text.specs.Wording.{Wording}
+use Rattle.ws_text.proofs.CellBytes.{KeptSoFar, kept_more}
+
+-- Runs of bytes in hex, pair by pair.
+
+-- what a result holds
+abbrev bytes_of : Result (List ℕ) FromHexError → List ℕ
+bytes_of (Ok bytes) = bytes
+bytes_of (Err e) = []
+
+-- a pair reads as the same byte wherever it stands
+pair_moves : (a b i j v : ℕ) → pair_value a b i ≡ Ok v → pair_value a b j ≡ Ok v
+pair_moves a b i j v e = grind (arith)
+
+one_pair : (a b v : ℕ) → pair_value a b 0 ≡ Ok v → IsHexByte (a ∷ b ∷ []) v
+unfolding decode_pairs
+one_pair a b v e = decode_pairs-ok_pair 0 a b v [] e
+
+two_digits : (a b v : ℕ) (r : Result ℕ FromHexError) → pair_value a b 0 ≡ r → IsHexByte (a ∷ b ∷ []) v → r ≡ Ok v
+two_digits a b v (Ok x) e h = ap Ok (byte_same (a ∷ b ∷ []) x v (one_pair a b x e) h)
+two_digits a b v (Err x) e h = cc (sym (decode_pairs-err_pair 0 a b x [] e) ∙ h)
+
+-- the digits so far are those of good bytes, and the rest is to be decoded; and if all are kept, these are their units
+pub record RunSoFar {U : Type 0} (w : Wording U) (word rest : List ℕ) (kept : Bool) (units : List U) : Type 0 where
+  pub bytes : List ℕ
+  pub at : ℕ
+  pub decoded : decode_pairs 0 word ≡ prepend bytes (decode_pairs at rest)
+  pub run : KeptSoFar w bytes kept units
+
+pub some_run : {word rest : List ℕ} {r : Bool} → rest ≡ word → r ≡ (length rest == 0) → r ≡ false → word ≡ [] → ⊥
+some_run e is isnt none = false≢true (sym isnt ∙ is ∙ ap (λ z. length z == 0) (e ∙ none))
+
+-- what the first two digits are
+abbrev IsFirst : List ℕ → Option ℕ → Type 0
+IsFirst digits first = MatchOption first ((byte : ℕ) → IsHexByte digits byte → ⊥) (IsHexByte digits)
+
+pub first_is : (digits : List ℕ) (first : Option ℕ) (b : ℕ) → IsFirst digits first → IsHexByte digits b → first ≡ Some b
+first_is digits (Some x) b h is = ap (λ z. Some z) (byte_same digits x b h is)
+first_is digits None b h is = absurd (h b is)
+
+pub is_first : (digits : List ℕ) (first : Option ℕ) (b : ℕ) → IsFirst digits first → first ≡ Some b → IsHexByte digits b
+is_first digits first b h e = subst (λ (z : Option ℕ). IsFirst digits z) e h
+
+module _ {U : Type 0} (w : Wording U) where
+  pub run_begun : (word : List ℕ) (kept : Bool) (units : List U) → units ≡ [] → RunSoFar w word word kept units
+  run_begun word kept units e = record {
+    bytes = [];
+    at = 0;
+    decoded = decode_start word [];
+    run = record { good = tt; held = λ _. e };
+  }
+
+  pub run_goes_on : (word rest behind : List ℕ) (b : ℕ) (kept is_kept : Bool) (units next : List U)
+      → RunSoFar w word rest kept units → IsHexByte (take 2 rest) b → behind ≡ drop 2 rest
+      → IsData b × (is_kept ≡ true → (kept ≡ true) × (next ≡ units ++ w.byte b ∷ []))
+      → RunSoFar w word behind is_kept next
+  run_goes_on word [] behind b kept is_kept units next h is e more =
+      absurd (omega (arith, (decode_of-ok [] (b ∷ []) is).2))
+  run_goes_on word (x ∷ []) behind b kept is_kept units next h is e more =
+      absurd (omega (arith, (decode_of-ok (x ∷ []) (b ∷ []) is).2))
+  run_goes_on word (x ∷ y ∷ rest) behind b kept is_kept units next h is e more =
+      let pair = pair_moves x y 0 h.at b (two_digits x y b (pair_value x y 0) refl is) in
+      record {
+        bytes = h.bytes ++ b ∷ [];
+        at = h.at + 2;
+        decoded = h.decoded ∙ ap (prepend h.bytes) (decode_pairs-ok_pair h.at x y b rest pair)
+            ∙ prepend-cons_byte h.bytes b (decode_pairs (h.at + 2) rest)
+            ∙ ap (λ z. prepend (h.bytes ++ b ∷ []) (decode_pairs (h.at + 2) z)) (sym e);
+        run = kept_more w h.bytes kept is_kept b units next h.run more;
+      }
+
+  -- what is decoded as a whole is so in pairs
+  in_pairs : (word bytes : List ℕ) → decode_of word ≡ Ok bytes → decode_pairs 0 word ≡ Ok bytes
+  in_pairs word bytes e = sym (decode_of-even word (decode_of-ok word bytes e).0) ∙ e
+
+  data_within : (front more bytes : List ℕ) (b : ℕ) → bytes ≡ front ++ b ∷ more → AllByRecursion IsData bytes → IsData b
+  data_within [] more bytes b e h = (subst (λ (z : List ℕ). AllByRecursion IsData z) e h).0
+  data_within (x ∷ front) more bytes b e h =
+      data_within front more (front ++ b ∷ more) b refl (subst (λ (z : List ℕ). AllByRecursion IsData z) e h).1
+
+  bad_pair : (front behind bytes : List ℕ) (x y at : ℕ) (r : Result ℕ FromHexError)
+      (more : Result (List ℕ) FromHexError) → pair_value x y at ≡ r
+      → Ok bytes ≡ prepend front (r >>= (λ byte. more >>= (λ rest. Ok (byte ∷ rest))))
+      → AllByRecursion IsData bytes → (b : ℕ) × IsHexByte (x ∷ y ∷ []) b × IsData b
+  bad_pair front behind bytes x y at (Err e) more is f good = cc f
+  bad_pair front behind bytes x y at (Ok b) (Err e) is f good = cc f
+  bad_pair front behind bytes x y at (Ok b) (Ok rest) is f good =
+      (b, one_pair x y b (pair_moves x y at 0 b is), data_within front rest bytes b (ap bytes_of f) good)
+
+  -- digits that are no good byte's
+  pub no_run_on : (word rest : List ℕ) (kept : Bool) (units : List U) → (rest ≡ [] → ⊥)
+      → RunSoFar w word rest kept units → ((b : ℕ) → IsHexByte (take 2 rest) b → IsData b → ⊥)
+      → (us : List U) → IsRun w word us → ⊥
+  unfolding decode_pairs
+  no_run_on word [] kept units some h bad us r = some refl
+  no_run_on word (x ∷ []) kept units some h bad us r = cc (sym (in_pairs word r.0 r.1.1) ∙ h.decoded)
+  no_run_on word (x ∷ y ∷ rest) kept units some h bad us r =
+      let found = bad_pair h.bytes rest r.0 x y h.at (pair_value x y h.at) (decode_pairs (h.at + 2) rest) refl
+      (sym (in_pairs word r.0 r.1.1) ∙ h.decoded) r.2.0 in
+      bad found.0 found.1 found.2
+
+  -- all digits are read
+  pub whole_run : (word rest : List ℕ) (kept : Bool) (units are : List U) → (word ≡ [] → ⊥) → rest ≡ []
+      → (h : RunSoFar w word rest kept units) → are ≡ map w.byte h.bytes → IsRun w word are
+  unfolding decode_pairs
+  whole_run word rest kept units are some e h is =
+      let all : decode_pairs 0 word ≡ Ok h.bytes = h.decoded ∙ ap (λ z. prepend h.bytes (decode_pairs h.at z)) e
+      ∙ ap Ok (append-nil h.bytes) in
+      let even : length word ≡ 2 * length h.bytes = (decode_pairs-ok 0 word h.bytes all).1 in
+      (h.bytes, (some, decode_of-even word (omega (arith, even)) ∙ all), (h.run.good, is))
