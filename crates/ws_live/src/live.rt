@@ -15,7 +15,7 @@ use ws_session::Attached;
 use ws_text::{Output, put_text};
 
 /// How a line of a live session closed.
-#[derive(Clone, Copy)]
+#[derive(Clone, Copy, PartialEq, Eq)]
 pub enum Closing {
     /// It was an empty line or a comment.
     Nothing,

@@ -16,7 +16,7 @@ use ws_code::{ByteList, Reason};
 use ws_telnet::{BINARY, END_OF_RECORD, Sub, TERMINAL_TYPE, Telnet, Verb};
 
 /// What a host end knows of a direction.
-#[derive(Clone, Copy)]
+#[derive(Clone, Copy, PartialEq, Eq)]
 pub enum Mode {
     Off,
     /// The host end has asked for it, and has no answer yet.
