@@ -238,6 +238,9 @@ module _ (t : TerminalType) where
 all_gone : (bytes : List ℕ) (n : ℕ) → n ≤ length bytes → drop n bytes ≡ [] → n ≡ length bytes
 all_gone bytes n few e = omega (arith, few, length-drop n bytes, ap length e)
 
+none_left : (bytes : List ℕ) (n : ℕ) → n ≡ length bytes → drop n bytes ≡ []
+none_left bytes n e = drop_all n bytes (omega (arith, e))
+
 after_both : (xs ys : List Move) (w : World) → after_moves w (xs ++ ys) ≡ after_moves (after_moves w xs) ys
 after_both [] ys w = refl
 after_both (x ∷ xs) ys w = after_both xs ys _
@@ -278,9 +281,8 @@ module _ (t : TerminalType) (ms : List Move) (told : List Event) (station : Stat
       let o = opens t all w (sound t before) downs ups in
       record {
         to_station = r.to_station ∙ ap (λ (z : World). drop z.at_station (down_bytes z)) is
-            ∙ drop_all _ _ (omega (arith, o.nothing.to_station));
-        to_host = r.to_host ∙ ap (λ (z : World). drop z.at_host (up_bytes z)) is
-            ∙ drop_all _ _ (omega (arith, o.nothing.to_host));
+            ∙ none_left _ _ o.nothing.to_station;
+        to_host = r.to_host ∙ ap (λ (z : World). drop z.at_host (up_bytes z)) is ∙ none_left _ _ o.nothing.to_host;
         at_station = ap station_allows_records (r.station_options ∙ ap (λ (z : World). z.station.options) is)
             ∙ o.station;
         at_host = ap host_allows_records (r.host_options ∙ ap (λ (z : World). z.host.options) is) ∙ o.host;
