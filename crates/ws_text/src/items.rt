@@ -33,7 +33,7 @@ pub enum TextFault {
 ///
 /// `Line` where a line is bad, with the number of the first one: it has no such form, a number is out of range, a
 /// character has no byte in code page 037, or elements can't stand there or make the record too long (RFC 1205,
-/// section 3). `Memory` where a growth was refused. No line of a bad form is told so, and the lines before are good.
+/// section 3). `Memory` where a growth was refused: behind good lines, at one that is good by itself, or behind all.
 ///
 /// Where the lines spell items, they spell no others: the result is these very items, want of memory aside. Each of
 /// them can be encoded. And whatever items `encode` accepts, the text that `show` prints of them spells them.
