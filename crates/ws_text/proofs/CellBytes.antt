@@ -1,12 +1,12 @@
-use Rattle.std.proofs.Common.{◌≡◌, ◌<◌, ℕ, zero, suc, List, [], ◌∷◌, ◌++◌, length, map, get_or}
-use Rattle.std.proofs.Common.{Bool, true, sym, ap, ◌∙◌, arith}
+use Rattle.std.proofs.Common.{◌≡◌, ◌<◌, ℕ, zero, suc, List, [], ◌∷◌, ◌++◌, length, map, get_or, take}
+use Rattle.std.proofs.Common.{refl, sym, ap, ◌∙◌, arith}
 use Rattle.std.specs.Prelude.{Some}
 use Rattle.std.specs.List.{AllByRecursion}
 use Rattle.std.specs.Str.{chars}
 use Rattle.std.proofs.lemmas.List.{map-append}
 use Rattle.ws_code.specs.DataByte.{IsData}
 use Rattle.ws_code.specs.Ebcdic.{byte_of}
-use Rattle.ws_text.specs.TextLines.{AreTyped}
+use Rattle.ws_text.specs.TextLines.{AreRun, AreTyped}
 use Rattle.ws_text.specs.Wording.{Wording}
 
 -- Bytes as units.
@@ -15,59 +15,81 @@ all_more : (bytes : List ℕ) (b : ℕ) → AllByRecursion IsData bytes → IsDa
 all_more [] b h is = (is, tt)
 all_more (x ∷ bytes) b h is = (h.0, all_more bytes b h.1 is)
 
--- bytes so far are good; and if all are kept, these are their units
-pub record KeptSoFar {U : Type 0} (w : Wording U) (bytes : List ℕ) (kept : Bool) (units : List U) : Type 0 where
-  pub good : AllByRecursion IsData bytes
-  pub held : kept ≡ true → units ≡ map w.byte bytes
+pub run_more : {U : Type 0} (w : Wording U) (bytes : List ℕ) (b : ℕ) (units : List U) → AreRun w bytes units → IsData b
+    → AreRun w (bytes ++ b ∷ []) (units ++ w.byte b ∷ [])
+run_more w bytes b units h is =
+    (all_more bytes b h.0 is, ap (λ z. z ++ w.byte b ∷ []) h.1 ∙ sym (map-append w.byte bytes (b ∷ [])))
 
-pub kept_more : {U : Type 0} (w : Wording U) (bytes : List ℕ) (kept is_kept : Bool) (b : ℕ) (units next : List U)
-    → KeptSoFar w bytes kept units
-    → IsData b × (is_kept ≡ true → (kept ≡ true) × (next ≡ units ++ w.byte b ∷ []))
-    → KeptSoFar w (bytes ++ b ∷ []) is_kept next
-kept_more w bytes kept is_kept b units next h more = record {
-  good = all_more bytes b h.good more.0;
-  held = λ e. let now = more.1 e in
-      now.1 ∙ ap (λ z. z ++ w.byte b ∷ []) (h.held now.0) ∙ sym (map-append w.byte bytes (b ∷ []));
-}
+-- the units of bytes begin with those of the first bytes
+pub next_unit : {U : Type 0} (w : Wording U) (bytes front more : List ℕ) (b : ℕ) (all units : List U)
+    → AreRun w bytes all → AreRun w front units → bytes ≡ front ++ b ∷ more
+    → all ≡ units ++ w.byte b ∷ map w.byte more
+next_unit w bytes front more b all units h f e =
+    h.1 ∙ ap (λ z. map w.byte z) e ∙ map-append w.byte front (b ∷ more)
+    ∙ ap (λ z. z ++ w.byte b ∷ map w.byte more) (sym f.1)
 
 -- characters so far, and their units
-pub record TypedSoFar {U : Type 0} (w : Wording U) (characters : List ℕ) (kept : Bool) (units : List U) : Type 0 where
+pub record TypedSoFar {U : Type 0} (w : Wording U) (characters : List ℕ) (units : List U) : Type 0 where
   pub bytes : List ℕ
   pub typed : map byte_of characters ≡ map (λ b. Some b) bytes
-  pub run : KeptSoFar w bytes kept units
+  pub run : AreRun w bytes units
 
-pub typed_more : {U : Type 0} (w : Wording U) (characters : List ℕ) (x b : ℕ) (kept is_kept : Bool)
-    (units next : List U) → TypedSoFar w characters kept units → byte_of x ≡ Some b
-    → IsData b × (is_kept ≡ true → (kept ≡ true) × (next ≡ units ++ w.byte b ∷ []))
-    → TypedSoFar w (characters ++ x ∷ []) is_kept next
-typed_more w characters x b kept is_kept units next h is more = record {
+pub typed_more : {U : Type 0} (w : Wording U) (characters : List ℕ) (x b : ℕ) (units : List U)
+    → TypedSoFar w characters units → byte_of x ≡ Some b → IsData b
+    → TypedSoFar w (characters ++ x ∷ []) (units ++ w.byte b ∷ [])
+typed_more w characters x b units h is good = record {
   bytes = h.bytes ++ b ∷ [];
   typed = map-append byte_of characters (x ∷ []) ∙ ap (λ z. z ++ byte_of x ∷ []) h.typed
       ∙ ap (λ o. map (λ y. Some y) h.bytes ++ o ∷ []) is ∙ sym (map-append (λ y. Some y) h.bytes (b ∷ []));
-  run = kept_more w h.bytes kept is_kept b units next h.run more;
+  run = run_more w h.bytes b units h.run good;
 }
 
-pub typed_all : {U : Type 0} (w : Wording U) (text characters : List ℕ) (kept : Bool) (units are : List U)
-    → characters ≡ chars text → (h : TypedSoFar w characters kept units) → are ≡ map w.byte h.bytes
-    → AreTyped w text are
-typed_all w text characters kept units are e h is =
-    record { bytes = h.bytes; typed = ap (λ z. map byte_of z) (sym e) ∙ h.typed; run = (h.run.good, is) }
+pub typed_all : {U : Type 0} (w : Wording U) (text characters : List ℕ) (units : List U) → characters ≡ chars text
+    → TypedSoFar w characters units → AreTyped w text units
+typed_all w text characters units e h =
+    record { bytes = h.bytes; typed = ap (λ z. map byte_of z) (sym e) ∙ h.typed; run = h.run }
 
-typed_at : (characters bytes : List ℕ) → map byte_of characters ≡ map (λ b. Some b) bytes → AllByRecursion IsData bytes
-    → (i x : ℕ) → i < length characters → x ≡ get_or characters i x → (b : ℕ) × (byte_of x ≡ Some b) × IsData b
-typed_at [] bytes e h i x k is = absurd (omega (arith, k))
-typed_at (c ∷ characters) [] e h i x k is = cc e
-typed_at (c ∷ characters) (b ∷ bytes) e h zero x k is =
-    let first : byte_of c ≡ Some b = cc in
-    (b, ap byte_of is ∙ first, h.0)
-typed_at (c ∷ characters) (b ∷ bytes) e h (suc i) x k is =
-    let rest : map byte_of characters ≡ map (λ b. Some b) bytes = cc in
-    typed_at characters bytes rest h.1 i x (omega (arith, k)) is
+split_at : (xs : List ℕ) (i x : ℕ) → i < length xs → x ≡ get_or xs i x → (rest : List ℕ)
+    × (xs ≡ take i xs ++ x ∷ rest)
+split_at [] i x k e = absurd (omega (arith, k))
+split_at (y ∷ xs) zero x k e = (xs, ap (λ z. z ∷ xs) (sym e))
+split_at (y ∷ xs) (suc i) x k e =
+    let found = split_at xs i x (omega (arith, k)) e in
+    (found.0, ap (λ z. y ∷ z) found.1)
 
--- a character without a byte for a unit
-pub no_typed : {U : Type 0} (w : Wording U) (text : List ℕ) (i x : ℕ) → i < length (chars text)
-    → x ≡ get_or (chars text) i x → ((b : ℕ) → byte_of x ≡ Some b → IsData b → ⊥) → (units : List U)
-    → AreTyped w text units → ⊥
-no_typed w text i x k is bad units h =
-    let found = typed_at (chars text) h.bytes h.typed h.run.0 i x k is in
-    bad found.0 found.1 found.2
+-- the byte of the next character
+byte_at : (front rest bytes done : List ℕ) (x : ℕ) → map byte_of (front ++ x ∷ rest) ≡ map (λ b. Some b) bytes
+    → map byte_of front ≡ map (λ b. Some b) done → AllByRecursion IsData bytes
+    → (b : ℕ) × (more : List ℕ) × (byte_of x ≡ Some b) × IsData b × (bytes ≡ done ++ b ∷ more)
+byte_at [] rest [] done x e f h = cc e
+byte_at (c ∷ front) rest [] done x e f h = cc e
+byte_at [] rest (b ∷ bytes) [] x e f h =
+    let first : byte_of x ≡ Some b = cc in
+    (b, bytes, first, h.0, refl)
+byte_at [] rest (b ∷ bytes) (d ∷ done) x e f h = cc f
+byte_at (c ∷ front) rest (b ∷ bytes) [] x e f h = cc f
+byte_at (c ∷ front) rest (b ∷ bytes) (d ∷ done) x e f h =
+    let firsts : Some b ≡ Some d = cc in
+    let tails : map byte_of (front ++ x ∷ rest) ≡ map (λ b. Some b) bytes = cc in
+    let fronts : map byte_of front ≡ map (λ b. Some b) done = cc in
+    let found = byte_at front rest bytes done x tails fronts h.1 in
+    let same : b ≡ d = cc in
+    let more : bytes ≡ done ++ found.0 ∷ found.1 = found.4 in
+    (found.0, found.1, found.2, found.3, cc)
+
+-- what the characters are begins with the units so far and that of the next character
+pub next_typed : {U : Type 0} (w : Wording U) (text characters : List ℕ) (x : ℕ) (units all : List U)
+    → characters ≡ take (length characters) (chars text)
+    → (length characters < length (chars text)) × (x ≡ get_or (chars text) (length characters) x)
+    → TypedSoFar w characters units → AreTyped w text all
+    → (b : ℕ) × (more : List U) × (byte_of x ≡ Some b) × IsData b × (all ≡ units ++ w.byte b ∷ more)
+next_typed w text characters x units all front at h are =
+    let cut = split_at (chars text) (length characters) x at.0 at.1 in
+    let found = byte_at characters cut.0 are.bytes h.bytes x
+    (ap (λ z. map byte_of z) (ap (λ z. z ++ x ∷ cut.0) front ∙ sym cut.1) ∙ are.typed) h.typed are.run.0 in (
+      found.0,
+      map w.byte found.1,
+      found.2,
+      found.3,
+      next_unit w are.bytes h.bytes found.1 found.0 all units are.run h.run found.4,
+    )

@@ -4,8 +4,8 @@ use Rattle.ws_code.proofs.Lists.{AllByRecursion-append, AllByRecursion-front}
 use Rattle.ws_record.specs.Encode.{CanBeEncoded, CanAllBeEncoded}
 use Rattle.ws_record.specs.declared.record.Item.{Item}
 use Rattle.ws_record.specs.declared.record.Item.TheVariants as an_item
-use Rattle.ws_text.specs.declared.line.Part.{Part}
-use Rattle.ws_text.specs.declared.line.Part.TheVariants.{Nothing, Head, Command, Units}
+use Rattle.ws_text.specs.Parts.{Part}
+use Rattle.ws_text.specs.Parts.Part.{Nothing, Head, Command, Units}
 use Rattle.ws_text.specs.Items.{Adds, AreItems, Leads, with_more}
 use Rattle.ws_text.specs.Reading.{Follows}
 use Rattle.ws_text.specs.Wording.{Wording, EndsEverywhere}
@@ -14,7 +14,7 @@ use Rattle.ws_text.proofs.Bodies.{can_be_encoded}
 -- Items that lines spell can be encoded.
 
 module _ {Place U : Type 0} (rules : Rules Place U) (ends : EndsEverywhere rules) where
-  none_follow : Follows rules rules.first 0 [] rules.first 0
+  none_follow : Follows rules [] rules.first 0
   none_follow = record { chain = tt; leads = refl; counted = refl; fits = omega arith }
 
   with_last : (from to : List (Item U)) (last : Item U) → CanAllBeEncoded rules from

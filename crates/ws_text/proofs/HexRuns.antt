@@ -1,4 +1,4 @@
-use Rattle.std.proofs.Common.{◌≡◌, ℕ, ◌+◌, ◌*◌, List, [], ◌∷◌, ◌++◌, ◌==◌, Bool, true, false, length, map, take}
+use Rattle.std.proofs.Common.{◌≡◌, ℕ, ◌+◌, ◌*◌, List, [], ◌∷◌, ◌++◌, ◌==◌, Bool, false, length, map, take}
 use Rattle.std.proofs.Common.{drop, refl, sym, ap, subst, ◌∙◌, arith}
 use Rattle.std.specs.Prelude.{Result, Ok, Err, Option, Some, None, MatchOption}
 use Rattle.std.specs.List.{AllByRecursion}
@@ -10,10 +10,10 @@ use Rattle.hex.proofs.HexLemmas.{decode_of-ok, decode_of-even, decode_pairs-ok}
 use Rattle.hex.proofs.Pairs.{prepend, prepend-cons_byte, decode_start, decode_pairs-ok_pair, decode_pairs-err_pair}
 use Rattle.ws_code.specs.DataByte.{IsData}
 use Rattle.ws_text.specs.FieldLaws.{byte_same}
-use Rattle.ws_text.specs.TextLines.{IsRun}
+use Rattle.ws_text.specs.TextLines.{AreRun, IsRun}
 use Rattle.ws_text.specs.Words.{IsHexByte}
 use Rattle.ws_text.specs.Wording.{Wording}
-use Rattle.ws_text.proofs.CellBytes.{KeptSoFar, kept_more}
+use Rattle.ws_text.proofs.CellBytes.{next_unit, run_more}
 
 -- Runs of bytes in hex, pair by pair.
 
@@ -34,12 +34,12 @@ two_digits : (a b v : ℕ) (r : Result ℕ FromHexError) → pair_value a b 0 �
 two_digits a b v (Ok x) e h = ap Ok (byte_same (a ∷ b ∷ []) x v (one_pair a b x e) h)
 two_digits a b v (Err x) e h = cc (sym (decode_pairs-err_pair 0 a b x [] e) ∙ h)
 
--- the digits so far are those of good bytes, and the rest is to be decoded; and if all are kept, these are their units
-pub record RunSoFar {U : Type 0} (w : Wording U) (word rest : List ℕ) (kept : Bool) (units : List U) : Type 0 where
+-- the digits so far are those of good bytes, these are their units, and the rest is to be decoded
+pub record RunSoFar {U : Type 0} (w : Wording U) (word rest : List ℕ) (units : List U) : Type 0 where
   pub bytes : List ℕ
   pub at : ℕ
   pub decoded : decode_pairs 0 word ≡ prepend bytes (decode_pairs at rest)
-  pub run : KeptSoFar w bytes kept units
+  pub run : AreRun w bytes units
 
 pub some_run : {word rest : List ℕ} {r : Bool} → rest ≡ word → r ≡ (length rest == 0) → r ≡ false → word ≡ [] → ⊥
 some_run e is isnt none = false≢true (sym isnt ∙ is ∙ ap (λ z. length z == 0) (e ∙ none))
@@ -56,23 +56,16 @@ pub is_first : (digits : List ℕ) (first : Option ℕ) (b : ℕ) → IsFirst di
 is_first digits first b h e = subst (λ (z : Option ℕ). IsFirst digits z) e h
 
 module _ {U : Type 0} (w : Wording U) where
-  pub run_begun : (word : List ℕ) (kept : Bool) (units : List U) → units ≡ [] → RunSoFar w word word kept units
-  run_begun word kept units e = record {
-    bytes = [];
-    at = 0;
-    decoded = decode_start word [];
-    run = record { good = tt; held = λ _. e };
-  }
+  pub run_begun : (word : List ℕ) → RunSoFar w word word []
+  run_begun word = record { bytes = []; at = 0; decoded = decode_start word []; run = (tt, refl) }
 
-  pub run_goes_on : (word rest behind : List ℕ) (b : ℕ) (kept is_kept : Bool) (units next : List U)
-      → RunSoFar w word rest kept units → IsHexByte (take 2 rest) b → behind ≡ drop 2 rest
-      → IsData b × (is_kept ≡ true → (kept ≡ true) × (next ≡ units ++ w.byte b ∷ []))
-      → RunSoFar w word behind is_kept next
-  run_goes_on word [] behind b kept is_kept units next h is e more =
-      absurd (omega (arith, (decode_of-ok [] (b ∷ []) is).2))
-  run_goes_on word (x ∷ []) behind b kept is_kept units next h is e more =
+  pub run_goes_on : (word rest behind : List ℕ) (b : ℕ) (units : List U) → RunSoFar w word rest units
+      → IsHexByte (take 2 rest) b → behind ≡ drop 2 rest → IsData b
+      → RunSoFar w word behind (units ++ w.byte b ∷ [])
+  run_goes_on word [] behind b units h is e good = absurd (omega (arith, (decode_of-ok [] (b ∷ []) is).2))
+  run_goes_on word (x ∷ []) behind b units h is e good =
       absurd (omega (arith, (decode_of-ok (x ∷ []) (b ∷ []) is).2))
-  run_goes_on word (x ∷ y ∷ rest) behind b kept is_kept units next h is e more =
+  run_goes_on word (x ∷ y ∷ rest) behind b units h is e good =
       let pair = pair_moves x y 0 h.at b (two_digits x y b (pair_value x y 0) refl is) in
       record {
         bytes = h.bytes ++ b ∷ [];
@@ -80,7 +73,7 @@ module _ {U : Type 0} (w : Wording U) where
         decoded = h.decoded ∙ ap (prepend h.bytes) (decode_pairs-ok_pair h.at x y b rest pair)
             ∙ prepend-cons_byte h.bytes b (decode_pairs (h.at + 2) rest)
             ∙ ap (λ z. prepend (h.bytes ++ b ∷ []) (decode_pairs (h.at + 2) z)) (sym e);
-        run = kept_more w h.bytes kept is_kept b units next h.run more;
+        run = run_more w h.bytes b units h.run good;
       }
 
   -- what is decoded as a whole is so in pairs
@@ -92,33 +85,39 @@ module _ {U : Type 0} (w : Wording U) where
   data_within (x ∷ front) more bytes b e h =
       data_within front more (front ++ b ∷ more) b refl (subst (λ (z : List ℕ). AllByRecursion IsData z) e h).1
 
-  bad_pair : (front behind bytes : List ℕ) (x y at : ℕ) (r : Result ℕ FromHexError)
-      (more : Result (List ℕ) FromHexError) → pair_value x y at ≡ r
-      → Ok bytes ≡ prepend front (r >>= (λ byte. more >>= (λ rest. Ok (byte ∷ rest))))
-      → AllByRecursion IsData bytes → (b : ℕ) × IsHexByte (x ∷ y ∷ []) b × IsData b
-  bad_pair front behind bytes x y at (Err e) more is f good = cc f
-  bad_pair front behind bytes x y at (Ok b) (Err e) is f good = cc f
-  bad_pair front behind bytes x y at (Ok b) (Ok rest) is f good =
-      (b, one_pair x y b (pair_moves x y at 0 b is), data_within front rest bytes b (ap bytes_of f) good)
+  next_pair : (front bytes : List ℕ) (x y at : ℕ) (r : Result ℕ FromHexError) (more : Result (List ℕ) FromHexError)
+      → pair_value x y at ≡ r → Ok bytes ≡ prepend front (r >>= (λ byte. more >>= (λ rest. Ok (byte ∷ rest))))
+      → AllByRecursion IsData bytes
+      → (b : ℕ) × (rest : List ℕ) × IsHexByte (x ∷ y ∷ []) b × IsData b × (bytes ≡ front ++ b ∷ rest)
+  next_pair front bytes x y at (Err e) more is f good = cc f
+  next_pair front bytes x y at (Ok b) (Err e) is f good = cc f
+  next_pair front bytes x y at (Ok b) (Ok rest) is f good =
+      let cut = ap bytes_of f in
+      (b, rest, one_pair x y b (pair_moves x y at 0 b is), data_within front rest bytes b cut good, cut)
 
-  -- digits that are no good byte's
-  pub no_run_on : (word rest : List ℕ) (kept : Bool) (units : List U) → (rest ≡ [] → ⊥)
-      → RunSoFar w word rest kept units → ((b : ℕ) → IsHexByte (take 2 rest) b → IsData b → ⊥)
-      → (us : List U) → IsRun w word us → ⊥
+  -- what the digits are begins with the units so far and that of the next two digits
+  pub next_of_run : (word rest : List ℕ) (units all : List U) → (rest ≡ [] → ⊥) → RunSoFar w word rest units
+      → IsRun w word all
+      → (b : ℕ) × (more : List U) × IsHexByte (take 2 rest) b × IsData b × (all ≡ units ++ w.byte b ∷ more)
   unfolding decode_pairs
-  no_run_on word [] kept units some h bad us r = some refl
-  no_run_on word (x ∷ []) kept units some h bad us r = cc (sym (in_pairs word r.0 r.1.1) ∙ h.decoded)
-  no_run_on word (x ∷ y ∷ rest) kept units some h bad us r =
-      let found = bad_pair h.bytes rest r.0 x y h.at (pair_value x y h.at) (decode_pairs (h.at + 2) rest) refl
-      (sym (in_pairs word r.0 r.1.1) ∙ h.decoded) r.2.0 in
-      bad found.0 found.1 found.2
+  next_of_run word [] units all some h r = absurd (some refl)
+  next_of_run word (x ∷ []) units all some h r = cc (sym (in_pairs word r.0 r.1.1) ∙ h.decoded)
+  next_of_run word (x ∷ y ∷ rest) units all some h r =
+      let found = next_pair h.bytes r.0 x y h.at (pair_value x y h.at) (decode_pairs (h.at + 2) rest) refl
+      (sym (in_pairs word r.0 r.1.1) ∙ h.decoded) r.2.0 in (
+        found.0,
+        map w.byte found.1,
+        found.2,
+        found.3,
+        next_unit w r.0 h.bytes found.1 found.0 all units r.2 h.run found.4,
+      )
 
   -- all digits are read
-  pub whole_run : (word rest : List ℕ) (kept : Bool) (units are : List U) → (word ≡ [] → ⊥) → rest ≡ []
-      → (h : RunSoFar w word rest kept units) → are ≡ map w.byte h.bytes → IsRun w word are
+  pub whole_run : (word rest : List ℕ) (units : List U) → (word ≡ [] → ⊥) → rest ≡ [] → RunSoFar w word rest units
+      → IsRun w word units
   unfolding decode_pairs
-  whole_run word rest kept units are some e h is =
+  whole_run word rest units some e h =
       let all : decode_pairs 0 word ≡ Ok h.bytes = h.decoded ∙ ap (λ z. prepend h.bytes (decode_pairs h.at z)) e
       ∙ ap Ok (append-nil h.bytes) in
       let even : length word ≡ 2 * length h.bytes = (decode_pairs-ok 0 word h.bytes all).1 in
-      (h.bytes, (some, decode_of-even word (omega (arith, even)) ∙ all), (h.run.good, is))
+      (h.bytes, (some, decode_of-even word (omega (arith, even)) ∙ all), h.run)

@@ -2,8 +2,8 @@ use Rattle.std.proofs.Common.{◌≡◌, ◌⊎◌, ℕ, List, [], ◌∷◌, �
 use Rattle.std.specs.Prelude.{codes}
 use Rattle.ws_record.specs.declared.opcode.Opcode.{Opcode}
 use Rattle.ws_text.specs.Words.{IsHexPair}
-use Rattle.ws_text.specs.declared.line.Part.{Part}
-use Rattle.ws_text.specs.declared.line.Part.TheVariants as part
+use Rattle.ws_text.specs.Parts.{Part}
+use Rattle.ws_text.specs.Parts.{Part as part}
 use Rattle.ws_text.specs.TextLines.{IsOpcodeText, IsHeadText, IsItemLine, AreUnits, IsRun}
 use Rattle.ws_text.specs.TextLines.IsHeadText.{short, long}
 use Rattle.ws_text.specs.TextLines.AreUnits.{one, run}
@@ -42,12 +42,12 @@ module _ {U : Type 0} where
   no_record words first rest e is bad (part.Units us) h = h
 
 module _ {U : Type 0} (w : Wording U) where
-  -- a run that isn't hex of bytes
-  pub no_run : IsClear w → (name : List ℕ) (words : List (List ℕ)) (hex : List ℕ) → name ≡ w.bytes → words ≡ hex ∷ []
-      → ((us : List U) → IsRun w hex us → ⊥) → (us : List U) → AreUnits w name words us → ⊥
-  no_run clear name words hex is e bad us (one x h f) = bytes_is_no_unit w clear name words x is h
-  no_run clear name words hex is e bad us (run other f g h) =
-      bad us (subst (λ (z : List ℕ). IsRun w z us) (ap head_of (sym g ∙ e)) h)
+  -- a run's name and its word are that run
+  pub only_run : IsClear w → (name : List ℕ) (words : List (List ℕ)) (hex : List ℕ) → name ≡ w.bytes → words ≡ hex ∷ []
+      → (us : List U) → AreUnits w name words us → IsRun w hex us
+  only_run clear name words hex is e us (one x h f) = absurd (bytes_is_no_unit w clear name words x is h)
+  only_run clear name words hex is e us (run other f g h) =
+      subst (λ (z : List ℕ). IsRun w z us) (ap head_of (sym g ∙ e)) h
 
   -- a run's name with no word, or with more than one
   pub no_words : IsClear w → (name : List ℕ) (words : List (List ℕ)) → name ≡ w.bytes → (length words ≡ 1 → ⊥)

@@ -9,9 +9,13 @@ pub mod Numbers
 pub mod OneUnit
 pub mod OneLine
 pub mod OneReading
+pub mod LinesRead
 pub mod ItemsRead
+pub mod BodyRead
+pub mod ReadingsGrow
 pub mod TextWords
 pub mod Bodies
+pub mod OpenRecords
 pub mod Encodable
 pub mod CellBytes
 pub mod ItemWords

@@ -1,12 +1,11 @@
 use Rattle.std.proofs.Common.{◌≡◌, inl, inr, ℕ, List, [], ◌∷◌, ◌++◌, length, drop, Bor, ◌+◌, refl, sym}
 use Rattle.std.proofs.Common.{ap, subst, ◌∙◌}
-use Rattle.std.specs.Prelude.{codes, Option, Some, None, MatchOption}
+use Rattle.std.specs.Prelude.{◌↔◌, codes, Option, Some, None, MatchOption}
 use Rattle.std.specs.Str.Pattern.{FindsTextPrefix}
-use Rattle.ws_text.specs.declared.fault.LineFault.{LineFault}
-use Rattle.ws_text.specs.declared.fault.LineFault.TheVariants.{Bad, Memory}
-use Rattle.ws_text.specs.Faults.{IsFault}
-use Rattle.ws_text.specs.declared.line.Part.{Part}
-use Rattle.ws_text.specs.declared.line.Part.TheVariants as part
+use Rattle.ws_text.specs.declared.line.Found.{Found}
+use Rattle.ws_text.specs.Found.{Tells}
+use Rattle.ws_text.specs.Parts.{Part}
+use Rattle.ws_text.specs.Parts.{Part as part}
 use Rattle.ws_text.specs.TextLines.{IsItemLine, AreBehindPlace, AreUnits, IsWorded}
 use Rattle.ws_text.specs.TextLines.IsWorded.{item, indented}
 use Rattle.ws_text.specs.WordLaws.{head_of, tail_of}
@@ -15,11 +14,16 @@ use Rattle.ws_text.proofs.Lists.{differ}
 
 -- The words of a line.
 
--- a fault of a part, as one of what holds the part
-pub fault_on : {X Y : Type 0} (P : X → Type 0) (Q : Y → Type 0) (fault : LineFault)
-    → (((x : X) → P x → ⊥) → (y : Y) → Q y → ⊥) → ((x : X) → P x → (y : Y) × Q y) → IsFault P fault → IsFault Q fault
-fault_on P Q Bad f g h = f h
-fault_on P Q Memory f g h = g h.0 h.1
+-- what is told of one relation is told of another that says the same
+pub tells_on : {U : Type 0} (w : Wording U) (P Q : Part U → Type 0) (r : Option (Found U))
+    → ((says : Part U) → P says → Q says) → ((says : Part U) → Q says → P says) → Tells w P r → Tells w Q r
+tells_on w P Q None to from h = λ says q. h says (from says q)
+tells_on w P Q (Some found) to from h = λ says. (λ q. (h says).0 (from says q), λ s. to says ((h says).1 s))
+
+-- where one thing at most is so, and this is, it is so just for this one
+pub just_one : {X : Type 0} (P : X → Type 0) → ((s t : X) → P s → P t → s ≡ t) → (is : X) → P is → (x : X)
+    → P x ↔ (x ≡ is)
+just_one {X} P one is h x = (λ p. one x is p h, λ e. subst (λ (z : X). P z) (sym e) h)
 
 -- a line of units begins no item
 pub indented_item : {U : Type 0} (words rest : List (List ℕ)) (says : Part U) → words ≡ [] ∷ rest
@@ -29,19 +33,23 @@ indented_item words rest (part.Command telnet) e h = differ [] (codes "telnet") 
 indented_item words rest part.Nothing e h = h
 indented_item words rest (part.Units us) e h = h
 
-pub no_indented : {U : Type 0} (w : Wording U) (words : List (List ℕ)) (name : List ℕ) (rest : List (List ℕ)) → words
-    ≡ [] ∷ [] ∷ name ∷ rest → ((us : List U) → AreUnits w name rest us → ⊥) → (says : Part U) → IsWorded w words says
-    → ⊥
-no_indented w words name rest e bad says (item behind (inl at) h) =
-    differ [] (codes "at") refl (ap head_of (sym e ∙ at.1))
-no_indented w words name rest e bad says (item behind (inr all) h) =
-    indented_item words ([] ∷ name ∷ rest) says e (subst (λ (z : List (List ℕ)). IsItemLine z says) all.0 h)
-no_indented w words name rest e bad says (indented other more us f h g) =
+-- a line of units says units alone
+pub indented_says : {U : Type 0} (w : Wording U) (words : List (List ℕ)) (name : List ℕ) (rest : List (List ℕ))
+    → words ≡ [] ∷ [] ∷ name ∷ rest → (says : Part U) → IsWorded w words says
+    → (us : List U) × AreUnits w name rest us × (says ≡ part.Units us)
+indented_says w words name rest e says (item behind (inl at) h) =
+    absurd (differ [] (codes "at") refl (ap head_of (sym e ∙ at.1)))
+indented_says w words name rest e says (item behind (inr all) h) =
+    absurd (indented_item words ([] ∷ name ∷ rest) says e (subst (λ (z : List (List ℕ)). IsItemLine z says) all.0 h))
+indented_says w words name rest e says (indented other more us f h g) =
     let both : [] ∷ [] ∷ other ∷ more ≡ [] ∷ [] ∷ name ∷ rest = sym f ∙ e in
     let names : other ≡ name = ap (λ z. head_of (tail_of (tail_of z))) both in
-    let rests : more ≡ rest = ap (λ z. tail_of (tail_of (tail_of z))) both in
-    bad us (subst (λ (z : List ℕ). AreUnits w z rest us) names
-    (subst (λ (z : List (List ℕ)). AreUnits w other z us) rests h))
+    let rests : more ≡ rest = ap (λ z. tail_of (tail_of (tail_of z))) both in (
+      us,
+      subst (λ (z : List ℕ). AreUnits w z rest us) names
+          (subst (λ (z : List (List ℕ)). AreUnits w other z us) rests h),
+      g,
+    )
 
 -- the words behind a place are these alone
 pub one_behind : (words a b : List (List ℕ)) → AreBehindPlace words a → AreBehindPlace words b → a ≡ b
@@ -50,12 +58,13 @@ one_behind words a b (inl x) (inr y) = absurd (y.1 x.0 a x.1 x.2)
 one_behind words a b (inr x) (inl y) = absurd (x.1 y.0 b y.1 y.2)
 one_behind words a b (inr x) (inr y) = x.0 ∙ sym y.0
 
-pub no_item : {U : Type 0} (w : Wording U) (words behind : List (List ℕ)) → AreBehindPlace words behind
-    → ((name : List ℕ) (rest : List (List ℕ)) → words ≡ [] ∷ [] ∷ name ∷ rest → ⊥)
-    → ((says : Part U) → IsItemLine behind says → ⊥) → (says : Part U) → IsWorded w words says → ⊥
-no_item w words behind are none bad says (item other at h) =
-    bad says (subst (λ (z : List (List ℕ)). IsItemLine z says) (one_behind words other behind at are) h)
-no_item w words behind are none bad says (indented name rest us e h g) = none name rest e
+-- a line of words without two blanks before them begins an item, if it says anything
+pub only_item : {U : Type 0} (w : Wording U) (words behind : List (List ℕ)) → AreBehindPlace words behind
+    → ((name : List ℕ) (rest : List (List ℕ)) → words ≡ [] ∷ [] ∷ name ∷ rest → ⊥) → (says : Part U)
+    → IsWorded w words says → IsItemLine behind says
+only_item w words behind are none says (item other at h) =
+    subst (λ (z : List (List ℕ)). IsItemLine z says) (one_behind words other behind at are) h
+only_item w words behind are none says (indented name rest us e h g) = absurd (none name rest e)
 
 -- what `strip_prefix` gives at a text
 abbrev pub IsTextStripped : List ℕ → List ℕ → Option (Bor (List ℕ)) → Type 0

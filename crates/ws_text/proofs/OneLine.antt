@@ -12,8 +12,8 @@ use Rattle.ws_record.proofs.Reading.{opcode_same}
 use Rattle.ws_text.specs.Names.{look_up, commands, verbs}
 use Rattle.ws_text.specs.Words.{words_of, IsSmall, IsHexPair}
 use Rattle.ws_text.specs.ElementWords.{AreBytes}
-use Rattle.ws_text.specs.declared.line.Part.{Part}
-use Rattle.ws_text.specs.declared.line.Part.TheVariants as part
+use Rattle.ws_text.specs.Parts.{Part}
+use Rattle.ws_text.specs.Parts.{Part as part}
 use Rattle.ws_text.specs.TextLines.{IsTelnetText, IsOpcodeText, IsHeadText, IsItemLine, AreUnits, AreTyped}
 use Rattle.ws_text.specs.TextLines.{AreBehindPlace, IsWorded, Means, IsLine}
 use Rattle.ws_text.specs.TextLines.IsHeadText.{short, long}
@@ -76,7 +76,7 @@ head_same words f g o p (long s m x e z a) (long t n y h w b) =
     )
 
 module _ {U : Type 0} where
-  item_same : (words : List (List ℕ)) (s t : Part U) → IsItemLine words s → IsItemLine words t → s ≡ t
+  pub item_same : (words : List (List ℕ)) (s t : Part U) → IsItemLine words s → IsItemLine words t → s ≡ t
   item_same words (part.Head f o) (part.Head g p) a b =
       let rest : a.0 ≡ b.0 = ap tail_of (sym a.1 ∙ b.1) in
       let both = head_same b.0 f g o p (subst (λ (z : List (List ℕ)). IsHeadText z f o) rest a.2) b.2 in
@@ -175,7 +175,7 @@ module _ {U : Type 0} (w : Wording U) (clear : IsClear w) where
   no_blank_hash : (text rest : List ℕ) → codes "#" ++ text ≡ codes "  TEXT " ++ rest → ⊥
   no_blank_hash text rest e = first_byte (codes "#" ++ text) (codes "  TEXT " ++ rest) (λ f. omega (arith, f)) e
 
-  means_same : (line : List ℕ) (s t : Part U) → Means w line s → Means w line t → s ≡ t
+  pub means_same : (line : List ℕ) (s t : Part U) → Means w line s → Means w line t → s ≡ t
   means_same line s t (empty e p) (empty f q) = p ∙ sym q
   means_same line s t (empty e p) (comment x f q) = p ∙ sym q
   means_same line s t (comment x e p) (empty f q) = p ∙ sym q

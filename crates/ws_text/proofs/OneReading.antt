@@ -6,8 +6,8 @@ use Rattle.ws_record.specs.declared.record.Item.TheVariants as an_item
 use Rattle.ws_record.specs.declared.record.Record.{Record}
 use Rattle.ws_text.specs.declared.items.TextFault.{TextFault}
 use Rattle.ws_text.specs.declared.items.TextFault.TheVariants.{Line, Memory}
-use Rattle.ws_text.specs.declared.line.Part.{Part}
-use Rattle.ws_text.specs.declared.line.Part.TheVariants.{Nothing, Head, Command, Units}
+use Rattle.ws_text.specs.Parts.{Part}
+use Rattle.ws_text.specs.Parts.Part.{Nothing, Head, Command, Units}
 use Rattle.ws_text.specs.Items.{Adds, AreItems, EndsHere, IsScreen, IsTextFault, Leads, Reads, with_more}
 use Rattle.ws_text.specs.Wording.{Wording, IsClear}
 use Rattle.ws_text.proofs.OneLine.{one_line}
@@ -15,7 +15,7 @@ use Rattle.ws_text.proofs.OneLine.{one_line}
 -- Lines spell one list of items.
 
 module _ {Place U : Type 0} (rules : Rules Place U) where
-  last_same : (xs ys : List (Item U)) (a b : Item U) → xs ++ a ∷ [] ≡ ys ++ b ∷ [] → (xs ≡ ys) × (a ≡ b)
+  pub last_same : (xs ys : List (Item U)) (a b : Item U) → xs ++ a ∷ [] ≡ ys ++ b ∷ [] → (xs ≡ ys) × (a ≡ b)
   last_same [] [] a b e = (refl, cc)
   last_same [] (y ∷ ys) a b e = absurd (omega (arith, ap length e, length-append ys (b ∷ [])))
   last_same (x ∷ xs) [] a b e = absurd (omega (arith, ap length e, length-append xs (a ∷ [])))
@@ -25,7 +25,7 @@ module _ {Place U : Type 0} (rules : Rules Place U) where
       let found : (xs ≡ ys) × (a ≡ b) = last_same xs ys a b tail in
       (ap (λ z. z ∷ xs) head ∙ ap (λ z. y ∷ z) found.0, found.1)
 
-  same_record : (q r : Record U) → an_item.Record q ≡ an_item.Record r → q ≡ r
+  pub same_record : (q r : Record U) → an_item.Record q ≡ an_item.Record r → q ≡ r
   same_record q r e = cc
 
   adds_same : (says : Part U) (from a b : List (Item U)) → Adds rules says from a → Adds rules says from b → a ≡ b

@@ -15,7 +15,7 @@ use Rattle.ws_text.specs.ItemLines.{head_text}
 use Rattle.ws_text.specs.Items.{AreItems, IsScreen, Leads}
 use Rattle.ws_text.specs.Shown.{ShowsItems, shown_text}
 use Rattle.ws_text.specs.Wording.{Wording, Run, EndsEverywhere}
-use Rattle.ws_text.specs.declared.line.Part.TheVariants as part
+use Rattle.ws_text.specs.Parts.{Part as part}
 use Rattle.ws_text.proofs.ShownBytes.{line_of, AreFrom, ended, lines_back}
 use Rattle.ws_text.proofs.ShownLines.{Printed, run_words, run_units, IsRunRight, run_joined, run_line_from, run_says}
 use Rattle.ws_text.proofs.ShownLines.{head_words, head_line_from, head_says}

@@ -21,7 +21,7 @@ use Rattle.ws_text.specs.TextLines.AreUnits.{run}
 use Rattle.ws_text.specs.TextLines.IsHeadText.{long}
 use Rattle.ws_text.specs.TextLines.IsWorded.{item, indented}
 use Rattle.ws_text.specs.TextLines.Means.{worded}
-use Rattle.ws_text.specs.declared.line.Part.TheVariants as part
+use Rattle.ws_text.specs.Parts.{Part as part}
 use Rattle.ws_record.proofs.Encodings.{opcode_fits}
 use Rattle.ws_text.proofs.ShownBytes.{line_of, AreFrom, AreWords, literal, words_back, line_from, is_text}
 use Rattle.ws_text.proofs.ShownNumbers.{small_back, place_back, decimal_from, hex_from, hex_back, pair_back, pair_from}

@@ -17,7 +17,7 @@ use Rattle.ws_text.specs.TextLines.{IsTelnetText, IsLine}
 use Rattle.ws_text.specs.Wording.{Wording}
 use Rattle.ws_text.specs.TextLines.IsWorded.{item}
 use Rattle.ws_text.specs.TextLines.Means.{worded}
-use Rattle.ws_text.specs.declared.line.Part.TheVariants as part
+use Rattle.ws_text.specs.Parts.{Part as part}
 use Rattle.ws_text.proofs.ShownBytes.{line_of, AreFrom, AreWords, literal, words_back, line_from, is_text}
 use Rattle.ws_text.proofs.ShownNumbers.{small_back, place_back, decimal_from}
 use Rattle.ws_text.proofs.ShownNumbers.{hex_words, hex_words_back, hex_words_from}

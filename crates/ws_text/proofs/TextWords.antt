@@ -3,12 +3,13 @@ use Rattle.std.proofs.Common.{length, get_or, drop, Bor, refl, sym, ap, subst, �
 use Rattle.std.specs.Prelude.{codes}
 use Rattle.std.specs.Prelude.{Option, Some, None}
 use Rattle.ws_text.specs.Words.{words_of}
-use Rattle.ws_text.specs.declared.line.Part.{Part}
+use Rattle.ws_text.specs.Parts.{Part}
+use Rattle.ws_text.specs.Parts.{Part as part}
 use Rattle.ws_text.specs.TextLines.{AreTyped, AreUnits, IsWorded, Means}
 use Rattle.ws_text.specs.TextLines.AreUnits.{one, run}
 use Rattle.ws_text.specs.TextLines.Means.{empty, comment, typed, worded}
 use Rattle.ws_text.specs.Wording.{Wording, IsClear}
-use Rattle.ws_text.proofs.LineWords.{no_indented, IsTextStripped}
+use Rattle.ws_text.proofs.LineWords.{indented_says, IsTextStripped}
 use Rattle.ws_text.proofs.LineEnds.{is_none}
 use Rattle.std.proofs.lemmas.Bool.{false≢true}
 
@@ -26,28 +27,29 @@ text_is_no_unit w clear rest us (run hex f g h) = clear.apart (sym f)
 pub behind_seven : (a b : List ℕ) → codes "  TEXT " ++ a ≡ codes "  TEXT " ++ b → a ≡ b
 behind_seven a b e = cc
 
-pub no_typed_line : {U : Type 0} (w : Wording U) → IsClear w → (line text : List ℕ) → line ≡ codes "  TEXT " ++ text
-    → ((us : List U) → AreTyped w text us → ⊥) → (says : Part U) → Means w line says → ⊥
-no_typed_line w clear line text e bad says (empty f g) = absurd (omega (arith, ap length (sym f ∙ e)))
-no_typed_line w clear line text e bad says (comment other f g) =
+-- a line of characters says their units alone
+pub typed_line : {U : Type 0} (w : Wording U) → IsClear w → (line text : List ℕ) → line ≡ codes "  TEXT " ++ text
+    → (says : Part U) → Means w line says → (us : List U) × AreTyped w text us × (says ≡ part.Units us)
+typed_line w clear line text e says (empty f g) = absurd (omega (arith, ap length (sym f ∙ e)))
+typed_line w clear line text e says (comment other f g) =
     let first : 35 ≡ 32 = ap (λ z. get_or z 0 0) (sym f ∙ e) in
     absurd (omega (arith, first))
-no_typed_line w clear line text e bad says (typed other us f h g) =
+typed_line w clear line text e says (typed other us f h g) =
     let same : other ≡ text = behind_seven other text (sym f ∙ e) in
-    bad us (subst (λ (z : List ℕ). AreTyped w z us) same h)
-no_typed_line w clear line text e bad says (worded h) =
-    no_indented w (words_of line) (codes "TEXT") (words_of text) (ap words_of e ∙ first_words text)
-    (text_is_no_unit w clear (words_of text)) says h
+    (us, subst (λ (z : List ℕ). AreTyped w z us) same h, g)
+typed_line w clear line text e says (worded h) =
+    let found = indented_says w (words_of line) (codes "TEXT") (words_of text)
+    (ap words_of e ∙ first_words text) says h in
+    absurd (text_is_no_unit w clear (words_of text) found.0 found.1)
 
--- a line that is neither empty nor a comment nor characters
-pub no_worded : {U : Type 0} (w : Wording U) (line : List ℕ) → (line ≡ [] → ⊥) → ((text : List ℕ) → line ≡ codes "#"
-    ++ text → ⊥)
-    → ((text : List ℕ) → line ≡ codes "  TEXT " ++ text → ⊥)
-    → ((says : Part U) → IsWorded w (words_of line) says → ⊥) → (says : Part U) → Means w line says → ⊥
-no_worded w line some plain other bad says (empty f g) = some f
-no_worded w line some plain other bad says (comment text f g) = plain text f
-no_worded w line some plain other bad says (typed text us f h g) = other text f
-no_worded w line some plain other bad says (worded h) = bad says h
+-- a line that is neither empty nor a comment nor characters says what its words do
+pub only_worded : {U : Type 0} (w : Wording U) (line : List ℕ) → (line ≡ [] → ⊥)
+    → ((text : List ℕ) → line ≡ codes "#" ++ text → ⊥) → ((text : List ℕ) → line ≡ codes "  TEXT " ++ text → ⊥)
+    → (says : Part U) → Means w line says → IsWorded w (words_of line) says
+only_worded w line some plain other says (empty f g) = absurd (some f)
+only_worded w line some plain other says (comment text f g) = absurd (plain text f)
+only_worded w line some plain other says (typed text us f h g) = absurd (other text f)
+only_worded w line some plain other says (worded h) = h
 
 pub is_nil_by : (text : List ℕ) (r : Bool) → r ≡ (length text == 0) → r ≡ true → text ≡ []
 is_nil_by text r e h = is_none text (sym e ∙ h)

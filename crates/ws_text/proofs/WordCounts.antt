@@ -2,8 +2,8 @@ use Rattle.std.proofs.Common.{inl, inr, ℕ, ◌≤◌, List, length, ap, arith}
 use Rattle.ws_telnet.specs.declared.token.Telnet.{Telnet}
 use Rattle.ws_telnet.specs.declared.token.Telnet.TheVariants.{Command, Option as Negotiate, Sub}
 use Rattle.ws_record.specs.declared.opcode.Opcode.{Opcode}
-use Rattle.ws_text.specs.declared.line.Part.{Part}
-use Rattle.ws_text.specs.declared.line.Part.TheVariants as part
+use Rattle.ws_text.specs.Parts.{Part}
+use Rattle.ws_text.specs.Parts.{Part as part}
 use Rattle.ws_text.specs.TextLines.{AreUnits, IsHeadText, IsItemLine, IsTelnetText, IsWorded}
 use Rattle.ws_text.specs.TextLines.AreUnits.{one, run}
 use Rattle.ws_text.specs.TextLines.IsHeadText.{short, long}

@@ -1,18 +1,16 @@
 -- Lines of text, and the items that they spell.
 
-use Rattle.std.specs.Prelude.{◌≡◌, ◌⊎◌, ℕ, ◌+◌, List, [], ◌∷◌, ◌++◌, length, codes}
+use Rattle.std.specs.Prelude.{◌≡◌, ℕ, ◌+◌, List, [], ◌∷◌, ◌++◌, length, codes}
 use Rattle.std.specs.Str.Lines.{lines}
 use Rattle.ws_code.specs.Code.{Rules}
 use Rattle.ws_record.specs.Encode.{CanBeEncoded}
 use Rattle.ws_record.specs.declared.record.Item.{Item}
 use Rattle.ws_record.specs.declared.record.Item.TheVariants as an_item
 use Rattle.ws_record.specs.declared.record.Record.{Record}
-use Rattle.ws_text.specs.declared.fault.LineFault.{LineFault}
-use Rattle.ws_text.specs.declared.fault.LineFault.TheVariants.{Bad, Memory as LineMemory}
 use Rattle.ws_text.specs.declared.items.TextFault.{TextFault}
 use Rattle.ws_text.specs.declared.items.TextFault.TheVariants.{Line, Memory}
-use Rattle.ws_text.specs.declared.line.Part.{Part}
-use Rattle.ws_text.specs.declared.line.Part.TheVariants.{Nothing, Head, Command, Units}
+use Rattle.ws_text.specs.Parts.{Part}
+use Rattle.ws_text.specs.Parts.Part.{Nothing, Head, Command, Units}
 use Rattle.ws_text.specs.TextLines.{IsLine}
 use Rattle.ws_text.specs.Wording.{Wording}
 
@@ -67,21 +65,9 @@ module _ {Place U : Type 0} (rules : Rules Place U) where
       pub split : lines text ≡ before ++ behind
       pub leads : Leads before [] items
 
-    -- where a growth may be refused: at a line that is good by itself, whatever stands before it; or behind all lines
-    abbrev pub MayLack : List (List ℕ) → Type 0
-    MayLack [] = Unit {0}
-    MayLack (line ∷ lines) = IsScreen line ⊎ ((says : Part U) × IsLine w line says)
-
-    -- why a line is not added to items: it makes nothing of them; or a growth was refused, and it is good by itself
-    abbrev pub IsLineFault : List ℕ → List (Item U) → LineFault → Type 0
-    IsLineFault line from Bad = (to : List (Item U)) → Reads line from to → ⊥
-    IsLineFault line from LineMemory = (says : Part U) × IsLine w line says
-
-    -- The first bad line, counted from 1. Or a growth was refused: the lines before that one are good, and so is, by
-    -- itself, the line at which it was, if it wasn't behind all of them.
+    -- The first bad line, counted from 1. Or the whole text spells items, and a growth was refused.
     abbrev pub IsTextFault : List ℕ → TextFault → Type 0
     IsTextFault text (Line number) = (before : List (List ℕ)) × (line : List ℕ) × (after : List (List ℕ))
         × (items : List (Item U)) × IsReadTo text before (line ∷ after) items × ¬ IsScreen line
         × ((to : List (Item U)) → Reads line items to → ⊥) × (number ≡ length before + 1)
-    IsTextFault text Memory = (before : List (List ℕ)) × (behind : List (List ℕ)) × (items : List (Item U))
-        × IsReadTo text before behind items × MayLack behind
+    IsTextFault text Memory = (items : List (Item U)) × AreItems text items

@@ -1,10 +1,10 @@
 pub mod AnswerLines
 pub mod AnswerWords
 pub mod ElementWords
-pub mod Faults
 pub mod FieldLaws
 pub mod ItemLines
 pub mod Items
+pub mod BodyLines
 pub mod Reading
 pub mod Names
 pub mod WordLaws
@@ -13,3 +13,5 @@ pub mod Words
 pub mod TextLines
 pub mod Shown
 pub mod Printing
+pub mod Parts
+pub mod Found

@@ -10,8 +10,8 @@ use Rattle.ws_telnet.specs.declared.token.Telnet.{Telnet}
 use Rattle.ws_telnet.specs.declared.token.Telnet.TheVariants.{Command, Option as Negotiate, Sub}
 use Rattle.ws_record.specs.Grammar.{opcode_byte}
 use Rattle.ws_record.specs.declared.opcode.Opcode.{Opcode}
-use Rattle.ws_text.specs.declared.line.Part.{Part}
-use Rattle.ws_text.specs.declared.line.Part.TheVariants as part
+use Rattle.ws_text.specs.Parts.{Part}
+use Rattle.ws_text.specs.Parts.{Part as part}
 use Rattle.ws_text.specs.Names.{look_up, commands, verbs}
 use Rattle.ws_text.specs.Words.{words_of, IsHex, IsHexPair, IsSmall}
 use Rattle.ws_text.specs.ElementWords.{AreBytes}

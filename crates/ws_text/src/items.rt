@@ -7,11 +7,11 @@ ghost use Rattle.ws_stream.specs.declared.answer_part.AnswerPart.{AnswerPart as 
 ghost use Rattle.ws_stream.specs.declared.element.Element.{Element as AnElement};
 ghost use Rattle.ws_text.specs.AnswerWords.{answer_wording};
 ghost use Rattle.ws_text.specs.ElementWords.{element_wording};
-ghost use Rattle.ws_text.specs.Reading.{AreSound, so_far};
-ghost use Rattle.ws_text.specs.Items.{AreItems, IsLineFault, IsTextFault, Reads};
+ghost use Rattle.ws_text.specs.Items.{AreItems, IsTextFault, Reads};
+ghost use Rattle.ws_text.specs.Reading.{AreRead, Holds, Takes};
 ghost use Rattle.ws_text.specs.Shown.{Shows, ShowsAnswers};
 
-use crate::fault::LineFault;
+use crate::gathered::Gathered;
 use crate::line::read_line;
 use crate::lines::first_line;
 use crate::reading::{Reading, add, finish, start};
@@ -25,7 +25,7 @@ use ws_stream::{AnswerPart, Answers, Commands, Element};
 pub enum TextFault {
     /// This line, counted from 1, is the first bad one.
     Line(u64),
-    /// A growth was refused: behind good lines, at one that is good by itself, or behind all lines.
+    /// A growth was refused, and no line is bad.
     Memory,
 }
 
@@ -33,7 +33,7 @@ pub enum TextFault {
 ///
 /// `Line` where a line is bad, with the number of the first one: it has no such form, a number is out of range, a
 /// character has no byte in code page 037, or elements can't stand there or make the record too long (RFC 1205,
-/// section 3). `Memory` where a growth was refused: behind good lines, at one that is good by itself, or behind all.
+/// section 3). `Memory` where a growth was refused, and no line is bad: all lines are read all the same.
 ///
 /// Where the lines spell items, they spell no others: the result is these very items, want of memory aside. Each of
 /// them can be encoded. And whatever items `encode` accepts, the text that `show` prints of them spells them.
@@ -69,7 +69,7 @@ pub fn read_answer_items(alloc: Global, text: &[u8]) -> Result<Vec<Item<AnswerPa
     read_lines::<Answers>(alloc, text)
 }
 
-// The items of a text, line by line.
+// The items of a text, line by line. Where a growth was refused, the lines behind it are read all the same.
 fn read_lines<B: Worded>(alloc: Global, text: &[u8]) -> Result<Vec<Item<B::Unit>>, TextFault>
     ensures ok { IfOk result (λ items. AreItems B.rules B.wording text.now items.items) }
     ensures fault { IfErr result (IsTextFault B.rules B.wording text.now) }
@@ -80,27 +80,26 @@ fn read_lines<B: Worded>(alloc: Global, text: &[u8]) -> Result<Vec<Item<B::Unit>
     while !rest.is_empty() {
         let (line, behind) = first_line(rest);
         if line == b"screen".as_slice() {
-            return finished(reading);
+            return kept(finish::<B>(reading));
         }
         number += 1;
         match read_next::<B>(alloc, reading, line) {
-            Ok(next) => reading = next,
-            Err(LineFault::Bad) => return Err(TextFault::Line(number)),
-            Err(LineFault::Memory) => return Err(TextFault::Memory),
+            Some(next) => reading = next,
+            None => return Err(TextFault::Line(number)),
         }
         rest = behind;
     }
-    finished(reading)
+    kept(finish::<B>(reading))
 }
 
-// The items so far.
-fn finished<P: Copy, U: Drop>(reading: Reading<P, U>) -> Result<Vec<Item<U>>, TextFault>
-    ensures ok { IfOk result (λ items. items.items ≡ so_far reading) }
-    ensures fault { IfErr result (λ fault. fault ≡ TextFault.Memory) }
+// The items, if all were kept.
+fn kept<T: Drop>(list: Gathered<T>) -> Result<Vec<T>, TextFault>
+    ensures { (items : Seq T) → Holds list items
+        → MatchResult result (λ v. v.items ≡ items) (λ fault. fault ≡ TextFault.Memory) }
 {
-    match finish(reading) {
-        Ok(items) => Ok(items),
-        Err(_) => Err(TextFault::Memory),
+    match list.into_whole() {
+        Some(items) => Ok(items),
+        None => Err(TextFault::Memory),
     }
 }
 
@@ -109,16 +108,13 @@ fn read_next<B: Worded>(
     alloc: Global,
     reading: Reading<B::Place, B::Unit>,
     line: &[u8],
-) -> Result<Reading<B::Place, B::Unit>, LineFault>
-    requires sound { AreSound B.rules reading }
-    ensures sound { IfOk result (AreSound B.rules) }
-    ensures given { IfOk result (λ new.
-        Reads B.rules B.wording line.now (so_far reading) (so_far new)) }
-    ensures fault { IfErr result
-        (IsLineFault B.rules B.wording line.now (so_far reading)) }
+) -> Option<Reading<B::Place, B::Unit>>
+    requires { (from : Seq (AnItem B.Unit)) × AreRead B.rules reading from }
+    ensures { (from : Seq (AnItem B.Unit)) → AreRead B.rules reading from
+        → Takes B.rules (Reads B.rules B.wording line.now from) result }
 {
-    match read_line::<B>(alloc, line) {
-        Ok(part) => add::<B>(alloc, reading, part),
-        Err(fault) => Err(fault),
+    match read_line::<B>(line) {
+        Some(found) => add::<B>(alloc, reading, found),
+        None => None,
     }
 }

@@ -1,92 +1,87 @@
-ghost use Rattle.std.specs.Prelude.{◌≡◌, ◌∷◌, [], ℕ, List as Seq, map, true, IfOk, IfErr, MatchOption};
-ghost use Rattle.ws_text.specs.declared.line.Part.{Part as APart};
-ghost use Rattle.ws_text.specs.Faults.{IsFault};
+ghost use Rattle.std.specs.Prelude.{◌≡◌, ◌∷◌, ◌↔◌, [], ℕ, List as Seq, map, true, MatchOption};
+ghost use Rattle.ws_text.specs.Found.{Are, Tells};
 ghost use Rattle.ws_text.specs.TextLines as Spec;
 ghost use Rattle.ws_text.specs.Words.{words_of};
 
-use crate::fault::LineFault;
 use crate::head_words::read_head;
-use crate::runs::{read_run, typed};
 use crate::telnet_words::read_telnet;
 use crate::worded::Worded;
 use crate::words::words_of;
-use std::alloc::Global;
 use std::str;
-use ws_code::List;
 use ws_record::Opcode;
 use ws_telnet::Telnet;
 
-/// What a line says.
+/// What is found in a line.
 #[derive(Drop)]
-pub enum Part<U> {
-    /// An empty line, or a comment.
+pub enum Found<'a, U> {
+    /// It is empty, or a comment.
     Nothing,
     /// A record begins.
     Head { flags: u16, opcode: Opcode },
     /// A Telnet command.
     Command(Telnet),
-    /// Units of the record before them.
-    Units(List<U>),
+    /// Units of the record before the line.
+    Units(LineUnits<'a, U>),
+}
+
+/// The units of a line.
+#[derive(Drop)]
+pub enum LineUnits<'a, U> {
+    One(U),
+    /// A run of bytes in hex, which is not looked at yet.
+    Hex(&'a str),
+    /// Characters, which are not looked at yet.
+    Typed(&'a str),
 }
 
 /// What a line says.
-pub fn read_line<B: Worded>(alloc: Global, line: &[u8]) -> Result<Part<B::Unit>, LineFault>
-    ensures ok { IfOk result (Spec.IsLine B.wording line.now) }
-    ensures fault { IfErr result (IsFault (Spec.IsLine B.wording line.now)) }
+pub fn read_line<B: Worded>(line: &[u8]) -> Option<Found<'_, B::Unit>>
+    ensures { Tells B.wording (Spec.IsLine B.wording line.now) result }
 {
     let Ok(text) = str::from_utf8(line) else {
-        return Err(LineFault::Bad);
+        return None;
     };
-    read_text::<B>(alloc, text)
+    read_text::<B>(text)
 }
 
 // What a line of characters says.
-fn read_text<B: Worded>(alloc: Global, text: &str) -> Result<Part<B::Unit>, LineFault>
-    ensures ok { IfOk result (Spec.Means B.wording text.now) }
-    ensures fault { IfErr result (IsFault (Spec.Means B.wording text.now)) }
+fn read_text<B: Worded>(text: &str) -> Option<Found<'_, B::Unit>>
+    ensures { Tells B.wording (Spec.Means B.wording text.now) result }
 {
     if text.is_empty() || text.starts_with('#') {
-        return Ok(Part::Nothing);
+        return Some(Found::Nothing);
     }
     match text.strip_prefix("  TEXT ") {
-        Some(behind) => match typed::<B>(alloc, behind) {
-            Ok(units) => Ok(Part::Units(List::of(units))),
-            Err(fault) => Err(fault),
-        },
-        None => read_worded::<B>(alloc, text),
+        Some(behind) => Some(Found::Units(LineUnits::Typed(behind))),
+        None => read_worded::<B>(text),
     }
 }
 
 // What a line of words says.
-fn read_worded<B: Worded>(alloc: Global, text: &str) -> Result<Part<B::Unit>, LineFault>
-    ensures ok { IfOk result (Spec.IsWorded B.wording (words_of text.now)) }
-    ensures fault { IfErr result (IsFault (Spec.IsWorded B.wording (words_of text.now))) }
+fn read_worded<B: Worded>(text: &str) -> Option<Found<'_, B::Unit>>
+    ensures { Tells B.wording (Spec.IsWorded B.wording (words_of text.now)) result }
 {
     match words_of(text) {
-        Some(words) => read_words::<B>(alloc, words.as_slice()),
-        None => Err(LineFault::Bad),
+        Some(words) => read_words::<B>(words.as_slice()),
+        None => None,
     }
 }
 
 // What the words of a line say.
-fn read_words<B: Worded>(alloc: Global, words: &[&str]) -> Result<Part<B::Unit>, LineFault>
-    ensures ok { IfOk result (Spec.IsWorded B.wording (map (λ w. w.now) words.now)) }
-    ensures fault { IfErr result (IsFault (Spec.IsWorded B.wording (map (λ w. w.now) words.now))) }
+fn read_words<'a, B: Worded>(words: &[&'a str]) -> Option<Found<'a, B::Unit>>
+    ensures { Tells B.wording (Spec.IsWorded B.wording (map (λ w. w.now) words.now)) result }
 {
     match indented(words) {
-        Some((name, rest)) => match read_units::<B>(alloc, name, rest) {
-            Ok(units) => Ok(Part::Units(List::of(units))),
-            Err(fault) => Err(fault),
+        Some((name, rest)) => match read_units::<B>(name, rest) {
+            Some(units) => Some(Found::Units(units)),
+            None => None,
         },
-        None => match read_item(behind_place(words)) {
-            Some(part) => Ok(part),
-            None => Err(LineFault::Bad),
-        },
+        None => read_item::<B>(behind_place(words)),
     }
 }
 
 // The name behind two blanks, and the words behind it.
-fn indented<'a>(words: &'a [&'a str]) -> Option<(&'a str, &'a [&'a str])>
+fn indented<'w, 'a>(words: &'w [&'a str]) -> Option<(&'a str, &'w [&'a str])>
     ensures { MatchOption result
         ((name : Seq ℕ) (rest : Seq (Seq ℕ))
         → map (λ w. w.now) words.now ≡ [] ∷ [] ∷ name ∷ rest → ⊥)
@@ -101,7 +96,7 @@ fn indented<'a>(words: &'a [&'a str]) -> Option<(&'a str, &'a [&'a str])>
 }
 
 // The words behind `at` and a place, where a line begins with them; all words otherwise.
-fn behind_place<'a>(words: &'a [&'a str]) -> &'a [&'a str]
+fn behind_place<'w, 'a>(words: &'w [&'a str]) -> &'w [&'a str]
     ensures { Spec.AreBehindPlace (map (λ w. w.now) words.now) (map (λ w. w.now) result.now) }
 {
     match words {
@@ -119,53 +114,37 @@ fn is_place(word: &str) -> bool
 }
 
 // The units of a name and the words behind it.
-fn read_units<B: Worded>(
-    alloc: Global,
-    name: &str,
-    words: &[&str],
-) -> Result<Vec<B::Unit>, LineFault>
-    ensures ok { IfOk result (λ units.
-        Spec.AreUnits B.wording name.now (map (λ w. w.now) words.now) units.items) }
-    ensures fault { IfErr result
-        (IsFault (Spec.AreUnits B.wording name.now (map (λ w. w.now) words.now))) }
+fn read_units<'a, B: Worded>(name: &str, words: &[&'a str]) -> Option<LineUnits<'a, B::Unit>>
+    ensures { MatchOption result
+        ((units : Seq B.Unit)
+        → Spec.AreUnits B.wording name.now (map (λ w. w.now) words.now) units → ⊥)
+        (λ found. (units : Seq B.Unit)
+        → Spec.AreUnits B.wording name.now (map (λ w. w.now) words.now) units
+        ↔ Are B.wording found units) }
 {
     if name == B::bytes_name() {
         if words.len() != 1 {
-            return Err(LineFault::Bad);
+            return None;
         }
-        return read_run::<B>(alloc, words[0]);
+        return Some(LineUnits::Hex(words[0]));
     }
     match B::read_unit(name, words) {
-        Some(unit) => alone(alloc, unit),
-        None => Err(LineFault::Bad),
-    }
-}
-
-// The list of one unit.
-fn alone<U: Drop>(alloc: Global, unit: U) -> Result<Vec<U>, LineFault>
-    ensures ok { IfOk result (λ units. units.items ≡ unit ∷ []) }
-    ensures fault { IfErr result (λ fault. fault ≡ LineFault.Memory) }
-{
-    let mut units = Vec::new(alloc);
-    match units.push(unit) {
-        Ok(()) => Ok(units),
-        Err(_) => Err(LineFault::Memory),
+        Some(unit) => Some(LineUnits::One(unit)),
+        None => None,
     }
 }
 
 // An item that a line begins.
-fn read_item<U>(words: &[&str]) -> Option<Part<U>>
-    ensures { MatchOption result
-        ((says : APart U) → Spec.IsItemLine (map (λ w. w.now) words.now) says → ⊥)
-        (Spec.IsItemLine (map (λ w. w.now) words.now)) }
+fn read_item<'a, B: Worded>(words: &[&str]) -> Option<Found<'a, B::Unit>>
+    ensures { Tells B.wording (Spec.IsItemLine (map (λ w. w.now) words.now)) result }
 {
     match words {
         [first, rest @ ..] if *first == "record" => {
             let (flags, opcode) = read_head(rest)?;
-            Some(Part::Head { flags, opcode })
+            Some(Found::Head { flags, opcode })
         }
         [first, name, rest @ ..] if *first == "telnet" => {
-            Some(Part::Command(read_telnet(name, rest)?))
+            Some(Found::Command(read_telnet(name, rest)?))
         }
         _ => None,
     }

@@ -1,71 +1,77 @@
-ghost use Rattle.std.specs.Prelude.{◌≡◌, ◌<◌, ◌++◌, ◌∷◌, [], ℕ, true, Some, length, take, drop};
-ghost use Rattle.std.specs.Prelude.{IfOk, IfErr, MatchOption};
+ghost use Rattle.std.specs.Prelude.{◌≡◌, ◌<◌, ◌∷◌, [], ℕ, Some, length, take, drop, MatchOption};
 ghost use Rattle.ws_code.specs.DataByte.{IsData};
-ghost use Rattle.ws_text.specs.Faults.{IsFault};
+ghost use Rattle.ws_record.specs.declared.record.Record.{Record as ARecord};
+ghost use Rattle.ws_text.specs.Reading.{IsOpen, Puts};
+ghost use Rattle.ws_text.specs.Found.{Are};
 ghost use Rattle.ws_text.specs.TextLines.{AreTyped, IsRun};
 ghost use Rattle.ws_text.specs.Words.{IsHexByte};
 
-use crate::fault::LineFault;
+use crate::line::LineUnits;
+use crate::open_record::{OpenRecord, put_unit};
 use crate::worded::Worded;
-use std::alloc::Global;
 use ws_code::DataByte;
 use ws_code::ebcdic::from_char;
 
-/// A run of bytes, in hex, as units. It is read to its end where a growth is refused, too.
-pub fn read_run<B: Worded>(alloc: Global, hex: &str) -> Result<Vec<B::Unit>, LineFault>
-    ensures ok { IfOk result (λ units. IsRun B.wording hex.now units.items) }
-    ensures fault { IfErr result (IsFault (IsRun B.wording hex.now)) }
+/// Puts the units of a line behind those of the record; `false` where no units that it says can stand there.
+pub fn put_units<B: Worded>(
+    begun: &mut OpenRecord<B::Place, B::Unit>,
+    units: LineUnits<'_, B::Unit>,
+) -> bool
+    requires { (r : ARecord B.Unit) × IsOpen B.rules begun.old r }
+    ensures { Puts B.rules (Are B.wording units.entry) begun.old begun.new result }
 {
-    let mut units = Vec::new(alloc);
-    let mut kept = true;
+    match units {
+        LineUnits::One(unit) => put_unit::<B>(begun, unit),
+        LineUnits::Hex(hex) => put_run::<B>(begun, hex),
+        LineUnits::Typed(text) => put_typed::<B>(begun, text),
+    }
+}
+
+// The same for a run of bytes in hex.
+fn put_run<B: Worded>(begun: &mut OpenRecord<B::Place, B::Unit>, hex: &str) -> bool
+    requires { (r : ARecord B.Unit) × IsOpen B.rules begun.old r }
+    ensures { Puts B.rules (IsRun B.wording hex.now) begun.old begun.new result }
+{
     let mut rest = hex.as_bytes();
     if rest.is_empty() {
-        return Err(LineFault::Bad);
+        return false;
     }
     while !rest.is_empty() {
         let (byte, behind) = first_byte(rest);
-        match add_byte::<B>(&mut units, kept, byte) {
-            Some(is_kept) => kept = is_kept,
-            None => return Err(LineFault::Bad),
+        if !put_byte::<B>(begun, byte) {
+            return false;
         }
         rest = behind;
     }
-    if kept {
-        Ok(units)
-    } else {
-        Err(LineFault::Memory)
-    }
+    true
 }
 
-/// The bytes of characters in code page 037, as units. They are read to their end where a growth is refused, too.
-pub fn typed<B: Worded>(alloc: Global, text: &str) -> Result<Vec<B::Unit>, LineFault>
-    ensures ok { IfOk result (λ units. AreTyped B.wording text.now units.items) }
-    ensures fault { IfErr result (IsFault (AreTyped B.wording text.now)) }
+// The same for characters, each of which has a byte in code page 037.
+fn put_typed<B: Worded>(begun: &mut OpenRecord<B::Place, B::Unit>, text: &str) -> bool
+    requires { (r : ARecord B.Unit) × IsOpen B.rules begun.old r }
+    ensures { Puts B.rules (AreTyped B.wording text.now) begun.old begun.new result }
 {
-    let mut units = Vec::new(alloc);
-    let mut kept = true;
     for character in text.chars() {
-        match add_byte::<B>(&mut units, kept, from_char(character)) {
-            Some(is_kept) => kept = is_kept,
-            None => return Err(LineFault::Bad),
+        if !put_byte::<B>(begun, from_char(character)) {
+            return false;
         }
     }
-    if kept {
-        Ok(units)
-    } else {
-        Err(LineFault::Memory)
-    }
+    true
 }
 
-// Adds the unit of a byte to all those before it; whether all are there then.
-fn add_byte<B: Worded>(units: &mut Vec<B::Unit>, kept: bool, byte: Option<u8>) -> Option<bool>
-    ensures { MatchOption result ((b : ℕ) → byte ≡ Some b → IsData b → ⊥)
-        (λ is_kept. (b : ℕ) × (byte ≡ Some b) × IsData b × (is_kept ≡ true
-        → (kept ≡ true) × (units.new.items ≡ units.old.items ++ B.wording.byte b ∷ []))) }
+// The same for a byte, if there is one.
+fn put_byte<B: Worded>(begun: &mut OpenRecord<B::Place, B::Unit>, byte: Option<u8>) -> bool
+    requires { (r : ARecord B.Unit) × IsOpen B.rules begun.old r }
+    ensures { Puts B.rules
+        (λ units. (b : ℕ) × (byte ≡ Some b) × IsData b × (units ≡ B.wording.byte b ∷ []))
+        begun.old begun.new result }
 {
-    match DataByte::new(byte?) {
-        Some(byte) => Some(kept && units.push(B::byte_unit(byte)).is_ok()),
-        None => None,
+    let Some(byte) = byte else {
+        return false;
+    };
+    match DataByte::new(byte) {
+        Some(byte) => put_unit::<B>(begun, B::byte_unit(byte)),
+        None => false,
     }
 }
 

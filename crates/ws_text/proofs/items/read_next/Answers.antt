@@ -1,16 +1,12 @@
-use Rattle.std.proofs.lemmas.Result.{IfErr-weaker}
-use Rattle.ws_text.specs.Items.{IsLineFault}
-use Rattle.ws_text.specs.Reading.{so_far}
-use Rattle.ws_text.proofs.ItemsRead.{fault_behind, fault_within}
+use Rattle.ws_text.specs.Items.{Reads}
+use Rattle.ws_text.proofs.ReadingsGrow.{takes_on}
 use Rattle.ws_text.proofs.items.read_next.Goals as goal
 
-pub returns-in-Ok-clause-fault : goal.returns-in-Ok-clause-fault
-returns-in-Ok-clause-fault g c =
-    IfErr-weaker c.add.result _
-    (IsLineFault g.B.Code.rules g.B.Worded.wording c.args.line.now (so_far c.args.reading))
-    (λ fault h. fault_behind g.B.Code.rules g.B.Worded.wording g.met.B.Worded.clear c.args.line.now
-    (so_far c.args.reading) c.in-Ok.part fault c.in-Ok.ensures.ok h) c.add.ensures.fault
+pub returns-in-Some : goal.returns-in-Some
+returns-in-Some g c = λ from are.
+    takes_on g.B.Code.rules _ (Reads g.B.Code.rules g.B.Worded.wording c.args.line.now from) c.add.result
+    (λ to h. (h.0, (c.in-Some.ensures h.0).1 h.1, h.2)) (λ to h. (h.0, (c.in-Some.ensures h.0).0 h.1, h.2))
+    (c.add.ensures from are)
 
-pub returns-in-Err-clause-fault : goal.returns-in-Err-clause-fault
-returns-in-Err-clause-fault g c = fault_within g.B.Code.rules g.B.Worded.wording c.args.line.now
-    (so_far c.args.reading) c.in-Err.fault c.in-Err.ensures.fault
+pub returns-in-None : goal.returns-in-None
+returns-in-None g c = λ from are to h. c.in-None.ensures h.0 h.1

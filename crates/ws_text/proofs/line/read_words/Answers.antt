@@ -1,19 +1,24 @@
-use Rattle.std.proofs.Common.{refl, ap}
 use Rattle.ws_text.specs.TextLines.{IsWorded}
 use Rattle.ws_text.specs.TextLines.IsWorded.{item, indented}
 use Rattle.ws_text.proofs.Lists.{texts}
-use Rattle.ws_text.proofs.LineWords.{fault_on, no_indented}
-use Rattle.ws_text.specs.declared.line.Part.TheVariants as part
+use Rattle.ws_text.proofs.LineWords.{indented_says, only_item, tells_on}
 use Rattle.ws_text.proofs.line.read_words.Goals as goal
 
-pub returns-in-Ok-clause-ok : goal.returns-in-Ok-clause-ok
-returns-in-Ok-clause-ok g c = indented _ _ _ c.in-Some.ensures c.in-Ok.ensures.ok (ap (λ z. part.Units z) c.of.ensures)
+pub returns-in-Some-read_units : goal.returns-in-Some-read_units
+returns-in-Some-read_units g c = λ says. (
+  λ h. let found = indented_says g.B.Worded.wording (texts c.args.words.now) _ _ c.in-Some.ensures says h in
+      (found.0, (c.in-Some-read_units.ensures found.0).0 found.1, found.2),
+  λ h. indented _ _ h.0 c.in-Some.ensures ((c.in-Some-read_units.ensures h.0).1 h.1) h.2,
+)
 
-pub returns-in-Err-clause-fault : goal.returns-in-Err-clause-fault
-returns-in-Err-clause-fault g c =
-    fault_on _ (IsWorded g.B.Worded.wording (texts c.args.words.now)) c.in-Err.fault
-    (no_indented g.B.Worded.wording (texts c.args.words.now) _ _ c.in-Some.ensures)
-    (λ us h. (part.Units us, indented _ _ us c.in-Some.ensures h refl)) c.in-Err.ensures.fault
+pub returns-in-None-read_units : goal.returns-in-None-read_units
+returns-in-None-read_units g c = λ says h.
+    let found = indented_says g.B.Worded.wording (texts c.args.words.now) _ _ c.in-Some.ensures says h in
+    c.in-None-read_units.ensures found.0 found.1
 
-pub returns-in-Some-read_item-clause-ok : goal.returns-in-Some-read_item-clause-ok
-returns-in-Some-read_item-clause-ok g c = item _ c.behind_place.ensures c.in-Some-read_item.ensures
+pub returns-in-None : goal.returns-in-None
+returns-in-None g c =
+    tells_on g.B.Worded.wording _ (IsWorded g.B.Worded.wording (texts c.args.words.now)) c.read_item.result
+    (λ says h. item _ c.behind_place.ensures h)
+    (only_item g.B.Worded.wording (texts c.args.words.now) _ c.behind_place.ensures c.in-None.ensures)
+    c.read_item.ensures

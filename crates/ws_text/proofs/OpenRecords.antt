@@ -1,0 +1,109 @@
+use Rattle.std.proofs.Common.{◌≡◌, ℕ, true, List, [], ◌∷◌, ◌++◌, refl, sym, ap, subst, ◌∙◌}
+use Rattle.std.proofs.Common.{Bool, false, append_assoc}
+use Rattle.std.specs.Prelude.{◌↔◌}
+use Rattle.std.proofs.lemmas.List.{append-nil}
+use Rattle.ws_code.specs.Code.{Rules}
+use Rattle.ws_record.specs.Encode.{CanBeEncoded}
+use Rattle.ws_record.specs.declared.opcode.Opcode.{Opcode}
+use Rattle.ws_record.specs.declared.record.Item.TheVariants as an_item
+use Rattle.ws_record.specs.declared.record.Record.{Record}
+use Rattle.ws_text.specs.Items.{with_more}
+use Rattle.ws_text.specs.Reading.{IsOpen, Puts}
+use Rattle.ws_text.specs.Wording.{Wording, EndsEverywhere}
+use Rattle.ws_text.specs.declared.line.LineUnits.{LineUnits}
+use Rattle.ws_text.specs.declared.line.Found.{Found}
+use Rattle.ws_text.specs.declared.line.Found.TheVariants as found
+use Rattle.ws_text.specs.Parts.{Part}
+use Rattle.ws_text.specs.Parts.{Part as part}
+use Rattle.ws_text.specs.Found.{Are, FoundSays}
+use Rattle.ws_text.specs.declared.open_record.OpenRecord.{OpenRecord}
+use Rattle.ws_text.proofs.Bodies.{must_follow, front_encoded, more_and_more, can_be_encoded}
+
+-- Units that go into an open record.
+
+same_units : {U : Type 0} (us vs : List U) → part.Units us ≡ part.Units vs → us ≡ vs
+same_units us vs e = cc
+
+module _ {Place U : Type 0} (rules : Rules Place U) where
+  -- a unit that may not follow
+  pub no_follow : (o : OpenRecord Place U) (r : Record U) (u : U) (units : List U) → (rules.may_follow o.place u ≡ true → ⊥)
+      → IsOpen rules o r → units ≡ u ∷ [] → CanBeEncoded rules (an_item.Record (with_more r units)) → ⊥
+  no_follow o r u units bad is e can =
+      bad (must_follow rules r u o.place o.size is.follows
+      (subst (λ (z : List U). CanBeEncoded rules (an_item.Record (with_more r z))) e can)).0
+
+  -- units of an other kind, which are these all the same
+  puts_on : (P Q : List U → Type 0) (old new : OpenRecord Place U) (put : Bool) → ((us : List U) → P us → Q us)
+      → ((us : List U) → Q us → P us) → Puts rules P old new put → Puts rules Q old new put
+  puts_on P Q old new true to from h = (h.0, to h.0 h.1, h.2)
+  puts_on P Q old new false to from h = λ r us is q. h r us is (from us q)
+
+  -- units behind those that a record had
+  abbrev pub ArePut : OpenRecord Place U → OpenRecord Place U → List U → Type 0
+  ArePut old new units = (r : Record U) → IsOpen rules old r → IsOpen rules new (with_more r units)
+
+  -- units that are so, so far, were put
+  pub record PutSoFar (Are : List U → Type 0) (old new : OpenRecord Place U) : Type 0 where
+    pub units : List U
+    pub so : Are units
+    pub put : ArePut old new units
+
+  pub put_none : (Are : List U → Type 0) (old : OpenRecord Place U) → Are [] → PutSoFar Are old old
+  put_none Are old so = record {
+    units = [];
+    so = so;
+    put = λ r is. subst (λ (z : List U). IsOpen rules old (record r { body = z })) (sym (append-nil r.body)) is;
+  }
+
+  -- and the next one
+  pub put_more : (Are Next More : List U → Type 0) (old mid new : OpenRecord Place U) → PutSoFar Are old mid
+      → Puts rules Next mid new true → ((us vs : List U) → Are us → Next vs → More (us ++ vs)) → PutSoFar More old new
+  put_more Are Next More old mid new p h step = record {
+    units = p.units ++ h.0;
+    so = step p.units h.0 p.so h.1;
+    put = λ r is. subst (λ (z : Record U). IsOpen rules new z) (more_and_more rules r p.units h.0)
+        (h.2 (with_more r p.units) (p.put r is));
+  }
+
+  -- where the next unit can't stand, no units can of which it is the next
+  pub none_put : EndsEverywhere rules → (Are Next : List U → Type 0) (old mid new : OpenRecord Place U)
+      → (p : PutSoFar Are old mid) → Puts rules Next mid new false → (v : U) (more all : List U) → Next (v ∷ [])
+      → all ≡ p.units ++ v ∷ more → (r : Record U) → IsOpen rules old r
+      → CanBeEncoded rules (an_item.Record (with_more r all)) → ⊥
+  none_put ends Are Next old mid new p bad v more all next e r is can =
+      bad (with_more r p.units) (v ∷ []) (p.put r is) next
+      (subst (λ (z : Record U). CanBeEncoded rules (an_item.Record z)) (sym (more_and_more rules r p.units (v ∷ [])))
+      (front_encoded rules ends r (p.units ++ v ∷ []) more
+      (subst (λ (z : List U). CanBeEncoded rules (an_item.Record (with_more r z)))
+      (e ∙ sym (append_assoc p.units (v ∷ []) more)) can)))
+
+  -- a record that is open can be encoded
+  pub open_encoded : EndsEverywhere rules → (o : OpenRecord Place U) (r : Record U) → IsOpen rules o r
+      → CanBeEncoded rules (an_item.Record r)
+  open_encoded ends o r is = can_be_encoded rules ends r o.place o.size is.follows
+
+  pub closed_item : (r : Record U) (flags : ℕ) (opcode : Opcode) (body : List U) → flags ≡ r.flags → opcode ≡ r.opcode
+      → body ≡ r.body → an_item.Record (record { flags = flags; opcode = opcode; body = body }) ≡ an_item.Record r
+  closed_item r flags opcode body e f g =
+      let same : record { flags = flags; opcode = opcode; body = body } ≡ r =
+      λ i. record { flags = e i; opcode = f i; body = g i } in
+      ap (λ z. an_item.Record z) same
+
+-- the units of a line that says units, and of one that says something else
+pub units_put : {Place U : Type 0} (rules : Rules Place U) (w : Wording U) (Is : Part U → Type 0) (s : Found U)
+    (units : LineUnits U) (old new : OpenRecord Place U) (put : Bool) → s ≡ found.Units units
+    → ((says : Part U) → Is says ↔ FoundSays w s says) → Puts rules (Are w units) old new put
+    → Puts rules (λ us. Is (part.Units us)) old new put
+units_put {Place} {U} rules w Is s units old new put e tells h =
+    let told = subst (λ (z : Found U). (says : Part U) → Is says ↔ FoundSays w z says) e tells in
+    puts_on rules (Are w units) (λ us. Is (part.Units us)) old new put
+    (λ us are. (told (part.Units us)).1 (us, are, refl))
+    (λ us is. let found = (told (part.Units us)).0 is in
+    subst (λ (z : List U). Are w units z) (sym (same_units us found.0 found.2)) found.1) h
+
+pub no_units_found : {U : Type 0} (w : Wording U) (s : Found U) (us : List U)
+    → ((units : LineUnits U) → s ≡ found.Units units → ⊥) → FoundSays w s (part.Units us) → ⊥
+no_units_found w found.Nothing us other h = cc h
+no_units_found w (found.Head flags opcode) us other h = cc h
+no_units_found w (found.Command t) us other h = cc h
+no_units_found w (found.Units units) us other h = other units refl

@@ -1,0 +1,85 @@
+use Rattle.std.proofs.Common.{◌≡◌, inl, inr, ℕ, List, [], ◌∷◌, ◌++◌, true, false, refl, sym, ap, subst, ◌∙◌}
+use Rattle.std.specs.Prelude.{Option, Some, None}
+use Rattle.ws_code.specs.Code.{Rules}
+use Rattle.ws_telnet.specs.declared.token.Telnet.{Telnet}
+use Rattle.ws_record.specs.Encode.{CanBeEncoded}
+use Rattle.ws_record.specs.declared.opcode.Opcode.{Opcode}
+use Rattle.ws_record.specs.declared.record.Item.{Item}
+use Rattle.ws_record.specs.declared.record.Item.TheVariants as an_item
+use Rattle.ws_record.specs.declared.record.Record.{Record}
+use Rattle.ws_text.specs.declared.gathered.Gathered.{Gathered}
+use Rattle.ws_text.specs.declared.line.LineUnits.{LineUnits}
+use Rattle.ws_text.specs.declared.line.Found.{Found}
+use Rattle.ws_text.specs.declared.line.Found.TheVariants as found
+use Rattle.ws_text.specs.declared.open_record.OpenRecord.{OpenRecord}
+use Rattle.ws_text.specs.declared.reading.Reading.{Reading}
+use Rattle.ws_text.specs.Items.{Adds, with_more}
+use Rattle.ws_text.specs.Parts.{Part}
+use Rattle.ws_text.specs.Parts.{Part as part}
+use Rattle.ws_text.specs.Reading.{AreRead, EndsIn, EndsInNoRecord, Holds, IsOpen, Puts, FoundAdds, Takes}
+use Rattle.ws_text.specs.Found.{Are, FoundSays}
+use Rattle.ws_text.specs.Wording.{Wording, EndsEverywhere}
+use Rattle.ws_text.proofs.OneReading.{last_same, same_record}
+use Rattle.ws_text.proofs.OpenRecords.{open_encoded}
+
+-- Readings that grow by what is found in a line.
+
+module _ {Place U : Type 0} (rules : Rules Place U) where
+  module _ (w : Wording U) where
+    -- what was found, under another name
+    pub takes_found : (s t : Found U) → s ≡ t → (from : List (Item U)) (r : Option (Reading Place U))
+        → Takes rules (FoundAdds rules w t from) r → Takes rules (FoundAdds rules w s from) r
+    takes_found s t e from r h = subst (λ (z : Found U). Takes rules (FoundAdds rules w z from) r) (sym e) h
+
+    pub head_read : (items : Gathered (Item U)) (o : OpenRecord Place U) (from : List (Item U)) (flags : ℕ)
+        (opcode : Opcode) → Holds items from → IsOpen rules o (record { flags = flags; opcode = opcode; body = [] })
+        → Takes rules (FoundAdds rules w (found.Head flags opcode) from) (Some (record { items = items; last = Some o }))
+    head_read items o from flags opcode held is = (
+      from ++ an_item.Record (record { flags = flags; opcode = opcode; body = [] }) ∷ [],
+      (part.Head flags opcode, refl, refl),
+      record { before = from; held = held; last = (record { flags = flags; opcode = opcode; body = [] }, is, refl) },
+    )
+
+    pub command_read : (items : Gathered (Item U)) (from : List (Item U)) (t : Telnet)
+        → Holds items (from ++ an_item.Telnet t ∷ [])
+        → Takes rules (FoundAdds rules w (found.Command t) from) (Some (record { items = items; last = None }))
+    command_read items from t held =
+        let to = from ++ an_item.Telnet t ∷ [] in
+        (to, (part.Command t, refl, refl), record { before = to; held = held; last = (refl, inr (from, t, refl)) })
+
+    -- units behind those of the open record
+    pub units_read : EndsEverywhere rules → (reading : Reading Place U) (o new : OpenRecord Place U)
+        (units : LineUnits U) (from : List (Item U)) → AreRead rules reading from → reading.last ≡ Some o
+        → Puts rules (Are w units) o new true
+        → Takes rules (FoundAdds rules w (found.Units units) from) (Some (record { items = reading.items; last = Some new }))
+    units_read ends reading o new units from are e h =
+        let last = subst (λ (z : Option (OpenRecord Place U)). EndsIn rules are.before z from) e are.last in
+        let is = h.2 last.0 last.1 in
+        let to = are.before ++ an_item.Record (with_more last.0 h.0) ∷ [] in (
+          to,
+          (
+            part.Units h.0,
+            (h.0, h.1, refl),
+            (are.before, last.0, last.2, refl, open_encoded rules ends new (with_more last.0 h.0) is),
+          ),
+          record { before = are.before; held = are.held; last = (with_more last.0 h.0, is, refl) },
+        )
+
+    -- units that can't stand there
+    pub no_units_read : (reading : Reading Place U) (o new : OpenRecord Place U) (units : LineUnits U)
+        (from : List (Item U)) → AreRead rules reading from → reading.last ≡ Some o
+        → Puts rules (Are w units) o new false → Takes rules (FoundAdds rules w (found.Units units) from) None
+    no_units_read reading o new units from are e bad = λ to h.
+        let last = subst (λ (z : Option (OpenRecord Place U)). EndsIn rules are.before z from) e are.last in
+        let adds = subst (λ (z : Part U). Adds rules z from to) h.1.2 h.2 in
+        let both = last_same rules adds.0 are.before (an_item.Record adds.1) (an_item.Record last.0)
+        (sym adds.2 ∙ last.2) in
+        bad last.0 h.1.0 last.1 h.1.1
+        (subst (λ (z : Record U). CanBeEncoded rules (an_item.Record (with_more z h.1.0)))
+        (same_record rules adds.1 last.0 both.1) adds.4)
+
+  -- items of another kind, which are these all the same
+  pub takes_on : (P Q : List (Item U) → Type 0) (r : Option (Reading Place U)) → ((to : List (Item U)) → P to → Q to)
+      → ((to : List (Item U)) → Q to → P to) → Takes rules P r → Takes rules Q r
+  takes_on P Q None to from h = λ items q. h items (from items q)
+  takes_on P Q (Some new) to from h = (h.0, to h.0 h.1, h.2)
