@@ -1,18 +1,25 @@
 use Rattle.std.proofs.Common.{◌≡◌, ◌≢◌, ℕ, ◌<◌, List, [], ◌∷◌, ◌++◌, length, refl, sym, ap, ◌∙◌, subst}
 use Rattle.std.proofs.Common.{arith, inl, inr}
 use Rattle.std.specs.Prelude.{Bool, true, false, Option, Some, None, Result, Ok, Err, ◌⊎◌, IfOk, IfErr}
+use Rattle.ws_code.specs.Code.{Rules}
 use Rattle.ws_code.specs.Device.{MayTake, Taken, Writes, WentOut, FailedAfter, FailedWithin}
 use Rattle.ws_code.specs.Device.{IsWriteFailure}
 use Rattle.ws_code.specs.declared.fault.Fault.TheVariants as device
 use Rattle.ws_live.specs.Buffering.{Buffering, buffered_takes}
 use Rattle.ws_live.proofs.Buffers.{flushed_out, flush_fails, fails_behind}
 use Rattle.ws_program.specs.Answering.{HasAnswered, IsAnswerFault}
+use Rattle.ws_program.specs.StreamText.{View, Placed, lines_of, AreShown, AreFirstLines}
 use Rattle.ws_words.specs.declared.command_line.Asked.{Asked}
 use Rattle.ws_words.specs.declared.command_line.Asked.TheVariants.{Check, Show, Play, Make}
 use Rattle.ws_program.specs.declared.fault.RunFault.{RunFault}
 use Rattle.ws_program.specs.declared.fault.RunFault.TheVariants.{Read, NotHex, Line, Memory}
 use Rattle.ws_program.specs.declared.fault.RunFault.TheVariants.{Write, NoConnection, Refused}
 use Rattle.ws_program.specs.declared.fault.RunFault.TheVariants.{Truncated, Failed}
+
+-- the lines of items are first lines
+first_lines : {Place U : Type 0} {rules : Rules Place U} {view : View U} {bytes : List ℕ} (placed : List (Placed U))
+    → AreShown rules view bytes [] placed → AreFirstLines rules view bytes (lines_of view placed)
+first_lines placed shown = record { placed = placed; shown = shown; last = None; complete = tt; lines = refl }
 
 -- What the program does behind a buffer, where the rest goes out or doesn't.
 module _ {S : Type 0} (takes : MayTake S) (failures : S → ℕ) (count : Buffering S → ℕ) (from mid : Buffering S)
@@ -84,9 +91,9 @@ module _ {S : Type 0} (takes : MayTake S) (failures : S → ℕ) (count : Buffer
     fault_flushed (Show file false paint) input Memory (b, h, inl e) = (b, h, inl (unchanged e))
     fault_flushed (Show file true paint) input Memory (b, h, inl e) = (b, h, inl (unchanged e))
     fault_flushed (Show file false paint) input Memory (b, h, inr e) =
-        (b, h, inr (e.0, e.1, flushed_out takes failures count from empty mid to e.0 e.2 out))
+        (b, h, inr (e.0, e.1, e.2, flushed_out takes failures count from empty mid to _ e.3 out))
     fault_flushed (Show file true paint) input Memory (b, h, inr e) =
-        (b, h, inr (e.0, e.1, flushed_out takes failures count from empty mid to e.0 e.2 out))
+        (b, h, inr (e.0, e.1, e.2, flushed_out takes failures count from empty mid to _ e.3 out))
     fault_flushed (Show file false paint) input Write f = (f.0, f.1, (f.2.0, f.2.1, fails_too f.2.0 f.2.2))
     fault_flushed (Show file true paint) input Write f = (f.0, f.1, (f.2.0, f.2.1, fails_too f.2.0 f.2.2))
     fault_flushed (Show file false paint) input Read f = absurd f
@@ -102,7 +109,7 @@ module _ {S : Type 0} (takes : MayTake S) (failures : S → ℕ) (count : Buffer
     fault_flushed (Show file false paint) input (Line number) f = absurd f
     fault_flushed (Show file true paint) input (Line number) f = absurd f
     fault_flushed (Play file screen false paint) input (Line number) f = (unchanged f.0, f.1)
-    fault_flushed (Play file screen false paint) input Memory f = unchanged f
+    fault_flushed (Play file screen false paint) input Memory f = (unchanged f.0, f.1)
     fault_flushed (Play file screen false paint) input Write f = (f.0, f.1, f.2, f.3, fails_too f.2 f.4)
     fault_flushed (Play file screen false paint) input NotHex f = absurd f
     fault_flushed (Play file screen false paint) input Read f = absurd f
@@ -111,7 +118,7 @@ module _ {S : Type 0} (takes : MayTake S) (failures : S → ℕ) (count : Buffer
     fault_flushed (Play file screen false paint) input NoConnection f = absurd f
     fault_flushed (Play file screen false paint) input Failed f = absurd f
     fault_flushed (Play file screen true paint) input (Line number) f = (unchanged f.0, f.1)
-    fault_flushed (Play file screen true paint) input Memory f = unchanged f
+    fault_flushed (Play file screen true paint) input Memory f = (unchanged f.0, f.1)
     fault_flushed (Play file screen true paint) input NoConnection f = (unchanged f.0, f.1)
     fault_flushed (Play file screen true paint) input Read f = (unchanged f.0, f.1)
     fault_flushed (Play file screen true paint) input Write (m, s, inl e) = (m, s, inl (unchanged e))
@@ -122,7 +129,7 @@ module _ {S : Type 0} (takes : MayTake S) (failures : S → ℕ) (count : Buffer
     fault_flushed (Play file screen true paint) input (Truncated n) f = absurd f
     fault_flushed (Play file screen true paint) input Failed f = absurd f
     fault_flushed (Make file false) input (Line number) f = (unchanged f.0, f.1)
-    fault_flushed (Make file false) input Memory f = unchanged f
+    fault_flushed (Make file false) input Memory f = (unchanged f.0, f.1)
     fault_flushed (Make file false) input Write f = (f.0, f.1, fails_too _ f.2)
     fault_flushed (Make file false) input NotHex f = absurd f
     fault_flushed (Make file false) input Read f = absurd f
@@ -131,7 +138,7 @@ module _ {S : Type 0} (takes : MayTake S) (failures : S → ℕ) (count : Buffer
     fault_flushed (Make file false) input NoConnection f = absurd f
     fault_flushed (Make file false) input Failed f = absurd f
     fault_flushed (Make file true) input (Line number) f = (unchanged f.0, f.1)
-    fault_flushed (Make file true) input Memory f = unchanged f
+    fault_flushed (Make file true) input Memory f = (unchanged f.0, f.1)
     fault_flushed (Make file true) input Write f = (f.0, f.1, fails_too _ f.2)
     fault_flushed (Make file true) input NotHex f = absurd f
     fault_flushed (Make file true) input Read f = absurd f
@@ -197,9 +204,9 @@ module _ {S : Type 0} (takes : MayTake S) (failures : S → ℕ) (count : Buffer
     fault_unflushed (Show file false paint) input Memory (b, h, inl e) = unheld e
     fault_unflushed (Show file true paint) input Memory (b, h, inl e) = unheld e
     fault_unflushed (Show file false paint) input Memory (b, h, inr e) =
-        (b, h, (e.0, inl e.1, flush_fails takes failures count from empty mid to e.0 e.2 none))
+        (b, h, (_, inl (first_lines e.0 e.1), flush_fails takes failures count from empty mid to _ e.3 none))
     fault_unflushed (Show file true paint) input Memory (b, h, inr e) =
-        (b, h, (e.0, inl e.1, flush_fails takes failures count from empty mid to e.0 e.2 none))
+        (b, h, (_, inl (first_lines e.0 e.1), flush_fails takes failures count from empty mid to _ e.3 none))
     fault_unflushed (Show file false paint) input Write f = unfailed f.2.0 f.2.2
     fault_unflushed (Show file true paint) input Write f = unfailed f.2.0 f.2.2
     fault_unflushed (Show file false paint) input Read f = absurd f
@@ -215,7 +222,7 @@ module _ {S : Type 0} (takes : MayTake S) (failures : S → ℕ) (count : Buffer
     fault_unflushed (Show file false paint) input (Line number) f = absurd f
     fault_unflushed (Show file true paint) input (Line number) f = absurd f
     fault_unflushed (Play file screen false paint) input (Line number) f = unheld f.0
-    fault_unflushed (Play file screen false paint) input Memory f = unheld f
+    fault_unflushed (Play file screen false paint) input Memory f = unheld f.0
     fault_unflushed (Play file screen false paint) input Write f = unfailed f.2 f.4
     fault_unflushed (Play file screen false paint) input NotHex f = absurd f
     fault_unflushed (Play file screen false paint) input Read f = absurd f
@@ -224,7 +231,7 @@ module _ {S : Type 0} (takes : MayTake S) (failures : S → ℕ) (count : Buffer
     fault_unflushed (Play file screen false paint) input NoConnection f = absurd f
     fault_unflushed (Play file screen false paint) input Failed f = absurd f
     fault_unflushed (Play file screen true paint) input (Line number) f = unheld f.0
-    fault_unflushed (Play file screen true paint) input Memory f = unheld f
+    fault_unflushed (Play file screen true paint) input Memory f = unheld f.0
     fault_unflushed (Play file screen true paint) input NoConnection f = unheld f.0
     fault_unflushed (Play file screen true paint) input Read f = unheld f.0
     fault_unflushed (Play file screen true paint) input Write (m, s, inl e) = unheld e
@@ -234,7 +241,7 @@ module _ {S : Type 0} (takes : MayTake S) (failures : S → ℕ) (count : Buffer
     fault_unflushed (Play file screen true paint) input (Truncated n) f = absurd f
     fault_unflushed (Play file screen true paint) input Failed f = absurd f
     fault_unflushed (Make file false) input (Line number) f = unheld f.0
-    fault_unflushed (Make file false) input Memory f = unheld f
+    fault_unflushed (Make file false) input Memory f = unheld f.0
     fault_unflushed (Make file false) input Write f = unfailed _ f.2
     fault_unflushed (Make file false) input NotHex f = absurd f
     fault_unflushed (Make file false) input Read f = absurd f
@@ -243,7 +250,7 @@ module _ {S : Type 0} (takes : MayTake S) (failures : S → ℕ) (count : Buffer
     fault_unflushed (Make file false) input NoConnection f = absurd f
     fault_unflushed (Make file false) input Failed f = absurd f
     fault_unflushed (Make file true) input (Line number) f = unheld f.0
-    fault_unflushed (Make file true) input Memory f = unheld f
+    fault_unflushed (Make file true) input Memory f = unheld f.0
     fault_unflushed (Make file true) input Write f = unfailed _ f.2
     fault_unflushed (Make file true) input NotHex f = absurd f
     fault_unflushed (Make file true) input Read f = absurd f

@@ -21,13 +21,13 @@ module _ {Place U : Type 0} (rules : Rules Place U) (w : Wording U) (IsShowing :
       → ((shown : List (Item U)) → IsShowing text shown → fault ≡ items.Memory)
       → IsMakeFault rules w IsShowing takes failures sink sink text (items_run_fault fault)
   unread sink text (items.Line number) h only = (refl, (h, λ shown s. cc (only shown s)))
-  unread sink text items.Memory h only = refl
+  unread sink text items.Memory h only = (refl, h)
 
   -- lines that don't go out
   pub unmade : (from to : S) (text : List ℕ) (list given : List (Item U)) (fault : Fault) → given ≡ list
       → AreTold rules w IsShowing text list → IsTextFault takes failures from to (λ t. t ≡ made_text rules given) fault
       → IsMakeFault rules w IsShowing takes failures from to text (run_fault fault)
-  unmade from to text list given device.Memory same are e = e
+  unmade from to text list given device.Memory same are e = (e, (list, are.0))
   unmade from to text list given device.Write same are h =
       (list, are, subst (λ (t : List ℕ). FailedWithin takes failures from to t) (h.1 ∙ ap (made_text rules) same) h.2)
   unmade from to text list given (device.Refused place reason) same are h = absurd h

@@ -1,4 +1,4 @@
-use Rattle.std.proofs.Common.{◌≡◌, ℕ, List, Bool, inl, refl, ap, ◌∙◌, subst}
+use Rattle.std.proofs.Common.{◌≡◌, ℕ, List, Bool, inl, inr, refl, ap, ◌∙◌, subst}
 use Rattle.ws_code.specs.Device.{MayTake}
 use Rattle.ws_nego.specs.declared.terminal.TerminalType.TheVariants.{Ibm3179Model2}
 use Rattle.ws_screen.specs.ScreenParts.{ScreenParts}
@@ -11,13 +11,16 @@ use Rattle.ws_session.specs.TwoLines.{TwoEnds, HasRun}
 use Rattle.ws_session.specs.StationSide.{screen_at}
 use Rattle.ws_session.specs.World.{World, new_world, after_moves}
 use Rattle.ws_session.specs.Reports.{IsReport}
-use Rattle.ws_program.specs.Answering.{IsSessionText, IsTcpPlayFault}
+use Rattle.ws_program.specs.Answering.{IsSessionText, IsPlayFault, IsTcpPlayFault}
 use Rattle.ws_live.specs.declared.paint.Paint.{Paint}
 use Rattle.ws_program.specs.declared.tcp.TcpFault.{TcpFault}
 use Rattle.ws_program.specs.declared.tcp.TcpFault.TheVariants.{NoConnection, Write, Read, Memory}
 use Rattle.ws_live.specs.PlayLines.{IsPaintedPlayText, no_end_refuses}
-use Rattle.ws_program.specs.RunFaults.{tcp_run_fault}
+use Rattle.ws_program.specs.RunFaults.{script_run_fault, tcp_run_fault}
 use Rattle.ws_live.specs.Script.{IsScript}
+use Rattle.ws_live.specs.ScriptFaults.{IsScriptFault}
+use Rattle.ws_live.specs.declared.script.ScriptFault.{ScriptFault}
+use Rattle.ws_live.specs.declared.script.ScriptFault.TheVariants as scripts
 
 -- What is told of a session is its report's.
 
@@ -46,6 +49,19 @@ pub carried_moves : (given moves : List Move) (downs ups : List Crossing) (now :
 carried_moves given moves downs ups now same ran =
     subst (λ (ms : List Move). HasRun Ibm3179Model2 ms downs ups now) same ran
 
+-- where a script isn't read, nothing was written
+pub unread_script : {S : Type 0} (takes : MayTake S) (failures : S → ℕ) (sink : S) (paint : Paint) (screen : Bool)
+    (script : List ℕ) (fault : ScriptFault) → IsScriptFault script fault
+    → IsPlayFault takes failures sink sink paint screen script (script_run_fault fault)
+unread_script takes failures sink paint screen script (scripts.Line number) bad = (refl, bad)
+unread_script takes failures sink paint screen script scripts.Memory good = (refl, inl good)
+
+pub unread_tcp_script : {S : Type 0} (takes : MayTake S) (failures : S → ℕ) (sink : S) (paint : Paint) (screen : Bool)
+    (script : List ℕ) (fault : ScriptFault) → IsScriptFault script fault
+    → IsTcpPlayFault takes failures sink sink paint screen script (script_run_fault fault)
+unread_tcp_script takes failures sink paint screen script (scripts.Line number) bad = (refl, bad)
+unread_tcp_script takes failures sink paint screen script scripts.Memory good = (refl, inl good)
+
 -- where a connection fails, nothing was written
 pub unconnected : {S : Type 0} (takes : MayTake S) (failures : S → ℕ) (sink : S) (paint : Paint) (screen : Bool)
     (script : List ℕ) (moves : List Move) → IsScript script moves → (fault : TcpFault)
@@ -53,4 +69,4 @@ pub unconnected : {S : Type 0} (takes : MayTake S) (failures : S → ℕ) (sink 
 unconnected takes failures sink paint screen script moves is NoConnection = (refl, (moves, is))
 unconnected takes failures sink paint screen script moves is Write = (moves, is, inl refl)
 unconnected takes failures sink paint screen script moves is Read = (refl, (moves, is))
-unconnected takes failures sink paint screen script moves is Memory = refl
+unconnected takes failures sink paint screen script moves is Memory = (refl, inr (moves, is))

@@ -17,7 +17,7 @@ use Rattle.ws_telnet.specs.declared.token.Telnet.{Telnet}
 use Rattle.ws_telnet.specs.Streams.{command_of}
 use Rattle.ws_record.specs.Grammar.{IsInGrammar, IsStretch, commands}
 use Rattle.ws_record.specs.Refusal.{IsOpen, IsRefused, IsTruncated}
-use Rattle.ws_record.specs.Receiver.{Receiving, HasReceived, IsFeedFault, NoneBefore}
+use Rattle.ws_record.specs.Receiver.{Receiving, HasReceived, HasUnit, IsFeedFault, NoneBefore}
 use Rattle.ws_record.specs.declared.record.Record.{Record}
 use Rattle.ws_record.specs.declared.record.Item.{Item}
 use Rattle.ws_record.specs.declared.record.Item.TheVariants.{Record as RecordItem, Telnet as TelnetItem}
@@ -195,7 +195,14 @@ next_fault rules bytes rest old is fits begun (faults.Refused place reason) faul
 next_fault rules bytes rest old is fits begun (faults.Truncated n) faulted none =
     let t = taken_before rules bytes rest old begun.0 is begun.1 in
     absurd (faulted t.before begun.0 t.received (room t fits))
-next_fault rules bytes rest old is fits begun faults.Memory faulted none = tt
+next_fault rules bytes rest old is fits begun faults.Memory faulted none = λ items taken.
+    let before = take old.live.taken bytes in
+    let all = ap (λ z. before ++ z) is ∙ take-append-drop old.live.taken bytes in (
+      old.live.taken,
+      (taken.leads.0, old.live.begun, taken.leads.1.holds),
+      subst (λ (z : List ℕ). HasUnit rules before z) is
+          (faulted before items taken (omega (arith, fits, ap length all, length-append before rest))),
+    )
 next_fault rules bytes rest old is fits begun faults.Read faulted none =
     let t = taken_before rules bytes rest old begun.0 is begun.1 in
     absurd (faulted t.before begun.0 t.received (room t fits))
@@ -338,7 +345,12 @@ module _ {S : Type 0} (takes : MayTake S) (failures : S → ℕ) (from : S) wher
     stops_next went (faults.Refused place reason) f =
         (refl, (lines, part w, went, refused_behind w place reason f.0 (f.1 (items_of w.placed) w.taken)))
     stops_next went (faults.Truncated n) f = absurd f
-    stops_next went faults.Memory f = (lines, part w, went)
+    stops_next went faults.Memory f = (
+      w.placed,
+      w.shown,
+      f (items_of w.placed) w.taken,
+      subst (λ (t : List ℕ). WentOut takes failures from to t) w.are_lines went,
+    )
     stops_next went faults.Read f = absurd f
     stops_next went faults.Write f = absurd f
     stops_next went faults.Failed f = absurd f

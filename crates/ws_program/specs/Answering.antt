@@ -30,6 +30,7 @@ use Rattle.ws_session.specs.TwoLines.{TwoEnds, HasRun}
 use Rattle.ws_session.specs.World.{World, new_world, after_moves}
 use Rattle.ws_session.specs.StationSide.{screen_at}
 use Rattle.ws_live.specs.Script.{IsScript, IsFirstBad}
+use Rattle.ws_live.specs.ScriptFaults.{IsReadSoFar}
 use Rattle.ws_live.specs.PlayLines.{IsPaintedPlayText, no_end_refuses}
 
 -- what is told of a session, and its screen in a paint where it is asked for
@@ -45,6 +46,10 @@ pub record IsToldText (paint : Paint) (moves : List Move) (screen all_well : Boo
   pub ran : HasRun Ibm3179Model2 moves downs ups now
   pub told : IsPaintedPlayText paint now.events now.station.screen screen text
   pub well : all_well ≡ no_end_refuses now.events
+
+-- a script is good as far as it was read, or as a whole
+abbrev pub IsGoodScript : List ℕ → Type 0
+IsGoodScript script = IsReadSoFar script ⊎ ((moves : List Move) × IsScript script moves)
 
 module _ {S : Type 0} (takes : MayTake S) (failures : S → ℕ) (from to : S) where
   -- the line of a check went out
@@ -98,7 +103,7 @@ module _ {S : Type 0} (takes : MayTake S) (failures : S → ℕ) (from to : S) w
   -- what is answered of a script that isn't played, or whose lines don't go out
   abbrev pub IsPlayFault : Paint → Bool → List ℕ → RunFault → Type 0
   IsPlayFault paint screen script (Line number) = (to ≡ from) × IsFirstBad script number
-  IsPlayFault paint screen script Memory = to ≡ from
+  IsPlayFault paint screen script Memory = (to ≡ from) × IsGoodScript script
   IsPlayFault paint screen script Write = (moves : List Move) × IsScript script moves × (text : List ℕ)
       × IsSessionText paint (after_moves (new_world Ibm3179Model2) moves) screen text
       × FailedWithin takes failures from to text
@@ -107,7 +112,7 @@ module _ {S : Type 0} (takes : MayTake S) (failures : S → ℕ) (from to : S) w
   -- the same over a connection: it may fail where the script is good, and then nothing was written
   abbrev pub IsTcpPlayFault : Paint → Bool → List ℕ → RunFault → Type 0
   IsTcpPlayFault paint screen script (Line number) = (to ≡ from) × IsFirstBad script number
-  IsTcpPlayFault paint screen script Memory = to ≡ from
+  IsTcpPlayFault paint screen script Memory = (to ≡ from) × IsGoodScript script
   IsTcpPlayFault paint screen script NoConnection = (to ≡ from) × ((moves : List Move) × IsScript script moves)
   IsTcpPlayFault paint screen script Read = (to ≡ from) × ((moves : List Move) × IsScript script moves)
   IsTcpPlayFault paint screen script Write = (moves : List Move) × IsScript script moves

@@ -39,11 +39,11 @@ module _ {Place U : Type 0} (rules : Rules Place U) (w : Wording U) (IsShowing :
     HasMade text accepted = (items : List (Item U)) × AreTold text items
         × WentOut takes failures from to (made_text rules items) × (accepted ≡ true)
 
-    -- What is answered where it didn't: a bad line, or want of memory, before anything was written; or the sink
-    -- failed.
+    -- What is answered where it didn't: a bad line, or want of memory for a text that spells items, before anything was
+    -- written; or the sink failed.
     abbrev pub IsMakeFault : List ℕ → RunFault → Type 0
     IsMakeFault text (Line number) = (to ≡ from) × IsBadLine text number
-    IsMakeFault text Memory = to ≡ from
+    IsMakeFault text Memory = (to ≡ from) × ((items : List (Item U)) × AreItems rules w text items)
     IsMakeFault text Write = (items : List (Item U)) × AreTold text items
         × FailedWithin takes failures from to (made_text rules items)
     IsMakeFault text fault = ⊥

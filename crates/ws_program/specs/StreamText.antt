@@ -2,7 +2,7 @@
 
 use Rattle.std.specs.Prelude.{◌≡◌, ℕ, ◌+◌, ◌<◌, List, [], ◌∷◌, ◌++◌, ◌⊎◌, Bool, true, false, Option, None, Some, IfSome}
 use Rattle.std.specs.Prelude.{Result, Ok, Err}
-use Rattle.std.specs.Prelude.{length, take, map}
+use Rattle.std.specs.Prelude.{length, take, drop, map}
 use Rattle.std.specs.List.{flat_map}
 use Rattle.ws_code.specs.Code.{Rules, IsChain}
 use Rattle.ws_code.specs.Device.{MayTake, WentOut, FailedWithin}
@@ -12,7 +12,7 @@ use Rattle.ws_code.specs.declared.fault.Fault.TheVariants as faults
 use Rattle.ws_code.specs.declared.reason.Reason.{Reason}
 use Rattle.ws_record.specs.Grammar.{Holds, IsInGrammar}
 use Rattle.ws_record.specs.Refusal.{Layer, IsOpen, IsRefused, IsTruncated}
-use Rattle.ws_record.specs.Receiver.{Receiving, HasReceived}
+use Rattle.ws_record.specs.Receiver.{Receiving, HasReceived, HasUnit}
 use Rattle.ws_record.specs.declared.record.Item.{Item}
 use Rattle.ws_record.specs.declared.record.Item.TheVariants.{Record as RecordItem, Telnet as TelnetItem}
 use Rattle.ws_program.specs.CheckLine.{line_of, is_accepted}
@@ -136,19 +136,26 @@ module _ {Place U : Type 0} where
   IsNext rules bytes old new (Some x) = (items : List (Item U)) → HasTaken rules bytes old items
       → IsNextItem rules bytes items old new x
 
-  -- why nothing comes next: a byte is refused, before which no item more is complete, or a growth was
+  -- behind bytes that hold the items a unit of one more is complete, so that a list grows for it
+  abbrev pub GrowsBehind : Rules Place U → List ℕ → List (Item U) → Type 0
+  GrowsBehind rules bytes items = (n : ℕ) × HoldsItems rules (take n bytes) items
+      × HasUnit rules (take n bytes) (drop n bytes)
+
+  -- why nothing comes next: a byte is refused, before which no item more is complete, or the growth for a unit was
   abbrev pub IsNextFault : Rules Place U → List ℕ → Receiving Place U → Fault → Type 0
   IsNextFault rules bytes old (faults.Refused place reason) = IsRefused rules bytes place reason
       × ((items : List (Item U)) → HasTaken rules bytes old items → HoldsItems rules (take place bytes) items)
-  IsNextFault rules bytes old Memory = Unit {0}
+  IsNextFault rules bytes old Memory = (items : List (Item U)) → HasTaken rules bytes old items
+      → GrowsBehind rules bytes items
   IsNextFault rules bytes old fault = ⊥
 
   module _ {S : Type 0} (takes : MayTake S) (failures : S → ℕ) (from to : S) (rules : Rules Place U)
       (view : View U) where
-    -- what is answered where not all is shown: the first lines went out, or a part of them
+    -- What is answered where not all is shown. The lines of the first items went out, and the growth for a unit behind
+    -- them was refused; or a part of the lines went out.
     abbrev pub IsShowFault : List ℕ → Fault → Type 0
-    IsShowFault bytes Memory = (text : List ℕ) × AreFirstLines rules view bytes text
-        × WentOut takes failures from to text
+    IsShowFault bytes Memory = (placed : List (Placed U)) × AreShown rules view bytes [] placed
+        × GrowsBehind rules bytes (items_of placed) × WentOut takes failures from to (lines_of view placed)
     IsShowFault bytes Write = (text : List ℕ) × (AreFirstLines rules view bytes text
         ⊎ ((accepted : Bool) × IsShown rules view bytes accepted text)) × FailedWithin takes failures from to text
     IsShowFault bytes fault = ⊥

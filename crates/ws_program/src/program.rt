@@ -33,8 +33,9 @@ use ws_words::Asked;
 /// What is asked for by `asked` is written to the sink; a file that it names was read before. `NotHex` comes
 /// where the input had to be hex text and isn't, `Line` where a line of a script or of items as text is bad,
 /// `NoConnection` or `Read` where a script was to be played over a connection and can't, and then nothing was
-/// written; `Memory` where a growth was refused, and `Write` where the sink failed, or the connection, and then the
-/// first part of the text may have gone out.
+/// written; `Memory` where a growth was refused, and then the input is hex text, or a script that is good as far as it
+/// was read, or spells items; `Write` where the sink failed, or the connection. Where a stream was to be shown, the
+/// first lines may have gone out before `Memory`; before `Write` the first part of any text may have.
 pub fn answer<R: Net<Listener = TcpListener, Stream = TcpStream>, S: Sink>(
     rt: &R,
     alloc: Global,

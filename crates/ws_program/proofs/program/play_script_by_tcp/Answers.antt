@@ -4,8 +4,14 @@ use Rattle.ws_code.specs.declared.fault.Fault.{Fault}
 use Rattle.ws_program.specs.Answering.{IsTcpPlayFault}
 use Rattle.ws_live.specs.PlayLines.{no_end_refuses}
 use Rattle.ws_program.specs.RunFaults.{run_fault}
-use Rattle.ws_program.proofs.Plays.{carried_moves, unconnected}
+use Rattle.ws_program.proofs.Plays.{carried_moves, unconnected, unread_tcp_script}
 use Rattle.ws_program.proofs.program.play_script_by_tcp.Goals as goal
+
+pub returns-in_err-moves-clause-fault : goal.returns-in_err-moves-clause-fault
+returns-in_err-moves-clause-fault g c =
+    let p = err_from_is_err_and c.from_residual.result c.from_residual.ensures.1 in
+    rw (p.1, p.2) (unread_tcp_script g.S.Sink.takes g.S.Sink.failures c.args.sink.now c.args.paint c.args.screen
+    c.args.script.now _ c.in_err-moves.ensures.fault)
 
 pub returns-in_err-report-clause-fault : goal.returns-in_err-report-clause-fault
 returns-in_err-report-clause-fault g c =
