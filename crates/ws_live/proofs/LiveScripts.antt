@@ -149,7 +149,7 @@ module _ {L : Type 0} (means : List ℕ → List ℕ → L → Type 0) (opener :
     after = lines next;
     read = read;
     good = subst (MeanThese means opener (lines text) read) e r.good;
-    so_far = inr begun;
+    so_far = inr (refl, begun);
   }
 
   -- no line could be read for want of memory

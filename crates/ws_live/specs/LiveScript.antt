@@ -85,10 +85,10 @@ module _ {L : Type 0} (means : List ℕ → List ℕ → L → Type 0) (opener :
       pub counted : number ≡ min (length before + at) (2 ^ 64 - 1)
 
 module _ {L : Type 0} (means : List ℕ → List ℕ → L → Type 0) (begins : List ℕ → Type 0) where
-  -- as far as it was read, a line is good: it is a whole one with those that belong to it, or one up to what takes
-  -- memory
+  -- as far as it was read, a line is good: it is a whole one with those that belong to it; or these weren't read, and it
+  -- is one up to what takes memory
   abbrev pub IsGoodSoFar : List ℕ → List ℕ → Type 0
-  IsGoodSoFar line inside = ((read : L) × means line inside read) ⊎ begins line
+  IsGoodSoFar line inside = ((read : L) × means line inside read) ⊎ ((inside ≡ []) × begins line)
 
   -- why a line isn't read: with those that belong to it it means nothing, and this one is bad, counted from 1; or a
   -- growth was refused

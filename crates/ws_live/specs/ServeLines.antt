@@ -1,16 +1,15 @@
 -- The lines of a script for a host of one station.
 
-use Rattle.std.specs.Prelude.{◌≡◌, ◌≢◌, ◌⊎◌, ℕ, List, [], ◌∷◌, ◌++◌, codes}
+use Rattle.std.specs.Prelude.{◌≡◌, ◌≢◌, ◌⊎◌, ℕ, ◌+◌, ◌-◌, ◌^◌, List, [], ◌++◌, min, codes}
 use Rattle.std.specs.Str.{IsUtf8}
+use Rattle.std.specs.Str.Lines.{lines}
 use Rattle.ws_record.specs.declared.opcode.Opcode.{Opcode}
-use Rattle.ws_record.specs.declared.record.Item.{Item}
-use Rattle.ws_record.specs.declared.record.Item.TheVariants as an_item
 use Rattle.ws_record.specs.declared.record.Record.{Record}
 use Rattle.ws_session.specs.declared.end_step.Order.TheVariants.{Send, Cancel}
 use Rattle.ws_stream.specs.declared.element.Element.{Element}
 use Rattle.ws_stream.specs.Elements.{element_rules}
 use Rattle.ws_text.specs.ElementWords.{element_wording}
-use Rattle.ws_text.specs.Items.{AreItems, IsTextFault}
+use Rattle.ws_text.specs.BodyLines.{AddUnits, IsBodyFault, new_record}
 use Rattle.ws_text.specs.declared.items.TextFault.TheVariants as items
 use Rattle.ws_live.specs.ConnectLines.{IsNothing}
 use Rattle.ws_live.specs.Script.{IsOpcodeText, IsRecordText}
@@ -44,19 +43,15 @@ SendsAlone line number opcode = IsUtf8 line × (line ≡ codes "send " ++ number
 abbrev pub OpensHostBlock : List ℕ → Type 0
 OpensHostBlock line = (number : List ℕ) × (opcode : Opcode) × SendsAlone line number opcode
 
--- a record with elements, as `show` prints it and `make` reads it
-abbrev pub record_text : List ℕ → List ℕ → List ℕ
-record_text number elements = (codes "record opcode " ++ number) ++ (10 ∷ elements)
-
--- what a text spells is one record with this body
-abbrev pub IsOneRecord : List ℕ → List Element → Type 0
-IsOneRecord text body = (r : Record Element)
-    × AreItems element_rules element_wording text (an_item.Record r ∷ []) × (body ≡ r.body)
+-- the lines of a text say these elements of a new record of the opcode, as `show` prints them
+abbrev pub AreElements : Opcode → List ℕ → List Element → Type 0
+AreElements opcode text body = (r : Record Element)
+    × AddUnits element_rules element_wording (lines text) (new_record opcode) r × (body ≡ r.body)
 
 -- a record is sent with the elements that the text behind its line spells
 abbrev pub SendsInWords : List ℕ → List ℕ → HostLine → Type 0
 SendsInWords line elements read = (number : List ℕ) × (opcode : Opcode) × (body : List Element)
-    × SendsAlone line number opcode × IsOneRecord (record_text number elements) body × (read ≡ Give (Send opcode body))
+    × SendsAlone line number opcode × AreElements opcode elements body × (read ≡ Give (Send opcode body))
 
 -- a line of such a script, and the text of the elements behind it
 abbrev pub IsHostLine : List ℕ → List ℕ → HostLine → Type 0
@@ -67,20 +62,21 @@ IsHostLine line elements read = ((elements ≡ []) × IsOneLine line read)
 abbrev pub BeginsHostLine : List ℕ → Type 0
 BeginsHostLine line = (IsUtf8 line × IsSendLine line) ⊎ OpensHostBlock line
 
--- where elements are bad behind their line: at the first bad line of the text that they are in, as `make` would tell
--- it; or at the line before them, where they are no elements of its record
-abbrev pub AreBadAt : List ℕ → ℕ → Type 0
-AreBadAt text at = IsTextFault element_rules element_wording text (items.Line at)
-    ⊎ ((at ≡ 1) × ((told : List (Item Element)) × AreItems element_rules element_wording text told
-    × ((body : List Element) → IsOneRecord text body → ⊥)))
+-- where elements are bad behind their line, which is line 1: at the first that adds none to the record, as far as 64
+-- bits count
+abbrev pub AreBadAt : Opcode → List ℕ → ℕ → Type 0
+AreBadAt opcode text at = (number : ℕ)
+    × IsBodyFault element_rules element_wording text (new_record opcode) (items.Line number)
+    × (at ≡ min (number + 1) (2 ^ 64 - 1))
 
--- why a text gives no elements of a record: a line of it is bad, or a growth was refused
-abbrev pub IsWordsFault : List ℕ → ScriptFault → Type 0
-IsWordsFault text (Line at) = ((body : List Element) → IsOneRecord text body → ⊥) × AreBadAt text at
-IsWordsFault text Memory = Unit {0}
+-- why the lines of a text give no elements: one of them is bad; or a growth was refused, and none is
+abbrev pub IsWordsFault : Opcode → List ℕ → ScriptFault → Type 0
+IsWordsFault opcode text (Line at) = ((body : List Element) → AreElements opcode text body → ⊥)
+    × AreBadAt opcode text at
+IsWordsFault opcode text Memory = (body : List Element) × AreElements opcode text body
 
 -- where a line is bad with the elements behind it: at itself, or in these
 abbrev pub IsBadHostLineAt : List ℕ → List ℕ → ℕ → Type 0
 IsBadHostLineAt line elements at = ((at ≡ 1) × ((elements ≡ []) ⊎ (OpensHostBlock line → ⊥)))
     ⊎ ((number : List ℕ) × (opcode : Opcode) × SendsAlone line number opcode
-    × AreBadAt (record_text number elements) at)
+    × AreBadAt opcode elements at)

@@ -1,9 +1,6 @@
-ghost use Rattle.std.specs.Prelude.{◌≡◌, ◌≢◌, ◌++◌, ◌∷◌, [], ◌<◌, List as Seq, true, length, codes, IfOk, IfErr, MatchOption};
-ghost use Rattle.ws_record.specs.declared.record.Item.TheVariants as an_item;
-ghost use Rattle.ws_record.specs.declared.record.Record.{Record as ARecord};
+ghost use Rattle.std.specs.Prelude.{◌≡◌, ◌++◌, [], ◌<◌, List, ℕ, true, length, codes, IfOk, IfErr, MatchOption};
 ghost use Rattle.ws_session.specs.declared.end_step.Order.TheVariants.{Send};
-ghost use Rattle.ws_stream.specs.declared.element.Element.{Element as AnElement};
-ghost use Rattle.ws_live.specs.LiveScript.{IsBlockFault, IsGoodSoFar};
+ghost use Rattle.ws_live.specs.LiveScript.{IsBlockFault};
 ghost use Rattle.ws_live.specs.ServeLines.{BeginsHostLine, IsBadHostLineAt, IsHostLine, IsOneLine, OpensHostBlock};
 ghost use Rattle.ws_live.specs.ServeLines as Spec;
 ghost use Rattle.ws_live.specs.ScriptFaults.{IsLineFault, IsNoComment, IsSendLine, has_no_blank};
@@ -15,10 +12,10 @@ use crate::script_move::{read_move, read_opcode, split_word};
 use std::alloc::Global;
 use std::str;
 use ws_code::List;
-use ws_record::{Item, Opcode};
+use ws_record::Opcode;
 use ws_session::{Move, Order};
 use ws_stream::Element;
-use ws_text::{TextFault, read_items};
+use ws_text::{TextFault, read_elements};
 
 /// A line of a script for a host of one station.
 #[derive(Drop)]
@@ -49,7 +46,7 @@ impl LiveLine for HostLine {
             return read_alone(alloc, line);
         }
         match sent_alone(line) {
-            Some((opcode, number)) => match read_words(alloc, number, inside) {
+            Some(opcode) => match read_words(alloc, opcode, inside) {
                 Ok(body) => Ok(HostLine::Give(Order::Send(opcode, body))),
                 Err(fault) => Err(fault),
             },
@@ -126,10 +123,10 @@ fn read_command(alloc: Global, command: &str, words: &str) -> Result<HostLine, L
     }
 }
 
-// The opcode of a line that sends a record and says no more of it, and the number that says it.
-fn sent_alone(line: &[u8]) -> Option<(Opcode, &str)>
+// The opcode of a line that sends a record and says no more of it.
+fn sent_alone(line: &[u8]) -> Option<Opcode>
     ensures { MatchOption result (OpensHostBlock line.now → ⊥)
-        (λ found. Spec.SendsAlone line.now found.1.now found.0) }
+        (λ opcode. (number : List ℕ) × Spec.SendsAlone line.now number opcode) }
 {
     let Ok(text) = str::from_utf8(line) else {
         return None;
@@ -138,56 +135,19 @@ fn sent_alone(line: &[u8]) -> Option<(Opcode, &str)>
         return None;
     };
     match read_opcode(number) {
-        Ok(opcode) => Some((opcode, number)),
+        Ok(opcode) => Some(opcode),
         Err(_) => None,
     }
 }
 
-// The body whose elements a text spells.
-fn read_words(alloc: Global, number: &str, elements: &[u8]) -> Result<List<Element>, ScriptFault>
-    ensures body { IfOk result (Spec.IsOneRecord (Spec.record_text number.now elements.now)) }
-    ensures fault { IfErr result (Spec.IsWordsFault (Spec.record_text number.now elements.now)) }
+// The elements that the lines of a text say.
+fn read_words(alloc: Global, opcode: Opcode, text: &[u8]) -> Result<List<Element>, ScriptFault>
+    ensures body { IfOk result (Spec.AreElements opcode text.now) }
+    ensures fault { IfErr result (Spec.IsWordsFault opcode text.now) }
 {
-    let text = match record_text(alloc, number, elements) {
-        Ok(text) => text,
-        Err(fault) => return Err(fault),
-    };
-    match read_items(alloc, text.as_slice()) {
-        Ok(items) => match only_body(items) {
-            Some(body) => Ok(body),
-            None => Err(ScriptFault::Line(1)),
-        },
-        Err(TextFault::Line(at)) => Err(ScriptFault::Line(at)),
+    match read_elements(alloc, opcode, text) {
+        Ok(body) => Ok(body),
+        Err(TextFault::Line(number)) => Err(ScriptFault::Line(number.saturating_add(1))),
         Err(TextFault::Memory) => Err(ScriptFault::Memory),
-    }
-}
-
-// A record with these elements, as `show` prints it.
-fn record_text(alloc: Global, number: &str, elements: &[u8]) -> Result<Vec<u8>, ScriptFault>
-    ensures text { IfOk result (λ text. text.items ≡ Spec.record_text number.now elements.now) }
-    ensures fault { IfErr result (λ fault. fault ≡ ScriptFault.Memory) }
-{
-    let mut text = Vec::new(alloc);
-    text.extend_from_slice(b"record opcode ")
-        .map_err(|_| ScriptFault::Memory)?;
-    text.extend_from_slice(number.as_bytes())
-        .map_err(|_| ScriptFault::Memory)?;
-    text.push(b'\n').map_err(|_| ScriptFault::Memory)?;
-    text.extend_from_slice(elements)
-        .map_err(|_| ScriptFault::Memory)?;
-    Ok(text)
-}
-
-// The body of the one record.
-fn only_body(items: Vec<Item<Element>>) -> Option<List<Element>>
-    ensures { MatchOption result
-        ((r : ARecord AnElement) → items.items ≡ an_item.Record r ∷ [] → ⊥)
-        (λ body. (r : ARecord AnElement) × (items.items ≡ an_item.Record r ∷ [])
-        × (body ≡ r.body)) }
-{
-    let mut items = items;
-    match items.pop() {
-        Some(Item::Record(record)) if items.is_empty() => Some(record.body),
-        _ => None,
     }
 }
