@@ -1,9 +1,9 @@
 use crate::{same_at, same_bytes};
 use std::alloc::Global;
 use std::process::Abort;
-use ws_record::encode;
+use ws_record::{Item, Opcode, Record, encode};
 use ws_stream::Commands;
-use ws_text::{TextFault, read_items};
+use ws_text::{TextFault, read_elements, read_items};
 
 // What `show` prints of a stream, and the stream.
 const SHOWN: &[u8] = b"at 44 record flags 0000 opcode 3
@@ -72,6 +72,41 @@ const BAD_LINES: [(&str, u64); 18] = [
 fn bad_lines(rt: HostRuntime) {
     for (text, line) in &BAD_LINES {
         let fault = read_items(rt.alloc(), text.as_bytes()).err();
+        same_at(&rt, text, fault, Some(TextFault::Line(*line)));
+    }
+}
+
+// The lines of one body, and the record that it is.
+#[test]
+fn lines_of_a_body(rt: HostRuntime) {
+    let text = b"  WRITE 00 08\n  SBA 6 40\n  TEXT Ab 1\n  PUT C140\n";
+    let wanted =
+        b"\x00\x17\x12\xa0\x00\x00\x04\x00\x00\x03\x04\x11\x00\x08\x11\x06\x28\xc1\x82\x40\xf1\xc1\x40\xff\xef";
+    let record = Record {
+        flags: 0,
+        opcode: Opcode::PutGet,
+        body: read_elements(rt.alloc(), Opcode::PutGet, text).expect(&rt, "elements"),
+    };
+    let bytes = encode::<Commands>(rt.alloc(), &[Item::Record(record)]);
+    same_bytes(&rt, bytes.expect(&rt, "bytes").as_slice(), wanted);
+}
+
+// Lines that are no elements of a body, and the one of each that is refused.
+const BAD_ELEMENTS: [(&str, u64); 8] = [
+    ("  SBA 1 1", 1),
+    ("record opcode 3\n  WRITE 00 08", 1),
+    ("  WRITE 00 08\n\n  IC 1 1", 2),
+    ("  WRITE 00 08\n# no element", 2),
+    ("  WRITE 00 08\nscreen", 2),
+    ("  WRITE 00 08\n  IC 1 1\n  SBA 25 1", 3),
+    ("  WRITE 00 08\n  PUT C104", 2),
+    ("  READ-MDT 00 00\n  TEXT A", 2),
+];
+
+#[test]
+fn bad_elements(rt: HostRuntime) {
+    for (text, line) in &BAD_ELEMENTS {
+        let fault = read_elements(rt.alloc(), Opcode::PutGet, text.as_bytes()).err();
         same_at(&rt, text, fault, Some(TextFault::Line(*line)));
     }
 }
