@@ -1,11 +1,6 @@
-use Rattle.std.proofs.Common.{◌≡◌, ℕ, List, [], ◌∷◌, length, sym, ap, subst, ◌∙◌, arith}
-use Rattle.std.specs.Prelude.{codes}
-use Rattle.ws_stream.specs.declared.answer_part.AnswerPart.{AnswerPart}
-use Rattle.ws_stream.specs.declared.answer_part.AnswerPart.TheVariants.{Head, Byte, At}
+use Rattle.ws_text.proofs.Common.{◌≡◌, ℕ, List, [], ◌∷◌, length, sym, ap, subst, ◌∙◌, arith, codes, AnswerPart, Head}
+use Rattle.ws_text.proofs.Common.{Byte, At, ArePlace, head_of, tail_of, IsHexByte}
 use Rattle.ws_text.specs.AnswerWords.{AreHead, IsOnePart}
-use Rattle.ws_text.specs.ElementWords.{ArePlace}
-use Rattle.ws_text.specs.WordLaws.{head_of, tail_of}
-use Rattle.ws_text.specs.Words.{IsHexByte}
 
 -- Words that are no part of an answer.
 

@@ -1,14 +1,9 @@
-use Rattle.std.proofs.Common.{◌≡◌, ◌≤◌, ◌<◌, ℕ, ◌+◌, true, List, [], ◌∷◌, ◌++◌, length, refl, sym, ap, subst, ◌∙◌, arith}
-use Rattle.std.proofs.Common.{length-append, append_assoc}
-use Rattle.std.proofs.lemmas.Grind.{flat_map-append}
-use Rattle.ws_code.specs.Code.{Rules, Stands, IsChain, place_after, spelling_of}
+use Rattle.ws_text.proofs.Common.{◌≡◌, ◌≤◌, ℕ, ◌+◌, true, List, [], ◌∷◌, ◌++◌, length, sym, ap, subst, ◌∙◌, arith}
+use Rattle.ws_text.proofs.Common.{length-append, append_assoc, flat_map-append, Rules, IsChain, CanBeEncoded, Record}
+use Rattle.ws_text.proofs.Common.{with_more, Follows, EndsEverywhere}
+use Rattle.ws_code.specs.Code.{place_after, spelling_of, Stands}
 use Rattle.ws_code.proofs.CodeLaws.{chain_more, place_after_more}
-use Rattle.ws_record.specs.Encode.{CanBeEncoded}
 use Rattle.ws_record.specs.declared.record.Item.TheVariants as an_item
-use Rattle.ws_record.specs.declared.record.Record.{Record}
-use Rattle.ws_text.specs.Items.{with_more}
-use Rattle.ws_text.specs.Reading.{Follows}
-use Rattle.ws_text.specs.Wording.{EndsEverywhere}
 
 -- Bodies that grow.
 
@@ -34,14 +29,10 @@ module _ {Place U : Type 0} (rules : Rules Place U) where
         fits = fits;
       }
 
-  chain_front : (place : Place) (us vs : List U) → IsChain rules place (us ++ vs) → IsChain rules place us
-  chain_front place [] vs c = tt
-  chain_front place (u ∷ us) vs c = (c.0, chain_front (rules.after u) us vs c.1)
-
-  chain_next : (place : Place) (us : List U) (u : U) → IsChain rules place (us ++ u ∷ [])
-      → Stands rules (place_after rules place us) u
-  chain_next place [] u c = c.0
-  chain_next place (v ∷ us) u c = chain_next (rules.after v) us u c.1
+  chain_cut : (place : Place) (us vs : List U) → IsChain rules place (us ++ vs)
+      → IsChain rules place us × IsChain rules (place_after rules place us) vs
+  chain_cut place [] vs c = (tt, c)
+  chain_cut place (u ∷ us) vs c = let cut = chain_cut (rules.after u) us vs c.1 in ((c.0, cut.0), cut.1)
 
   -- what follows can be encoded
   pub can_be_encoded : EndsEverywhere rules → (r : Record U) (p : Place) (n : ℕ) → Follows rules r.body p n
@@ -54,7 +45,7 @@ module _ {Place U : Type 0} (rules : Rules Place U) where
       → CanBeEncoded rules (an_item.Record (with_more r (u ∷ [])))
       → (rules.may_follow p u ≡ true) × (n + length (rules.spelling u) ≤ 65525)
   must_follow r u p n f can =
-      let stands = chain_next rules.first r.body u can.0.chain in (
+      let stands = (chain_cut rules.first r.body (u ∷ []) can.0.chain).1.0 in (
         subst (λ (z : Place). rules.may_follow z u ≡ true) (sym f.leads) stands.may_follow,
         omega (arith, can.1, f.counted, spelled_more r.body u),
       )
@@ -66,8 +57,8 @@ module _ {Place U : Type 0} (rules : Rules Place U) where
   front_encoded ends r front more can =
       let cut : r.body ++ (front ++ more) ≡ (r.body ++ front) ++ more = sym (append_assoc r.body front more) in (
         record {
-          chain = chain_front rules.first (r.body ++ front) more
-              (subst (λ (z : List U). IsChain rules rules.first z) cut can.0.chain);
+          chain = (chain_cut rules.first (r.body ++ front) more
+              (subst (λ (z : List U). IsChain rules rules.first z) cut can.0.chain)).0;
           ends = ends (place_after rules rules.first (r.body ++ front));
         },
         omega (

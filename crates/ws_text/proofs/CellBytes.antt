@@ -1,24 +1,17 @@
-use Rattle.std.proofs.Common.{◌≡◌, ◌<◌, ℕ, zero, suc, List, [], ◌∷◌, ◌++◌, length, map, get_or, take}
-use Rattle.std.proofs.Common.{refl, sym, ap, ◌∙◌, arith}
-use Rattle.std.specs.Prelude.{Some}
-use Rattle.std.specs.List.{AllByRecursion}
+use Rattle.ws_text.proofs.Common.{◌≡◌, ◌<◌, ℕ, suc, List, [], ◌∷◌, ◌++◌, length, map, get_or, take, refl, sym, ap, ◌∙◌}
+use Rattle.ws_text.proofs.Common.{Some, AllByRecursion, map-append, IsData, AreRun, AreTyped, Wording, drop, Option}
 use Rattle.std.specs.Str.{chars}
-use Rattle.std.proofs.lemmas.List.{map-append}
-use Rattle.ws_code.specs.DataByte.{IsData}
+use Rattle.std.proofs.Math.Seq.{split_at}
+use Rattle.ws_code.proofs.Lists.{AllByRecursion-append}
 use Rattle.ws_code.specs.Ebcdic.{byte_of}
-use Rattle.ws_text.specs.TextLines.{AreRun, AreTyped}
-use Rattle.ws_text.specs.Wording.{Wording}
 
 -- Bytes as units.
-
-all_more : (bytes : List ℕ) (b : ℕ) → AllByRecursion IsData bytes → IsData b → AllByRecursion IsData (bytes ++ b ∷ [])
-all_more [] b h is = (is, tt)
-all_more (x ∷ bytes) b h is = (h.0, all_more bytes b h.1 is)
 
 pub run_more : {U : Type 0} (w : Wording U) (bytes : List ℕ) (b : ℕ) (units : List U) → AreRun w bytes units → IsData b
     → AreRun w (bytes ++ b ∷ []) (units ++ w.byte b ∷ [])
 run_more w bytes b units h is =
-    (all_more bytes b h.0 is, ap (λ z. z ++ w.byte b ∷ []) h.1 ∙ sym (map-append w.byte bytes (b ∷ [])))
+    let units_are = ap (λ z. z ++ w.byte b ∷ []) h.1 ∙ sym (map-append w.byte bytes (b ∷ [])) in
+    (AllByRecursion-append IsData bytes (b ∷ []) h.0 (is, tt), units_are)
 
 -- the units of bytes begin with those of the first bytes
 pub next_unit : {U : Type 0} (w : Wording U) (bytes front more : List ℕ) (b : ℕ) (all units : List U)
@@ -34,62 +27,47 @@ pub record TypedSoFar {U : Type 0} (w : Wording U) (characters : List ℕ) (unit
   pub typed : map byte_of characters ≡ map (λ b. Some b) bytes
   pub run : AreRun w bytes units
 
-pub typed_more : {U : Type 0} (w : Wording U) (characters : List ℕ) (x b : ℕ) (units : List U)
+pub typed_more : {U : Type 0} {w : Wording U} (characters : List ℕ) (x b : ℕ) {units : List U}
     → TypedSoFar w characters units → byte_of x ≡ Some b → IsData b
     → TypedSoFar w (characters ++ x ∷ []) (units ++ w.byte b ∷ [])
-typed_more w characters x b units h is good = record {
+typed_more {w = w} characters x b {units = units} h is good = record {
   bytes = h.bytes ++ b ∷ [];
   typed = map-append byte_of characters (x ∷ []) ∙ ap (λ z. z ++ byte_of x ∷ []) h.typed
       ∙ ap (λ o. map (λ y. Some y) h.bytes ++ o ∷ []) is ∙ sym (map-append (λ y. Some y) h.bytes (b ∷ []));
   run = run_more w h.bytes b units h.run good;
 }
 
-pub typed_all : {U : Type 0} (w : Wording U) (text characters : List ℕ) (units : List U) → characters ≡ chars text
+pub typed_all : {U : Type 0} {w : Wording U} {text characters : List ℕ} {units : List U} → characters ≡ chars text
     → TypedSoFar w characters units → AreTyped w text units
-typed_all w text characters units e h =
+typed_all e h =
     record { bytes = h.bytes; typed = ap (λ z. map byte_of z) (sym e) ∙ h.typed; run = h.run }
-
-split_at : (xs : List ℕ) (i x : ℕ) → i < length xs → x ≡ get_or xs i x → (rest : List ℕ)
-    × (xs ≡ take i xs ++ x ∷ rest)
-split_at [] i x k e = absurd (omega (arith, k))
-split_at (y ∷ xs) zero x k e = (xs, ap (λ z. z ∷ xs) (sym e))
-split_at (y ∷ xs) (suc i) x k e =
-    let found = split_at xs i x (omega (arith, k)) e in
-    (found.0, ap (λ z. y ∷ z) found.1)
 
 -- the byte of the next character
 byte_at : (front rest bytes done : List ℕ) (x : ℕ) → map byte_of (front ++ x ∷ rest) ≡ map (λ b. Some b) bytes
     → map byte_of front ≡ map (λ b. Some b) done → AllByRecursion IsData bytes
     → (b : ℕ) × (more : List ℕ) × (byte_of x ≡ Some b) × IsData b × (bytes ≡ done ++ b ∷ more)
-byte_at [] rest [] done x e f h = cc e
-byte_at (c ∷ front) rest [] done x e f h = cc e
 byte_at [] rest (b ∷ bytes) [] x e f h =
     let first : byte_of x ≡ Some b = cc in
     (b, bytes, first, h.0, refl)
-byte_at [] rest (b ∷ bytes) (d ∷ done) x e f h = cc f
-byte_at (c ∷ front) rest (b ∷ bytes) [] x e f h = cc f
 byte_at (c ∷ front) rest (b ∷ bytes) (d ∷ done) x e f h =
-    let firsts : Some b ≡ Some d = cc in
     let tails : map byte_of (front ++ x ∷ rest) ≡ map (λ b. Some b) bytes = cc in
     let fronts : map byte_of front ≡ map (λ b. Some b) done = cc in
     let found = byte_at front rest bytes done x tails fronts h.1 in
     let same : b ≡ d = cc in
     let more : bytes ≡ done ++ found.0 ∷ found.1 = found.4 in
     (found.0, found.1, found.2, found.3, cc)
+byte_at front rest bytes done x e f h = cc
 
 -- what the characters are begins with the units so far and that of the next character
-pub next_typed : {U : Type 0} (w : Wording U) (text characters : List ℕ) (x : ℕ) (units all : List U)
-    → characters ≡ take (length characters) (chars text)
-    → (length characters < length (chars text)) × (x ≡ get_or (chars text) (length characters) x)
+pub next_typed : {U : Type 0} {w : Wording U} (text characters : List ℕ) (x : ℕ) (byte : Option ℕ)
+    {units all : List U} → characters ≡ take (length characters) (chars text)
+    → (length characters < length (chars text)) × (x ≡ get_or (chars text) (length characters) x) → byte ≡ byte_of x
     → TypedSoFar w characters units → AreTyped w text all
-    → (b : ℕ) × (more : List U) × (byte_of x ≡ Some b) × IsData b × (all ≡ units ++ w.byte b ∷ more)
-next_typed w text characters x units all front at h are =
-    let cut = split_at (chars text) (length characters) x at.0 at.1 in
-    let found = byte_at characters cut.0 are.bytes h.bytes x
-    (ap (λ z. map byte_of z) (ap (λ z. z ++ x ∷ cut.0) front ∙ sym cut.1) ∙ are.typed) h.typed are.run.0 in (
-      found.0,
-      map w.byte found.1,
-      found.2,
-      found.3,
-      next_unit w are.bytes h.bytes found.1 found.0 all units are.run h.run found.4,
-    )
+    → (b : ℕ) × (more : List U) × (byte ≡ Some b) × IsData b × (all ≡ units ++ w.byte b ∷ more)
+next_typed {w = w} text characters x byte front at is h are =
+    let rest = drop (suc (length characters)) (chars text) in
+    let cut : chars text ≡ characters ++ x ∷ rest = split_at (chars text) (length characters) x at.0
+    ∙ ap (λ z. take (length characters) (chars text) ++ z ∷ rest) (sym at.1) ∙ ap (λ z. z ++ x ∷ rest) (sym front) in
+    let found = byte_at characters rest are.bytes h.bytes x (ap (λ z. map byte_of z) (sym cut) ∙ are.typed) h.typed
+    are.run.0 in
+    (found.0, map w.byte found.1, is ∙ found.2, found.3, next_unit w _ _ _ _ _ _ are.run h.run found.4)

@@ -1,15 +1,10 @@
-use Rattle.std.proofs.Common.{◌≡◌, ℕ, List, [], ◌∷◌, ◌++◌, refl, sym, subst, arith}
-use Rattle.ws_code.specs.Code.{Rules}
+use Rattle.ws_text.proofs.Common.{◌≡◌, ℕ, List, [], ◌∷◌, ◌++◌, refl, sym, subst, arith, Rules, CanBeEncoded}
+use Rattle.ws_text.proofs.Common.{CanAllBeEncoded, Item, Part, Adds, AreItems, Leads, with_more, Follows, Wording}
+use Rattle.ws_text.proofs.Common.{EndsEverywhere}
 use Rattle.ws_code.proofs.Lists.{AllByRecursion-append, AllByRecursion-front}
-use Rattle.ws_record.specs.Encode.{CanBeEncoded, CanAllBeEncoded}
-use Rattle.ws_record.specs.declared.record.Item.{Item}
-use Rattle.ws_record.specs.declared.record.Item.TheVariants as an_item
-use Rattle.ws_text.specs.Parts.{Part}
 use Rattle.ws_text.specs.Parts.Part.{Nothing, Head, Command, Units}
-use Rattle.ws_text.specs.Items.{Adds, AreItems, Leads, with_more}
-use Rattle.ws_text.specs.Reading.{Follows}
-use Rattle.ws_text.specs.Wording.{Wording, EndsEverywhere}
 use Rattle.ws_text.proofs.Bodies.{can_be_encoded}
+use Rattle.ws_record.specs.declared.record.Item.TheVariants as an_item
 
 -- Items that lines spell can be encoded.
 

@@ -1,14 +1,11 @@
-use Rattle.std.proofs.Common.{◌≡◌, ◌≤◌, ◌<◌, ℕ, zero, suc, ◌+◌, ◌-◌, List, [], ◌∷◌, ◌++◌, Bor, length, get_or}
-use Rattle.std.proofs.Common.{take, drop, refl, sym, ap, subst, ◌∙◌, arith, append_assoc, length-drop}
-use Rattle.std.specs.Prelude.{Option, Some, None, MatchOption}
+use Rattle.ws_text.proofs.Common.{◌≡◌, ◌≤◌, ◌<◌, ℕ, zero, suc, ◌+◌, ◌-◌, List, [], ◌∷◌, ◌++◌, Bor, length, get_or, take}
+use Rattle.ws_text.proofs.Common.{drop, refl, sym, ap, subst, ◌∙◌, arith, Option, Some, None, MatchOption, map-append}
+use Rattle.ws_text.proofs.Common.{take_all, IsHexPair, IsHexByte, IsNumber, ArePairs, AreField, format_and_controls}
+use Rattle.ws_text.specs.FieldLaws.{byte_same, field_parts, pairs_same, Fits, one_format, same_format, same_order}
 use Rattle.std.specs.Option.{SomeIff}
-use Rattle.std.proofs.Math.Seq.{take-suc, split_at}
-use Rattle.std.proofs.lemmas.List.{map-append, take_all}
+use Rattle.std.proofs.Math.Seq.{take-suc}
 use Rattle.ws_code.specs.FormatWord.{IsFfw}
 use Rattle.ws_stream.specs.FieldOrder.{FieldOrder, IsFieldOrder, HasFormat}
-use Rattle.ws_text.specs.Words.{IsHexPair, IsHexByte, IsNumber}
-use Rattle.ws_text.specs.ElementWords.{ArePairs, AreField, format_and_controls}
-use Rattle.ws_text.specs.FieldLaws.{byte_same, pairs_same, Fits, field_parts, one_format, same_format, same_order}
 use Rattle.ws_text.proofs.Lists.{texts}
 
 -- The words of a Start of Field.
@@ -35,31 +32,17 @@ pairs_step d words i n next m h a b e =
     ∙ map-append (λ w. w.now) (take i words) (get_or words i d ∷ []) in
     rw (e, cut) (pairs_more (texts (take i words)) (get_or words i d).now n m a b)
 
-is_nil : {A : Type 0} (xs : List A) → length xs ≡ 0 → xs ≡ []
-is_nil [] e = refl
-is_nil (x ∷ xs) e = absurd (omega (arith, e))
-
-two_cut : (d : Bor (List ℕ)) (words : List (Bor (List ℕ))) (n : ℕ) → length words ≡ n + 2 → texts words
-    ≡ texts (take n words) ++ (get_or words n d).now ∷ (get_or words (n + 1) d).now ∷ []
-two_cut d words n e =
-    let x = get_or words n d in
-    let y = get_or words (n + 1) d in
-    let next_is : n + 1 ≡ suc n = omega arith in
-    let front : take (n + 1) words ≡ take n words ++ x ∷ [] = ap (λ k. take k words) next_is
-    ∙ take-suc words n d (omega (arith, e)) in
-    let none : drop (suc (n + 1)) words ≡ [] =
-    is_nil (drop (suc (n + 1)) words) (omega (arith, e, length-drop (suc (n + 1)) words)) in
-    let whole : words ≡ take (n + 1) words ++ y ∷ drop (suc (n + 1)) words =
-    split_at words (n + 1) d (omega (arith, e)) in
-    let all : words ≡ take n words ++ x ∷ y ∷ [] = whole ∙ ap (λ z. z ++ y ∷ drop (suc (n + 1)) words) front
-    ∙ ap (λ z. (take n words ++ x ∷ []) ++ y ∷ z) none ∙ append_assoc (take n words) (x ∷ []) (y ∷ []) in
-    ap texts all ∙ map-append (λ w. w.now) (take n words) (x ∷ y ∷ [])
+two_cut : (d : Bor (List ℕ)) (words : List (Bor (List ℕ))) (n : ℕ) → length words ≡ suc (suc n) → texts words
+    ≡ texts (take n words) ++ (get_or words n d).now ∷ (get_or words (suc n) d).now ∷ []
+two_cut d (a ∷ b ∷ []) zero e = refl
+two_cut d (w ∷ words) (suc n) e = ap (λ z. w.now ∷ z) (two_cut d words n (omega (arith, e)))
+two_cut d words n e = absurd (omega (arith, e))
 
 pub last_two : (d : Bor (List ℕ)) (words : List (Bor (List ℕ))) → 2 ≤ length words → texts words
     ≡ texts (take (length words - 2) words) ++ (get_or words (length words - 2) d).now
     ∷ (get_or words (length words - 1) d).now ∷ []
 last_two d words h =
-    let next : length words - 2 + 1 ≡ length words - 1 = omega (arith, h) in
+    let next : suc (length words - 2) ≡ length words - 1 = omega (arith, h) in
     two_cut d words (length words - 2) (omega (arith, h))
     ∙ ap (λ i. texts (take (length words - 2) words) ++ (get_or words (length words - 2) d).now
     ∷ (get_or words i d).now ∷ []) next

@@ -1,18 +1,10 @@
-use Rattle.std.proofs.Common.{◌≡◌, ℕ, ◌+◌, ◌*◌, List, [], ◌∷◌, ◌++◌, ◌==◌, Bool, false, length, map, take}
-use Rattle.std.proofs.Common.{drop, refl, sym, ap, subst, ◌∙◌, arith}
-use Rattle.std.specs.Prelude.{Result, Ok, Err, Option, Some, None, MatchOption}
-use Rattle.std.specs.List.{AllByRecursion}
-use Rattle.std.proofs.lemmas.List.{append-nil}
-use Rattle.std.proofs.lemmas.Bool.{false≢true}
-use Rattle.hex.specs.Hex.{decode_of, decode_pairs, pair_value, ◌>>=◌}
-use Rattle.hex.specs.declared.error.FromHexError.{FromHexError}
+use Rattle.ws_text.proofs.Common.{◌≡◌, ℕ, ◌+◌, ◌*◌, List, [], ◌∷◌, ◌++◌, length, map, take, drop, refl, sym, ap, subst}
+use Rattle.ws_text.proofs.Common.{◌∙◌, arith, Result, Ok, Err, Option, Some, None, MatchOption, AllByRecursion}
+use Rattle.ws_text.proofs.Common.{append-nil, decode_of, FromHexError, IsData, AreRun, IsRun, IsHexByte, Wording}
+use Rattle.ws_text.specs.FieldLaws.{byte_same}
+use Rattle.hex.specs.Hex.{decode_pairs, pair_value, ◌>>=◌}
 use Rattle.hex.proofs.HexLemmas.{decode_of-ok, decode_of-even, decode_pairs-ok}
 use Rattle.hex.proofs.Pairs.{prepend, prepend-cons_byte, decode_start, decode_pairs-ok_pair, decode_pairs-err_pair}
-use Rattle.ws_code.specs.DataByte.{IsData}
-use Rattle.ws_text.specs.FieldLaws.{byte_same}
-use Rattle.ws_text.specs.TextLines.{AreRun, IsRun}
-use Rattle.ws_text.specs.Words.{IsHexByte}
-use Rattle.ws_text.specs.Wording.{Wording}
 use Rattle.ws_text.proofs.CellBytes.{next_unit, run_more}
 
 -- Runs of bytes in hex, pair by pair.
@@ -41,30 +33,21 @@ pub record RunSoFar {U : Type 0} (w : Wording U) (word rest : List ℕ) (units :
   pub decoded : decode_pairs 0 word ≡ prepend bytes (decode_pairs at rest)
   pub run : AreRun w bytes units
 
-pub some_run : {word rest : List ℕ} {r : Bool} → rest ≡ word → r ≡ (length rest == 0) → r ≡ false → word ≡ [] → ⊥
-some_run e is isnt none = false≢true (sym isnt ∙ is ∙ ap (λ z. length z == 0) (e ∙ none))
-
 -- what the first two digits are
 abbrev IsFirst : List ℕ → Option ℕ → Type 0
 IsFirst digits first = MatchOption first ((byte : ℕ) → IsHexByte digits byte → ⊥) (IsHexByte digits)
 
-pub first_is : (digits : List ℕ) (first : Option ℕ) (b : ℕ) → IsFirst digits first → IsHexByte digits b → first ≡ Some b
+first_is : (digits : List ℕ) (first : Option ℕ) (b : ℕ) → IsFirst digits first → IsHexByte digits b → first ≡ Some b
 first_is digits (Some x) b h is = ap (λ z. Some z) (byte_same digits x b h is)
 first_is digits None b h is = absurd (h b is)
 
-pub is_first : (digits : List ℕ) (first : Option ℕ) (b : ℕ) → IsFirst digits first → first ≡ Some b → IsHexByte digits b
-is_first digits first b h e = subst (λ (z : Option ℕ). IsFirst digits z) e h
-
 module _ {U : Type 0} (w : Wording U) where
-  pub run_begun : (word : List ℕ) → RunSoFar w word word []
-  run_begun word = record { bytes = []; at = 0; decoded = decode_start word []; run = (tt, refl) }
+  pub run_begun : (word rest : List ℕ) → rest ≡ word → RunSoFar w word rest []
+  run_begun word rest e = rw e (record { bytes = []; at = 0; decoded = decode_start word []; run = (tt, refl) })
 
-  pub run_goes_on : (word rest behind : List ℕ) (b : ℕ) (units : List U) → RunSoFar w word rest units
+  run_goes_on : (word rest behind : List ℕ) (b : ℕ) (units : List U) → RunSoFar w word rest units
       → IsHexByte (take 2 rest) b → behind ≡ drop 2 rest → IsData b
       → RunSoFar w word behind (units ++ w.byte b ∷ [])
-  run_goes_on word [] behind b units h is e good = absurd (omega (arith, (decode_of-ok [] (b ∷ []) is).2))
-  run_goes_on word (x ∷ []) behind b units h is e good =
-      absurd (omega (arith, (decode_of-ok (x ∷ []) (b ∷ []) is).2))
   run_goes_on word (x ∷ y ∷ rest) behind b units h is e good =
       let pair = pair_moves x y 0 h.at b (two_digits x y b (pair_value x y 0) refl is) in
       record {
@@ -75,15 +58,22 @@ module _ {U : Type 0} (w : Wording U) where
             ∙ ap (λ z. prepend (h.bytes ++ b ∷ []) (decode_pairs (h.at + 2) z)) (sym e);
         run = run_more w h.bytes b units h.run good;
       }
+  run_goes_on word rest behind b units h is e good = absurd (omega (arith, (decode_of-ok (take 2 rest) (b ∷ []) is).2))
+
+  -- and the byte that was read
+  pub run_more_by : {word rest behind : List ℕ} {units : List U} (first : Option ℕ) (b : ℕ) → RunSoFar w word rest units
+      → IsFirst (take 2 rest) first → first ≡ Some b → behind ≡ drop 2 rest → IsData b
+      → RunSoFar w word behind (units ++ w.byte b ∷ [])
+  run_more_by {word} {rest} {behind} {units} first b h is e =
+      run_goes_on word rest behind b units h (subst (λ (z : Option ℕ). IsFirst (take 2 rest) z) e is)
 
   -- what is decoded as a whole is so in pairs
   in_pairs : (word bytes : List ℕ) → decode_of word ≡ Ok bytes → decode_pairs 0 word ≡ Ok bytes
   in_pairs word bytes e = sym (decode_of-even word (decode_of-ok word bytes e).0) ∙ e
 
-  data_within : (front more bytes : List ℕ) (b : ℕ) → bytes ≡ front ++ b ∷ more → AllByRecursion IsData bytes → IsData b
-  data_within [] more bytes b e h = (subst (λ (z : List ℕ). AllByRecursion IsData z) e h).0
-  data_within (x ∷ front) more bytes b e h =
-      data_within front more (front ++ b ∷ more) b refl (subst (λ (z : List ℕ). AllByRecursion IsData z) e h).1
+  data_within : (front more : List ℕ) (b : ℕ) → AllByRecursion IsData (front ++ b ∷ more) → IsData b
+  data_within [] more b h = h.0
+  data_within (x ∷ front) more b h = data_within front more b h.1
 
   next_pair : (front bytes : List ℕ) (x y at : ℕ) (r : Result ℕ FromHexError) (more : Result (List ℕ) FromHexError)
       → pair_value x y at ≡ r → Ok bytes ≡ prepend front (r >>= (λ byte. more >>= (λ rest. Ok (byte ∷ rest))))
@@ -93,30 +83,27 @@ module _ {U : Type 0} (w : Wording U) where
   next_pair front bytes x y at (Ok b) (Err e) is f good = cc f
   next_pair front bytes x y at (Ok b) (Ok rest) is f good =
       let cut = ap bytes_of f in
-      (b, rest, one_pair x y b (pair_moves x y at 0 b is), data_within front rest bytes b cut good, cut)
+      let data_ = data_within front rest b (subst (λ (z : List ℕ). AllByRecursion IsData z) cut good) in
+      (b, rest, one_pair x y b (pair_moves x y at 0 b is), data_, cut)
 
   -- what the digits are begins with the units so far and that of the next two digits
-  pub next_of_run : (word rest : List ℕ) (units all : List U) → (rest ≡ [] → ⊥) → RunSoFar w word rest units
-      → IsRun w word all
-      → (b : ℕ) × (more : List U) × IsHexByte (take 2 rest) b × IsData b × (all ≡ units ++ w.byte b ∷ more)
+  pub next_of_run : (word rest : List ℕ) (first : Option ℕ) {units all : List U} → (rest ≡ [] → ⊥)
+      → IsFirst (take 2 rest) first → RunSoFar w word rest units → IsRun w word all
+      → (b : ℕ) × (more : List U) × (first ≡ Some b) × IsData b × (all ≡ units ++ w.byte b ∷ more)
   unfolding decode_pairs
-  next_of_run word [] units all some h r = absurd (some refl)
-  next_of_run word (x ∷ []) units all some h r = cc (sym (in_pairs word r.0 r.1.1) ∙ h.decoded)
-  next_of_run word (x ∷ y ∷ rest) units all some h r =
+  next_of_run word [] first some is h r = absurd (some refl)
+  next_of_run word (x ∷ []) first some is h r = cc (sym (in_pairs word r.0 r.1.1) ∙ h.decoded)
+  next_of_run word (x ∷ y ∷ rest) first some is h r =
       let found = next_pair h.bytes r.0 x y h.at (pair_value x y h.at) (decode_pairs (h.at + 2) rest) refl
-      (sym (in_pairs word r.0 r.1.1) ∙ h.decoded) r.2.0 in (
-        found.0,
-        map w.byte found.1,
-        found.2,
-        found.3,
-        next_unit w r.0 h.bytes found.1 found.0 all units r.2 h.run found.4,
-      )
+      (sym (in_pairs word r.0 r.1.1) ∙ h.decoded) r.2.0 in
+      let read = first_is (x ∷ y ∷ []) first found.0 is found.2 in
+      (found.0, map w.byte found.1, read, found.3, next_unit w _ _ _ _ _ _ r.2 h.run found.4)
 
   -- all digits are read
-  pub whole_run : (word rest : List ℕ) (units : List U) → (word ≡ [] → ⊥) → rest ≡ [] → RunSoFar w word rest units
+  pub whole_run : {word rest : List ℕ} {units : List U} → (word ≡ [] → ⊥) → rest ≡ [] → RunSoFar w word rest units
       → IsRun w word units
   unfolding decode_pairs
-  whole_run word rest units some e h =
+  whole_run {word = word} some e h =
       let all : decode_pairs 0 word ≡ Ok h.bytes = h.decoded ∙ ap (λ z. prepend h.bytes (decode_pairs h.at z)) e
       ∙ ap Ok (append-nil h.bytes) in
       let even : length word ≡ 2 * length h.bytes = (decode_pairs-ok 0 word h.bytes all).1 in

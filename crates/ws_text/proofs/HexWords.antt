@@ -1,10 +1,8 @@
-use Rattle.std.proofs.Common.{◌≡◌, ◌⊎◌, inl, inr, ℕ, ◌+◌, ◌*◌, ◌/◌, ◌<◌, ◌≤◌, List, [], ◌∷◌, length, refl, sym, ap}
-use Rattle.std.proofs.Common.{◌∙◌, arith}
-use Rattle.std.specs.Prelude.{Result, Ok, Err, MatchResult, slice_index}
-use Rattle.hex.specs.Hex.{decode_of, decode_sized, IsBytes}
-use Rattle.hex.specs.declared.error.FromHexError.{FromHexError}
+use Rattle.ws_text.proofs.Common.{◌≡◌, ◌⊎◌, inl, inr, ℕ, ◌/◌, ◌<◌, ◌≤◌, List, [], ◌∷◌, length, refl, sym, ap, ◌∙◌}
+use Rattle.ws_text.proofs.Common.{arith, Result, Ok, Err, MatchResult, slice_index, decode_of, FromHexError, IsHex}
+use Rattle.ws_text.proofs.Common.{IsHexByte, IsHexPair}
+use Rattle.hex.specs.Hex.{decode_sized}
 use Rattle.hex.proofs.HexLemmas.{decode_of-ok, decode_sized-ok, decode_sized-twice}
-use Rattle.ws_text.specs.Words.{IsHex, IsHexByte, IsHexPair}
 
 -- Words of so many hex digits.
 
@@ -29,15 +27,12 @@ sized_of : (word bytes : List ℕ) → decode_of word ≡ Ok bytes → decode_si
 sized_of word bytes e = decode_sized-twice word (length bytes) (decode_of-ok word bytes e).2 ∙ e
 
 one_of : (out : List ℕ) → length out ≡ 1 → out ≡ slice_index out 0 ∷ []
-one_of [] e = cc e
 one_of (x ∷ []) e = refl
-one_of (x ∷ y ∷ out) e = absurd (omega (arith, e))
+one_of out e = absurd (omega (arith, e))
 
 two_of : (out : List ℕ) → length out ≡ 2 → out ≡ slice_index out 0 ∷ slice_index out 1 ∷ []
-two_of [] e = cc e
-two_of (x ∷ []) e = cc e
 two_of (x ∷ y ∷ []) e = refl
-two_of (x ∷ y ∷ z ∷ out) e = absurd (omega (arith, e))
+two_of out e = absurd (omega (arith, e))
 
 pub one_byte : (word out : List ℕ) (r : Result Unit FromHexError) → Written (decode_sized word 1) r out → r ≡ Ok tt
     → IsHexByte word (slice_index out 0) × (slice_index out 0 < 256)

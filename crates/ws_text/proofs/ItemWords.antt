@@ -1,14 +1,6 @@
-use Rattle.std.proofs.Common.{◌≡◌, ◌⊎◌, ℕ, List, [], ◌∷◌, ◌++◌, length, refl, sym, ap, subst, ◌∙◌, arith}
-use Rattle.std.specs.Prelude.{codes}
-use Rattle.ws_record.specs.declared.opcode.Opcode.{Opcode}
-use Rattle.ws_text.specs.Words.{IsHexPair}
-use Rattle.ws_text.specs.Parts.{Part}
-use Rattle.ws_text.specs.Parts.{Part as part}
-use Rattle.ws_text.specs.TextLines.{IsOpcodeText, IsHeadText, IsItemLine, AreUnits, IsRun}
-use Rattle.ws_text.specs.TextLines.IsHeadText.{short, long}
-use Rattle.ws_text.specs.TextLines.AreUnits.{one, run}
-use Rattle.ws_text.specs.WordLaws.{head_of, tail_of}
-use Rattle.ws_text.specs.Wording.{Wording, IsClear}
+use Rattle.ws_text.proofs.Common.{◌≡◌, ℕ, List, [], ◌∷◌, length, refl, sym, ap, subst, ◌∙◌, arith, codes, Opcode}
+use Rattle.ws_text.proofs.Common.{IsHexPair, Part, part, IsOpcodeText, IsHeadText, IsItemLine, AreUnits, IsRun, short}
+use Rattle.ws_text.proofs.Common.{long, one, run, head_of, tail_of, Wording, IsClear}
 use Rattle.ws_text.proofs.OneUnit.{bytes_is_no_unit}
 use Rattle.ws_text.proofs.Lists.{differ}
 

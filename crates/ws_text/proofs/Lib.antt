@@ -1,3 +1,4 @@
+pub mod Common
 pub mod FieldWords
 pub mod HexRuns
 pub mod HexWords

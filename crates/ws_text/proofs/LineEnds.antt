@@ -1,11 +1,8 @@
-use Rattle.std.proofs.Common.{◌≡◌, ℕ, ◌+◌, ◌<◌, ◌≤◌, ◌==◌, List, [], ◌∷◌, Bool, true, false, cond, not, ◌-◌, length}
-use Rattle.std.proofs.Common.{take, drop, inl, inr, refl, sym, ap, ◌∙◌, arith, length-drop}
-use Rattle.std.specs.Prelude.{if◌then◌else◌}
-use Rattle.std.specs.List.{position_or_len, before_first, after_first, slice_split, onto_first}
-use Rattle.std.specs.Str.Lines.{lines, lines_of_parts, strip_carriage_return}
-use Rattle.std.proofs.lemmas.Bool.{false≢true, cases_lt}
-use Rattle.std.proofs.lemmas.Bool.Decides.{eqb_tells}
-use Rattle.std.proofs.lemmas.List.{take_all}
+use Rattle.ws_text.proofs.Common.{◌≡◌, ℕ, ◌+◌, ◌<◌, ◌≤◌, ◌==◌, List, [], ◌∷◌, Bool, true, false, cond, not, ◌-◌, length}
+use Rattle.ws_text.proofs.Common.{take, drop, inl, inr, refl, sym, ap, ◌∙◌, arith, if◌then◌else◌, onto_first, lines}
+use Rattle.ws_text.proofs.Common.{lines_of_parts, strip_carriage_return, false≢true, eqb_tells, take_all}
+use Rattle.std.proofs.Common.{length-drop, ◌≢◌}
+use Rattle.std.specs.List.{position_or_len, before_first, after_first, slice_split}
 use Rattle.std.proofs.lemmas.List.Elements.{All-from_get_or}
 use Rattle.std.proofs.lemmas.List.Splits.{slice_split_none, slice_split_first}
 use Rattle.std.proofs.lemmas.List.Sums.{fails_before_first, prefix_len-le-length}
@@ -54,9 +51,6 @@ lines_only text e k =
     (All-from_get_or (λ b. p b ≡ false) text 0 (λ i below. fails_before_first p text i 0 (omega (arith, e)))))
     ∙ ap (λ (b : Bool). if b then [] else (text ∷ [])) some
 
-apart : (m n : ℕ) → m ≤ n → (m ≡ n → ⊥) → m < n
-apart m n h f = elim (cases_lt m n) [ inl p ↦ p | inr p ↦ absurd (f (omega (arith, h, p))) ]
-
 -- the line before the first LF, as slices
 pub same_line : (text : List ℕ) (end : ℕ) (line : List ℕ) → end ≡ position_or_len (λ b. b == 10) text
     → (end ≡ length text → ⊥) → line ≡ strip_carriage_return (take end text)
@@ -64,8 +58,8 @@ pub same_line : (text : List ℕ) (end : ℕ) (line : List ℕ) → end ≡ posi
 same_line text end line e f is =
     let p : ℕ → Bool = λ b. b == 10 in
     let below : position_or_len p text ≤ length text = prefix_len-le-length (λ b. not (p b)) text in
-    let inside : position_or_len p text < length text =
-    apart (position_or_len p text) (length text) below (λ g. f (e ∙ g)) in
+    let other : position_or_len p text ≢ length text = λ g. f (e ∙ g) in
+    let inside : position_or_len p text < length text = omega arith in
     let whole : take (length text - (end + 1)) (drop (end + 1) text) ≡ drop (end + 1) text =
     take_all (length text - (end + 1)) (drop (end + 1) text) (omega (arith, length-drop (end + 1) text)) in
     let first : strip_carriage_return (before_first p text) ≡ line =

@@ -1,15 +1,9 @@
-use Rattle.std.proofs.Common.{◌≡◌, inl, inr, ℕ, List, [], ◌∷◌, ◌++◌, length, drop, Bor, ◌+◌, refl, sym}
-use Rattle.std.proofs.Common.{ap, subst, ◌∙◌}
-use Rattle.std.specs.Prelude.{◌↔◌, codes, Option, Some, None, MatchOption}
-use Rattle.std.specs.Str.Pattern.{FindsTextPrefix}
+use Rattle.ws_text.proofs.Common.{◌≡◌, inl, inr, ℕ, List, [], ◌∷◌, ◌++◌, length, drop, Bor, ◌+◌, refl, sym, ap, subst}
+use Rattle.ws_text.proofs.Common.{◌∙◌, ◌↔◌, codes, Option, Some, None, MatchOption, Part, part, IsItemLine}
+use Rattle.ws_text.proofs.Common.{AreBehindPlace, AreUnits, IsWorded, item, indented, head_of, tail_of, Wording}
 use Rattle.ws_text.specs.declared.line.Found.{Found}
 use Rattle.ws_text.specs.Found.{Tells}
-use Rattle.ws_text.specs.Parts.{Part}
-use Rattle.ws_text.specs.Parts.{Part as part}
-use Rattle.ws_text.specs.TextLines.{IsItemLine, AreBehindPlace, AreUnits, IsWorded}
-use Rattle.ws_text.specs.TextLines.IsWorded.{item, indented}
-use Rattle.ws_text.specs.WordLaws.{head_of, tail_of}
-use Rattle.ws_text.specs.Wording.{Wording}
+use Rattle.std.specs.Str.Pattern.{FindsTextPrefix}
 use Rattle.ws_text.proofs.Lists.{differ}
 
 -- The words of a line.
@@ -72,12 +66,9 @@ IsTextStripped p text r =
     MatchOption r (FindsTextPrefix p text None)
     (λ x. (n : ℕ) × FindsTextPrefix p text (Some n) × (x.now ≡ drop n text) × (length x.now + n ≡ length text))
 
-some_same : (x y : Bor (List ℕ)) → Some x ≡ Some y → x ≡ y
-some_same x y e = cc
-
 pub stripped : (p text : List ℕ) (r : Option (Bor (List ℕ))) (x : Bor (List ℕ)) → IsTextStripped p text r → r ≡ Some x
     → text ≡ p ++ x.now
 stripped p text None x h e = cc e
 stripped p text (Some y) x h e =
-    let same : y.now ≡ x.now = ap (λ z. z.now) (some_same y x e) in
-    h.1.1 ∙ ap (λ z. p ++ z) (sym h.2) ∙ ap (λ z. p ++ z) same
+    let same : y ≡ x = cc in
+    h.1.1 ∙ ap (λ z. p ++ z) (sym h.2 ∙ ap (λ z. z.now) same)

@@ -1,12 +1,7 @@
-use Rattle.std.proofs.Common.{◌≡◌, ◌≤◌, ◌<◌, ℕ, ◌+◌, ◌-◌, List, [], ◌∷◌, ◌++◌, Bool, true, false, Bor, length, map}
-use Rattle.std.proofs.Common.{get_or, take, drop, refl, sym, ap, subst, ◌∙◌, arith}
-use Rattle.std.proofs.lemmas.List.{take_all}
-use Rattle.std.specs.Prelude.{Option, Some, None, MatchOption}
-use Rattle.ws_text.specs.Words.{IsCell}
-use Rattle.ws_text.specs.ElementWords.{ArePlace, AreFill}
+use Rattle.ws_text.proofs.Common.{◌≡◌, ◌≤◌, ℕ, ◌-◌, List, [], ◌∷◌, Bool, true, false, Bor, length, map, get_or, take}
+use Rattle.ws_text.proofs.Common.{drop, refl, sym, ap, subst, ◌∙◌, arith, take_all, Option, Some, None, MatchOption}
+use Rattle.ws_text.proofs.Common.{IsCell, ArePlace, not, false≢true, AreFill}
 use Rattle.std.specs.Str.{bytes_eq}
-use Rattle.std.specs.Prelude.{not}
-use Rattle.std.proofs.lemmas.Bool.{false≢true}
 use Rattle.std.proofs.lemmas.Slice.Eq.{bytes_eq-Decides}
 
 -- Lists of words.
@@ -21,18 +16,13 @@ no_word = record { ref_ptr = (0, 0); now = [] }
 
 pub two_words : (d : Bor (List ℕ)) (words : List (Bor (List ℕ))) → length words ≡ 2 → texts words
     ≡ (get_or words 0 d).now ∷ (get_or words 1 d).now ∷ []
-two_words d [] e = cc e
-two_words d (a ∷ []) e = cc e
 two_words d (a ∷ b ∷ []) e = refl
-two_words d (a ∷ b ∷ c ∷ words) e = absurd (omega (arith, e))
+two_words d words e = absurd (omega (arith, e))
 
 pub three_words : (d : Bor (List ℕ)) (words : List (Bor (List ℕ))) → length words ≡ 3 → texts words
     ≡ (get_or words 0 d).now ∷ (get_or words 1 d).now ∷ (get_or words 2 d).now ∷ []
-three_words d [] e = cc e
-three_words d (a ∷ []) e = cc e
-three_words d (a ∷ b ∷ []) e = cc e
 three_words d (a ∷ b ∷ c ∷ []) e = refl
-three_words d (a ∷ b ∷ c ∷ x ∷ words) e = absurd (omega (arith, e))
+three_words d words e = absurd (omega (arith, e))
 
 pub place_of_two : (words : List (List ℕ)) (row column : List ℕ) (r : Option ℕ) → words ≡ row ∷ column ∷ []
     → MatchOption r ((p : ℕ) → IsCell row column p → ⊥) (IsCell row column)
@@ -56,12 +46,8 @@ no_fill words row column last e f p hex h =
 
 pub four_words : (d : Bor (List ℕ)) (words : List (Bor (List ℕ))) → length words ≡ 4 → texts words
     ≡ (get_or words 0 d).now ∷ (get_or words 1 d).now ∷ (get_or words 2 d).now ∷ (get_or words 3 d).now ∷ []
-four_words d [] e = cc e
-four_words d (a ∷ []) e = cc e
-four_words d (a ∷ b ∷ []) e = cc e
-four_words d (a ∷ b ∷ c ∷ []) e = cc e
 four_words d (a ∷ b ∷ c ∷ x ∷ []) e = refl
-four_words d (a ∷ b ∷ c ∷ x ∷ y ∷ words) e = absurd (omega (arith, e))
+four_words d words e = absurd (omega (arith, e))
 
 taken : (k : ℕ) (words : List (Bor (List ℕ))) → length words ≤ k → texts words ≡ texts (take k words)
 taken k words h = ap texts (sym (take_all k words h))
@@ -98,9 +84,8 @@ unequal_not a b r e h = go (bytes_eq a b) refl
 
 pub one_word : (d : Bor (List ℕ)) (words : List (Bor (List ℕ))) → length words ≡ 1 → texts words
     ≡ (get_or words 0 d).now ∷ []
-one_word d [] e = cc e
 one_word d (a ∷ []) e = refl
-one_word d (a ∷ b ∷ words) e = absurd (omega (arith, e))
+one_word d words e = absurd (omega (arith, e))
 
 pub differ_from : (a b : List ℕ) (r : Bool) → r ≡ bytes_eq a b → r ≡ false → a ≡ b → ⊥
 differ_from a b r e h same = differ a b (sym e ∙ h) same

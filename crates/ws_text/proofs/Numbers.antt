@@ -1,11 +1,9 @@
-use Rattle.std.proofs.Common.{◌≡◌, ℕ, ◌^◌, ◌<◌, List, [], ◌∷◌, cond, length, drop, inl, inr, refl, sym, ap, subst}
-use Rattle.std.proofs.Common.{arith}
+use Rattle.ws_text.proofs.Common.{◌≡◌, ℕ, ◌^◌, ◌<◌, List, [], ◌∷◌, cond, length, drop, inl, inr, refl, sym, ap, subst}
+use Rattle.ws_text.proofs.Common.{arith, eqb_tells, IsNumber}
 use Rattle.std.specs.Str.Parse.{IsNumeral, digits_value, without_leading_plus}
 use Rattle.std.specs.Char.{digit_value}
-use Rattle.std.proofs.lemmas.Bool.Decides.{eqb_tells}
 use Rattle.std.proofs.lemmas.Int.Digits.{digits_value-lt}
 use Rattle.std.proofs.Math.Nat.{pow-le-pow_right}
-use Rattle.ws_text.specs.Words.{IsNumber}
 
 -- Numbers.
 

@@ -1,33 +1,18 @@
-use Rattle.std.proofs.Common.{◌≡◌, ◌⊎◌, inl, inr, ℕ, List, [], ◌∷◌, ◌++◌, ◌==◌, length, get_or, refl, sym, ap, subst}
-use Rattle.std.proofs.Common.{◌∙◌, arith}
-use Rattle.std.specs.Prelude.{codes, Option, Some, None}
-use Rattle.ws_telnet.specs.declared.token.CommandCode.{CommandCode}
-use Rattle.ws_telnet.specs.declared.token.Verb.{Verb}
-use Rattle.ws_telnet.specs.declared.token.Telnet.{Telnet}
-use Rattle.ws_telnet.specs.declared.token.Telnet.TheVariants.{Command, Option as Negotiate, Sub}
+use Rattle.ws_text.proofs.Common.{◌≡◌, ◌⊎◌, inl, inr, ℕ, List, [], ◌∷◌, ◌++◌, ◌==◌, length, get_or, refl, sym, ap}
+use Rattle.ws_text.proofs.Common.{subst, ◌∙◌, arith, codes, Some, Verb, Telnet, Command, Negotiate, Sub, Opcode}
+use Rattle.ws_text.proofs.Common.{opcode_byte, words_of, IsSmall, IsHexPair, AreBytes, Part, part, IsTelnetText}
+use Rattle.ws_text.proofs.Common.{IsOpcodeText, IsHeadText, IsItemLine, AreUnits, AreTyped, AreBehindPlace, IsWorded}
+use Rattle.ws_text.proofs.Common.{Means, IsLine, short, long, item, indented, empty, comment, typed, worded, head_of}
+use Rattle.ws_text.proofs.Common.{tail_of, Wording, IsClear, onto_first, look_up, commands, verbs}
 use Rattle.ws_telnet.specs.declared.token.Sub.{Sub as ASub}
-use Rattle.ws_record.specs.declared.opcode.Opcode.{Opcode}
-use Rattle.ws_record.specs.Grammar.{opcode_byte}
 use Rattle.ws_record.proofs.Reading.{opcode_same}
-use Rattle.ws_text.specs.Names.{look_up, commands, verbs}
-use Rattle.ws_text.specs.Words.{words_of, IsSmall, IsHexPair}
-use Rattle.ws_text.specs.ElementWords.{AreBytes}
-use Rattle.ws_text.specs.Parts.{Part}
-use Rattle.ws_text.specs.Parts.{Part as part}
-use Rattle.ws_text.specs.TextLines.{IsTelnetText, IsOpcodeText, IsHeadText, IsItemLine, AreUnits, AreTyped}
-use Rattle.ws_text.specs.TextLines.{AreBehindPlace, IsWorded, Means, IsLine}
-use Rattle.ws_text.specs.TextLines.IsHeadText.{short, long}
-use Rattle.ws_text.specs.TextLines.IsWorded.{item, indented}
-use Rattle.ws_text.specs.TextLines.Means.{empty, comment, typed, worded}
-use Rattle.ws_text.specs.WordLaws.{head_of, tail_of, small_same, bytes_same, some_same}
+use Rattle.ws_text.specs.WordLaws.{small_same, bytes_same, some_same}
 use Rattle.ws_text.specs.FieldLaws.{pair_same}
-use Rattle.ws_text.specs.Wording.{Wording, IsClear}
 use Rattle.ws_text.proofs.Lists.{differ}
-use Rattle.std.specs.List.{onto_first}
 use Rattle.ws_text.proofs.LineEnds.{split_some}
 use Rattle.ws_text.proofs.OneUnit.{units_same, typed_same}
-use Rattle.ws_text.proofs.LineWords.{indented_item, one_behind}
-use Rattle.ws_text.proofs.TextWords.{first_words, text_is_no_unit, behind_seven}
+use Rattle.ws_text.proofs.LineWords.{one_behind, indented_says}
+use Rattle.ws_text.proofs.TextWords.{typed_line}
 
 -- A line says one thing.
 
@@ -97,30 +82,21 @@ module _ {U : Type 0} where
   item_same words s part.Nothing a b = absurd b
   item_same words s (part.Units us) a b = absurd b
 
-  -- what stands behind two blanks begins no item, with a place before it or without
-  no_both : (words behind rest : List (List ℕ)) (says : Part U) → words ≡ [] ∷ rest → AreBehindPlace words behind
-      → IsItemLine behind says → ⊥
-  no_both words behind rest says e (inl at) h = differ [] (codes "at") refl (ap head_of (sym e ∙ at.1))
-  no_both words behind rest says e (inr all) h =
-      indented_item words rest says e (subst (λ (z : List (List ℕ)). IsItemLine z says) all.0 h)
-
 module _ {U : Type 0} (w : Wording U) (clear : IsClear w) where
+  -- a line of units says these alone
+  indented_same : (words : List (List ℕ)) (name : List ℕ) (rest : List (List ℕ)) (us : List U) (says : Part U)
+      → words ≡ [] ∷ [] ∷ name ∷ rest → AreUnits w name rest us → IsWorded w words says → says ≡ part.Units us
+  indented_same words name rest us says e are h =
+      let found = indented_says w words name rest e says h in
+      found.2 ∙ ap (λ z. part.Units z) (units_same w clear name rest found.0 us found.1 are)
+
   pub worded_same : (words : List (List ℕ)) (s t : Part U) → IsWorded w words s → IsWorded w words t → s ≡ t
   worded_same words s t (item x p a) (item y q b) =
       item_same y s t (subst (λ (z : List (List ℕ)). IsItemLine z s) (one_behind words x y p q) a) b
-  worded_same words s t (item x p a) (indented name rest are e b q) = absurd (no_both words x ([] ∷ name
-      ∷ rest) s e p a)
-  worded_same words s t (indented name rest are e a p) (item y q b) = absurd (no_both words y ([] ∷ name
-      ∷ rest) t e q b)
-  worded_same words s t (indented m xs es e a p) (indented n ys fs f b q) =
-      let name : m ≡ n = ap (λ z. head_of (tail_of (tail_of z))) (sym e ∙ f) in
-      let rest : xs ≡ ys = ap (λ z. tail_of (tail_of (tail_of z))) (sym e ∙ f) in
-      let same = units_same w clear n ys es fs
-      (subst (λ (z : List ℕ). AreUnits w z ys es) name (subst (λ (z : List (List ℕ)). AreUnits w m z es) rest a))
-      b in
-      p ∙ ap (λ z. part.Units z) same ∙ sym q
+  worded_same words s t (indented name rest us e a p) h = p ∙ sym (indented_same words name rest us t e a h)
+  worded_same words s t h (indented name rest us e a p) = indented_same words name rest us s e a h ∙ sym p
 
-  -- the words of an empty line, of a comment, and of characters are those of no item and no element
+  -- the words of an empty line and of a comment are those of no item and no element
   no_words_item : (words behind : List (List ℕ)) (says : Part U) (word : List ℕ) (rest : List (List ℕ)) → words ≡ word
       ∷ rest → (word ≡ codes "at" → ⊥) → (word ≡ codes "record" → ⊥) → (word ≡ codes "telnet" → ⊥)
       → AreBehindPlace words behind → IsItemLine behind says → ⊥
@@ -145,57 +121,44 @@ module _ {U : Type 0} (w : Wording U) (clear : IsClear w) where
       let behind = split_some (λ b. b == 32) text in
       (behind.0, behind.1, ap (λ z. onto_first 35 z) behind.2)
 
-  first_byte : (a b : List ℕ) → (get_or a 0 0 ≡ get_or b 0 0 → ⊥) → a ≡ b → ⊥
-  first_byte a b h e = h (ap (λ z. get_or z 0 0) e)
-
   no_comment : (text : List ℕ) (says : Part U) → IsWorded w (words_of (codes "#" ++ text)) says → ⊥
   no_comment text says (item behind p a) =
       let w = hash_words text in
       no_words_item (words_of (codes "#" ++ text)) behind says (35 ∷ w.0) w.1 w.2
-      (first_byte (35 ∷ w.0) (codes "at") (λ e. omega (arith, e)))
-      (first_byte (35 ∷ w.0) (codes "record") (λ e. omega (arith, e)))
-      (first_byte (35 ∷ w.0) (codes "telnet") (λ e. omega (arith, e))) p a
+      (differ (35 ∷ w.0) (codes "at") refl)
+      (differ (35 ∷ w.0) (codes "record") refl) (differ (35 ∷ w.0) (codes "telnet") refl) p a
   no_comment text says (indented name rest are e a p) =
       let w = hash_words text in
       let bad : 35 ≡ 0 = ap (λ z. get_or (head_of z) 0 0) (sym w.2 ∙ e) in
       absurd (omega (arith, bad))
 
-  no_characters : (text : List ℕ) (says : Part U) → IsWorded w (words_of (codes "  TEXT " ++ text)) says → ⊥
-  no_characters text says (item behind p a) =
-      no_both (words_of (codes "  TEXT " ++ text)) behind ([] ∷ codes "TEXT" ∷ words_of text) says
-      (first_words text) p a
-  no_characters text says (indented name rest are e a p) =
-      let is : name ≡ codes "TEXT" = ap (λ z. head_of (tail_of (tail_of z))) (sym e ∙ first_words text) in
-      text_is_no_unit w clear rest are (subst (λ (z : List ℕ). AreUnits w z rest are) is a)
+  -- an empty line and a comment say nothing, and a line of characters says their units
+  nothing_same : (line : List ℕ) (says : Part U) → (line ≡ []) ⊎ ((text : List ℕ) × (line ≡ codes "#" ++ text))
+      → Means w line says → says ≡ part.Nothing
+  nothing_same line says is (empty e p) = p
+  nothing_same line says is (comment x e p) = p
+  nothing_same line says (inl none) (typed x us e a p) = absurd (omega (arith, ap length (sym none ∙ e)))
+  nothing_same line says (inr hash) (typed x us e a p) =
+      absurd (differ (codes "#" ++ hash.0) (codes "  TEXT " ++ x) refl (sym hash.1 ∙ e))
+  nothing_same line says (inl none) (worded h) =
+      absurd (no_empty says (subst (λ (z : List ℕ). IsWorded w (words_of z) says) none h))
+  nothing_same line says (inr hash) (worded h) =
+      absurd (no_comment hash.0 says (subst (λ (z : List ℕ). IsWorded w (words_of z) says) hash.1 h))
 
-  with_words : (line other : List ℕ) (says : Part U) → line ≡ other → IsWorded w (words_of line) says
-      → IsWorded w (words_of other) says
-  with_words line other says e h = subst (λ (z : List ℕ). IsWorded w (words_of z) says) e h
-
-  no_blank_hash : (text rest : List ℕ) → codes "#" ++ text ≡ codes "  TEXT " ++ rest → ⊥
-  no_blank_hash text rest e = first_byte (codes "#" ++ text) (codes "  TEXT " ++ rest) (λ f. omega (arith, f)) e
+  characters_same : (line text : List ℕ) (us : List U) (says : Part U) → line ≡ codes "  TEXT " ++ text
+      → AreTyped w text us → Means w line says → says ≡ part.Units us
+  characters_same line text us says e are h =
+      let found = typed_line w clear line text e says h in
+      found.2 ∙ ap (λ z. part.Units z) (typed_same w text found.0 us found.1 are)
 
   pub means_same : (line : List ℕ) (s t : Part U) → Means w line s → Means w line t → s ≡ t
-  means_same line s t (empty e p) (empty f q) = p ∙ sym q
-  means_same line s t (empty e p) (comment x f q) = p ∙ sym q
-  means_same line s t (comment x e p) (empty f q) = p ∙ sym q
-  means_same line s t (comment x e p) (comment y f q) = p ∙ sym q
-  means_same line s t (empty e p) (typed x es f a q) = absurd (omega (arith, ap length (sym e ∙ f)))
-  means_same line s t (typed x es f a q) (empty e p) = absurd (omega (arith, ap length (sym e ∙ f)))
-  means_same line s t (comment x e p) (typed y es f a q) = absurd (no_blank_hash x y (sym e ∙ f))
-  means_same line s t (typed y es f a q) (comment x e p) = absurd (no_blank_hash x y (sym e ∙ f))
-  means_same line s t (typed x es e a p) (typed y fs f b q) =
-      let same : x ≡ y = behind_seven x y (sym e ∙ f) in
-      p ∙ ap (λ z. part.Units z) (typed_same w y es fs (subst (λ (z : List ℕ). AreTyped w z es) same a) b) ∙ sym q
-  means_same line s t (empty e p) (worded h) = absurd (no_empty t (with_words line [] t e h))
-  means_same line s t (worded h) (empty e p) = absurd (no_empty s (with_words line [] s e h))
-  means_same line s t (comment x e p) (worded h) = absurd (no_comment x t (with_words line (codes "#" ++ x) t e h))
-  means_same line s t (worded h) (comment x e p) = absurd (no_comment x s (with_words line (codes "#" ++ x) s e h))
-  means_same line s t (typed x es e a p) (worded h) =
-      absurd (no_characters x t (with_words line (codes "  TEXT " ++ x) t e h))
-  means_same line s t (worded h) (typed x es e a p) =
-      absurd (no_characters x s (with_words line (codes "  TEXT " ++ x) s e h))
+  means_same line s t (empty e p) h = p ∙ sym (nothing_same line t (inl e) h)
+  means_same line s t (comment x e p) h = p ∙ sym (nothing_same line t (inr (x, e)) h)
+  means_same line s t (typed x us e a p) h = p ∙ sym (characters_same line x us t e a h)
   means_same line s t (worded a) (worded b) = worded_same (words_of line) s t a b
+  means_same line s t h (empty e p) = nothing_same line s (inl e) h ∙ sym p
+  means_same line s t h (comment x e p) = nothing_same line s (inr (x, e)) h ∙ sym p
+  means_same line s t h (typed x us e a p) = characters_same line x us s e a h ∙ sym p
 
   pub one_line : (line : List ℕ) (s t : Part U) → IsLine w line s → IsLine w line t → s ≡ t
   one_line line s t a b = means_same line s t a.1 b.1

@@ -1,16 +1,10 @@
-use Rattle.std.proofs.Common.{◌≡◌, ℕ, ◌+◌, List, [], ◌∷◌, ◌++◌, length, refl, sym, ap, subst, ◌∙◌, arith, length-append}
-use Rattle.std.specs.Prelude.{Result, Ok, Err, MatchResult, IfOk, IfErr}
-use Rattle.ws_code.specs.Code.{Rules}
-use Rattle.ws_record.specs.declared.record.Item.{Item}
-use Rattle.ws_record.specs.declared.record.Item.TheVariants as an_item
-use Rattle.ws_record.specs.declared.record.Record.{Record}
-use Rattle.ws_text.specs.declared.items.TextFault.{TextFault}
-use Rattle.ws_text.specs.declared.items.TextFault.TheVariants.{Line, Memory}
-use Rattle.ws_text.specs.Parts.{Part}
+use Rattle.ws_text.proofs.Common.{◌≡◌, ℕ, List, [], ◌∷◌, ◌++◌, length, refl, sym, ap, subst, ◌∙◌, arith, length-append}
+use Rattle.ws_text.proofs.Common.{Result, Ok, Err, MatchResult, IfOk, IfErr, Rules, Item, Record, TextFault, Line}
+use Rattle.ws_text.proofs.Common.{Memory, Part, Adds, AreItems, EndsHere, IsScreen, IsTextFault, Leads, Reads}
+use Rattle.ws_text.proofs.Common.{with_more, Wording, IsClear, Vec, Global}
 use Rattle.ws_text.specs.Parts.Part.{Nothing, Head, Command, Units}
-use Rattle.ws_text.specs.Items.{Adds, AreItems, EndsHere, IsScreen, IsTextFault, Leads, Reads, with_more}
-use Rattle.ws_text.specs.Wording.{Wording, IsClear}
 use Rattle.ws_text.proofs.OneLine.{one_line}
+use Rattle.ws_record.specs.declared.record.Item.TheVariants as an_item
 
 -- Lines spell one list of items.
 
@@ -49,55 +43,50 @@ module _ {Place U : Type 0} (rules : Rules Place U) where
         → IsScreen line
     ends_at behind line rest e h = subst (λ (z : List (List ℕ)). EndsHere z) e h
 
-    one_reading : (read behind other after : List (List ℕ)) (from a b : List (Item U)) → read ++ behind ≡ other
-        ++ after → Leads rules w read from a → EndsHere behind → Leads rules w other from b → EndsHere after → a ≡ b
-    one_reading [] behind [] after from a b e x p y q = x ∙ sym y
-    one_reading [] behind (line ∷ other) after from a b e x p y q = absurd (y.1 (ends_at behind line (other
-        ++ after) e p))
-    one_reading (line ∷ read) behind [] after from a b e x p y q =
-        absurd (x.1 (ends_at after line (read ++ behind) (sym e) q))
-    one_reading (m ∷ read) behind (n ∷ other) after from a b e x p y q =
+    -- where lines lead to items, those behind the first ones lead there from what these lead to
+    rest_leads : (read behind before after : List (List ℕ)) (from a b : List (Item U))
+        → read ++ behind ≡ before ++ after → Leads rules w read from a → EndsHere behind → Leads rules w before from b
+        → (more : List (List ℕ)) × (more ++ behind ≡ after) × Leads rules w more b a
+    rest_leads read behind [] after from a b e x p y =
+        (read, e, subst (λ (z : List (Item U)). Leads rules w read z a) (sym y) x)
+    rest_leads [] behind (n ∷ before) after from a b e x p y = absurd (y.1 (ends_at behind n (before ++ after) e p))
+    rest_leads (m ∷ read) behind (n ∷ before) after from a b e x p y =
         let head : m ≡ n = cc in
-        let tail : read ++ behind ≡ other ++ after = cc in
+        let tail : read ++ behind ≡ before ++ after = cc in
         let next = reads_same n from x.0 y.0 (subst (λ (z : List ℕ). Reads rules w z from x.0) head x.2) y.2 in
-        one_reading read behind other after y.0 a b tail (subst (λ (z : List
-        (Item U)). Leads rules w read z a) next x.3) p
-        y.3 q
+        let same = subst (λ (z : List (Item U)). Leads rules w read z a) next x.3 in
+        rest_leads read behind before after y.0 a b tail same p y.3
+
+    none_left : (more behind after : List (List ℕ)) (a b : List (Item U)) → more ++ behind ≡ after → EndsHere after
+        → Leads rules w more b a → a ≡ b
+    none_left [] behind after a b e q l = l
+    none_left (line ∷ more) behind after a b e q l = absurd (l.1 (ends_at after line (more ++ behind) (sym e) q))
 
     -- no line of those that spell items is bad
-    no_bad : (read behind before after : List (List ℕ)) (line : List ℕ) (from a b : List (Item U)) → read ++ behind
-        ≡ before ++ line ∷ after → Leads rules w read from a → EndsHere behind → Leads rules w before from b
-        → ¬ IsScreen line
-        → ((to : List (Item U)) → Reads rules w line b to → ⊥) → ⊥
-    no_bad [] behind [] after line from a b e x p y other bad = other (ends_at behind line after e p)
-    no_bad [] behind (n ∷ before) after line from a b e x p y other bad =
-        y.1 (ends_at behind n (before ++ line ∷ after) e p)
-    no_bad (m ∷ read) behind [] after line from a b e x p y other bad =
+    no_bad : (more behind after : List (List ℕ)) (line : List ℕ) (a b : List (Item U)) → more ++ behind ≡ line ∷ after
+        → EndsHere behind → Leads rules w more b a → ¬ IsScreen line
+        → ((to : List (Item U)) → ¬ Reads rules w line b to) → ⊥
+    no_bad [] behind after line a b e p l other bad = other (ends_at behind line after e p)
+    no_bad (m ∷ more) behind after line a b e p l other bad =
         let head : m ≡ line = cc in
-        bad x.0 (subst (λ (z : List (Item U)). Reads rules w line z x.0) (sym y)
-        (subst (λ (z : List ℕ). Reads rules w z from x.0) head x.2))
-    no_bad (m ∷ read) behind (n ∷ before) after line from a b e x p y other bad =
-        let head : m ≡ n = cc in
-        let tail : read ++ behind ≡ before ++ line ∷ after = cc in
-        let next = reads_same n from x.0 y.0 (subst (λ (z : List ℕ). Reads rules w z from x.0) head x.2) y.2 in
-        no_bad read behind before after line y.0 a b tail (subst (λ (z : List
-        (Item U)). Leads rules w read z a) next x.3) p
-        y.3 other bad
+        bad l.0 (subst (λ (z : List ℕ). Reads rules w z b l.0) head l.2)
 
-    pub one_list : (text : List ℕ) (a b : List (Item U)) → AreItems rules w text a → AreItems rules w text b → a ≡ b
-    one_list text a b x y = one_reading x.read x.behind y.read y.behind [] a b (sym x.split ∙ y.split) x.leads x.ends
-        y.leads y.ends
+    one_list : (text : List ℕ) (a b : List (Item U)) → AreItems rules w text a → AreItems rules w text b → a ≡ b
+    one_list text a b x y =
+        let left = rest_leads x.read x.behind y.read y.behind [] a b (sym x.split ∙ y.split) x.leads x.ends y.leads in
+        none_left left.0 x.behind y.behind a b left.1 y.ends left.2
 
-    pub only_memory : (text : List ℕ) (items : List (Item U)) (fault : TextFault) → AreItems rules w text items
+    only_memory : (text : List ℕ) (items : List (Item U)) (fault : TextFault) → AreItems rules w text items
         → IsTextFault rules w text fault → fault ≡ Memory
     only_memory text items (Line n) x h =
-        absurd (no_bad x.read x.behind h.0 h.2 h.1 [] items h.3 (sym x.split
-        ∙ h.4.split) x.leads x.ends h.4.leads h.5 h.6)
+        let left = rest_leads x.read x.behind h.0 (h.1 ∷ h.2) [] items h.3 (sym x.split ∙ h.4.split) x.leads x.ends
+        h.4.leads in
+        absurd (no_bad left.0 x.behind h.2 h.1 items h.3 left.1 x.ends left.2 h.5 h.6)
     only_memory text items Memory x h = refl
 
     -- what a reader answers to a text that spells items
-    pub only_these : {V : Type 0} (view : V → List (Item U)) (text : List ℕ) (r : Result V TextFault)
-        → IfOk r (λ v. AreItems rules w text (view v)) → IfErr r (IsTextFault rules w text) → (items : List (Item U))
-        → AreItems rules w text items → MatchResult r (λ v. view v ≡ items) (λ fault. fault ≡ Memory)
-    only_these view text (Ok v) ok fault items are = one_list text (view v) items ok are
-    only_these view text (Err f) ok fault items are = only_memory text items f are fault
+    pub only_these : (text : List ℕ) (r : Result (Vec (Item U) Global) TextFault)
+        → IfOk r (λ v. AreItems rules w text v.items) → IfErr r (IsTextFault rules w text) → (items : List (Item U))
+        → AreItems rules w text items → MatchResult r (λ v. v.items ≡ items) (λ fault. fault ≡ Memory)
+    only_these text (Ok v) ok fault items are = one_list text v.items items ok are
+    only_these text (Err f) ok fault items are = only_memory text items f are fault

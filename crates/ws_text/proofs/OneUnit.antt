@@ -1,10 +1,6 @@
-use Rattle.std.proofs.Common.{◌≡◌, ℕ, List, [], ◌∷◌, map, refl, sym, ap, subst, ◌∙◌}
-use Rattle.std.specs.Prelude.{Some}
-use Rattle.ws_text.specs.Words.{IsHex}
-use Rattle.ws_text.specs.Wording.{Wording, IsClear}
-use Rattle.ws_text.specs.TextLines.{AreUnits, AreTyped}
-use Rattle.ws_text.specs.TextLines.AreUnits.{one, run}
-use Rattle.ws_text.specs.WordLaws.{head_of, hex_same}
+use Rattle.ws_text.proofs.Common.{◌≡◌, ℕ, List, [], ◌∷◌, map, refl, sym, ap, subst, ◌∙◌, Some, IsHex, Wording, IsClear}
+use Rattle.ws_text.proofs.Common.{AreUnits, AreTyped, one, run, head_of}
+use Rattle.ws_text.specs.WordLaws.{hex_same}
 
 -- Words say one list of units.
 

@@ -1,33 +1,23 @@
-use Rattle.std.proofs.Common.{◌≡◌, ℕ, true, List, [], ◌∷◌, ◌++◌, refl, sym, ap, subst, ◌∙◌}
-use Rattle.std.proofs.Common.{Bool, false, append_assoc}
-use Rattle.std.specs.Prelude.{◌↔◌}
-use Rattle.std.proofs.lemmas.List.{append-nil}
-use Rattle.ws_code.specs.Code.{Rules}
-use Rattle.ws_record.specs.Encode.{CanBeEncoded}
-use Rattle.ws_record.specs.declared.opcode.Opcode.{Opcode}
-use Rattle.ws_record.specs.declared.record.Item.TheVariants as an_item
-use Rattle.ws_record.specs.declared.record.Record.{Record}
-use Rattle.ws_text.specs.Items.{with_more}
-use Rattle.ws_text.specs.Reading.{IsOpen, Puts}
-use Rattle.ws_text.specs.Wording.{Wording, EndsEverywhere}
+use Rattle.ws_text.proofs.Common.{◌≡◌, ℕ, true, List, [], ◌∷◌, ◌++◌, refl, sym, ap, subst, ◌∙◌, Bool, false}
+use Rattle.ws_text.proofs.Common.{append_assoc, ◌↔◌, append-nil, Rules, CanBeEncoded, Opcode, Record, with_more, IsOpen}
+use Rattle.ws_text.proofs.Common.{Puts, Wording, EndsEverywhere, Part, part, OpenRecord, Option, Some, IsData}
 use Rattle.ws_text.specs.declared.line.LineUnits.{LineUnits}
 use Rattle.ws_text.specs.declared.line.Found.{Found}
-use Rattle.ws_text.specs.declared.line.Found.TheVariants as found
-use Rattle.ws_text.specs.Parts.{Part}
-use Rattle.ws_text.specs.Parts.{Part as part}
 use Rattle.ws_text.specs.Found.{Are, FoundSays}
-use Rattle.ws_text.specs.declared.open_record.OpenRecord.{OpenRecord}
 use Rattle.ws_text.proofs.Bodies.{must_follow, front_encoded, more_and_more, can_be_encoded}
+use Rattle.ws_record.specs.declared.record.Item.TheVariants as an_item
+use Rattle.ws_text.specs.declared.line.Found.TheVariants as found
 
 -- Units that go into an open record.
 
-same_units : {U : Type 0} (us vs : List U) → part.Units us ≡ part.Units vs → us ≡ vs
+pub same_units : {U : Type 0} (us vs : List U) → part.Units us ≡ part.Units vs → us ≡ vs
 same_units us vs e = cc
 
 module _ {Place U : Type 0} (rules : Rules Place U) where
   -- a unit that may not follow
-  pub no_follow : (o : OpenRecord Place U) (r : Record U) (u : U) (units : List U) → (rules.may_follow o.place u ≡ true → ⊥)
-      → IsOpen rules o r → units ≡ u ∷ [] → CanBeEncoded rules (an_item.Record (with_more r units)) → ⊥
+  pub no_follow : (o : OpenRecord Place U) (r : Record U) (u : U) (units : List U)
+      → (rules.may_follow o.place u ≡ true → ⊥) → IsOpen rules o r → units ≡ u ∷ []
+      → CanBeEncoded rules (an_item.Record (with_more r units)) → ⊥
   no_follow o r u units bad is e can =
       bad (must_follow rules r u o.place o.size is.follows
       (subst (λ (z : List U). CanBeEncoded rules (an_item.Record (with_more r z))) e can)).0
@@ -38,44 +28,44 @@ module _ {Place U : Type 0} (rules : Rules Place U) where
   puts_on P Q old new true to from h = (h.0, to h.0 h.1, h.2)
   puts_on P Q old new false to from h = λ r us is q. h r us is (from us q)
 
-  -- units behind those that a record had
-  abbrev pub ArePut : OpenRecord Place U → OpenRecord Place U → List U → Type 0
-  ArePut old new units = (r : Record U) → IsOpen rules old r → IsOpen rules new (with_more r units)
-
-  -- units that are so, so far, were put
+  -- units that are so, so far, were put behind those that a record had
   pub record PutSoFar (Are : List U → Type 0) (old new : OpenRecord Place U) : Type 0 where
     pub units : List U
     pub so : Are units
-    pub put : ArePut old new units
+    pub put : (r : Record U) → IsOpen rules old r → IsOpen rules new (with_more r units)
 
   pub put_none : (Are : List U → Type 0) (old : OpenRecord Place U) → Are [] → PutSoFar Are old old
-  put_none Are old so = record {
-    units = [];
-    so = so;
-    put = λ r is. subst (λ (z : List U). IsOpen rules old (record r { body = z })) (sym (append-nil r.body)) is;
-  }
+  put_none Are old so = record { units = []; so = so; put = λ r is. rw append-nil is }
 
-  -- and the next one
-  pub put_more : (Are Next More : List U → Type 0) (old mid new : OpenRecord Place U) → PutSoFar Are old mid
-      → Puts rules Next mid new true → ((us vs : List U) → Are us → Next vs → More (us ++ vs)) → PutSoFar More old new
-  put_more Are Next More old mid new p h step = record {
-    units = p.units ++ h.0;
-    so = step p.units h.0 p.so h.1;
-    put = λ r is. subst (λ (z : Record U). IsOpen rules new z) (more_and_more rules r p.units h.0)
-        (h.2 (with_more r p.units) (p.put r is));
-  }
+  module _ (w : Wording U) where
+    -- the unit of a byte, if there is one
+    abbrev IsByte : Option ℕ → List U → Type 0
+    IsByte byte units = (b : ℕ) × (byte ≡ Some b) × IsData b × (units ≡ w.byte b ∷ [])
 
-  -- where the next unit can't stand, no units can of which it is the next
-  pub none_put : EndsEverywhere rules → (Are Next : List U → Type 0) (old mid new : OpenRecord Place U)
-      → (p : PutSoFar Are old mid) → Puts rules Next mid new false → (v : U) (more all : List U) → Next (v ∷ [])
-      → all ≡ p.units ++ v ∷ more → (r : Record U) → IsOpen rules old r
-      → CanBeEncoded rules (an_item.Record (with_more r all)) → ⊥
-  none_put ends Are Next old mid new p bad v more all next e r is can =
-      bad (with_more r p.units) (v ∷ []) (p.put r is) next
-      (subst (λ (z : Record U). CanBeEncoded rules (an_item.Record z)) (sym (more_and_more rules r p.units (v ∷ [])))
-      (front_encoded rules ends r (p.units ++ v ∷ []) more
-      (subst (λ (z : List U). CanBeEncoded rules (an_item.Record (with_more r z)))
-      (e ∙ sym (append_assoc p.units (v ∷ []) more)) can)))
+    -- and that of a byte
+    pub byte_put : {Are More : List U → Type 0} {old mid new : OpenRecord Place U} (byte : Option ℕ)
+        → (p : PutSoFar Are old mid) → Puts rules (IsByte byte) mid new true
+        → ((b : ℕ) → byte ≡ Some b → IsData b → More (p.units ++ w.byte b ∷ [])) → PutSoFar More old new
+    byte_put {More = More} {new = new} byte p h step = record {
+      units = p.units ++ h.0;
+      so = subst (λ (z : List U). More (p.units ++ z)) (sym h.1.3) (step h.1.0 h.1.1 h.1.2);
+      put = λ r is. subst (λ (z : Record U). IsOpen rules new z) (more_and_more rules r p.units h.0)
+          (h.2 (with_more r p.units) (p.put r is));
+    }
+
+    -- where the unit of a byte can't stand, no units can of which it is the next
+    pub byte_not_put : EndsEverywhere rules → {Are : List U → Type 0} {old mid : OpenRecord Place U}
+        (new : OpenRecord Place U) (byte : Option ℕ) → (p : PutSoFar Are old mid)
+        → Puts rules (IsByte byte) mid new false → (all : List U)
+        → (b : ℕ) × (more : List U) × (byte ≡ Some b) × IsData b × (all ≡ p.units ++ w.byte b ∷ more) → (r : Record U)
+        → IsOpen rules old r → CanBeEncoded rules (an_item.Record (with_more r all)) → ⊥
+    byte_not_put ends new byte p bad all next r is can =
+        let us = w.byte next.0 ∷ [] in
+        bad (with_more r p.units) us (p.put r is) (next.0, next.2, next.3, refl)
+        (subst (λ (z : Record U). CanBeEncoded rules (an_item.Record z)) (sym (more_and_more rules r p.units us))
+        (front_encoded rules ends r (p.units ++ us) next.1
+        (subst (λ (z : List U). CanBeEncoded rules (an_item.Record (with_more r z)))
+        (next.4 ∙ sym (append_assoc p.units us next.1)) can)))
 
   -- a record that is open can be encoded
   pub open_encoded : EndsEverywhere rules → (o : OpenRecord Place U) (r : Record U) → IsOpen rules o r

@@ -1,19 +1,15 @@
-use Rattle.std.proofs.Common.{◌≡◌, ℕ, ◌+◌, ◌/◌, ◌%◌, ◌<◌, ◌≤◌, ◌^◌, List, [], ◌∷◌, ◌++◌, length, take, get_or, refl}
-use Rattle.std.proofs.Common.{sym, ap, ◌∙◌, subst, arith, append_assoc, length-append}
-use Rattle.std.specs.Prelude.{slice_index, codes, ◌==◌, true, false}
-use Rattle.std.proofs.lemmas.Bool.{false≢true}
-use Rattle.std.specs.Fmt.{decimal}
+use Rattle.ws_text.proofs.Common.{◌≡◌, ℕ, ◌+◌, ◌/◌, ◌%◌, ◌<◌, ◌≤◌, ◌^◌, List, [], ◌∷◌, ◌++◌, length, take, get_or, refl}
+use Rattle.ws_text.proofs.Common.{sym, ap, ◌∙◌, subst, arith, append_assoc, length-append, slice_index, codes, ◌==◌}
+use Rattle.ws_text.proofs.Common.{true, false, false≢true, decimal, append-nil, take_more, encode_upper, Output, Open}
+use Rattle.ws_text.proofs.Common.{Failed, hex_behind_blank, Prints}
+use Rattle.hex.specs.Hex.{encode_with}
 use Rattle.std.proofs.lemmas.Fmt.{decimal_digit, decimal_step}
-use Rattle.std.proofs.lemmas.List.{append-nil, take_more, take-append-le}
-use Rattle.hex.specs.Hex.{encode_with, encode_upper}
+use Rattle.std.proofs.lemmas.List.{take-append-le}
 use Rattle.ws_code.specs.Device.{MayTake, WentOut, FailedAfter, FailedWithin}
 use Rattle.ws_code.proofs.DeviceLaws.{went_out_none, went_out_both}
 use Rattle.ws_code.proofs.Parts.{fails_last}
-use Rattle.ws_text.specs.declared.output.Output.{Output}
-use Rattle.ws_text.specs.declared.output.Output.TheVariants.{Open, Failed}
-use Rattle.ws_text.specs.ItemLines.{hex_behind_blank}
 use Rattle.ws_text.proofs.LineEnds.{filled}
-use Rattle.ws_text.specs.Printing.{IsOut, Prints}
+use Rattle.ws_text.specs.Printing.{IsOut}
 
 -- A text that goes out in parts.
 

@@ -1,39 +1,24 @@
-use Rattle.std.proofs.Common.{◌≡◌, inl, inr, ℕ, List, [], ◌∷◌, ◌++◌, true, false, refl, sym, ap, subst, ◌∙◌}
-use Rattle.std.specs.Prelude.{Option, Some, None}
-use Rattle.ws_code.specs.Code.{Rules}
-use Rattle.ws_telnet.specs.declared.token.Telnet.{Telnet}
-use Rattle.ws_record.specs.Encode.{CanBeEncoded}
-use Rattle.ws_record.specs.declared.opcode.Opcode.{Opcode}
-use Rattle.ws_record.specs.declared.record.Item.{Item}
-use Rattle.ws_record.specs.declared.record.Item.TheVariants as an_item
-use Rattle.ws_record.specs.declared.record.Record.{Record}
-use Rattle.ws_text.specs.declared.gathered.Gathered.{Gathered}
+use Rattle.ws_text.proofs.Common.{◌≡◌, inr, ℕ, List, [], ◌∷◌, ◌++◌, true, false, refl, sym, subst, ◌∙◌, Option, Some}
+use Rattle.ws_text.proofs.Common.{None, Rules, Telnet, CanBeEncoded, Opcode, Item, Record, OpenRecord, Adds, with_more}
+use Rattle.ws_text.proofs.Common.{Part, part, AreRead, IsOpen, Puts, Wording, EndsEverywhere}
 use Rattle.ws_text.specs.declared.line.LineUnits.{LineUnits}
-use Rattle.ws_text.specs.declared.line.Found.{Found}
-use Rattle.ws_text.specs.declared.line.Found.TheVariants as found
-use Rattle.ws_text.specs.declared.open_record.OpenRecord.{OpenRecord}
 use Rattle.ws_text.specs.declared.reading.Reading.{Reading}
-use Rattle.ws_text.specs.Items.{Adds, with_more}
-use Rattle.ws_text.specs.Parts.{Part}
-use Rattle.ws_text.specs.Parts.{Part as part}
-use Rattle.ws_text.specs.Reading.{AreRead, EndsIn, EndsInNoRecord, Holds, IsOpen, Puts, FoundAdds, Takes}
-use Rattle.ws_text.specs.Found.{Are, FoundSays}
-use Rattle.ws_text.specs.Wording.{Wording, EndsEverywhere}
+use Rattle.ws_text.specs.Reading.{Holds, EndsIn, FoundAdds, Takes}
+use Rattle.ws_text.specs.Found.{Are}
+use Rattle.ws_text.specs.declared.gathered.Gathered.{Gathered}
 use Rattle.ws_text.proofs.OneReading.{last_same, same_record}
 use Rattle.ws_text.proofs.OpenRecords.{open_encoded}
+use Rattle.ws_record.specs.declared.record.Item.TheVariants as an_item
+use Rattle.ws_text.specs.declared.line.Found.TheVariants as found
 
 -- Readings that grow by what is found in a line.
 
 module _ {Place U : Type 0} (rules : Rules Place U) where
   module _ (w : Wording U) where
-    -- what was found, under another name
-    pub takes_found : (s t : Found U) → s ≡ t → (from : List (Item U)) (r : Option (Reading Place U))
-        → Takes rules (FoundAdds rules w t from) r → Takes rules (FoundAdds rules w s from) r
-    takes_found s t e from r h = subst (λ (z : Found U). Takes rules (FoundAdds rules w z from) r) (sym e) h
-
     pub head_read : (items : Gathered (Item U)) (o : OpenRecord Place U) (from : List (Item U)) (flags : ℕ)
         (opcode : Opcode) → Holds items from → IsOpen rules o (record { flags = flags; opcode = opcode; body = [] })
-        → Takes rules (FoundAdds rules w (found.Head flags opcode) from) (Some (record { items = items; last = Some o }))
+        → Takes rules (FoundAdds rules w (found.Head flags opcode) from)
+        (Some (record { items = items; last = Some o }))
     head_read items o from flags opcode held is = (
       from ++ an_item.Record (record { flags = flags; opcode = opcode; body = [] }) ∷ [],
       (part.Head flags opcode, refl, refl),
@@ -51,7 +36,8 @@ module _ {Place U : Type 0} (rules : Rules Place U) where
     pub units_read : EndsEverywhere rules → (reading : Reading Place U) (o new : OpenRecord Place U)
         (units : LineUnits U) (from : List (Item U)) → AreRead rules reading from → reading.last ≡ Some o
         → Puts rules (Are w units) o new true
-        → Takes rules (FoundAdds rules w (found.Units units) from) (Some (record { items = reading.items; last = Some new }))
+        → Takes rules (FoundAdds rules w (found.Units units) from)
+        (Some (record { items = reading.items; last = Some new }))
     units_read ends reading o new units from are e h =
         let last = subst (λ (z : Option (OpenRecord Place U)). EndsIn rules are.before z from) e are.last in
         let is = h.2 last.0 last.1 in

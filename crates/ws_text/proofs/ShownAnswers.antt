@@ -1,21 +1,10 @@
-use Rattle.std.proofs.Common.{◌≡◌, ℕ, ◌+◌, ◌/◌, ◌%◌, List, [], ◌∷◌, ◌++◌, refl, sym, ap, ◌∙◌, arith, append_assoc}
-use Rattle.std.specs.Prelude.{codes}
-use Rattle.std.specs.List.{AllByRecursion, flat_map, join_with_byte}
-use Rattle.std.specs.Fmt.{decimal}
-use Rattle.hex.specs.Hex.{encode_upper}
-use Rattle.ws_code.specs.declared.address.TheConstants.{COLUMNS}
-use Rattle.ws_record.specs.declared.record.Item.{Item}
+use Rattle.ws_text.proofs.Common.{◌≡◌, ℕ, ◌+◌, ◌/◌, ◌%◌, List, [], ◌∷◌, ◌++◌, refl, sym, ap, ◌∙◌, arith, append_assoc}
+use Rattle.ws_text.proofs.Common.{codes, AllByRecursion, flat_map, join_with_byte, decimal, encode_upper, COLUMNS, Item}
+use Rattle.ws_text.proofs.Common.{AnswerPart, Head, Byte, At, AreItems, AreUnits, one, run, Run, Bytes, Other, run_line}
+use Rattle.ws_text.proofs.Common.{runs_of, runs_with, answer_wording}
 use Rattle.ws_stream.specs.AnswerParts.{answer_rules, IsPart}
-use Rattle.ws_stream.specs.declared.answer_part.AnswerPart.{AnswerPart}
-use Rattle.ws_stream.specs.declared.answer_part.AnswerPart.TheVariants.{Head, Byte, At}
-use Rattle.ws_text.specs.AnswerLines.{answer_text, part_text, run_line, runs_of, runs_with}
-use Rattle.ws_text.specs.AnswerWords.{answer_wording}
-use Rattle.ws_text.specs.Items.{AreItems}
+use Rattle.ws_text.specs.AnswerLines.{answer_text, part_text}
 use Rattle.ws_text.specs.Shown.{ShowsAnswers}
-use Rattle.ws_text.specs.TextLines.{AreUnits}
-use Rattle.ws_text.specs.TextLines.AreUnits.{one, run}
-use Rattle.ws_text.specs.Wording.{Run}
-use Rattle.ws_text.specs.Wording.Run.{Bytes, Other}
 use Rattle.ws_text.proofs.ShownBytes.{AreFrom, AreWords, literal}
 use Rattle.ws_text.proofs.ShownNumbers.{cell_back, row_from, column_from, hex_back, byte_back, byte_from}
 use Rattle.ws_text.proofs.ShownLines.{Printed, run_units, IsRunRight}

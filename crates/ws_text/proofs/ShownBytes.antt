@@ -1,15 +1,12 @@
-use Rattle.std.proofs.Common.{◌≡◌, inl, inr, ℕ, zero, suc, ◌-◌, ◌≤◌, ◌<◌, ◌==◌, List, [], ◌∷◌, ◌++◌, Bool, true}
-use Rattle.std.proofs.Common.{false, length, take, refl, sym, ap, ◌∙◌, arith, append_assoc}
-use Rattle.std.specs.Prelude.{nat_lt, ◌&&◌, if◌then◌else◌, slice_index}
-use Rattle.std.specs.List.{All, AllByRecursion, flat_map, join_with_byte, list_all}
+use Rattle.ws_text.proofs.Common.{◌≡◌, inl, inr, ℕ, zero, suc, ◌-◌, ◌≤◌, ◌<◌, ◌==◌, List, [], ◌∷◌, ◌++◌, Bool, true}
+use Rattle.ws_text.proofs.Common.{false, length, take, refl, sym, ap, ◌∙◌, arith, append_assoc, nat_lt, ◌&&◌}
+use Rattle.ws_text.proofs.Common.{if◌then◌else◌, slice_index, AllByRecursion, flat_map, join_with_byte, list_all, lines}
+use Rattle.ws_text.proofs.Common.{lines_of_parts, strip_carriage_return, and_parts, ltb-true, eqb_tells, words_of}
+use Rattle.std.specs.List.{All}
 use Rattle.std.specs.Str.{IsAscii, IsUtf8}
-use Rattle.std.specs.Str.Lines.{lines, lines_of_parts, strip_carriage_return}
-use Rattle.std.proofs.lemmas.Bool.{and_parts, ltb-true}
-use Rattle.std.proofs.lemmas.Bool.Decides.{eqb_tells}
 use Rattle.std.proofs.lemmas.List.Elements.{All-from_recursion}
 use Rattle.std.proofs.lemmas.List.Splits.{slice_split_at, slice_split_none}
 use Rattle.std.proofs.lemmas.Str.{IsUtf8-from_ascii}
-use Rattle.ws_text.specs.Words.{words_of}
 use Rattle.ws_text.proofs.LineEnds.{split_some}
 
 -- Lines of printed words.

@@ -1,38 +1,25 @@
-use Rattle.std.proofs.Common.{◌≡◌, inl, inr, ℕ, ◌+◌, ◌/◌, ◌%◌, ◌<◌, ◌==◌, List, [], ◌∷◌, ◌++◌, true, false, length}
-use Rattle.std.proofs.Common.{map, refl, sym, ap, ◌∙◌, arith, append_assoc}
-use Rattle.std.specs.Prelude.{codes, Option, Some, None, nat_le, nat_lt, ◌||◌}
-use Rattle.std.specs.List.{AllByRecursion, flat_map, join_with_byte, list_all}
-use Rattle.std.specs.Fmt.{decimal}
-use Rattle.std.proofs.lemmas.Bool.{and_parts, false≢true, ltb-true}
-use Rattle.std.proofs.lemmas.Bool.Decides.{eqb_tells}
-use Rattle.std.proofs.lemmas.List.{append-nil}
-use Rattle.hex.specs.Hex.{encode_upper}
-use Rattle.ws_code.specs.Code.{AreBytes}
-use Rattle.ws_code.specs.TwoBytes.{two_bytes}
-use Rattle.ws_code.specs.declared.address.TheConstants.{COLUMNS}
+use Rattle.ws_text.proofs.Common.{◌≡◌, ℕ, ◌+◌, ◌/◌, ◌%◌, ◌<◌, List, [], ◌∷◌, ◌++◌, true, map, refl, sym, ap, ◌∙◌, arith}
+use Rattle.ws_text.proofs.Common.{append_assoc, codes, Option, Some, None, nat_lt, AllByRecursion, flat_map}
+use Rattle.ws_text.proofs.Common.{join_with_byte, list_all, decimal, and_parts, ltb-true, append-nil, encode_upper}
+use Rattle.ws_text.proofs.Common.{two_bytes, COLUMNS, Element, Item, AreItems, Run, Bytes, Other, words_text, ArePairs}
+use Rattle.ws_text.proofs.Common.{AreField, format_and_controls, element_wording, AreUnits, one, run, AreFill, CELLS}
 use Rattle.ws_stream.specs.Elements.{element_rules, IsElement}
+use Rattle.std.proofs.Common.{nat_le}
+use Rattle.ws_code.specs.Code.{AreBytes}
 use Rattle.ws_stream.specs.FieldOrder.{FieldOrder, IsFieldOrder, HasFormat, is_control}
 use Rattle.ws_stream.specs.Parts.{is_kind}
-use Rattle.ws_stream.specs.declared.element.Element.{Element}
 use Rattle.ws_stream.specs.declared.element.Element.TheVariants.{ClearUnit, ClearFormat, Write, ReadInput, ReadMdt}
 use Rattle.ws_stream.specs.declared.element.Element.TheVariants.{ReadMdtAlternate, Soh, Ra, Ea, Sba, Ic, Mc, Sf, Put}
 use Rattle.ws_text.specs.declared.kind.Kind.TheVariants as kind
-use Rattle.ws_record.specs.declared.record.Item.{Item}
-use Rattle.ws_text.specs.Items.{AreItems}
 use Rattle.ws_text.specs.Shown.{Shows}
-use Rattle.ws_text.specs.Wording.{Run}
-use Rattle.ws_text.specs.Wording.Run.{Bytes, Other}
-use Rattle.ws_text.specs.ItemLines.{item_text, run_line, runs_of, runs_with}
-use Rattle.ws_text.specs.ItemLines.{element_text, field_text, format_text, words_text}
-use Rattle.ws_text.specs.ElementWords.{ArePairs, AreField, format_and_controls, element_wording}
-use Rattle.ws_text.specs.TextLines.{AreUnits}
-use Rattle.ws_text.specs.TextLines.AreUnits.{one, run}
+use Rattle.ws_text.specs.ItemLines.{item_text, run_line, runs_of, runs_with, element_text, field_text, format_text}
 use Rattle.ws_text.proofs.ShownBytes.{AreFrom, AreWords, literal}
 use Rattle.ws_text.proofs.ShownNumbers.{number_back, decimal_from, cell_back, row_from, column_from, hex_from, hex_back}
-use Rattle.ws_text.proofs.ShownNumbers.{byte_back, byte_from, pair_back, pair_from}
-use Rattle.ws_text.proofs.ShownNumbers.{hex_words, hex_words_back, hex_words_from}
+use Rattle.ws_text.proofs.ShownNumbers.{byte_back, byte_from, pair_back, pair_from, hex_words, hex_words_back}
+use Rattle.ws_text.proofs.ShownNumbers.{hex_words_from}
 use Rattle.ws_text.proofs.ShownLines.{Printed, run_units, IsRunRight}
 use Rattle.ws_text.proofs.ShownItems.{all_shown_read}
+use Rattle.std.proofs.lemmas.Bool.Decides.{nat_tests}
 
 -- Printed elements are read back.
 
@@ -101,32 +88,20 @@ field_joined f =
     ∙ ap (λ z. codes "SF " ++ z) (format_joined f.format f.controls (byte_word f.attribute ++ 32 ∷ decimal f.length)
     ∙ sym (simp append_assoc))
 
-controls_joined : (a b : List ℕ) → a ++ 32 ∷ b ≡ a ++ codes " " ++ b
-controls_joined a b = sym (append_assoc a (32 ∷ []) b)
-
-fill_joined : (a b c : List ℕ) → a ++ 32 ∷ (b ++ 32 ∷ c) ≡ a ++ codes " " ++ b ++ codes " " ++ c
-fill_joined a b c = sym (simp append_assoc)
-
 pub element_joined : (e : Element) → join_with_byte 32 (element_name e ∷ element_rest e) ≡ element_text e
 element_joined ClearUnit = refl
 element_joined ClearFormat = refl
-element_joined (Write c d) = ap (λ z. codes "WRITE " ++ z) (controls_joined (byte_word c) (byte_word d))
-element_joined (ReadInput c d) = ap (λ z. codes "READ-INPUT " ++ z) (controls_joined (byte_word c) (byte_word d))
-element_joined (ReadMdt c d) = ap (λ z. codes "READ-MDT " ++ z) (controls_joined (byte_word c) (byte_word d))
-element_joined (ReadMdtAlternate c d) =
-    ap (λ z. codes "READ-MDT-ALTERNATE " ++ z) (controls_joined (byte_word c) (byte_word d))
+element_joined (Write c d) = ap (λ z. codes "WRITE " ++ z) (sym (simp append_assoc))
+element_joined (ReadInput c d) = ap (λ z. codes "READ-INPUT " ++ z) (sym (simp append_assoc))
+element_joined (ReadMdt c d) = ap (λ z. codes "READ-MDT " ++ z) (sym (simp append_assoc))
+element_joined (ReadMdtAlternate c d) = ap (λ z. codes "READ-MDT-ALTERNATE " ++ z) (sym (simp append_assoc))
 element_joined (Soh []) = refl
 element_joined (Soh (b ∷ bytes)) = refl
-element_joined (Ra to byte) = ap (λ z. codes "RA " ++ z)
-    (fill_joined (decimal (to / COLUMNS + 1)) (decimal (to % COLUMNS + 1)) (byte_word byte))
-element_joined (Ea to kinds) = ap (λ z. codes "EA " ++ z)
-    (fill_joined (decimal (to / COLUMNS + 1)) (decimal (to % COLUMNS + 1)) (encode_upper kinds))
-element_joined (Sba to) = ap (λ z. codes "SBA " ++ z)
-    (controls_joined (decimal (to / COLUMNS + 1)) (decimal (to % COLUMNS + 1)))
-element_joined (Ic to) = ap (λ z. codes "IC " ++ z)
-    (controls_joined (decimal (to / COLUMNS + 1)) (decimal (to % COLUMNS + 1)))
-element_joined (Mc to) = ap (λ z. codes "MC " ++ z)
-    (controls_joined (decimal (to / COLUMNS + 1)) (decimal (to % COLUMNS + 1)))
+element_joined (Ra to byte) = ap (λ z. codes "RA " ++ z) (sym (simp append_assoc))
+element_joined (Ea to kinds) = ap (λ z. codes "EA " ++ z) (sym (simp append_assoc))
+element_joined (Sba to) = ap (λ z. codes "SBA " ++ z) (sym (simp append_assoc))
+element_joined (Ic to) = ap (λ z. codes "IC " ++ z) (sym (simp append_assoc))
+element_joined (Mc to) = ap (λ z. codes "MC " ++ z) (sym (simp append_assoc))
 element_joined (Sf f) = field_joined f
 element_joined (Put byte) = refl
 
@@ -169,15 +144,7 @@ field_back f h = record {
 
 -- attribute types
 kind_fits : (k : ℕ) → is_kind k ≡ true → k < 256
-kind_fits k e = elim (eqb_tells k 0) [
-  | inl none ↦ omega (arith, none.1)
-  | inr other ↦ elim (eqb_tells k 255) [
-    | inl all ↦ omega (arith, all.1)
-    | inr bad ↦
-        let no : false ≡ true = sym (ap (λ b. b || (k == 255)) other.0 ∙ bad.0) ∙ e in
-        absurd (false≢true no)
-  ]
-]
+kind_fits k e = grind (arith, nat_tests)
 
 kinds_are_bytes : (kinds : List ℕ) → list_all is_kind kinds ≡ true → AreBytes kinds
 kinds_are_bytes [] e = tt
@@ -222,6 +189,9 @@ rest_from (Sf f) h = field_from (all_pairs f) (byte_word f.attribute ∷ decimal
 rest_from (Put byte) h = (byte_from byte h.0, tt)
 
 -- and they say the element
+fill_back : (to : ℕ) (last : List ℕ) → to < CELLS → AreFill (cell_words to (last ∷ [])) to last
+fill_back to last h = (_, _, refl, cell_back to h)
+
 pub element_back : (e : Element) → IsElement e → AreUnits element_wording (element_name e) (element_rest e) (e ∷ [])
 element_back ClearUnit h = one ClearUnit (kind.ClearUnit, refl, (refl, refl)) refl
 element_back ClearFormat h = one ClearFormat (kind.ClearFormat, refl, (refl, refl)) refl
@@ -236,19 +206,11 @@ element_back (ReadMdtAlternate c d) h =
     (kind.ReadMdtAlternate, refl, ((c, d), (_, _, refl, byte_back c h.0, byte_back d h.1), refl)) refl
 element_back (Soh bytes) h = one (Soh bytes) (kind.Soh, refl, (bytes, hex_words_back bytes h.1, h.0, refl)) refl
 element_back (Ra to byte) h =
-    one (Ra to byte) (
-      kind.Ra,
-      refl,
-      ((to, byte), (byte_word byte, (_, _, refl, cell_back to h.0), byte_back byte h.1.0, h.1), refl),
-    ) refl
+    one (Ra to byte) (kind.Ra, refl, ((to, byte), (_, fill_back to _ h.0, byte_back byte h.1.0, h.1), refl)) refl
 element_back (Ea to kinds) h =
     let bytes = kinds_are_bytes kinds h.1.2 in
-    let some : 0 < length kinds = omega (arith, h.1.0) in
-    one (Ea to kinds) (
-      kind.Ea,
-      refl,
-      ((to, kinds), (encode_upper kinds, (_, _, refl, cell_back to h.0), hex_back kinds bytes some, h.1), refl),
-    ) refl
+    let hex = hex_back kinds bytes (omega (arith, h.1.0)) in
+    one (Ea to kinds) (kind.Ea, refl, ((to, kinds), (_, fill_back to _ h.0, hex, h.1), refl)) refl
 element_back (Sba to) h = one (Sba to) (kind.Sba, refl, (to, (_, _, refl, cell_back to h), refl)) refl
 element_back (Ic to) h = one (Ic to) (kind.Ic, refl, (to, (_, _, refl, cell_back to h), refl)) refl
 element_back (Mc to) h = one (Mc to) (kind.Mc, refl, (to, (_, _, refl, cell_back to h), refl)) refl

@@ -1,25 +1,16 @@
-use Rattle.std.proofs.Common.{◌≡◌, ℕ, ◌^◌, ◌<◌, List, [], ◌∷◌, ◌++◌, length, get_or, map, refl, sym, ap, subst}
-use Rattle.std.proofs.Common.{◌∙◌, arith, append_assoc, length-append}
-use Rattle.std.specs.Prelude.{codes}
-use Rattle.std.specs.List.{AllByRecursion, flat_map}
-use Rattle.std.specs.Fmt.{decimal}
-use Rattle.std.specs.Str.Lines.{lines}
-use Rattle.std.proofs.lemmas.Grind.{flat_map-append}
-use Rattle.std.proofs.lemmas.List.{append-nil}
-use Rattle.ws_code.specs.Code.{Rules, IsChain, place_after, spelling_of}
-use Rattle.ws_record.specs.Encode.{CanBeEncoded, CanAllBeEncoded, IsInRange}
-use Rattle.ws_record.specs.declared.opcode.Opcode.{Opcode}
-use Rattle.ws_record.specs.declared.record.Item.{Item}
-use Rattle.ws_record.specs.declared.record.Item.TheVariants as an_item
-use Rattle.ws_text.specs.ItemLines.{head_text}
-use Rattle.ws_text.specs.Items.{AreItems, IsScreen, Leads}
+use Rattle.ws_text.proofs.Common.{◌≡◌, ℕ, ◌^◌, ◌<◌, List, [], ◌∷◌, ◌++◌, get_or, map, refl, sym, ap, subst, ◌∙◌, arith}
+use Rattle.ws_text.proofs.Common.{append_assoc, codes, AllByRecursion, flat_map, decimal, lines, append-nil, Rules}
+use Rattle.ws_text.proofs.Common.{IsChain, CanBeEncoded, CanAllBeEncoded, Opcode, Item, head_text, AreItems, IsScreen}
+use Rattle.ws_text.proofs.Common.{Leads, Wording, Run, EndsEverywhere, part}
+use Rattle.ws_record.specs.Encode.{IsInRange}
 use Rattle.ws_text.specs.Shown.{ShowsItems, shown_text}
-use Rattle.ws_text.specs.Wording.{Wording, Run, EndsEverywhere}
-use Rattle.ws_text.specs.Parts.{Part as part}
 use Rattle.ws_text.proofs.ShownBytes.{line_of, AreFrom, ended, lines_back}
 use Rattle.ws_text.proofs.ShownLines.{Printed, run_words, run_units, IsRunRight, run_joined, run_line_from, run_says}
 use Rattle.ws_text.proofs.ShownLines.{head_words, head_line_from, head_says}
 use Rattle.ws_text.proofs.ShownTelnet.{telnet_words, telnet_joined, telnet_line_from, telnet_says}
+use Rattle.ws_record.specs.declared.record.Item.TheVariants as an_item
+use Rattle.ws_text.proofs.Bodies.{front_encoded}
+use Rattle.ws_text.proofs.ItemsRead.{leads_append}
 
 -- Items that are shown are read back.
 
@@ -71,25 +62,8 @@ module _ {Place U : Type 0} (rules : Rules Place U) (ends : EndsEverywhere rules
   item_from place (an_item.Telnet t) at can range = (telnet_line_from place t at range, tt)
 
   -- what its lines make of the items before it
-  chain_front : (place : Place) (us vs : List U) → IsChain rules place (us ++ vs)
-      → IsChain rules place us
-  chain_front place [] vs c = tt
-  chain_front place (u ∷ us) vs c = (c.0, chain_front (rules.after u) us vs c.1)
-
   abbrev made : ℕ → Opcode → List U → Item U
   made flags opcode body = an_item.Record (record { flags = flags; opcode = opcode; body = body })
-
-  front_encoded : (flags : ℕ) (opcode : Opcode) (us vs : List U)
-      → CanBeEncoded rules (made flags opcode (us ++ vs)) → CanBeEncoded rules (made flags opcode us)
-  front_encoded flags opcode us vs can = (
-    record { chain = chain_front rules.first us vs can.0.chain; ends = ends (place_after rules rules.first us) },
-    omega (
-      arith,
-      can.1,
-      ap length (flat_map-append rules.spelling us vs),
-      length-append (spelling_of rules us) (spelling_of rules vs),
-    ),
-  )
 
   other_first : (line : List ℕ) → (get_or line 0 0 ≡ 115 → ⊥) → IsScreen line → ⊥
   other_first line h e = h (ap (λ z. get_or z 0 0) e)
@@ -113,7 +87,8 @@ module _ {Place U : Type 0} (rules : Rules Place U) (ends : EndsEverywhere rules
             record { flags = flags; opcode = opcode; body = us },
             refl,
             refl,
-            front_encoded flags opcode (us ++ run_units rules w run) (flat_map (run_units rules w) runs) all,
+            front_encoded rules ends (record { flags = flags; opcode = opcode; body = [] })
+                (us ++ run_units rules w run) (flat_map (run_units rules w) runs) all,
           ),
         ),
         subst (λ (z : List U). Leads rules w (run_lines runs) (before ++ made flags opcode (us
@@ -142,12 +117,6 @@ module _ {Place U : Type 0} (rules : Rules Place U) (ends : EndsEverywhere rules
     refl,
   )
 
-  leads_append : (a b : List (List ℕ)) (from middle to : List (Item U)) → Leads rules w a from middle
-      → Leads rules w b middle to
-      → Leads rules w (a ++ b) from to
-  leads_append [] b from middle to x y = subst (λ (z : List (Item U)). Leads rules w b z to) x y
-  leads_append (line ∷ a) b from middle to x y = (x.0, x.1, x.2, leads_append a b x.0 middle to x.3 y)
-
   -- and those of all items
   abbrev Placed : Type 0
   Placed = ℕ × Item U
@@ -173,7 +142,7 @@ module _ {Place U : Type 0} (rules : Rules Place U) (ends : EndsEverywhere rules
       let rest = all_lead placed (before ++ x.1 ∷ []) (others x placed h) in
       let same = append_assoc before (x.1 ∷ []) (items_of placed) in
       let all = before ++ items_of (x ∷ placed) in
-      leads_append (printed_lines x.0 x.1) (all_lines placed) before (before ++ x.1 ∷ []) all
+      leads_append rules w (printed_lines x.0 x.1) (all_lines placed) before (before ++ x.1 ∷ []) all
       (leads_item x.0 x.1 before h.places.0 h.encoded.0 h.in_range.0)
       (subst (λ (z : List (Item U)). Leads rules w (all_lines placed) (before ++ x.1 ∷ []) z) same rest)
 

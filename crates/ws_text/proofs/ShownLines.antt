@@ -1,31 +1,13 @@
-use Rattle.std.proofs.Common.{◌≡◌, inl, ℕ, ◌^◌, ◌<◌, List, [], ◌∷◌, ◌++◌, length, map, refl}
-use Rattle.std.proofs.Common.{arith}
-use Rattle.std.specs.Prelude.{codes}
-use Rattle.std.specs.List.{AllByRecursion, flat_map}
-use Rattle.std.specs.Fmt.{decimal}
-use Rattle.hex.specs.Hex.{encode_upper}
-use Rattle.ws_code.specs.Code.{Rules}
-use Rattle.ws_code.specs.DataByte.{IsData}
-use Rattle.ws_code.specs.TwoBytes.{two_bytes}
-use Rattle.ws_record.specs.Grammar.{opcode_byte}
-use Rattle.ws_record.specs.declared.opcode.Opcode.{Opcode}
-use Rattle.ws_record.specs.declared.record.Item.{Item}
-use Rattle.ws_record.specs.declared.record.Item.TheVariants as an_item
-use Rattle.ws_record.specs.declared.record.Record.{Record}
-use Rattle.ws_telnet.specs.declared.token.Telnet.{Telnet}
-use Rattle.ws_text.specs.ItemLines.{head_text, telnet_text}
-use Rattle.ws_text.specs.Wording.{Wording, Run}
-use Rattle.ws_text.specs.Wording.Run.{Bytes, Other}
-use Rattle.ws_text.specs.TextLines.{IsLine, AreUnits}
-use Rattle.ws_text.specs.TextLines.AreUnits.{run}
-use Rattle.ws_text.specs.TextLines.IsHeadText.{long}
-use Rattle.ws_text.specs.TextLines.IsWorded.{item, indented}
-use Rattle.ws_text.specs.TextLines.Means.{worded}
-use Rattle.ws_text.specs.Parts.{Part as part}
+use Rattle.ws_text.proofs.Common.{◌≡◌, inl, ℕ, ◌^◌, ◌<◌, List, [], ◌∷◌, ◌++◌, length, map, refl, arith, codes}
+use Rattle.ws_text.proofs.Common.{AllByRecursion, flat_map, decimal, encode_upper, Rules, IsData, two_bytes}
+use Rattle.ws_text.proofs.Common.{opcode_byte, Opcode, Item, Record, Telnet, head_text, Wording, Run, Bytes, Other}
+use Rattle.ws_text.proofs.Common.{IsLine, AreUnits, run, long, item, indented, worded, part}
+use Rattle.ws_text.specs.ItemLines.{telnet_text}
 use Rattle.ws_record.proofs.Encodings.{opcode_fits}
 use Rattle.ws_text.proofs.ShownBytes.{line_of, AreFrom, AreWords, literal, words_back, line_from, is_text}
 use Rattle.ws_text.proofs.ShownNumbers.{small_back, place_back, decimal_from, hex_from, hex_back, pair_back, pair_from}
 use Rattle.ws_text.proofs.ShownNumbers.{data_are_bytes}
+use Rattle.ws_record.specs.declared.record.Item.TheVariants as an_item
 
 -- Printed lines are read back.
 
@@ -112,22 +94,12 @@ head_words place flags opcode = codes "at" ∷ head_rest place flags opcode
 
 head_from : (place flags : ℕ) (opcode : Opcode) → place < 2 ^ 64 → flags < 65536
     → AreWords (head_rest place flags opcode)
-head_from place flags opcode p f = (
-  decimal_from place p,
-  (
-    literal (codes "record") refl,
-    (
-      literal (codes "flags") refl,
-      (
-        pair_from flags f,
-        (
-          literal (codes "opcode") refl,
-          (decimal_from (opcode_byte opcode) (omega (arith, opcode_fits opcode)), tt),
-        ),
-      ),
-    ),
-  ),
-)
+head_from place flags opcode p f =
+    let number = decimal_from (opcode_byte opcode) (omega (arith, opcode_fits opcode)) in
+    let first = literal (codes "record") refl in
+    let second = literal (codes "flags") refl in
+    let third = literal (codes "opcode") refl in
+    (decimal_from place p, (first, (second, (pair_from flags f, (third, (number, tt))))))
 
 pub head_line_from : (place flags : ℕ) (opcode : Opcode) → place < 2 ^ 64 → flags < 65536
     → AreFrom 32 (line_of (head_words place flags opcode))

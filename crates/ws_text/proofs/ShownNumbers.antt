@@ -1,19 +1,14 @@
-use Rattle.std.proofs.Common.{◌≡◌, inl, inr, ℕ, zero, suc, ◌+◌, ◌/◌, ◌%◌, ◌^◌, ◌≤◌, ◌<◌, List, [], ◌∷◌}
-use Rattle.std.proofs.Common.{Bool, true, ◌&&◌, length, refl, sym, ap, ◌∙◌, arith}
-use Rattle.std.specs.Prelude.{slice_index, nat_lt}
-use Rattle.std.specs.List.{AllByRecursion}
-use Rattle.std.specs.Fmt.{decimal}
+use Rattle.ws_text.proofs.Common.{◌≡◌, inl, inr, ℕ, zero, suc, ◌+◌, ◌/◌, ◌%◌, ◌^◌, ◌≤◌, ◌<◌, List, [], ◌∷◌, Bool, true}
+use Rattle.ws_text.proofs.Common.{◌&&◌, length, refl, sym, ap, ◌∙◌, arith, slice_index, nat_lt, AllByRecursion, decimal}
+use Rattle.ws_text.proofs.Common.{and_parts, ltb-true, encode_upper, upper_digits, IsData, two_bytes, COLUMNS, IsNumber}
+use Rattle.ws_text.proofs.Common.{IsSmall, IsHex, IsHexByte, IsHexPair, IsCell, CELLS}
+use Rattle.std.proofs.lemmas.Bool.{cases_lt}
+use Rattle.hex.specs.Hex.{IsBytes, encode_with}
 use Rattle.std.specs.Str.Parse.{AllDigits}
-use Rattle.std.proofs.lemmas.Bool.{and_parts, cases_lt, ltb-true}
 use Rattle.std.proofs.lemmas.Fmt.{decimal_is_IsNumeral, length-decimal-le}
 use Rattle.std.proofs.lemmas.Str.Parse.{digit_from_value}
-use Rattle.hex.specs.Hex.{encode_upper, encode_with, upper_digits, IsBytes}
 use Rattle.hex.proofs.HexLemmas.{decode_of-encode_upper, length-encode_with}
 use Rattle.ws_code.specs.Code.{AreBytes}
-use Rattle.ws_code.specs.DataByte.{IsData}
-use Rattle.ws_code.specs.TwoBytes.{two_bytes}
-use Rattle.ws_code.specs.declared.address.TheConstants.{CELLS, COLUMNS}
-use Rattle.ws_text.specs.Words.{IsNumber, IsSmall, IsHex, IsHexByte, IsHexPair, IsCell}
 use Rattle.ws_text.specs.TextLines.{IsPlace}
 use Rattle.ws_text.specs.ElementWords.{AreBytes as AreBytesOf}
 use Rattle.ws_text.proofs.ShownBytes.{AreFrom, AreWords}

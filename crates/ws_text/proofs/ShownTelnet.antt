@@ -1,26 +1,14 @@
-use Rattle.std.proofs.Common.{◌≡◌, inl, ℕ, ◌^◌, ◌<◌, List, [], ◌∷◌, ◌++◌, refl, sym, ap}
-use Rattle.std.proofs.Common.{arith, append_assoc}
-use Rattle.std.specs.Prelude.{codes, Some}
-use Rattle.std.specs.Fmt.{decimal}
-use Rattle.std.proofs.lemmas.List.{append-nil}
-use Rattle.ws_telnet.specs.Token.{IsTelnet}
+use Rattle.ws_text.proofs.Common.{◌≡◌, inl, ℕ, ◌^◌, ◌<◌, List, [], ◌∷◌, ◌++◌, refl, sym, ap, arith, append_assoc, codes}
+use Rattle.ws_text.proofs.Common.{Some, decimal, append-nil, Verb, Telnet, Command, Negotiate, Sub, hex_behind_blank}
+use Rattle.ws_text.proofs.Common.{IsTelnetText, IsLine, Wording, item, worded, part, look_up, commands, verbs}
 use Rattle.ws_telnet.specs.declared.token.CommandCode.{CommandCode}
+use Rattle.ws_telnet.specs.Token.{IsTelnet}
 use Rattle.ws_telnet.specs.declared.token.CommandCode.TheVariants.{Nop, DataMark, Break, InterruptProcess, AbortOutput}
 use Rattle.ws_telnet.specs.declared.token.CommandCode.TheVariants.{AreYouThere, EraseCharacter, EraseLine, GoAhead}
-use Rattle.ws_telnet.specs.declared.token.Verb.{Verb}
 use Rattle.ws_telnet.specs.declared.token.Verb.TheVariants.{Will, Wont, Do, Dont}
-use Rattle.ws_telnet.specs.declared.token.Telnet.{Telnet}
-use Rattle.ws_telnet.specs.declared.token.Telnet.TheVariants.{Command, Option as Negotiate, Sub}
-use Rattle.ws_text.specs.ItemLines.{hex_behind_blank, command_name, verb_name, telnet_name}
-use Rattle.ws_text.specs.Names.{look_up, commands, verbs}
-use Rattle.ws_text.specs.TextLines.{IsTelnetText, IsLine}
-use Rattle.ws_text.specs.Wording.{Wording}
-use Rattle.ws_text.specs.TextLines.IsWorded.{item}
-use Rattle.ws_text.specs.TextLines.Means.{worded}
-use Rattle.ws_text.specs.Parts.{Part as part}
+use Rattle.ws_text.specs.ItemLines.{command_name, verb_name, telnet_name}
 use Rattle.ws_text.proofs.ShownBytes.{line_of, AreFrom, AreWords, literal, words_back, line_from, is_text}
-use Rattle.ws_text.proofs.ShownNumbers.{small_back, place_back, decimal_from}
-use Rattle.ws_text.proofs.ShownNumbers.{hex_words, hex_words_back, hex_words_from}
+use Rattle.ws_text.proofs.ShownNumbers.{small_back, place_back, decimal_from, hex_words, hex_words_back, hex_words_from}
 
 -- Printed Telnet commands are read back.
 

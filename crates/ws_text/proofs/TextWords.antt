@@ -1,17 +1,9 @@
-use Rattle.std.proofs.Common.{◌≡◌, ℕ, List, [], ◌∷◌, ◌++◌, Bool, true, false, ◌==◌}
-use Rattle.std.proofs.Common.{length, get_or, drop, Bor, refl, sym, ap, subst, ◌∙◌, arith}
-use Rattle.std.specs.Prelude.{codes}
-use Rattle.std.specs.Prelude.{Option, Some, None}
-use Rattle.ws_text.specs.Words.{words_of}
-use Rattle.ws_text.specs.Parts.{Part}
-use Rattle.ws_text.specs.Parts.{Part as part}
-use Rattle.ws_text.specs.TextLines.{AreTyped, AreUnits, IsWorded, Means}
-use Rattle.ws_text.specs.TextLines.AreUnits.{one, run}
-use Rattle.ws_text.specs.TextLines.Means.{empty, comment, typed, worded}
-use Rattle.ws_text.specs.Wording.{Wording, IsClear}
+use Rattle.ws_text.proofs.Common.{◌≡◌, ℕ, List, [], ◌∷◌, ◌++◌, Bool, true, false, ◌==◌, length, get_or, drop, Bor, refl}
+use Rattle.ws_text.proofs.Common.{sym, ap, subst, ◌∙◌, arith, codes, Option, Some, None, words_of, Part, part, AreTyped}
+use Rattle.ws_text.proofs.Common.{AreUnits, IsWorded, Means, one, run, empty, comment, typed, worded, Wording, IsClear}
+use Rattle.ws_text.proofs.Common.{false≢true}
 use Rattle.ws_text.proofs.LineWords.{indented_says, IsTextStripped}
 use Rattle.ws_text.proofs.LineEnds.{is_none}
-use Rattle.std.proofs.lemmas.Bool.{false≢true}
 
 -- Lines of characters.
 

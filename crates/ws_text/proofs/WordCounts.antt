@@ -1,15 +1,8 @@
-use Rattle.std.proofs.Common.{inl, inr, ℕ, ◌≤◌, List, length, ap, arith}
-use Rattle.ws_telnet.specs.declared.token.Telnet.{Telnet}
-use Rattle.ws_telnet.specs.declared.token.Telnet.TheVariants.{Command, Option as Negotiate, Sub}
-use Rattle.ws_record.specs.declared.opcode.Opcode.{Opcode}
-use Rattle.ws_text.specs.Parts.{Part}
-use Rattle.ws_text.specs.Parts.{Part as part}
-use Rattle.ws_text.specs.TextLines.{AreUnits, IsHeadText, IsItemLine, IsTelnetText, IsWorded}
-use Rattle.ws_text.specs.TextLines.AreUnits.{one, run}
-use Rattle.ws_text.specs.TextLines.IsHeadText.{short, long}
-use Rattle.ws_text.specs.TextLines.IsWorded.{item, indented}
+use Rattle.ws_text.proofs.Common.{inl, inr, ℕ, ◌≤◌, List, length, ap, arith, Telnet, Command, Negotiate, Sub, Opcode}
+use Rattle.ws_text.proofs.Common.{Part, part, AreUnits, IsHeadText, IsItemLine, IsTelnetText, IsWorded, one, run, short}
+use Rattle.ws_text.proofs.Common.{long, item, indented, Wording}
 use Rattle.ws_text.specs.WordLaws.{few_bytes}
-use Rattle.ws_text.specs.Wording.{Wording, HasFewWords}
+use Rattle.ws_text.specs.Wording.{HasFewWords}
 
 -- No line has many words.
 

@@ -1,5 +1,4 @@
-use Rattle.std.proofs.Common.{arith}
-use Rattle.std.proofs.lemmas.Grind.{common_steps}
+use Rattle.ws_text.proofs.Common.{arith, common_steps}
 use Rattle.ws_text.proofs.answer_text.put_answer_item.Goals as goal
 
 pub returns-in-Record : goal.returns-in-Record

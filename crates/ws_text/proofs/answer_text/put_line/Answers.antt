@@ -1,5 +1,4 @@
-use Rattle.std.proofs.Common.{arith}
-use Rattle.std.proofs.lemmas.Grind.{common_steps}
+use Rattle.ws_text.proofs.Common.{arith, common_steps}
 use Rattle.ws_text.proofs.answer_text.put_line.Goals as goal
 
 pub returns-in-Byte : goal.returns-in-Byte

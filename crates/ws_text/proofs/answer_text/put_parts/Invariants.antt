@@ -1,11 +1,10 @@
-use Rattle.std.proofs.Common.{◌≡◌, false, take}
-use Rattle.ws_text.specs.Printing.{Prints}
-use Rattle.ws_text.proofs.AnswerTexts.{is_byte_last, part_lines_behind}
+use Rattle.ws_text.proofs.Common.{◌≡◌, false, take, Prints, is_byte, part_line}
+use Rattle.ws_text.proofs.Texts.{is_byte_last, lines_behind}
 use Rattle.ws_text.proofs.answer_text.put_parts.Given as goal
 
 -- the lines of the parts so far are out, and the last of these is a byte or not
 abbrev pub invariant-loop-part : goal.invariant-loop-part
 invariant-loop-part g l =
     Prints g.S.Sink.takes g.S.Sink.failures l.fn.sink l.sink l.fn.output l.output
-    (part_lines_behind false (take l.part-index l.parts))
-    × (l.is_behind_byte ≡ is_byte_last false (take l.part-index l.parts))
+    (lines_behind is_byte part_line false (take l.part-index l.parts))
+    × (l.is_behind_byte ≡ is_byte_last is_byte part_line false (take l.part-index l.parts))

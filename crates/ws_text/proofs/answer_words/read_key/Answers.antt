@@ -1,6 +1,4 @@
-use Rattle.std.proofs.Common.{arith}
-use Rattle.std.proofs.lemmas.Grind.{common_steps}
-use Rattle.std.proofs.Common.{◌≡◌, length, arith}
+use Rattle.ws_text.proofs.Common.{arith, common_steps, ◌≡◌, length}
 use Rattle.ws_text.proofs.AnswerWordLaws.{no_key}
 use Rattle.ws_text.proofs.Lists.{texts, three_words, no_fill}
 use Rattle.ws_text.proofs.answer_words.read_key.Goals as goal

@@ -1,7 +1,4 @@
-use Rattle.std.proofs.Common.{ap, [], ◌∷◌}
-use Rattle.std.specs.Fmt.{decimal}
-use Rattle.hex.specs.Hex.{encode_upper}
-use Rattle.ws_text.specs.ItemLines.{words_text}
+use Rattle.ws_text.proofs.Common.{ap, [], ◌∷◌, decimal, encode_upper, words_text}
 use Rattle.ws_text.proofs.Prints.{prints_both, prints_same}
 use Rattle.ws_text.proofs.element_text.put_field.Goals as goal
 

@@ -1,8 +1,6 @@
-use Rattle.std.proofs.Common.{◌≡◌, length}
-use Rattle.ws_text.proofs.Lists.{texts, no_word}
 use Rattle.ws_text.specs.FieldLaws.{field_parts}
-use Rattle.ws_text.proofs.FieldWords.{last_two, few_pairs, no_format, made_field, first_of, fits_none}
-use Rattle.ws_text.proofs.FieldWords.{fits_slice}
+use Rattle.ws_text.proofs.Lists.{texts, no_word}
+use Rattle.ws_text.proofs.FieldWords.{last_two, few_pairs, no_format, made_field, first_of, fits_none, fits_slice}
 use Rattle.ws_text.proofs.field_words.read_field.Goals as goal
 
 pub returns-in_err-pairs : goal.returns-in_err-pairs

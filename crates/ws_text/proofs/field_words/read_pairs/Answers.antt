@@ -1,5 +1,4 @@
-use Rattle.std.proofs.Common.{take, arith, length-take}
-use Rattle.std.proofs.lemmas.List.{length-map}
+use Rattle.ws_text.proofs.Common.{take, arith, length-take, length-map}
 use Rattle.ws_text.proofs.Lists.{texts}
 use Rattle.ws_text.specs.FieldLaws.{pairs_length}
 use Rattle.ws_text.proofs.FieldWords.{pair_at, pairs_step}

@@ -1,5 +1,4 @@
-use Rattle.std.proofs.Common.{◌≡◌, map, take}
-use Rattle.ws_text.specs.ElementWords.{ArePairs}
+use Rattle.ws_text.proofs.Common.{map, take, ArePairs}
 use Rattle.ws_text.proofs.field_words.read_pairs.Given as goal
 
 abbrev pub invariant-loop-word : goal.invariant-loop-word

@@ -1,5 +1,4 @@
-use Rattle.std.proofs.Common.{◌≡◌, length, refl, ◌∙◌, ◌∷◌, arith}
-use Rattle.ws_text.specs.TextLines.IsHeadText.{short, long}
+use Rattle.ws_text.proofs.Common.{◌≡◌, length, refl, arith, short, long}
 use Rattle.ws_text.proofs.Lists.{texts, no_word, two_words, four_words, with_head, unequal_not}
 use Rattle.ws_text.proofs.ItemWords.{no_long_head}
 use Rattle.ws_text.proofs.head_words.read_head.Goals as goal

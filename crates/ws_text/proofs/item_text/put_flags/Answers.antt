@@ -1,5 +1,4 @@
-use Rattle.std.proofs.Common.{ap, ◌∙◌}
-use Rattle.hex.specs.Hex.{encode_upper}
+use Rattle.ws_text.proofs.Common.{ap, ◌∙◌, encode_upper}
 use Rattle.ws_text.proofs.Prints.{prints_same}
 use Rattle.ws_text.proofs.Texts.{two_bytes_of}
 use Rattle.ws_text.proofs.item_text.put_flags.Goals as goal

@@ -1,5 +1,4 @@
-use Rattle.std.proofs.Common.{ap}
-use Rattle.ws_text.specs.ItemLines.{element_lines}
+use Rattle.ws_text.proofs.Common.{ap, element_lines}
 use Rattle.ws_text.proofs.Prints.{prints_both, prints_same}
 use Rattle.ws_text.proofs.item_text.put_record.Goals as goal
 

@@ -1,59 +1,39 @@
-use Rattle.std.proofs.Common.{◌∙◌, sym}
+use Rattle.std.proofs.Common.{◌∙◌, sym, refl, []}
 use Rattle.ws_text.proofs.Lists.{differ_from, same_text}
-use Rattle.ws_text.proofs.ItemsRead.{items_begun, items_go_on, bad_line, at_end, at_screen, kept_items, lost_items}
+use Rattle.ws_text.proofs.LinesRead.{none_so_far}
+use Rattle.ws_text.proofs.ItemsRead.{items_go_on, bad_line, answered}
 use Rattle.ws_text.proofs.TextWords.{is_nil_by}
 use Rattle.ws_text.proofs.items.read_lines.Goals as goal
 
 pub loop-rest-init : goal.loop-rest-init
-loop-rest-init g c = items_begun g.B.Code.rules g.B.Worded.wording c.start-reading.result c.args.text.now
-    c.start-reading.ensures
+loop-rest-init g c = none_so_far c.start-reading.result c.args.text.now [] c.start-reading.ensures refl
 
 pub loop-rest-preserved : goal.loop-rest-preserved
 loop-rest-preserved g c =
-    items_go_on g.B.Code.rules g.B.Worded.wording c.loop-rest.reading c.in-Some.next c.args.text.now
-    c.loop-rest.rest.now c.first_line.result.1.now c.first_line.result.0.now c.loop-rest.number
-    c.loop-rest.invariant c.first_line.ensures.line c.first_line.ensures.shorter
+    let so = c.loop-rest.invariant in
+    items_go_on g.B.Code.rules g.B.Worded.wording so c.first_line.ensures.line c.first_line.ensures.shorter
     (λ e. differ_from _ _ c.eq.result c.eq.ensures c.if-eq.false (e ∙ sym c.as_slice.ensures))
-    (c.in-Some.ensures c.loop-rest.invariant.items c.loop-rest.invariant.are)
+    (c.in-Some.ensures so.made so.is)
 
-pub returns-then-eq-clause-ok : goal.returns-then-eq-clause-ok
-returns-then-eq-clause-ok g c =
-    kept_items g.B.Code.rules g.B.Worded.wording (λ v. v.items) c.args.text.now c.loop-rest.invariant.items
-    (at_screen g.B.Code.rules g.B.Worded.wording c.loop-rest.reading c.args.text.now c.loop-rest.rest.now
-    c.first_line.result.1.now c.first_line.result.0.now c.loop-rest.number c.loop-rest.invariant c.first_line.ensures.line
-    (same_text _ _ c.eq.result c.eq.ensures c.if-eq.true ∙ c.as_slice.ensures)) c.kept.result
-    (c.kept.ensures c.loop-rest.invariant.items (c.finish.ensures c.loop-rest.invariant.items c.loop-rest.invariant.are))
-
-pub returns-then-eq-clause-fault : goal.returns-then-eq-clause-fault
-returns-then-eq-clause-fault g c =
-    lost_items g.B.Code.rules g.B.Worded.wording (λ v. v.items) c.args.text.now c.loop-rest.invariant.items
-    (at_screen g.B.Code.rules g.B.Worded.wording c.loop-rest.reading c.args.text.now c.loop-rest.rest.now
-    c.first_line.result.1.now c.first_line.result.0.now c.loop-rest.number c.loop-rest.invariant c.first_line.ensures.line
-    (same_text _ _ c.eq.result c.eq.ensures c.if-eq.true ∙ c.as_slice.ensures)) c.kept.result
-    (c.kept.ensures c.loop-rest.invariant.items (c.finish.ensures c.loop-rest.invariant.items c.loop-rest.invariant.are))
+pub returns-then-eq : goal.returns-then-eq
+returns-then-eq g c =
+    let so = c.loop-rest.invariant in
+    let is = same_text _ _ c.eq.result c.eq.ensures c.if-eq.true ∙ c.as_slice.ensures in
+    let both = answered g.B.Code.rules g.B.Worded.wording so (rw c.first_line.ensures.line is) c.kept.result
+    (c.kept.ensures so.made (c.finish.ensures so.made so.is)) in
+    record { ok = both.0; fault = both.1 }
 
 pub returns-in-None-clause-fault : goal.returns-in-None-clause-fault
 returns-in-None-clause-fault g c =
-    bad_line g.B.Code.rules g.B.Worded.wording c.loop-rest.reading c.args.text.now c.loop-rest.rest.now
-    c.first_line.result.1.now c.first_line.result.0.now c.loop-rest.number c.loop-rest.invariant
-    c.first_line.ensures.line
+    let so = c.loop-rest.invariant in
+    bad_line g.B.Code.rules g.B.Worded.wording so c.first_line.ensures.line
     (λ e. differ_from _ _ c.eq.result c.eq.ensures c.if-eq.false (e ∙ sym c.as_slice.ensures))
-    (c.in-None.ensures c.loop-rest.invariant.items c.loop-rest.invariant.are)
+    (c.in-None.ensures so.made so.is)
 
-pub returns-clause-ok : goal.returns-clause-ok
-returns-clause-ok g c =
-    kept_items g.B.Code.rules g.B.Worded.wording (λ v. v.items) c.args.text.now c.loop-rest.invariant.items
-    (at_end g.B.Code.rules g.B.Worded.wording c.loop-rest.reading c.args.text.now c.loop-rest.rest.now
-    c.loop-rest.number c.loop-rest.invariant
-    (is_nil_by c.loop-rest.rest.now _ c.is_empty.ensures c.loop-rest-test.false)) c.kept-2.result
-    (c.kept-2.ensures c.loop-rest.invariant.items
-    (c.finish-2.ensures c.loop-rest.invariant.items c.loop-rest.invariant.are))
-
-pub returns-clause-fault : goal.returns-clause-fault
-returns-clause-fault g c =
-    lost_items g.B.Code.rules g.B.Worded.wording (λ v. v.items) c.args.text.now c.loop-rest.invariant.items
-    (at_end g.B.Code.rules g.B.Worded.wording c.loop-rest.reading c.args.text.now c.loop-rest.rest.now
-    c.loop-rest.number c.loop-rest.invariant
-    (is_nil_by c.loop-rest.rest.now _ c.is_empty.ensures c.loop-rest-test.false)) c.kept-2.result
-    (c.kept-2.ensures c.loop-rest.invariant.items
-    (c.finish-2.ensures c.loop-rest.invariant.items c.loop-rest.invariant.are))
+pub returns : goal.returns
+returns g c =
+    let so = c.loop-rest.invariant in
+    let none = is_nil_by c.loop-rest.rest.now _ c.is_empty.ensures c.loop-rest-test.false in
+    let both = answered g.B.Code.rules g.B.Worded.wording so (rw none tt) c.kept-2.result
+    (c.kept-2.ensures so.made (c.finish-2.ensures so.made so.is)) in
+    record { ok = both.0; fault = both.1 }

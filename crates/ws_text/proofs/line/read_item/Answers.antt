@@ -1,5 +1,3 @@
-use Rattle.ws_text.specs.Parts.{Part as part}
-use Rattle.ws_text.specs.TextLines.{IsItemLine}
 use Rattle.ws_text.proofs.Lists.{texts, no_word, behind_one, behind_two, same_text, with_head}
 use Rattle.ws_text.proofs.ItemWords.{no_record}
 use Rattle.ws_text.proofs.LineWords.{just_one}
@@ -16,15 +14,11 @@ returns-in_err-flags-in-len1-up g c =
 pub returns-in_ok-flags-in-len1-up : goal.returns-in_ok-flags-in-len1-up
 returns-in_ok-flags-in-len1-up g c =
     let cut = behind_one no_word c.args.words.now c.in-len1-up.len_at_least in
-    just_one (IsItemLine (texts c.args.words.now)) (item_same (texts c.args.words.now)) (part.Head _ _)
+    just_one _ (item_same (texts c.args.words.now)) _
     (_, with_head _ _ _ _ cut (same_text _ _ c.eq.result c.eq.ensures c.if-eq.true), c.in_ok-flags-in-len1-up.ensures)
 
 pub returns-in_ok-read_telnet-in-len2-up : goal.returns-in_ok-read_telnet-in-len2-up
 returns-in_ok-read_telnet-in-len2-up g c =
     let cut = behind_two no_word c.args.words.now c.in-len2-up.len_at_least in
-    just_one (IsItemLine (texts c.args.words.now)) (item_same (texts c.args.words.now)) (part.Command _) (
-      _,
-      _,
-      with_head _ _ _ _ cut (same_text _ _ c.eq-2.result c.eq-2.ensures c.if-eq-2.true),
-      c.in_ok-read_telnet-in-len2-up.ensures,
-    )
+    let is = with_head _ _ _ _ cut (same_text _ _ c.eq-2.result c.eq-2.ensures c.if-eq-2.true) in
+    just_one _ (item_same (texts c.args.words.now)) _ (_, _, is, c.in_ok-read_telnet-in-len2-up.ensures)

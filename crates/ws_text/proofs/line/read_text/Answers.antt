@@ -1,8 +1,4 @@
-use Rattle.std.proofs.Common.{refl, drop, lit<}
-use Rattle.std.specs.Prelude.{codes}
-use Rattle.ws_text.specs.Parts.{Part as part}
-use Rattle.ws_text.specs.TextLines.{Means}
-use Rattle.ws_text.specs.TextLines.Means.{empty, comment, typed, worded}
+use Rattle.ws_text.proofs.Common.{refl, drop, lit<, codes, part, Means, empty, comment, typed, worded}
 use Rattle.ws_text.proofs.LineWords.{just_one, stripped, tells_on}
 use Rattle.ws_text.proofs.OneLine.{means_same}
 use Rattle.ws_text.proofs.TextWords.{typed_line, only_worded, is_nil_by, not_nil_by, hash_first, no_hash, not_stripped}
@@ -14,8 +10,7 @@ use Rattle.ws_text.proofs.line.read_text.Goals.{then-is_empty-via-else-is_empty+
 
 pub returns-then-is_empty : goal.returns-then-is_empty
 returns-then-is_empty g c =
-    just_one (Means g.B.Worded.wording c.args.text.now)
-    (means_same g.B.Worded.wording g.met.B.Worded.clear c.args.text.now) part.Nothing
+    just_one _ (means_same g.B.Worded.wording g.met.B.Worded.clear c.args.text.now) part.Nothing
     (elim c.then-is_empty.branch [
       | then-is_empty-via-then-is_empty w ↦ empty
           (is_nil_by c.args.text.now c.is_empty.result c.is_empty.ensures w.if-is_empty.true) refl

@@ -1,7 +1,4 @@
-use Rattle.std.proofs.Common.{refl, sym, ◌∙◌, [], ◌∷◌}
-use Rattle.std.proofs.lemmas.List.{length-map}
-use Rattle.ws_text.specs.TextLines.{AreUnits}
-use Rattle.ws_text.specs.TextLines.AreUnits.{one, run}
+use Rattle.ws_text.proofs.Common.{refl, sym, ◌∙◌, length-map, one, run}
 use Rattle.ws_text.proofs.Lists.{texts, no_word, one_word, same_text, differ_from}
 use Rattle.ws_text.proofs.LineWords.{just_one}
 use Rattle.ws_text.proofs.OneUnit.{units_same}
@@ -24,9 +21,8 @@ returns-then-eq g c = λ units.
 
 pub returns-in-Some : goal.returns-in-Some
 returns-in-Some g c =
-    just_one (AreUnits g.B.Worded.wording c.args.name.now (texts c.args.words.now))
-    (units_same g.B.Worded.wording g.met.B.Worded.clear c.args.name.now (texts c.args.words.now))
-    (c.in-Some.unit ∷ []) (one c.in-Some.unit c.in-Some.ensures refl)
+    just_one _ (units_same g.B.Worded.wording g.met.B.Worded.clear c.args.name.now (texts c.args.words.now)) _
+    (one c.in-Some.unit c.in-Some.ensures refl)
 
 pub returns-in-None : goal.returns-in-None
 returns-in-None g c =

@@ -1,5 +1,4 @@
-use Rattle.ws_text.specs.TextLines.{IsWorded}
-use Rattle.ws_text.specs.TextLines.IsWorded.{item, indented}
+use Rattle.ws_text.proofs.Common.{IsWorded, item, indented}
 use Rattle.ws_text.proofs.Lists.{texts}
 use Rattle.ws_text.proofs.LineWords.{indented_says, only_item, tells_on}
 use Rattle.ws_text.proofs.line.read_words.Goals as goal

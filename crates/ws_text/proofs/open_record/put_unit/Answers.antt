@@ -1,5 +1,4 @@
-use Rattle.std.proofs.Common.{◌+◌, ◌∙◌, ap, sym, refl, length, [], ◌∷◌}
-use Rattle.std.proofs.lemmas.Bool.{false≢true}
+use Rattle.ws_text.proofs.Common.{◌+◌, ◌∙◌, ap, sym, refl, length, [], ◌∷◌, false≢true}
 use Rattle.ws_text.proofs.Bodies.{follows_more}
 use Rattle.ws_text.proofs.OpenRecords.{no_follow}
 use Rattle.ws_text.proofs.open_record.put_unit.Goals as goal

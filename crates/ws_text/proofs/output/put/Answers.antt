@@ -1,7 +1,4 @@
-use Rattle.std.proofs.Common.{sym, subst}
-use Rattle.ws_text.specs.declared.output.Output.{Output}
-use Rattle.ws_text.specs.declared.output.Output.TheVariants.{Open, Failed}
-use Rattle.ws_text.specs.Printing.{Prints}
+use Rattle.ws_text.proofs.Common.{sym, subst, Output, Open, Failed, Prints}
 use Rattle.ws_text.proofs.Prints.{put_out, put_fails, put_failed}
 use Rattle.ws_text.proofs.output.put.Goals as goal
 

@@ -1,5 +1,4 @@
-use Rattle.std.proofs.Common.{ap}
-use Rattle.std.specs.Fmt.{decimal}
+use Rattle.std.proofs.Common.{ap, decimal}
 use Rattle.ws_text.proofs.Prints.{prints_both, prints_same}
 use Rattle.ws_text.proofs.output.put_cell.Goals as goal
 

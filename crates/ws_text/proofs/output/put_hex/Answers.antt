@@ -1,7 +1,4 @@
-use Rattle.hex.specs.Hex.{upper_digits}
-use Rattle.std.proofs.lemmas.List.{take_all}
-use Rattle.hex.specs.Hex.{encode_upper}
-use Rattle.std.proofs.Common.{ap}
+use Rattle.ws_text.proofs.Common.{upper_digits, take_all, encode_upper, ap}
 use Rattle.ws_text.proofs.Prints.{prints_none, prints_both, prints_same, encode_none, encode_more}
 use Rattle.ws_text.proofs.output.put_hex.Goals as goal
 

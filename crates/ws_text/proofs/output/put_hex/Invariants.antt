@@ -1,6 +1,4 @@
-use Rattle.std.proofs.Common.{take}
-use Rattle.hex.specs.Hex.{encode_upper}
-use Rattle.ws_text.specs.Printing.{Prints}
+use Rattle.ws_text.proofs.Common.{take, encode_upper, Prints}
 use Rattle.ws_text.proofs.output.put_hex.Given as goal
 
 -- the bytes so far

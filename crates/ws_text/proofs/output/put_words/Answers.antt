@@ -1,9 +1,5 @@
-use Rattle.std.proofs.Common.{◌++◌, ℕ, List, get_or, sym, ap, ◌∙◌}
-use Rattle.std.specs.Prelude.{codes}
-use Rattle.std.proofs.lemmas.List.{take_all}
-use Rattle.hex.specs.Hex.{encode_upper}
+use Rattle.ws_text.proofs.Common.{◌++◌, ℕ, List, get_or, sym, ap, ◌∙◌, codes, take_all, encode_upper, words_text}
 use Rattle.ws_record.specs.Grammar.{two_bytes}
-use Rattle.ws_text.specs.ItemLines.{words_text}
 use Rattle.ws_text.proofs.Texts.{flat_map_more, two_bytes_of}
 use Rattle.ws_text.proofs.Prints.{prints_none, prints_both, prints_same}
 use Rattle.ws_text.proofs.output.put_words.Goals as goal

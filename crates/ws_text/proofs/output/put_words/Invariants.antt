@@ -1,6 +1,4 @@
-use Rattle.std.proofs.Common.{take}
-use Rattle.ws_text.specs.ItemLines.{words_text}
-use Rattle.ws_text.specs.Printing.{Prints}
+use Rattle.ws_text.proofs.Common.{take, words_text, Prints}
 use Rattle.ws_text.proofs.output.put_words.Given as goal
 
 -- the words so far

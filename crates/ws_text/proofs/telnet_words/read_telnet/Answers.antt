@@ -1,8 +1,5 @@
-use Rattle.std.proofs.Common.{arith}
-use Rattle.std.proofs.lemmas.Grind.{common_steps}
-use Rattle.std.proofs.Common.{◌≡◌, ◌≤◌, List, ℕ, length, ap, ◌∙◌, sym, subst, get_or, take, drop, ◌-◌}
-use Rattle.ws_text.specs.Words.{IsSmall}
-use Rattle.ws_text.specs.ElementWords.{AreBytes}
+use Rattle.ws_text.proofs.Common.{arith, common_steps, ◌≤◌, List, ℕ, length, ap, ◌∙◌, sym, subst, get_or, take, drop}
+use Rattle.ws_text.proofs.Common.{◌-◌, IsSmall, AreBytes}
 use Rattle.ws_text.proofs.Lists.{texts, no_word, behind_one, unequal_not}
 use Rattle.ws_text.proofs.telnet_words.read_telnet.Goals as goal
 
