@@ -2,6 +2,7 @@ pub mod Buffers
 pub mod ColoredCells
 pub mod ConnectRuns
 pub mod FieldTexts
+pub mod LineFronts
 pub mod LiveLines
 pub mod LiveOutput
 pub mod LiveRuns

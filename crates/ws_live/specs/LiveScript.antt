@@ -23,20 +23,14 @@ abbrev pub BeginsFlush : List (List ℕ) → Type 0
 BeginsFlush [] = Unit {0}
 BeginsFlush (line ∷ more) = is_indented line ≡ false
 
--- the text of lines, each with its line feed
-abbrev pub text_of : List (List ℕ) → List ℕ
-text_of [] = []
-text_of (line ∷ more) = line ++ 10 ∷ text_of more
-
--- the lines of a text that begin with two blanks, up to the first that doesn't: their text and number, and what is
--- behind them
+-- the front of a text whose lines begin with two blanks, the number of these, and what is behind it, of which the first
+-- line doesn't
 pub record HasInside (text inside : List ℕ) (count : ℕ) (behind : List ℕ) : Type 0 where
-  pub are : List (List ℕ)
-  pub split : lines text ≡ are ++ lines behind
-  pub indented : AreIndented are
+  pub cut : text ≡ inside ++ behind
+  pub split : lines text ≡ lines inside ++ lines behind
+  pub indented : AreIndented (lines inside)
   pub whole : BeginsFlush (lines behind)
-  pub is : inside ≡ text_of are
-  pub counted : count ≡ length are
+  pub counted : count ≡ length (lines inside)
   pub few : count + length behind ≤ length text
 
 module _ (opener : List ℕ → Type 0) where
@@ -46,28 +40,28 @@ module _ (opener : List ℕ → Type 0) where
     pub opened : (inside ≡ []) ⊎ opener line
     pub whole : opener line → BeginsFlush after
 
-  -- of a line and the text behind it: the text and number of the lines that belong to it, and what is behind them
+  -- of a line and the text behind it: the front of that text whose lines belong to the line, the number of these, and
+  -- what is behind them
   pub record HasBlock (line text inside : List ℕ) (count : ℕ) (behind : List ℕ) : Type 0 where
-    pub are : List (List ℕ)
-    pub split : lines text ≡ are ++ lines behind
-    pub block : IsBlock line are (lines behind)
-    pub is : inside ≡ text_of are
-    pub counted : count ≡ length are
+    pub cut : text ≡ inside ++ behind
+    pub split : lines text ≡ lines inside ++ lines behind
+    pub block : IsBlock line (lines inside) (lines behind)
+    pub counted : count ≡ length (lines inside)
     pub few : count + length behind ≤ length text
 
-module _ {L : Type 0} (means : List ℕ → List ℕ → L → Type 0) (opener : List ℕ → Type 0) where
+module _ {L : Type 0} (means : List ℕ → List (List ℕ) → L → Type 0) (opener : List ℕ → Type 0) where
   -- each of the first lines means one of these, in order, with those that belong to it, and the rest is behind them
   abbrev pub MeanThese : List (List ℕ) → List L → List (List ℕ) → Type 0
   MeanThese all [] rest = all ≡ rest
   MeanThese all (first ∷ read) rest = (line : List ℕ) × (inside : List (List ℕ)) × (after : List (List ℕ))
-      × (all ≡ line ∷ (inside ++ after)) × IsBlock opener line inside after × means line (text_of inside) first
+      × (all ≡ line ∷ (inside ++ after)) × IsBlock opener line inside after × means line inside first
       × MeanThese after read rest
 
   -- the lines of a text mean these
   abbrev pub AreLiveLines : List ℕ → List L → Type 0
   AreLiveLines text read = MeanThese (lines text) read []
 
-  module _ (bad_at : List ℕ → List ℕ → ℕ → Type 0) where
+  module _ (bad_at : List ℕ → List (List ℕ) → ℕ → Type 0) where
     -- the first bad line of a script, counted from 1 as far as 64 bits count: it is one, or belongs to one, that means
     -- nothing
     pub record IsFirstBad (text : List ℕ) (number : ℕ) : Type 0 where
@@ -79,35 +73,37 @@ module _ {L : Type 0} (means : List ℕ → List ℕ → L → Type 0) (opener :
       pub read : List L
       pub good : MeanThese (lines text) read (line ∷ (inside ++ after))
       pub block : IsBlock opener line inside after
-      pub bad : (x : L) → means line (text_of inside) x → ⊥
+      pub bad : (x : L) → means line inside x → ⊥
       pub at : ℕ
-      pub place : bad_at line (text_of inside) at
+      pub place : bad_at line inside at
       pub counted : number ≡ min (length before + at) (2 ^ 64 - 1)
 
-module _ {L : Type 0} (means : List ℕ → List ℕ → L → Type 0) (begins : List ℕ → Type 0) where
-  -- as far as it was read, a line is good: it is a whole one with those that belong to it; or these weren't read, and it
-  -- is one up to what takes memory
-  abbrev pub IsGoodSoFar : List ℕ → List ℕ → Type 0
+module _ {L : Type 0} (means : List ℕ → List (List ℕ) → L → Type 0) (begins : List ℕ → Type 0) where
+  -- as far as it was read, a line is good: it is a whole one with those that belong to it; or none belongs to it, and
+  -- it is one up to what takes memory
+  abbrev pub IsGoodSoFar : List ℕ → List (List ℕ) → Type 0
   IsGoodSoFar line inside = ((read : L) × means line inside read) ⊎ ((inside ≡ []) × begins line)
 
   -- why a line isn't read: with those that belong to it it means nothing, and this one is bad, counted from 1; or a
   -- growth was refused
-  abbrev pub IsBlockFault : (List ℕ → List ℕ → ℕ → Type 0) → List ℕ → List ℕ → ScriptFault → Type 0
+  abbrev pub IsBlockFault : (List ℕ → List (List ℕ) → ℕ → Type 0) → List ℕ → List (List ℕ) → ScriptFault → Type 0
   IsBlockFault bad_at line inside (Line at) = ((read : L) → means line inside read → ⊥) × bad_at line inside at
   IsBlockFault bad_at line inside Memory = IsGoodSoFar line inside
 
   module _ (opener : List ℕ → Type 0) where
-    -- as far as it was read, a script is good
+    -- as far as it was read, a script is good: behind good lines stands one that is good so far, with all that belong
+    -- to it
     pub record IsReadSoFar (text : List ℕ) : Type 0 where
       pub line : List ℕ
       pub inside : List (List ℕ)
       pub after : List (List ℕ)
       pub read : List L
       pub good : MeanThese means opener (lines text) read (line ∷ (inside ++ after))
-      pub so_far : IsGoodSoFar line (text_of inside)
+      pub block : IsBlock opener line inside after
+      pub so_far : IsGoodSoFar line inside
 
-module _ {L : Type 0} (means : List ℕ → List ℕ → L → Type 0) (opener begins : List ℕ → Type 0) where
+module _ {L : Type 0} (means : List ℕ → List (List ℕ) → L → Type 0) (opener begins : List ℕ → Type 0) where
   -- why a script isn't read
-  abbrev pub IsReadingFault : (List ℕ → List ℕ → ℕ → Type 0) → List ℕ → ScriptFault → Type 0
+  abbrev pub IsReadingFault : (List ℕ → List (List ℕ) → ℕ → Type 0) → List ℕ → ScriptFault → Type 0
   IsReadingFault bad_at text (Line number) = IsFirstBad means opener bad_at text number
   IsReadingFault bad_at text Memory = IsReadSoFar means begins opener text

@@ -1,21 +1,18 @@
 -- The lines of a script for a host of one station.
 
-use Rattle.std.specs.Prelude.{◌≡◌, ◌≢◌, ◌⊎◌, ℕ, ◌+◌, ◌-◌, ◌^◌, List, [], ◌++◌, min, codes}
+use Rattle.std.specs.Prelude.{◌≡◌, ◌≢◌, ◌⊎◌, ℕ, ◌+◌, ◌-◌, ◌^◌, List, [], ◌++◌, codes, min}
 use Rattle.std.specs.Str.{IsUtf8}
-use Rattle.std.specs.Str.Lines.{lines}
 use Rattle.ws_record.specs.declared.opcode.Opcode.{Opcode}
 use Rattle.ws_record.specs.declared.record.Record.{Record}
 use Rattle.ws_session.specs.declared.end_step.Order.TheVariants.{Send, Cancel}
 use Rattle.ws_stream.specs.declared.element.Element.{Element}
 use Rattle.ws_stream.specs.Elements.{element_rules}
 use Rattle.ws_text.specs.ElementWords.{element_wording}
-use Rattle.ws_text.specs.BodyLines.{AddUnits, IsBodyFault, new_record}
+use Rattle.ws_text.specs.BodyLines.{AddUnits, IsAddFault, new_record}
 use Rattle.ws_text.specs.declared.items.TextFault.TheVariants as items
 use Rattle.ws_live.specs.ConnectLines.{IsNothing}
 use Rattle.ws_live.specs.Script.{IsOpcodeText, IsRecordText}
 use Rattle.ws_live.specs.ScriptFaults.{IsSendLine}
-use Rattle.ws_live.specs.declared.script.ScriptFault.{ScriptFault}
-use Rattle.ws_live.specs.declared.script.ScriptFault.TheVariants.{Line, Memory}
 use Rattle.ws_live.specs.declared.serve_line.HostLine.{HostLine}
 use Rattle.ws_live.specs.declared.serve_line.HostLine.TheVariants.{Nothing, Give, Await}
 
@@ -43,18 +40,14 @@ SendsAlone line number opcode = IsUtf8 line × (line ≡ codes "send " ++ number
 abbrev pub OpensHostBlock : List ℕ → Type 0
 OpensHostBlock line = (number : List ℕ) × (opcode : Opcode) × SendsAlone line number opcode
 
--- the lines of a text say these elements of a new record of the opcode, as `show` prints them
-abbrev pub AreElements : Opcode → List ℕ → List Element → Type 0
-AreElements opcode text body = (r : Record Element)
-    × AddUnits element_rules element_wording (lines text) (new_record opcode) r × (body ≡ r.body)
+-- a record is sent with the elements that the lines behind its line say
+abbrev pub SendsInWords : List ℕ → List (List ℕ) → HostLine → Type 0
+SendsInWords line elements read = (number : List ℕ) × (opcode : Opcode) × (r : Record Element)
+    × SendsAlone line number opcode × AddUnits element_rules element_wording elements (new_record opcode) r
+    × (read ≡ Give (Send opcode r.body))
 
--- a record is sent with the elements that the text behind its line spells
-abbrev pub SendsInWords : List ℕ → List ℕ → HostLine → Type 0
-SendsInWords line elements read = (number : List ℕ) × (opcode : Opcode) × (body : List Element)
-    × SendsAlone line number opcode × AreElements opcode elements body × (read ≡ Give (Send opcode body))
-
--- a line of such a script, and the text of the elements behind it
-abbrev pub IsHostLine : List ℕ → List ℕ → HostLine → Type 0
+-- a line of such a script, and the lines of elements behind it
+abbrev pub IsHostLine : List ℕ → List (List ℕ) → HostLine → Type 0
 IsHostLine line elements read = ((elements ≡ []) × IsOneLine line read)
     ⊎ ((elements ≢ []) × SendsInWords line elements read)
 
@@ -62,21 +55,14 @@ IsHostLine line elements read = ((elements ≡ []) × IsOneLine line read)
 abbrev pub BeginsHostLine : List ℕ → Type 0
 BeginsHostLine line = (IsUtf8 line × IsSendLine line) ⊎ OpensHostBlock line
 
--- where elements are bad behind their line, which is line 1: at the first that adds none to the record, as far as 64
--- bits count
-abbrev pub AreBadAt : Opcode → List ℕ → ℕ → Type 0
-AreBadAt opcode text at = (number : ℕ)
-    × IsBodyFault element_rules element_wording text (new_record opcode) (items.Line number)
+-- where elements are bad behind their line, which is the first: at the first line that adds none to the record, counted
+-- as far as 64 bits count
+abbrev pub AreBadAt : Opcode → List (List ℕ) → ℕ → Type 0
+AreBadAt opcode elements at = (number : ℕ)
+    × IsAddFault element_rules element_wording elements (new_record opcode) (items.Line number)
     × (at ≡ min (number + 1) (2 ^ 64 - 1))
 
--- why the lines of a text give no elements: one of them is bad; or a growth was refused, and none is
-abbrev pub IsWordsFault : Opcode → List ℕ → ScriptFault → Type 0
-IsWordsFault opcode text (Line at) = ((body : List Element) → AreElements opcode text body → ⊥)
-    × AreBadAt opcode text at
-IsWordsFault opcode text Memory = (body : List Element) × AreElements opcode text body
-
 -- where a line is bad with the elements behind it: at itself, or in these
-abbrev pub IsBadHostLineAt : List ℕ → List ℕ → ℕ → Type 0
+abbrev pub IsBadHostLineAt : List ℕ → List (List ℕ) → ℕ → Type 0
 IsBadHostLineAt line elements at = ((at ≡ 1) × ((elements ≡ []) ⊎ (OpensHostBlock line → ⊥)))
-    ⊎ ((number : List ℕ) × (opcode : Opcode) × SendsAlone line number opcode
-    × AreBadAt opcode elements at)
+    ⊎ ((number : List ℕ) × (opcode : Opcode) × SendsAlone line number opcode × AreBadAt opcode elements at)

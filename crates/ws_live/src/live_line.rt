@@ -1,4 +1,5 @@
 ghost use Rattle.std.specs.Prelude.{◌≡◌, true, false, IfOk, IfErr, List, ℕ};
+ghost use Rattle.std.specs.Str.Lines.{lines};
 ghost use Rattle.ws_live.specs.LiveScript as Spec;
 ghost use Rattle.ws_live.specs.LiveScript.{AreLiveLines, HasBlock, HasInside, IsBlockFault, IsReadingFault};
 
@@ -10,8 +11,8 @@ use ws_text::first_line;
 ///
 /// Those stand directly behind it, and begin with two blanks.
 pub trait LiveLine: Drop {
-    // A line, and the text of those that belong to it, mean this.
-    ghost means: { List ℕ → List ℕ → Self → Type 0 };
+    // A line, and those that belong to it, mean this.
+    ghost means: { List ℕ → List (List ℕ) → Self → Type 0 };
 
     // A line is good up to what takes memory.
     ghost begins: { List ℕ → Type 0 };
@@ -19,8 +20,8 @@ pub trait LiveLine: Drop {
     // Lines may belong to a line like this.
     ghost opener: { List ℕ → Type 0 };
 
-    // A line that means nothing with the text of those that belong to it is bad here, counted from 1 for itself.
-    ghost bad_at: { List ℕ → List ℕ → ℕ → Type 0 };
+    // A line that means nothing with those that belong to it is bad here, counted from 1 for itself.
+    ghost bad_at: { List ℕ → List (List ℕ) → ℕ → Type 0 };
 
     /// Whether lines may belong to this one.
     fn opens(line: &[u8]) -> bool
@@ -28,13 +29,15 @@ pub trait LiveLine: Drop {
         ensures opener { result ≡ true → opener line.now }
         ensures other { result ≡ false → opener line.now → ⊥ };
 
-    /// Reads a line, without its line end, with the text of the lines that belong to it, each with its line feed.
+    /// Reads a line, without its line end, with the text of the lines that belong to it.
     ///
     /// `Line` where they are no such lines of a script, with the number of the bad one, which is 1 for the line itself.
-    /// `Memory` where a growth was refused; what was read of the line is good.
+    /// `Memory` where a growth was refused: the line and those that belong to it are good; or none belongs to it, and
+    /// what was read of it is good.
     fn read(alloc: Global, line: &[u8], inside: &[u8]) -> Result<Self, ScriptFault>
-        ensures line { IfOk result (means line.now inside.now) }
-        ensures fault { IfErr result (IsBlockFault means begins bad_at line.now inside.now) };
+        ensures line { IfOk result (means line.now (lines inside.now)) }
+        ensures fault { IfErr result
+            (IsBlockFault means begins bad_at line.now (lines inside.now)) };
 }
 
 /// The lines of a script, in order.
@@ -50,11 +53,8 @@ pub fn read_lines<L: LiveLine>(alloc: Global, text: &[u8]) -> Result<Vec<L>, Scr
     let mut number = 0u64;
     while !rest.is_empty() {
         let (line, behind) = first_line(rest);
-        let inside = match inside_of::<L>(alloc, line, behind) {
-            Ok(inside) => inside,
-            Err(fault) => return Err(fault),
-        };
-        match L::read(alloc, line, inside.text.as_slice()) {
+        let inside = inside_of::<L>(line, behind);
+        match L::read(alloc, line, inside.text) {
             Ok(line) => {
                 if read.push(line).is_err() {
                     return Err(ScriptFault::Memory);
@@ -72,62 +72,51 @@ pub fn read_lines<L: LiveLine>(alloc: Global, text: &[u8]) -> Result<Vec<L>, Scr
 }
 
 // The lines that belong to a line: their text and number, and what stands behind them.
-#[derive(Drop)]
+#[derive(Clone, Copy)]
 struct Inside<'a> {
-    text: Vec<u8>,
+    text: &'a [u8],
     count: u64,
     behind: &'a [u8],
 }
 
 // The lines of a text that belong to the line before it.
-fn inside_of<'a, L: LiveLine>(
-    alloc: Global,
-    line: &[u8],
-    text: &'a [u8],
-) -> Result<Inside<'a>, ScriptFault>
-    ensures block { IfOk result (λ inside. HasBlock L.opener line.now text.now
-        inside.text.items inside.count inside.behind.now) }
-    ensures fault { IfErr result (λ fault. (fault ≡ ScriptFault.Memory) × L.begins line.now) }
+fn inside_of<'a, L: LiveLine>(line: &[u8], text: &'a [u8]) -> Inside<'a>
+    ensures { HasBlock L.opener line.now text.now
+        result.text.now result.count result.behind.now }
 {
     if L::opens(line) {
-        return gathered(alloc, text);
+        return indented_front(text);
     }
-    Ok(Inside {
-        text: Vec::new(alloc),
+    Inside {
+        text: &[],
         count: 0,
         behind: text,
-    })
+    }
 }
 
 // The lines at the beginning of a text that begin with two blanks.
-fn gathered(alloc: Global, text: &[u8]) -> Result<Inside<'_>, ScriptFault>
-    ensures lines { IfOk result (λ inside. HasInside text.now
-        inside.text.items inside.count inside.behind.now) }
-    ensures fault { IfErr result (λ fault. fault ≡ ScriptFault.Memory) }
+fn indented_front(text: &[u8]) -> Inside<'_>
+    ensures { HasInside text.now result.text.now result.count result.behind.now }
 {
-    let mut held = Vec::new(alloc);
     let mut rest = text;
     let mut count = 0u64;
     while !rest.is_empty() {
         let (line, behind) = first_line(rest);
         if !is_indented(line) {
-            return Ok(Inside {
-                text: held,
+            return Inside {
+                text: &text[..text.len() - rest.len()],
                 count,
                 behind: rest,
-            });
-        }
-        if held.extend_from_slice(line).is_err() || held.push(b'\n').is_err() {
-            return Err(ScriptFault::Memory);
+            };
         }
         count += 1;
         rest = behind;
     }
-    Ok(Inside {
-        text: held,
+    Inside {
+        text,
         count,
         behind: rest,
-    })
+    }
 }
 
 /// Whether a line begins with two blanks, and so belongs to one before it.

@@ -1,4 +1,4 @@
-ghost use Rattle.std.specs.Prelude.{◌≡◌, ◌++◌, [], ◌<◌, List, ℕ, true, length, codes, IfOk, IfErr, MatchOption};
+ghost use Rattle.std.specs.Prelude.{◌≡◌, ◌++◌, [], ◌<◌, ℕ, List as Seq, true, length, codes, IfOk, IfErr, MatchOption};
 ghost use Rattle.ws_session.specs.declared.end_step.Order.TheVariants.{Send};
 ghost use Rattle.ws_live.specs.LiveScript.{IsBlockFault};
 ghost use Rattle.ws_live.specs.ServeLines.{BeginsHostLine, IsBadHostLineAt, IsHostLine, IsOneLine, OpensHostBlock};
@@ -11,10 +11,8 @@ use crate::script_line::LineFault;
 use crate::script_move::{read_move, read_opcode, split_word};
 use std::alloc::Global;
 use std::str;
-use ws_code::List;
 use ws_record::Opcode;
 use ws_session::{Move, Order};
-use ws_stream::Element;
 use ws_text::{TextFault, read_elements};
 
 /// A line of a script for a host of one station.
@@ -46,9 +44,10 @@ impl LiveLine for HostLine {
             return read_alone(alloc, line);
         }
         match sent_alone(line) {
-            Some(opcode) => match read_words(alloc, opcode, inside) {
+            Some(opcode) => match read_elements(alloc, opcode, inside) {
                 Ok(body) => Ok(HostLine::Give(Order::Send(opcode, body))),
-                Err(fault) => Err(fault),
+                Err(TextFault::Line(at)) => Err(ScriptFault::Line(at.saturating_add(1))),
+                Err(TextFault::Memory) => Err(ScriptFault::Memory),
             },
             None => Err(ScriptFault::Line(1)),
         }
@@ -126,7 +125,7 @@ fn read_command(alloc: Global, command: &str, words: &str) -> Result<HostLine, L
 // The opcode of a line that sends a record and says no more of it.
 fn sent_alone(line: &[u8]) -> Option<Opcode>
     ensures { MatchOption result (OpensHostBlock line.now → ⊥)
-        (λ opcode. (number : List ℕ) × Spec.SendsAlone line.now number opcode) }
+        (λ opcode. (number : Seq ℕ) × Spec.SendsAlone line.now number opcode) }
 {
     let Ok(text) = str::from_utf8(line) else {
         return None;
@@ -137,17 +136,5 @@ fn sent_alone(line: &[u8]) -> Option<Opcode>
     match read_opcode(number) {
         Ok(opcode) => Some(opcode),
         Err(_) => None,
-    }
-}
-
-// The elements that the lines of a text say.
-fn read_words(alloc: Global, opcode: Opcode, text: &[u8]) -> Result<List<Element>, ScriptFault>
-    ensures body { IfOk result (Spec.AreElements opcode text.now) }
-    ensures fault { IfErr result (Spec.IsWordsFault opcode text.now) }
-{
-    match read_elements(alloc, opcode, text) {
-        Ok(body) => Ok(body),
-        Err(TextFault::Line(number)) => Err(ScriptFault::Line(number.saturating_add(1))),
-        Err(TextFault::Memory) => Err(ScriptFault::Memory),
     }
 }

@@ -2,7 +2,7 @@ use Rattle.ws_text.proofs.Common.{◌≡◌, ◌<◌, ℕ, ◌+◌, true, false,
 use Rattle.ws_text.proofs.Common.{Result, Ok, Err, MatchResult, IfOk, IfErr, lines, append-nil, Rules, Opcode, Record}
 use Rattle.ws_text.proofs.Common.{TextFault, Line, Memory, OpenRecord, with_more, IsOpen, Puts, IsLine, Wording}
 use Rattle.ws_text.proofs.Common.{IsClear, EndsEverywhere}
-use Rattle.ws_text.specs.BodyLines.{AddUnits, CanAdd, IsBodyFault, new_record}
+use Rattle.ws_text.specs.BodyLines.{AddUnits, CanAdd, IsAddFault, new_record}
 use Rattle.ws_text.specs.Parts.Part.{Units}
 use Rattle.ws_text.proofs.LinesRead.{SoFar, more_so_far}
 use Rattle.ws_text.proofs.OneLine.{one_line}
@@ -56,7 +56,7 @@ module _ {Place U : Type 0} (rules : Rules Place U) (w : Wording U) where
     pub bad_body : {o : OpenRecord Place U} {text rest line : List ℕ} {after : List (List ℕ)} {number : ℕ}
         (next : OpenRecord Place U) → (so : BodySoFar o text rest number) → lines rest ≡ line ∷ after
         → Puts rules (λ units. IsLine w line (Units units)) o next false
-        → IsBodyFault rules w text (new_record opcode) (Line (number + 1))
+        → IsAddFault rules w (lines text) (new_record opcode) (Line (number + 1))
     bad_body next so e bad = (
       so.before,
       _,
@@ -70,7 +70,7 @@ module _ {Place U : Type 0} (rules : Rules Place U) (w : Wording U) where
 
     module _ (clear : IsClear w) (text : List ℕ) (to : Record U)
         (are : AddUnits rules w (lines text) (new_record opcode) to) where
-      only_memory : (fault : TextFault) → IsBodyFault rules w text (new_record opcode) fault → fault ≡ Memory
+      only_memory : (fault : TextFault) → IsAddFault rules w (lines text) (new_record opcode) fault → fault ≡ Memory
       only_memory Memory h = refl
       only_memory (Line n) h =
           let all = subst (λ (z : List (List ℕ)). AddUnits rules w z (new_record opcode) to) h.4 are in
@@ -80,7 +80,7 @@ module _ {Place U : Type 0} (rules : Rules Place U) (w : Wording U) where
       -- what a reader answers to a text whose lines add units
       pub only_this : (r : Result (List U) TextFault)
           → IfOk r (λ units. AddUnits rules w (lines text) (new_record opcode) (made_of units))
-          → IfErr r (IsBodyFault rules w text (new_record opcode))
+          → IfErr r (IsAddFault rules w (lines text) (new_record opcode))
           → MatchResult r (λ units. units ≡ to.body) (λ fault. fault ≡ Memory)
       only_this (Ok units) ok fault =
           let all = subst (λ (z : List (List ℕ)). AddUnits rules w z (new_record opcode) to)

@@ -1,7 +1,6 @@
 -- Lines of text, and the units that they add to a record.
 
 use Rattle.std.specs.Prelude.{◌≡◌, ℕ, ◌+◌, List, [], ◌∷◌, ◌++◌, length}
-use Rattle.std.specs.Str.Lines.{lines}
 use Rattle.ws_code.specs.Code.{Rules}
 use Rattle.ws_record.specs.Encode.{CanBeEncoded}
 use Rattle.ws_record.specs.declared.opcode.Opcode.{Opcode}
@@ -29,8 +28,8 @@ module _ {Place U : Type 0} (rules : Rules Place U) (w : Wording U) where
   AddUnits (line ∷ lines) r to = (units : List U) × CanAdd line r units × AddUnits lines (with_more r units) to
 
   -- The first line that adds nothing, counted from 1. Or all lines add units, and a growth was refused.
-  abbrev pub IsBodyFault : List ℕ → Record U → TextFault → Type 0
-  IsBodyFault text from (Line number) = (before : List (List ℕ)) × (line : List ℕ) × (after : List (List ℕ))
-      × (r : Record U) × (lines text ≡ before ++ line ∷ after) × AddUnits before from r
+  abbrev pub IsAddFault : List (List ℕ) → Record U → TextFault → Type 0
+  IsAddFault all from (Line number) = (before : List (List ℕ)) × (line : List ℕ) × (after : List (List ℕ))
+      × (r : Record U) × (all ≡ before ++ line ∷ after) × AddUnits before from r
       × ((units : List U) → ¬ CanAdd line r units) × (number ≡ length before + 1)
-  IsBodyFault text from Memory = (to : Record U) × AddUnits (lines text) from to
+  IsAddFault all from Memory = (to : Record U) × AddUnits all from to

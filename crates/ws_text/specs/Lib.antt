@@ -2,6 +2,7 @@ pub mod AnswerLines
 pub mod AnswerWords
 pub mod ElementWords
 pub mod FieldLaws
+pub mod FirstLine
 pub mod ItemLines
 pub mod Items
 pub mod BodyLines

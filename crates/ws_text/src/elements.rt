@@ -3,7 +3,7 @@ ghost use Rattle.std.specs.Str.Lines.{lines};
 ghost use Rattle.ws_record.specs.declared.record.Record.{Record as ARecord};
 ghost use Rattle.ws_stream.specs.Elements.{element_rules};
 ghost use Rattle.ws_stream.specs.declared.element.Element.{Element as AnElement};
-ghost use Rattle.ws_text.specs.BodyLines.{AddUnits, IsBodyFault, new_record};
+ghost use Rattle.ws_text.specs.BodyLines.{AddUnits, IsAddFault, new_record};
 ghost use Rattle.ws_text.specs.ElementWords.{element_wording};
 ghost use Rattle.ws_text.specs.Items.{with_more};
 ghost use Rattle.ws_text.specs.Reading.{IsOpen, Puts};
@@ -33,7 +33,7 @@ pub fn read_elements(alloc: Global, opcode: Opcode, text: &[u8]) -> Result<List<
     ensures ok { IfOk result (λ elements. AddUnits element_rules element_wording (lines text.now)
         (new_record opcode) (with_more (new_record opcode) elements)) }
     ensures fault { IfErr result
-        (IsBodyFault element_rules element_wording text.now (new_record opcode)) }
+        (IsAddFault element_rules element_wording (lines text.now) (new_record opcode)) }
     ensures only { (r : ARecord AnElement)
         → AddUnits element_rules element_wording (lines text.now) (new_record opcode) r
         → MatchResult result (λ elements. elements ≡ r.body) (λ fault. fault ≡ TextFault.Memory) }
@@ -49,7 +49,8 @@ fn read_body<B: Worded>(
 ) -> Result<List<B::Unit>, TextFault>
     ensures ok { IfOk result (λ units. AddUnits B.rules B.wording (lines text.now)
         (new_record opcode) (with_more (new_record opcode) units)) }
-    ensures fault { IfErr result (IsBodyFault B.rules B.wording text.now (new_record opcode)) }
+    ensures fault { IfErr result
+        (IsAddFault B.rules B.wording (lines text.now) (new_record opcode)) }
 {
     let mut begun = begin::<B>(alloc, 0, opcode);
     let mut rest = text;
