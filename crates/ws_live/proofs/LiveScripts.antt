@@ -103,11 +103,11 @@ module _ {L : Type 0} (means : List ℕ → List (List ℕ) → L → Type 0) (o
       let front = ahead rest behind line next inside count e b in
       record {
         before = r.before ++ (line ∷ lines inside);
-        split = r.split ∙ ap (λ z. r.before ++ z) front ∙ sym (append_assoc r.before (line ∷ lines inside) (lines behind));
+        split = r.split ∙ ap (λ z. r.before ++ z) front
+            ∙ sym (append_assoc r.before (line ∷ lines inside) (lines behind));
         good = subst (λ (z : List L). MeanThese means opener (lines text) z (lines behind)) (sym is)
             (mean_more (lines text) read line (lines inside) (lines behind) x
-            (subst (MeanThese means opener (lines text) read) front r.good) b.block
-            m);
+            (subst (MeanThese means opener (lines text) read) front r.good) b.block m);
         counted = omega (arith, r.counted, b.counted, length-append r.before (line ∷ lines inside));
         few = omega (arith, r.few, b.few, b.counted, length-append r.before (line ∷ lines inside));
       }
@@ -117,8 +117,8 @@ module _ {L : Type 0} (means : List ℕ → List (List ℕ) → L → Type 0) (o
   reads_all text rest read number r e = subst (λ (z : List ℕ). MeanThese means opener (lines text) read (lines z)) e
       r.good
 
-  pub reads_bad : (bad_at : List ℕ → List (List ℕ) → ℕ → Type 0) (text rest next behind line inside : List ℕ) (read : List L)
-      (number count at told : ℕ) → Reads text rest read number → lines rest ≡ line ∷ lines next
+  pub reads_bad : (bad_at : List ℕ → List (List ℕ) → ℕ → Type 0) (text rest next behind line inside : List ℕ)
+      (read : List L) (number count at told : ℕ) → Reads text rest read number → lines rest ≡ line ∷ lines next
       → HasBlock opener line next inside count behind → ((x : L) → means line (lines inside) x → ⊥)
       → bad_at line (lines inside) at
       → told ≡ min (number + at) (2 ^ 64 - 1) → IsFirstBad means opener bad_at text told
