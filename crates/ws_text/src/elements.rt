@@ -54,7 +54,7 @@ fn read_body<B: Worded>(
 {
     let mut begun = begin::<B>(alloc, 0, opcode);
     let mut rest = text;
-    let mut number = 0;
+    let mut number = 0u64;
     while !rest.is_empty() {
         let (line, behind) = first_line(rest);
         number += 1;

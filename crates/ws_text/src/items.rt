@@ -76,7 +76,7 @@ fn read_lines<B: Worded>(alloc: Global, text: &[u8]) -> Result<Vec<Item<B::Unit>
 {
     let mut reading = start::<B>(alloc);
     let mut rest = text;
-    let mut number = 0;
+    let mut number = 0u64;
     while !rest.is_empty() {
         let (line, behind) = first_line(rest);
         if line == b"screen".as_slice() {
