@@ -68,6 +68,17 @@ RUNS = [
     (["play", "a", "b"], ""),
 ]
 
+# The same, where the text has a bad line behind good ones.
+HOST_TEXT = "record opcode 3\n  WRITE 00 08\n  SBA 1 1\n  TEXT HELLO\n  SBA 99 1\n"
+STATION_TEXT = "record opcode 3\n  HEAD 6 56 F1\n  AT 6 53\n  TEXT BOB\n  AT 99 1\n"
+SERVE = "await\nsend 3\n  WRITE 00 08\n  SBA 1 1\n  TEXT HELLO\n  SBA 99 1\n"
+RUNS_TO_A_BAD_LINE = [
+    (["make"], HOST_TEXT),
+    (["make", "@" + HOST_TEXT], ""),
+    (["make", "--answers"], STATION_TEXT),
+    (["serve", "127.0.0.1:0", "@" + SERVE], ""),
+]
+
 MOST = 20_000
 
 
@@ -111,6 +122,13 @@ def program_runs(refusing, words, text):
         yield number, same or wanting, done
 
 
+def runs_to_a_bad_line(refusing, words, text):
+    """The same; and a growth for good lines that is refused hides no bad line. The last one of a run is such."""
+    *runs, (number, right, done) = program_runs(refusing, words, text)
+    yield from runs
+    yield number, right and done.stderr.startswith("script line "), done
+
+
 def files(words, folder):
     for number, word in enumerate(words):
         if word.startswith("@"):
@@ -127,9 +145,10 @@ def all_runs(refusing, folder):
         yield name, test_runs(refusing, name, "")
     for name in WITHOUT_MEMORY:
         yield name, test_runs(refusing, name, "..")
-    for words, text in RUNS:
-        name = " ".join("FILE" if word.startswith("@") else word for word in ["t5250", *words])
-        yield name, program_runs(refusing, list(files(words, folder)), text)
+    for all_of_a_kind, runs in (RUNS, program_runs), (RUNS_TO_A_BAD_LINE, runs_to_a_bad_line):
+        for words, text in all_of_a_kind:
+            name = " ".join("FILE" if word.startswith("@") else word for word in ["t5250", *words])
+            yield name, runs(refusing, list(files(words, folder)), text)
 
 
 def main():
