@@ -8,3 +8,4 @@ pub mod Plays
 pub mod Shows
 pub mod ViewLaws
 pub mod ReadBack
+pub mod WholeItems

@@ -1,8 +1,7 @@
 use Rattle.std.proofs.Common.{◌≡◌, ℕ, ◌+◌, ◌-◌, ◌^◌, ◌<◌, ◌≤◌, List, [], ◌∷◌, ◌++◌, Option, None, Some, inl, inr}
-use Rattle.std.proofs.Common.{length, take, drop, map, refl, sym, ap, ◌∙◌, subst, arith, append_assoc, length-append}
+use Rattle.std.proofs.Common.{length, take, drop, refl, sym, ap, ◌∙◌, subst, arith, append_assoc, length-append}
 use Rattle.std.proofs.Common.{length-take, take-append-drop}
 use Rattle.std.specs.Prelude.{◌⊎◌, Bool, false, true}
-use Rattle.std.specs.List.{flat_map, AllByRecursion}
 use Rattle.std.proofs.Math.Seq.{take-append-add}
 use Rattle.std.proofs.lemmas.List.{append-nil, take_all}
 use Rattle.std.proofs.lemmas.Grind.{flat_map-append}
@@ -12,21 +11,15 @@ use Rattle.ws_code.proofs.DeviceLaws.{went_out_both}
 use Rattle.ws_code.specs.declared.fault.Fault.{Fault}
 use Rattle.ws_code.specs.declared.fault.Fault.TheVariants as faults
 use Rattle.ws_code.specs.declared.reason.Reason.{Reason}
-use Rattle.ws_telnet.specs.declared.token.Token.{Token}
-use Rattle.ws_telnet.specs.declared.token.Telnet.{Telnet}
-use Rattle.ws_telnet.specs.Streams.{command_of}
-use Rattle.ws_record.specs.Grammar.{IsInGrammar, IsStretch, commands}
+use Rattle.ws_record.specs.Grammar.{IsInGrammar}
 use Rattle.ws_record.specs.Refusal.{IsOpen, IsRefused, IsTruncated}
 use Rattle.ws_record.specs.Receiver.{Receiving, HasReceived, HasUnit, IsFeedFault, NoneBefore}
-use Rattle.ws_record.specs.declared.record.Record.{Record}
 use Rattle.ws_record.specs.declared.record.Item.{Item}
-use Rattle.ws_record.specs.declared.record.Item.TheVariants.{Record as RecordItem, Telnet as TelnetItem}
-use Rattle.ws_code.proofs.Lists.{AllByRecursion-append, AllByRecursion-last}
 use Rattle.ws_code.proofs.Parts.{fails_last}
 use Rattle.ws_program.specs.declared.verdict.Verdict.TheVariants.{Refused, Truncated}
 use Rattle.ws_program.specs.CheckLine.{line_of, verdict_by}
 use Rattle.ws_program.specs.StreamText.{View, Placed, items_of, lines_of, HoldsItems, IsComplete, AreShown, IsShown}
-use Rattle.ws_program.specs.StreamText.{AreFirstLines, IsShowFault, IsStop, IsWholeItem, HasTaken, HasBegun, IsNextItem}
+use Rattle.ws_program.specs.StreamText.{AreFirstLines, IsShowFault, IsStop, HasTaken, HasBegun, IsNextItem}
 use Rattle.ws_program.specs.StreamText.{IsNext, IsNextFault}
 
 -- Items that are shown one after another.
@@ -60,31 +53,6 @@ module _ {Place U : Type 0} where
             (subst (λ (z : List (Item U)). IsComplete rules bytes z x) on c)
             (ap (λ (z : List (Item U)). view.fault z x.1) (sym on) ∙ none),
       )
-
-  -- the records that bytes hold have whole bodies
-  telnets_whole : (rules : Rules Place U) (ts : List Telnet) → AllByRecursion (IsWholeItem rules) (map TelnetItem ts)
-  telnets_whole rules [] = tt
-  telnets_whole rules (t ∷ ts) = (tt, telnets_whole rules ts)
-
-  stretches_whole : (rules : Rules Place U) (ss : List (List Token × Record U)) → AllByRecursion (IsStretch rules) ss
-      → AllByRecursion (IsWholeItem rules) (flat_map (λ s. commands s.0 ++ RecordItem s.1 ∷ []) ss)
-  stretches_whole rules [] h = tt
-  stretches_whole rules (s ∷ ss) h =
-      AllByRecursion-append (IsWholeItem rules) (commands s.0 ++ RecordItem s.1 ∷ []) _
-      (AllByRecursion-append (IsWholeItem rules) (commands s.0) (RecordItem s.1 ∷ [])
-      (telnets_whole rules (flat_map command_of s.0)) (h.0.is_record.body.chain, tt))
-      (stretches_whole rules ss h.1)
-
-  last_whole : (rules : Rules Place U) (bytes : List ℕ) (items : List (Item U)) (item : Item U)
-      → HoldsItems rules bytes (items ++ item ∷ []) → IsWholeItem rules item
-  last_whole rules bytes items item h =
-      AllByRecursion-last (IsWholeItem rules) items item (subst (AllByRecursion (IsWholeItem rules)) (sym h.2.are_items)
-      (AllByRecursion-append (IsWholeItem rules) _ (commands h.2.rest) (stretches_whole rules h.2.stretches h.2.each)
-      (telnets_whole rules (flat_map command_of h.2.rest))))
-
-  pub whole_next : {rules : Rules Place U} {bytes : List ℕ} {items : List (Item U)} {x : Placed U}
-      → IsComplete rules bytes items x → IsWholeItem rules x.1
-  whole_next {rules} {bytes} {items} {x} c = last_whole rules (take (x.0 + 1) bytes) items x.1 c.with_it
 
 -- the bytes before the rest lead to the receiver, which has given the items
 pub record Taken {Place U : Type 0} (rules : Rules Place U) (bytes rest : List ℕ) (receiver : Receiving Place U)

@@ -5,9 +5,10 @@ use Rattle.ws_program.specs.StreamText.{items_of}
 use Rattle.ws_program.specs.Views.{in_paint}
 use Rattle.ws_live.specs.declared.paint.Paint.{Paint}
 use Rattle.ws_live.specs.declared.paint.Paint.TheVariants.{Plain}
-use Rattle.ws_program.proofs.Shows.{shows_none, whole_next, next_is, none_next}
+use Rattle.ws_program.proofs.Shows.{shows_none, next_is, none_next}
 use Rattle.ws_program.proofs.Shows.{fewer_left, goes_on, part, accepted_behind}
 use Rattle.ws_program.proofs.Shows.{stops_next, stops_early, stops_at_item, stops_unapplied}
+use Rattle.ws_program.proofs.WholeItems.{whole_next}
 use Rattle.ws_program.proofs.show.show_items.Goals as goal
 
 pub loop-receiver-init : goal.loop-receiver-init
