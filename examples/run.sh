@@ -1,7 +1,6 @@
 #!/usr/bin/env bash
 # Runs every example with the program, and compares what it prints. The program is the first argument, or what
-# `rt run` in crates/t5250 leaves in its out folder. A test, crates/rows_program/src/example_rows.rt, has the same
-# examples as text; this looks whether they are the same. The last line counts what was compared.
+# `rt run` in crates/t5250 leaves in its out folder. The last line counts what was compared.
 set -u
 program=$(realpath "${1:-$(dirname "$0")/../crates/t5250/out/t5250}") || exit 2
 cd "$(dirname "$0")" || exit 2
@@ -33,19 +32,6 @@ compare_made() {
         && [ "$(tr -d '\n' <<<"$made")" = "$wanted" ]
     count $? "differs: make ${*:2} $1.show"
 }
-
-tested=$(<../crates/rows_program/src/example_rows.rt)
-
-same_as_tested() {
-    local text
-    text=$(cat "$1" && echo .)
-    [[ $tested == *"\"${text%.}\""* ]]
-    count $? "not as the test has it: $1"
-}
-
-for example in *.script *.out *.hex *.check *.show; do
-    same_as_tested "$example"
-done
 
 for script in *.script; do
     name=${script%.script}

@@ -4,7 +4,7 @@ use std::net::{Net, TcpListener, TcpStream};
 use std::process::Abort;
 use ws_code::{Sink, VecSink};
 use ws_live::BufferedSink;
-use ws_program::{RunFault, answer, answer_buffered, status};
+use ws_program::{RunFault, answer, answer_buffered};
 use ws_words::{Task, read_words};
 
 // What the program comes to, and what the sink is given.
@@ -45,28 +45,4 @@ pub fn buffered_outcome<
         }
         _ => panic!(rt; "an input is asked for"),
     }
-}
-
-// What the program writes through its buffer, where all goes well.
-pub fn buffered_answer<R: Net<Listener = TcpListener, Stream = TcpStream> + Abort + AllocGlobal>(
-    rt: &R,
-    words: &[&str],
-    input: &str,
-) -> VecSink {
-    let sink = VecSink::new(rt.alloc());
-    let (outcome, buffer) = buffered_outcome(rt, words, input, sink);
-    same_at(rt, input, status(&outcome), 0);
-    same_at(rt, input, outcome, Ok(true));
-    buffer.into_inner()
-}
-
-// Expects what the program writes through its buffer.
-pub fn expect_buffered<R: Net<Listener = TcpListener, Stream = TcpStream> + Abort + AllocGlobal>(
-    rt: &R,
-    words: &[&str],
-    input: &str,
-    written: &str,
-) {
-    let sink = buffered_answer(rt, words, input);
-    same_at(rt, (words, input), sink.as_slice(), written.as_bytes());
 }

@@ -6,7 +6,7 @@
 #[cfg(test)]
 mod answers;
 #[cfg(test)]
-mod example_rows;
+mod buffered_rows;
 #[cfg(test)]
 mod make_rows;
 #[cfg(test)]
