@@ -1,7 +1,8 @@
 #!/usr/bin/env bash
 # Runs every example with the program, and compares what it prints. The program is the first argument, or what
-# `rt run` in crates/t5250 leaves in its out folder. The last line counts what was compared.
-set -u
+# `rt run` in crates/t5250 leaves in its out folder. A run that doesn't end with status 0 counts as one that differs. The
+# last line counts what was compared.
+set -uo pipefail
 program=$(realpath "${1:-$(dirname "$0")/../crates/t5250/out/t5250}") || exit 2
 cd "$(dirname "$0")" || exit 2
 passed=0
@@ -46,6 +47,7 @@ done
 for hex in *-answers.hex; do
     name=${hex%.hex}
     compare "$name.check" check --answers "$hex"
+    compare "$name.check" check --answers --cut 1 "$hex"
     compare "$name.show" show --answers "$hex"
     compare_made "$name" --answers
 done
