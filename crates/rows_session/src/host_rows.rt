@@ -9,7 +9,7 @@ use std::process::Abort;
 use ws_code::{Reason, SliceSource, VecSink};
 use ws_nego::TerminalType;
 use ws_record::{Item, Opcode, decode_all};
-use ws_session::{HostEnd, HostEvent, Refusal, SendFault, Station, run_station};
+use ws_session::{HostEnd, HostEvent, ReadKind, Refusal, SendFault, Station, run_station};
 use ws_stream::{Answers, Element};
 
 // The host end refuses one of the bytes, at this place of all that it took, and takes those before it.
@@ -32,6 +32,27 @@ fn sends_are_refused(rt: HostRuntime) {
     same(&rt, host.fields().as_slice().len(), 1);
     let clear = [Element::ClearUnit];
     sends_not(&rt, &mut host, &clear, SendFault::ReadOutstanding);
+}
+
+// What a host end tells of itself that waits for an answer, and has taken so many bytes.
+fn waits(rt: &impl Abort, host: &HostEnd, taken: u64) {
+    let terminal = Some(TerminalType::Ibm3179Model2);
+    same(
+        rt,
+        (host.is_ready(), host.terminal(), host.taken()),
+        (true, terminal, taken),
+    );
+    same(rt, host.asked(), Some(ReadKind::Mdt));
+    same(rt, host.fields().as_slice().len(), 1);
+}
+
+// Behind a refused byte a host end tells what it told before, and has taken that byte too.
+#[test]
+fn a_refusal_changes_nothing_else_of_a_host_end(rt: HostRuntime) {
+    let mut host = waiting_host(&rt, rt.alloc());
+    waits(&rt, &host, 31);
+    host_refuses(&rt, &mut host, b"\xff\x00", 32, Reason::BadCommand);
+    waits(&rt, &host, 33);
 }
 
 // The answer's place counts the opening's 31 bytes, the cancel's 12, and 20 of its own.

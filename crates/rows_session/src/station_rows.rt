@@ -166,6 +166,28 @@ fn stations_refuse_records_past_the_end(rt: HostRuntime) {
     same(&rt, station.screen().cell(first), 0xc2);
 }
 
+// Behind a refused byte a station tells what it told before, and has taken that byte too.
+#[test]
+fn a_refusal_changes_nothing_else_of_a_station(rt: HostRuntime) {
+    let alloc = rt.alloc();
+    let mut station = ready_station(&rt, alloc, BOB);
+    same(
+        &rt,
+        (station.records(), station.is_ready(), station.taken()),
+        (1, true, 52),
+    );
+    let refused = Some(Refusal::At {
+        place: 53,
+        reason: Reason::BadCommand,
+    });
+    same(&rt, refusal_of(&mut station, b"\xff\x00"), refused);
+    same(
+        &rt,
+        (station.records(), station.is_ready(), station.taken()),
+        (1, true, 54),
+    );
+}
+
 const NO_READ: &[u8] = b"\x04\x40\x04\x11\x00\x08\x11\x06\x34\x1d\x40\x00\x20\x00\x0a";
 
 const MANDATORY: &[u8] =
@@ -234,6 +256,8 @@ fn the_largest_record_is_kept_without_memory(rt: HostRuntime) {
     let write = b"\x04\x11\x00\x08\xc1\xff\xef";
     same(&rt, refusal_of(&mut station, write), None);
     same(&rt, station.screen().cell(Address::default()), 0xc1);
+    // Those of the opening, those of the record with each FF twice, IAC EOR.
+    same(&rt, station.taken(), 21 + 65_537 + 2);
 }
 
 // A key sends this record, which isn't written by a sink that takes none.

@@ -72,7 +72,7 @@ module _ {t : TerminalType} {w : World} {old : WorldParts} (r : Runs t old w) wh
         byte ∷ []) reply told station → length (take w.at_station (down_bytes w)) + 1 + 1 < 2 ^ 64 → After station reply
     station_on station reply told p few = elim
         (gone_one element_rules answer_rules station_manner (StationLeads station) (take w.at_station (down_bytes w))
-        done w.station byte reply told (p (take w.at_station (down_bytes w)) done w.station r.station few)) [
+        done w.station byte reply told (p.led (take w.at_station (down_bytes w)) done w.station r.station few)) [
           | inl n ↦ goes w.station [] station reply done n.0 (tt, tt) n.2 (steps None (came.none_ends (station_holds
               n.2)) ∙ ap (λ z. record w { at_station = w.at_station + 1; up = z }) (sym (append-nil w.up)))
           | inr k ↦ taken station reply k.0 (station_takes w.station k.0) refl k.1 k.2 k.4
@@ -130,8 +130,9 @@ module _ {t : TerminalType} {w : World} {old : WorldParts} (r : Runs t old w) (m
         let done = arrived element_rules w.down w.at_station in
         let q = refused_at_once StationGoes StationRefuses
         (λ (s : StationParts). IsSome s.ended) old.station station byte reply c.told why p in
-        let l = gone_none (q.1 at done w.station r.station (omega (arith, few_in))) in
-        absurd (station_never r more_in byte is_in q.0 station why (q.2 at done w.station l (omega (arith, few_in))))
+        let l = gone_none (q.1.led at done w.station r.station (omega (arith, few_in))) in
+        absurd (station_never r more_in byte is_in q.0 station why
+            (q.2.led at done w.station l (omega (arith, few_in))))
 
 -- once nothing is in flight, more bytes make no difference
 pub stops : (n m : ℕ) → n ≤ m → (w : World) → byte_to_station (bytes_to_station n w) ≡ bytes_to_station n w
@@ -243,7 +244,7 @@ module _ {t : TerminalType} {w : World} {old : WorldParts} (r : Runs t old w) wh
         → length (take w.at_host (up_bytes w)) + 1 + 1 < 2 ^ 64 → AfterUp host reply events
     host_on host reply told events e p few =
         elim (gone_one answer_rules element_rules host_manner (HostLeads host) (take w.at_host (up_bytes w))
-        done_up w.host byte reply told (p (take w.at_host (up_bytes w)) done_up w.host r.host few)) [
+        done_up w.host byte reply told (p.led (take w.at_host (up_bytes w)) done_up w.host r.host few)) [
           | inl n ↦ goes_up w.host [] None host reply events done_up n.0 (tt, tt) (e ∙ ap (λ z. old.events ++ flat_map
               host_tells z) n.1 ∙ append-nil old.events) n.2 (steps_up None (came_up.none_ends (host_holds n.2))
               ∙ ap (λ z. record w { at_host = w.at_host + 1; down = z }) (sym (append-nil w.down)))
@@ -291,8 +292,8 @@ module _ {t : TerminalType} {w : World} {old : WorldParts} (r : Runs t old w) (m
         let done_up = arrived answer_rules w.up w.at_host in
         let q = refused_at_once HostGoes HostRefuses
         (λ (h : HostParts). IsSome h.ended) old.host host byte reply c.told why p in
-        let l = gone_none (q.1 at done_up w.host r.host (omega (arith, few_up))) in
-        absurd (host_never r more_up byte is_up q.0 host why (q.2 at done_up w.host l (omega (arith, few_up))) m)
+        let l = gone_none (q.1.led at done_up w.host r.host (omega (arith, few_up))) in
+        absurd (host_never r more_up byte is_up q.0 host why (q.2.led at done_up w.host l (omega (arith, few_up))) m)
 
 pub host_stops : (n m : ℕ) → n ≤ m → (w : World) → byte_to_host (bytes_to_host n w) ≡ bytes_to_host n w
     → bytes_to_host m w ≡ bytes_to_host n w

@@ -6,20 +6,23 @@ use C.{order_of, items_of, Crossing, all_read, TwoEnds, Through, Applied, Refusa
 use C.{Option, ToHost, length, IsSome, Manner, Rules, subst, Press, doing, Comes, arith, Event, Host, Some, Move, refl}
 use C.{Goes, Came, List, None, ◌++◌, Item, ◌∷◌, sym, ◌∙◌, ◌+◌, Did, ◌≡◌, inl, inr, ◌⊎◌, ◌<◌, [], ap, ℕ}
 use Rattle.ws_session.specs.declared.world.Move.TheVariants.{Send}
+use Rattle.ws_session.specs.StationActs.{IsShutOn}
+use Rattle.ws_session.specs.Manners.{IsHostShut}
 
 -- What crossed a line leads to its end, or the end has refused a byte of it.
 
 module _ {Place PlaceV Side U V Deed Told E : Type 0} (rules : Rules Place U) (out : Rules PlaceV V)
     (manner : Manner Side U V Deed Told)
     (leads : E → List ℕ → List (Item U) → Side → Type 0) (refuses : E → ℕ → Refusal → E → Type 0) (over : E → Type 0)
-    (tells : Told → List Event) (refusal : ℕ → Reason → Event) where
+    (tells : Told → List Event) (refusal : ℕ → Reason → Event) (is_shut : E → Type 0) where
   abbrev Led : E → List ℕ → Type 0
   Led e bytes = ((items : List (Item U)) × (side : Side) × leads e bytes items side) ⊎ over e
 
-  act_led : (a b : E) (deed : Deed) (w : List ℕ) (t : List Told) (front : List ℕ) → Goes rules out manner leads a
+  act_led : (a b : E) (deed : Deed) (w : List ℕ) (t : List Told) (front : List ℕ) → Goes rules out manner leads
+      is_shut a
       (Did deed ∷ []) w t b → (over a → b ≡ a) → length front + 1 < 2 ^ 64 → Led a front → Led b front
   act_led a b deed w t front goes same few (inl l) =
-      let g = goes front l.0 l.1 l.2 (omega (arith, few)) in
+      let g = goes.led front l.0 l.1 l.2 (omega (arith, few)) in
       inl (
         l.0 ++ items_of g.happened,
         (doing manner l.1 g.happened).side,
@@ -28,19 +31,21 @@ module _ {Place PlaceV Side U V Deed Told E : Type 0} (rules : Rules Place U) (o
       )
   act_led a b deed w t front goes same few (inr o) = inr (subst over (sym (same o)) o)
 
-  byte_led : (a b : E) (x : ℕ) (w : List ℕ) (s : List Event) (front : List ℕ) → Comes (Goes rules out manner leads)
-      refuses over tells refusal a x b w s → length front + 2 < 2 ^ 64 → Led a front → Led b (front ++ x ∷ [])
+  byte_led : (a b : E) (x : ℕ) (w : List ℕ) (s : List Event) (front : List ℕ) → Comes
+      (Goes rules out manner leads is_shut) refuses over tells refusal a x b w s → length front + 2 < 2 ^ 64 → Led a
+          front → Led b (front ++ x ∷ [])
   byte_led a b x w s front c few (inr o) = inr (subst over (sym (c.stays o).0) o)
   byte_led a b x w s front c few (inl l) = by c.why c.through where
-    by : (why : Option Refusal) → Through (Goes rules out manner leads) refuses over a (Came x ∷ []) w c.told why b
+    by : (why : Option Refusal) → Through (Goes rules out manner leads is_shut) refuses over a (Came x ∷ []) w c.told
+        why b
         → Led b (front ++ x ∷ [])
     by None goes =
-        let g = goes front l.0 l.1 l.2 (omega (arith, few)) in
+        let g = goes.led front l.0 l.1 l.2 (omega (arith, few)) in
         inl (l.0 ++ items_of g.happened, (doing manner l.1 g.happened).side, g.leads)
     by (Some why) h = inr h.is_over
 
   bytes_led : (a b : E) (xs : List ℕ) (w : List ℕ) (s : List Event) (front : List ℕ)
-      → AllCome (Goes rules out manner leads) refuses over tells refusal a xs b w s
+      → AllCome (Goes rules out manner leads is_shut) refuses over tells refusal a xs b w s
       → length front + length xs + 1 < 2 ^ 64 → Led a front → Led b (front ++ xs)
   bytes_led a b [] w s front p few l = rw p.0 (subst (Led a) (sym (append-nil front)) l)
   bytes_led a b (x ∷ xs) w s front p few l =
@@ -64,11 +69,12 @@ station_moved a b (ToHost n) ds us front p few l = stays StationIsLed a.station 
     (ap (λ (z : TwoEnds). z.station) p.1.3) l
 station_moved a b (ToStation n) ds us front p few l = bytes_led element_rules answer_rules station_manner StationLeads
     StationRefuses (λ (s : StationParts). IsSome s.ended) (λ (t : Applied). let none : List Event = [] in none)
-    (λ place reason. StationRefused place reason) a.station b.station (all_read ds) p.1.0 p.1.1 front p.1.2.come few l
+    (λ place reason. StationRefused place reason) IsShutOn a.station b.station (all_read ds) p.1.0 p.1.1 front
+        p.1.2.come few l
 station_moved a b (Press key) ds us front p few l = stays StationIsLed b.station b.station ds front p.0 refl
     (act_led element_rules answer_rules station_manner StationLeads StationRefuses (λ (s : StationParts).
     IsSome s.ended) (λ (t : Applied). let none : List Event = [] in none) (λ place reason. StationRefused place reason)
-    a.station b.station key p.2.0 [] front p.2.2.led (λ o. (p.2.2.stays o).0) (omega (arith, few)) l)
+    IsShutOn a.station b.station key p.2.0 [] front p.2.2.led (λ o. (p.2.2.stays (inl o)).0) (omega (arith, few)) l)
 
 host_moved : (a b : TwoEnds) (move : Move) (ds us : List Crossing) (front : List ℕ) → HasMoved a move ds us b → length
     front + length (all_read us) + 1 < 2 ^ 64 → HostIsLed a.host front → HostIsLed b.host (front ++ all_read us)
@@ -78,15 +84,15 @@ host_moved a b (ToStation n) ds us front p few l = stays HostIsLed a.host b.host
     (ap (λ (z : TwoEnds). z.host) p.1.3) l
 host_moved a b (ToHost n) ds us front p few l = bytes_led answer_rules element_rules host_manner HostLeads HostRefuses
     (λ (h : HostParts). IsSome h.ended) (λ (e : HostEvent). Host e ∷ [])
-    (λ place reason. HostRefused place reason) a.host b.host (all_read us) p.1.0 p.1.1 front p.1.2.come few l
+    (λ place reason. HostRefused place reason) IsHostShut a.host b.host (all_read us) p.1.0 p.1.1 front p.1.2.come few l
 host_moved a b (Send opcode body) ds us front p few l = stays HostIsLed b.host b.host us front p.1 refl
     (act_led answer_rules element_rules host_manner HostLeads HostRefuses (λ (h : HostParts). IsSome h.ended)
-    (λ (e : HostEvent). Host e ∷ []) (λ place reason. HostRefused place reason) a.host b.host
-    (order_of opcode body) p.2.0 [] front p.2.2.led (λ o. (p.2.2.stays o).0) (omega (arith, few)) l)
+    (λ (e : HostEvent). Host e ∷ []) (λ place reason. HostRefused place reason) IsHostShut a.host
+    b.host (order_of opcode body) p.2.0 [] front p.2.2.led (λ o. (p.2.2.stays (inl o)).0) (omega (arith, few)) l)
 host_moved a b Cancel ds us front p few l = stays HostIsLed b.host b.host us front p.1 refl
     (act_led answer_rules element_rules host_manner HostLeads HostRefuses (λ (h : HostParts). IsSome h.ended)
-    (λ (e : HostEvent). Host e ∷ []) (λ place reason. HostRefused place reason) a.host b.host _ p.2.0
-    [] front p.2.2.led (λ o. (p.2.2.stays o).0) (omega (arith, few)) l)
+    (λ (e : HostEvent). Host e ∷ []) (λ place reason. HostRefused place reason) IsHostShut a.host
+    b.host _ p.2.0 [] front p.2.2.led (λ o. (p.2.2.stays (inl o)).0) (omega (arith, few)) l)
 
 reads_append : (cs ds : List Crossing) → all_read (cs ++ ds) ≡ all_read cs ++ all_read ds
 reads_append cs ds = flat_map-append (λ (c : Crossing). c.read) cs ds

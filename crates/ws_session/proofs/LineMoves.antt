@@ -6,6 +6,7 @@ use C.{Act, Crossing, with_piece_at, HostParts, StationParts, TerminalType, Worl
 use C.{ends_of, all_sent, all_read, HaveCome, ComesDown, ComesUp, IsDeliveredDown, IsDeliveredUp, HasMoved}
 use C.{HaveMoved, HasRun, WireParts, AreDelivered, inl, inr, subst, take-append-drop, Fault, MayTake}
 use C.{MayGive, AreFaithful, HaveCrossed, HasCrossed, IsStopped, IsEnded, AreEnded}
+use Rattle.std.specs.List.{AllByRecursion}
 use Rattle.ws_session.specs.declared.line.Line.{Line}
 use Rattle.ws_session.proofs.Arriving.{come_on}
 
@@ -38,23 +39,35 @@ module _ (bytes : List ℕ) (at : ℕ) (read : List ℕ) (fits : at + length rea
   piece_left = sym (drop-drop (length read) at (with_piece_at bytes at read)) ∙ ap (drop (length read)) behind_front
       ∙ drop-append_seam read (drop (at + length read) bytes) ∙ sym (drop-drop (length read) at bytes)
 
+-- pieces of at most 4,096 bytes, and then further ones
+abbrev AreSmall : List Crossing → Type 0
+AreSmall crossings = AllByRecursion (λ (c : Crossing). length c.sent ≤ 4096) crossings
+
+pieces_append : (cs ds : List Crossing) → AreSmall cs → AreSmall ds → AreSmall (cs ++ ds)
+pieces_append [] ds p q = q
+pieces_append (c ∷ cs) ds p q = (p.0, pieces_append cs ds p.1 q)
+
 module _ {E Deed Told : Type 0} (goes : E → List (Act Deed) → List ℕ → List Told → E → Type 0) (refuses : E → ℕ
     → Refusal → E → Type 0) (over : E → Type 0) (tells : Told → List Event) (refusal : ℕ → Reason → Event) where
   pub none_come : (e : E) (flight : List ℕ) → HaveCome goes refuses over tells refusal 0 [] flight flight e e [] []
-  none_come e flight = record { sent = refl; as_many = refl; left = refl; come = (refl, refl, refl) }
+  none_come e flight = record { sent = refl; pieces = tt; as_many = refl; left = refl; come = (refl, refl, refl) }
 
   -- a piece that crossed
   pub piece_comes : (old new : E) (bytes : List ℕ) (at n : ℕ) (read : List ℕ) (from' to to' : WireParts)
-      (told told' : List Event) → length read ≡ n → at + n ≤ length bytes → (d : AreDelivered goes refuses
+      (told told' : List Event) → length read ≡ n → at + n ≤ length bytes → n ≤ 4096 → (d : AreDelivered goes refuses
       over tells refusal old new (record { bytes = with_piece_at bytes at read; at = at }) from' to to' told told' n)
       → HaveCome goes refuses over tells refusal n (record { sent = take n (drop at bytes); read = read } ∷ [])
       (drop at bytes) (drop from'.at from'.bytes) old new d.written d.events
-  piece_comes old new bytes at n read from' to to' told told' is fits d =
+  piece_comes old new bytes at n read from' to to' told told' is fits small d =
       let room : at + length read ≤ length bytes = omega (arith, is, fits) in
       let same : d.bytes ≡ read = d.first
       ∙ ap (λ k. take k (drop at (with_piece_at bytes at read))) (sym is) ∙ piece_first bytes at read room in
       record {
         sent = append-nil (take n (drop at bytes));
+        pieces = (
+          omega (arith, small, length-take-le n (drop at bytes) (omega (arith, fits, length-drop at bytes))),
+          tt,
+        );
         as_many = ap (λ (z : List ℕ). length z) (append-nil read)
             ∙ is ∙ sym (length-take-le n (drop at bytes) (omega (arith, fits, length-drop at bytes)))
             ∙ ap (λ (z : List ℕ). length z) (sym (append-nil (take n (drop at bytes))));
@@ -75,6 +88,7 @@ module _ {E Deed Told : Type 0} (goes : E → List (Act Deed) → List ℕ → L
         record {
           sent = sents ∙ ap (λ z. z ++ all_sent ds) p.sent
               ∙ ap (λ z. take a f ++ z) q.sent ∙ ap (λ z. take a f ++ take b z) p.left ∙ sym (take-add a b f);
+          pieces = pieces_append cs ds p.pieces q.pieces;
           as_many = omega (
             arith,
             p.as_many,
@@ -97,6 +111,7 @@ module _ {E Deed Told : Type 0} (goes : E → List (Act Deed) → List ℕ → L
       let few : length f ≤ a = omega (arith, ap (λ (z : List ℕ). length z) (sym p.left ∙ none), length-drop a f) in
       record {
         sent = p.sent ∙ take_all a f few ∙ sym (take_all b f (omega (arith, few, le)));
+        pieces = p.pieces;
         as_many = p.as_many;
         left = none ∙ sym (drop_all b f (omega (arith, few, le)));
         come = p.come;
@@ -119,28 +134,28 @@ up_none now = ([], [], none_come _ _ _ _ _ _ _, rw (append-nil (drop now.at_stat
 
 -- what went over a line, written in the place of the bytes in flight
 module _ (old new : WorldParts) (n : ℕ) (read : List ℕ) (is : length read ≡ n) where
-  pub down_piece : old.at_station + n ≤ length old.down → old.at_host ≤ length old.up
+  pub down_piece : old.at_station + n ≤ length old.down → n ≤ 4096 → old.at_host ≤ length old.up
       → IsDeliveredDown (record old { down = with_piece_at old.down old.at_station read }) n new → ComesDown
       (ends_of old) n (record { sent = take n (drop old.at_station old.down); read = read } ∷ []) (ends_of new)
-  down_piece fits room d =
+  down_piece fits small room d =
       let upward : drop new.at_host new.up ≡ drop old.at_host old.up ++ d.0.written =
       ap (λ (z : WireParts). drop z.at z.bytes) d.0.to_is ∙ drop-append-le old.at_host old.up d.0.written room in (
         d.0.written,
         d.0.events,
         piece_comes _ _ _ _ _ _ _ _ _ n read _ _ _ _ _ is
-            fits d.0,
+            fits small d.0,
         same_ends refl d.1 refl upward d.0.told_is,
       )
 
-  pub up_piece : old.at_host + n ≤ length old.up → old.at_station ≤ length old.down
+  pub up_piece : old.at_host + n ≤ length old.up → n ≤ 4096 → old.at_station ≤ length old.down
       → IsDeliveredUp (record old { up = with_piece_at old.up old.at_host read }) n new
       → ComesUp (ends_of old) n (record { sent = take n (drop old.at_host old.up); read = read } ∷ []) (ends_of new)
-  up_piece fits room d =
+  up_piece fits small room d =
       let downward : drop new.at_station new.down ≡ drop old.at_station old.down ++ d.0.written =
       ap (λ (z : WireParts). drop z.at z.bytes) d.0.to_is ∙ drop-append-le old.at_station old.down d.0.written room in (
         d.0.written,
         d.0.events,
-        piece_comes _ _ _ _ _ _ _ _ _ n read _ _ _ _ _ is fits d.0,
+        piece_comes _ _ _ _ _ _ _ _ _ n read _ _ _ _ _ is fits small d.0,
         same_ends d.1 refl downward refl d.0.told_is,
       )
 

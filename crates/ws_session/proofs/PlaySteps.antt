@@ -176,7 +176,8 @@ module _ {S : Type 0} (takes : MayTake S) (failures : S → ℕ) (t : TerminalTy
     module _ (reply : List ℕ) (told : List Applied)
         (goes : StationGoes before (Came byte ∷ []) reply told old.station) where
       went_by : Went old.station bytes items so_far.side byte reply told
-      went_by = station_went _ bytes items _ byte reply told (goes bytes items _ c.is_behind.leads (omega (arith, few)))
+      went_by = station_went _ bytes items _ byte reply told (goes.led bytes items _ c.is_behind.leads
+          (omega (arith, few)))
 
       -- the reply isn't written
       reply_fails : (to : S) → FailedWithin takes failures now to reply
@@ -260,7 +261,7 @@ module _ {S : Type 0} (takes : MayTake S) (failures : S → ℕ) (t : TerminalTy
     refused_as : (to : S) → to ≡ now → (refusal : Refusal) → StationRefuses before byte refusal old.station
         → IsRunFault t keys takes failures start to (length bytes) longer (fault_of refusal)
     refused_as to unwritten (At place reason) refuses =
-        let is = refuses bytes items so_far.side c.is_behind.leads (omega (arith, few)) in
+        let is = refuses.led bytes items so_far.side c.is_behind.leads (omega (arith, few)) in
         record {
           before = bytes;
           byte = byte;
@@ -274,7 +275,7 @@ module _ {S : Type 0} (takes : MayTake S) (failures : S → ℕ) (t : TerminalTy
           why = is.2;
           wrote = rw unwritten c.wrote;
         }
-    refused_as to unwritten why refuses = refuses bytes items so_far.side c.is_behind.leads (omega (arith, few))
+    refused_as to unwritten why refuses = refuses.led bytes items so_far.side c.is_behind.leads (omega (arith, few))
 
     -- it doesn't come through
     pub byte_fails : (to : S) (fault : Fault) → IsUntaken StationGoes StationRefuses takes failures

@@ -65,7 +65,7 @@ module _ {S : Type 0} (takes : MayTake S) (failures : S → ℕ) (old : Player) 
   pressed : (text : List ℕ) (told : List Applied) → StationGoes old.station (Did key ∷ []) text told station
       → Comes station bytes items text (at_moment side (Presses key)).written (at_moment side (Presses key)).side
   pressed text told goes = by_act _ bytes items side text (station_key side key)
-      (key_did _ bytes items side key text told (goes bytes items side l (omega (arith, few))))
+      (key_did _ bytes items side key text told (goes.led bytes items side l (omega (arith, few))))
 
   pub taken_done : HasWritten StationGoes takes failures old.station station from to (Did key ∷ []) []
       → IsKeyTaken old.station key
@@ -75,7 +75,7 @@ module _ {S : Type 0} (takes : MayTake S) (failures : S → ℕ) (old : Player) 
       record {
         leads = p.1;
         refused = λ before is. add_none old.keys_refused (at_moment side (Presses key)).refused before
-            (unrefused side (station_key side key) (taken bytes items side l few)) is;
+            (unrefused side (station_key side key) (taken.led bytes items side l few)) is;
         records = refl;
         wrote = rw (← p.0) h.wrote;
       }
@@ -87,7 +87,7 @@ module _ {S : Type 0} (takes : MayTake S) (failures : S → ℕ) (old : Player) 
   pub refused_done : (fault : KeyFault) (count : ℕ) → station ≡ old.station → to ≡ from
       → IsKeyRefusal old.station key fault → count ≡ min (old.keys_refused + 1) (2 ^ 32 - 1) → HasDone takes failures
       bytes items old (record old { station = station; keys_refused = count }) from to (at_moment side (Presses key))
-  refused_done fault count same unwritten refusal is = rw (refusal bytes items side l few) (record {
+  refused_done fault count same unwritten refusal is = rw (refusal.led bytes items side l few) (record {
     leads = rw same l;
     refused = λ before e. (let f : count ≡ refusal_count (before + 1) = omega (arith, e, is) in f);
     records = refl;

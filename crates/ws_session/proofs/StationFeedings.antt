@@ -43,7 +43,7 @@ module _ {D P U H PlaceV V K R : Type 0} (rules : Rules P U) (d : DisplayOf D U 
       (side : SideOn H) (byte : ℕ) (refusal : Refusal) → mid.screen ≡ old.screen → IsFrontedOn rules d mid new
       (bytes ++ byte ∷ []) items side (Err refusal) → IsPushedOn rules d old new bytes items side byte (Err refusal)
   pushed_at_last old mid new bytes items side byte (At place reason) same f =
-      (omega (arith, f.0, length-append bytes (byte ∷ [])), f.1 ∙ same, f.2)
+      (omega (arith, f.0, length-append bytes (byte ∷ [])), f.1 ∙ same, f.2, f.3)
   pushed_at_last old mid new bytes items side byte why same f = f
 
   module _ (bytes : List ℕ) (items : List (Item U)) (side : SideOn H) (piece : List ℕ) (i : ℕ)
@@ -110,11 +110,11 @@ module _ (old mid new : HostParts) (bytes : List ℕ) (items : List (Item Answer
   pub host_at_last : (refusal : Refusal) → mid.screen ≡ old.screen → IsHostFronted mid new
       (bytes ++ byte ∷ []) items side (Err refusal) → EndsAt old new byte refusal bytes items side
   host_at_last (At place reason) same f = (
-    (omega (arith, f.0, length-append bytes (byte ∷ [])), f.1 ∙ same, f.3),
+    (omega (arith, f.0, length-append bytes (byte ∷ [])), f.1 ∙ same, f.3, f.4),
     omega (arith, f.2, length-append bytes (byte ∷ [])),
   )
   host_at_last Memory same f = (
-    (f.0 ∙ same, elim f.2 [ inl e ↦ inl (last_wanting e) | inr w ↦ inr w ]),
+    (f.0 ∙ same, elim f.2 [ inl e ↦ inl (last_wanting e) | inr w ↦ inr w ], f.3),
     omega (arith, f.1, length-append bytes (byte ∷ [])),
   )
   host_at_last Failed same f = absurd f

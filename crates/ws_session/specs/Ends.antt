@@ -1,6 +1,6 @@
 -- Why an end takes no more bytes, and which of them it has refused
 
-use Rattle.std.specs.Prelude.{◌≡◌, ◌<◌, ◌≤◌, ◌+◌, ℕ, Option, Some, None}
+use Rattle.std.specs.Prelude.{◌≡◌, ◌<◌, ◌≤◌, ◌+◌, ◌^◌, ◌⊎◌, ℕ, Option, Some, None, IsSome}
 use Rattle.ws_code.specs.declared.reason.Reason.{Reason}
 use Rattle.ws_session.specs.declared.refusal.Refusal.{Refusal}
 use Rattle.ws_session.specs.declared.refusal.Refusal.TheVariants.{At, Failed, Memory}
@@ -12,6 +12,11 @@ refused_byte (Some (At place reason)) = Some (place, reason)
 refused_byte (Some Failed) = None
 refused_byte (Some Memory) = None
 refused_byte None = None
+
+-- An end is shut: it has refused a byte, or has taken as many as can be counted. It takes no more, and nothing that is
+-- done at it has an effect.
+abbrev pub IsShut : Option Refusal → ℕ → Type 0
+IsShut ended taken = IsSome ended ⊎ (taken + 1 ≡ 2 ^ 64)
 
 -- a byte that is refused stands at this place
 abbrev pub StandsAt : Refusal → ℕ → Type 0

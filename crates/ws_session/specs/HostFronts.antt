@@ -59,8 +59,9 @@ IsHostFronted old new bytes items side (Ok step) = HostStaysInside old new bytes
     ⊎ HostTakesItem new bytes items side step
 IsHostFronted old new bytes items side (Err (At place reason)) = (length bytes ≡ place + 1)
     × (new.screen ≡ old.screen) × (new.receiver.live.taken ≡ length bytes)
-    × (IsRefused answer_rules bytes place reason ⊎ HostRefusesItem bytes items side reason)
+    × (IsRefused answer_rules bytes place reason ⊎ HostRefusesItem bytes items side reason) × HostStands new side
 IsHostFronted old new bytes items side (Err Memory) = (new.screen ≡ old.screen)
     × (new.receiver.live.taken ≡ length bytes)
     × (EndIn bytes (λ before last. CompletesUnit answer_rules before last) ⊎ HostWantsItem bytes items side)
+    × HostStands new side
 IsHostFronted old new bytes items side (Err Failed) = ⊥

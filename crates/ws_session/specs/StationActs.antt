@@ -5,13 +5,20 @@ use Rattle.std.specs.Prelude.{[], ◌∷◌, ◌++◌, length, Err}
 use Rattle.ws_code.specs.Code.{Rules}
 use Rattle.ws_record.specs.declared.record.Item.{Item}
 use Rattle.ws_session.specs.declared.refusal.Refusal.{Refusal}
+use Rattle.ws_session.specs.declared.refusal.Refusal.TheVariants.{Failed}
 use Rattle.ws_session.specs.declared.key_fault.KeyFault.{KeyFault}
+use Rattle.ws_session.specs.declared.key_fault.KeyFault.TheVariants.{Failed as KeyFailed}
+use Rattle.ws_session.specs.Ends.{IsShut}
 use Rattle.ws_session.specs.declared.end_step.Applied.{Applied}
 use Rattle.ws_session.specs.Acts.{Act, Goes, all_came, as_list, HasGone}
 use Rattle.ws_session.specs.Displays.{DisplayOf, SideOn, RefusesKey}
 use Rattle.ws_session.specs.PartsOn.{PartsOn}
 use Rattle.ws_session.specs.StationManners.{told_by, key_on, manner_on}
 use Rattle.ws_session.specs.Stations.{LeadsOn, IsPushedOn}
+
+-- the station takes no more
+abbrev pub IsShutOn : {D P : Type 0} → PartsOn D P → Type 0
+IsShutOn station = IsShut station.ended station.live.taken
 
 module _ {D P U H PlaceV V K R : Type 0} (rules : Rules P U) (d : DisplayOf D U H PlaceV V K R) where
   -- Behind these bytes others come, one after another: the station refuses none of their items, writes and tells this,
@@ -42,21 +49,25 @@ module _ {D P U H PlaceV V K R : Type 0} (rules : Rules P U) (d : DisplayOf D U 
 
   -- these acts lead from one station to another; this goes out, and this is told
   abbrev pub GoesOnDisplay : PartsOn D P → List (Act K) → List ℕ → List Applied → PartsOn D P → Type 0
-  GoesOnDisplay = Goes rules d.out (manner_on d) (LeadsOn rules d)
+  GoesOnDisplay = Goes rules d.out (manner_on d) (LeadsOn rules d) IsShutOn
 
-  -- the station refuses this byte behind all that came before it
-  abbrev pub RefusesOn : PartsOn D P → ℕ → Refusal → PartsOn D P → Type 0
-  RefusesOn old byte refusal new = (bytes : List ℕ) (items : List (Item U)) (side : SideOn H)
-      → LeadsOn rules d old bytes items side → length bytes + 1 < 2 ^ 64
-      → IsPushedOn rules d old new bytes items side byte (Err refusal)
+  -- the station refuses this byte behind all that came before it; where it is shut, for that alone
+  pub record RefusesOn (old : PartsOn D P) (byte : ℕ) (refusal : Refusal) (new : PartsOn D P) : Type 0 where
+    pub led : (bytes : List ℕ) (items : List (Item U)) (side : SideOn H)
+        → LeadsOn rules d old bytes items side → length bytes + 1 < 2 ^ 64
+        → IsPushedOn rules d old new bytes items side byte (Err refusal)
+    pub shut : IsShutOn old → (refusal ≡ Failed) × (new.screen ≡ old.screen)
 
-  -- it refuses the key, for this reason, by all that came and was pressed before
-  abbrev pub IsKeyRefusalOn : PartsOn D P → K → KeyFault → Type 0
-  IsKeyRefusalOn station key fault = (bytes : List ℕ) (items : List (Item U)) (side : SideOn H)
-      → LeadsOn rules d station bytes items side → length bytes + 1 < 2 ^ 64 → key_on d side key ≡ RefusesKey fault
+  -- it refuses the key, for this reason, by all that came and was pressed before, or since it is shut
+  pub record IsKeyRefusalOn (station : PartsOn D P) (key : K) (fault : KeyFault) : Type 0 where
+    pub led : (bytes : List ℕ) (items : List (Item U)) (side : SideOn H)
+        → LeadsOn rules d station bytes items side → length bytes + 1 < 2 ^ 64
+        → key_on d side key ≡ RefusesKey fault
+    pub shut : IsShutOn station → fault ≡ KeyFailed
 
   -- it has no reason to refuse it
-  abbrev pub IsKeyTakenOn : PartsOn D P → K → Type 0
-  IsKeyTakenOn station key = (bytes : List ℕ) (items : List (Item U)) (side : SideOn H)
-      → LeadsOn rules d station bytes items side → length bytes + 1 < 2 ^ 64
-      → (fault : KeyFault) → key_on d side key ≡ RefusesKey fault → ⊥
+  pub record IsKeyTakenOn (station : PartsOn D P) (key : K) : Type 0 where
+    pub led : (bytes : List ℕ) (items : List (Item U)) (side : SideOn H)
+        → LeadsOn rules d station bytes items side → length bytes + 1 < 2 ^ 64
+        → (fault : KeyFault) → key_on d side key ≡ RefusesKey fault → ⊥
+    pub works : IsShutOn station → ⊥

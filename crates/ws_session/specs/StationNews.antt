@@ -19,7 +19,7 @@ use Rattle.ws_session.specs.declared.station.StationStep.{StationStep}
 use Rattle.ws_session.specs.Displays.{DisplayOf, SideOn}
 use Rattle.ws_session.specs.StationCounts.{is_record}
 use Rattle.ws_session.specs.PartsOn.{PartsOn}
-use Rattle.ws_session.specs.Stations.{StaysInsideOn, TakesItemOn, RefusesItemOn, IsClosedOn}
+use Rattle.ws_session.specs.Stations.{StaysInsideOn, TakesItemOn, RefusesItemOn, IsClosedOn, HasStoppedOn}
 
 module _ {D P U H PlaceV V K R : Type 0} (rules : Rules P U) (d : DisplayOf D U H PlaceV V K R) where
   -- these bytes are written, and no record ends
@@ -58,5 +58,6 @@ module _ {D P U H PlaceV V K R : Type 0} (rules : Rules P U) (d : DisplayOf D U 
       ⊎ ((taken : TakesItemOn rules d new bytes items side step.reply) × (step.ends_record ≡ is_record taken.item))
   IsFrontedOn old new bytes items side (Err (At place reason)) = (length bytes ≡ place + 1)
       × (new.screen ≡ old.screen) × (IsRefused rules bytes place reason ⊎ RefusesItemOn rules d bytes items side reason)
+      × HasStoppedOn rules d new (length bytes) items side
   IsFrontedOn old new bytes items side (Err Failed) = ⊥
   IsFrontedOn old new bytes items side (Err Memory) = ⊥

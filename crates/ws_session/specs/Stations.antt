@@ -64,6 +64,13 @@ module _ {D P U H PlaceV V K R : Type 0} (rules : Rules P U) (d : DisplayOf D U 
     pub spelled : d.written new.screen reply ≡ plain_spelling d.out writes
     pub leads : LeadsOn new bytes (items ++ item ∷ []) next
 
+  -- it has taken so many bytes, and stands where these items left it
+  pub record HasStoppedOn (station : PartsOn D P) (count : ℕ) (items : List (Item U)) (side : SideOn H) : Type 0 where
+    pub taken : station.live.taken ≡ count
+    pub options : station.options ≡ side.options
+    pub given : d.gives side.happened station.screen
+    pub counted : station.records ≡ records_in items
+
   -- it completes an item that the station refuses
   pub record RefusesItemOn (bytes : List ℕ) (items : List (Item U)) (side : SideOn H) (reason : Reason) : Type 0 where
     pub item : Item U
@@ -104,6 +111,7 @@ module _ {D P U H PlaceV V K R : Type 0} (rules : Rules P U) (d : DisplayOf D U 
   IsPushedOn old new bytes items side byte (Err (At place reason)) =
       (place ≡ length bytes) × (new.screen ≡ old.screen)
       × (IsRefused rules (bytes ++ byte ∷ []) place reason ⊎ IsItemRefusedOn bytes items side byte reason)
+      × HasStoppedOn new (length (bytes ++ byte ∷ [])) items side
   IsPushedOn old new bytes items side byte (Err Failed) = ⊥
   IsPushedOn old new bytes items side byte (Err Memory) = ⊥
 

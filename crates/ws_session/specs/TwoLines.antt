@@ -1,6 +1,7 @@
 -- A session whose bytes go over two lines: what each move does, whatever the lines bring.
 
-use Rattle.std.specs.Prelude.{◌≡◌, ℕ, ◌+◌, ◌^◌, ◌<◌, ◌⊎◌, List, [], ◌∷◌, ◌++◌, IsSome, flat_map, length, take, drop}
+use Rattle.std.specs.Prelude.{◌≡◌, ℕ, ◌+◌, ◌^◌, ◌<◌, ◌≤◌, ◌⊎◌, List, [], ◌∷◌, ◌++◌, IsSome, flat_map, length, take, drop}
+use Rattle.std.specs.List.{AllByRecursion}
 use Rattle.ws_code.specs.declared.reason.Reason.{Reason}
 use Rattle.ws_nego.specs.declared.terminal.TerminalType.{TerminalType}
 use Rattle.ws_nego.specs.Host.{opening}
@@ -29,7 +30,8 @@ use Rattle.ws_session.specs.Acts.{Act, Did}
 use Rattle.ws_session.specs.Crossings.{Crossing}
 use Rattle.ws_session.specs.HostLeads.{HostParts, HostLeads}
 use Rattle.ws_session.specs.HostSide.{HostSide, new_host_side, host_cancel, SendReaction, RefusesSend}
-use Rattle.ws_session.specs.Manners.{StationGoes, StationRefuses, HostGoes, HostRefuses}
+use Rattle.ws_session.specs.StationActs.{IsShutOn}
+use Rattle.ws_session.specs.Manners.{StationGoes, StationRefuses, HostGoes, HostRefuses, IsHostShut}
 use Rattle.ws_session.specs.Runs.{WorldParts}
 use Rattle.ws_session.specs.StationLeads.{StationParts, StationLeads}
 use Rattle.ws_session.specs.StationSide.{StationSide, new_station_side, station_key, KeyReaction, RefusesKey}
@@ -77,6 +79,8 @@ module _ {E Deed Told : Type 0} (goes : E → List (Act Deed) → List ℕ → L
   pub record HaveCome (count : ℕ) (crossings : List Crossing) (flight flight' : List ℕ) (old new : E)
       (written : List ℕ) (told : List Event) : Type 0 where
     pub sent : all_sent crossings ≡ take count flight
+    -- in pieces of at most 4,096 bytes
+    pub pieces : AllByRecursion (λ (c : Crossing). length c.sent ≤ 4096) crossings
     pub as_many : length (all_read crossings) ≡ length (all_sent crossings)
     pub left : flight' ≡ drop count flight
     pub come : AllCome goes refuses over tells refusal old (all_read crossings) new written told
@@ -112,13 +116,13 @@ abbrev pub order_of : Opcode → List Element → Order
 order_of CancelInvite body = Cancelling
 order_of opcode body = Sending opcode body
 
--- A key at the station. One that has refused a byte stays as it is.
+-- A key at the station. One that is shut stays as it is.
 pub record HasPressed (old : StationParts) (key : Key) (new : StationParts) (written : List ℕ)
     (told : List Event) : Type 0 where
   pub led : StationGoes old (Did key ∷ []) written [] new
   pub tells : (bytes : List ℕ) (items : List (Item Element)) (side : StationSide) → StationLeads old bytes items side
       → length bytes + 1 < 2 ^ 64 → told ≡ key_told (station_key side key)
-  pub stays : IsSome old.ended → (new ≡ old) × (written ≡ []) × (told ≡ KeyRefused KeyFailed ∷ [])
+  pub stays : IsShutOn old → (new ≡ old) × (written ≡ []) × (told ≡ KeyRefused KeyFailed ∷ [])
 
 -- the same of a send or a cancel at the host end
 pub record HasOrdered (old : HostParts) (order : Order) (new : HostParts) (written : List ℕ)
@@ -126,7 +130,7 @@ pub record HasOrdered (old : HostParts) (order : Order) (new : HostParts) (writt
   pub led : HostGoes old (Did order ∷ []) written [] new
   pub tells : (bytes : List ℕ) (items : List (Item AnswerPart)) (side : HostSide) → HostLeads old bytes items side
       → length bytes + 1 < 2 ^ 64 → told ≡ send_told (host_orders side order)
-  pub stays : IsSome old.ended → (new ≡ old) × (written ≡ []) × (told ≡ SendRefused SendFailed ∷ [])
+  pub stays : IsHostShut old → (new ≡ old) × (written ≡ []) × (told ≡ SendRefused SendFailed ∷ [])
 
 -- What each act makes of both ends: what an end writes is in flight to the other, behind what was.
 

@@ -1,6 +1,7 @@
 //! A session whose bytes go over a connection.
 ghost use Rattle.std.specs.Prelude.{◌≡◌, ◌<◌, ◌^◌, ◌≤◌, ◌+◌, ◌⊎◌, ◌∷◌, [], List as Seq, length, vec_len, IfOk, IfErr, OnOk};
 ghost use Rattle.ws_nego.specs.declared.terminal.TerminalType.{TerminalType as ATerminal};
+ghost use Rattle.ws_session.specs.BrokenOff.{IsCut, CutsDown, CutsUp, BreaksOff, HasEndedEarly};
 ghost use Rattle.ws_session.specs.Crossings.{Crossing, AreFaithful, HaveCrossed, IsEnded, AreEnded};
 ghost use Rattle.ws_session.specs.Reports.{IsReport};
 ghost use Rattle.ws_session.specs.Runs.{Runs};
@@ -52,6 +53,10 @@ impl World {
             r.to_station r.to_host (after_moves (new_world terminal) moves.now))) }
         ensures fault { IfErr result (AreEnded S.takes S.failures R.gives R.failures
             T.takes T.failures Q.gives Q.failures down.old down.new up.old up.new) }
+        // What went into the lines before it is what the session of a front of the moves writes.
+        ensures early { IfErr result (HasEndedEarly S.takes S.failures R.gives R.failures
+            T.takes T.failures Q.gives Q.failures
+            terminal moves.now down.old down.new up.old up.new) }
     {
         let mut world = World::new(alloc, terminal)?;
         for step in moves {
@@ -74,6 +79,9 @@ impl World {
             → Runs t self.old w → Runs t self.new (after_move w step.now))) }
         ensures fault { IfErr result (AreEnded S.takes S.failures R.gives R.failures
             T.takes T.failures Q.gives Q.failures down.old down.new up.old up.new) }
+        ensures early { IfErr result (BreaksOff S.takes S.failures R.gives R.failures
+            T.takes T.failures Q.gives Q.failures
+            (ends_of self.old) step.now down.old down.new up.old up.new) }
     {
         match step {
             Move::Send(opcode, body) => self.order(*opcode, body.as_slice()),
@@ -96,6 +104,8 @@ impl World {
             → Runs t self.old w → Runs t self.new (spec.bytes_to_station count w))) }
         ensures fault { IfErr result
             (IsEnded S.takes S.failures R.gives R.failures line.old line.new) }
+        ensures early { IfErr result (CutsDown S.takes S.failures R.gives R.failures
+            (ends_of self.old) count line.old line.new) }
     {
         let mut left = count;
         while left > 0 {
@@ -124,6 +134,8 @@ impl World {
             → Runs t self.old w → Runs t self.new (spec.bytes_to_station piece w))) }
         ensures fault { IfErr result
             (IsEnded S.takes S.failures R.gives R.failures line.old line.new) }
+        ensures early { IfErr result (IsCut S.takes S.failures R.gives R.failures
+            (ends_of self.old).to_station line.old line.new) }
     {
         self.known_wires();
         let mut taken = [0u8; PIECE];
@@ -150,6 +162,8 @@ impl World {
             → Runs t self.old w → Runs t self.new (spec.bytes_to_host count w))) }
         ensures fault { IfErr result
             (IsEnded S.takes S.failures R.gives R.failures line.old line.new) }
+        ensures early { IfErr result (CutsUp S.takes S.failures R.gives R.failures
+            (ends_of self.old) count line.old line.new) }
     {
         let mut left = count;
         while left > 0 {
@@ -178,6 +192,8 @@ impl World {
             → Runs t self.old w → Runs t self.new (spec.bytes_to_host piece w))) }
         ensures fault { IfErr result
             (IsEnded S.takes S.failures R.gives R.failures line.old line.new) }
+        ensures early { IfErr result (IsCut S.takes S.failures R.gives R.failures
+            (ends_of self.old).to_host line.old line.new) }
     {
         self.known_wires();
         let mut taken = [0u8; PIECE];

@@ -64,3 +64,18 @@ returns-clause-came g c =
     let i = c.loop-left.invariant in
     let done : c.args.count ≡ i.gone = omega (arith, i.all, c.loop-left-test.false) in
     rw done (i.crossings, i.crossed, i.heard, i.runs)
+
+pub returns-in_err-piece_to_host-clause-early : goal.returns-in_err-piece_to_host-clause-early
+returns-in_err-piece_to_host-clause-early g c =
+    let i = c.loop-left.invariant in
+    let p = err_from_is_err_and c.from_residual.result c.from_residual.ensures.1 in
+    rw (p.1, p.2) (record {
+      fewer = i.gone;
+      crossings = i.crossings;
+      ends = ends_of c.loop-left.self;
+      last = c.loop-left.line;
+      within = omega (arith, i.all);
+      crossed = i.crossed;
+      came = i.heard;
+      cut = c.in_err-piece_to_host.ensures.early;
+    })

@@ -1,6 +1,6 @@
 use Rattle.ws_session.proofs.Common.{◌≡◌, length, List, ℕ, [], ◌∷◌, arith, take, drop, inl, inr, refl, ap, ◌∙◌}
 use Rattle.ws_session.proofs.Common.{length-take-le, length-drop, err_from_is_err_and, on_ok_weaker, IfErr-weaker}
-use Rattle.ws_session.proofs.Common.{with_piece_at, WireParts}
+use Rattle.ws_session.proofs.Common.{with_piece_at, WireParts, take-append-drop, sym}
 use Rattle.ws_session.specs.contracts.world.World.{the_view}
 use Rattle.ws_session.proofs.LineMoves.{both_of_ok, up_piece, written_back}
 use Rattle.ws_session.proofs.world.World.piece_to_host.Goals as goal
@@ -32,7 +32,7 @@ returns-clause-came g c =
     on_ok_weaker c.bytes_to_host.result (λ q. (
       record { sent = sent; read = read },
       (record { sink = c.carry.new.sink; source = c.carry.new.source }, c.in_ok-carry.ensures.carried, refl),
-      rw (← c.self.view_is, same) (up_piece (the_view s) c.bytes_to_host.new.self n read long fits room
+      rw (← c.self.view_is, same) (up_piece (the_view s) c.bytes_to_host.new.self n read long fits c.requires.small room
           (rw c.write_over.ensures at q.1)),
       (λ faithful t w r.
           let kept : c.write_over.new.self ≡ s.up = c.write_over.ensures
@@ -49,3 +49,21 @@ returns-clause-fault g c = IfErr-weaker c.bytes_to_host.result _ _ (λ fault m. 
     (record { sink = c.carry.new.sink; source = c.carry.new.source }, c.in_ok-carry.ensures.carried, refl),
   ),
 )) c.bytes_to_host.ensures.fault
+
+pub returns-in_err-carry-clause-early : goal.returns-in_err-carry-clause-early
+returns-in_err-carry-clause-early g c =
+    let p = err_from_is_err_and c.from_residual.result c.from_residual.ensures.1 in
+    let flight = c.waiting.result.now in
+    let next = sym c.waiting.ensures.bytes ∙ sym (take-append-drop c.args.piece flight) in
+    rw (p.1, p.2) (rw (← c.self.view_is) (inr (_, _, (drop c.args.piece flight, next), c.in_err-carry.ensures.fault)))
+
+pub returns-clause-early : goal.returns-clause-early
+returns-clause-early g c =
+    let flight = c.waiting.result.now in
+    let next = sym c.waiting.ensures.bytes ∙ sym (take-append-drop c.args.piece flight) in
+    rw (← c.self.view_is) (IfErr-weaker c.bytes_to_host.result _ _ (λ fault m. inl (
+      m,
+      record { sent = take c.args.piece flight; read = c.carry.new.taken },
+      (drop c.args.piece flight, next),
+      (record { sink = c.carry.new.sink; source = c.carry.new.source }, c.in_ok-carry.ensures.carried, refl),
+    )) c.bytes_to_host.ensures.fault)

@@ -1,4 +1,6 @@
-use Rattle.ws_session.proofs.Common.{length, ◌^◌, ◌<◌, ◌+◌, [], ◌++◌, take, inl, refl, sym, subst, take_all}
+use Rattle.ws_session.proofs.Common.{length, ◌^◌, ◌<◌, ◌+◌, [], ◌∷◌, ◌++◌, take, drop, inl, inr, refl, sym, subst}
+use Rattle.ws_session.proofs.Common.{take_all}
+use Rattle.ws_session.proofs.Common.{◌∙◌, ap, append-nil, append_assoc, take-append-drop}
 use Rattle.ws_session.proofs.Common.{err_from_is_err_and, IfErr-weaker, TwoEnds, ends_of, all_read, StationIsLed}
 use Rattle.ws_session.proofs.Common.{HostIsLed, new_world, after_moves, longer_by}
 use Rattle.ws_session.proofs.LineLeads.{station_is_led, host_is_led}
@@ -71,3 +73,53 @@ pub returns-in_err-world-clause-fault : goal.returns-in_err-world-clause-fault
 returns-in_err-world-clause-fault g c =
     let p = err_from_is_err_and c.from_residual.result c.from_residual.ensures.1 in
     rw (p.1, p.2) (inl (c.in_err-world.ensures.fault, ([], refl), ([], refl)))
+
+pub returns-in_err-take_carried-clause-early : goal.returns-in_err-take_carried-clause-early
+returns-in_err-take_carried-clause-early g c =
+    let moves = c.args.moves.now in
+    let n = c.loop-step.step-index in
+    let i = c.loop-step.invariant in
+    let left = drop (n + 1) moves in
+    let longer = longer_by moves n _ c.loop-step-test.true c.step-item.is in
+    let p =
+    err_from_is_err_and c.from_residual-in_err-take_carried.result c.from_residual-in_err-take_carried.ensures.1 in
+    rw (p.1, p.2) (inr (record {
+      front = take n moves;
+      left = _ ∷ left;
+      split = sym (take-append-drop (n + 1) moves) ∙ ap (λ z. z ++ left) longer
+          ∙ append_assoc (take n moves) (_ ∷ []) left;
+      downs = i.downs;
+      ups = i.ups;
+      now = ends_of c.loop-step.world;
+      ran = i.moved;
+      last_down = c.loop-step.down;
+      last_up = c.loop-step.up;
+      crossed_down = i.went_down;
+      crossed_up = i.went_up;
+      breaks = c.in_err-take_carried.ensures.early;
+    }))
+
+pub returns-clause-early : goal.returns-clause-early
+returns-clause-early g c =
+    let moves = c.args.moves.now in
+    let i = c.loop-step.invariant in
+    let all = take_all c.loop-step.step-index moves c.loop-step-test.false in
+    IfErr-weaker c.report.result _ _ (λ fault m. inr (record {
+      front = moves;
+      left = [];
+      split = sym (append-nil moves);
+      downs = i.downs;
+      ups = i.ups;
+      now = ends_of c.loop-step.world;
+      ran = rw all at i.moved;
+      last_down = c.loop-step.down;
+      last_up = c.loop-step.up;
+      crossed_down = i.went_down;
+      crossed_up = i.went_up;
+      breaks = (m, refl, refl);
+    })) c.report.ensures.fault
+
+pub returns-in_err-world-clause-early : goal.returns-in_err-world-clause-early
+returns-in_err-world-clause-early g c =
+    let p = err_from_is_err_and c.from_residual.result c.from_residual.ensures.1 in
+    rw (p.1, p.2) (inl (c.in_err-world.ensures.fault, refl, refl))

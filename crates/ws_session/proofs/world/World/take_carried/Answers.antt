@@ -51,3 +51,23 @@ returns-in-Key-clause-taken g c = on_ok_weaker c.press.result
 pub returns-in-Key-clause-fault : goal.returns-in-Key-clause-fault
 returns-in-Key-clause-fault g c = IfErr-weaker c.press.result _ _ (λ fault m. inl (m, ([], refl), ([], refl)))
     c.press.ensures.fault
+
+pub returns-in-ToStation-clause-early : goal.returns-in-ToStation-clause-early
+returns-in-ToStation-clause-early g c = rw c.in-ToStation.is (IfErr-weaker c.carry_to_station.result _ _
+    (λ fault k. (k, refl)) c.carry_to_station.ensures.early)
+
+pub returns-in-ToHost-clause-early : goal.returns-in-ToHost-clause-early
+returns-in-ToHost-clause-early g c = rw c.in-ToHost.is (IfErr-weaker c.carry_to_host.result _ _
+    (λ fault k. (k, refl)) c.carry_to_host.ensures.early)
+
+pub returns-in-Send-clause-early : goal.returns-in-Send-clause-early
+returns-in-Send-clause-early g c = rw c.in-Send.is (IfErr-weaker c.order.result _ _ (λ fault m. (m, refl, refl))
+    c.order.ensures.fault)
+
+pub returns-in-Cancel-clause-early : goal.returns-in-Cancel-clause-early
+returns-in-Cancel-clause-early g c = rw c.in-Cancel.is (IfErr-weaker c.cancel.result _ _ (λ fault m. (m, refl, refl))
+    c.cancel.ensures.fault)
+
+pub returns-in-Key-clause-early : goal.returns-in-Key-clause-early
+returns-in-Key-clause-early g c = rw c.in-Key.is (IfErr-weaker c.press.result _ _ (λ fault m. (m, refl, refl))
+    c.press.ensures.fault)

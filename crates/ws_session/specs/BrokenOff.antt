@@ -1,0 +1,89 @@
+-- A session over two lines that ended early: what was done of it, and what went into its lines
+
+use Rattle.std.specs.Prelude.{◌≡◌, ℕ, ◌≤◌, ◌⊎◌, List, [], ◌∷◌, ◌++◌}
+use Rattle.ws_code.specs.declared.fault.Fault.{Fault}
+use Rattle.ws_code.specs.declared.fault.Fault.TheVariants.{Memory}
+use Rattle.ws_code.specs.Device.{MayTake, MayGive}
+use Rattle.ws_nego.specs.declared.terminal.TerminalType.{TerminalType}
+use Rattle.ws_session.specs.declared.line.Line.{Line}
+use Rattle.ws_session.specs.declared.world.Move.{Move}
+use Rattle.ws_session.specs.declared.world.Move.TheVariants.{ToStation, ToHost}
+use Rattle.ws_session.specs.Carrying.{IsCarryFault}
+use Rattle.ws_session.specs.Crossings.{Crossing, HaveCrossed}
+use Rattle.ws_session.specs.TwoLines.{TwoEnds, ComesDown, ComesUp, HasRun}
+
+-- these bytes are the next of those in flight
+abbrev pub AreNext : List ℕ → List ℕ → Type 0
+AreNext bytes flight = (later : List ℕ) × (flight ≡ bytes ++ later)
+
+module _ {S R : Type 0} (takes : MayTake S) (failures : S → ℕ) (gives : MayGive R) (misses : R → ℕ) where
+  -- The next of the bytes in flight went into the line. They crossed, and then memory was wanting; or they did not.
+  abbrev pub IsCut : List ℕ → Line S R → Line S R → Fault → Type 0
+  IsCut flight from to fault =
+      ((fault ≡ Memory) × (piece : Crossing) × AreNext piece.sent flight
+      × HaveCrossed takes failures gives misses from (piece ∷ []) to)
+      ⊎ ((bytes : List ℕ) × (slice : List ℕ) × AreNext bytes flight
+      × IsCarryFault takes failures from.sink to.sink gives misses from.source to.source bytes slice fault)
+
+  -- a delivery to the station: so many of its bytes came, or fewer, and the next were cut
+  pub record CutsDown (old : TwoEnds) (count : ℕ) (from to : Line S R) (fault : Fault) : Type 0 where
+    pub fewer : ℕ
+    pub crossings : List Crossing
+    pub ends : TwoEnds
+    pub last : Line S R
+    pub within : fewer ≤ count
+    pub crossed : HaveCrossed takes failures gives misses from crossings last
+    pub came : ComesDown old fewer crossings ends
+    pub cut : IsCut ends.to_station last to fault
+
+  -- the same of one to the host end
+  pub record CutsUp (old : TwoEnds) (count : ℕ) (from to : Line S R) (fault : Fault) : Type 0 where
+    pub fewer : ℕ
+    pub crossings : List Crossing
+    pub ends : TwoEnds
+    pub last : Line S R
+    pub within : fewer ≤ count
+    pub crossed : HaveCrossed takes failures gives misses from crossings last
+    pub came : ComesUp old fewer crossings ends
+    pub cut : IsCut ends.to_host last to fault
+
+module _ {S R T Q : Type 0} (takes : MayTake S) (failures : S → ℕ) (gives : MayGive R) (misses : R → ℕ)
+    (takes' : MayTake T) (failures' : T → ℕ) (gives' : MayGive Q) (misses' : Q → ℕ) where
+  -- memory was wanting, and nothing more went into either line
+  abbrev pub WantsMemory : Line S R → Line S R → Line T Q → Line T Q → Fault → Type 0
+  WantsMemory down down' up up' fault = (fault ≡ Memory) × (down' ≡ down) × (up' ≡ up)
+
+  -- why a move was not done to its end: a delivery was cut, or memory was wanting
+  abbrev pub BreaksOff : TwoEnds → Move → Line S R → Line S R → Line T Q → Line T Q → Fault → Type 0
+  BreaksOff old (ToStation count) down down' up up' fault =
+      CutsDown takes failures gives misses old count down down' fault × (up' ≡ up)
+  BreaksOff old (ToHost count) down down' up up' fault =
+      CutsUp takes' failures' gives' misses' old count up up' fault × (down' ≡ down)
+  BreaksOff old move down down' up up' fault = WantsMemory down down' up up' fault
+
+  -- the first of the moves left was not done to its end; or none is left, and memory was wanting for the report
+  abbrev pub BreaksAt : TwoEnds → List Move → Line S R → Line S R → Line T Q → Line T Q → Fault → Type 0
+  BreaksAt now [] down down' up up' fault = WantsMemory down down' up up' fault
+  BreaksAt now (move ∷ moves) down down' up up' fault = BreaksOff now move down down' up up' fault
+
+  -- A front of the moves was done, and the session broke off at those behind it: what crossed is what the session of that
+  -- front writes, and of the move behind it.
+  pub record HasBrokenOff (terminal : TerminalType) (moves : List Move) (down down' : Line S R) (up up' : Line T Q)
+      (fault : Fault) : Type 0 where
+    pub front : List Move
+    pub left : List Move
+    pub split : moves ≡ front ++ left
+    pub downs : List Crossing
+    pub ups : List Crossing
+    pub now : TwoEnds
+    pub ran : HasRun terminal front downs ups now
+    pub last_down : Line S R
+    pub last_up : Line T Q
+    pub crossed_down : HaveCrossed takes failures gives misses down downs last_down
+    pub crossed_up : HaveCrossed takes' failures' gives' misses' up ups last_up
+    pub breaks : BreaksAt now left last_down down' last_up up' fault
+
+  -- a session ended early: it broke off, or memory was wanting before its first move
+  abbrev pub HasEndedEarly : TerminalType → List Move → Line S R → Line S R → Line T Q → Line T Q → Fault → Type 0
+  HasEndedEarly terminal moves down down' up up' fault =
+      WantsMemory down down' up up' fault ⊎ HasBrokenOff terminal moves down down' up up' fault
