@@ -59,12 +59,12 @@ after_host_writes dialogue (Some answer) = record {
   refused = dialogue.refused;
 }
 
--- these tokens come to the host end, one after another, and it writes its answers
+-- the first of these tokens comes to the host end, if there is one, and it writes its answer
 abbrev pub after_host_gets : Dialogue → List Telnet → Dialogue
 after_host_gets dialogue [] = dialogue
 after_host_gets dialogue (token ∷ later) = after_host_writes dialogue (host_answer dialogue.host token)
 
--- all that is on its way to one end arrives there
+-- the first token that is on its way to one end arrives there
 abbrev pub after_arrival : Move → Dialogue → Dialogue
 after_arrival ToStation dialogue =
     after_station_gets dialogue (drop dialogue.at_station dialogue.to_station)

@@ -57,7 +57,7 @@ after_host_answers exchange later (Some answer) = record {
   refused = exchange.refused;
 }
 
--- these tokens come to the host end, one after another, and its answers are on their way
+-- the first of these tokens comes to the host end, if there is one, and its answer is on its way
 abbrev pub after_host_takes : Exchange → List Telnet → Exchange
 after_host_takes exchange [] = exchange
 after_host_takes exchange (token ∷ later) =
@@ -68,7 +68,7 @@ pub data Move : Type 0 where
   ToStation : Move
   ToHost : Move
 
--- what is on its way to one end comes to it
+-- the first token that is on its way to one end comes to it
 abbrev pub after_move : Move → Exchange → Exchange
 after_move ToStation exchange = after_station_takes exchange exchange.to_station
 after_move ToHost exchange = after_host_takes exchange exchange.to_host

@@ -66,8 +66,8 @@ module _ {S R T Q : Type 0} (takes : MayTake S) (failures : S → ℕ) (gives : 
   BreaksAt now [] down down' up up' fault = WantsMemory down down' up up' fault
   BreaksAt now (move ∷ moves) down down' up up' fault = BreaksOff now move down down' up up' fault
 
-  -- A front of the moves was done, and the session broke off at those behind it: what crossed is what the session of that
-  -- front writes, and of the move behind it.
+  -- A front of the moves was done, and the session broke off at those behind it: what crossed is what the session of
+  -- that front writes, and of the move behind it.
   pub record HasBrokenOff (terminal : TerminalType) (moves : List Move) (down down' : Line S R) (up up' : Line T Q)
       (fault : Fault) : Type 0 where
     pub front : List Move
