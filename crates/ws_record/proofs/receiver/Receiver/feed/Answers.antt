@@ -59,7 +59,7 @@ returns-in_err-item-clause-fault g c =
     let was = rw (← c.self-in-loop-used.view_is) at (c.loop-used.invariant.1 bytes items t fits).0 in
     let made = front_made g.B.Code.rules c.args.piece.now c.loop-used.used c.advance-advance.ensures bytes was.leads.1
     fits in
-    left_feeds g.B.Code.rules bytes c.args.piece.now c.loop-used.used _ (front_feeds _ _ _ _ _
+    left_feeds g.B.Code.rules bytes items c.args.piece.now c.loop-used.used _ (front_feeds _ _ _ _ _ _
     c.advance-advance.ensures.within (c.advance-advance.ensures.used (λ e. rw e at (made.advance)))
     (item_given _ _ c.advance-advance.result.news (Err c.in_err-item.field-0.0) refl
     (sym c.goes_on.ensures ∙ c.if-not-goes_on.true) made c.in_err-item.ensures.item)))
