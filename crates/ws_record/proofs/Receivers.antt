@@ -3,6 +3,8 @@ use Rattle.ws_record.proofs.Common.{Result, Ok, Err, length, drop, take, Vec, Gl
 use Rattle.ws_record.proofs.Common.{length-append, append-nil, take-append-drop, length-take-le, Rules, Fault, Reason}
 use Rattle.ws_record.proofs.Common.{Item, News, IsRefused, RecordSoFar, Watching, Leads, CompletesUnit, EndIn}
 use Rattle.ws_record.proofs.Common.{IsAdvance, goes_on, IsItemOf, Receiving, HasReceived, IsTakeFault, IsFeedFault}
+use Rattle.ws_record.proofs.Common.{◌^◌, given, refl, IfOk, IfErr, IsFedOf, length_rest}
+use Rattle.ws_record.specs.declared.receiver.Fed.{Fed}
 use Rattle.ws_record.proofs.Common.{NoneBefore, bytes_on, left_of, one_last, left_joined}
 use Rattle.ws_record.proofs.Lives.{fetched, Made, IsHeld}
 use Rattle.ws_code.specs.declared.keep.Kept.TheVariants as answer
@@ -90,6 +92,22 @@ module _ {Place U : Type 0} (rules : Rules Place U) where
       rw (t.0, t.1.1) (with_units (rw m.advance.2 same) (fetched rules _ t.1.0 _ _ _ m.advance.0))
   item_given new news result same other m i = let a = m.advance in let count = m.count in grind arith
 
+  -- what a piece gives that is used up to a front's last byte
+  abbrev pub IsFedGiven : List ℕ → List (Item U) → List ℕ → ℕ → Receiving Place U → Result (Fed U) Fault → Type 0
+  IsFedGiven bytes items front used new (Ok fed) =
+      (fed.used ≡ used) × HasReceived rules new (bytes ++ front) (items ++ given fed.item)
+  IsFedGiven bytes items front used new (Err fault) = IsFrontFault bytes items front fault
+
+  pub fed_given : {bytes : List ℕ} {items : List (Item U)} {so_far : RecordSoFar U} {old kept : Vec U Global}
+      {front : List ℕ} {live : Watching Place} (new : Receiving Place U) (news : News) (used : ℕ)
+      (result : Result (Fed U) Fault) → old.items ≡ so_far.units → goes_on news ≡ false
+      → MadeInVec bytes items so_far old live kept news front
+      → IsFedOf (record { live = live; units = kept.items }) news used new result
+      → IsFedGiven bytes items front used new result
+  fed_given new news used (Ok fed) same other m i =
+      rw i.1 (refl, item_given new news (Ok i.0) same other m i.2)
+  fed_given new news used (Err fault) same other m i = item_given new news (Err fault) same other m i
+
   -- a fault at the last byte of a front of a piece
   pub front_feeds : (bytes : List ℕ) (items : List (Item U)) (piece : List ℕ) (k : ℕ) (fault : Fault)
       → k ≤ length piece → 0 < k → IsFrontFault bytes items (take k piece) fault
@@ -122,6 +140,53 @@ module _ {Place U : Type 0} (rules : Rules Place U) where
       → NoneBefore rules bytes piece items fault
   none_before bytes piece items i k fault each f within =
       let long = ap length (bytes_on bytes piece i k) in grind (arith, common_steps)
+
+  -- What a piece gave that was used up to the end of a front of what is left of it, whatever led to the receiver.
+  pub record IsFronted (bytes : List ℕ) (items : List (Item U)) (piece : List ℕ) (i k : ℕ) (new : Receiving Place U)
+      (result : Result (Fed U) Fault) : Type 0 where
+    pub given : IsFedGiven (bytes ++ take i piece) items (take k (left_of piece i)) (i + k) new result
+    pub held : (n : ℕ) → n < i + k → IsHeld rules items (bytes ++ take n piece)
+    pub within : k ≤ length (left_of piece i)
+    pub some : 0 < k
+
+  abbrev pub IsEachFronted : List ℕ → ℕ → ℕ → Receiving Place U → Receiving Place U → Result (Fed U) Fault → Type 0
+  IsEachFronted piece i k old new result = (bytes : List ℕ) (items : List (Item U))
+      → HasReceived rules old bytes items → length bytes + length piece + 1 < 2 ^ 64
+      → IsFronted bytes items piece i k new result
+
+  module _ (piece : List ℕ) (i k : ℕ) (old new : Receiving Place U) where
+    pub fed_taken : (result : Result (Fed U) Fault) → IsEachFronted piece i k old new result → IfOk result (λ fed.
+        (bytes : List ℕ) (items : List (Item U)) → HasReceived rules old bytes items
+        → length bytes + length piece + 1 < 2 ^ 64
+        → HasReceived rules new (bytes ++ take fed.used piece) (items ++ given fed.item))
+    fed_taken (Ok fed) each = λ bytes items t fits.
+        let g = (each bytes items t fits).given in rw g.0 (rw (bytes_on bytes piece i k) at g.1)
+    fed_taken (Err fault) each = tt
+
+    pub fed_first : (result : Result (Fed U) Fault) → IsEachFronted piece i k old new result → IfOk result (λ fed.
+        (bytes : List ℕ) (items : List (Item U)) → HasReceived rules old bytes items
+        → length bytes + length piece + 1 < 2 ^ 64 → (n : ℕ) → n < fed.used
+        → IsHeld rules items (bytes ++ take n piece))
+    fed_first (Ok fed) each = λ bytes items t fits n lt.
+        let f = each bytes items t fits in f.held n (rw f.given.0 at lt)
+    fed_first (Err fault) each = tt
+
+    pub fed_fault : (result : Result (Fed U) Fault) → IsEachFronted piece i k old new result
+        → IfErr result (λ fault. (bytes : List ℕ) (items : List (Item U)) → HasReceived rules old bytes items
+        → length bytes + length piece + 1 < 2 ^ 64 → IsFeedFault rules bytes items piece fault)
+    fed_fault (Ok fed) each = tt
+    fed_fault (Err fault) each = λ bytes items t fits.
+        let f = each bytes items t fits in
+        left_feeds bytes items piece i fault (front_feeds _ _ _ k fault f.within f.some f.given)
+
+    pub fed_none_before : i ≤ length piece → (result : Result (Fed U) Fault)
+        → IsEachFronted piece i k old new result
+        → IfErr result (λ fault. (bytes : List ℕ) (items : List (Item U)) → HasReceived rules old bytes items
+        → length bytes + length piece + 1 < 2 ^ 64 → NoneBefore rules bytes piece items fault)
+    fed_none_before before (Ok fed) each = tt
+    fed_none_before before (Err fault) each = λ bytes items t fits.
+        let f = each bytes items t fits in
+        none_before bytes piece items i k fault f.held f.given (omega (arith, before, f.within, length_rest piece i))
 
   -- a fault of a single byte
   pub front_takes : (bytes : List ℕ) (items : List (Item U)) (byte : ℕ) (fault : Fault)
