@@ -2,11 +2,13 @@
 //! and nothing else.
 #![tactic(auto)]
 
-// What the rows of ws_session share, and the callers that docs/CALLING.md shows.
+// What the rows of ws_session share, the callers that docs/CALLING.md shows, and a display of their own.
 #[cfg(test)]
 mod calling;
 #[cfg(test)]
 mod end_rows;
+#[cfg(test)]
+mod second_display;
 
 // Rows of ws_session.
 #[cfg(test)]
@@ -17,6 +19,8 @@ mod calling_rows;
 mod carried_rows;
 #[cfg(test)]
 mod carry_rows;
+#[cfg(test)]
+mod display_rows;
 #[cfg(test)]
 mod fault_rows;
 #[cfg(test)]

@@ -164,7 +164,6 @@ pub use Rattle.ws_session.specs.Playing.{HasCome, HasDone, records_from, keys_le
 pub use Rattle.ws_session.specs.StationRun.{IsRunFault, IsRun, refusal_count, behind, run_text, RunUnwritten}
 pub use Rattle.ws_session.specs.Reports.{IsReport, IsOpened}
 pub use Rattle.ws_session.specs.StationFeeds.{HasFed, IsSilent}
-pub use Rattle.ws_session.specs.StationFronts.{IsFronted, still, IsAnswered, IsNewsTaken}
 
 -- whatever bytes, items and side led to the station
 abbrev pub AtStation : StationParts → (List ℕ → List (Item Element) → StationSide → Type 0) → Type 0

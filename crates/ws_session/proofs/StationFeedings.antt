@@ -1,63 +1,80 @@
 use Rattle.ws_session.proofs.Common as C
-use C.{station_at_item, HasHostRefused, length-append, element_rules, CompletesUnit, IsHostFronted, host_at_item, arith}
+use C.{HasHostRefused, length-append, element_rules, CompletesUnit, IsHostFronted, host_at_item, arith}
 use C.{answer_rules, StationLeads, IsHostPushed, append_assoc, StationParts, StationStep, StationSide, AnswerPart, true}
-use C.{bytes_came, HasHostFed, HostLeads, nat_tests, IsFronted, HostEvent, HostParts, AtStation, HostSide, IsPushed, At}
+use C.{bytes_came, HasHostFed, HostLeads, nat_tests, HostEvent, HostParts, AtStation, HostSide, IsPushed, At}
 use C.{HostStep, Element, as_list, left_of, Refusal, told_by, goes_on, Failed, HasFed, length, GoesOn, AtHost, Option}
 use C.{Result, Memory, EndsAt, Order, false, subst, Item, List, ◌++◌, None, ◌==◌, refl, Bool, take, Key, ◌∙◌, ◌≡◌, ◌∷◌}
 use C.{◌^◌, ◌+◌, ◌≤◌, Err, inl, inr, sym, ◌<◌, [], Ok, ap, ℕ}
-use Rattle.ws_session.specs.StationFeeds.{HasRefused}
-use Rattle.ws_session.proofs.EndSteps.{station_holds, host_holds, none_went, one_went, told_of}
+use C.{Rules, HoldsItems, RecordItem, TelnetItem, applied_by, is_record}
+use Rattle.ws_session.specs.Displays.{DisplayOf, SideOn}
+use Rattle.ws_session.specs.PartsOn.{PartsOn}
+use Rattle.ws_session.specs.Stations.{LeadsOn, IsPushedOn}
+use Rattle.ws_session.specs.StationActs.{HasFedOn, HasRefusedOn}
+use Rattle.ws_session.specs.StationNews.{IsFrontedOn}
+use Rattle.ws_session.specs.StationManners.{at_item_on}
+use Rattle.ws_session.proofs.EndSteps.{host_holds, none_went, one_went, told_of, on_holds}
 use Rattle.ws_session.proofs.Feedings.{front_silent, front_brings, front_on, fails_on, AreHeld}
 use Rattle.ws_record.specs.Taking.{EndIn}
 
 -- What a front of a piece gives a station.
 
-module _ (old new : StationParts)
-    (bytes : List ℕ) (items : List (Item Element)) (side : StationSide) (left : List ℕ) (used : ℕ)
-    (within : used ≤ length left) (some : 0 < used) (held : AreHeld element_rules Key bytes items left used) where
-  -- what its last byte gives
-  front_fed : (step : StationStep) → IsFronted old new (bytes ++ take used left) items side (Ok step)
-      → HasFed new bytes items side (take used left) step.reply step.ends_record
-  front_fed step (inl q) = none_went (bytes_came Key (take used left)) (front_silent element_rules Key bytes items
-      left used within held (station_holds q.0.leads)) q.0.silent (ap (λ (b : Bool). as_list (told_by b)) q.1) q.0.leads
-  front_fed step (inr q) = one_went (bytes_came Key (take used left)) q.0.item
-      (station_at_item side q.0.item (GoesOn q.0.next q.0.writes)) (ap (station_at_item side q.0.item) q.0.goes_on)
-      (front_brings element_rules Key bytes items q.0.item left used within some held (station_holds q.0.leads))
-      (ap goes_on q.0.goes_on) q.0.spelled (ap (λ (b : Bool). as_list (told_by b)) q.1 ∙ told_of q.0.item) q.0.leads
+module _ {D P U H PlaceV V K R : Type 0} (rules : Rules P U) (d : DisplayOf D U H PlaceV V K R) where
+  -- whatever bytes, items and side led to the station
+  abbrev pub AtOn : PartsOn D P → (List ℕ → List (Item U) → SideOn H → Type 0) → Type 0
+  AtOn station Then = (bytes : List ℕ) (items : List (Item U)) (side : SideOn H)
+      → LeadsOn rules d station bytes items side → Then bytes items side
 
-pushed_at_last : (old mid new : StationParts) (bytes : List ℕ) (items : List (Item Element))
-    (side : StationSide) (byte : ℕ) (refusal : Refusal) → mid.screen ≡ old.screen → IsFronted mid new
-    (bytes ++ byte ∷ []) items side (Err refusal) → IsPushed old new bytes items side byte (Err refusal)
-pushed_at_last old mid new bytes items side byte (At place reason) same f =
-    (omega (arith, f.0, length-append bytes (byte ∷ [])), f.1 ∙ same, f.2)
-pushed_at_last old mid new bytes items side byte why same f = f
+  module _ (old new : PartsOn D P)
+      (bytes : List ℕ) (items : List (Item U)) (side : SideOn H) (left : List ℕ) (used : ℕ)
+      (within : used ≤ length left) (some : 0 < used) (held : AreHeld rules K bytes items left used) where
+    -- what its last byte gives
+    front_fed : (step : StationStep R) → IsFrontedOn rules d old new (bytes ++ take used left) items side (Ok step)
+        → HasFedOn rules d new bytes items side (take used left) (d.written new.screen step.reply) step.ends_record
+    front_fed step (inl q) = none_went (bytes_came K (take used left)) (front_silent rules K bytes items
+        left used within held (on_holds rules d q.0.leads)) q.0.silent (ap (λ (b : Bool). as_list (told_by b)) q.1)
+        q.0.leads
+    front_fed step (inr q) = one_went (bytes_came K (take used left)) q.0.item
+        (at_item_on d side q.0.item (GoesOn q.0.next q.0.writes)) (ap (at_item_on d side q.0.item) q.0.goes_on)
+        (front_brings rules K bytes items q.0.item left used within some held (on_holds rules d q.0.leads))
+        (ap goes_on q.0.goes_on) q.0.spelled (ap (λ (b : Bool). as_list (told_by b)) q.1 ∙ told_of q.0.item)
+        q.0.leads
 
-module _ (bytes : List ℕ) (items : List (Item Element)) (side : StationSide) (piece : List ℕ) (i : ℕ)
-    (now : StationParts) (before : HasFed now bytes items side (take i piece) [] false) where
-  -- a front more is fed
-  pub fed_on : (new : StationParts) (k : ℕ) (step : StationStep)
-      → k ≤ length (left_of piece i) → 0 < k → AtStation now (λ b its s. length b + length (left_of piece i) < 2 ^ 64
-      → IsFronted now new (b ++ take k (left_of piece i)) its s (Ok step)) → AtStation now
-      (λ b its s. AreHeld element_rules Key b its (left_of piece i) k) → length bytes + length piece + 1 < 2 ^ 64
-      → i ≤ length piece → HasFed new bytes items side (take (i + k) piece) step.reply step.ends_record
-  fed_on new k step within some fronted held fits inside = front_on _ _ _ bytes items side piece i
-      (StationLeads now) before _ k _ _ (λ b its s l room. front_fed now new b its s _ k within some
-      (held b its s l) step (fronted b its s l room)) fits inside
+  pushed_at_last : (old mid new : PartsOn D P) (bytes : List ℕ) (items : List (Item U))
+      (side : SideOn H) (byte : ℕ) (refusal : Refusal) → mid.screen ≡ old.screen → IsFrontedOn rules d mid new
+      (bytes ++ byte ∷ []) items side (Err refusal) → IsPushedOn rules d old new bytes items side byte (Err refusal)
+  pushed_at_last old mid new bytes items side byte (At place reason) same f =
+      (omega (arith, f.0, length-append bytes (byte ∷ [])), f.1 ∙ same, f.2)
+  pushed_at_last old mid new bytes items side byte why same f = f
 
-  -- it is refused at its last byte
-  pub refused_on : (old new : StationParts) (k : ℕ) (refusal : Refusal) → now.screen ≡ old.screen
-      → k ≤ length (left_of piece i) → ((refusal ≡ Failed → ⊥) → 0 < k) → AtStation now (λ b its s. length b + length
-      (left_of piece i) < 2 ^ 64 → IsFronted now new (b ++ take k (left_of piece i)) its s (Err refusal))
-      → AtStation now (λ b its s. AreHeld element_rules Key b its (left_of piece i) k)
-      → length bytes + length piece + 1 < 2 ^ 64 → i ≤ length piece → HasRefused old new bytes items side piece refusal
-  refused_on old new k refusal same within when fronted held fits inside =
-      let left = left_of piece i in
-      let f = fails_on _ _ _ bytes items side piece i _ before (λ byte b its s. IsPushed old new b its s byte
-      (Err refusal)) k within (λ b its s l room. when (λ e. subst (λ (r : Refusal). IsFronted now new
-      (b ++ take k left) its s (Err r)) e (fronted b its s l room))) (λ b its s front byte l room upto.
-      pushed_at_last old now new _ its s byte _ same (subst (λ (x : List ℕ). IsFronted now new x its s (Err refusal))
-      (ap (λ z. b ++ z) upto ∙ sym (append_assoc b front (byte ∷ []))) (fronted b its s l room))) held fits inside in
-      record { front = f.0; byte = f.1; rest = f.2; split = f.3; refused = f.4 }
+  module _ (bytes : List ℕ) (items : List (Item U)) (side : SideOn H) (piece : List ℕ) (i : ℕ)
+      (now : PartsOn D P) (before : HasFedOn rules d now bytes items side (take i piece) [] false) where
+    -- a front more is fed
+    pub fed_on : (new : PartsOn D P) (k : ℕ) (step : StationStep R)
+        → k ≤ length (left_of piece i) → 0 < k → AtOn now (λ b its s. length b + length (left_of piece i) < 2 ^ 64
+        → IsFrontedOn rules d now new (b ++ take k (left_of piece i)) its s (Ok step)) → AtOn now
+        (λ b its s. AreHeld rules K b its (left_of piece i) k) → length bytes + length piece + 1 < 2 ^ 64
+        → i ≤ length piece
+        → HasFedOn rules d new bytes items side (take (i + k) piece) (d.written new.screen step.reply) step.ends_record
+    fed_on new k step within some fronted held fits inside = front_on _ _ _ bytes items side piece i
+        (LeadsOn rules d now) before _ k _ _ (λ b its s l room. front_fed now new b its s _ k within some
+        (held b its s l) step (fronted b its s l room)) fits inside
+
+    -- it is refused at its last byte
+    pub refused_on : (old new : PartsOn D P) (k : ℕ) (refusal : Refusal) → now.screen ≡ old.screen
+        → k ≤ length (left_of piece i) → ((refusal ≡ Failed → ⊥) → 0 < k) → AtOn now (λ b its s. length b + length
+        (left_of piece i) < 2 ^ 64 → IsFrontedOn rules d now new (b ++ take k (left_of piece i)) its s (Err refusal))
+        → AtOn now (λ b its s. AreHeld rules K b its (left_of piece i) k)
+        → length bytes + length piece + 1 < 2 ^ 64 → i ≤ length piece
+        → HasRefusedOn rules d old new bytes items side piece refusal
+    refused_on old new k refusal same within when fronted held fits inside =
+        let left = left_of piece i in
+        let f = fails_on _ _ _ bytes items side piece i _ before (λ byte b its s. IsPushedOn rules d old new b its s
+        byte (Err refusal)) k within (λ b its s l room. when (λ e. subst (λ (r : Refusal). IsFrontedOn rules d now new
+        (b ++ take k left) its s (Err r)) e (fronted b its s l room))) (λ b its s front byte l room upto.
+        pushed_at_last old now new _ its s byte _ same (subst (λ (x : List ℕ). IsFrontedOn rules d now new x its s
+        (Err refusal))
+        (ap (λ z. b ++ z) upto ∙ sym (append_assoc b front (byte ∷ []))) (fronted b its s l room))) held fits inside in
+        record { front = f.0; byte = f.1; rest = f.2; split = f.3; refused = f.4 }
 
 -- a reply that is empty
 no_bytes : (xs : List ℕ) → length xs ≡ 0 → xs ≡ []

@@ -4,7 +4,6 @@ use crate::body::MAX_BODY_BYTES;
 use arrayvec::ArrayVec;
 use std::marker::Model;
 use ws_code::{Keep, Kept};
-use ws_stream::Element;
 
 /// The bytes of an open record's body, as they come. There is room for all that a record can hold.
 #[derive(Drop)]
@@ -45,16 +44,16 @@ impl BodyBytes {
 }
 
 /// The elements aren't kept: they are read again once the record is whole.
-impl Keep<Element> for BodyBytes {
+impl<U: Drop> Keep<U> for BodyBytes {
     ghost use Rattle.std.specs.Prelude.{◌≡◌};
     ghost use Rattle.ws_code.specs.declared.keep.Kept.{Kept};
-    ghost use Rattle.ws_session.specs.StationLeads.{keeps_body};
+    ghost use Rattle.ws_session.specs.StationCounts.{keeps_body};
 
     ghost holds = { λ kept units told. keeps_body kept told };
 
     ghost may_answer = { λ answer. answer ≡ Kept.GoOn };
 
-    fn keep(&mut self, _unit: Element) -> Kept {
+    fn keep(&mut self, _unit: U) -> Kept {
         Kept::GoOn
     }
 

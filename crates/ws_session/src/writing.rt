@@ -4,13 +4,12 @@ ghost use Rattle.std.specs.Prelude.{◌≡◌, ◌∷◌, [], true, IfOk, IfErr,
 ghost use Rattle.ws_session.specs.Acts.{Came, Did, as_list};
 ghost use Rattle.ws_session.specs.Attachments as spec;
 ghost use Rattle.ws_session.specs.Attachments.{breaks};
-ghost use Rattle.ws_session.specs.Manners.{StationGoes, IsKeyRefusal, IsKeyTaken};
+ghost use Rattle.ws_session.specs.StationActs.{GoesOnDisplay, IsKeyRefusalOn, IsKeyTakenOn};
 ghost use Rattle.ws_session.specs.Written.{HasWritten, HasWrittenFront, IsUntaken};
 
 use crate::end::End;
-use crate::{KeyFault, Refusal, Station, write_answer};
+use crate::{KeyFault, Refusal, StationDisplay, StationOn, write_answer};
 use ws_code::{Fault, Sink, write_whole};
-use ws_keys::Key;
 
 // Takes a byte, and writes what the end answers.
 pub(crate) fn take_byte<E: End, K: Sink>(
@@ -26,7 +25,7 @@ pub(crate) fn take_byte<E: End, K: Sink>(
 {
     match end.take(byte) {
         Ok(step) => {
-            write_whole(sink, step.reply.as_slice())?;
+            write_whole(sink, end.bytes(&step.reply))?;
             Ok(step.event)
         }
         Err(refusal) => Err(fault_of(refusal)),
@@ -46,19 +45,22 @@ fn fault_of(refusal: Refusal) -> Fault
 
 // Presses a key, and writes what it sends. A key that is refused has no effect, and the answer tells why. `Write` is
 // the only fault: the key has had its effect, and a prefix of what it sends went out.
-pub(crate) fn press_key<K: Sink>(
-    station: &mut Station,
+pub(crate) fn press_key<D: StationDisplay, K: Sink>(
+    station: &mut StationOn<D>,
     sink: &mut K,
-    key: Key,
+    key: D::Key,
 ) -> Result<Option<KeyFault>, Fault>
-    ensures pressed { IfOk result (λ refused. HasWritten StationGoes K.takes K.failures
+    ensures pressed { IfOk result (λ refused.
+        HasWritten (GoesOnDisplay D.Commands.rules D.does) K.takes K.failures
         station.old station.new sink.old sink.new (Did key ∷ []) []) }
     ensures refused { IfOk result (λ refused. IfSome refused
         (λ fault. (station.new ≡ station.old) × (sink.new ≡ sink.old))) }
-    ensures told { IfOk result (λ refused. IfSome refused (IsKeyRefusal station.old key)) }
-    ensures taken { IfOk result (λ refused. IfNone refused (IsKeyTaken station.old key)) }
+    ensures told { IfOk result (λ refused. IfSome refused
+        (IsKeyRefusalOn D.Commands.rules D.does station.old key)) }
+    ensures taken { IfOk result (λ refused. IfNone refused
+        (IsKeyTakenOn D.Commands.rules D.does station.old key)) }
     ensures fault { IfErr result (λ fault. (fault ≡ Fault.Write)
-        × HasWrittenFront StationGoes K.takes K.failures
+        × HasWrittenFront (GoesOnDisplay D.Commands.rules D.does) K.takes K.failures
         station.old station.new sink.old sink.new (Did key ∷ [])) }
 {
     match station.key(key) {

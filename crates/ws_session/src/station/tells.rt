@@ -2,21 +2,28 @@
 ghost use Rattle.std.specs.Prelude.{◌≡◌, List, ℕ, length};
 ghost use Rattle.ws_nego.specs.Station.{station_allows_records};
 ghost use Rattle.ws_record.specs.declared.record.Item.{Item};
-ghost use Rattle.ws_stream.specs.declared.element.Element.{Element};
-ghost use Rattle.ws_session.specs.StationLeads.{StationLeads, records_in};
+ghost use Rattle.ws_session.specs.Stations.{LeadsOn};
+ghost use Rattle.ws_session.specs.StationCounts.{records_in};
 ghost use Rattle.ws_session.specs.Ends.{refused_byte};
-ghost use Rattle.ws_session.specs.StationSide.{StationSide};
+ghost use Rattle.ws_session.specs.Displays.{SideOn};
 
-use crate::{Refusal, Station};
+use crate::{Refusal, StationDisplay, StationOn};
 use ws_code::Reason;
 use ws_screen::Screen;
 
-impl Station {
+impl<D: StationDisplay> StationOn<D> {
     /// The screen.
     pub fn screen(&self) -> &Screen
+        ensures { result.now ≡ D.does.shown self.now.screen }
+    {
+        self.display.screen()
+    }
+
+    /// The display.
+    pub fn display(&self) -> &D
         ensures { result.now ≡ self.now.screen }
     {
-        &self.screen
+        &self.display
     }
 
     /// Whether the negotiation has come so far that records may be sent both ways (RFC 1205, section 2).
@@ -29,8 +36,10 @@ impl Station {
     /// How many records it has applied to its screen.
     pub fn records(&self) -> u64
         ensures count { result ≡ self.now.records }
-        ensures applied { (bytes : List ℕ) (items : List (Item Element)) (side : StationSide)
-            → StationLeads self.now bytes items side → result ≡ records_in items }
+        ensures applied { (bytes : List ℕ) (items : List (Item D.Commands.Unit))
+            (side : SideOn D.Happened)
+            → LeadsOn D.Commands.rules D.does self.now bytes items side
+            → result ≡ records_in items }
     {
         self.records
     }
@@ -38,8 +47,10 @@ impl Station {
     /// How many bytes it has taken, one that it refused among them.
     pub fn taken(&self) -> u64
         ensures count { result ≡ self.now.live.taken }
-        ensures led { (bytes : List ℕ) (items : List (Item Element)) (side : StationSide)
-            → StationLeads self.now bytes items side → result ≡ length bytes }
+        ensures led { (bytes : List ℕ) (items : List (Item D.Commands.Unit))
+            (side : SideOn D.Happened)
+            → LeadsOn D.Commands.rules D.does self.now bytes items side
+            → result ≡ length bytes }
     {
         self.live.taken()
     }

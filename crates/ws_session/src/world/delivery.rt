@@ -97,7 +97,7 @@ fn come<E: Reported>(
 {
     match end.take(byte) {
         Ok(step) => {
-            to.write(step.reply.as_slice())?;
+            to.write(end.bytes(&step.reply))?;
             tell(events, E::event(step.event))
         }
         Err(Refusal::At { place, reason }) => tell(events, Some(E::refused(place, reason))),

@@ -12,7 +12,8 @@ returns-in_err-write_answer-in-Ok-Some-clause-fault g c =
       record {
         written = answer_spelling answer;
         told = [];
-        led = key_sent_goes _ _ _ _ (rw c.in-Ok-Some.field-0-is at c.in-Ok-Some.ensures.keyed);
+        led = key_sent_goes g.D.Commands.Code.rules g.D.StationDisplay.does g.met.D.StationDisplay.spells _ _ _ _
+            (rw c.in-Ok-Some.field-0-is at c.in-Ok-Some.ensures.keyed);
         failed = failed.1;
       },
     )
@@ -20,12 +21,14 @@ returns-in_err-write_answer-in-Ok-Some-clause-fault g c =
 pub returns-in-Ok-None-clause-pressed : goal.returns-in-Ok-None-clause-pressed
 returns-in-Ok-None-clause-pressed g c = record {
   written = [];
-  led = key_silent_goes _ _ _ (rw c.in-Ok-None.field-0-is at c.in-Ok-None.ensures.keyed);
+  led = key_silent_goes g.D.Commands.Code.rules g.D.StationDisplay.does g.met.D.StationDisplay.spells _ _ _
+      (rw c.in-Ok-None.field-0-is at c.in-Ok-None.ensures.keyed);
   wrote = went_out_none g.K.Sink.takes g.K.Sink.failures c.args.sink.now;
 }
 
 pub returns-in-Ok-None-clause-taken : goal.returns-in-Ok-None-clause-taken
-returns-in-Ok-None-clause-taken g c = λ bytes items side l few. key_taken c.args.station.now _ bytes items side _ None
+returns-in-Ok-None-clause-taken g c = λ bytes items side l few. key_taken g.D.Commands.Code.rules
+    g.D.StationDisplay.does g.met.D.StationDisplay.spells c.args.station.now _ bytes items side _ None
     ((rw c.in-Ok-None.field-0-is at c.in-Ok-None.ensures.keyed) bytes items side l few)
 
 pub returns-in_ok-write_answer-in-Ok-Some-clause-pressed : goal.returns-in_ok-write_answer-in-Ok-Some-clause-pressed
@@ -33,19 +36,22 @@ returns-in_ok-write_answer-in-Ok-Some-clause-pressed g c =
     let answer = c.in-Ok-Some.answer in
     record {
       written = answer_spelling answer;
-      led = key_sent_goes _ _ _ _ (rw c.in-Ok-Some.field-0-is at c.in-Ok-Some.ensures.keyed);
+      led = key_sent_goes g.D.Commands.Code.rules g.D.StationDisplay.does g.met.D.StationDisplay.spells _ _ _ _
+          (rw c.in-Ok-Some.field-0-is at c.in-Ok-Some.ensures.keyed);
       wrote = c.in_ok-write_answer-in-Ok-Some.ensures.ok;
     }
 
 pub returns-in_ok-write_answer-in-Ok-Some-clause-taken : goal.returns-in_ok-write_answer-in-Ok-Some-clause-taken
 returns-in_ok-write_answer-in-Ok-Some-clause-taken g c = λ bytes items side l few.
-    key_taken c.args.station.now c.key.new.self bytes items side _ (Some c.in-Ok-Some.answer)
+    key_taken g.D.Commands.Code.rules g.D.StationDisplay.does g.met.D.StationDisplay.spells c.args.station.now
+    c.key.new.self bytes items side _ (Some c.in-Ok-Some.answer)
     ((rw c.in-Ok-Some.field-0-is at c.in-Ok-Some.ensures.keyed) bytes items side l few)
 
 pub returns-in-Err-clause-pressed : goal.returns-in-Err-clause-pressed
 returns-in-Err-clause-pressed g c = record {
   written = [];
-  led = key_refused_goes _ _ _ c.in-Err.fault c.in-Err.ensures.keyed;
+  led = key_refused_goes g.D.Commands.Code.rules g.D.StationDisplay.does g.met.D.StationDisplay.spells _ _ _
+      c.in-Err.fault c.in-Err.ensures.keyed;
   wrote = went_out_none g.K.Sink.takes g.K.Sink.failures c.args.sink.now;
 }
 

@@ -6,7 +6,7 @@ use Rattle.ws_session.proofs.world.delivery.come.Goals as goal
 pub returns-in_ok-write-in-Ok-clause-come : goal.returns-in_ok-write-in-Ok-clause-come
 returns-in_ok-write-in-Ok-clause-come g c = on_ok_weaker c.tell.result (λ told. goes_come _ _ _ _ _ _ _ _ _ _ _
     _ _ _ c.in-Ok.ensures.taken (λ o. absurd (let e : Ok c.in-Ok.step ≡ Err Failed = (c.in-Ok.ensures.over o).0 in cc))
-    (rw c.as_slice.ensures.value at c.in_ok-write-in-Ok.ensures.written)
+    (rw c.bytes.ensures.value at c.in_ok-write-in-Ok.ensures.written)
     (told ∙ ap (λ z. c.args.events.now.items ++ z) c.event.ensures.told)) c.tell.ensures.told
 
 pub returns-in-Err-At-clause-come : goal.returns-in-Err-At-clause-come

@@ -1,0 +1,89 @@
+-- A second display: any bytes are a record's body, the answer to a record is kept, and there is a key more
+
+use Rattle.std.specs.Prelude.{◌≡◌, ℕ, List, [], ◌∷◌, Bool, true, false, Option, Some, None}
+use Rattle.ws_record.specs.declared.opcode.Opcode.TheVariants.{CancelInvite}
+use Rattle.ws_record.specs.declared.record.Record.{Record}
+use Rattle.ws_record.specs.declared.record.Item.{Item}
+use Rattle.ws_record.specs.Encode.{plain_spelling}
+use Rattle.ws_stream.specs.declared.answer_part.AnswerPart.{AnswerPart}
+use Rattle.ws_stream.specs.declared.answer_place.AnswerPlace.{AnswerPlace}
+use Rattle.ws_stream.specs.AnswerParts.{answer_rules}
+use Rattle.ws_screen.specs.Events.{History}
+use Rattle.ws_screen.specs.ScreenParts.{ScreenParts}
+use Rattle.ws_keys.specs.declared.key.Key.{Key}
+use Rattle.ws_session.specs.Displays.{DisplayOf, SideOn, KeyReactionOn, RefusesKey, Silent, Answers, Signals}
+use Rattle.ws_session.specs.Reaction.{Reaction, GoesOn, empty_record}
+use Rattle.ws_session.specs.StationSide.{profile, StationSide}
+
+-- what it keeps: the profile's screen, the bytes of the last answer, and whether its bell rings
+pub record SecondParts : Type 0 where
+  pub screen : ScreenParts
+  pub told : List ℕ
+  pub rings : Bool
+
+-- what has happened to it
+pub record SecondHappened : Type 0 where
+  pub shown : History
+  pub told : List ℕ
+  pub rings : Bool
+
+-- which displays it gives
+pub record SecondGives (h : SecondHappened) (d : SecondParts) : Type 0 where
+  pub shown : profile.gives h.shown d.screen
+  pub told : d.told ≡ h.told
+  pub rings : d.rings ≡ h.rings
+
+-- the side of the profile in one of it, and such a side with another in it
+abbrev pub profile_side : SideOn SecondHappened → StationSide
+profile_side s = record { options = s.options; happened = s.happened.shown }
+
+abbrev pub second_side : SideOn SecondHappened → StationSide → SideOn SecondHappened
+second_side s t = record { options = t.options; happened = record s.happened { shown = t.happened } }
+
+-- each record is answered by an empty one
+abbrev pub answered : List (Item AnswerPart)
+answered = empty_record 0 CancelInvite ∷ []
+
+-- a record rings, and its answer is kept
+abbrev pub second_applies : SideOn SecondHappened → Record ℕ → Reaction (SideOn SecondHappened) (List (Item AnswerPart))
+second_applies s r = GoesOn (record s {
+  happened = record s.happened {
+    told = plain_spelling answer_rules answered;
+    rings = true;
+  };
+}) answered
+
+-- what a key of the profile does
+abbrev pub second_key : SideOn SecondHappened → KeyReactionOn History → KeyReactionOn SecondHappened
+second_key s (RefusesKey fault) = RefusesKey fault
+second_key s (Silent next) = Silent (second_side s next)
+second_key s (Answers next kind aid) = Answers (second_side s next) kind aid
+second_key s (Signals opcode flags) = Signals opcode flags
+
+-- a key of the profile does what it does there; the one key more, None, ends the ringing
+abbrev pub second_presses : SideOn SecondHappened → Option Key → KeyReactionOn SecondHappened
+second_presses s (Some key) = second_key s (profile.presses (profile_side s) key)
+second_presses s None = Silent (record s { happened = record s.happened { rings = false } })
+
+abbrev pub second_sends : Option Key → Bool
+second_sends (Some key) = profile.sends key
+second_sends None = false
+
+-- a reply, or None for what is kept
+abbrev pub second_written : SecondParts → Option (List ℕ) → List ℕ
+second_written d (Some reply) = reply
+second_written d None = d.told
+
+abbrev pub second : DisplayOf SecondParts ℕ SecondHappened AnswerPlace AnswerPart (Option Key) (Option (List ℕ))
+second = record {
+  out = answer_rules;
+  fresh = λ terminal. record { shown = []; told = []; rings = false };
+  gives = λ h d. SecondGives h d;
+  shows = λ h. profile.shows h.shown;
+  shown = λ d. d.screen;
+  applies = second_applies;
+  sends = second_sends;
+  presses = second_presses;
+  answer = profile.answer;
+  written = second_written;
+}

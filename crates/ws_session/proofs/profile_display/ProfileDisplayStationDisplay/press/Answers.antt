@@ -1,0 +1,7 @@
+use Rattle.ws_session.proofs.ProfileKeys.{pressed}
+use Rattle.ws_session.proofs.profile_display.ProfileDisplayStationDisplay.press.Goals as goal
+
+pub returns-clause-pressed : goal.returns-clause-pressed
+returns-clause-pressed c = rw (← c.self.view_is) (λ side given. pressed c.self.inside.screen side given
+    c.known.ensures.legal.size c.args.key c.press.new.screen c.press.result c.press.ensures.pressed
+    c.press.ensures.events)

@@ -1,6 +1,0 @@
-use Rattle.ws_session.proofs.StationSteps.{one_fronted}
-use Rattle.ws_session.proofs.station.Station.step.Goals as goal
-
-pub returns-clause-stepped : goal.returns-clause-stepped
-returns-clause-stepped c = λ bytes items side l few. one_fronted _ _ bytes items side _ c.take_front.result.used
-    _ c.take_front.ensures.within c.take_front.ensures.used (c.take_front.ensures.fronted bytes items side l few)

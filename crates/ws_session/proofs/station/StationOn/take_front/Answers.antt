@@ -1,0 +1,27 @@
+use Rattle.ws_session.specs.contracts.station.StationOn.{the_view}
+use Rattle.ws_session.proofs.StationSteps.{front_count, fronted, so_far, is_led}
+use Rattle.ws_session.proofs.station.StationOn.take_front.Goals as goal
+
+pub returns-clause-fronted : goal.returns-clause-fronted
+returns-clause-fronted g c =
+    let s = c.self.inside in
+    let d = g.D.StationDisplay.does in
+    let rules = g.D.Commands.Code.rules in
+    let old = the_view g.row.D g.row.D-Commands g.row.D-Key g.row.D-Reply g.row.D-Commands-Unit
+    g.row.D-Commands-Place g.D.StationDisplay g.D.Commands.Code c.self.inside in
+    let piece = c.args.piece.now in
+    let a = c.advance-used in
+    rw (← c.self.view_is) (λ bytes items side l fits.
+    let led = is_led rules d old bytes items side l in
+    let n = front_count bytes piece _ s.live.taken a.new.self.taken led.count a.ensures.within fits a.ensures.counted in
+    fronted rules d old bytes items side l _ a.new.self a.new.keep _ (a.ensures.advance bytes items (so_far rules d
+    old bytes items side l) led fits) n.0 (λ works. n.2 (a.ensures.used works)) n.1 _ _ c.react-step.ensures.reacted)
+
+pub returns-clause-first : goal.returns-clause-first
+returns-clause-first g c =
+    let rules = g.D.Commands.Code.rules in
+    let d = g.D.StationDisplay.does in
+    let old = the_view g.row.D g.row.D-Commands g.row.D-Key g.row.D-Reply g.row.D-Commands-Unit
+    g.row.D-Commands-Place g.D.StationDisplay g.D.Commands.Code c.self.inside in
+    rw (← c.self.view_is) (λ bytes items side l. c.advance-used.ensures.first bytes items
+    (so_far rules d old bytes items side l) (is_led rules d old bytes items side l))

@@ -1,0 +1,62 @@
+-- A station on any display: what it makes of a piece of bytes, and of all that is done at it (RFC 1205, 4777)
+
+use Rattle.std.specs.Prelude.{◌≡◌, ℕ, ◌+◌, ◌^◌, ◌<◌, Bool, List}
+use Rattle.std.specs.Prelude.{[], ◌∷◌, ◌++◌, length, Err}
+use Rattle.ws_code.specs.Code.{Rules}
+use Rattle.ws_record.specs.declared.record.Item.{Item}
+use Rattle.ws_session.specs.declared.refusal.Refusal.{Refusal}
+use Rattle.ws_session.specs.declared.key_fault.KeyFault.{KeyFault}
+use Rattle.ws_session.specs.declared.end_step.Applied.{Applied}
+use Rattle.ws_session.specs.Acts.{Act, Goes, all_came, as_list, HasGone}
+use Rattle.ws_session.specs.Displays.{DisplayOf, SideOn, RefusesKey}
+use Rattle.ws_session.specs.PartsOn.{PartsOn}
+use Rattle.ws_session.specs.StationManners.{told_by, key_on, manner_on}
+use Rattle.ws_session.specs.Stations.{LeadsOn, IsPushedOn}
+
+module _ {D P U H PlaceV V K R : Type 0} (rules : Rules P U) (d : DisplayOf D U H PlaceV V K R) where
+  -- Behind these bytes others come, one after another: the station refuses none of their items, writes and tells this,
+  -- and then this holds of all bytes, their items, and the side that it has come to.
+  abbrev pub HasTakenAllOn : (List ℕ → List (Item U) → SideOn H → Type 0) → List ℕ → List (Item U)
+      → SideOn H → List ℕ → List ℕ → List Applied → Type 0
+  HasTakenAllOn Then bytes items side came = HasGone rules d.out (manner_on d) Then bytes items side
+      (all_came {Deed = K} came)
+
+  -- it takes them to come to this station
+  abbrev pub HasFedOn : PartsOn D P → List ℕ → List (Item U) → SideOn H → List ℕ → List ℕ → Bool → Type 0
+  HasFedOn new bytes items side came reply ends_record =
+      HasTakenAllOn (LeadsOn rules d new) bytes items side came reply (as_list (told_by ends_record))
+
+  -- it writes and tells nothing at them
+  abbrev pub IsSilentOn : List ℕ → List (Item U) → SideOn H → List ℕ → Type 0
+  IsSilentOn bytes items side came = HasTakenAllOn (λ bytes' items' side'. Unit {0}) bytes items side came [] []
+
+  -- it refuses a byte of the piece, as it refuses that byte alone, and writes and tells nothing at those before it
+  pub record HasRefusedOn (old new : PartsOn D P) (bytes : List ℕ) (items : List (Item U)) (side : SideOn H)
+      (piece : List ℕ) (refusal : Refusal) : Type 0 where
+    pub front : List ℕ
+    pub byte : ℕ
+    pub rest : List ℕ
+    pub split : piece ≡ front ++ byte ∷ rest
+    pub refused : HasTakenAllOn (λ bytes' items' side'. IsPushedOn rules d old new bytes' items' side' byte
+        (Err refusal)) bytes items side front [] []
+
+  -- these acts lead from one station to another; this goes out, and this is told
+  abbrev pub GoesOnDisplay : PartsOn D P → List (Act K) → List ℕ → List Applied → PartsOn D P → Type 0
+  GoesOnDisplay = Goes rules d.out (manner_on d) (LeadsOn rules d)
+
+  -- the station refuses this byte behind all that came before it
+  abbrev pub RefusesOn : PartsOn D P → ℕ → Refusal → PartsOn D P → Type 0
+  RefusesOn old byte refusal new = (bytes : List ℕ) (items : List (Item U)) (side : SideOn H)
+      → LeadsOn rules d old bytes items side → length bytes + 1 < 2 ^ 64
+      → IsPushedOn rules d old new bytes items side byte (Err refusal)
+
+  -- it refuses the key, for this reason, by all that came and was pressed before
+  abbrev pub IsKeyRefusalOn : PartsOn D P → K → KeyFault → Type 0
+  IsKeyRefusalOn station key fault = (bytes : List ℕ) (items : List (Item U)) (side : SideOn H)
+      → LeadsOn rules d station bytes items side → length bytes + 1 < 2 ^ 64 → key_on d side key ≡ RefusesKey fault
+
+  -- it has no reason to refuse it
+  abbrev pub IsKeyTakenOn : PartsOn D P → K → Type 0
+  IsKeyTakenOn station key = (bytes : List ℕ) (items : List (Item U)) (side : SideOn H)
+      → LeadsOn rules d station bytes items side → length bytes + 1 < 2 ^ 64
+      → (fault : KeyFault) → key_on d side key ≡ RefusesKey fault → ⊥
