@@ -5,12 +5,9 @@ use crate::same_at;
 use crate::vectors::{LENGTH_255, REFUSED_BODIES, Side, VECTORS, Vector};
 use std::alloc::Global;
 use std::process::Abort;
-use ws_code::{Body, Code, Fault, List, Reason};
+use ws_code::{Body, Fault, List, Reason};
 use ws_record::{Head, Item, Live, Record, Step, decode_all, encode};
-use ws_stream::{Answers, Commands};
-
-// What a decoder has found: the items of a stream, or its fault.
-type Found<B> = Result<Vec<Item<<B as Code>::Unit>>, Fault>;
+use ws_stream::{AnswerPart, Answers, Commands, Element};
 
 // What the steps of a live decoder make up: items, and the head and the units of a record that isn't whole.
 #[derive(Drop)]
@@ -60,55 +57,61 @@ impl<U: Drop> Made<U> {
     }
 }
 
-fn watched<B: Body>(rt: &impl Abort, alloc: Global, bytes: &[u8]) -> Found<B> {
+// What the steps give up to a fault, and the fault where there is one.
+#[derive(Drop)]
+struct Watched<U: Drop> {
+    items: Vec<Item<U>>,
+    end: Result<(), Fault>,
+}
+
+fn watched<B: Body>(rt: &impl Abort, alloc: Global, bytes: &[u8]) -> Watched<B::Unit> {
     let mut live = Live::<B>::new();
     let mut made = Made::new(alloc);
     for byte in bytes {
         if let Some(fault) = made.take(rt, alloc, live.push(*byte)) {
-            return Err(fault);
+            return Watched {
+                items: made.items,
+                end: Err(fault),
+            };
         }
     }
-    match live.finish() {
-        Ok(()) => Ok(made.items),
-        Err(fault) => Err(fault),
+    Watched {
+        items: made.items,
+        end: live.finish(),
     }
 }
 
-// Whether these are so many items, and are spelled by these bytes, which spell no others.
-fn are_spelled<B: Body>(
+// Whether items come back from their encoding.
+fn come_back<B: Body<Unit = U>, U: PartialEq + Drop>(
+    rt: &impl Abort,
     alloc: Global,
-    items: &[Item<B::Unit>],
-    count: usize,
-    bytes: &[u8],
+    items: &[Item<U>],
 ) -> bool {
-    match encode::<B>(alloc, items) {
-        Ok(spelling) => items.len() == count && spelling.as_slice() == bytes,
-        Err(_) => false,
-    }
+    let spelling = encode::<B>(alloc, items).expect(rt, "a spelling");
+    let back = decode_all::<B>(alloc, spelling.as_slice()).expect(rt, "items");
+    back.as_slice() == items
 }
 
-// What all decoders say of the bytes: how many items they are, or the fault. None where two differ, or where the
-// items don't come back from their encoding.
-fn answer<B: Body>(rt: &impl Abort, alloc: Global, bytes: &[u8]) -> Option<Result<usize, Fault>> {
+// What all decoders say of the bytes: how many items they are, or the fault. None where two differ, also in the items
+// before a fault, or where the items don't come back from their encoding.
+fn answer<B: Body<Unit = U>, U: PartialEq + Drop>(
+    rt: &impl Abort,
+    alloc: Global,
+    bytes: &[u8],
+) -> Option<Result<usize, Fault>> {
     let in_bytes = heard::<B>(rt, alloc, bytes, Cut::Pieces(1));
     let in_steps = watched::<B>(rt, alloc, bytes);
-    match (decode_all::<B>(alloc, bytes), in_steps) {
-        (Ok(items), Ok(in_steps)) => {
-            let count = items.len();
-            let spelling = encode::<B>(alloc, items.as_slice()).expect(rt, "a spelling");
-            let spelled = spelling.as_slice();
-            let back = decode_all::<B>(alloc, spelled).expect(rt, "items");
-            let same = in_bytes.end.is_ok()
-                && are_spelled::<B>(alloc, in_bytes.items.as_slice(), count, spelled)
-                && are_spelled::<B>(alloc, in_steps.as_slice(), count, spelled)
-                && are_spelled::<B>(alloc, back.as_slice(), count, spelled);
-            same.then_some(Ok(count))
+    let items = in_bytes.items.as_slice();
+    let fault = in_bytes.end.err();
+    if in_steps.items.as_slice() != items || in_steps.end.err() != fault {
+        return None;
+    }
+    match decode_all::<B>(alloc, bytes) {
+        Ok(found) => {
+            let same = fault.is_none() && found.as_slice() == items;
+            (same && come_back::<B, U>(rt, alloc, items)).then_some(Ok(items.len()))
         }
-        (Err(fault), Err(in_steps)) => {
-            let same = in_bytes.end.err() == Some(fault) && in_steps == fault;
-            same.then_some(Err(fault))
-        }
-        _ => None,
+        Err(found) => (fault == Some(found)).then_some(Err(found)),
     }
 }
 
@@ -119,8 +122,8 @@ fn answer_from(
     bytes: &[u8],
 ) -> Option<Result<usize, Fault>> {
     match side {
-        Side::FromHost => answer::<Commands>(rt, alloc, bytes),
-        Side::FromStation => answer::<Answers>(rt, alloc, bytes),
+        Side::FromHost => answer::<Commands, Element>(rt, alloc, bytes),
+        Side::FromStation => answer::<Answers, AnswerPart>(rt, alloc, bytes),
     }
 }
 
@@ -276,7 +279,7 @@ const CHANGED_INVITES: [(&[u8], u64, Reason); 10] = [
 fn changed_invites(rt: HostRuntime) {
     for (bytes, place, reason) in &CHANGED_INVITES {
         let (place, reason) = (*place, *reason);
-        let found = answer::<Commands>(&rt, rt.alloc(), bytes);
+        let found = answer::<Commands, Element>(&rt, rt.alloc(), bytes);
         let wanted = Some(Err(Fault::Refused { place, reason }));
         same_at(&rt, bytes, found, wanted);
     }

@@ -126,12 +126,12 @@ fn expect_list(rt: &impl Abort, alloc: Global, item: Wanted, length: usize, size
     expect_answer(rt, alloc, length, bytes.as_slice(), Ok(length));
 }
 
-// Lists of items as long as those at which lists grow are encoded and come back.
+// Lists of items of each length, past those at which lists grow, are encoded and come back.
 #[test]
 fn lists_of_each_length(rt: HostRuntime) {
     let record = Wanted::Record(Opcode::PutGet, b"\x40");
     let command = Wanted::Command(CommandCode::Nop);
-    for length in [0, 1, 255, 256, 257] {
+    for length in 0..=300 {
         expect_list(&rt, rt.alloc(), record, length, 13);
         expect_list(&rt, rt.alloc(), command, length, 2);
     }

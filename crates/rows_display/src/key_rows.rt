@@ -149,14 +149,14 @@ const REFUSED: [(u16, Key, KeyRefusal); 12] = [
     (0x7000, Key::Dup, KeyRefusal::Protected),
 ];
 
-fn check_refused(rt: &impl Abort, format: u16, key: Key, refusal: KeyRefusal) {
-    let mut screen = screen_of(rt, format, &A_TO_D);
+fn check_refused(rt: &impl Abort, format: u16, cells: &[u8], key: Key, refusal: KeyRefusal) {
+    let mut screen = screen_of(rt, format, cells);
     screen.move_cursor(at(rt, 2, 3));
     match press(&mut screen, key) {
         Err(found) => same(rt, found, refusal),
         Ok(_) => panic!(rt; "a refusal"),
     }
-    check_cells(rt, &screen, 2, &A_TO_D);
+    check_cells(rt, &screen, 2, cells);
     holds(rt, !is_modified(rt, &screen, 2));
     holds(rt, !screen.locked());
     same(rt, screen.cursor(), at(rt, 2, 3));
@@ -166,10 +166,19 @@ fn check_refused(rt: &impl Abort, format: u16, key: Key, refusal: KeyRefusal) {
 #[test]
 fn keys_refused(rt: HostRuntime) {
     for (format, key, refusal) in &REFUSED {
-        check_refused(&rt, *format, *key, *refusal);
+        check_refused(&rt, *format, &A_TO_D, *key, *refusal);
     }
     let enter = aid(&rt, 0xf1);
-    check_refused(&rt, 0x4000, enter, KeyRefusal::NoReadPending);
+    check_refused(&rt, 0x4000, &A_TO_D, enter, KeyRefusal::NoReadPending);
+    // all digit cells hold one, and the sign cell is empty
+    let insert = Key::Insert('4');
+    check_refused(
+        &rt,
+        0x4700,
+        &[0xf1, 0xf2, 0xf3, 0],
+        insert,
+        KeyRefusal::NoRoom,
+    );
 }
 
 fn check_move(rt: &impl Abort, screen: &mut Screen, from: (u8, u8), key: Key, to: (u8, u8)) {

@@ -96,25 +96,37 @@ fn one_field_more(rt: &impl Abort) {
     same(rt, full.field_count(), 256);
 }
 
-// An input field, by the row and column of its attribute and its length, and why it is refused behind a field of ten
-// cells at 6, 53.
-const REFUSED_FIELDS: [(u8, u8, u16, Reason); 3] = [
-    (24, 79, 2, Reason::FieldPastEnd),
-    (24, 79, 0, Reason::ZeroLength),
-    (6, 54, 4, Reason::FieldOverlap),
+// An input field is refused, whose attribute is at this row and column.
+fn refuses_field(
+    rt: &impl Abort,
+    screen: &mut Screen,
+    cell: (u8, u8),
+    length: u16,
+    reason: Reason,
+) {
+    applies(rt, screen, sba(rt, cell.0, cell.1));
+    let field = input(rt, 0x4000, 0x20, length);
+    same(rt, apply_all(rt, screen, &[field]), Some(reason));
+}
+
+// Fields that a new screen refuses, by the row and column of the attribute and the length, and why.
+const REFUSED_FIELDS: [((u8, u8), u16, Reason); 2] = [
+    ((24, 79), 2, Reason::FieldPastEnd),
+    ((24, 79), 0, Reason::ZeroLength),
 ];
 
 #[test]
 fn field_limits(rt: HostRuntime) {
     last_field_again(&rt);
-    for (row, col, length, reason) in &REFUSED_FIELDS {
-        let first = [begin(), sba(&rt, 6, 52), input(&rt, 0x4000, 0x20, 10)];
-        let mut screen = screen_with(&rt, &first);
-        applies(&rt, &mut screen, sba(&rt, *row, *col));
-        let field = input(&rt, 0x4000, 0x20, *length);
-        let refused = apply_all(&rt, &mut screen, &[field]);
-        same(&rt, refused, Some(*reason));
+    for (cell, length, reason) in &REFUSED_FIELDS {
+        let mut screen = screen_with(&rt, &[begin()]);
+        refuses_field(&rt, &mut screen, *cell, *length, *reason);
+        same(&rt, screen.field_count(), 0);
     }
+    // behind a field of ten cells at 6, 53
+    let first = [begin(), sba(&rt, 6, 52), input(&rt, 0x4000, 0x20, 10)];
+    let mut screen = screen_with(&rt, &first);
+    refuses_field(&rt, &mut screen, (6, 54), 4, Reason::FieldOverlap);
     one_field_more(&rt);
 }
 

@@ -5,8 +5,8 @@ use crate::{holds, same, same_bytes};
 use arrayvec::ArrayVec;
 use std::alloc::Global;
 use std::process::Abort;
-use ws_code::{Address, Aid, DataByte, Fault, Ffw, List, SliceSource, VecSink, WriteSink};
-use ws_keys::{HostAnswer, HostFault, Key};
+use ws_code::{Address, Aid, DataByte, Fault, Ffw, List, Reason, SliceSource, VecSink, WriteSink};
+use ws_keys::{HostAnswer, HostFault, Key, split_answer};
 use ws_live::{ScriptFault, read_script};
 use ws_nego::TerminalType;
 use ws_program::{TextFault, check_to, hex_bytes, show_to};
@@ -198,6 +198,37 @@ fn host_end_within_memory(rt: HostRuntime) {
     push_within(&rt, &mut host);
 }
 
+// A station that shows `bob`'s form. None of this takes memory.
+fn station_with_bob(rt: &impl Abort) -> Station {
+    let mut station = Station::new(TerminalType::default());
+    for byte in OPENING.iter().chain(BOB.iter()) {
+        holds(rt, station.push(*byte).is_ok());
+    }
+    station
+}
+
+// Splits `bob`'s answer, at the second time where memory was wanted. Want of memory hides no answer that doesn't fit.
+#[test]
+fn split_within_memory(rt: HostRuntime) {
+    let station = station_with_bob(&rt);
+    let screen = station.screen();
+    let kind = screen.pending().expect(&rt, "a read");
+    let parts = parts(&rt);
+    let answer = match split_answer(rt.alloc(), screen, kind, &parts) {
+        Ok(answer) => answer,
+        Err(fault) => {
+            holds(&rt, matches!(fault, HostFault::Memory));
+            split_answer(rt.alloc(), screen, kind, &parts).expect(&rt, "split at the second time")
+        }
+    };
+    holds(&rt, is_bob(&answer));
+    let [head, at, first, second, third] = parts;
+    let twice = [head, at, first, second, third, at];
+    let found = split_answer(rt.alloc(), screen, kind, &twice);
+    let mismatch = matches!(found, Err(HostFault::Reason(Reason::AnswerMismatch)));
+    holds(&rt, mismatch);
+}
+
 // The elements of `bob` in a list, where there is memory for it.
 fn form_list(rt: &impl Abort, alloc: Global) -> Option<List<Element>> {
     match Vec::from_array(alloc, form(rt)) {
@@ -295,10 +326,7 @@ const KEYS: [Key; 3] = [Key::Char('B'), Key::Char('O'), Key::Char('B')];
 
 #[test]
 fn bob_without_memory(rt: HostRuntime) {
-    let mut station = Station::new(TerminalType::default());
-    for byte in OPENING.iter().chain(BOB.iter()) {
-        holds(&rt, station.push(*byte).is_ok());
-    }
+    let mut station = station_with_bob(&rt);
     for key in KEYS {
         holds(&rt, matches!(station.key(key), Ok(None)));
     }

@@ -145,7 +145,7 @@ module _ {Place U : Type 0} {rules : Rules Place U} {bytes rest : List ℕ} {old
 pub next_fault : {Place U : Type 0} (rules : Rules Place U) (bytes rest : List ℕ) (old : Receiving Place U) → rest
     ≡ drop old.live.taken bytes → length bytes + 1 < 2 ^ 64 → HasBegun rules bytes old → (fault : Fault)
     → ((bs : List ℕ) (items : List (Item U)) → HasReceived rules old bs items → length bs + length rest + 1 < 2 ^ 64
-    → IsFeedFault rules bs rest fault)
+    → IsFeedFault rules bs items rest fault)
     → ((bs : List ℕ) (items : List (Item U)) → HasReceived rules old bs items → length bs + length rest + 1 < 2 ^ 64
     → NoneBefore rules bs rest items fault) → IsNextFault rules bytes old fault
 next_fault rules bytes rest old is fits begun (faults.Refused place reason) faulted none =
@@ -165,11 +165,14 @@ next_fault rules bytes rest old is fits begun (faults.Truncated n) faulted none 
     absurd (faulted t.before begun.0 t.received (room t fits))
 next_fault rules bytes rest old is fits begun faults.Memory faulted none = λ items taken.
     let before = take old.live.taken bytes in
-    let all = ap (λ z. before ++ z) is ∙ take-append-drop old.live.taken bytes in (
-      old.live.taken,
-      (taken.leads.0, old.live.begun, taken.leads.1.holds),
-      subst (λ (z : List ℕ). HasUnit rules before z) is
-          (faulted before items taken (omega (arith, fits, ap length all, length-append before rest))),
+    let all : before ++ rest ≡ bytes = ap (λ z. before ++ z) is ∙ take-append-drop old.live.taken bytes in
+    let u : HasUnit rules before items rest =
+    faulted before items taken (omega (arith, fits, ap length all, length-append before rest)) in (
+      before ++ u.0,
+      u.1,
+      u.2,
+      sym all ∙ ap (λ z. before ++ z) u.3 ∙ sym (append_assoc before u.0 (u.1 ∷ u.2)),
+      u.4,
     )
 next_fault rules bytes rest old is fits begun faults.Read faulted none =
     let t = taken_before rules bytes rest old begun.0 is begun.1 in

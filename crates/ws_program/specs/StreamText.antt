@@ -136,10 +136,9 @@ module _ {Place U : Type 0} where
   IsNext rules bytes old new (Some x) = (items : List (Item U)) → HasTaken rules bytes old items
       → IsNextItem rules bytes items old new x
 
-  -- behind bytes that hold the items a unit of one more is complete, so that a list grows for it
+  -- a unit of the record that comes next behind the items is complete in the bytes, so that a list grows for it
   abbrev pub GrowsBehind : Rules Place U → List ℕ → List (Item U) → Type 0
-  GrowsBehind rules bytes items = (n : ℕ) × HoldsItems rules (take n bytes) items
-      × HasUnit rules (take n bytes) (drop n bytes)
+  GrowsBehind rules bytes items = HasUnit rules [] items bytes
 
   -- why nothing comes next: a byte is refused, before which no item more is complete, or the growth for a unit was
   abbrev pub IsNextFault : Rules Place U → List ℕ → Receiving Place U → Fault → Type 0

@@ -82,8 +82,8 @@ pub fn show_answers_to<S: Sink>(alloc: Global, bytes: &[u8], sink: &mut S) -> Re
 ///
 /// Of a host's stream that is the screen that its records make; of a station's nothing. An item is written and then
 /// carried out. Where the stream is refused or ends too early, or an item can't be carried out, the line of a check is
-/// the last. `Memory` where the growth for a unit was refused that is complete behind the items before, whose lines
-/// went out; `Write` where the sink failed, and then a proper prefix of the lines. The lines that went out begin all of
+/// the last. `Memory` where the growth for a unit of the record behind the items was refused, whose lines went out, and
+/// no byte up to that unit's last one is refused; `Write` where the sink failed, and then a proper prefix of the lines. The lines that went out begin all of
 /// them.
 pub fn show_body_to<B: Shown, S: Sink>(
     alloc: Global,

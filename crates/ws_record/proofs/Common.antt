@@ -61,7 +61,7 @@ pub use Rattle.ws_record.specs.Receiver.{IsTakeFault, IsFeedFault, NoneBefore, g
 pub use Rattle.ws_record.specs.Refusal.{IsRefused, IsTruncated, Layer, IsRight, IsOpen, IsFirstClosed}
 pub use Rattle.ws_record.specs.Refusal.{header_reason, IsBodyReason, IsReason}
 pub use Rattle.ws_record.specs.Refusal.Layer.{Tokens, Header, Body}
-pub use Rattle.ws_record.specs.Steps.{IsStepOf, IsItemOf}
+pub use Rattle.ws_record.specs.Steps.{IsStepOf, IsItemOf, IsFedOf}
 pub use Rattle.ws_record.specs.Taking.{ArePlain, KeepsTold, IsTaken, IsEnd, IsWordTaken, grown, EndIn, IsHeaderStep}
 pub use Rattle.ws_record.specs.declared.news.Advance.{Advance}
 pub use Rattle.ws_record.specs.declared.news.News.{News}

@@ -4,7 +4,7 @@ use C.{take-append-drop, append-nil, Rules, Reason, Fault, Refused, Truncated, M
 use C.{IsFirstClosed, IsRefused, IsTruncated, Tokens, Receiving, HasReceived, HasItem, MayGrow, IsListFault}
 use C.{IsDecodeFault, MayGive, Gave, GaveAll, IsSourceFault, ◌<◌, ◌⊎◌, Result, Ok, Err, IfOk, IfErr, MatchResult}
 use C.{IsPrefixFree, most_reads, list_gives, Read, Begins, list_gave, list_gave_all, list_no_fault, common_steps, arith}
-use C.{one_begins, one_cut, token_rules, token_prefix_free, Token, Data, joined}
+use C.{length-append, one_begins, one_cut, token_rules, token_prefix_free, Token, Data, joined}
 use C.{IsBodyReason, IsReason, Header, Body, IsRight}
 use Rattle.ws_record.proofs.Refusals.{held}
 use Rattle.ws_telnet.proofs.LastRecords.{one_end}
@@ -42,26 +42,36 @@ module _ {Place U : Type 0} (rules : Rules Place U) where
 
   -- what may grow does whatever follows
   pub grows_more : (bytes more : List ℕ) → MayGrow rules bytes → MayGrow rules (bytes ++ more)
-  grows_more bytes more (inl u) =
-      inl (u.0, u.1, u.2 ++ more, ap (λ x. x ++ more) u.3 ∙ append_assoc u.0 (u.1 ∷ u.2) more, u.4)
-  grows_more bytes more (inr i) =
-      inr (i.0, i.1 ++ more, ap (λ x. x ++ more) i.2 ∙ append_assoc i.0 i.1 more, i.3, i.4, i.5, i.6, i.7)
+  grows_more bytes more (inl (items, u)) =
+      inl (items, (u.0, u.1, u.2 ++ more, ap (λ x. x ++ more) u.3 ∙ append_assoc u.0 (u.1 ∷ u.2) more, u.4))
+  grows_more bytes more (inr i) = inr (record {
+    front = i.front;
+    rest = i.rest ++ more;
+    split = ap (λ x. x ++ more) i.split ∙ append_assoc i.front i.rest more;
+    items = i.items;
+    item = i.item;
+    so_far = i.so_far;
+    begun = i.begun;
+    holds = i.holds;
+    opened = i.opened;
+  })
 
   -- a growth that was refused for an item of a piece
   pub item_completed : (bytes piece : List ℕ) (items : List (Item U)) (item : Item U) (used : ℕ)
       (new : Receiving Place U) → HasReceived rules new (bytes ++ take used piece) (items ++ item ∷ [])
       → HasItem rules (bytes ++ piece)
-  item_completed bytes piece items item used new t = (
-    bytes ++ take used piece,
-    drop used piece,
-    sym (append_assoc bytes (take used piece) (drop used piece)
-        ∙ ap (λ x. bytes ++ x) (take-append-drop used piece)),
-    items,
-    item,
-    t.leads.0,
-    new.live.begun,
-    t.leads.1.holds,
-  )
+  item_completed bytes piece items item used new t = record {
+    front = bytes ++ take used piece;
+    rest = drop used piece;
+    split = sym (append_assoc bytes (take used piece) (drop used piece)
+        ∙ ap (λ x. bytes ++ x) (take-append-drop used piece));
+    items = items;
+    item = item;
+    so_far = t.leads.0;
+    begun = new.live.begun;
+    holds = t.leads.1.holds;
+    opened = t.leads.1.opened;
+  }
 
 -- What the loop over a source keeps: the bytes that it gave lead to the receiver, and are at most 4,096 a read.
 pub record Reading {Place U S : Type 0} (rules : Rules Place U) (gives : MayGive S) (failures : S → ℕ) (from to : S)
@@ -76,11 +86,15 @@ module _ {Place U S : Type 0} (rules : Rules Place U) (gives : MayGive S) (failu
   pub feed_source : (reads : ℕ) (bytes piece : List ℕ) (fault : Fault)
       → Gave gives failures from to reads (bytes ++ piece) → IsListFault rules bytes piece fault
       → IsSourceFault rules gives failures from to fault
-  feed_source reads bytes piece (Refused place reason) gave (inl f) = (bytes ++ piece, reads, gave, f.1)
-  feed_source reads bytes piece Memory gave (inl f) =
-      (bytes ++ piece, reads, gave, inl (bytes ++ f.0, f.1, f.2, rw (f.3, append_assoc bytes), f.4))
+  feed_source reads bytes piece (Refused place reason) gave (inl f) = (bytes ++ piece, reads, gave, f.1.1)
+  feed_source reads bytes piece Memory gave (inl (items, f)) = (
+    bytes ++ piece,
+    reads,
+    gave,
+    inl (items, (bytes ++ f.0, f.1, f.2, rw (f.3, append_assoc bytes), f.4)),
+  )
   feed_source reads bytes piece fault gave (inr f) = rw f.0 (bytes ++ piece, reads, gave, inr f.1)
-  feed_source reads bytes piece fault gave (inl f) = absurd f
+  feed_source reads bytes piece fault gave (inl f) = absurd f.1
 
 -- Bytes are refused at one place and for one reason, or truncated, and not both.
 
@@ -142,6 +156,15 @@ module _ {Place U : Type 0} (rules : Rules Place U) where
     | inr f ↦ (let t = longer y x c b w v m q ox f.0 f.1 f.2 in (sym t.0, sym t.1))
   ]
 
+  ends_before : (front rest : List ℕ) (place : ℕ) (reason : Reason) → ((layer : Layer) → IsOpen rules layer front)
+      → (r : IsRefused rules (front ++ rest) place reason) → (more : List ℕ) → front ≡ r.before ++ more
+      → r.byte ∷ r.after ≡ more ++ rest → length front ≤ place
+  ends_before front rest place reason opened r [] e s =
+      omega (arith, r.at_place, ap length (e ∙ append-nil r.before))
+  ends_before front rest place reason opened r (z ∷ more) e s =
+      let same : z ≡ r.byte = cc in
+      absurd (behind r.before r.byte more front r.layer r.closed (e ∙ ap (λ n. r.before ++ n ∷ more) same) opened)
+
   -- one place and one reason
   pub one_refused : IsPrefixFree rules → (bytes : List ℕ) (place other : ℕ) (reason another : Reason)
       → IsRefused rules bytes place reason → IsRefused rules bytes other another
@@ -160,6 +183,15 @@ module _ {Place U : Type 0} (rules : Rules Place U) where
   pub refused_or_truncated : (bytes : List ℕ) (place : ℕ) (reason : Reason) → IsRefused rules bytes place reason
       → IsTruncated rules bytes → ⊥
   refused_or_truncated bytes place reason r t = behind r.before r.byte r.after bytes r.layer r.closed r.split t.opened
+
+  -- what is open ends before a refused byte
+  pub open_before : (front rest : List ℕ) (place : ℕ) (reason : Reason) → ((layer : Layer) → IsOpen rules layer front)
+      → IsRefused rules (front ++ rest) place reason → length front ≤ place
+  open_before front rest place reason opened r =
+      elim (one_begins r.before front (r.byte ∷ r.after) rest (sym r.split)) [
+        | inl f ↦ ends_before front rest place reason opened r f.0 f.1 f.2
+        | inr f ↦ omega (arith, r.at_place, ap length f.1, length-append front f.0)
+      ]
 
   -- so two decoders of the bytes meet one fault, unless a growth was refused
   pub one_fault : IsPrefixFree rules → (bytes : List ℕ) (fault other : Fault) → IsDecodeFault rules bytes fault

@@ -131,24 +131,26 @@ module _ {Place U : Type 0} (rules : Rules Place U) (can : CanEnd rules) (law : 
         rw (at.3, ← append_assoc bytes at.0 (at.1 ∷ []))
         (refuse_data _ can law at.4 t.3.2.framed t.3.2.cut _ at.5 t.3.3)
     advance_values front values NoMemory c fresh t =
-        let at = c.at_last t.0 t.1 t.2 in (
+        let at = c.at_last t.0 t.1 t.2 in
+        let read = rw (← t.2) at t.3.3 in (
           (
             at.0,
             at.1,
             at.3,
             record {
-              items = items;
               so_far = so_far.bytes ++ t.0;
               begun = at.2;
               value = t.1;
-              units = t.3.0;
-              unit = t.3.1;
+              units = so_far.units ++ t.3.1;
+              unit = t.3.2;
               holds = at.4;
               spelled = at.5;
-              cut = t.3.2;
+              cut = rw (append_assoc so_far.bytes, append_assoc so_far.units) (rw t.3.4 at t.3.3.cut);
+              opened = rw (append_assoc bytes at.0 (at.1 ∷ []), ← at.3)
+                  (all_open _ can law c.whole read.framed read.cut);
             },
           ),
-          t.3.3,
+          t.3.5,
         )
     advance_values front values news c fresh t = absurd t
 

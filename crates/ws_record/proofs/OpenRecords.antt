@@ -302,10 +302,11 @@ module _ {Place U K : Type 0} (rules : Rules Place U) (holds : K → List U → 
         stop.last,
         stop.split,
         (
-          so_far.units ++ stop.on.run.units,
+          moved reader used (record { place = rules.after run.1; begun = [] }),
+          stop.on.run.units,
           run.1,
-          rw (append_assoc so_far.bytes, ← stop.split, append_assoc so_far.units)
-              (unit_read stop run.1 (record { place = rules.after run.1; begun = [] }) run.2 refl).cut,
+          rw (← stop.split) (unit_read stop run.1 (record { place = rules.after run.1; begun = [] }) run.2 refl),
+          refl,
           run.4,
         ),
       )

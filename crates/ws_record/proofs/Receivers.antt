@@ -3,6 +3,8 @@ use Rattle.ws_record.proofs.Common.{Result, Ok, Err, length, drop, take, Vec, Gl
 use Rattle.ws_record.proofs.Common.{length-append, append-nil, take-append-drop, length-take-le, Rules, Fault, Reason}
 use Rattle.ws_record.proofs.Common.{Item, News, IsRefused, RecordSoFar, Watching, Leads, CompletesUnit, EndIn}
 use Rattle.ws_record.proofs.Common.{IsAdvance, goes_on, IsItemOf, Receiving, HasReceived, IsTakeFault, IsFeedFault}
+use Rattle.ws_record.proofs.Common.{◌^◌, given, refl, IfOk, IfErr, IsFedOf, length_rest}
+use Rattle.ws_record.specs.declared.receiver.Fed.{Fed}
 use Rattle.ws_record.proofs.Common.{NoneBefore, bytes_on, left_of, one_last, left_joined}
 use Rattle.ws_record.proofs.Lives.{fetched, Made, IsHeld}
 use Rattle.ws_code.specs.declared.keep.Kept.TheVariants as answer
@@ -57,16 +59,17 @@ module _ {Place U : Type 0} (rules : Rules Place U) where
       received_on (λ (keep : Vec U Global). keep.items) bytes items so_far old front live new news same on m.advance
 
   -- a fault at a front's last byte
-  abbrev pub IsFrontFault : List ℕ → List ℕ → Fault → Type 0
-  IsFrontFault bytes front (faults.Refused place reason) = (length (bytes ++ front) ≡ place + 1)
+  abbrev pub IsFrontFault : List ℕ → List (Item U) → List ℕ → Fault → Type 0
+  IsFrontFault bytes items front (faults.Refused place reason) = (length (bytes ++ front) ≡ place + 1)
       × IsRefused rules (bytes ++ front) place reason
-  IsFrontFault bytes front faults.Memory = EndIn front (λ before last. CompletesUnit rules (bytes ++ before) last)
-  IsFrontFault bytes front fault = ⊥
+  IsFrontFault bytes items front faults.Memory =
+      EndIn front (λ before last. CompletesUnit rules (bytes ++ before) items last)
+  IsFrontFault bytes items front fault = ⊥
 
   -- an item, or a fault, at a front's last byte
   abbrev pub IsGiven : List ℕ → List (Item U) → List ℕ → Receiving Place U → Result (Item U) Fault → Type 0
   IsGiven bytes items front new (Ok item) = HasReceived rules new (bytes ++ front) (items ++ item ∷ [])
-  IsGiven bytes items front new (Err fault) = IsFrontFault bytes front fault
+  IsGiven bytes items front new (Err fault) = IsFrontFault bytes items front fault
 
   with_units : {bytes : List ℕ} {items : List (Item U)} {so_far : RecordSoFar U} {live : Watching Place}
       {units : List U} → units ≡ so_far.units → Leads rules live bytes items so_far
@@ -89,42 +92,107 @@ module _ {Place U : Type 0} (rules : Rules Place U) where
       rw (t.0, t.1.1) (with_units (rw m.advance.2 same) (fetched rules _ t.1.0 _ _ _ m.advance.0))
   item_given new news result same other m i = let a = m.advance in let count = m.count in grind arith
 
+  -- what a piece gives that is used up to a front's last byte
+  abbrev pub IsFedGiven : List ℕ → List (Item U) → List ℕ → ℕ → Receiving Place U → Result (Fed U) Fault → Type 0
+  IsFedGiven bytes items front used new (Ok fed) =
+      (fed.used ≡ used) × HasReceived rules new (bytes ++ front) (items ++ given fed.item)
+  IsFedGiven bytes items front used new (Err fault) = IsFrontFault bytes items front fault
+
+  pub fed_given : {bytes : List ℕ} {items : List (Item U)} {so_far : RecordSoFar U} {old kept : Vec U Global}
+      {front : List ℕ} {live : Watching Place} (new : Receiving Place U) (news : News) (used : ℕ)
+      (result : Result (Fed U) Fault) → old.items ≡ so_far.units → goes_on news ≡ false
+      → MadeInVec bytes items so_far old live kept news front
+      → IsFedOf (record { live = live; units = kept.items }) news used new result
+      → IsFedGiven bytes items front used new result
+  fed_given new news used (Ok fed) same other m i =
+      rw i.1 (refl, item_given new news (Ok i.0) same other m i.2)
+  fed_given new news used (Err fault) same other m i = item_given new news (Err fault) same other m i
+
   -- a fault at the last byte of a front of a piece
-  pub front_feeds : (bytes piece : List ℕ) (k : ℕ) (fault : Fault) → k ≤ length piece → 0 < k
-      → IsFrontFault bytes (take k piece) fault → IsFeedFault rules bytes piece fault
-  front_feeds bytes piece k (faults.Refused place reason) within some f = (
+  pub front_feeds : (bytes : List ℕ) (items : List (Item U)) (piece : List ℕ) (k : ℕ) (fault : Fault)
+      → k ≤ length piece → 0 < k → IsFrontFault bytes items (take k piece) fault
+      → IsFeedFault rules bytes items piece fault
+  front_feeds bytes items piece k (faults.Refused place reason) within some f = (
     omega (arith, f.0, some, length-append bytes (take k piece), length-take-le k piece within),
     rw (append_assoc bytes (take k piece), take-append-drop k piece) at (refused_append _ _ (drop k piece) _ _ f.1),
   )
-  front_feeds bytes piece k faults.Memory within some f =
+  front_feeds bytes items piece k faults.Memory within some f =
       (f.0, f.1, drop k piece, sym (take-append-drop k piece) ∙ rw (f.2, append_assoc f.0 (f.1 ∷ [])), f.3)
-  front_feeds bytes piece k fault within some f = absurd f
+  front_feeds bytes items piece k fault within some f = absurd f
 
   -- a fault of what is left of a piece
-  pub left_feeds : (bytes piece : List ℕ) (i : ℕ) (fault : Fault)
-      → IsFeedFault rules (bytes ++ take i piece) (left_of piece i) fault → IsFeedFault rules bytes piece fault
-  left_feeds bytes piece i (faults.Refused place reason) f = (
+  pub left_feeds : (bytes : List ℕ) (items : List (Item U)) (piece : List ℕ) (i : ℕ) (fault : Fault)
+      → IsFeedFault rules (bytes ++ take i piece) items (left_of piece i) fault
+      → IsFeedFault rules bytes items piece fault
+  left_feeds bytes items piece i (faults.Refused place reason) f = (
     omega (arith, f.0, length-append bytes (take i piece)),
     rw (append_assoc bytes (take i piece), left_joined piece i) at f.1,
   )
-  left_feeds bytes piece i faults.Memory f =
+  left_feeds bytes items piece i faults.Memory f =
       let same = sym (left_joined piece i) ∙ rw (f.3, append_assoc (take i piece)) in
       (take i piece ++ f.0, f.1, f.2, same, rw (append_assoc bytes (take i piece)) at f.4)
-  left_feeds bytes piece i fault f = absurd f
+  left_feeds bytes items piece i fault f = absurd f
 
   -- no item is complete before the last byte of a front
   pub none_before : (bytes piece : List ℕ) (items : List (Item U)) (i k : ℕ) (fault : Fault)
       → ((n : ℕ) → n < i + k → IsHeld rules items (bytes ++ take n piece))
-      → IsFrontFault (bytes ++ take i piece) (take k (left_of piece i)) fault → i + k ≤ length piece
+      → IsFrontFault (bytes ++ take i piece) items (take k (left_of piece i)) fault → i + k ≤ length piece
       → NoneBefore rules bytes piece items fault
   none_before bytes piece items i k fault each f within =
       let long = ap length (bytes_on bytes piece i k) in grind (arith, common_steps)
 
+  -- What a piece gave that was used up to the end of a front of what is left of it, whatever led to the receiver.
+  pub record IsFronted (bytes : List ℕ) (items : List (Item U)) (piece : List ℕ) (i k : ℕ) (new : Receiving Place U)
+      (result : Result (Fed U) Fault) : Type 0 where
+    pub given : IsFedGiven (bytes ++ take i piece) items (take k (left_of piece i)) (i + k) new result
+    pub held : (n : ℕ) → n < i + k → IsHeld rules items (bytes ++ take n piece)
+    pub within : k ≤ length (left_of piece i)
+    pub some : 0 < k
+
+  abbrev pub IsEachFronted : List ℕ → ℕ → ℕ → Receiving Place U → Receiving Place U → Result (Fed U) Fault → Type 0
+  IsEachFronted piece i k old new result = (bytes : List ℕ) (items : List (Item U))
+      → HasReceived rules old bytes items → length bytes + length piece + 1 < 2 ^ 64
+      → IsFronted bytes items piece i k new result
+
+  module _ (piece : List ℕ) (i k : ℕ) (old new : Receiving Place U) where
+    pub fed_taken : (result : Result (Fed U) Fault) → IsEachFronted piece i k old new result → IfOk result (λ fed.
+        (bytes : List ℕ) (items : List (Item U)) → HasReceived rules old bytes items
+        → length bytes + length piece + 1 < 2 ^ 64
+        → HasReceived rules new (bytes ++ take fed.used piece) (items ++ given fed.item))
+    fed_taken (Ok fed) each = λ bytes items t fits.
+        let g = (each bytes items t fits).given in rw g.0 (rw (bytes_on bytes piece i k) at g.1)
+    fed_taken (Err fault) each = tt
+
+    pub fed_first : (result : Result (Fed U) Fault) → IsEachFronted piece i k old new result → IfOk result (λ fed.
+        (bytes : List ℕ) (items : List (Item U)) → HasReceived rules old bytes items
+        → length bytes + length piece + 1 < 2 ^ 64 → (n : ℕ) → n < fed.used
+        → IsHeld rules items (bytes ++ take n piece))
+    fed_first (Ok fed) each = λ bytes items t fits n lt.
+        let f = each bytes items t fits in f.held n (rw f.given.0 at lt)
+    fed_first (Err fault) each = tt
+
+    pub fed_fault : (result : Result (Fed U) Fault) → IsEachFronted piece i k old new result
+        → IfErr result (λ fault. (bytes : List ℕ) (items : List (Item U)) → HasReceived rules old bytes items
+        → length bytes + length piece + 1 < 2 ^ 64 → IsFeedFault rules bytes items piece fault)
+    fed_fault (Ok fed) each = tt
+    fed_fault (Err fault) each = λ bytes items t fits.
+        let f = each bytes items t fits in
+        left_feeds bytes items piece i fault (front_feeds _ _ _ k fault f.within f.some f.given)
+
+    pub fed_none_before : i ≤ length piece → (result : Result (Fed U) Fault)
+        → IsEachFronted piece i k old new result
+        → IfErr result (λ fault. (bytes : List ℕ) (items : List (Item U)) → HasReceived rules old bytes items
+        → length bytes + length piece + 1 < 2 ^ 64 → NoneBefore rules bytes piece items fault)
+    fed_none_before before (Ok fed) each = tt
+    fed_none_before before (Err fault) each = λ bytes items t fits.
+        let f = each bytes items t fits in
+        none_before bytes piece items i k fault f.held f.given (omega (arith, before, f.within, length_rest piece i))
+
   -- a fault of a single byte
-  pub front_takes : (bytes : List ℕ) (byte : ℕ) (fault : Fault) → IsFrontFault bytes (byte ∷ []) fault
-      → IsTakeFault rules bytes byte fault
-  front_takes bytes byte (faults.Refused place reason) f =
+  pub front_takes : (bytes : List ℕ) (items : List (Item U)) (byte : ℕ) (fault : Fault)
+      → IsFrontFault bytes items (byte ∷ []) fault → IsTakeFault rules bytes items byte fault
+  front_takes bytes items byte (faults.Refused place reason) f =
       (omega (arith, f.0, length-append bytes (byte ∷ [])), f.1)
-  front_takes bytes byte faults.Memory f =
+  front_takes bytes items byte faults.Memory f =
       let ends = one_last _ _ _ f.2 in let here = rw ends.0 at f.3 in rw ends.1 at (rw (append-nil bytes) at here)
-  front_takes bytes byte fault f = absurd f
+  front_takes bytes items byte fault f = absurd f

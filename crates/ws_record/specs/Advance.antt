@@ -56,7 +56,7 @@ module _ {Place U : Type 0} where
     IsAdvance (Refused reason) =
         (place : ℕ) × (length (bytes ++ front) ≡ place + 1) × IsRefused rules (bytes ++ front) place reason
     IsAdvance NoMemory =
-        EndIn front (λ before last. CompletesUnit rules (bytes ++ before) last) × may_answer answer.NoMemory
+        EndIn front (λ before last. CompletesUnit rules (bytes ++ before) items last) × may_answer answer.NoMemory
     IsAdvance Failed = ⊥
 
 -- no item is complete, and more may follow

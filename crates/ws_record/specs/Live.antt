@@ -40,9 +40,10 @@ module _ {Place U : Type 0} where
   LeadsWith rules live bytes items head units = (so_far : List ℕ)
       × Leads rules live bytes items (record { bytes = so_far; head = head; units = units })
 
-  -- behind these bytes the byte completes a unit of the open record's body
-  pub record CompletesUnit (rules : Rules Place U) (bytes : List ℕ) (byte : ℕ) : Type 0 where
-    pub items : List (Item U)
+  -- Behind these bytes, which hold these items, the byte completes a unit of the open record's body, and no layer
+  -- refuses a byte up to it.
+  pub record CompletesUnit (rules : Rules Place U) (bytes : List ℕ) (items : List (Item U)) (byte : ℕ)
+      : Type 0 where
     pub so_far : List ℕ
     pub begun : List ℕ
     pub value : ℕ
@@ -51,6 +52,7 @@ module _ {Place U : Type 0} where
     pub holds : Holds rules bytes items so_far begun
     pub spelled : IsSpelled token_rules tt (begun ++ byte ∷ []) (Data value)
     pub cut : IsCut rules (drop 10 (so_far ++ value ∷ [])) (units ++ unit ∷ []) []
+    pub opened : (layer : Layer) → IsOpen rules layer (bytes ++ byte ∷ [])
 
   module _ (rules : Rules Place U) (new : Watching Place) (bytes : List ℕ) (items : List (Item U))
       (so_far : RecordSoFar U) where

@@ -8,7 +8,7 @@ use Rattle.ws_code.specs.declared.fault.Fault.TheVariants.{Refused, Truncated, M
 use Rattle.ws_record.specs.declared.record.Head.{Head}
 use Rattle.ws_record.specs.declared.record.Item.{Item}
 use Rattle.ws_record.specs.Grammar.{Holds}
-use Rattle.ws_record.specs.Refusal.{IsRefused, IsTruncated}
+use Rattle.ws_record.specs.Refusal.{Layer, IsOpen, IsRefused, IsTruncated}
 use Rattle.ws_record.specs.Live.{Watching, LeadsWith, CompletesUnit}
 
 -- What a receiver keeps: a live decoder, and the units of the open record.
@@ -28,37 +28,44 @@ module _ {Place U : Type 0} where
     pub head : Option Head
     pub leads : LeadsWith rules receiver.live bytes items head receiver.units
 
-  -- a byte of the piece behind these does
-  abbrev pub HasUnit : Rules Place U → List ℕ → List ℕ → Type 0
-  HasUnit rules bytes piece = (front : List ℕ) × (byte : ℕ) × (rest : List ℕ) × (piece ≡ front ++ byte ∷ rest)
-      × CompletesUnit rules (bytes ++ front) byte
+  -- behind these bytes and the items that they hold a byte of the piece completes a unit of the next record
+  abbrev pub HasUnit : Rules Place U → List ℕ → List (Item U) → List ℕ → Type 0
+  HasUnit rules bytes items piece = (front : List ℕ) × (byte : ℕ) × (rest : List ℕ)
+      × (piece ≡ front ++ byte ∷ rest) × CompletesUnit rules (bytes ++ front) items byte
 
-  -- an item is complete in the bytes
-  abbrev pub HasItem : Rules Place U → List ℕ → Type 0
-  HasItem rules bytes = (front : List ℕ) × (rest : List ℕ) × (bytes ≡ front ++ rest) × (items : List (Item U))
-      × (item : Item U) × (so_far : List ℕ) × (begun : List ℕ) × Holds rules front (items ++ item ∷ []) so_far begun
+  -- an item is complete in a front of the bytes, and no layer refuses a byte of that
+  pub record HasItem (rules : Rules Place U) (bytes : List ℕ) : Type 0 where
+    pub front : List ℕ
+    pub rest : List ℕ
+    pub split : bytes ≡ front ++ rest
+    pub items : List (Item U)
+    pub item : Item U
+    pub so_far : List ℕ
+    pub begun : List ℕ
+    pub holds : Holds rules front (items ++ item ∷ []) so_far begun
+    pub opened : (layer : Layer) → IsOpen rules layer front
 
   -- a unit or an item is complete in the bytes, so that a list grows for it
   abbrev pub MayGrow : Rules Place U → List ℕ → Type 0
-  MayGrow rules bytes = HasUnit rules [] bytes ⊎ HasItem rules bytes
+  MayGrow rules bytes = ((items : List (Item U)) × HasUnit rules [] items bytes) ⊎ HasItem rules bytes
 
   -- a byte behind these is refused, or the growth for a unit that is complete with it was
-  abbrev pub IsTakeFault : Rules Place U → List ℕ → ℕ → Fault → Type 0
-  IsTakeFault rules bytes byte (Refused place reason) = (place ≡ length bytes)
+  abbrev pub IsTakeFault : Rules Place U → List ℕ → List (Item U) → ℕ → Fault → Type 0
+  IsTakeFault rules bytes items byte (Refused place reason) = (place ≡ length bytes)
       × IsRefused rules (bytes ++ byte ∷ []) place reason
-  IsTakeFault rules bytes byte Memory = CompletesUnit rules bytes byte
-  IsTakeFault rules bytes byte fault = ⊥
+  IsTakeFault rules bytes items byte Memory = CompletesUnit rules bytes items byte
+  IsTakeFault rules bytes items byte fault = ⊥
 
   -- a byte of the piece behind these is refused, or the growth for a unit of it was
-  abbrev pub IsFeedFault : Rules Place U → List ℕ → List ℕ → Fault → Type 0
-  IsFeedFault rules bytes piece (Refused place reason) = (length bytes ≤ place)
+  abbrev pub IsFeedFault : Rules Place U → List ℕ → List (Item U) → List ℕ → Fault → Type 0
+  IsFeedFault rules bytes items piece (Refused place reason) = (length bytes ≤ place)
       × IsRefused rules (bytes ++ piece) place reason
-  IsFeedFault rules bytes piece Memory = HasUnit rules bytes piece
-  IsFeedFault rules bytes piece fault = ⊥
+  IsFeedFault rules bytes items piece Memory = HasUnit rules bytes items piece
+  IsFeedFault rules bytes items piece fault = ⊥
 
   -- a fault of a piece, or the growth for an item of it was refused
   abbrev pub IsListFault : Rules Place U → List ℕ → List ℕ → Fault → Type 0
-  IsListFault rules bytes piece fault = IsFeedFault rules bytes piece fault
+  IsListFault rules bytes piece fault = ((items : List (Item U)) × IsFeedFault rules bytes items piece fault)
       ⊎ ((fault ≡ Memory) × HasItem rules (bytes ++ piece))
 
   -- where a byte of the piece is refused, no further item is complete before it

@@ -12,6 +12,7 @@ use Rattle.ws_record.specs.declared.news.News.TheVariants.{More, Unit as Whole, 
 use Rattle.ws_record.specs.declared.news.News.TheVariants.{Refused, NoMemory, Failed}
 use Rattle.ws_record.specs.declared.live.Step.{Step}
 use Rattle.ws_record.specs.declared.live.Step.TheVariants as steps
+use Rattle.ws_record.specs.declared.receiver.Fed.{Fed}
 use Rattle.ws_record.specs.DataStep.{record_of}
 use Rattle.ws_record.specs.Live.{Watching}
 use Rattle.ws_record.specs.Receiver.{Receiving}
@@ -48,3 +49,9 @@ module _ {Place U : Type 0} where
       (answer ≡ Err (faults.Refused (old.live.taken - 1) reason)) × (new ≡ old)
   IsItemOf old NoMemory new answer = (answer ≡ Err faults.Memory) × (new ≡ old)
   IsItemOf old news new answer = answer ≡ Err faults.Failed
+
+  -- what a piece gives whose used bytes, so many, end with these news: the item or the fault that they are
+  abbrev pub IsFedOf : Receiving Place U → News → ℕ → Receiving Place U → Result (Fed U) Fault → Type 0
+  IsFedOf old news used new (Ok fed) =
+      (item : Item U) × (fed ≡ record { used = used; item = Some item }) × IsItemOf old news new (Ok item)
+  IsFedOf old news used new (Err fault) = IsItemOf old news new (Err fault)

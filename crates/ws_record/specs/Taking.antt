@@ -72,9 +72,9 @@ module _ {Place U : Type 0} where
     IsTaken (Refused reason) =
         EndIn values (λ front last. (before : Keeping Place) × (more : List U)
         × HasRead rules before (grown so_far front more) × IsDataRefused rules (so_far.bytes ++ front) last reason)
-    IsTaken NoMemory = EndIn values (λ front last.
-        (units : List U) × (unit : U)
-        × IsCut rules (drop 10 ((so_far.bytes ++ front) ++ last ∷ [])) (units ++ unit ∷ []) []
+    IsTaken NoMemory =
+        EndIn values (λ front last. (after : Keeping Place) × (more : List U) × (unit : U)
+        × HasRead rules after (grown so_far (front ++ last ∷ []) (more ++ unit ∷ [])) × (after.begun ≡ [])
         × may_answer answer.NoMemory)
     IsTaken news = ⊥
 

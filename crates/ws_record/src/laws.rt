@@ -1,4 +1,4 @@
-ghost use Rattle.std.specs.Prelude.{◌≡◌, ◌++◌, ◌<◌, ◌⊎◌, List, ℕ, length, IfOk, IfErr, MatchResult};
+ghost use Rattle.std.specs.Prelude.{◌≡◌, ◌++◌, ◌<◌, ◌≤◌, ◌⊎◌, List, ℕ, length, IfOk, IfErr, MatchResult};
 ghost use Rattle.ws_code.specs.Device.{most_reads};
 ghost use Rattle.std.specs.List.{AllByRecursion};
 ghost use Rattle.ws_code.specs.declared.reason.Reason.{Reason};
@@ -8,7 +8,7 @@ ghost use Rattle.ws_record.specs.Grammar.{Holds, Spells, IsInGrammar};
 ghost use Rattle.ws_record.specs.Encode.{CanAllBeEncoded, IsInRange, IsEncodeFault, plain_spelling};
 ghost use Rattle.ws_record.specs.OpenPrefix.{IsRefusedByPrefix, IsTruncatedByPrefix};
 ghost use Rattle.ws_record.specs.Receiver.{IsDecodeFault};
-ghost use Rattle.ws_record.specs.Refusal.{IsRefused, IsTruncated};
+ghost use Rattle.ws_record.specs.Refusal.{Layer, IsOpen, IsRefused, IsTruncated};
 
 use crate::{EncodeFault, Item, decode_all, decode_from, encode};
 use std::alloc::Global;
@@ -38,13 +38,17 @@ pub fn one_truncation<B: Body>()
         → IsTruncatedByPrefix B.rules bytes → IsTruncated B.rules bytes }
 {}
 
-/// Bytes are refused at one place and for one reason, or they are truncated, and not both.
+/// Bytes are refused at one place and for one reason, or they are truncated, and not both. What is open to each layer
+/// ends before a refused byte.
 pub fn one_fault<B: Body>()
     ensures refused { (bytes : List ℕ) (place other : ℕ) (reason another : Reason)
         → IsRefused B.rules bytes place reason → IsRefused B.rules bytes other another
         → (place ≡ other) × (reason ≡ another) }
     ensures apart { (bytes : List ℕ) (place : ℕ) (reason : Reason)
         → IsRefused B.rules bytes place reason → IsTruncated B.rules bytes → ⊥ }
+    ensures open_before { (front rest : List ℕ) (place : ℕ) (reason : Reason)
+        → ((layer : Layer) → IsOpen B.rules layer front)
+        → IsRefused B.rules (front ++ rest) place reason → length front ≤ place }
 {}
 
 /// The plain spelling of items that can be encoded is in the grammar, and spells these items and no

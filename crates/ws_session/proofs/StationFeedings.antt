@@ -101,8 +101,8 @@ same_end (a ∷ xs) (b ∷ ys) x y e =
 
 module _ (old mid new : HostParts) (bytes : List ℕ) (items : List (Item AnswerPart)) (side : HostSide) (byte : ℕ) where
   -- what the last byte of a front gives is what that byte gives
-  last_wanting : EndIn (bytes ++ byte ∷ []) (λ before last. CompletesUnit answer_rules before last)
-      → CompletesUnit answer_rules bytes byte
+  last_wanting : EndIn (bytes ++ byte ∷ []) (λ before last. CompletesUnit answer_rules before items last)
+      → CompletesUnit answer_rules bytes items byte
   last_wanting e =
       let s = same_end bytes e.0 byte e.1 e.2 in
       rw (s.1, s.0) e.3

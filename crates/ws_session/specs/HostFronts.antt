@@ -62,6 +62,6 @@ IsHostFronted old new bytes items side (Err (At place reason)) = (length bytes �
     × (IsRefused answer_rules bytes place reason ⊎ HostRefusesItem bytes items side reason) × HostStands new side
 IsHostFronted old new bytes items side (Err Memory) = (new.screen ≡ old.screen)
     × (new.receiver.live.taken ≡ length bytes)
-    × (EndIn bytes (λ before last. CompletesUnit answer_rules before last) ⊎ HostWantsItem bytes items side)
+    × (EndIn bytes (λ before last. CompletesUnit answer_rules before items last) ⊎ HostWantsItem bytes items side)
     × HostStands new side
 IsHostFronted old new bytes items side (Err Failed) = ⊥

@@ -6,12 +6,13 @@ use Rattle.ws_record.proofs.laws.encode_and_decode.Goals as goal
 -- in no bytes nothing is complete
 nothing_grows : {Place U : Type 0} (rules : Rules Place U) → IsPrefixFree rules → Begins rules
     → IsInGrammar rules [] [] → MayGrow rules [] → ⊥
-nothing_grows rules free begins none (inl u) = let e : [] ≡ u.0 ++ u.1 ∷ u.2 = u.3 in
+nothing_grows rules free begins none (inl (items, u)) = let e : [] ≡ u.0 ++ u.1 ∷ u.2 = u.3 in
     omega (arith, ap length e, length-append u.0 (u.1 ∷ u.2))
 nothing_grows {Place} {U} rules free begins none (inr i) =
-    let front : i.0 ≡ [] = (both_empty i.0 i.1 i.2).0 in
-    let same : i.3 ++ i.4 ∷ [] ≡ [] = one_holding rules free begins _ _ [] (i.5, i.6, i.7) ([], [], rw front none) in
-    omega (arith, ap length same, length-append i.3 (i.4 ∷ []))
+    let front : i.front ≡ [] = (both_empty i.front i.rest i.split).0 in
+    let same : i.items ++ i.item ∷ [] ≡ [] = one_holding rules free begins _ _ [] (i.so_far, i.begun, i.holds)
+    ([], [], rw front none) in
+    omega (arith, ap length same, length-append i.items (i.item ∷ []))
 
 pub returns-clause-fault : goal.returns-clause-fault
 returns-clause-fault g c = (

@@ -1,7 +1,7 @@
 use Rattle.ws_record.proofs.Common.{Ok, Err, refl, sym, arith, ◌∙◌, append-nil, handed_on, bytes_on, each_on, ◌++◌, ◌+◌}
 use Rattle.ws_record.proofs.Common.{take, length_rest, upto}
 use Rattle.ws_record.proofs.Lives.{front_made, held_at_none, IsHeld}
-use Rattle.ws_record.proofs.Receivers.{receives, item_given, front_feeds, left_feeds, none_before}
+use Rattle.ws_record.proofs.Receivers.{receives, fed_given, fed_taken, fed_first, fed_fault, fed_none_before}
 use Rattle.ws_record.proofs.receiver.Receiver.feed.Goals as goal
 
 pub loop-used-init : goal.loop-used-init
@@ -33,51 +33,74 @@ loop-used-preserved g c = (
       )),
 )
 
-pub returns-then-not-goes_on-clause-taken : goal.returns-then-not-goes_on-clause-taken
-returns-then-not-goes_on-clause-taken g c = λ bytes items t fits.
-    let was = rw (← c.self-in-loop-used.view_is) at (c.loop-used.invariant.1 bytes items t fits).0 in
-    let made = front_made g.B.Code.rules c.args.piece.now c.loop-used.used c.advance-advance.ensures bytes was.leads.1
-    fits in
-    rw (bytes_on bytes c.args.piece.now c.loop-used.used c.advance-advance.result.used) at
-    (item_given _ _ c.advance-advance.result.news (Ok c.in_ok-item.item) refl
-    (sym c.goes_on.ensures ∙ c.if-not-goes_on.true) made c.in_ok-item.ensures.item)
-
-pub returns-then-not-goes_on-clause-first : goal.returns-then-not-goes_on-clause-first
-returns-then-not-goes_on-clause-first g c = λ bytes items t fits.
-    let inv = c.loop-used.invariant.1 bytes items t fits in
-    let was = rw (← c.self-in-loop-used.view_is) at inv.0 in
-    each_on (IsHeld g.B.Code.rules items) bytes c.args.piece.now c.loop-used.used c.advance-advance.result.used inv.1
-    (c.advance-advance.ensures.first _ _ _ was.leads.1)
-
 pub returns-clause-first : goal.returns-clause-first
 returns-clause-first g c = λ bytes items t fits n lt.
     (c.loop-used.invariant.1 bytes items t fits).1 n (omega (arith, lt))
 
-pub returns-in_err-item-clause-fault : goal.returns-in_err-item-clause-fault
-returns-in_err-item-clause-fault g c =
-    rw (handed_on c.from_residual.result c.from_residual.ensures.1) (λ bytes items t fits.
-    let was = rw (← c.self-in-loop-used.view_is) at (c.loop-used.invariant.1 bytes items t fits).0 in
-    let made = front_made g.B.Code.rules c.args.piece.now c.loop-used.used c.advance-advance.ensures bytes was.leads.1
-    fits in
-    left_feeds g.B.Code.rules bytes c.args.piece.now c.loop-used.used _ (front_feeds _ _ _ _ _
-    c.advance-advance.ensures.within (c.advance-advance.ensures.used (λ e. rw e at (made.advance)))
-    (item_given _ _ c.advance-advance.result.news (Err c.in_err-item.field-0.0) refl
-    (sym c.goes_on.ensures ∙ c.if-not-goes_on.true) made c.in_err-item.ensures.item)))
-
-pub returns-in_err-item-clause-none_before : goal.returns-in_err-item-clause-none_before
-returns-in_err-item-clause-none_before g c =
-    rw (handed_on c.from_residual.result c.from_residual.ensures.1) (λ bytes items t fits.
+pub returns-then-not-goes_on-clause-taken : goal.returns-then-not-goes_on-clause-taken
+returns-then-not-goes_on-clause-taken g c =
+    fed_taken g.B.Code.rules c.args.piece.now c.loop-used.used c.advance-advance.result.used _ _ c.fed_of.result
+    (λ bytes items t fits.
     let inv = c.loop-used.invariant.1 bytes items t fits in
     let was = rw (← c.self-in-loop-used.view_is) at inv.0 in
-    none_before g.B.Code.rules bytes c.args.piece.now items c.loop-used.used c.advance-advance.result.used _
-    (each_on (IsHeld g.B.Code.rules items) bytes c.args.piece.now c.loop-used.used c.advance-advance.result.used
-    inv.1 (c.advance-advance.ensures.first _ _ _ was.leads.1)) (item_given g.B.Code.rules c.item_of.new.self
-    c.advance-advance.result.news (Err c.in_err-item.field-0.0) refl (sym c.goes_on.ensures ∙ c.if-not-goes_on.true)
-    (front_made g.B.Code.rules c.args.piece.now c.loop-used.used c.advance-advance.ensures bytes was.leads.1 fits)
-    c.in_err-item.ensures.item)
-    (omega (
-      arith,
-      c.loop-used.invariant.0,
-      c.advance-advance.ensures.within,
-      length_rest c.args.piece.now c.loop-used.used,
-    )))
+    let made = front_made g.B.Code.rules c.args.piece.now c.loop-used.used c.advance-advance.ensures bytes was.leads.1
+    fits in
+    record {
+      given = fed_given g.B.Code.rules c.fed_of.new.self c.advance-advance.result.news _ c.fed_of.result refl
+          (sym c.goes_on.ensures ∙ c.if-not-goes_on.true) made c.fed_of.ensures.fed;
+      held = each_on (IsHeld g.B.Code.rules items) bytes c.args.piece.now c.loop-used.used
+          c.advance-advance.result.used inv.1 (c.advance-advance.ensures.first _ _ _ was.leads.1);
+      within = c.advance-advance.ensures.within;
+      some = c.advance-advance.ensures.used (λ e. rw e at made.advance);
+    })
+
+pub returns-then-not-goes_on-clause-first : goal.returns-then-not-goes_on-clause-first
+returns-then-not-goes_on-clause-first g c =
+    fed_first g.B.Code.rules c.args.piece.now c.loop-used.used c.advance-advance.result.used _ _ c.fed_of.result
+    (λ bytes items t fits.
+    let inv = c.loop-used.invariant.1 bytes items t fits in
+    let was = rw (← c.self-in-loop-used.view_is) at inv.0 in
+    let made = front_made g.B.Code.rules c.args.piece.now c.loop-used.used c.advance-advance.ensures bytes was.leads.1
+    fits in
+    record {
+      given = fed_given g.B.Code.rules c.fed_of.new.self c.advance-advance.result.news _ c.fed_of.result refl
+          (sym c.goes_on.ensures ∙ c.if-not-goes_on.true) made c.fed_of.ensures.fed;
+      held = each_on (IsHeld g.B.Code.rules items) bytes c.args.piece.now c.loop-used.used
+          c.advance-advance.result.used inv.1 (c.advance-advance.ensures.first _ _ _ was.leads.1);
+      within = c.advance-advance.ensures.within;
+      some = c.advance-advance.ensures.used (λ e. rw e at made.advance);
+    })
+
+pub returns-then-not-goes_on-clause-fault : goal.returns-then-not-goes_on-clause-fault
+returns-then-not-goes_on-clause-fault g c =
+    fed_fault g.B.Code.rules c.args.piece.now c.loop-used.used c.advance-advance.result.used _ _ c.fed_of.result
+    (λ bytes items t fits.
+    let inv = c.loop-used.invariant.1 bytes items t fits in
+    let was = rw (← c.self-in-loop-used.view_is) at inv.0 in
+    let made = front_made g.B.Code.rules c.args.piece.now c.loop-used.used c.advance-advance.ensures bytes was.leads.1
+    fits in
+    record {
+      given = fed_given g.B.Code.rules c.fed_of.new.self c.advance-advance.result.news _ c.fed_of.result refl
+          (sym c.goes_on.ensures ∙ c.if-not-goes_on.true) made c.fed_of.ensures.fed;
+      held = each_on (IsHeld g.B.Code.rules items) bytes c.args.piece.now c.loop-used.used
+          c.advance-advance.result.used inv.1 (c.advance-advance.ensures.first _ _ _ was.leads.1);
+      within = c.advance-advance.ensures.within;
+      some = c.advance-advance.ensures.used (λ e. rw e at made.advance);
+    })
+
+pub returns-then-not-goes_on-clause-none_before : goal.returns-then-not-goes_on-clause-none_before
+returns-then-not-goes_on-clause-none_before g c =
+    fed_none_before g.B.Code.rules c.args.piece.now c.loop-used.used c.advance-advance.result.used _ _ c.loop-used.invariant.0 c.fed_of.result
+    (λ bytes items t fits.
+    let inv = c.loop-used.invariant.1 bytes items t fits in
+    let was = rw (← c.self-in-loop-used.view_is) at inv.0 in
+    let made = front_made g.B.Code.rules c.args.piece.now c.loop-used.used c.advance-advance.ensures bytes was.leads.1
+    fits in
+    record {
+      given = fed_given g.B.Code.rules c.fed_of.new.self c.advance-advance.result.news _ c.fed_of.result refl
+          (sym c.goes_on.ensures ∙ c.if-not-goes_on.true) made c.fed_of.ensures.fed;
+      held = each_on (IsHeld g.B.Code.rules items) bytes c.args.piece.now c.loop-used.used
+          c.advance-advance.result.used inv.1 (c.advance-advance.ensures.first _ _ _ was.leads.1);
+      within = c.advance-advance.ensures.within;
+      some = c.advance-advance.ensures.used (λ e. rw e at made.advance);
+    })

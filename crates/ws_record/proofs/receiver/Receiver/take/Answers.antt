@@ -20,6 +20,6 @@ pub returns-in_err-item_of-clause-fault : goal.returns-in_err-item_of-clause-fau
 returns-in_err-item_of-clause-fault g c =
     rw (handed_on c.from_residual.result c.from_residual.ensures.1) (λ bytes items t fits.
     let was = rw (← c.self.view_is) at t in
-    front_takes g.B.Code.rules _ _ _ (item_given _ c.item_of.new.self c.advance-news.result.news
+    front_takes g.B.Code.rules _ _ _ _ (item_given _ c.item_of.new.self c.advance-news.result.news
     (Err c.in_err-item_of.field-0.0) refl (sym c.goes_on.ensures ∙ c.if-goes_on.false)
     (made_one _ c.args.byte c.advance-news.ensures was.leads.1 fits) c.in_err-item_of.ensures.item))

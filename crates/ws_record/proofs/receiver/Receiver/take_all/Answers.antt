@@ -9,9 +9,12 @@ loop-used-init g c = (omega arith, λ bytes t fits. rw (append-nil bytes) t)
 pub returns-in_err-fed-clause-fault : goal.returns-in_err-fed-clause-fault
 returns-in_err-fed-clause-fault g c =
     rw (handed_on c.from_residual.result
-    c.from_residual.ensures.1) (λ bytes t fits. inl (left_feeds g.B.Code.rules bytes c.args.piece.now c.loop-used.used
-    _ (c.in_err-fed.ensures.fault _ _ (c.loop-used.invariant.1 bytes t fits)
-    (room_next bytes c.args.piece.now _ fits c.loop-used.invariant.0))))
+    c.from_residual.ensures.1) (λ bytes t fits. inl (
+      c.loop-used.items.items,
+      left_feeds g.B.Code.rules bytes _
+          c.args.piece.now c.loop-used.used _ (c.in_err-fed.ensures.fault _ _ (c.loop-used.invariant.1 bytes t fits)
+          (room_next bytes c.args.piece.now _ fits c.loop-used.invariant.0)),
+    ))
 
 pub returns-then-is_err-clause-fault : goal.returns-then-is_err-clause-fault
 returns-then-is_err-clause-fault g c =
