@@ -11,7 +11,7 @@ use std::time::{Clock, Duration};
 use std::{fs, io};
 use ws_code::{ReadSource, Sink, WriteSink, write_whole};
 use ws_live::{BufferedSink, HostLine, LiveLine, StationLine, hand_on, read_lines};
-use ws_program::RunFault;
+use ws_program::{OpenStreams, RunFault};
 use ws_session::{Attached, HostEnd, Station};
 use ws_text::{Output, put_text};
 use ws_words::{ConnectAsked, HostPort, Live, ServeAsked};
@@ -20,15 +20,20 @@ use ws_words::{ConnectAsked, HostPort, Live, ServeAsked};
 const LINGER: u64 = 1;
 
 /// Carries a live session out: true where all went well.
-pub fn run_live<R, O>(rt: &R, asked: Live<'_>, out: &mut BufferedSink<O>) -> Result<bool, RunFault>
+pub fn run_live<R, O>(
+    rt: &R,
+    asked: Live<'_>,
+    streams: OpenStreams,
+    out: &mut BufferedSink<O>,
+) -> Result<bool, RunFault>
 where
     R: Runtime + AllocGlobal + Net<Listener = TcpListener, Stream = TcpStream>,
     O: Sink,
     requires { out.old.held ≡ [] }
 {
     match asked {
-        Live::Connect(asked) => connect(rt, &asked, out),
-        Live::Serve(asked) => serve(rt, &asked, out),
+        Live::Connect(asked) => connect(rt, &asked, streams, out),
+        Live::Serve(asked) => serve(rt, &asked, streams, out),
     }
 }
 
@@ -36,6 +41,7 @@ where
 fn connect<R, O>(
     rt: &R,
     asked: &ConnectAsked<'_>,
+    streams: OpenStreams,
     out: &mut BufferedSink<O>,
 ) -> Result<bool, RunFault>
 where
@@ -44,6 +50,7 @@ where
     requires { out.old.held ≡ [] }
 {
     let script = read_script_file::<R, StationLine>(rt, asked.script)?;
+    streams.suffice(script.is_none())?;
     let limit = Duration::from_secs(u64::from(asked.wait));
     let timer = Timer::new(rt, limit);
     let Ok(stream) = connect_to(rt, asked.host, &timer) else {
@@ -68,13 +75,19 @@ where
 }
 
 // A host for one station.
-fn serve<R, O>(rt: &R, asked: &ServeAsked<'_>, out: &mut BufferedSink<O>) -> Result<bool, RunFault>
+fn serve<R, O>(
+    rt: &R,
+    asked: &ServeAsked<'_>,
+    streams: OpenStreams,
+    out: &mut BufferedSink<O>,
+) -> Result<bool, RunFault>
 where
     R: Runtime + AllocGlobal + Net<Listener = TcpListener, Stream = TcpStream>,
     O: Sink,
     requires { out.old.held ≡ [] }
 {
     let script = read_script_file::<R, HostLine>(rt, asked.script)?;
+    streams.suffice(script.is_none())?;
     let limit = Duration::from_secs(u64::from(asked.wait));
     let Ok(listener) = TcpListener::bind(rt, (asked.address.host, asked.address.port)) else {
         return Err(RunFault::NoConnection);
