@@ -4,7 +4,7 @@ use Rattle.std.specs.Prelude.{◌≡◌, ℕ, List, ◌⊎◌, Bool, false, Resu
 use Rattle.ws_code.specs.Device.{MayTake, MayGive, WentOut}
 use Rattle.ws_code.specs.declared.fault.Fault.{Fault}
 use Rattle.ws_live.specs.LiveText.{HaveRun, IsLiveFault}
-use Rattle.ws_live.specs.ServeText.{Parts, HostRuns, IsAnswerOnFault}
+use Rattle.ws_live.specs.ServeText.{Parts, Runs, IsAnswerOnFault}
 use Rattle.ws_live.specs.declared.live.Closing.{Closing}
 use Rattle.ws_live.specs.declared.serve_line.HostLine.{HostLine}
 use Rattle.ws_program.specs.RunFaults.{run_fault}
@@ -24,18 +24,15 @@ module _ {L P : Type 0} (runs : L → P → Result Closing Fault → List ℕ �
         ⊎ ((has_script ≡ false) × IsUnread lines)
 
 module _ {S K : Type 0} (takes : MayTake K) (failures : K → ℕ) (gives : MayGive S) (misses : S → ℕ) where
-  module _ (tells : Bool → Type 0) {O : Type 0} (prints : MayTake O) (misprints : O → ℕ) where
-    abbrev Runs : HostLine → Parts takes failures gives misses → Result Closing Fault → List ℕ
-        → Parts takes failures gives misses → Type 0
-    Runs = HostRuns takes failures gives misses tells
-
-    -- why a session at a host ended early: in its lines, or behind them, when what they print is out
-    abbrev pub IsServeFault : Bool → Parts takes failures gives misses → Parts takes failures gives misses → O → O
-        → Bool
-        → List HostLine → RunFault → Type 0
-    IsServeFault ready from to old new has_script lines told =
-        IsSessionFault Runs ready prints misprints from to old new has_script lines told
-        ⊎ ((well : Bool) × (printed : List ℕ) × (mid : Parts takes failures gives misses) × (between : O)
-        × HaveRun Runs ready from lines well printed mid × WentOut prints misprints old between printed
-        × ((why : Fault) × IsAnswerOnFault takes failures gives misses tells prints misprints mid to between new why
-        × (told ≡ run_fault why)))
+  module _ {W : Type 0} (tells : S → Bool → Type 0) (begins : W → S → W → Type 0) (begun : W → ℕ) where
+    module _ {O : Type 0} (prints : MayTake O) (misprints : O → ℕ) where
+      -- why a session at a host ended early: in its lines, or behind them, when what they print is out
+      abbrev pub IsServeFault : Bool → (Parts takes failures gives misses × W) → (Parts takes failures gives misses × W) → O → O
+          → Bool
+          → List HostLine → RunFault → Type 0
+      IsServeFault ready from to old new has_script lines told =
+          IsSessionFault (Runs takes failures gives misses tells begins begun) ready prints misprints from to old new has_script lines told
+          ⊎ ((well : Bool) × (printed : List ℕ) × (mid : Parts takes failures gives misses × W) × (between : O)
+          × HaveRun (Runs takes failures gives misses tells begins begun) ready from lines well printed mid × WentOut prints misprints old between printed
+          × ((why : Fault) × IsAnswerOnFault takes failures gives misses tells begins begun prints misprints mid to between new why
+          × (told ≡ run_fault why)))

@@ -2,7 +2,8 @@
 ghost use Rattle.std.specs.Prelude.{◌≡◌, [], List, ℕ, false, IfOk, IfErr, MatchOption};
 ghost use Rattle.std.specs.Option.{is_some};
 ghost use Rattle.ws_code.specs.Device.{WentOut};
-ghost use Rattle.ws_live.specs.ConnectText.{IsConnectText, StationRuns};
+ghost use Rattle.ws_live.specs.ConnectText.{IsConnectText, StationRuns, station_waits};
+ghost use Rattle.ws_live.specs.Waits.{InTime};
 ghost use Rattle.ws_live.specs.LiveText as Spec;
 ghost use Rattle.ws_network.specs.LiveFaults.{IsServeFault, IsSessionFault};
 ghost use Rattle.ws_live.specs.ServeText.{IsServeText};
@@ -28,7 +29,7 @@ use ws_session::{Attached, HostEnd, Station};
 pub fn carry_at_station<R, S, K, W, O>(
     rt: &R,
     attached: &mut Attached<Station, S, K>,
-    watch: &W,
+    watch: &mut W,
     script: Option<Vec<StationLine>>,
     ready: bool,
     paint: Paint,
@@ -38,20 +39,21 @@ where
     R: Runtime + AllocGlobal,
     S: Source,
     K: Sink,
-    W: Watch,
+    W: Watch<S>,
     O: Sink,
     requires works { attached.old.broken ≡ false }
     requires empty { out.old.held ≡ [] }
     ensures ran { IfOk result (λ all_well. (lines : List AStationLine) × (text : List ℕ)
         × MatchOption script (Unit {0}) (λ asked. lines ≡ asked.items)
-        × IsConnectText K.takes K.failures S.gives S.failures (W.tells watch.now)
-        paint ready attached.old lines all_well text attached.new
+        × IsConnectText K.takes K.failures S.gives S.failures W.tells W.begins W.begun
+        paint ready (attached.old, watch.old) lines all_well text (attached.new, watch.new)
         × WentOut O.takes O.failures out.old.sink out.new.sink text) }
     ensures fault { IfErr result (λ fault. (lines : List AStationLine)
         × MatchOption script (Unit {0}) (λ asked. lines ≡ asked.items)
         × IsSessionFault
-        (StationRuns K.takes K.failures S.gives S.failures (W.tells watch.now) paint) ready
-        O.takes O.failures attached.old attached.new out.old.sink out.new.sink
+        (InTime (StationRuns K.takes K.failures S.gives S.failures W.tells paint)
+        station_waits W.begins W.begun) ready O.takes O.failures
+        (attached.old, watch.old) (attached.new, watch.new) out.old.sink out.new.sink
         (is_some script) lines fault) }
 {
     match carry_session(rt, attached, watch, script, ready, paint, out) {
@@ -67,7 +69,7 @@ where
 pub fn carry_at_host<R, S, K, W, O>(
     rt: &R,
     attached: &mut Attached<HostEnd, S, K>,
-    watch: &W,
+    watch: &mut W,
     script: Option<Vec<HostLine>>,
     ready: bool,
     out: &mut BufferedSink<O>,
@@ -76,19 +78,20 @@ where
     R: Runtime + AllocGlobal,
     S: Source,
     K: Sink,
-    W: Watch,
+    W: Watch<S>,
     O: Sink,
     requires works { attached.old.broken ≡ false }
     requires empty { out.old.held ≡ [] }
     ensures ran { IfOk result (λ all_well. (lines : List AHostLine) × (text : List ℕ)
         × MatchOption script (Unit {0}) (λ asked. lines ≡ asked.items)
-        × IsServeText K.takes K.failures S.gives S.failures (W.tells watch.now)
-        ready attached.old lines all_well text attached.new
+        × IsServeText K.takes K.failures S.gives S.failures W.tells W.begins W.begun
+        ready (attached.old, watch.old) lines all_well text (attached.new, watch.new)
         × WentOut O.takes O.failures out.old.sink out.new.sink text) }
     ensures fault { IfErr result (λ fault. (lines : List AHostLine)
         × MatchOption script (Unit {0}) (λ asked. lines ≡ asked.items)
-        × IsServeFault K.takes K.failures S.gives S.failures (W.tells watch.now) O.takes O.failures
-        ready attached.old attached.new out.old.sink out.new.sink (is_some script) lines fault) }
+        × IsServeFault K.takes K.failures S.gives S.failures W.tells W.begins W.begun
+        O.takes O.failures ready (attached.old, watch.old) (attached.new, watch.new)
+        out.old.sink out.new.sink (is_some script) lines fault) }
 {
     let ran = match carry_session(rt, attached, watch, script, ready, Paint::Plain, out) {
         Ok(ran) => ran,
@@ -107,7 +110,7 @@ where
 fn carry_session<R, E, S, K, L, W, O>(
     rt: &R,
     attached: &mut Attached<E, S, K>,
-    watch: &W,
+    watch: &mut W,
     script: Option<Vec<L>>,
     ready: bool,
     paint: Paint,
@@ -116,18 +119,20 @@ fn carry_session<R, E, S, K, L, W, O>(
 where
     R: Runtime + AllocGlobal,
     L: LiveMove<E, S, K>,
-    W: Watch,
+    W: Watch<S>,
     O: Sink,
     requires works { attached.old.broken ≡ false }
     requires empty { out.old.held ≡ [] }
     ensures ran { IfOk result (λ ran. (lines : List L)
         × MatchOption script (Unit {0}) (λ asked. lines ≡ asked.items)
-        × Spec.HasRun (L.runs (W.tells watch.now) paint) ready O.takes O.failures
-        attached.old attached.new out.old.sink out.new.sink lines ran) }
+        × Spec.HasRun (InTime (L.runs W.tells paint) L.waits W.begins W.begun) ready
+        O.takes O.failures (attached.old, watch.old) (attached.new, watch.new)
+        out.old.sink out.new.sink lines ran) }
     ensures fault { IfErr result (λ fault. (lines : List L)
         × MatchOption script (Unit {0}) (λ asked. lines ≡ asked.items)
-        × IsSessionFault (L.runs (W.tells watch.now) paint) ready O.takes O.failures
-        attached.old attached.new out.old.sink out.new.sink (is_some script) lines fault) }
+        × IsSessionFault (InTime (L.runs W.tells paint) L.waits W.begins W.begun) ready
+        O.takes O.failures (attached.old, watch.old) (attached.new, watch.new)
+        out.old.sink out.new.sink (is_some script) lines fault) }
     ensures works { IfOk result (λ ran. ran.is_over ≡ false → attached.new.broken ≡ false) }
     ensures held { out.new.held ≡ [] }
 {
@@ -142,7 +147,7 @@ where
 fn carry_input<R, E, S, K, L, W, O>(
     rt: &R,
     attached: &mut Attached<E, S, K>,
-    watch: &W,
+    watch: &mut W,
     ready: bool,
     paint: Paint,
     out: &mut BufferedSink<O>,
@@ -150,16 +155,18 @@ fn carry_input<R, E, S, K, L, W, O>(
 where
     R: Runtime + AllocGlobal,
     L: LiveMove<E, S, K>,
-    W: Watch,
+    W: Watch<S>,
     O: Sink,
     requires works { attached.old.broken ≡ false }
     requires empty { out.old.held ≡ [] }
     ensures ran { IfOk result (λ ran. (lines : List L)
-        × Spec.HasRun (L.runs (W.tells watch.now) paint) ready O.takes O.failures
-        attached.old attached.new out.old.sink out.new.sink lines ran) }
+        × Spec.HasRun (InTime (L.runs W.tells paint) L.waits W.begins W.begun) ready
+        O.takes O.failures (attached.old, watch.old) (attached.new, watch.new)
+        out.old.sink out.new.sink lines ran) }
     ensures fault { IfErr result (λ fault. (lines : List L)
-        × IsSessionFault (L.runs (W.tells watch.now) paint) ready O.takes O.failures
-        attached.old attached.new out.old.sink out.new.sink false lines fault) }
+        × IsSessionFault (InTime (L.runs W.tells paint) L.waits W.begins W.begun) ready
+        O.takes O.failures (attached.old, watch.old) (attached.new, watch.new)
+        out.old.sink out.new.sink false lines fault) }
     ensures works { IfOk result (λ ran. ran.is_over ≡ false → attached.new.broken ≡ false) }
     ensures held { out.new.held ≡ [] }
 {

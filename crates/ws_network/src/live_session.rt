@@ -3,13 +3,13 @@
 ghost use Rattle.std.specs.Prelude.{◌≡◌, []};
 
 use crate::live_input::{carry_at_host, carry_at_station};
-use crate::live_socket::{TimedReader, TimedWriter, Timer};
-use std::io::{ErrorKind, Read};
+use crate::live_socket::{TimedSource, TimedWriter, Timer, Waits};
+use std::io::ErrorKind;
 use std::net::{Net, Shutdown, TcpListener, TcpStream, ToSocketAddrs};
 use std::rt::{Files, Runtime};
 use std::time::{Clock, Duration};
 use std::{fs, io};
-use ws_code::{ReadSource, Sink, WriteSink, write_whole};
+use ws_code::{Sink, Source, WriteSink, write_whole};
 use ws_live::{BufferedSink, HostLine, LiveLine, StationLine, hand_on, read_lines};
 use ws_program::{OpenStreams, RunFault};
 use ws_session::{Attached, HostEnd, Station};
@@ -58,13 +58,13 @@ where
     };
     let mut attached = Attached::new(
         Station::new(asked.terminal),
-        ReadSource::new(TimedReader::new(&stream, &timer)),
+        TimedSource::new(&stream, &timer),
         WriteSink::new(TimedWriter::new(&stream, &timer)),
     );
     let all_well = carry_at_station(
         rt,
         &mut attached,
-        &timer,
+        &mut Waits::new(&timer),
         script,
         asked.ready,
         asked.paint,
@@ -100,9 +100,16 @@ where
     let mut host = HostEnd::new(rt.alloc());
     let mut sink = WriteSink::new(TimedWriter::new(&stream, &timer));
     write_whole(&mut sink, host.open().as_slice())?;
-    let source = ReadSource::new(TimedReader::new(&stream, &timer));
+    let source = TimedSource::new(&stream, &timer);
     let mut attached = Attached::new(host, source, sink);
-    let all_well = carry_at_host(rt, &mut attached, &timer, script, asked.ready, out)?;
+    let all_well = carry_at_host(
+        rt,
+        &mut attached,
+        &mut Waits::new(&timer),
+        script,
+        asked.ready,
+        out,
+    )?;
     close(rt, &stream);
     Ok(all_well)
 }
@@ -175,7 +182,7 @@ fn close<R: Clock>(rt: &R, stream: &TcpStream) {
         return;
     }
     let timer = Timer::new(rt, Duration::from_secs(LINGER));
-    let mut rest = TimedReader::new(stream, &timer);
+    let mut rest = TimedSource::new(stream, &timer);
     let mut piece = [0u8; 4096];
     for _ in 0..u32::MAX {
         match rest.read(&mut piece) {

@@ -1,11 +1,18 @@
 //! The two directions of a connection, each with a time.
 ghost use Rattle.std.specs.Io.{ReadsAtMost, WritesAtMost};
+ghost use Rattle.std.specs.Option.{is_some};
+ghost use Rattle.std.specs.Prelude.{◌≡◌, ◌≤◌, true, None, Some, length, IfOk, IfErr, IfNone, OnErr};
+ghost use Rattle.std_io.specs.IoError.{error_kind};
+ghost use Rattle.ws_code.specs.Device.{one_more};
+ghost use Rattle.ws_network.specs.Times.{is_want_of_time as is_late_kind, was_late};
 
 use std::cell::Cell;
 use std::io;
 use std::io::{ErrorKind, Read, Write};
+use std::marker::Model;
 use std::net::TcpStream;
 use std::time::{Clock, Duration, Instant};
+use ws_code::{DeviceFailed, Source};
 use ws_live::Watch;
 
 /// The time of a wait, which all its reads share, and of a write.
@@ -16,7 +23,6 @@ pub struct Timer<'a, C> {
     limit: Duration,
     /// When the wait ends. `None` where the clock can't tell, and then its time is over.
     until: Cell<Option<Instant>>,
-    is_late: Cell<bool>,
 }
 
 impl<'a, C: Clock> Timer<'a, C> {
@@ -26,7 +32,6 @@ impl<'a, C: Clock> Timer<'a, C> {
             clock,
             limit,
             until: Cell::new(end_of_wait(clock, limit)),
-            is_late: Cell::new(false),
         }
     }
 
@@ -34,18 +39,45 @@ impl<'a, C: Clock> Timer<'a, C> {
     pub fn left(&self) -> Option<Duration> {
         time_left(self.clock, self.until.get())
     }
-}
 
-impl<'a, C: Clock> Watch for Timer<'a, C> {
-    // No contract says what a clock tells.
-    ghost tells = { λ timer late. Unit {0} };
-
-    fn begin(&self) {
+    // A wait begins.
+    fn restart(&self) {
         self.until.set(end_of_wait(self.clock, self.limit));
     }
+}
 
-    fn is_late(&self) -> bool {
-        self.is_late.get()
+/// The waits of a session, whose time is that of a timer.
+#[derive(Drop)]
+pub struct Waits<'a, C> {
+    timer: &'a Timer<'a, C>,
+    /// How many have begun, up to the greatest value of 64 bits.
+    pub begun: u64,
+}
+
+impl<'a, C: Clock> Waits<'a, C> {
+    /// No wait has begun.
+    pub fn new(timer: &'a Timer<'a, C>) -> Self
+        ensures { result.begun ≡ 0 }
+    {
+        Waits { timer, begun: 0 }
+    }
+}
+
+impl<'a, C: Clock> Watch<TimedSource<'a, C>> for Waits<'a, C> {
+    // No contract says what a clock tells.
+    ghost begins = { λ from source to. Unit {0} };
+
+    ghost begun = { λ waits. waits.begun };
+
+    ghost tells = { λ source late. late ≡ was_late source };
+
+    fn begin(&mut self, _source: &TimedSource<'a, C>) {
+        self.begun = self.begun.saturating_add(1);
+        self.timer.restart();
+    }
+
+    fn is_late(&self, source: &TimedSource<'a, C>) -> bool {
+        source.is_late()
     }
 }
 
@@ -70,24 +102,57 @@ fn no_time() -> io::Error {
     io::Error::from(ErrorKind::TimedOut)
 }
 
-// Whether a call on a socket took longer than its time.
-fn is_out_of_time(error: &io::Error) -> bool {
-    matches!(error.kind(), ErrorKind::WouldBlock | ErrorKind::TimedOut)
+// Whether an error of this kind says that a call took longer than its time.
+fn is_want_of_time(kind: ErrorKind) -> bool
+    ensures { result ≡ is_late_kind kind }
+{
+    matches!(kind, ErrorKind::WouldBlock | ErrorKind::TimedOut)
 }
 
 /// Reads from a connection for as long as the wait lasts.
 #[derive(Drop)]
-pub struct TimedReader<'a, C> {
+pub struct TimedSource<'a, C> {
     stream: &'a TcpStream,
     timer: &'a Timer<'a, C>,
+    failures: u64,
+    // Of what kind the error of the last read that failed was.
+    failure: Option<ErrorKind>,
 }
 
-impl<'a, C: Clock> TimedReader<'a, C> {
-    pub fn new(stream: &'a TcpStream, timer: &'a Timer<'a, C>) -> Self {
-        TimedReader { stream, timer }
+impl<C> Model for TimedSource<'_, C> {
+    ghost use Rattle.ws_network.specs.Times.{Reads};
+
+    ghost Value = { Reads };
+
+    ghost view = { λ s. record { failures = s.failures; failure = s.failure } };
+}
+
+impl<'a, C: Clock> TimedSource<'a, C> {
+    /// No read has failed.
+    pub fn new(stream: &'a TcpStream, timer: &'a Timer<'a, C>) -> Self
+        ensures failures { result.failures ≡ 0 }
+        ensures failure { result.failure ≡ None }
+    {
+        TimedSource {
+            stream,
+            timer,
+            failures: 0,
+            failure: None,
+        }
     }
 
-    fn read_in_time(&self, into: &mut [u8]) -> io::Result<usize>
+    /// Whether the last read that failed did so for want of time.
+    pub fn is_late(&self) -> bool
+        ensures { result ≡ was_late self.now }
+    {
+        match self.failure {
+            Some(kind) => is_want_of_time(kind),
+            None => false,
+        }
+    }
+
+    // Reads once.
+    fn read_once(&self, into: &mut [u8]) -> io::Result<usize>
         ensures { ReadsAtMost result into.new }
     {
         let Some(left) = self.timer.left() else {
@@ -97,22 +162,47 @@ impl<'a, C: Clock> TimedReader<'a, C> {
         let mut stream = self.stream;
         stream.read(into)
     }
-}
 
-impl<'a, C: Clock> Read for TimedReader<'a, C> {
-    fn read(&mut self, into: &mut [u8]) -> io::Result<usize> {
+    // Reads, and again where a signal came.
+    fn read_in_time(&self, into: &mut [u8]) -> io::Result<usize>
+        ensures { ReadsAtMost result into.new }
+    {
         for _ in 0..u32::MAX {
-            match self.read_in_time(into) {
-                Ok(given) => return Ok(given),
-                // A signal came.
+            match self.read_once(into) {
                 Err(error) if error.kind() == ErrorKind::Interrupted => {}
-                Err(error) => {
-                    self.timer.is_late.set(is_out_of_time(&error));
-                    return Err(error);
-                }
+                outcome => return outcome,
             }
         }
         Err(no_time())
+    }
+
+    // Keeps why a read failed.
+    fn note(&mut self, outcome: io::Result<usize>) -> Result<usize, DeviceFailed>
+        ensures ok { IfOk outcome (λ given. (result ≡ Ok given) × (self.new ≡ self.old)) }
+        ensures err { IfErr outcome (λ error. (result ≡ Err DeviceFailed)
+            × (self.new.failure ≡ Some (error_kind error))
+            × (self.new.failures ≡ one_more self.old.failures)) }
+    {
+        match outcome {
+            Ok(given) => Ok(given),
+            Err(error) => {
+                self.failure = Some(error.kind());
+                self.failures = self.failures.saturating_add(1);
+                Err(DeviceFailed)
+            }
+        }
+    }
+}
+
+impl<'a, C: Clock> Source for TimedSource<'a, C> {
+    // A read that fails does so for a reason that is kept.
+    ghost gives = { λ from room given to. IfNone given (is_some to.failure ≡ true) };
+
+    ghost failures = { λ source. source.failures };
+
+    fn read(&mut self, into: &mut [u8]) -> Result<usize, DeviceFailed> {
+        let outcome = self.read_in_time(into);
+        self.note(outcome)
     }
 }
 

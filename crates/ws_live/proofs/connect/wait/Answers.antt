@@ -4,7 +4,7 @@ use Rattle.ws_live.proofs.connect.wait.Goals as goal
 pub returns-in_default : goal.returns-in_default
 returns-in_default g c = record {
   waited = is_waited g.K.Sink.takes g.K.Sink.failures g.S.Source.gives g.S.Source.failures
-      (g.W.Watch.tells c.args.watch.now) c.args.attached.now c.wait_for.new.attached c.args.awaited.now
+      g.W.Watch.tells c.args.attached.now c.wait_for.new.attached c.args.awaited.now
       c.wait_for.result c.in_default.not-Record c.wait_for.ensures.waited;
   works = c.wait_for.ensures.works;
 }

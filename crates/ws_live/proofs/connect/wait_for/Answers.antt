@@ -16,7 +16,7 @@ returns-in_default g c =
         so_far.1,
         unmet,
         hears_none g.K.Sink.takes g.K.Sink.failures g.S.Source.gives g.S.Source.failures
-            (g.W.Watch.tells c.args.watch.now) c.loop.attached c.hear_record.new.attached c.hear_record.result
+            g.W.Watch.tells c.loop.attached c.hear_record.new.attached c.hear_record.result
             c.hear_record.ensures.heard c.in_default.not-Met,
       ));
       works = c.hear_record.ensures.works;

@@ -23,7 +23,7 @@ returns-in-Err-carry_line-clause-fault g c =
       lines,
       inl (
         c.in-Err-carry_line.fault,
-        breaks (g.L.LiveMove.runs (g.W.Watch.tells c.args.watch.now) c.args.paint) c.args.ready g.O.Sink.takes
+        breaks (g.L.LiveMove.runs g.W.Watch.tells c.args.paint) c.args.ready g.O.Sink.takes
             g.O.Sink.failures c.args.attached.now c.loop.attached c.carry_line.new.attached c.args.out.now.sink
             c.loop.out.sink c.carry_line.new.out.sink
             so_far.0 c.in-Some.line c.loop.ran so_far.1 so_far.2 so_far.3
@@ -36,7 +36,7 @@ pub returns-then-ran-clause-ran : goal.returns-then-ran-clause-ran
 returns-then-ran-clause-ran g c =
     let so_far = c.loop.invariant in
     let lines : List g.row.L.Denot = so_far.0 ++ c.in-Some.line ∷ [] in
-    let runs = g.L.LiveMove.runs (g.W.Watch.tells c.args.watch.now) c.args.paint in
+    let runs = g.L.LiveMove.runs g.W.Watch.tells c.args.paint in
     let same : c.and-ran.result ≡ ran_and c.loop.ran (ran_by c.in-Ok-carry_line.closing) = c.and-ran.ensures
     ∙ ap (λ (r : Ran). ran_and c.loop.ran r) c.ran.ensures in (
       lines,
@@ -53,7 +53,7 @@ pub loop-preserved : goal.loop-preserved
 loop-preserved g c =
     let so_far = c.loop.invariant in
     let lines : List g.row.L.Denot = so_far.0 ++ c.in-Some.line ∷ [] in
-    let runs = g.L.LiveMove.runs (g.W.Watch.tells c.args.watch.now) c.args.paint in
+    let runs = g.L.LiveMove.runs g.W.Watch.tells c.args.paint in
     let same : c.and-ran.result ≡ ran_and c.loop.ran (ran_by c.in-Ok-carry_line.closing) = c.and-ran.ensures
     ∙ ap (λ (r : Ran). ran_and c.loop.ran r) c.ran.ensures in
     let going = ap (λ (r : Ran). r.is_over) (sym same) ∙ c.if-ran.false in
