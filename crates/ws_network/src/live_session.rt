@@ -1,15 +1,21 @@
 //! Live sessions over a connection: the sockets and the script. What the lines do at an end, and what they print, is
 //! said where they are carried out.
-ghost use Rattle.std.specs.Prelude.{◌≡◌, []};
+ghost use Rattle.std.specs.Prelude.{◌≡◌, [], ℕ, List, None, IfOk, OnOk, IfSome, MatchOption};
+ghost use Rattle.std.specs.Option.{is_none};
+ghost use Rattle.ws_code.specs.Device.{WentOut};
+ghost use Rattle.ws_live.specs.LiveScript.{AreLiveLines};
+ghost use Rattle.ws_network.specs.Sessions.{HasConnected, HasServed, HasRunLive, listening};
 
 use crate::live_input::{carry_at_host, carry_at_station};
-use crate::live_socket::{TimedSource, TimedWriter, Timer, Waits};
+use crate::timed_sink::TimedSink;
+use crate::timed_source::TimedSource;
+use crate::timer::{Timer, Waits};
 use std::io::ErrorKind;
 use std::net::{Net, Shutdown, TcpListener, TcpStream, ToSocketAddrs};
 use std::rt::{Files, Runtime};
 use std::time::{Clock, Duration};
 use std::{fs, io};
-use ws_code::{Sink, Source, WriteSink, write_whole};
+use ws_code::{Sink, Source, write_whole};
 use ws_live::{BufferedSink, HostLine, LiveLine, StationLine, hand_on, read_lines};
 use ws_program::{OpenStreams, RunFault};
 use ws_session::{Attached, HostEnd, Station};
@@ -20,6 +26,12 @@ use ws_words::{ConnectAsked, HostPort, Live, ServeAsked};
 const LINGER: u64 = 1;
 
 /// Carries a live session out: true where all went well.
+///
+/// # Errors
+///
+/// In this order: `Read` where a script is named that can't be read, and `Line` and `Memory` as `read_lines` has them;
+/// `Read` where standard input is to be read and is closed, and `Write` where standard output is; `NoConnection`. Then
+/// those met in running.
 pub fn run_live<R, O>(
     rt: &R,
     asked: Live<'_>,
@@ -29,7 +41,9 @@ pub fn run_live<R, O>(
 where
     R: Runtime + AllocGlobal + Net<Listener = TcpListener, Stream = TcpStream>,
     O: Sink,
-    requires { out.old.held ≡ [] }
+    requires empty { out.old.held ≡ [] }
+    ensures { IfOk result
+        (HasRunLive O.takes O.failures out.old.sink out.new.sink asked.entry) }
 {
     match asked {
         Live::Connect(asked) => connect(rt, &asked, streams, out),
@@ -47,7 +61,9 @@ fn connect<R, O>(
 where
     R: Runtime + AllocGlobal + Net<Listener = TcpListener, Stream = TcpStream>,
     O: Sink,
-    requires { out.old.held ≡ [] }
+    requires empty { out.old.held ≡ [] }
+    ensures { IfOk result
+        (HasConnected O.takes O.failures out.old.sink out.new.sink asked.now) }
 {
     let script = read_script_file::<R, StationLine>(rt, asked.script)?;
     streams.suffice(script.is_none())?;
@@ -59,7 +75,7 @@ where
     let mut attached = Attached::new(
         Station::new(asked.terminal),
         TimedSource::new(&stream, &timer),
-        WriteSink::new(TimedWriter::new(&stream, &timer)),
+        TimedSink::new(&stream, &timer),
     );
     let all_well = carry_at_station(
         rt,
@@ -84,7 +100,9 @@ fn serve<R, O>(
 where
     R: Runtime + AllocGlobal + Net<Listener = TcpListener, Stream = TcpStream>,
     O: Sink,
-    requires { out.old.held ≡ [] }
+    requires empty { out.old.held ≡ [] }
+    ensures { IfOk result
+        (HasServed O.takes O.failures out.old.sink out.new.sink asked.now) }
 {
     let script = read_script_file::<R, HostLine>(rt, asked.script)?;
     streams.suffice(script.is_none())?;
@@ -98,7 +116,7 @@ where
     };
     let timer = Timer::new(rt, limit);
     let mut host = HostEnd::new(rt.alloc());
-    let mut sink = WriteSink::new(TimedWriter::new(&stream, &timer));
+    let mut sink = TimedSink::new(&stream, &timer);
     write_whole(&mut sink, host.open().as_slice())?;
     let source = TimedSource::new(&stream, &timer);
     let mut attached = Attached::new(host, source, sink);
@@ -118,7 +136,11 @@ where
 fn read_script_file<R: Files + AllocGlobal, L: LiveLine>(
     rt: &R,
     script: Option<&str>,
-) -> Result<Option<Vec<L>>, RunFault> {
+) -> Result<Option<Vec<L>>, RunFault>
+    ensures none { IfOk result (λ read. is_none read ≡ is_none script) }
+    ensures lines { IfOk result (λ read. IfSome read (λ lines.
+        (file : List ℕ) × AreLiveLines L.means L.opener file lines.items)) }
+{
     let Some(path) = script else {
         return Ok(None);
     };
@@ -159,8 +181,10 @@ fn put_listening<R: AllocGlobal, O: Sink>(
     listener: &TcpListener,
     out: &mut BufferedSink<O>,
 ) -> Result<(), RunFault>
-    requires { out.old.held ≡ [] }
-    ensures { out.new.held ≡ [] }
+    requires empty { out.old.held ≡ [] }
+    ensures held { out.new.held ≡ [] }
+    ensures told { OnOk result ((address : List ℕ)
+        × WentOut O.takes O.failures out.old.sink out.new.sink (listening address)) }
 {
     let Ok(address) = listener.local_addr() else {
         return Err(RunFault::NoConnection);
