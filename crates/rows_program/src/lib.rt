@@ -22,6 +22,8 @@ mod show_rows;
 #[cfg(test)]
 mod size_rows;
 #[cfg(test)]
+mod stream_rows;
+#[cfg(test)]
 mod tcp_rows;
 
 // Expects two values to be the same, and shows both where they aren't. One call of it is proved sooner than an
