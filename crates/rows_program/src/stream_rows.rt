@@ -54,7 +54,11 @@ impl<R: Abort> Net for NoNet<'_, R> {
 const CLOSED: [(&[&str], &str, RunFault); 13] = [
     (&["t5250", "check"], "", RunFault::Write),
     (&["t5250", "check"], "0g", RunFault::NotHex),
-    (&["t5250", "show"], "000A12A0000004000001FFEF", RunFault::Write),
+    (
+        &["t5250", "show"],
+        "000A12A0000004000001FFEF",
+        RunFault::Write,
+    ),
     (&["t5250", "show", "--answers"], "", RunFault::Write),
     (&["t5250", "show"], "000", RunFault::NotHex),
     (&["t5250", "make"], "", RunFault::Write),
@@ -63,8 +67,16 @@ const CLOSED: [(&[&str], &str, RunFault); 13] = [
     (&["t5250", "play"], "", RunFault::Write),
     (&["t5250", "play"], "settl\n", RunFault::Line(1)),
     (&["t5250", "play", "--tcp"], "", RunFault::Write),
-    (&["t5250", "play", "--tcp", "--screen"], "settle\n", RunFault::Write),
-    (&["t5250", "play", "--tcp"], "settle\nsettl\n", RunFault::Line(2)),
+    (
+        &["t5250", "play", "--tcp", "--screen"],
+        "settle\n",
+        RunFault::Write,
+    ),
+    (
+        &["t5250", "play", "--tcp"],
+        "settle\nsettl\n",
+        RunFault::Line(2),
+    ),
 ];
 
 // Expects this fault. The sink takes what is written, so that the fault is that of the closed output alone.

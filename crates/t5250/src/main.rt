@@ -17,7 +17,9 @@ use std::rt::Runtime;
 use ws_code::WriteSink;
 use ws_live::BufferedSink;
 use ws_network::run_live;
-use ws_program::{CommandFault, OpenStreams, RunFault, answer_openly, given_words, read_input, status};
+use ws_program::{
+    CommandFault, OpenStreams, RunFault, answer_openly, given_words, read_input, status,
+};
 use ws_words::{Task, read_words};
 
 // Reads the command line and the input, and writes what is asked for: true where all was accepted.
@@ -33,14 +35,7 @@ fn run<R: Runtime + AllocGlobal + Net<Listener = TcpListener, Stream = TcpStream
         Task::Input(asked) => asked,
     };
     let text = read_input(rt, asked.file())?;
-    Ok(answer_openly(
-        rt,
-        rt.alloc(),
-        asked,
-        text.as_slice(),
-        streams,
-        &mut sink,
-    )?)
+    Ok(answer_openly(rt, rt.alloc(), asked, text.as_slice(), streams, &mut sink)?)
 }
 
 // The same, with no standard stream's descriptor free, as long as it runs.
