@@ -292,6 +292,12 @@ def closed_runs(runs, folder):
             runs.expect(f"{words} without {closed}", done, status, out, "" if 2 in closed else err)
 
 
+def standing(process, streams):
+    """What stands at descriptors of a process; None where nothing does."""
+    links = [f"/proc/{process.pid}/fd/{stream}" for stream in streams]
+    return [os.readlink(link) if os.path.lexists(link) else None for link in links]
+
+
 def filled_runs(runs, folder):
     """Where standard streams are closed, no file that is read takes their place."""
     path = os.path.join(folder, "pipe")
@@ -301,8 +307,8 @@ def filled_runs(runs, folder):
         process = subprocess.Popen([PROGRAM, "check", path], preexec_fn=closing(closed), **pipes)
         # It has opened the pipe, and waits for what it reads.
         with open(path, "w") as file:
-            found = [os.readlink(f"/proc/{process.pid}/fd/{stream}") for stream in closed]
-            others = [os.readlink(f"/proc/{process.pid}/fd/{name}") for name in os.listdir(f"/proc/{process.pid}/fd")]
+            found = standing(process, closed)
+            others = standing(process, range(3, 10))
             file.write(INVITE)
         process.communicate(timeout=60)
         right = found == ["/dev/null"] * len(closed) and path in others

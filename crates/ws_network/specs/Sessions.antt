@@ -1,6 +1,6 @@
 -- What the sessions of `connect` and `serve` come to that don't end early.
 
-use Rattle.std.specs.Prelude.{◌≡◌, ℕ, List, [], ◌++◌, Bool, false, Option, None, Some, MatchOption, Bor, codes}
+use Rattle.std.specs.Prelude.{◌≡◌, ℕ, List, [], ◌++◌, Bool, false, Option, None, Some, MatchOption, Bor}
 use Rattle.ws_code.specs.Device.{MayTake, WentOut}
 use Rattle.ws_session.specs.Attachments.{AttachedParts}
 use Rattle.ws_session.specs.HostLeads.{HostParts, HostLeads, unopened_host_side, side_after_open}
@@ -53,10 +53,6 @@ pub record IsServed (asked : ServeAsked) (lines : List HostLine) (all_well : Boo
   pub ran : IsServeText takes (λ s. s.failures) gives (λ s. s.failures) tells begins (λ begun. begun) asked.ready
       (at_connection host sink, 0) lines all_well text to
 
--- what stands before all else that `serve` prints: the address at which it listens
-abbrev pub listening : List ℕ → List ℕ
-listening address = codes "listening " ++ address ++ codes "\n"
-
 module _ {O : Type 0} (prints : MayTake O) (misprints : O → ℕ) (old new : O) where
   -- the lines of `connect` were carried out, and what they printed went out
   abbrev pub HasConnected : ConnectAsked → Bool → Type 0
@@ -64,11 +60,11 @@ module _ {O : Type 0} (prints : MayTake O) (misprints : O → ℕ) (old new : O)
       × AreFromScript station_means (λ line. ⊥) asked.script lines × IsConnected asked lines all_well text
       × WentOut prints misprints old new text
 
-  -- the same of `serve`, behind the address
+  -- the same of `serve`, behind what tells the address at which it listens
   abbrev pub HasServed : ServeAsked → Bool → Type 0
-  HasServed asked all_well = (lines : List HostLine) × (address : List ℕ) × (text : List ℕ)
+  HasServed asked all_well = (lines : List HostLine) × (first : List ℕ) × (text : List ℕ)
       × AreFromScript IsHostLine OpensHostBlock asked.script lines × IsServed asked lines all_well text
-      × WentOut prints misprints old new (listening address ++ text)
+      × WentOut prints misprints old new (first ++ text)
 
   -- a live session came to this
   abbrev pub HasRunLive : Live → Bool → Type 0

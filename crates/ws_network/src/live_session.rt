@@ -4,7 +4,7 @@ ghost use Rattle.std.specs.Prelude.{◌≡◌, [], ℕ, List, None, IfOk, OnOk, 
 ghost use Rattle.std.specs.Option.{is_none};
 ghost use Rattle.ws_code.specs.Device.{WentOut};
 ghost use Rattle.ws_live.specs.LiveScript.{AreLiveLines};
-ghost use Rattle.ws_network.specs.Sessions.{HasConnected, HasServed, HasRunLive, listening};
+ghost use Rattle.ws_network.specs.Sessions.{HasConnected, HasServed, HasRunLive};
 
 use crate::live_input::{carry_at_host, carry_at_station};
 use crate::timed_sink::TimedSink;
@@ -183,8 +183,8 @@ fn put_listening<R: AllocGlobal, O: Sink>(
 ) -> Result<(), RunFault>
     requires empty { out.old.held ≡ [] }
     ensures held { out.new.held ≡ [] }
-    ensures told { OnOk result ((address : List ℕ)
-        × WentOut O.takes O.failures out.old.sink out.new.sink (listening address)) }
+    ensures told { OnOk result ((line : List ℕ)
+        × WentOut O.takes O.failures out.old.sink out.new.sink line) }
 {
     let Ok(address) = listener.local_addr() else {
         return Err(RunFault::NoConnection);
