@@ -96,16 +96,20 @@ def expect(got, wanted, what):
 class Run:
     """A run of the program, whose lines are read as they come."""
 
-    def __init__(self, words, text=None, keep_open=False):
+    def __init__(self, words, text=None, keep_open=False, stdin=subprocess.PIPE, closed=()):
+        def close():
+            for stream in closed:
+                os.close(stream)
+
         self.began = time.monotonic()
-        self.process = subprocess.Popen([PROGRAM] + words, stdin=subprocess.PIPE, stdout=subprocess.PIPE,
-                                        stderr=subprocess.PIPE)
+        self.process = subprocess.Popen([PROGRAM] + words, stdin=stdin, stdout=subprocess.PIPE,
+                                        stderr=subprocess.PIPE, preexec_fn=close if closed else None)
         self.lines = queue.Queue()
         self.reader = threading.Thread(target=self.read, daemon=True)
         self.reader.start()
         try:
             if text is not None:
-                self.process.stdin.write(text.encode())
+                self.process.stdin.write(text if isinstance(text, bytes) else text.encode())
                 self.process.stdin.flush()
             if text is not None and not keep_open:
                 self.process.stdin.close()
@@ -142,7 +146,8 @@ class Run:
     def end(self, status, printed=None, error="", seconds=20):
         """Ends standard input, and looks at the status, at what was printed since, and at standard error."""
         try:
-            self.process.stdin.close()
+            if self.process.stdin is not None:
+                self.process.stdin.close()
         except BrokenPipeError:
             pass
         try:
@@ -902,9 +907,419 @@ def a_reset_is_a_fault():
     side = station_at(serve)
     negotiate_as_station(side)
     expect(serve.line(), "host ready IBM-3179-2\n", "await")
+    reset(side)
+    serve.end(2, "", "cannot read\n")
+
+
+# The time of a wait, of each by itself.
+
+
+def timed(low, high, began, what):
+    took = time.monotonic() - began
+    if not low < took < high:
+        raise Failure("%s took %.2f s" % (what, took))
+
+
+def reset(side):
+    """Closes a connection so that the other side is told of a fault."""
     side.stream.setsockopt(socket.SOL_SOCKET, socket.SO_LINGER, struct.pack("ii", 1, 0))
     side.close()
+
+
+def settled_serve(words, text=None):
+    """A `serve` line by line, which has told its first event, and its station."""
+    serve = Run(["serve", "--ready"] + words + ["127.0.0.1:0"], text, keep_open=True)
+    side = station_at(serve)
+    serve.tell("await")
+    negotiate_as_station(side)
+    expect(serve.line(), "host ready IBM-3179-2\n", "await")
+    expect(serve.line(), "ok\n", "await")
+    return serve, side
+
+
+def settled_connect(play, words, **options):
+    """A `connect` line by line at a host that sends the sign-on, and then plays."""
+    def begin(side):
+        negotiate_as_host(side)
+        side.send(record(3, hexed(SIGN_ON)))
+        play(side)
+    host = Host(begin, **options)
+    connect = Run(["connect", "--ready"] + words + ["127.0.0.1:%d" % host.port], "", keep_open=True)
+    expect(connect.asked("await"), "", "await")
+    return connect, host
+
+
+@test
+def a_wait_of_serve_begins_with_its_line():
+    serve, side = settled_serve(["--wait", "1"])
+    time.sleep(1.4)
+    # A write has its own time too.
+    expect(serve.asked("send 3 " + SIGN_ON), "", "send")
+    side.take(record(3, hexed(SIGN_ON)))
+    time.sleep(1.4)
+    serve.tell("await")
+    time.sleep(0.4)
+    side.send(record(3, hexed("0635F1")))
+    expect(serve.line(), "answer 6 53 F1\n", "await")
+    expect(serve.line(), "ok\n", "await")
+    side.close()
+    serve.end(0, "")
+
+
+@test
+def a_wait_of_connect_begins_with_its_line():
+    go = threading.Event()
+
+    def play(side):
+        side.take(record(3, hexed("0635F1")))
+        go.wait(15)
+        time.sleep(0.4)
+        side.send(record(3, hexed(PRICE)))
+        side.closed()
+    connect, host = settled_connect(play, ["--wait", "1"])
+    time.sleep(1.4)
+    expect(connect.asked("key Enter"), "", "key")
+    time.sleep(1.4)
+    connect.tell("await record")
+    go.set()
+    expect(connect.line(), "ok\n", "await record")
+    connect.end(0, "")
+    host.end()
+
+
+# A write that unlocks nothing and shows a cell.
+DOT = "04110000" "1101014B"
+
+
+@test
+def records_that_trickle():
+    # Each comes in the time of a wait by itself, and together they take longer.
+    def play(side):
+        negotiate_as_host(side)
+        for _ in range(5):
+            time.sleep(0.5)
+            side.send(record(2, hexed(DOT)))
+        side.send(record(3, hexed(SIGN_ON)))
+        side.closed()
+    at_host(play, ["--wait", "1"], "await record\n" * 5 + "await\nshow\n", 0, SIGN_ON_SCREEN)
+
+    # A wait for what no record brings isn't begun anew by each.
+    over = threading.Event()
+
+    def trickle(side):
+        negotiate_as_host(side)
+        try:
+            while not over.wait(0.3):
+                side.send(record(2, hexed(DOT)))
+        except OSError:
+            pass
+    for line in "await", "await text Sign On":
+        over.clear()
+        host = Host(trickle)
+        connect = Run(["connect", "--wait", "1", "127.0.0.1:%d" % host.port], "", keep_open=True)
+        began = time.monotonic()
+        connect.tell(line)
+        expect(connect.line(), "late\n", line)
+        timed(0.9, 1.8, began, line)
+        over.set()
+        connect.end(1, "")
+        host.end()
+
+
+@test
+def answers_that_trickle():
+    serve, side = settled_serve(["--wait", "1"])
+    for _ in range(4):
+        serve.tell("await")
+        time.sleep(0.5)
+        side.send(record(0, b"", 0x4000))
+        expect(serve.line(), "attention\n", "await")
+        expect(serve.line(), "ok\n", "await")
+    side.close()
+    serve.end(0, "")
+
+
+@test
+def one_byte_late_in_a_wait():
+    def play(side):
+        negotiate_as_host(side)
+        whole = record(3, hexed(SIGN_ON))
+        time.sleep(0.7)
+        side.send(whole[:1])
+        side.closed()
+    for line in "await", "await record":
+        host = Host(play)
+        connect = Run(["connect", "--wait", "1", "127.0.0.1:%d" % host.port], "", keep_open=True)
+        began = time.monotonic()
+        connect.tell(line)
+        expect(connect.line(), "late\n", line)
+        timed(0.9, 1.5, began, line)
+        connect.end(1, "")
+        host.end()
+    serve, side = settled_serve(["--wait", "1"])
+    began = time.monotonic()
+    serve.tell("await")
+    time.sleep(0.7)
+    side.send(record(0, b"", 0x4000)[:1])
+    expect(serve.line(), "late\n", "await")
+    timed(0.9, 1.5, began, "await")
+    side.close()
+    serve.end(1, None)
+
+
+@test
+def a_reset_behind_a_late_wait():
+    go = threading.Event()
+
+    def play(side):
+        go.wait(15)
+        reset(side)
+    connect, host = settled_connect(play, ["--wait", "1"])
+    expect(connect.asked("await record"), "late\n", "await record")
+    go.set()
+    host.end()
+    connect.tell("await record")
+    connect.end(2, "", "cannot read\n")
+    serve, side = settled_serve(["--wait", "1"])
+    expect(serve.asked("await"), "late\n", "await")
+    reset(side)
+    serve.tell("await")
     serve.end(2, "", "cannot read\n")
+
+
+# Scripts, and the lines of standard input.
+
+
+@test
+def ready_with_a_script_file():
+    def play(side):
+        negotiate_as_host(side)
+        side.send(record(3, hexed(SIGN_ON)))
+        side.take(record(3, hexed("0636F1" "110635C1")))
+        if not side.closed():
+            raise Failure("the station goes on")
+    with tempfile.NamedTemporaryFile("w", suffix=".connect") as script:
+        script.write("# no line\n\nawait\nfields\ntype A\nkey Enter\n")
+        script.flush()
+        host = Host(play)
+        Run(["connect", "--ready", "--wait", "5", "127.0.0.1:%d" % host.port, script.name]).end(
+            0, "ok\n" + SIGN_ON_FIELDS + "ok\nok\nok\n")
+        host.end()
+    with tempfile.NamedTemporaryFile("w", suffix=".serve") as script:
+        script.write("await\n# no line\nsend 1\n\nawait\n")
+        script.flush()
+        serve = Run(["serve", "--ready", "--wait", "5", "127.0.0.1:0", script.name])
+        side = station_at(serve)
+        negotiate_as_station(side)
+        side.take(record(1))
+        side.close()
+        serve.end(1, "host ready IBM-3179-2\nok\nok\nended\nok\n")
+
+
+@test
+def script_files_that_go_otherwise():
+    # Each of these ends a script with the status 1: refused, late, ended, or a refused byte.
+    def station(side):
+        negotiate_as_station(side)
+        side.closed()
+
+    def gone(side):
+        negotiate_as_station(side)
+
+    def mad(side):
+        side.take(OPENING)
+        side.send(b"\x00\x00\x00")
+        side.closed()
+    rows = [(station, "await\ncancel\n", "host ready IBM-3179-2\nsend refused NoReadToCancel\n"),
+            (station, "await\nawait\n", "host ready IBM-3179-2\nlate\n"),
+            (gone, "await\nawait\n", "host ready IBM-3179-2\nended\n"),
+            (mad, "await\nawait\n", "host refused at 1: reason 10 LengthBelowHeader\n")]
+    for play, text, printed in rows:
+        with tempfile.NamedTemporaryFile("w", suffix=".serve") as script:
+            script.write(text)
+            script.flush()
+            serve = Run(["serve", "--wait", "1", "127.0.0.1:0", script.name])
+            side = station_at(serve)
+            player = threading.Thread(target=lambda: (play(side), side.close()))
+            player.start()
+            serve.end(1, printed)
+            player.join()
+
+    def host(side):
+        negotiate_as_host(side)
+        side.send(record(3, hexed(SIGN_ON)))
+        side.closed()
+
+    def host_gone(side):
+        negotiate_as_host(side)
+
+    def host_mad(side):
+        side.send(b"\x00\x00\x00")
+        side.closed()
+    rows = [(host, "await\nkey Dup\n", "key refused DupNotAllowed\n"), (host, "await\nawait record\n", "late\n"),
+            (host_gone, "await\n", "ended\n"), (host_mad, "await\n", "station refused at 1: reason 10 LengthBelowHeader\n")]
+    for play, text, printed in rows:
+        with tempfile.NamedTemporaryFile("w", suffix=".connect") as script:
+            script.write(text)
+            script.flush()
+            at = Host(play)
+            Run(["connect", "--wait", "1", "127.0.0.1:%d" % at.port, script.name]).end(1, printed)
+            at.end()
+
+
+@test
+def lines_that_are_not_utf_8():
+    def host(side):
+        negotiate_as_host(side)
+        side.send(record(3, hexed(SIGN_ON)))
+        side.closed()
+    rows = [(b"\xff", 1), (b"await\n\xff\nshow\n", 2), (b"# one\n\nawait\ntype \xc3\n", 4), (b"await\nfields\n# \x80", 3)]
+    for text, number in rows:
+        printed = SIGN_ON_FIELDS if b"fields" in text else ""
+        at_host(host, ["--wait", "5"], text, 2, printed, "script line %d\n" % number, host_ends=False)
+        with tempfile.NamedTemporaryFile("wb", suffix=".connect") as script:
+            script.write(text)
+            script.flush()
+            Run(["connect", "127.0.0.1:1", script.name]).end(2, "", "script line %d\n" % number)
+    rows = [(b"cancel\n\xff\n", 2), (b"send 1\n# \xff\n", 2), (b"send 3\n  CLEAR-UNIT\n  TEXT \xff\n", 3),
+            (b"send 3\n  CLEAR-UNIT\n\xff\n", 3), (b"send 3\n  CLEAR-UNIT\n\n\xff\n", 4), (b"send 3\n\xff\n", 2)]
+    for text, number in rows:
+        serve = Run(["serve", "--wait", "5", "127.0.0.1:0"], b"await\n" + text)
+        side = station_at(serve)
+        negotiate_as_station(side)
+        serve.end(2, None, "script line %d\n" % (number + 1))
+        side.close()
+        with tempfile.NamedTemporaryFile("wb", suffix=".serve") as script:
+            script.write(text)
+            script.flush()
+            Run(["serve", "127.0.0.1:0", script.name]).end(2, "", "script line %d\n" % number)
+
+
+@test
+def a_folder_as_standard_input():
+    with tempfile.TemporaryDirectory() as folder:
+        host = Host(lambda side: side.closed())
+        descriptor = os.open(folder, os.O_RDONLY)
+        Run(["connect", "--wait", "5", "127.0.0.1:%d" % host.port], stdin=descriptor).end(2, "", "cannot read\n")
+        host.end()
+        serve = Run(["serve", "--wait", "5", "127.0.0.1:0"], stdin=descriptor)
+        side = station_at(serve)
+        side.take(OPENING)
+        serve.end(2, "", "cannot read\n")
+        side.close()
+        # And as a script.
+        Run(["connect", "127.0.0.1:1", folder]).end(2, "", "cannot read\n")
+        Run(["serve", "127.0.0.1:0", folder]).end(2, "", "cannot read\n")
+        os.close(descriptor)
+
+
+@test
+def a_script_whose_name_has_blanks():
+    with tempfile.TemporaryDirectory() as folder:
+        for name, number in (" a b ", 1), ("a b", 2), (" a b", 3):
+            with open(os.path.join(folder, name), "w") as script:
+                script.write("#\n" * (number - 1) + "nonsense\n")
+        for command in ["connect", "127.0.0.1:1"], ["serve", "127.0.0.1:0"]:
+            for name, number in (" a b ", 1), ("a b", 2), (" a b", 3):
+                Run(command + [os.path.join(folder, name)]).end(2, "", "script line %d\n" % number)
+            Run(command + [os.path.join(folder, "a b ")]).end(2, "", "cannot read\n")
+            Run(command + [os.fsencode(folder) + b"/\xff"]).end(2, "", None)
+
+
+@test
+def the_other_side_sends_on_at_the_end():
+    # What comes for a moment is taken, so that nobody is told of a fault.
+    def send_on(side):
+        side.stream.settimeout(15)
+        until = time.monotonic() + 0.5
+        while time.monotonic() < until:
+            side.stream.sendall(bytes([IAC, 0xF1]) * 100)
+            time.sleep(0.01)
+
+    def play(side):
+        negotiate_as_host(side)
+        side.send(record(3, hexed(SIGN_ON)))
+        if not side.closed():
+            raise Failure("the station goes on")
+        send_on(side)
+    at_host(play, ["--wait", "5"], "await\n", 0, "")
+    serve = Run(["serve", "--wait", "1", "127.0.0.1:0"], "await\n")
+    side = station_at(serve)
+    negotiate_as_station(side)
+    if not side.closed():
+        raise Failure("the host goes on")
+    send_on(side)
+    side.close()
+    serve.end(0, "host ready IBM-3179-2\n")
+
+
+# Standard streams that were closed when the program began.
+
+
+def streams_of(process, streams):
+    return [os.readlink("/proc/%d/fd/%d" % (process.pid, stream)) for stream in streams]
+
+
+CLOSED = [(0,), (1,), (2,), (0, 1), (0, 2), (1, 2), (0, 1, 2)]
+
+
+@test
+def closed_streams_that_are_needed():
+    listener = socket.create_server(("127.0.0.1", 0))
+    listener.setblocking(False)
+    with tempfile.NamedTemporaryFile("w", suffix=".script") as script, tempfile.NamedTemporaryFile("w") as bad:
+        script.write("await\n")
+        script.flush()
+        bad.write("# no line\nnonsense\n")
+        bad.flush()
+        for command in ["connect", "127.0.0.1:%d" % listener.getsockname()[1]], ["serve", "127.0.0.1:0"]:
+            for closed in CLOSED:
+                rows = [([], "cannot read\n" if 0 in closed else "cannot write\n", {0, 1}),
+                        ([script.name], "cannot write\n", {1}),
+                        ([bad.name], "script line 2\n", {0, 1, 2}), (["no such file"], "cannot read\n", {0, 1, 2})]
+                for words, fault, needed in rows:
+                    if needed & set(closed):
+                        run = Run(command + ["--wait", "1"] + words, "await\n", closed=closed)
+                        run.end(2, "", "" if 2 in closed else fault)
+    try:
+        listener.accept()
+    except BlockingIOError:
+        pass
+    else:
+        raise Failure("it connected")
+    listener.close()
+
+
+@test
+def closed_streams_that_are_not_needed():
+    with tempfile.NamedTemporaryFile("w", suffix=".connect") as script:
+        script.write("await\nfields\n")
+        script.flush()
+        for closed, words, text in ((0,), [script.name], None), ((0, 2), [script.name], None), ((2,), [], "await\nfields\n"):
+            found = []
+
+            def play(side):
+                found.extend(streams_of(connect.process, closed))
+                negotiate_as_host(side)
+                side.send(record(3, hexed(SIGN_ON)))
+                side.closed()
+            host = Host(lambda side: started.wait(15) and play(side))
+            started = threading.Event()
+            connect = Run(["connect", "--wait", "5", "127.0.0.1:%d" % host.port] + words, text, closed=closed)
+            started.set()
+            connect.end(0, SIGN_ON_FIELDS)
+            host.end()
+            expect(found, ["/dev/null"] * len(closed), "what stands for the closed streams")
+    with tempfile.NamedTemporaryFile("w", suffix=".serve") as script:
+        script.write("await\n")
+        script.flush()
+        for closed, words, text in ((0,), [script.name], None), ((0, 2), [script.name], None), ((2,), [], "await\n"):
+            serve = Run(["serve", "--wait", "1", "127.0.0.1:0"] + words, text, closed=closed)
+            side = station_at(serve)
+            expect(streams_of(serve.process, closed), ["/dev/null"] * len(closed), "what stands for the closed streams")
+            negotiate_as_station(side)
+            serve.end(0, "host ready IBM-3179-2\n")
+            side.close()
 
 
 # The two beside the programs in C.

@@ -2,8 +2,8 @@
 """Runs the built program, and looks at what it writes and at its exit status.
 
 Build the program first (`cd crates/t5250 && rt run -- check < stdin`), then call this script from anywhere:
-`python3 tests/run_program.py`. It tells of each run that went otherwise. Its last line counts the runs, and its own
-status is 1 where one went otherwise.
+`python3 tests/run_program.py`; another program may be named behind it. It tells of each run that went otherwise. Its
+last line counts the runs, and its own status is 1 where one went otherwise.
 """
 import os
 import re
@@ -14,7 +14,8 @@ import sys
 import tempfile
 import time
 
-PROGRAM = os.path.abspath(os.path.join(os.path.dirname(__file__), "..", "crates", "t5250", "out", "t5250"))
+BUILT = os.path.join(os.path.dirname(__file__), "..", "crates", "t5250", "out", "t5250")
+PROGRAM = os.path.abspath(sys.argv[1] if len(sys.argv) > 1 else BUILT)
 
 INVITE = "00 0A 12 A0 00 00 04 00 00 01 FF EF\n"
 INVITE_LINE = "accepted: 1 records, 0 commands, 12 bytes\n"
@@ -235,6 +236,112 @@ def folder_runs(runs, folder):
         runs.expect(f"{words} from a folder", done, 2, "", "cannot read\n")
 
 
+# Words that read standard input, or a file; the input; and what they come to where all is open.
+STREAMS = [
+    (["check"], INVITE, 0, INVITE_LINE, ""),
+    (["check"], QUERY, 1, QUERY_LINE, ""),
+    (["check"], "0g", 2, "", "not hex\n"),
+    (["check", "@" + QUERY], "", 1, QUERY_LINE, ""),
+    (["check", "@0g"], "", 2, "", "not hex\n"),
+    (["check", "no such file"], "", 2, "", "cannot read\n"),
+    (["show"], HELLO, 0, HELLO_LINES, ""),
+    (["show", "--color", "@" + COLORS], "", 0, COLORS_COLORED, ""),
+    (["show", "@0g"], "", 2, "", "not hex\n"),
+    (["show", "--answers", "@"], "", 0, "", ""),
+    (["make"], HELLO_TEXT, 0, HELLO_MADE, ""),
+    (["make", "@"], "", 0, "", ""),
+    (["make", "@" + HELLO_TEXT + "nonsense\n"], "", 2, "", "script line 6\n"),
+    (["play"], BOB, 0, BOB_LINES, ""),
+    (["play", "@"], "", 0, "", ""),
+    (["play", "--screen", "@" + BOB], "", 0, BOB_LINES + BOB_SCREEN, ""),
+    (["play", "@settl\n"], "", 2, "", "script line 1\n"),
+    (["play", "--tcp"], BOB, 0, BOB_LINES, ""),
+    (["play", "--tcp", "@" + BOB], "", 0, BOB_LINES, ""),
+    (["play", "--tcp", "@"], "", 0, "", ""),
+    (["play", "--tcp", "@settl\n"], "", 2, "", "script line 1\n"),
+]
+
+CLOSED = [(0,), (1,), (2,), (0, 1), (0, 2), (1, 2), (0, 1, 2)]
+
+
+def closing(streams):
+    """What closes these descriptors before the program begins."""
+    def close():
+        for stream in streams:
+            os.close(stream)
+    return close
+
+
+def closed_runs(runs, folder):
+    """Standard streams are closed: a command that needs one ends with its fault, behind those of its input; another
+    one changes nothing."""
+    for closed in CLOSED:
+        for words, text, status, out, err in STREAMS:
+            if 0 in closed and not any(word.startswith("@") or " " in word for word in words):
+                status, out, err = 2, "", "cannot read\n"
+            elif 1 in closed and not err:
+                status, out, err = 2, "", "cannot write\n"
+            done = run(list(files(words, folder)), text, preexec_fn=closing(closed))
+            name = f"{[word[:20] for word in words]} without {closed}"
+            runs.expect(name, done, status, "" if 1 in closed else out, "" if 2 in closed else err)
+        # No input is asked for, or nothing at all.
+        for words, status, out, err in (["--help"], 0, None, ""), (["--version"], 0, "t5250 0.1.0\n", ""), (["other"], 2, "", None):
+            if 1 in closed and status == 0:
+                status, out, err = 2, "", "cannot write\n"
+            done = run(words, preexec_fn=closing(closed))
+            runs.expect(f"{words} without {closed}", done, status, out, "" if 2 in closed else err)
+
+
+def standing(process, streams):
+    """What stands at descriptors of a process; None where nothing does."""
+    links = [f"/proc/{process.pid}/fd/{stream}" for stream in streams]
+    return [os.readlink(link) if os.path.lexists(link) else None for link in links]
+
+
+def filled_runs(runs, folder):
+    """Where standard streams are closed, no file that is read takes their place."""
+    path = os.path.join(folder, "pipe")
+    os.mkfifo(path)
+    pipes = {"stdin": subprocess.PIPE, "stdout": subprocess.PIPE, "stderr": subprocess.PIPE}
+    for closed in CLOSED:
+        process = subprocess.Popen([PROGRAM, "check", path], preexec_fn=closing(closed), **pipes)
+        # It has opened the pipe, and waits for what it reads.
+        with open(path, "w") as file:
+            found = standing(process, closed)
+            others = standing(process, range(3, 10))
+            file.write(INVITE)
+        process.communicate(timeout=60)
+        right = found == ["/dev/null"] * len(closed) and path in others
+        runs.count(f"without {closed} there stand {found} and {others}", right)
+
+
+def socket_runs(runs, folder):
+    """Where standard output is closed, no socket is made."""
+    path, script = os.path.join(folder, "calls"), os.path.join(folder, "text.hex")
+    known = subprocess.run(["strace", "-o", path, "true"], capture_output=True) if shutil.which("strace") else None
+    if known is None or known.returncode != 0:
+        print("left out: calls of sockets, since strace isn't there or may not look")
+        return
+    with open(script, "w") as file:
+        file.write(BOB)
+    for redirected, wanted in ("", True), (">&-", False), ("<&- >&-", False), ("<&-", True):
+        played = ["sh", "-c", f'exec "$0" play --tcp "$1" {redirected}', PROGRAM, script]
+        traced = ["strace", "-f", "-qq", "-e", "trace=socket", "-o", path, *played]
+        subprocess.run(traced, capture_output=True, timeout=60)
+        with open(path) as file:
+            runs.count(f"play --tcp {redirected}: sockets", ("socket(" in file.read()) == wanted)
+
+
+def blank_runs(runs, folder):
+    """The file that is opened is the one that the word names, with its blanks."""
+    for name, text, line in (" a b ", INVITE, INVITE_LINE), ("a b", QUERY, QUERY_LINE), (" a b", SHORT, SHORT_LINE):
+        with open(os.path.join(folder, name), "w") as file:
+            file.write(text)
+        runs.expect(f"a file {name!r}", run(["check", name], cwd=folder), 0 if text == INVITE else 1, line, "")
+    for name in "a b ", "a", "b":
+        runs.expect(f"no file {name!r}", run(["check", name], cwd=folder), 2, "", "cannot read\n")
+
+
 def named_runs(runs, folder):
     """A file's name that isn't UTF-8 is a wrong word, also where there is such a file."""
     path = os.path.join(os.fsencode(folder), b"\xff.hex")
@@ -312,6 +419,10 @@ def main():
         plain_runs(runs, folder)
         full_runs(runs)
         folder_runs(runs, folder)
+        closed_runs(runs, folder)
+        filled_runs(runs, folder)
+        socket_runs(runs, folder)
+        blank_runs(runs, folder)
         named_runs(runs, folder)
         unconnected_runs(runs)
         small_runs(runs, folder)

@@ -8,6 +8,8 @@ mod answers;
 #[cfg(test)]
 mod buffered_rows;
 #[cfg(test)]
+mod live_words_rows;
+#[cfg(test)]
 mod make_rows;
 #[cfg(test)]
 mod memory_rows;
@@ -19,6 +21,8 @@ mod program_rows;
 mod show_rows;
 #[cfg(test)]
 mod size_rows;
+#[cfg(test)]
+mod stream_rows;
 #[cfg(test)]
 mod tcp_rows;
 

@@ -3,9 +3,13 @@
 //!
 //! Its status is 0 where a stream is accepted, 1 where it is refused or truncated, and 2 on a fault. A fault
 //! is one line on standard error, or the text of `clap` for a wrong command line. Faults are looked for in this
-//! order: the command line, reading, hex text or lines, the connection, and then those met in running.
+//! order: the command line, reading, hex text or lines, the connection, and then those met in running. Where standard
+//! output was closed when it began, that is the last fault of all, but for a connection: none is opened then.
 #![tactic(auto)]
 
+mod standard_streams;
+
+use crate::standard_streams::StandardStreams;
 use std::io;
 use std::net::{Net, TcpListener, TcpStream};
 use std::process::ExitCode;
@@ -13,22 +17,31 @@ use std::rt::Runtime;
 use ws_code::WriteSink;
 use ws_live::BufferedSink;
 use ws_network::run_live;
-use ws_program::{CommandFault, RunFault, answer_buffered, given_words, read_input, status};
+use ws_program::{
+    CommandFault, OpenStreams, RunFault, answer_openly, given_words, read_input, status,
+};
 use ws_words::{Task, read_words};
 
 // Reads the command line and the input, and writes what is asked for: true where all was accepted.
 fn run<R: Runtime + AllocGlobal + Net<Listener = TcpListener, Stream = TcpStream>>(
     rt: &R,
+    streams: OpenStreams,
 ) -> Result<bool, CommandFault> {
     let words = given_words(rt)?;
     let asked = read_words(rt.alloc(), words.as_slice())?;
     let mut sink = BufferedSink::new(WriteSink::new(io::writer(rt)));
     let asked = match asked {
-        Task::Live(asked) => return Ok(run_live(rt, asked, &mut sink)?),
+        Task::Live(asked) => return Ok(run_live(rt, asked, streams, &mut sink)?),
         Task::Input(asked) => asked,
     };
     let text = read_input(rt, asked.file())?;
-    Ok(answer_buffered(rt, rt.alloc(), asked, text.as_slice(), &mut sink)?)
+    Ok(answer_openly(rt, rt.alloc(), asked, text.as_slice(), streams, &mut sink)?)
+}
+
+// The same, with no standard stream's descriptor free, as long as it runs.
+fn run_filled(rt: &HostRuntime) -> Result<bool, CommandFault> {
+    let streams = StandardStreams::new(rt)?;
+    run(rt, streams.open)
 }
 
 // Tells of a fault in its line, of a wrong command line in the text of `clap`, both on standard error. Help
@@ -50,7 +63,7 @@ fn tell_run(rt: &HostRuntime, fault: RunFault) -> Result<bool, CommandFault> {
 }
 
 fn main(rt: HostRuntime) -> ExitCode {
-    let outcome = match run(&rt) {
+    let outcome = match run_filled(&rt) {
         Ok(accepted) => Ok(accepted),
         Err(fault) => tell(&rt, fault),
     };

@@ -131,7 +131,7 @@ module _ {S K : Type 0} (takes : MayTake K) (failures : K → ℕ) (gives : MayG
         subst (λ (z : List ℕ). KeysRun takes failures gives misses keys from (Err why) z to) all
         (unwritten_at well text (Err why) h r.0 r.1)
 
-  pub is_waited : (tells : Bool → Type 0) (from to : Parts) (awaited : Awaited) (waited : Waited)
+  pub is_waited : (tells : S → Bool → Type 0) (from to : Parts) (awaited : Awaited) (waited : Waited)
       → (awaited ≡ awaits.Record → ⊥) → WaitsFor takes failures gives misses tells (IsMet awaited) from waited to
       → IsWaited takes failures gives misses tells awaited from waited to
   is_waited tells from to awaits.Unlocked waited other h = h
@@ -157,7 +157,7 @@ module _ {S K : Type 0} (takes : MayTake K) (failures : K → ℕ) (gives : MayG
     waits_on from to told one count e = omega (arith, e, length-append told (one ∷ []))
 
   -- what isn't a record
-  pub hears_none : (tells : Bool → Type 0) (from to : Parts) (waited : Waited)
+  pub hears_none : (tells : S → Bool → Type 0) (from to : Parts) (waited : Waited)
       → HearsOne takes failures gives misses tells from waited to → (waited ≡ waits.Met → ⊥)
       → HearsNone takes failures gives misses tells from waited to
   hears_none tells from to waits.Met h other = absurd (other refl)

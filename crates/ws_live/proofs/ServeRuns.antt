@@ -21,8 +21,9 @@ use Rattle.ws_session.specs.declared.end_step.Order.TheVariants.{Send}
 use Rattle.ws_session.specs.declared.send_fault.SendFault.{SendFault}
 use Rattle.ws_stream.specs.declared.element.Element.{Element}
 use Rattle.ws_live.specs.LiveText.{HaveRun, IsLiveText, stops}
+use Rattle.ws_live.specs.Waits.{InTime}
 use Rattle.ws_live.specs.ServeText.{deed_of, reaction_to, is_told, AnswersOn, HasAnsweredOnce}
-use Rattle.ws_live.specs.ServeText.{HasAnsweredOn, IsAnswerFault, HostRuns, HearsOne, IsDone, IsGiven, IsAnsweringText}
+use Rattle.ws_live.specs.ServeText.{HasAnsweredOn, IsAnswerFault, HostRuns, Hears, host_waits, IsDone, IsGiven, IsAnsweringText}
 use Rattle.ws_live.specs.ServeText.{IsAnswerOnFault, IsServeText}
 use Rattle.ws_text.specs.Printing.{IsOut}
 use Rattle.ws_text.specs.declared.output.Output.{Output}
@@ -96,13 +97,13 @@ module _ {S K : Type 0} (takes : MayTake K) (failures : K → ℕ) (gives : MayG
     cancel_fails (Ok refused) h b = tt
     cancel_fails (Err why) h b = subst (Unsent deed) (sym h.0) (h.1, b)
 
-  module _ (tells : Bool → Type 0) where
-    abbrev Runs : HostLine → Parts → Result Closing Fault → List ℕ → Parts → Type 0
-    Runs = HostRuns takes failures gives misses tells
+  module _ {W : Type 0} (tells : S → Bool → Type 0) (begins : W → S → W → Type 0) (begun : W → ℕ) where
+    abbrev Runs : HostLine → (Parts × W) → Result Closing Fault → List ℕ → (Parts × W) → Type 0
+    Runs = InTime (HostRuns takes failures gives misses tells) host_waits begins begun
 
     -- one thing more is told
-    pub told_more : (from mid to : Parts) (count : ℕ) (printed last : List ℕ) → HaveRun Runs false from
-        (replicate count Await) true printed mid → HearsOne takes failures gives misses tells mid (Ok Done) last to
+    pub told_more : (from mid to : Parts × W) (count : ℕ) (printed last : List ℕ) → HaveRun Runs false from
+        (replicate count Await) true printed mid → Hears takes failures gives misses tells begins begun mid (Ok Done) last to
         → HaveRun Runs false from (replicate (count + 1) Await) true (printed ++ last) to
     told_more from mid to count printed last h r =
         let longer : replicate count Await ++ Await ∷ [] ≡ replicate (count + 1) Await = replicate-append-replicate
@@ -113,13 +114,13 @@ module _ {S K : Type 0} (takes : MayTake K) (failures : K → ℕ) (gives : MayG
         (run_more Runs false from mid to (replicate count Await) Await true printed last Done h r refl))
 
     -- things were told and printed, and what came then
-    module _ {O : Type 0} (prints : MayTake O) (misprints : O → ℕ) (from mid to : Parts) (old between new : O)
+    module _ {O : Type 0} (prints : MayTake O) (misprints : O → ℕ) (from mid to : Parts × W) (old between new : O)
         (count : ℕ) (printed : List ℕ)
         (h : HaveRun Runs false from (replicate count Await) true printed mid)
         (out : WentOut prints misprints old between printed) where
       answers : (outcome : Result Closing Fault) (last : List ℕ)
-          → HearsOne takes failures gives misses tells mid outcome last to
-          → AnswersOn takes failures gives misses tells from to outcome (printed ++ last)
+          → Hears takes failures gives misses tells begins begun mid outcome last to
+          → AnswersOn takes failures gives misses tells begins begun from to outcome (printed ++ last)
       answers outcome last came = record {
         count = count;
         printed = printed;
@@ -130,13 +131,13 @@ module _ {S K : Type 0} (takes : MayTake K) (failures : K → ℕ) (gives : MayG
         all = refl;
       }
 
-      pub one_told : (closing : Closing) → HasAnsweredOnce takes failures gives misses tells prints misprints mid to
+      pub one_told : (closing : Closing) → HasAnsweredOnce takes failures gives misses tells begins begun prints misprints mid to
           between new closing → is_told closing ≡ true
           → (text : List ℕ) × HaveRun Runs false from (replicate (count + 1) Await) true text to
           × WentOut prints misprints old new text
       one_told closing one told =
-          let came : HearsOne takes failures gives misses tells mid (Ok Done) one.0 to = subst
-          (λ (k : Closing). HearsOne takes failures gives misses tells mid (Ok k) one.0 to)
+          let came : Hears takes failures gives misses tells begins begun mid (Ok Done) one.0 to = subst
+          (λ (k : Closing). Hears takes failures gives misses tells begins begun mid (Ok k) one.0 to)
           (told_done closing told) one.1 in (
             printed ++ one.0,
             told_more from mid to count printed one.0 h came,
@@ -144,9 +145,9 @@ module _ {S K : Type 0} (takes : MayTake K) (failures : K → ℕ) (gives : MayG
           )
 
       pub none_told : (closing : Closing) (well : Bool)
-          → HasAnsweredOnce takes failures gives misses tells prints misprints mid to between new closing
+          → HasAnsweredOnce takes failures gives misses tells begins begun prints misprints mid to between new closing
           → is_told closing ≡ false → well ≡ not (stops closing)
-          → HasAnsweredOn takes failures gives misses tells prints misprints from to old new well
+          → HasAnsweredOn takes failures gives misses tells begins begun prints misprints from to old new well
       none_told closing well one untold e = (
         printed ++ one.0,
         (closing, answers (Ok closing) one.0 one.1, untold, e),
@@ -158,8 +159,8 @@ module _ {S K : Type 0} (takes : MayTake K) (failures : K → ℕ) (gives : MayG
       out_both Open last w = went_out_both prints misprints old between new printed last out w
       out_both Unwritten last f = fails_last prints misprints old between new printed last out f
 
-      pub answer_fails : (told : Fault) → IsAnswerFault takes failures gives misses tells prints misprints mid to
-          between new told → IsAnswerOnFault takes failures gives misses tells prints misprints from to old new told
+      pub answer_fails : (told : Fault) → IsAnswerFault takes failures gives misses tells begins begun prints misprints mid to
+          between new told → IsAnswerOnFault takes failures gives misses tells begins begun prints misprints from to old new told
       answer_fails told (inl b) = inl (printed ++ b.0, b.1, answers (Err told) b.0 b.2, out_both b.1 b.0 b.3)
       answer_fails told (inr p) = let w = p.1 in
           inr (inl (
@@ -172,11 +173,11 @@ module _ {S K : Type 0} (takes : MayTake K) (failures : K → ℕ) (gives : MayG
             ),
           ))
 
-    module _ {O : Type 0} (prints : MayTake O) (misprints : O → ℕ) (from to : Parts) (old new : O)
+    module _ {O : Type 0} (prints : MayTake O) (misprints : O → ℕ) (from to : Parts × W) (old new : O)
         (printed : List ℕ) where
       pub too_much_told : (count : ℕ) → HaveRun Runs false from (replicate count Await) true printed to
           → WentOut prints misprints old new printed → count ≡ most_reads
-          → IsAnswerOnFault takes failures gives misses tells prints misprints from to old new fault.Read
+          → IsAnswerOnFault takes failures gives misses tells begins begun prints misprints from to old new fault.Read
       too_much_told count h out all =
           inr (inr (
             refl,
@@ -188,9 +189,9 @@ module _ {S K : Type 0} (takes : MayTake K) (failures : K → ℕ) (gives : MayG
             ),
           ))
 
-    module _ (ready : Bool) (from mid : Parts) (lines : List HostLine) (ran : Ran) (printed : List ℕ)
+    module _ (ready : Bool) (from mid : Parts × W) (lines : List HostLine) (ran : Ran) (printed : List ℕ)
         (h : IsLiveText Runs ready from lines ran printed mid) where
-      pub stopped_text : ran.is_over ≡ true → IsServeText takes failures gives misses tells ready from lines
+      pub stopped_text : ran.is_over ≡ true → IsServeText takes failures gives misses tells begins begun ready from lines
           ran.all_well printed mid
       stopped_text over = elim h [
         | inl all ↦ absurd (false≢true (sym all.1 ∙ over))
@@ -203,9 +204,9 @@ module _ {S K : Type 0} (takes : MayTake K) (failures : K → ℕ) (gives : MayG
         | inr at ↦ absurd (false≢true (sym going ∙ ap (λ r. r.is_over) at.1))
       ]
 
-      pub answered_text : (to : Parts) (is_well : Bool) (told : List ℕ) → ran.is_over ≡ false
-          → IsAnsweringText takes failures gives misses tells mid is_well told to
-          → IsServeText takes failures gives misses tells ready from lines (ran.all_well && is_well)
+      pub answered_text : (to : Parts × W) (is_well : Bool) (told : List ℕ) → ran.is_over ≡ false
+          → IsAnsweringText takes failures gives misses tells begins begun mid is_well told to
+          → IsServeText takes failures gives misses tells begins begun ready from lines (ran.all_well && is_well)
           (printed ++ told) to
       answered_text to is_well told going answers = inl (
         ran.all_well,

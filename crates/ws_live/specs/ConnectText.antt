@@ -28,6 +28,7 @@ use Rattle.ws_live.specs.declared.connect_line.StationLine.TheVariants.{Nothing 
 use Rattle.ws_live.specs.declared.connect_line.Awaited.{Awaited}
 use Rattle.ws_live.specs.declared.connect_line.Awaited.TheVariants.{Unlocked, Record, Text}
 use Rattle.ws_live.specs.LiveText.{IsLiveText}
+use Rattle.ws_live.specs.Waits.{InTime}
 use Rattle.ws_live.specs.declared.live.Ran.{Ran}
 use Rattle.ws_live.specs.declared.live.Closing.{Closing}
 use Rattle.ws_live.specs.declared.paint.Paint.{Paint}
@@ -47,6 +48,11 @@ abbrev pub IsMet : Awaited → ScreenParts → Type 0
 IsMet Unlocked screen = screen.locked ≡ false
 IsMet (Text text) screen = ShowsText screen.cells (string_bytes text)
 IsMet Record screen = Unit {0}
+
+-- the lines that wait
+abbrev pub station_waits : StationLine → Bool
+station_waits (Await awaited) = true
+station_waits line = false
 
 -- what becomes of a line that waits, and what it prints
 abbrev pub waited_outcome : Waited → Result Closing Fault
@@ -131,17 +137,17 @@ module _ {S K : Type 0} (takes : MayTake K) (failures : K → ℕ) (gives : MayG
   HasWaited Met' from (told ∷ more) to = (mid : Parts) × (Met' from.end.screen → ⊥) × Hears from (Some told) mid
       × HasWaited Met' mid more to
 
-  -- What a wait comes to, at a watch that tells whether a failed read was late.
-  module _ (tells : Bool → Type 0) where
+  -- What a wait comes to, at a watch that tells of a source whether the read that failed was late.
+  module _ (tells : S → Bool → Type 0) where
     -- no record more was applied: the host closed, a read failed, for want of time or otherwise, a byte was refused, or
     -- a write failed
     abbrev pub HearsNone : Parts → Waited → Parts → Type 0
     HearsNone from Met to = ⊥
     HearsNone from WasLate to = IsHearFault StationGoes StationRefuses takes failures gives misses from to fault.Read
-        × tells true
+        × tells to.source true
     HearsNone from HasEnded to = Hears from None to
     HearsNone from (Failed why) to = IsHearFault StationGoes StationRefuses takes failures gives misses from to why
-        × (why ≡ fault.Read → tells false)
+        × (why ≡ fault.Read → tells to.source false)
 
     -- the next record, whatever it is
     abbrev pub HearsOne : Parts → Waited → Parts → Type 0
@@ -175,6 +181,8 @@ module _ {S K : Type 0} (takes : MayTake K) (failures : K → ℕ) (gives : MayG
         × IsScreenText paint from.end.screen text
 
     -- what the lines of a script at a station print, and whether all went well
-    abbrev pub IsConnectText : Paint → Bool → Parts → List StationLine → Bool → List ℕ → Parts → Type 0
-    IsConnectText paint ready from lines all_well text to = (ran : Ran)
-        × IsLiveText (StationRuns paint) ready from lines ran text to × (all_well ≡ ran.all_well)
+    module _ {W : Type 0} (begins : W → S → W → Type 0) (begun : W → ℕ) where
+      abbrev pub IsConnectText : Paint → Bool → (Parts × W) → List StationLine → Bool → List ℕ → (Parts × W) → Type 0
+      IsConnectText paint ready from lines all_well text to = (ran : Ran)
+          × IsLiveText (InTime (StationRuns paint) station_waits begins begun) ready from lines ran text to
+          × (all_well ≡ ran.all_well)

@@ -13,3 +13,4 @@ pub mod Script
 pub mod ScriptFaults
 pub mod ServeLines
 pub mod ServeText
+pub mod Waits

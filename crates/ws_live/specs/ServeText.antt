@@ -18,6 +18,7 @@ use Rattle.ws_session.specs.declared.host_event.HostEvent.{HostEvent}
 use Rattle.ws_session.specs.declared.send_fault.SendFault.{SendFault}
 use Rattle.ws_session.specs.declared.world.Event.TheVariants.{Host, SendRefused, HostRefused}
 use Rattle.ws_live.specs.LiveText.{HaveRun, IsStoppedAt, stops}
+use Rattle.ws_live.specs.Waits.{InTime}
 use Rattle.ws_live.specs.PlayLines.{event_text}
 use Rattle.ws_text.specs.Printing.{IsOut}
 use Rattle.ws_live.specs.declared.serve_line.HostLine.{HostLine}
@@ -47,6 +48,11 @@ abbrev pub unheard_outcome : Bool → Fault → Result Closing Fault
 unheard_outcome late (fault.Refused place reason) = Ok Stopped
 unheard_outcome true fault.Read = Ok Late
 unheard_outcome late why = Err why
+
+-- the lines that wait
+abbrev pub host_waits : HostLine → Bool
+host_waits Await = true
+host_waits line = false
 
 -- what the host end's fault prints: the byte that it refused, or nothing
 abbrev pub unheard_text : Fault → List ℕ
@@ -83,8 +89,8 @@ module _ {S K : Type 0} (takes : MayTake K) (failures : K → ℕ) (gives : MayG
   IsGiven order from (Err why) to = IsSendFailure HostGoes HostRefuses takes failures gives misses from to
       (Did (deed_of order) ∷ []) why
 
-  -- What a wait comes to, at a watch that tells whether a failed read was late.
-  module _ (tells : Bool → Type 0) where
+  -- What a wait comes to, at a watch that tells of a source whether the read that failed was late.
+  module _ (tells : S → Bool → Type 0) where
     -- the host end heard the station up to the first thing that it tells, which is printed, or none came
     abbrev pub HearsOne : Parts → Result Closing Fault → List ℕ → Parts → Type 0
     HearsOne from outcome text to =
@@ -93,7 +99,7 @@ module _ {S K : Type 0} (takes : MayTake K) (failures : K → ℕ) (gives : MayG
         ⊎ ((HasHeard HostGoes HostRefuses takes failures gives misses from to None
         × (outcome ≡ Ok Ended) × (text ≡ []))
         ⊎ ((why : Fault) × (late : Bool)
-        × IsHearFault HostGoes HostRefuses takes failures gives misses from to why × (why ≡ fault.Read → tells late)
+        × IsHearFault HostGoes HostRefuses takes failures gives misses from to why × (why ≡ fault.Read → tells to.source late)
         × (outcome ≡ unheard_outcome late why) × (text ≡ unheard_text why)))
 
     -- a line at a host, how it closed, and what it printed
@@ -103,54 +109,63 @@ module _ {S K : Type 0} (takes : MayTake K) (failures : K → ℕ) (gives : MayG
         × (outcome ≡ given_outcome given) × (text ≡ given_text given)
     HostRuns Await from outcome text to = HearsOne from outcome text to
 
-    -- behind a script: things were told and printed, and then this came
-    pub record AnswersOn (from to : Parts) (outcome : Result Closing Fault) (text : List ℕ) : Type 0 where
-      pub count : ℕ
-      pub printed : List ℕ
-      pub mid : Parts
-      pub ran : HaveRun HostRuns false from (replicate count Await) true printed mid
-      pub last : List ℕ
-      pub came : HearsOne mid outcome last to
-      pub all : text ≡ printed ++ last
+    -- the same at a watch
+    module _ {W : Type 0} (begins : W → S → W → Type 0) (begun : W → ℕ) where
+      abbrev pub Runs : HostLine → (Parts × W) → Result Closing Fault → List ℕ → (Parts × W) → Type 0
+      Runs = InTime HostRuns host_waits begins begun
 
-    -- up to the first thing that isn't told: the station closed, the wait was over, or a byte was refused
-    abbrev pub IsAnsweringText : Parts → Bool → List ℕ → Parts → Type 0
-    IsAnsweringText from all_well text to = (closing : Closing) × AnswersOn from to (Ok closing) text
-        × (is_told closing ≡ false) × (all_well ≡ not (stops closing))
+      -- a wait for the next thing, which begins then
+      abbrev pub Hears : (Parts × W) → Result Closing Fault → List ℕ → (Parts × W) → Type 0
+      Hears from outcome text to = Runs Await from outcome text to
 
-    -- What the lines of a script at a host print, and behind them what the host end is told, and whether all went well:
-    -- where a line stopped the session, nothing stands behind it.
-    abbrev pub IsServeText : Bool → Parts → List HostLine → Bool → List ℕ → Parts → Type 0
-    IsServeText ready from lines all_well text to =
-        ((well : Bool) × (mid : Parts) × (printed : List ℕ) × (answers_well : Bool) × (told : List ℕ)
-        × HaveRun HostRuns ready from lines well printed mid × IsAnsweringText mid answers_well told to
-        × (all_well ≡ well && answers_well) × (text ≡ printed ++ told))
-        ⊎ (IsStoppedAt HostRuns ready from lines (Ok Stopped) text to × (all_well ≡ false))
+      -- behind a script: things were told and printed, and then this came
+      pub record AnswersOn (from to : Parts × W) (outcome : Result Closing Fault) (text : List ℕ) : Type 0 where
+        pub count : ℕ
+        pub printed : List ℕ
+        pub mid : Parts × W
+        pub ran : HaveRun Runs false from (replicate count Await) true printed mid
+        pub last : List ℕ
+        pub came : Hears mid outcome last to
+        pub all : text ≡ printed ++ last
 
-    module _ {O : Type 0} (prints : MayTake O) (misprints : O → ℕ) (from to : Parts) (old new : O) where
-      -- the next thing that is told is printed, or none came
-      abbrev pub HasAnsweredOnce : Closing → Type 0
-      HasAnsweredOnce closing = (text : List ℕ) × HearsOne from (Ok closing) text to
-          × WentOut prints misprints old new text
+      -- up to the first thing that isn't told: the station closed, the wait was over, or a byte was refused
+      abbrev pub IsAnsweringText : (Parts × W) → Bool → List ℕ → (Parts × W) → Type 0
+      IsAnsweringText from all_well text to = (closing : Closing) × AnswersOn from to (Ok closing) text
+          × (is_told closing ≡ false) × (all_well ≡ not (stops closing))
 
-      -- a device or memory failed, or what was told didn't go out
-      abbrev pub IsAnswerFault : Fault → Type 0
-      IsAnswerFault why = ((text : List ℕ) × (output : Output) × HearsOne from (Err why) text to
-          × IsOut prints misprints old new output text)
-          ⊎ ((why ≡ fault.Write) × ((closing : Closing) × (text : List ℕ) × HearsOne from (Ok closing) text to
-          × FailedWithin prints misprints old new text))
+      -- What the lines of a script at a host print, and behind them what the host end is told, and whether all went well:
+      -- where a line stopped the session, nothing stands behind it.
+      abbrev pub IsServeText : Bool → (Parts × W) → List HostLine → Bool → List ℕ → (Parts × W) → Type 0
+      IsServeText ready from lines all_well text to =
+          ((well : Bool) × (mid : Parts × W) × (printed : List ℕ) × (answers_well : Bool) × (told : List ℕ)
+          × HaveRun Runs ready from lines well printed mid × IsAnsweringText mid answers_well told to
+          × (all_well ≡ well && answers_well) × (text ≡ printed ++ told))
+          ⊎ (IsStoppedAt Runs ready from lines (Ok Stopped) text to × (all_well ≡ false))
 
-      -- what was told is printed
-      abbrev pub HasAnsweredOn : Bool → Type 0
-      HasAnsweredOn all_well = (text : List ℕ) × IsAnsweringText from all_well text to
-          × WentOut prints misprints old new text
+      module _ {O : Type 0} (prints : MayTake O) (misprints : O → ℕ) (from to : Parts × W) (old new : O) where
+        -- the next thing that is told is printed, or none came
+        abbrev pub HasAnsweredOnce : Closing → Type 0
+        HasAnsweredOnce closing = (text : List ℕ) × Hears from (Ok closing) text to
+            × WentOut prints misprints old new text
 
-      -- a device or memory failed, or what was told didn't go out, or too much was told
-      abbrev pub IsAnswerOnFault : Fault → Type 0
-      IsAnswerOnFault why = ((text : List ℕ) × (output : Output) × AnswersOn from to (Err why) text
-          × IsOut prints misprints old new output text)
-          ⊎ (((why ≡ fault.Write) × ((closing : Closing) × (text : List ℕ) × AnswersOn from to (Ok closing) text
-          × FailedWithin prints misprints old new text))
-          ⊎ ((why ≡ fault.Read) × ((text : List ℕ)
-          × HaveRun HostRuns false from (replicate most_reads Await) true text to
-          × WentOut prints misprints old new text)))
+        -- a device or memory failed, or what was told didn't go out
+        abbrev pub IsAnswerFault : Fault → Type 0
+        IsAnswerFault why = ((text : List ℕ) × (output : Output) × Hears from (Err why) text to
+            × IsOut prints misprints old new output text)
+            ⊎ ((why ≡ fault.Write) × ((closing : Closing) × (text : List ℕ) × Hears from (Ok closing) text to
+            × FailedWithin prints misprints old new text))
+
+        -- what was told is printed
+        abbrev pub HasAnsweredOn : Bool → Type 0
+        HasAnsweredOn all_well = (text : List ℕ) × IsAnsweringText from all_well text to
+            × WentOut prints misprints old new text
+
+        -- a device or memory failed, or what was told didn't go out, or too much was told
+        abbrev pub IsAnswerOnFault : Fault → Type 0
+        IsAnswerOnFault why = ((text : List ℕ) × (output : Output) × AnswersOn from to (Err why) text
+            × IsOut prints misprints old new output text)
+            ⊎ (((why ≡ fault.Write) × ((closing : Closing) × (text : List ℕ) × AnswersOn from to (Ok closing) text
+            × FailedWithin prints misprints old new text))
+            ⊎ ((why ≡ fault.Read) × ((text : List ℕ)
+            × HaveRun Runs false from (replicate most_reads Await) true text to
+            × WentOut prints misprints old new text)))

@@ -1,5 +1,6 @@
 ghost use Rattle.std.specs.Prelude.{◌≡◌, List, ℕ, Bool, true, false, IfOk};
 ghost use Rattle.ws_live.specs.ConnectText as Spec;
+ghost use Rattle.ws_live.specs.Waits.{HasBegun};
 ghost use Rattle.ws_text.specs.Printing.{Prints};
 
 use crate::connect_line::{Awaited, StationLine};
@@ -26,10 +27,12 @@ enum Waited {
 impl<S: Source, K: Sink> LiveMove<Station, S, K> for StationLine {
     ghost runs = { Spec.StationRuns K.takes K.failures S.gives S.failures };
 
-    fn carry_out<W: Watch, O: Sink>(
+    ghost waits = { Spec.station_waits };
+
+    fn carry_out<W: Watch<S>, O: Sink>(
         &self,
         attached: &mut Attached<Station, S, K>,
-        watch: &W,
+        watch: &mut W,
         paint: Paint,
         out: &mut O,
         output: Output,
@@ -128,17 +131,18 @@ fn closing_of_both(closing: Closing, next: Closing) -> Closing
 }
 
 // Takes what the host sends, until what is awaited holds.
-fn wait<S: Source, K: Sink, W: Watch>(
+fn wait<S: Source, K: Sink, W: Watch<S>>(
     attached: &mut Attached<Station, S, K>,
-    watch: &W,
+    watch: &mut W,
     awaited: &Awaited,
 ) -> Waited
     requires works { attached.old.broken ≡ false }
-    ensures waited { Spec.IsWaited K.takes K.failures S.gives S.failures (W.tells watch.now)
+    ensures waited { Spec.IsWaited K.takes K.failures S.gives S.failures W.tells
         awaited.now attached.old result attached.new }
+    ensures begun { HasBegun W.begins W.begun attached.old.source watch.old watch.new }
     ensures works { Spec.IsWorking result attached.new.broken }
 {
-    watch.begin();
+    watch.begin(attached.source());
     match awaited {
         Awaited::Record => hear_record(attached, watch),
         _ => wait_for(attached, watch, awaited),
@@ -146,14 +150,15 @@ fn wait<S: Source, K: Sink, W: Watch>(
 }
 
 // Takes records, until what is awaited holds.
-fn wait_for<S: Source, K: Sink, W: Watch>(
+fn wait_for<S: Source, K: Sink, W: Watch<S>>(
     attached: &mut Attached<Station, S, K>,
-    watch: &W,
+    watch: &mut W,
     awaited: &Awaited,
 ) -> Waited
     requires works { attached.old.broken ≡ false }
-    ensures waited { Spec.WaitsFor K.takes K.failures S.gives S.failures (W.tells watch.now)
+    ensures waited { Spec.WaitsFor K.takes K.failures S.gives S.failures W.tells
         (Spec.IsMet awaited.now) attached.old result attached.new }
+    ensures same { watch.new ≡ watch.old }
     ensures works { Spec.IsWorking result attached.new.broken }
 {
     for _ in 0..4_294_967_296u64 {
@@ -194,28 +199,28 @@ fn shows(screen: &Screen, text: &str) -> bool
 }
 
 // Takes one record more.
-fn hear_record<S: Source, K: Sink, W: Watch>(
+fn hear_record<S: Source, K: Sink, W: Watch<S>>(
     attached: &mut Attached<Station, S, K>,
     watch: &W,
 ) -> Waited
     requires works { attached.old.broken ≡ false }
-    ensures heard { Spec.HearsOne K.takes K.failures S.gives S.failures (W.tells watch.now)
+    ensures heard { Spec.HearsOne K.takes K.failures S.gives S.failures W.tells
         attached.old result attached.new }
     ensures works { Spec.IsWorking result attached.new.broken }
 {
     match attached.hear() {
         Ok(Some(_)) => Waited::Met,
         Ok(None) => Waited::Ended,
-        Err(Fault::Read) => unread(watch),
+        Err(Fault::Read) => unread(watch, attached.source()),
         Err(fault) => Waited::Failed(fault),
     }
 }
 
 // What becomes of a wait at which a read failed.
-fn unread<W: Watch>(watch: &W) -> Waited
-    ensures { (late : Bool) × W.tells watch.now late × (result ≡ Spec.unread_by late) }
+fn unread<S, W: Watch<S>>(watch: &W, source: &S) -> Waited
+    ensures { (late : Bool) × W.tells source.now late × (result ≡ Spec.unread_by late) }
 {
-    if watch.is_late() {
+    if watch.is_late(source) {
         Waited::Late
     } else {
         Waited::Failed(Fault::Read)

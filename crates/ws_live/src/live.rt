@@ -4,6 +4,7 @@ ghost use Rattle.ws_session.specs.Attachments.{AttachedParts};
 ghost use Rattle.ws_live.specs.Buffering.{Buffering, buffered_takes};
 ghost use Rattle.ws_text.specs.Printing.{IsOut, Prints};
 ghost use Rattle.ws_live.specs.LiveText as Spec;
+ghost use Rattle.ws_live.specs.Waits.{HasBegun, HasBegunIf, InTime};
 ghost use Rattle.ws_live.specs.declared.live.Closing.{Closing as AClosing};
 ghost use Rattle.ws_live.specs.declared.paint.Paint.{Paint as APaint};
 
@@ -81,40 +82,52 @@ pub struct Carried {
     pub outcome: Result<Closing, Fault>,
 }
 
-/// What tells the time of a wait.
-pub trait Watch {
-    // What it may tell of a read that has failed: whether it was late.
-    ghost tells: { Self → Bool → Type 0 };
+/// What tells the time of the waits for a source. It counts them, up to the greatest value of 64 bits.
+pub trait Watch<S> {
+    // What the beginning of a wait does to it, where the source is this.
+    ghost begins: { Self → S → Self → Type 0 };
 
-    /// A wait begins.
-    fn begin(&self);
+    // How many waits have begun.
+    ghost begun: { Self → ℕ };
 
-    /// Whether the last read failed for want of time.
-    fn is_late(&self) -> bool
-        ensures { tells self.now result };
+    // What it may tell of a source at which a read has failed: whether that was for want of time.
+    ghost tells: { S → Bool → Type 0 };
+
+    /// A wait begins. What is read from the source from now on has its time.
+    fn begin(&mut self, source: &S)
+        ensures { HasBegun begins begun source.now self.old self.new };
+
+    /// Whether the last read from the source, which failed, did so for want of time.
+    fn is_late(&self, source: &S) -> bool
+        ensures { tells source.now result };
 }
 
 /// A line that is carried out at an end with these devices.
 pub trait LiveMove<E, S, K>: LiveLine {
     // At a watch that may tell this, and with screens in this paint, the line came to this at the one state, printed
     // this text, and left the other.
-    ghost runs: { (Bool → Type 0) → APaint → Self → AttachedParts E S K → Result AClosing AFault
-        → List ℕ
+    ghost runs: { (S → Bool → Type 0) → APaint → Self → AttachedParts E S K
+        → Result AClosing AFault → List ℕ
         → AttachedParts E S K → Type 0 };
 
-    /// Carries the line out, and prints what it tells.
-    fn carry_out<W: Watch, O: Sink>(
+    // Whether it waits.
+    ghost waits: { Self → Bool };
+
+    /// Carries the line out, and prints what it tells. A line that waits begins a wait before it reads.
+    fn carry_out<W: Watch<S>, O: Sink>(
         &self,
         attached: &mut Attached<E, S, K>,
-        watch: &W,
+        watch: &mut W,
         paint: Paint,
         out: &mut O,
         output: Output,
     ) -> Carried
         requires works { attached.old.broken ≡ false }
         ensures runs { (text : List ℕ)
-            × runs (W.tells watch.now) paint self.now attached.old result.outcome text attached.new
+            × runs W.tells paint self.now attached.old result.outcome text attached.new
             × Prints O.takes O.failures out.old out.new output result.output text }
+        ensures begun { HasBegunIf W.begins W.begun (waits self.now)
+            attached.old.source watch.old watch.new }
         ensures works { IfOk result.outcome (λ closing.
             Spec.stops closing ≡ false → attached.new.broken ≡ false) };
 }
@@ -125,9 +138,9 @@ pub trait LiveMove<E, S, K>: LiveLine {
 ///
 /// `Write` where the sink or the connection failed, `Read` where a read failed, though not for want of time, `Memory`
 /// where a growth was refused.
-pub fn carry_lines<E, S, K, L: LiveMove<E, S, K>, W: Watch, O: Sink>(
+pub fn carry_lines<E, S, K, L: LiveMove<E, S, K>, W: Watch<S>, O: Sink>(
     attached: &mut Attached<E, S, K>,
-    watch: &W,
+    watch: &mut W,
     lines: &[L],
     ready: bool,
     paint: Paint,
@@ -135,10 +148,14 @@ pub fn carry_lines<E, S, K, L: LiveMove<E, S, K>, W: Watch, O: Sink>(
 ) -> Result<Ran, Fault>
     requires works { attached.old.broken ≡ false }
     requires empty { out.old.held ≡ [] }
-    ensures ran { IfOk result (Spec.HasRun (L.runs (W.tells watch.now) paint) ready
-        O.takes O.failures attached.old attached.new out.old.sink out.new.sink lines.now) }
-    ensures fault { IfErr result (Spec.IsLiveFault (L.runs (W.tells watch.now) paint) ready
-        O.takes O.failures attached.old attached.new out.old.sink out.new.sink lines.now) }
+    ensures ran { IfOk result (Spec.HasRun
+        (InTime (L.runs W.tells paint) L.waits W.begins W.begun) ready O.takes O.failures
+        (attached.old, watch.old) (attached.new, watch.new)
+        out.old.sink out.new.sink lines.now) }
+    ensures fault { IfErr result (Spec.IsLiveFault
+        (InTime (L.runs W.tells paint) L.waits W.begins W.begun) ready O.takes O.failures
+        (attached.old, watch.old) (attached.new, watch.new)
+        out.old.sink out.new.sink lines.now) }
     ensures works { IfOk result (λ ran. ran.is_over ≡ false → attached.new.broken ≡ false) }
     ensures held { out.new.held ≡ [] }
 {
@@ -157,9 +174,9 @@ pub fn carry_lines<E, S, K, L: LiveMove<E, S, K>, W: Watch, O: Sink>(
 }
 
 /// Carries a line out, as `carry_lines` does.
-pub fn carry_line<E, S, K, L: LiveMove<E, S, K>, W: Watch, O: Sink>(
+pub fn carry_line<E, S, K, L: LiveMove<E, S, K>, W: Watch<S>, O: Sink>(
     attached: &mut Attached<E, S, K>,
-    watch: &W,
+    watch: &mut W,
     line: &L,
     ready: bool,
     paint: Paint,
@@ -167,10 +184,14 @@ pub fn carry_line<E, S, K, L: LiveMove<E, S, K>, W: Watch, O: Sink>(
 ) -> Result<Closing, Fault>
     requires works { attached.old.broken ≡ false }
     requires empty { out.old.held ≡ [] }
-    ensures done { IfOk result (Spec.HasCarried (L.runs (W.tells watch.now) paint) ready
-        O.takes O.failures attached.old attached.new out.old.sink out.new.sink line.now) }
-    ensures fault { IfErr result (Spec.IsCarryFault (L.runs (W.tells watch.now) paint) ready
-        O.takes O.failures attached.old attached.new out.old.sink out.new.sink line.now) }
+    ensures done { IfOk result (Spec.HasCarried
+        (InTime (L.runs W.tells paint) L.waits W.begins W.begun) ready O.takes O.failures
+        (attached.old, watch.old) (attached.new, watch.new)
+        out.old.sink out.new.sink line.now) }
+    ensures fault { IfErr result (Spec.IsCarryFault
+        (InTime (L.runs W.tells paint) L.waits W.begins W.begun) ready O.takes O.failures
+        (attached.old, watch.old) (attached.new, watch.new)
+        out.old.sink out.new.sink line.now) }
     ensures works { IfOk result (λ closing.
         Spec.stops closing ≡ false → attached.new.broken ≡ false) }
     ensures held { out.new.held ≡ [] }

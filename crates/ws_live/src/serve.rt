@@ -18,10 +18,12 @@ use ws_text::Output;
 impl<S: Source, K: Sink> LiveMove<HostEnd, S, K> for HostLine {
     ghost runs = { λ tells paint. Spec.HostRuns K.takes K.failures S.gives S.failures tells };
 
-    fn carry_out<W: Watch, O: Sink>(
+    ghost waits = { Spec.host_waits };
+
+    fn carry_out<W: Watch<S>, O: Sink>(
         &self,
         attached: &mut Attached<HostEnd, S, K>,
-        watch: &W,
+        watch: &mut W,
         _paint: Paint,
         out: &mut O,
         output: Output,
@@ -33,7 +35,7 @@ impl<S: Source, K: Sink> LiveMove<HostEnd, S, K> for HostLine {
             },
             HostLine::Give(order) => put_given(out, output, give(attached, order)),
             HostLine::Await => {
-                watch.begin();
+                watch.begin(attached.source());
                 hear_event(attached, watch, out, output)
             }
         }
@@ -99,7 +101,7 @@ fn put_given<O: Sink>(
 }
 
 // Takes what the station sends up to the first thing that the host end tells, and prints it.
-fn hear_event<S: Source, K: Sink, W: Watch, O: Sink>(
+fn hear_event<S: Source, K: Sink, W: Watch<S>, O: Sink>(
     attached: &mut Attached<HostEnd, S, K>,
     watch: &W,
     out: &mut O,
@@ -107,7 +109,7 @@ fn hear_event<S: Source, K: Sink, W: Watch, O: Sink>(
 ) -> Carried
     requires works { attached.old.broken ≡ false }
     ensures heard { (text : List ℕ) × Spec.HearsOne K.takes K.failures S.gives S.failures
-        (W.tells watch.now) attached.old result.outcome text attached.new
+        W.tells attached.old result.outcome text attached.new
         × Prints O.takes O.failures out.old out.new output result.output text }
     ensures works { IfOk result.outcome (λ closing.
         stops closing ≡ false → attached.new.broken ≡ false) }
@@ -121,13 +123,19 @@ fn hear_event<S: Source, K: Sink, W: Watch, O: Sink>(
             output,
             outcome: Ok(Closing::Ended),
         },
-        Err(fault) => put_unheard(watch, out, output, fault),
+        Err(fault) => put_unheard(watch, attached.source(), out, output, fault),
     }
 }
 
 // How a wait closes that a fault ended.
-fn put_unheard<W: Watch, O: Sink>(watch: &W, out: &mut O, output: Output, fault: Fault) -> Carried
-    ensures { (late : Bool) × (fault ≡ Fault.Read → W.tells watch.now late)
+fn put_unheard<S, W: Watch<S>, O: Sink>(
+    watch: &W,
+    source: &S,
+    out: &mut O,
+    output: Output,
+    fault: Fault,
+) -> Carried
+    ensures { (late : Bool) × (fault ≡ Fault.Read → W.tells source.now late)
         × (result.outcome ≡ Spec.unheard_outcome late fault)
         × Prints O.takes O.failures out.old out.new output result.output
         (Spec.unheard_text fault) }
@@ -139,7 +147,7 @@ fn put_unheard<W: Watch, O: Sink>(watch: &W, out: &mut O, output: Output, fault:
         },
         Fault::Read => Carried {
             output,
-            outcome: unread(watch),
+            outcome: unread(watch, source),
         },
         _ => Carried {
             output,
@@ -149,11 +157,11 @@ fn put_unheard<W: Watch, O: Sink>(watch: &W, out: &mut O, output: Output, fault:
 }
 
 // How a wait closes at which a read failed.
-fn unread<W: Watch>(watch: &W) -> Result<Closing, Fault>
-    ensures { (late : Bool) × W.tells watch.now late
+fn unread<S, W: Watch<S>>(watch: &W, source: &S) -> Result<Closing, Fault>
+    ensures { (late : Bool) × W.tells source.now late
         × (result ≡ Spec.unheard_outcome late Fault.Read) }
 {
-    if watch.is_late() {
+    if watch.is_late(source) {
         Ok(Closing::Late)
     } else {
         Err(Fault::Read)
@@ -165,19 +173,19 @@ fn unread<W: Watch>(watch: &W) -> Result<Closing, Fault>
 ///
 /// `Write` where the sink or the connection failed, `Read` where a read failed, though not for want of time, or
 /// 4,294,967,296 things were told; `Memory` where a growth was refused.
-pub fn answer_on<S: Source, K: Sink, W: Watch, O: Sink>(
+pub fn answer_on<S: Source, K: Sink, W: Watch<S>, O: Sink>(
     attached: &mut Attached<HostEnd, S, K>,
-    watch: &W,
+    watch: &mut W,
     out: &mut BufferedSink<O>,
 ) -> Result<bool, Fault>
     requires works { attached.old.broken ≡ false }
     requires empty { out.old.held ≡ [] }
     ensures answered { IfOk result (Spec.HasAnsweredOn K.takes K.failures S.gives S.failures
-        (W.tells watch.now) O.takes O.failures
-        attached.old attached.new out.old.sink out.new.sink) }
+        W.tells W.begins W.begun O.takes O.failures
+        (attached.old, watch.old) (attached.new, watch.new) out.old.sink out.new.sink) }
     ensures fault { IfErr result (Spec.IsAnswerOnFault K.takes K.failures S.gives S.failures
-        (W.tells watch.now) O.takes O.failures
-        attached.old attached.new out.old.sink out.new.sink) }
+        W.tells W.begins W.begun O.takes O.failures
+        (attached.old, watch.old) (attached.new, watch.new) out.old.sink out.new.sink) }
 {
     for _ in 0..4_294_967_296u64 {
         match answer_once(attached, watch, out) {
@@ -193,19 +201,19 @@ pub fn answer_on<S: Source, K: Sink, W: Watch, O: Sink>(
 }
 
 // Takes what the station sends up to the next thing that the host end tells, and prints it: how the wait closed.
-fn answer_once<S: Source, K: Sink, W: Watch, O: Sink>(
+fn answer_once<S: Source, K: Sink, W: Watch<S>, O: Sink>(
     attached: &mut Attached<HostEnd, S, K>,
-    watch: &W,
+    watch: &mut W,
     out: &mut BufferedSink<O>,
 ) -> Result<Closing, Fault>
     requires works { attached.old.broken ≡ false }
     requires empty { out.old.held ≡ [] }
     ensures answered { IfOk result (Spec.HasAnsweredOnce K.takes K.failures S.gives S.failures
-        (W.tells watch.now) O.takes O.failures
-        attached.old attached.new out.old.sink out.new.sink) }
+        W.tells W.begins W.begun O.takes O.failures
+        (attached.old, watch.old) (attached.new, watch.new) out.old.sink out.new.sink) }
     ensures fault { IfErr result (Spec.IsAnswerFault K.takes K.failures S.gives S.failures
-        (W.tells watch.now) O.takes O.failures
-        attached.old attached.new out.old.sink out.new.sink) }
+        W.tells W.begins W.begun O.takes O.failures
+        (attached.old, watch.old) (attached.new, watch.new) out.old.sink out.new.sink) }
     ensures works { IfOk result (λ closing.
         stops closing ≡ false → attached.new.broken ≡ false) }
     ensures held { out.new.held ≡ [] }

@@ -1,1 +1,3 @@
 pub mod LiveFaults
+pub mod Sessions
+pub mod Times

@@ -1,14 +1,28 @@
 -- Why a live session ended early, as the program's own fault.
 
 use Rattle.std.specs.Prelude.{◌≡◌, ℕ, List, ◌⊎◌, Bool, false, Result}
-use Rattle.ws_code.specs.Device.{MayTake, MayGive, WentOut}
+use Rattle.std_io.specs.declared.io.kind.ErrorKind.{ErrorKind}
+use Rattle.std_io.specs.declared.io.kind.ErrorKind.TheVariants.{InvalidData, OutOfMemory}
+use Rattle.ws_code.specs.Device.{MayTake, MayGive, WentOut, one_more}
 use Rattle.ws_code.specs.declared.fault.Fault.{Fault}
 use Rattle.ws_live.specs.LiveText.{HaveRun, IsLiveFault}
-use Rattle.ws_live.specs.ServeText.{Parts, HostRuns, IsAnswerOnFault}
+use Rattle.ws_live.specs.ServeText.{Parts, Runs, IsAnswerOnFault}
 use Rattle.ws_live.specs.declared.live.Closing.{Closing}
 use Rattle.ws_live.specs.declared.serve_line.HostLine.{HostLine}
 use Rattle.ws_program.specs.RunFaults.{run_fault}
 use Rattle.ws_program.specs.declared.fault.RunFault.{RunFault}
+use Rattle.ws_program.specs.declared.fault.RunFault.TheVariants.{Read, Line, Memory}
+
+-- why no line was to be had of standard input behind so many, by the kind of the error: a line that isn't UTF-8 has its
+-- number, and whatever else can't be read is read no further
+abbrev pub unread_fault : ℕ → ErrorKind → RunFault
+unread_fault number InvalidData = Line (one_more number)
+unread_fault number OutOfMemory = Memory
+unread_fault number kind = Read
+
+-- why there is no line more: standard input can't be read, a growth was refused, or a line is bad, counted from 1
+abbrev pub IsInputFault : RunFault → Type 0
+IsInputFault told = (told ≡ Read) ⊎ ((told ≡ Memory) ⊎ ((number : ℕ) × (told ≡ Line number)))
 
 module _ {L P : Type 0} (runs : L → P → Result Closing Fault → List ℕ → P → Type 0) (ready : Bool) where
   module _ {O : Type 0} (takes : MayTake O) (failures : O → ℕ) (from to : P) (old new : O) where
@@ -21,21 +35,18 @@ module _ {L P : Type 0} (runs : L → P → Result Closing Fault → List ℕ �
     abbrev pub IsSessionFault : Bool → List L → RunFault → Type 0
     IsSessionFault has_script lines told =
         ((why : Fault) × IsLiveFault runs ready takes failures from to old new lines why × (told ≡ run_fault why))
-        ⊎ ((has_script ≡ false) × IsUnread lines)
+        ⊎ ((has_script ≡ false) × IsUnread lines × IsInputFault told)
 
 module _ {S K : Type 0} (takes : MayTake K) (failures : K → ℕ) (gives : MayGive S) (misses : S → ℕ) where
-  module _ (tells : Bool → Type 0) {O : Type 0} (prints : MayTake O) (misprints : O → ℕ) where
-    abbrev Runs : HostLine → Parts takes failures gives misses → Result Closing Fault → List ℕ
-        → Parts takes failures gives misses → Type 0
-    Runs = HostRuns takes failures gives misses tells
-
-    -- why a session at a host ended early: in its lines, or behind them, when what they print is out
-    abbrev pub IsServeFault : Bool → Parts takes failures gives misses → Parts takes failures gives misses → O → O
-        → Bool
-        → List HostLine → RunFault → Type 0
-    IsServeFault ready from to old new has_script lines told =
-        IsSessionFault Runs ready prints misprints from to old new has_script lines told
-        ⊎ ((well : Bool) × (printed : List ℕ) × (mid : Parts takes failures gives misses) × (between : O)
-        × HaveRun Runs ready from lines well printed mid × WentOut prints misprints old between printed
-        × ((why : Fault) × IsAnswerOnFault takes failures gives misses tells prints misprints mid to between new why
-        × (told ≡ run_fault why)))
+  module _ {W : Type 0} (tells : S → Bool → Type 0) (begins : W → S → W → Type 0) (begun : W → ℕ) where
+    module _ {O : Type 0} (prints : MayTake O) (misprints : O → ℕ) where
+      -- why a session at a host ended early: in its lines, or behind them, when what they print is out
+      abbrev pub IsServeFault : Bool → (Parts takes failures gives misses × W) → (Parts takes failures gives misses × W) → O → O
+          → Bool
+          → List HostLine → RunFault → Type 0
+      IsServeFault ready from to old new has_script lines told =
+          IsSessionFault (Runs takes failures gives misses tells begins begun) ready prints misprints from to old new has_script lines told
+          ⊎ ((well : Bool) × (printed : List ℕ) × (mid : Parts takes failures gives misses × W) × (between : O)
+          × HaveRun (Runs takes failures gives misses tells begins begun) ready from lines well printed mid × WentOut prints misprints old between printed
+          × ((why : Fault) × IsAnswerOnFault takes failures gives misses tells begins begun prints misprints mid to between new why
+          × (told ≡ run_fault why)))

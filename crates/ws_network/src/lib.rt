@@ -4,6 +4,8 @@
 
 mod live_input;
 mod live_session;
-mod live_socket;
+mod timed_sink;
+mod timed_source;
+mod timer;
 
 pub use live_session::run_live;

@@ -1,16 +1,19 @@
 //! The lines of a live session: those of a script, or of standard input one by one.
-ghost use Rattle.std.specs.Prelude.{◌≡◌, [], List, ℕ, false, IfOk, IfErr, MatchOption};
+ghost use Rattle.std.specs.Prelude.{◌≡◌, [], List, ℕ, false, IfOk, OnOk, IfErr, MatchOption};
+ghost use Rattle.std_io.specs.declared.io.kind.ErrorKind.{ErrorKind as AnErrorKind};
 ghost use Rattle.std.specs.Option.{is_some};
-ghost use Rattle.ws_code.specs.Device.{WentOut};
-ghost use Rattle.ws_live.specs.ConnectText.{IsConnectText, StationRuns};
+ghost use Rattle.ws_code.specs.Device.{WentOut, one_more};
+ghost use Rattle.ws_live.specs.ConnectText.{IsConnectText, StationRuns, station_waits};
+ghost use Rattle.ws_live.specs.Waits.{InTime};
 ghost use Rattle.ws_live.specs.LiveText as Spec;
-ghost use Rattle.ws_network.specs.LiveFaults.{IsServeFault, IsSessionFault};
+ghost use Rattle.ws_network.specs.LiveFaults.{IsInputFault, IsServeFault, IsSessionFault, unread_fault};
 ghost use Rattle.ws_live.specs.ServeText.{IsServeText};
 ghost use Rattle.ws_live.specs.declared.connect_line.StationLine.{StationLine as AStationLine};
 ghost use Rattle.ws_live.specs.declared.serve_line.HostLine.{HostLine as AHostLine};
 
 use std::alloc::Global;
 use std::io::{BufRead, ErrorKind, Input, Lines};
+use std::marker::Model;
 use std::rt::Runtime;
 use ws_code::{Sink, Source};
 use ws_live::{
@@ -28,7 +31,7 @@ use ws_session::{Attached, HostEnd, Station};
 pub fn carry_at_station<R, S, K, W, O>(
     rt: &R,
     attached: &mut Attached<Station, S, K>,
-    watch: &W,
+    watch: &mut W,
     script: Option<Vec<StationLine>>,
     ready: bool,
     paint: Paint,
@@ -38,20 +41,21 @@ where
     R: Runtime + AllocGlobal,
     S: Source,
     K: Sink,
-    W: Watch,
+    W: Watch<S>,
     O: Sink,
     requires works { attached.old.broken ≡ false }
     requires empty { out.old.held ≡ [] }
     ensures ran { IfOk result (λ all_well. (lines : List AStationLine) × (text : List ℕ)
         × MatchOption script (Unit {0}) (λ asked. lines ≡ asked.items)
-        × IsConnectText K.takes K.failures S.gives S.failures (W.tells watch.now)
-        paint ready attached.old lines all_well text attached.new
+        × IsConnectText K.takes K.failures S.gives S.failures W.tells W.begins W.begun
+        paint ready (attached.old, watch.old) lines all_well text (attached.new, watch.new)
         × WentOut O.takes O.failures out.old.sink out.new.sink text) }
     ensures fault { IfErr result (λ fault. (lines : List AStationLine)
         × MatchOption script (Unit {0}) (λ asked. lines ≡ asked.items)
         × IsSessionFault
-        (StationRuns K.takes K.failures S.gives S.failures (W.tells watch.now) paint) ready
-        O.takes O.failures attached.old attached.new out.old.sink out.new.sink
+        (InTime (StationRuns K.takes K.failures S.gives S.failures W.tells paint)
+        station_waits W.begins W.begun) ready O.takes O.failures
+        (attached.old, watch.old) (attached.new, watch.new) out.old.sink out.new.sink
         (is_some script) lines fault) }
 {
     match carry_session(rt, attached, watch, script, ready, paint, out) {
@@ -67,7 +71,7 @@ where
 pub fn carry_at_host<R, S, K, W, O>(
     rt: &R,
     attached: &mut Attached<HostEnd, S, K>,
-    watch: &W,
+    watch: &mut W,
     script: Option<Vec<HostLine>>,
     ready: bool,
     out: &mut BufferedSink<O>,
@@ -76,19 +80,20 @@ where
     R: Runtime + AllocGlobal,
     S: Source,
     K: Sink,
-    W: Watch,
+    W: Watch<S>,
     O: Sink,
     requires works { attached.old.broken ≡ false }
     requires empty { out.old.held ≡ [] }
     ensures ran { IfOk result (λ all_well. (lines : List AHostLine) × (text : List ℕ)
         × MatchOption script (Unit {0}) (λ asked. lines ≡ asked.items)
-        × IsServeText K.takes K.failures S.gives S.failures (W.tells watch.now)
-        ready attached.old lines all_well text attached.new
+        × IsServeText K.takes K.failures S.gives S.failures W.tells W.begins W.begun
+        ready (attached.old, watch.old) lines all_well text (attached.new, watch.new)
         × WentOut O.takes O.failures out.old.sink out.new.sink text) }
     ensures fault { IfErr result (λ fault. (lines : List AHostLine)
         × MatchOption script (Unit {0}) (λ asked. lines ≡ asked.items)
-        × IsServeFault K.takes K.failures S.gives S.failures (W.tells watch.now) O.takes O.failures
-        ready attached.old attached.new out.old.sink out.new.sink (is_some script) lines fault) }
+        × IsServeFault K.takes K.failures S.gives S.failures W.tells W.begins W.begun
+        O.takes O.failures ready (attached.old, watch.old) (attached.new, watch.new)
+        out.old.sink out.new.sink (is_some script) lines fault) }
 {
     let ran = match carry_session(rt, attached, watch, script, ready, Paint::Plain, out) {
         Ok(ran) => ran,
@@ -107,7 +112,7 @@ where
 fn carry_session<R, E, S, K, L, W, O>(
     rt: &R,
     attached: &mut Attached<E, S, K>,
-    watch: &W,
+    watch: &mut W,
     script: Option<Vec<L>>,
     ready: bool,
     paint: Paint,
@@ -116,18 +121,20 @@ fn carry_session<R, E, S, K, L, W, O>(
 where
     R: Runtime + AllocGlobal,
     L: LiveMove<E, S, K>,
-    W: Watch,
+    W: Watch<S>,
     O: Sink,
     requires works { attached.old.broken ≡ false }
     requires empty { out.old.held ≡ [] }
     ensures ran { IfOk result (λ ran. (lines : List L)
         × MatchOption script (Unit {0}) (λ asked. lines ≡ asked.items)
-        × Spec.HasRun (L.runs (W.tells watch.now) paint) ready O.takes O.failures
-        attached.old attached.new out.old.sink out.new.sink lines ran) }
+        × Spec.HasRun (InTime (L.runs W.tells paint) L.waits W.begins W.begun) ready
+        O.takes O.failures (attached.old, watch.old) (attached.new, watch.new)
+        out.old.sink out.new.sink lines ran) }
     ensures fault { IfErr result (λ fault. (lines : List L)
         × MatchOption script (Unit {0}) (λ asked. lines ≡ asked.items)
-        × IsSessionFault (L.runs (W.tells watch.now) paint) ready O.takes O.failures
-        attached.old attached.new out.old.sink out.new.sink (is_some script) lines fault) }
+        × IsSessionFault (InTime (L.runs W.tells paint) L.waits W.begins W.begun) ready
+        O.takes O.failures (attached.old, watch.old) (attached.new, watch.new)
+        out.old.sink out.new.sink (is_some script) lines fault) }
     ensures works { IfOk result (λ ran. ran.is_over ≡ false → attached.new.broken ≡ false) }
     ensures held { out.new.held ≡ [] }
 {
@@ -142,7 +149,7 @@ where
 fn carry_input<R, E, S, K, L, W, O>(
     rt: &R,
     attached: &mut Attached<E, S, K>,
-    watch: &W,
+    watch: &mut W,
     ready: bool,
     paint: Paint,
     out: &mut BufferedSink<O>,
@@ -150,16 +157,18 @@ fn carry_input<R, E, S, K, L, W, O>(
 where
     R: Runtime + AllocGlobal,
     L: LiveMove<E, S, K>,
-    W: Watch,
+    W: Watch<S>,
     O: Sink,
     requires works { attached.old.broken ≡ false }
     requires empty { out.old.held ≡ [] }
     ensures ran { IfOk result (λ ran. (lines : List L)
-        × Spec.HasRun (L.runs (W.tells watch.now) paint) ready O.takes O.failures
-        attached.old attached.new out.old.sink out.new.sink lines ran) }
+        × Spec.HasRun (InTime (L.runs W.tells paint) L.waits W.begins W.begun) ready
+        O.takes O.failures (attached.old, watch.old) (attached.new, watch.new)
+        out.old.sink out.new.sink lines ran) }
     ensures fault { IfErr result (λ fault. (lines : List L)
-        × IsSessionFault (L.runs (W.tells watch.now) paint) ready O.takes O.failures
-        attached.old attached.new out.old.sink out.new.sink false lines fault) }
+        × IsSessionFault (InTime (L.runs W.tells paint) L.waits W.begins W.begun) ready
+        O.takes O.failures (attached.old, watch.old) (attached.new, watch.new)
+        out.old.sink out.new.sink false lines fault) }
     ensures works { IfOk result (λ ran. ran.is_over ≡ false → attached.new.broken ≡ false) }
     ensures held { out.new.held ≡ [] }
 {
@@ -189,7 +198,9 @@ where
 fn next_line<R: Input + AllocGlobal, L: LiveLine>(
     rt: &R,
     input: &mut InputLines<R::Reader>,
-) -> Result<Option<L>, RunFault> {
+) -> Result<Option<L>, RunFault>
+    ensures { IfErr result IsInputFault }
+{
     let Some(line) = input.take()? else {
         return Ok(None);
     };
@@ -208,7 +219,7 @@ fn next_line<R: Input + AllocGlobal, L: LiveLine>(
     }
 }
 
-// The lines of standard input, one by one.
+// The lines of standard input, one by one. It is seen as the number of those that were taken.
 #[derive(Drop)]
 struct InputLines<B> {
     lines: Lines<B, Global>,
@@ -220,8 +231,16 @@ struct InputLines<B> {
     is_over: bool,
 }
 
+impl<B> Model for InputLines<B> {
+    ghost Value = { ℕ };
+
+    ghost view = { λ input. input.number };
+}
+
 impl<B: BufRead + Drop> InputLines<B> {
-    fn new(lines: Lines<B, Global>) -> Self {
+    fn new(lines: Lines<B, Global>) -> Self
+        ensures { result ≡ 0 }
+    {
         InputLines {
             lines,
             ahead: None,
@@ -231,7 +250,11 @@ impl<B: BufRead + Drop> InputLines<B> {
     }
 
     // Takes the next line.
-    fn take(&mut self) -> Result<Option<String>, RunFault> {
+    fn take(&mut self) -> Result<Option<String>, RunFault>
+        ensures taken { OnOk result (self.new ≡ one_more self.old) }
+        ensures fault { IfErr result (λ told. IsInputFault told
+            × ((kind : AnErrorKind) × (told ≡ unread_fault self.old kind))) }
+    {
         let line = match self.ahead.take() {
             Some(line) => Some(line),
             None => self.read()?,
@@ -241,7 +264,9 @@ impl<B: BufRead + Drop> InputLines<B> {
     }
 
     // Takes the lines that begin with two blanks, and an empty one behind them: their text, each with its line feed.
-    fn gather(&mut self, inside: &mut Vec<u8>) -> Result<(), RunFault> {
+    fn gather(&mut self, inside: &mut Vec<u8>) -> Result<(), RunFault>
+        ensures { IfErr result IsInputFault }
+    {
         for _ in 0..u64::MAX {
             let Some(line) = self.read()? else {
                 return Ok(());
@@ -268,20 +293,33 @@ impl<B: BufRead + Drop> InputLines<B> {
     }
 
     // Reads a line. Behind the last none is asked for again.
-    fn read(&mut self) -> Result<Option<String>, RunFault> {
+    fn read(&mut self) -> Result<Option<String>, RunFault>
+        ensures untaken { self.new ≡ self.old }
+        ensures fault { IfErr result (λ told. IsInputFault told
+            × ((kind : AnErrorKind) × (told ≡ unread_fault self.old kind))) }
+    {
         if self.is_over {
             return Ok(None);
         }
         match self.lines.next() {
             Some(Ok(line)) => Ok(Some(line)),
-            Some(Err(error)) if error.kind() == ErrorKind::InvalidData => {
-                Err(RunFault::Line(self.number.saturating_add(1)))
-            }
-            Some(Err(error)) => Err(RunFault::from(error)),
+            Some(Err(error)) => Err(unread_line(error.kind(), self.number)),
             None => {
                 self.is_over = true;
                 Ok(None)
             }
         }
+    }
+}
+
+// Why no line was to be had behind so many, by the kind of the error: it isn't UTF-8, or can't be read.
+fn unread_line(kind: ErrorKind, number: u64) -> RunFault
+    ensures fault { IsInputFault result }
+    ensures why { result ≡ unread_fault number kind }
+{
+    match kind {
+        ErrorKind::InvalidData => RunFault::Line(number.saturating_add(1)),
+        ErrorKind::OutOfMemory => RunFault::Memory,
+        _ => RunFault::Read,
     }
 }

@@ -1,17 +1,23 @@
 //! Live sessions over a connection: the sockets and the script. What the lines do at an end, and what they print, is
 //! said where they are carried out.
-ghost use Rattle.std.specs.Prelude.{◌≡◌, []};
+ghost use Rattle.std.specs.Prelude.{◌≡◌, [], ℕ, List, None, IfOk, OnOk, IfSome, MatchOption};
+ghost use Rattle.std.specs.Option.{is_none};
+ghost use Rattle.ws_code.specs.Device.{WentOut};
+ghost use Rattle.ws_live.specs.LiveScript.{AreLiveLines};
+ghost use Rattle.ws_network.specs.Sessions.{HasConnected, HasServed, HasRunLive};
 
 use crate::live_input::{carry_at_host, carry_at_station};
-use crate::live_socket::{TimedReader, TimedWriter, Timer};
-use std::io::{ErrorKind, Read};
+use crate::timed_sink::TimedSink;
+use crate::timed_source::TimedSource;
+use crate::timer::{Timer, Waits};
+use std::io::ErrorKind;
 use std::net::{Net, Shutdown, TcpListener, TcpStream, ToSocketAddrs};
 use std::rt::{Files, Runtime};
 use std::time::{Clock, Duration};
 use std::{fs, io};
-use ws_code::{ReadSource, Sink, WriteSink, write_whole};
+use ws_code::{Sink, Source, write_whole};
 use ws_live::{BufferedSink, HostLine, LiveLine, StationLine, hand_on, read_lines};
-use ws_program::RunFault;
+use ws_program::{OpenStreams, RunFault};
 use ws_session::{Attached, HostEnd, Station};
 use ws_text::{Output, put_text};
 use ws_words::{ConnectAsked, HostPort, Live, ServeAsked};
@@ -20,15 +26,28 @@ use ws_words::{ConnectAsked, HostPort, Live, ServeAsked};
 const LINGER: u64 = 1;
 
 /// Carries a live session out: true where all went well.
-pub fn run_live<R, O>(rt: &R, asked: Live<'_>, out: &mut BufferedSink<O>) -> Result<bool, RunFault>
+///
+/// # Errors
+///
+/// In this order: `Read` where a script is named that can't be read, and `Line` and `Memory` as `read_lines` has them;
+/// `Read` where standard input is to be read and is closed, and `Write` where standard output is; `NoConnection`. Then
+/// those met in running.
+pub fn run_live<R, O>(
+    rt: &R,
+    asked: Live<'_>,
+    streams: OpenStreams,
+    out: &mut BufferedSink<O>,
+) -> Result<bool, RunFault>
 where
     R: Runtime + AllocGlobal + Net<Listener = TcpListener, Stream = TcpStream>,
     O: Sink,
-    requires { out.old.held ≡ [] }
+    requires empty { out.old.held ≡ [] }
+    ensures { IfOk result
+        (HasRunLive O.takes O.failures out.old.sink out.new.sink asked.entry) }
 {
     match asked {
-        Live::Connect(asked) => connect(rt, &asked, out),
-        Live::Serve(asked) => serve(rt, &asked, out),
+        Live::Connect(asked) => connect(rt, &asked, streams, out),
+        Live::Serve(asked) => serve(rt, &asked, streams, out),
     }
 }
 
@@ -36,14 +55,18 @@ where
 fn connect<R, O>(
     rt: &R,
     asked: &ConnectAsked<'_>,
+    streams: OpenStreams,
     out: &mut BufferedSink<O>,
 ) -> Result<bool, RunFault>
 where
     R: Runtime + AllocGlobal + Net<Listener = TcpListener, Stream = TcpStream>,
     O: Sink,
-    requires { out.old.held ≡ [] }
+    requires empty { out.old.held ≡ [] }
+    ensures { IfOk result
+        (HasConnected O.takes O.failures out.old.sink out.new.sink asked.now) }
 {
     let script = read_script_file::<R, StationLine>(rt, asked.script)?;
+    streams.suffice(script.is_none())?;
     let limit = Duration::from_secs(u64::from(asked.wait));
     let timer = Timer::new(rt, limit);
     let Ok(stream) = connect_to(rt, asked.host, &timer) else {
@@ -51,13 +74,13 @@ where
     };
     let mut attached = Attached::new(
         Station::new(asked.terminal),
-        ReadSource::new(TimedReader::new(&stream, &timer)),
-        WriteSink::new(TimedWriter::new(&stream, &timer)),
+        TimedSource::new(&stream, &timer),
+        TimedSink::new(&stream, &timer),
     );
     let all_well = carry_at_station(
         rt,
         &mut attached,
-        &timer,
+        &mut Waits::new(&timer),
         script,
         asked.ready,
         asked.paint,
@@ -68,13 +91,21 @@ where
 }
 
 // A host for one station.
-fn serve<R, O>(rt: &R, asked: &ServeAsked<'_>, out: &mut BufferedSink<O>) -> Result<bool, RunFault>
+fn serve<R, O>(
+    rt: &R,
+    asked: &ServeAsked<'_>,
+    streams: OpenStreams,
+    out: &mut BufferedSink<O>,
+) -> Result<bool, RunFault>
 where
     R: Runtime + AllocGlobal + Net<Listener = TcpListener, Stream = TcpStream>,
     O: Sink,
-    requires { out.old.held ≡ [] }
+    requires empty { out.old.held ≡ [] }
+    ensures { IfOk result
+        (HasServed O.takes O.failures out.old.sink out.new.sink asked.now) }
 {
     let script = read_script_file::<R, HostLine>(rt, asked.script)?;
+    streams.suffice(script.is_none())?;
     let limit = Duration::from_secs(u64::from(asked.wait));
     let Ok(listener) = TcpListener::bind(rt, (asked.address.host, asked.address.port)) else {
         return Err(RunFault::NoConnection);
@@ -85,11 +116,18 @@ where
     };
     let timer = Timer::new(rt, limit);
     let mut host = HostEnd::new(rt.alloc());
-    let mut sink = WriteSink::new(TimedWriter::new(&stream, &timer));
+    let mut sink = TimedSink::new(&stream, &timer);
     write_whole(&mut sink, host.open().as_slice())?;
-    let source = ReadSource::new(TimedReader::new(&stream, &timer));
+    let source = TimedSource::new(&stream, &timer);
     let mut attached = Attached::new(host, source, sink);
-    let all_well = carry_at_host(rt, &mut attached, &timer, script, asked.ready, out)?;
+    let all_well = carry_at_host(
+        rt,
+        &mut attached,
+        &mut Waits::new(&timer),
+        script,
+        asked.ready,
+        out,
+    )?;
     close(rt, &stream);
     Ok(all_well)
 }
@@ -98,7 +136,11 @@ where
 fn read_script_file<R: Files + AllocGlobal, L: LiveLine>(
     rt: &R,
     script: Option<&str>,
-) -> Result<Option<Vec<L>>, RunFault> {
+) -> Result<Option<Vec<L>>, RunFault>
+    ensures none { IfOk result (λ read. is_none read ≡ is_none script) }
+    ensures lines { IfOk result (λ read. IfSome read (λ lines.
+        (file : List ℕ) × AreLiveLines L.means L.opener file lines.items)) }
+{
     let Some(path) = script else {
         return Ok(None);
     };
@@ -139,8 +181,10 @@ fn put_listening<R: AllocGlobal, O: Sink>(
     listener: &TcpListener,
     out: &mut BufferedSink<O>,
 ) -> Result<(), RunFault>
-    requires { out.old.held ≡ [] }
-    ensures { out.new.held ≡ [] }
+    requires empty { out.old.held ≡ [] }
+    ensures held { out.new.held ≡ [] }
+    ensures told { OnOk result ((line : List ℕ)
+        × WentOut O.takes O.failures out.old.sink out.new.sink line) }
 {
     let Ok(address) = listener.local_addr() else {
         return Err(RunFault::NoConnection);
@@ -162,7 +206,7 @@ fn close<R: Clock>(rt: &R, stream: &TcpStream) {
         return;
     }
     let timer = Timer::new(rt, Duration::from_secs(LINGER));
-    let mut rest = TimedReader::new(stream, &timer);
+    let mut rest = TimedSource::new(stream, &timer);
     let mut piece = [0u8; 4096];
     for _ in 0..u32::MAX {
         match rest.read(&mut piece) {

@@ -4,5 +4,6 @@ pub mod Checking
 pub mod HexText
 pub mod RunFaults
 pub mod StreamText
+pub mod Streams
 pub mod Views
 pub mod Making

@@ -9,6 +9,7 @@ ghost use Rattle.ws_program.specs.HexText.{IsHexOf};
 ghost use Rattle.ws_program.specs.Checking.{IsCheckFault};
 ghost use Rattle.ws_program.specs.Making.{HasMade, IsMakeFault};
 ghost use Rattle.ws_program.specs.StreamText.{IsShowFault};
+ghost use Rattle.ws_program.specs.Streams.{HasAnsweredOpenly, IsOpenFault, in_one_place as without_connection};
 ghost use Rattle.ws_program.specs.Views.{painted_host_view, answer_view};
 ghost use Rattle.std.specs.Prelude.{List as Seq, ℕ};
 
@@ -16,6 +17,7 @@ use crate::check::check_to;
 use crate::fault::RunFault;
 use crate::hex_text::hex_bytes;
 use crate::make::make_to;
+use crate::open_streams::OpenStreams;
 use crate::show::{show_answers_to, show_painted_to};
 use crate::tcp::play_tcp;
 use std::alloc::Global;
@@ -105,6 +107,51 @@ pub fn answer_buffered<R: Net<Listener = TcpListener, Stream = TcpStream>, S: Si
     match sink.flush() {
         Ok(()) => outcome,
         Err(_) => Err(RunFault::Write),
+    }
+}
+
+/// Does the same where standard output may have been closed when the program began. Then `Write` comes where no other
+/// fault does, also where nothing is to be written, and a script is played without its connection.
+pub fn answer_openly<R: Net<Listener = TcpListener, Stream = TcpStream>, S: Sink>(
+    rt: &R,
+    alloc: Global,
+    asked: Asked<'_>,
+    text: &[u8],
+    streams: OpenStreams,
+    sink: &mut BufferedSink<S>,
+) -> Result<bool, RunFault>
+    requires empty { sink.old.held ≡ [] }
+    ensures done { IfOk result (λ accepted. HasAnsweredOpenly S.takes S.failures
+        sink.old.sink sink.new.sink streams.output asked.entry text.now accepted) }
+    ensures fault { IfErr result (λ fault. IsOpenFault S.takes S.failures
+        sink.old.sink sink.new.sink streams.output asked.entry text.now fault) }
+{
+    if streams.output {
+        return answer_buffered(rt, alloc, asked, text, sink);
+    }
+    match answer_buffered(rt, alloc, in_one_place(asked), text, sink) {
+        Ok(_) => Err(RunFault::Write),
+        Err(fault) => Err(fault),
+    }
+}
+
+// What is asked for, without a connection.
+fn in_one_place(asked: Asked<'_>) -> Asked<'_>
+    ensures { result ≡ without_connection asked.entry }
+{
+    match asked {
+        Asked::Play {
+            file,
+            screen,
+            paint,
+            ..
+        } => Asked::Play {
+            file,
+            screen,
+            tcp: false,
+            paint,
+        },
+        other => other,
     }
 }
 

@@ -1,3 +1,7 @@
+ghost use Rattle.std.specs.Prelude.{◌≡◌, ◌≢◌, ◌∷◌, ℕ, List, Option, None, Some, true, false, MatchOption};
+ghost use Rattle.std.specs.Option.{option_map};
+ghost use Rattle.ws_words.specs.Addresses.{IsV6, IsPort, IsBehind, IsBracketed, IsNamed, IsHostText, IsHostPort, IsListening};
+
 use std::net::Ipv6Addr;
 
 /// The port of Telnet.
@@ -13,60 +17,121 @@ pub struct HostPort<'a> {
 
 /// The host and the port of `HOST`, `HOST:PORT`, `[V6]`, `[V6]:PORT` or a bare `V6`, with an address `V6` of IPv6. The
 /// port is 23 where none stands there. `None` of any other text.
-pub fn host_and_port(text: &str) -> Option<HostPort<'_>> {
-    let (host, port) = split_port(text)?;
-    match port {
-        None => Some(HostPort {
+pub fn host_and_port(text: &str) -> Option<HostPort<'_>>
+    ensures { MatchOption result
+        ((host : List ℕ) (port : ℕ) → IsHostPort text.now host port → ⊥)
+        (λ named. IsHostPort text.now named.host.now named.port) }
+{
+    let Some((host, digits)) = split_port(text) else {
+        return None;
+    };
+    let Some(digits) = digits else {
+        return Some(HostPort {
             host,
             port: TELNET_PORT,
-        }),
-        Some(port) => Some(HostPort {
-            host,
-            port: read_port(port)?,
-        }),
+        });
+    };
+    match read_port(digits) {
+        Some(port) => Some(HostPort { host, port }),
+        None => None,
     }
 }
 
 /// The host and the port of `HOST:PORT` or `[V6]:PORT`. `None` of any other text.
-pub fn listening_address(text: &str) -> Option<HostPort<'_>> {
-    let (host, port) = split_port(text)?;
-    Some(HostPort {
-        host,
-        port: read_port(port?)?,
-    })
+pub fn listening_address(text: &str) -> Option<HostPort<'_>>
+    ensures { MatchOption result
+        ((host : List ℕ) (port : ℕ) → IsListening text.now host port → ⊥)
+        (λ named. IsListening text.now named.host.now named.port) }
+{
+    let Some((host, digits)) = split_port(text) else {
+        return None;
+    };
+    let Some(digits) = digits else {
+        return None;
+    };
+    match read_port(digits) {
+        Some(port) => Some(HostPort { host, port }),
+        None => None,
+    }
 }
 
 // The text of the host, and that of the port where there is one.
-fn split_port(text: &str) -> Option<(&str, Option<&str>)> {
+fn split_port(text: &str) -> Option<(&str, Option<&str>)>
+    ensures { MatchOption result
+        ((host : List ℕ) (port : Option (List ℕ)) → IsHostText text.now host port → ⊥)
+        (λ parts. IsHostText text.now parts.0.now (option_map (λ port. port.now) parts.1)) }
+{
     if is_ipv6(text) {
         return Some((text, None));
     }
-    if let Some(inner) = text.strip_prefix('[') {
-        let (host, behind) = inner.split_once(']')?;
-        if !is_ipv6(host) {
-            return None;
-        }
-        if behind.is_empty() {
-            return Some((host, None));
-        }
-        return Some((host, Some(behind.strip_prefix(':')?)));
+    match text.strip_prefix('[') {
+        Some(inner) => split_bracketed(inner),
+        None => split_named(text),
     }
-    let (host, port) = match text.split_once(':') {
-        None => (text, None),
-        Some((host, port)) => (host, Some(port)),
-    };
-    if host.is_empty() {
-        return None;
-    }
-    Some((host, port))
 }
 
-fn is_ipv6(text: &str) -> bool {
-    text.parse::<Ipv6Addr>().is_ok()
+// The same of what stands behind a bracket.
+fn split_bracketed(inner: &str) -> Option<(&str, Option<&str>)>
+    ensures { MatchOption result
+        ((host behind : List ℕ) (port : Option (List ℕ))
+        → IsBracketed (91 ∷ inner.now) host behind → IsBehind behind port → ⊥)
+        (λ parts. (behind : List ℕ) × IsBracketed (91 ∷ inner.now) parts.0.now behind
+        × IsBehind behind (option_map (λ port. port.now) parts.1)) }
+{
+    let Some((host, behind)) = inner.split_once(']') else {
+        return None;
+    };
+    if !is_ipv6(host) {
+        return None;
+    }
+    if behind.is_empty() {
+        return Some((host, None));
+    }
+    match behind.strip_prefix(':') {
+        Some(port) => Some((host, Some(port))),
+        None => None,
+    }
+}
+
+// The same of a name, which doesn't begin with a bracket.
+fn split_named(text: &str) -> Option<(&str, Option<&str>)>
+    requires unbracketed { (more : List ℕ) → text.now ≢ 91 ∷ more }
+    ensures { MatchOption result
+        ((host behind : List ℕ) (port : Option (List ℕ))
+        → IsNamed text.now host behind → IsBehind behind port → ⊥)
+        (λ parts. (behind : List ℕ) × IsNamed text.now parts.0.now behind
+        × IsBehind behind (option_map (λ port. port.now) parts.1)) }
+{
+    match text.split_once(':') {
+        Some((host, port)) => {
+            if host.is_empty() {
+                return None;
+            }
+            Some((host, Some(port)))
+        }
+        None => {
+            if text.is_empty() {
+                return None;
+            }
+            Some((text, None))
+        }
+    }
+}
+
+fn is_ipv6(text: &str) -> bool
+    ensures is { result ≡ true → IsV6 text.now }
+    ensures isnt { result ≡ false → IsV6 text.now → ⊥ }
+{
+    match text.parse::<Ipv6Addr>() {
+        Ok(_) => true,
+        Err(_) => false,
+    }
 }
 
 // A port in decimal digits.
-fn read_port(digits: &str) -> Option<u16> {
+fn read_port(digits: &str) -> Option<u16>
+    ensures { MatchOption result ((port : ℕ) → IsPort digits.now port → ⊥) (IsPort digits.now) }
+{
     if digits.starts_with('+') {
         return None;
     }

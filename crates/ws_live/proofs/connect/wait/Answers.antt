@@ -1,10 +1,7 @@
 use Rattle.ws_live.proofs.ConnectRuns.{is_waited}
 use Rattle.ws_live.proofs.connect.wait.Goals as goal
 
-pub returns-in_default : goal.returns-in_default
-returns-in_default g c = record {
-  waited = is_waited g.K.Sink.takes g.K.Sink.failures g.S.Source.gives g.S.Source.failures
-      (g.W.Watch.tells c.args.watch.now) c.args.attached.now c.wait_for.new.attached c.args.awaited.now
-      c.wait_for.result c.in_default.not-Record c.wait_for.ensures.waited;
-  works = c.wait_for.ensures.works;
-}
+pub returns-in_default-clause-waited : goal.returns-in_default-clause-waited
+returns-in_default-clause-waited g c = is_waited g.K.Sink.takes g.K.Sink.failures g.S.Source.gives g.S.Source.failures
+    g.W.Watch.tells c.args.attached.now c.wait_for.new.attached c.args.awaited.now c.wait_for.result
+    c.in_default.not-Record c.wait_for.ensures.waited

@@ -3,24 +3,21 @@ use Rattle.ws_live.specs.ConnectText.{IsMet}
 use Rattle.ws_live.proofs.ConnectRuns.{hears_none, waited_more, waits_on}
 use Rattle.ws_live.proofs.connect.wait_for.Goals as goal
 
-pub returns-in_default : goal.returns-in_default
-returns-in_default g c =
+pub returns-in_default-clause-waited : goal.returns-in_default-clause-waited
+returns-in_default-clause-waited g c =
     let so_far = c.loop.invariant in
     let unmet : IsMet c.args.awaited.now c.loop.attached.end.screen
     → ⊥ = λ met. c.is_met.ensures.unmet c.if-is_met.false (subst (IsMet c.args.awaited.now)
     (sym (c.screen.ensures ∙ ap (λ e. e.screen) c.end.ensures)) met) in
-    record {
-      waited = inr (inl (
-        so_far.0,
-        c.loop.attached,
-        so_far.1,
-        unmet,
-        hears_none g.K.Sink.takes g.K.Sink.failures g.S.Source.gives g.S.Source.failures
-            (g.W.Watch.tells c.args.watch.now) c.loop.attached c.hear_record.new.attached c.hear_record.result
-            c.hear_record.ensures.heard c.in_default.not-Met,
-      ));
-      works = c.hear_record.ensures.works;
-    }
+    inr (inl (
+      so_far.0,
+      c.loop.attached,
+      so_far.1,
+      unmet,
+      hears_none g.K.Sink.takes g.K.Sink.failures g.S.Source.gives g.S.Source.failures
+          g.W.Watch.tells c.loop.attached c.hear_record.new.attached c.hear_record.result
+          c.hear_record.ensures.heard c.in_default.not-Met,
+    ))
 
 pub loop-preserved : goal.loop-preserved
 loop-preserved g c =

@@ -2,14 +2,15 @@ use Rattle.std.proofs.Common.{◌≡◌, ℕ, List, [], true, false}
 use Rattle.std.specs.Prelude.{replicate}
 use Rattle.ws_code.specs.Device.{WentOut}
 use Rattle.ws_live.specs.LiveText.{HaveRun}
-use Rattle.ws_live.specs.ServeText.{HostRuns}
+use Rattle.ws_live.specs.ServeText.{Runs}
 use Rattle.ws_live.specs.declared.serve_line.HostLine.TheVariants.{Await}
 use Rattle.ws_live.proofs.serve.answer_on.Given as goal
 
 -- so many things were told and printed
 abbrev pub invariant-loop : goal.invariant-loop
 invariant-loop g l = (text : List ℕ)
-    × HaveRun (HostRuns g.K.Sink.takes g.K.Sink.failures g.S.Source.gives g.S.Source.failures
-    (g.W.Watch.tells l.watch)) false l.fn.attached (replicate l.counter Await) true text l.attached
+    × HaveRun (Runs g.K.Sink.takes g.K.Sink.failures g.S.Source.gives g.S.Source.failures
+    g.W.Watch.tells g.W.Watch.begins g.W.Watch.begun) false (l.fn.attached, l.fn.watch) (replicate l.counter Await) true
+    text (l.attached, l.watch)
     × WentOut g.O.Sink.takes g.O.Sink.failures l.fn.out.sink l.out.sink text × (l.attached.broken ≡ false)
     × (l.out.held ≡ [])

@@ -12,9 +12,12 @@ pub returns-in-Open-clause-answered : goal.returns-in-Open-clause-answered
 returns-in-Open-clause-answered g c =
     let e = c.carry_out-carried.ensures.runs in (
       e.0,
-      subst (λ (o : Result Closing Fault). HearsOne g.K.Sink.takes g.K.Sink.failures g.S.Source.gives
-          g.S.Source.failures (g.W.Watch.tells c.args.watch.now) c.args.attached.now o e.0
-          c.carry_out-carried.new.attached) c.in-Ok.is e.1,
+      (
+        subst (λ (o : Result Closing Fault). HearsOne g.K.Sink.takes g.K.Sink.failures g.S.Source.gives
+            g.S.Source.failures g.W.Watch.tells c.args.attached.now o e.0
+            c.carry_out-carried.new.attached) c.in-Ok.is e.1,
+        c.carry_out-carried.ensures.begun,
+      ),
       subst (λ (o : Output). IsOut g.O.Sink.takes g.O.Sink.failures c.args.out.now.sink c.hand_on-output.new.out.sink o
           e.0) c.in-Open.is
           (c.hand_on-output.ensures.out c.args.out.now e.0 c.requires.empty (whole_out e.2)),
@@ -28,9 +31,12 @@ returns-in-Failed-clause-fault g c =
       (
         c.in-Ok.closing,
         e.0,
-        subst (λ (o : Result Closing Fault). HearsOne g.K.Sink.takes g.K.Sink.failures g.S.Source.gives
-            g.S.Source.failures (g.W.Watch.tells c.args.watch.now) c.args.attached.now o e.0
-            c.carry_out-carried.new.attached) c.in-Ok.is e.1,
+        (
+          subst (λ (o : Result Closing Fault). HearsOne g.K.Sink.takes g.K.Sink.failures g.S.Source.gives
+              g.S.Source.failures g.W.Watch.tells c.args.attached.now o e.0
+              c.carry_out-carried.new.attached) c.in-Ok.is e.1,
+          c.carry_out-carried.ensures.begun,
+        ),
         subst (λ (o : Output). IsOut g.O.Sink.takes g.O.Sink.failures c.args.out.now.sink c.hand_on-output.new.out.sink
             o e.0) c.in-Failed.is
             (c.hand_on-output.ensures.out c.args.out.now e.0 c.requires.empty (whole_out e.2)),
@@ -43,8 +49,11 @@ returns-in-Err-clause-fault g c =
     inl (
       e.0,
       c.hand_on-output.result,
-      subst (λ (o : Result Closing Fault). HearsOne g.K.Sink.takes g.K.Sink.failures g.S.Source.gives
-          g.S.Source.failures (g.W.Watch.tells c.args.watch.now) c.args.attached.now o e.0
-          c.carry_out-carried.new.attached) c.in-Err.is e.1,
+      (
+        subst (λ (o : Result Closing Fault). HearsOne g.K.Sink.takes g.K.Sink.failures g.S.Source.gives
+            g.S.Source.failures g.W.Watch.tells c.args.attached.now o e.0
+            c.carry_out-carried.new.attached) c.in-Err.is e.1,
+        c.carry_out-carried.ensures.begun,
+      ),
       c.hand_on-output.ensures.out c.args.out.now e.0 c.requires.empty (whole_out e.2),
     )

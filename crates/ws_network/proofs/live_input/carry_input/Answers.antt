@@ -1,5 +1,6 @@
 use Rattle.std.proofs.Common.{◌≡◌, ◌++◌, ◌∷◌, [], Bool, List, ℕ, refl, sym, ap, ◌∙◌, subst, inl}
 use Rattle.ws_code.proofs.DeviceLaws.{went_out_none}
+use Rattle.ws_live.specs.Waits.{InTime}
 use Rattle.ws_live.specs.LiveText.{HaveRun, HasRun, ran_and, ran_by}
 use Rattle.ws_live.specs.declared.live.Ran.{Ran}
 use Rattle.ws_live.proofs.LiveRuns.{goes_on, ends_here, breaks}
@@ -23,8 +24,8 @@ returns-in-Err-carry_line-clause-fault g c =
       lines,
       inl (
         c.in-Err-carry_line.fault,
-        breaks (g.L.LiveMove.runs (g.W.Watch.tells c.args.watch.now) c.args.paint) c.args.ready g.O.Sink.takes
-            g.O.Sink.failures c.args.attached.now c.loop.attached c.carry_line.new.attached c.args.out.now.sink
+        breaks (InTime (g.L.LiveMove.runs g.W.Watch.tells c.args.paint) g.L.LiveMove.waits g.W.Watch.begins g.W.Watch.begun) c.args.ready g.O.Sink.takes
+            g.O.Sink.failures (c.args.attached.now, c.args.watch.now) (c.loop.attached, c.loop.watch) (c.carry_line.new.attached, c.carry_line.new.watch) c.args.out.now.sink
             c.loop.out.sink c.carry_line.new.out.sink
             so_far.0 c.in-Some.line c.loop.ran so_far.1 so_far.2 so_far.3
             [] lines refl c.in-Err-carry_line.fault c.in-Err-carry_line.ensures.fault,
@@ -36,14 +37,14 @@ pub returns-then-ran-clause-ran : goal.returns-then-ran-clause-ran
 returns-then-ran-clause-ran g c =
     let so_far = c.loop.invariant in
     let lines : List g.row.L.Denot = so_far.0 ++ c.in-Some.line ∷ [] in
-    let runs = g.L.LiveMove.runs (g.W.Watch.tells c.args.watch.now) c.args.paint in
+    let runs = InTime (g.L.LiveMove.runs g.W.Watch.tells c.args.paint) g.L.LiveMove.waits g.W.Watch.begins g.W.Watch.begun in
     let same : c.and-ran.result ≡ ran_and c.loop.ran (ran_by c.in-Ok-carry_line.closing) = c.and-ran.ensures
     ∙ ap (λ (r : Ran). ran_and c.loop.ran r) c.ran.ensures in (
       lines,
-      subst (HasRun runs c.args.ready g.O.Sink.takes g.O.Sink.failures c.args.attached.now c.carry_line.new.attached
+      subst (HasRun runs c.args.ready g.O.Sink.takes g.O.Sink.failures (c.args.attached.now, c.args.watch.now) (c.carry_line.new.attached, c.carry_line.new.watch)
           c.args.out.now.sink c.carry_line.new.out.sink lines) (sym same)
-          (ends_here runs c.args.ready g.O.Sink.takes g.O.Sink.failures c.args.attached.now c.loop.attached
-          c.carry_line.new.attached c.args.out.now.sink c.loop.out.sink c.carry_line.new.out.sink
+          (ends_here runs c.args.ready g.O.Sink.takes g.O.Sink.failures (c.args.attached.now, c.args.watch.now) (c.loop.attached, c.loop.watch)
+          (c.carry_line.new.attached, c.carry_line.new.watch) c.args.out.now.sink c.loop.out.sink c.carry_line.new.out.sink
           so_far.0 c.in-Some.line c.loop.ran so_far.1 so_far.2 so_far.3
           [] lines refl c.in-Ok-carry_line.closing c.in-Ok-carry_line.ensures.done
           (ap (λ (r : Ran). r.is_over) (sym same) ∙ c.if-ran.true)),
@@ -53,17 +54,17 @@ pub loop-preserved : goal.loop-preserved
 loop-preserved g c =
     let so_far = c.loop.invariant in
     let lines : List g.row.L.Denot = so_far.0 ++ c.in-Some.line ∷ [] in
-    let runs = g.L.LiveMove.runs (g.W.Watch.tells c.args.watch.now) c.args.paint in
+    let runs = InTime (g.L.LiveMove.runs g.W.Watch.tells c.args.paint) g.L.LiveMove.waits g.W.Watch.begins g.W.Watch.begun in
     let same : c.and-ran.result ≡ ran_and c.loop.ran (ran_by c.in-Ok-carry_line.closing) = c.and-ran.ensures
     ∙ ap (λ (r : Ran). ran_and c.loop.ran r) c.ran.ensures in
     let going = ap (λ (r : Ran). r.is_over) (sym same) ∙ c.if-ran.false in
-    let more = goes_on runs c.args.ready g.O.Sink.takes g.O.Sink.failures c.args.attached.now c.loop.attached
-    c.carry_line.new.attached c.args.out.now.sink c.loop.out.sink c.carry_line.new.out.sink
+    let more = goes_on runs c.args.ready g.O.Sink.takes g.O.Sink.failures (c.args.attached.now, c.args.watch.now) (c.loop.attached, c.loop.watch)
+    (c.carry_line.new.attached, c.carry_line.new.watch) c.args.out.now.sink c.loop.out.sink c.carry_line.new.out.sink
     so_far.0 c.in-Some.line c.loop.ran so_far.1 so_far.2 so_far.3 c.in-Ok-carry_line.closing
     c.in-Ok-carry_line.ensures.done going in (
       lines,
       more.0,
-      subst (λ (b : Bool). HaveRun runs c.args.ready c.args.attached.now lines b more.0 c.carry_line.new.attached)
+      subst (λ (b : Bool). HaveRun runs c.args.ready (c.args.attached.now, c.args.watch.now) lines b more.0 (c.carry_line.new.attached, c.carry_line.new.watch))
           (ap (λ (r : Ran). r.all_well) (sym same)) more.1,
       more.2,
       c.if-ran.false,

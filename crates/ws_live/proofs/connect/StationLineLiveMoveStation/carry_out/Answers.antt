@@ -12,7 +12,7 @@ returns-in-Press-clause-runs g c =
     let to = c.press_keys.new.attached in (
       e.0,
       subst (λ (line : StationLine). StationRuns g.K.Sink.takes g.K.Sink.failures g.S.Source.gives g.S.Source.failures
-          (g.W.Watch.tells c.args.watch.now) c.args.paint line from outcome e.0 to) (sym c.in-Press.is)
+          g.W.Watch.tells c.args.paint line from outcome e.0 to) (sym c.in-Press.is)
           (subst (λ (keys : List Key). KeysRun g.K.Sink.takes g.K.Sink.failures g.S.Source.gives g.S.Source.failures
           keys from outcome e.0 to) c.as_slice.ensures e.1),
       e.2,

@@ -1,0 +1,251 @@
+//! Rows of live sessions over devices in memory: what their lines print, whether all went well, and how many waits have
+//! begun.
+ghost use Rattle.std.specs.Prelude.{◌≡◌, false};
+
+use crate::end_rows::{ATTENTION, OPENED, OPENING_AND_BOB, joined, new_station};
+use crate::{same, same_at};
+use std::alloc::Global;
+use std::process::Abort;
+use ws_code::{SliceSource, VecSink, write_whole};
+use ws_live::{
+    BufferedSink, HostLine, LiveMove, Paint, StationLine, Watch, answer_on, carry_lines, read_lines,
+};
+use ws_session::{Attached, HostEnd, Station};
+
+// A watch that counts, and says of each failed read whether it was late.
+#[derive(Drop)]
+struct Counter {
+    begun: u64,
+    late: bool,
+}
+
+impl<S> Watch<S> for Counter {
+    ghost begins = { λ from source to. Unit {0} };
+
+    ghost begun = { λ counter. counter.begun };
+
+    ghost tells = { λ source late. Unit {0} };
+
+    fn begin(&mut self, _source: &S) {
+        self.begun = self.begun.saturating_add(1);
+    }
+
+    fn is_late(&self, _source: &S) -> bool {
+        self.late
+    }
+}
+
+// What came of the lines of a session.
+#[derive(Clone, Copy, Debug, PartialEq, Eq)]
+struct Came {
+    all_well: bool,
+    is_over: bool,
+    waits: u64,
+}
+
+// Carries out the lines of a script, with `ok`; what they print, and what came of them.
+fn carried<R: Abort + AllocGlobal, E, S, K, L: LiveMove<E, S, K>>(
+    rt: &R,
+    attached: &mut Attached<E, S, K>,
+    script: &str,
+    printed: &str,
+) -> Came
+    requires works { attached.old.broken ≡ false }
+{
+    let lines = read_lines::<L>(rt.alloc(), script.as_bytes()).expect(rt, "a script");
+    let mut watch = Counter {
+        begun: 0,
+        late: true,
+    };
+    let mut out = BufferedSink::new(VecSink::new(rt.alloc()));
+    let ran = carry_lines(
+        attached,
+        &mut watch,
+        lines.as_slice(),
+        true,
+        Paint::Plain,
+        &mut out,
+    );
+    same_at(rt, script, out.into_inner().as_slice(), printed.as_bytes());
+    match ran {
+        Ok(ran) => Came {
+            all_well: ran.all_well,
+            is_over: ran.is_over,
+            waits: watch.begun,
+        },
+        Err(fault) => panic!(rt; "{fault:?}"),
+    }
+}
+
+// A station that is given these bytes.
+fn station_given<'a>(alloc: Global, bytes: &'a [u8]) -> Attached<Station, SliceSource<'a>, VecSink>
+    ensures { result.broken ≡ false }
+{
+    Attached::new(new_station(), SliceSource::new(bytes), VecSink::new(alloc))
+}
+
+// Scripts for a station behind the opening and a form, what they print, and what came of them. Behind the form the
+// source ends.
+const STATIONS: [(&str, &str, Came); 7] = [
+    (
+        "",
+        "",
+        Came {
+            all_well: true,
+            is_over: false,
+            waits: 0,
+        },
+    ),
+    (
+        "# none\n\nfields\n",
+        "ok\n",
+        Came {
+            all_well: true,
+            is_over: false,
+            waits: 0,
+        },
+    ),
+    (
+        "await\n",
+        "ok\n",
+        Came {
+            all_well: true,
+            is_over: false,
+            waits: 1,
+        },
+    ),
+    (
+        "await record\nfields\n",
+        "ok\nfield 6 53 10 4000\nok\n",
+        Came {
+            all_well: true,
+            is_over: false,
+            waits: 1,
+        },
+    ),
+    (
+        "await\nawait\nawait record\nawait text A\n",
+        "ok\nok\nended\nok\nended\nok\n",
+        Came {
+            all_well: false,
+            is_over: false,
+            waits: 4,
+        },
+    ),
+    (
+        "await\ntype A\nawait text A\nkey Dup\n",
+        "ok\nok\nok\nkey refused DupNotAllowed\nok\n",
+        Came {
+            all_well: false,
+            is_over: false,
+            waits: 2,
+        },
+    ),
+    (
+        "type A\nawait\n",
+        "key refused Locked\nok\nok\n",
+        Came {
+            all_well: false,
+            is_over: false,
+            waits: 1,
+        },
+    ),
+];
+
+#[test]
+fn lines_at_a_station(rt: HostRuntime) {
+    for (script, printed, wanted) in &STATIONS {
+        let mut attached = station_given(rt.alloc(), OPENING_AND_BOB);
+        let came = carried::<HostRuntime, _, _, _, StationLine>(
+            &rt,
+            &mut attached,
+            script,
+            printed,
+        );
+        same_at(&rt, *script, came, *wanted);
+    }
+}
+
+// A host end that has sent its first token, and is given these bytes.
+fn host_given<'a>(
+    rt: &impl Abort,
+    alloc: Global,
+    bytes: &'a [u8],
+) -> Attached<HostEnd, SliceSource<'a>, VecSink>
+    ensures { result.broken ≡ false }
+{
+    let mut host = HostEnd::new(alloc);
+    let mut sink = VecSink::new(alloc);
+    write_whole(&mut sink, host.open().as_slice()).expect(rt, "memory");
+    Attached::new(host, SliceSource::new(bytes), sink)
+}
+
+// Scripts for a host whose station answers the opening and presses Attention, and then ends.
+const HOSTS: [(&str, &str, Came); 4] = [
+    (
+        "# none\n",
+        "",
+        Came {
+            all_well: true,
+            is_over: false,
+            waits: 0,
+        },
+    ),
+    (
+        "await\n",
+        "host ready IBM-3179-2\nok\n",
+        Came {
+            all_well: true,
+            is_over: false,
+            waits: 1,
+        },
+    ),
+    (
+        "cancel\nawait\nsend 1\nawait\nawait\n",
+        "send refused NotAllowed\nok\nhost ready IBM-3179-2\nok\nok\nattention\nok\nended\nok\n",
+        Came {
+            all_well: false,
+            is_over: false,
+            waits: 3,
+        },
+    ),
+    (
+        "await\nawait\ncancel\n",
+        "host ready IBM-3179-2\nok\nattention\nok\nsend refused NoReadToCancel\nok\n",
+        Came {
+            all_well: false,
+            is_over: false,
+            waits: 2,
+        },
+    ),
+];
+
+#[test]
+fn lines_at_a_host(rt: HostRuntime) {
+    let came_in = joined(&rt, rt.alloc(), &[OPENED, ATTENTION]);
+    for (script, printed, wanted) in &HOSTS {
+        let mut attached = host_given(&rt, rt.alloc(), came_in.as_slice());
+        let came = carried::<HostRuntime, _, _, _, HostLine>(&rt, &mut attached, script, printed);
+        same_at(&rt, *script, came, *wanted);
+    }
+}
+
+// Behind its script a host end tells what comes, each behind a wait of its own.
+#[test]
+fn a_host_answers_on(rt: HostRuntime) {
+    let came_in = joined(&rt, rt.alloc(), &[OPENED, ATTENTION, ATTENTION]);
+    let mut attached = host_given(&rt, rt.alloc(), came_in.as_slice());
+    let mut watch = Counter {
+        begun: 0,
+        late: true,
+    };
+    let mut out = BufferedSink::new(VecSink::new(rt.alloc()));
+    same(
+        &rt,
+        answer_on(&mut attached, &mut watch, &mut out),
+        Ok(true),
+    );
+    same(&rt, watch.begun, 4);
+    let wanted = b"host ready IBM-3179-2\nattention\nattention\n".as_slice();
+    same(&rt, out.into_inner().as_slice(), wanted);
+}

@@ -1,0 +1,53 @@
+-- The devices of a session over a connection: the bytes that are read and written in time, and the waits.
+
+use Rattle.std.specs.Prelude.{◌≡◌, ℕ, List, Bool, true, false, Option, None, Some, IfNone}
+use Rattle.std.specs.Option.{is_some}
+use Rattle.std_io.specs.declared.io.kind.ErrorKind.{ErrorKind}
+use Rattle.std_io.specs.declared.io.kind.ErrorKind.TheVariants.{WouldBlock, TimedOut}
+
+-- what is known of the reads from a connection: how many failed, and of what kind the error of the last of these was
+pub record Reads : Type 0 where
+  pub failures : ℕ
+  pub failure : Option ErrorKind
+
+-- no read has failed
+abbrev pub no_reads : Reads
+no_reads = record { failures = 0; failure = None }
+
+-- what is known of the writes: how many failed
+pub record Writes : Type 0 where
+  pub failures : ℕ
+
+-- no write has failed
+abbrev pub no_writes : Writes
+no_writes = record { failures = 0 }
+
+-- a read may give any bytes, or fail, and then it is kept why
+abbrev pub gives : Reads → ℕ → Option (List ℕ) → Reads → Type 0
+gives from room given to = IfNone given (is_some to.failure ≡ true)
+
+-- a write may take any bytes
+abbrev pub takes : Writes → List ℕ → Option ℕ → Writes → Type 0
+takes from bytes taken to = Unit {0}
+
+-- the errors by which the system says that a call took longer than its time
+abbrev pub is_want_of_time : ErrorKind → Bool
+is_want_of_time WouldBlock = true
+is_want_of_time TimedOut = true
+is_want_of_time kind = false
+
+abbrev is_late : Option ErrorKind → Bool
+is_late None = false
+is_late (Some kind) = is_want_of_time kind
+
+-- whether the last read that failed did so for want of time
+abbrev pub was_late : Reads → Bool
+was_late reads = is_late reads.failure
+
+-- what is told of a read that has failed: whether it did so for want of time
+abbrev pub tells : Reads → Bool → Type 0
+tells reads late = late ≡ was_late reads
+
+-- What the beginning of a wait does at a timer isn't known: no contract says what a clock tells.
+abbrev pub begins : ℕ → Reads → ℕ → Type 0
+begins from reads to = Unit {0}

@@ -1,0 +1,93 @@
+ghost use Rattle.std.specs.Io.{WritesAtMost};
+ghost use Rattle.std.specs.Prelude.{◌≡◌};
+ghost use Rattle.ws_network.specs.Times as Spec;
+
+use crate::timer::{Timer, no_time};
+use std::io;
+use std::io::{ErrorKind, Write};
+use std::marker::Model;
+use std::net::TcpStream;
+use std::time::{Clock, Instant};
+use ws_code::{DeviceFailed, Sink};
+
+/// Writes into a connection. The bytes of one text, in as many writes as it asks for, go out in the time of a wait.
+#[derive(Drop)]
+pub struct TimedSink<'a, C> {
+    stream: &'a TcpStream,
+    timer: &'a Timer<'a, C>,
+    failures: u64,
+    // How many bytes of the text didn't go out yet, and when its time is over.
+    unsent: usize,
+    until: Option<Instant>,
+}
+
+impl<'a, C> Model for TimedSink<'a, C> {
+    ghost use Rattle.ws_network.specs.Times.{Writes};
+
+    ghost Value = { Writes };
+
+    ghost view = { λ s. record { failures = s.failures } };
+}
+
+impl<'a, C: Clock> TimedSink<'a, C> {
+    /// No write has failed.
+    pub fn new(stream: &'a TcpStream, timer: &'a Timer<'a, C>) -> Self
+        ensures { result ≡ Spec.no_writes }
+    {
+        TimedSink {
+            stream,
+            timer,
+            failures: 0,
+            unsent: 0,
+            until: None,
+        }
+    }
+
+    // Writes once.
+    fn write_once(&self, bytes: &[u8]) -> io::Result<usize>
+        ensures { WritesAtMost result bytes.now }
+    {
+        let Some(left) = self.timer.left_until(self.until) else {
+            return Err(no_time());
+        };
+        self.stream.set_write_timeout(Some(left))?;
+        let mut stream = self.stream;
+        stream.write(bytes)
+    }
+
+    // Writes, and again where a signal came.
+    fn write_in_time(&self, bytes: &[u8]) -> io::Result<usize>
+        ensures { WritesAtMost result bytes.now }
+    {
+        for _ in 0..u32::MAX {
+            match self.write_once(bytes) {
+                Err(error) if error.kind() == ErrorKind::Interrupted => {}
+                outcome => return outcome,
+            }
+        }
+        Err(no_time())
+    }
+}
+
+impl<'a, C: Clock> Sink for TimedSink<'a, C> {
+    ghost takes = { Spec.takes };
+
+    ghost failures = { λ sink. sink.failures };
+
+    fn write(&mut self, bytes: &[u8]) -> Result<usize, DeviceFailed> {
+        // What didn't go out of a text comes again.
+        if self.unsent == 0 || self.unsent != bytes.len() {
+            self.until = self.timer.end();
+        }
+        match self.write_in_time(bytes) {
+            Ok(taken) => {
+                self.unsent = bytes.len().saturating_sub(taken);
+                Ok(taken)
+            }
+            Err(_) => {
+                self.failures = self.failures.saturating_add(1);
+                Err(DeviceFailed)
+            }
+        }
+    }
+}

@@ -1,0 +1,117 @@
+ghost use Rattle.std.specs.Io.{ReadsAtMost};
+ghost use Rattle.std.specs.Prelude.{◌≡◌, Some, Ok, Err, IfOk, IfErr};
+ghost use Rattle.std_io.specs.IoError.{error_kind};
+ghost use Rattle.ws_code.specs.Device.{one_more};
+ghost use Rattle.ws_network.specs.Times as Spec;
+
+use crate::timer::{Timer, no_time};
+use std::io;
+use std::io::{ErrorKind, Read};
+use std::marker::Model;
+use std::net::TcpStream;
+use std::time::Clock;
+use ws_code::{DeviceFailed, Source};
+
+/// Reads from a connection for as long as the wait lasts.
+#[derive(Drop)]
+pub struct TimedSource<'a, C> {
+    stream: &'a TcpStream,
+    timer: &'a Timer<'a, C>,
+    failures: u64,
+    // Of what kind the error of the last read that failed was.
+    failure: Option<ErrorKind>,
+}
+
+impl<'a, C> Model for TimedSource<'a, C> {
+    ghost use Rattle.ws_network.specs.Times.{Reads};
+
+    ghost Value = { Reads };
+
+    ghost view = { λ s. record { failures = s.failures; failure = s.failure } };
+}
+
+impl<'a, C: Clock> TimedSource<'a, C> {
+    /// No read has failed.
+    pub fn new(stream: &'a TcpStream, timer: &'a Timer<'a, C>) -> Self
+        ensures { result ≡ Spec.no_reads }
+    {
+        TimedSource {
+            stream,
+            timer,
+            failures: 0,
+            failure: None,
+        }
+    }
+
+    /// Whether the last read that failed did so for want of time.
+    pub fn is_late(&self) -> bool
+        ensures { result ≡ Spec.was_late self.now }
+    {
+        match self.failure {
+            Some(kind) => is_want_of_time(kind),
+            None => false,
+        }
+    }
+
+    // Reads once.
+    fn read_once(&self, into: &mut [u8]) -> io::Result<usize>
+        ensures { ReadsAtMost result into.new }
+    {
+        let Some(left) = self.timer.left() else {
+            return Err(no_time());
+        };
+        self.stream.set_read_timeout(Some(left))?;
+        let mut stream = self.stream;
+        stream.read(into)
+    }
+
+    // Reads, and again where a signal came.
+    fn read_in_time(&self, into: &mut [u8]) -> io::Result<usize>
+        ensures { ReadsAtMost result into.new }
+    {
+        for _ in 0..u32::MAX {
+            match self.read_once(into) {
+                Err(error) if error.kind() == ErrorKind::Interrupted => {}
+                outcome => return outcome,
+            }
+        }
+        Err(no_time())
+    }
+
+    // Keeps why a read failed.
+    fn note(&mut self, outcome: io::Result<usize>) -> Result<usize, DeviceFailed>
+        ensures ok { IfOk outcome (λ given. (result ≡ Ok given) × (self.new ≡ self.old)) }
+        ensures err { IfErr outcome (λ error. (result ≡ Err DeviceFailed)
+            × (self.new ≡ record {
+              failures = one_more self.old.failures;
+              failure = Some (error_kind error);
+            })) }
+    {
+        match outcome {
+            Ok(given) => Ok(given),
+            Err(error) => {
+                self.failure = Some(error.kind());
+                self.failures = self.failures.saturating_add(1);
+                Err(DeviceFailed)
+            }
+        }
+    }
+}
+
+impl<'a, C: Clock> Source for TimedSource<'a, C> {
+    ghost gives = { Spec.gives };
+
+    ghost failures = { λ source. source.failures };
+
+    fn read(&mut self, into: &mut [u8]) -> Result<usize, DeviceFailed> {
+        let outcome = self.read_in_time(into);
+        self.note(outcome)
+    }
+}
+
+// Whether an error of this kind says that a call took longer than its time.
+fn is_want_of_time(kind: ErrorKind) -> bool
+    ensures { result ≡ Spec.is_want_of_time kind }
+{
+    matches!(kind, ErrorKind::WouldBlock | ErrorKind::TimedOut)
+}

@@ -1,0 +1,34 @@
+-- What a command comes to whose standard streams may have been closed when the program began.
+
+use Rattle.std.specs.Prelude.{◌≡◌, ℕ, List, Bool, true, false, Option, None, Some, ◌⊎◌, ◌&&◌, not, if◌then◌else◌}
+use Rattle.ws_code.specs.Device.{MayTake}
+use Rattle.ws_words.specs.declared.command_line.Asked.{Asked}
+use Rattle.ws_words.specs.declared.command_line.Asked.TheVariants.{Check, Show, Play, Make}
+use Rattle.ws_program.specs.Answering.{HasAnswered, IsAnswerFault}
+use Rattle.ws_program.specs.declared.fault.RunFault.{RunFault}
+use Rattle.ws_program.specs.declared.fault.RunFault.TheVariants.{Read, Write}
+use Rattle.ws_program.specs.declared.open_streams.OpenStreams.{OpenStreams}
+
+-- what a command lacks: standard input, where it reads that; or standard output
+abbrev pub missing : OpenStreams → Bool → Option RunFault
+missing open_ reads_input = if reads_input && not open_.input then Some Read
+    else (if open_.output then None else Some Write)
+
+-- what is asked for, without a connection
+abbrev pub in_one_place : Asked → Asked
+in_one_place (Check file cut answers) = Check file cut answers
+in_one_place (Show file answers paint) = Show file answers paint
+in_one_place (Play file screen tcp paint) = Play file screen false paint
+in_one_place (Make file answers) = Make file answers
+
+module _ {S : Type 0} (takes : MayTake S) (failures : S → ℕ) (from to : S) (has_output : Bool) where
+  -- the program did what it was asked for, and had an output for it
+  abbrev pub HasAnsweredOpenly : Asked → List ℕ → Bool → Type 0
+  HasAnsweredOpenly asked input accepted = (has_output ≡ true) × HasAnswered takes failures from to asked input accepted
+
+  -- Why it didn't. Where standard output is closed it opens no connection, and what is found in the input and in
+  -- running comes first.
+  abbrev pub IsOpenFault : Asked → List ℕ → RunFault → Type 0
+  IsOpenFault asked input fault = ((has_output ≡ true) × IsAnswerFault takes failures from to asked input fault)
+      ⊎ ((has_output ≡ false) × (IsAnswerFault takes failures from to (in_one_place asked) input fault
+      ⊎ ((fault ≡ Write) × ((accepted : Bool) × HasAnswered takes failures from to (in_one_place asked) input accepted))))

@@ -1,0 +1,57 @@
+-- The words of a command line that name a host and a port: `HOST`, `HOST:PORT`, `[V6]`, `[V6]:PORT` and a bare `V6`, an
+-- address of IPv6 (RFC 4291, 2.2; its brackets RFC 3986, 3.2.2). The bytes 91 and 93 are the brackets, 58 is the colon.
+
+use Rattle.std.specs.Prelude.{◌≡◌, ◌≢◌, ℕ, ◌<◌, ◌^◌, List, [], ◌∷◌, ◌++◌, Option, None, Some, length, slice_index}
+use Rattle.std.specs.Net.Grammar.{IsIpv6Text, IsNumber}
+use Rattle.std.specs.declared.net.ipv6_addr.Ipv6Addr.{Ipv6Addr}
+
+-- an address of IPv6
+abbrev pub IsV6 : List ℕ → Type 0
+IsV6 text = (address : Ipv6Addr) × IsIpv6Text text address
+
+-- a port in decimal digits, at most 65,535
+abbrev pub IsPort : List ℕ → ℕ → Type 0
+IsPort digits port = IsNumber 10 digits port × (port < 2 ^ 16)
+
+-- no byte of a text is this one
+abbrev pub HasNo : ℕ → List ℕ → Type 0
+HasNo byte text = (i : ℕ) → i < length text → slice_index text i ≢ byte
+
+-- what stands behind a host: nothing, or a colon and a port's text
+abbrev pub IsBehind : List ℕ → Option (List ℕ) → Type 0
+IsBehind behind None = behind ≡ []
+IsBehind behind (Some port) = behind ≡ 58 ∷ port
+
+-- an address of IPv6 in brackets, and what stands behind it
+pub record IsBracketed (text host behind : List ℕ) : Type 0 where
+  pub spelled : text ≡ 91 ∷ (host ++ 93 ∷ behind)
+  pub address : IsV6 host
+  pub inside : HasNo 93 host
+
+-- a name or an address of IPv4, which has no colon and doesn't begin with a bracket, and what stands behind it
+pub record IsNamed (text host behind : List ℕ) : Type 0 where
+  pub spelled : text ≡ host ++ behind
+  pub some : host ≢ []
+  pub whole : HasNo 58 host
+  pub unbracketed : (more : List ℕ) → text ≢ 91 ∷ more
+
+-- the host that a text names, and its port's text where there is one: a text that is an address of IPv6 names this
+pub data IsHostText (text host : List ℕ) (port : Option (List ℕ)) : Type 0 where
+  bare : IsV6 text → host ≡ text → port ≡ None → IsHostText text host port
+  bracketed : (IsV6 text → ⊥) → (behind : List ℕ) → IsBracketed text host behind → IsBehind behind port
+      → IsHostText text host port
+  named : (IsV6 text → ⊥) → (behind : List ℕ) → IsNamed text host behind → IsBehind behind port
+      → IsHostText text host port
+
+-- a port to connect to: that of Telnet where none stands there (RFC 854)
+abbrev pub IsPortOr : Option (List ℕ) → ℕ → Type 0
+IsPortOr None port = port ≡ 23
+IsPortOr (Some digits) port = IsPort digits port
+
+-- a host, and the port to connect to there
+abbrev pub IsHostPort : List ℕ → List ℕ → ℕ → Type 0
+IsHostPort text host port = (digits : Option (List ℕ)) × IsHostText text host digits × IsPortOr digits port
+
+-- a host and a port to listen at, which has to stand there
+abbrev pub IsListening : List ℕ → List ℕ → ℕ → Type 0
+IsListening text host port = (digits : List ℕ) × IsHostText text host (Some digits) × IsPort digits port
