@@ -61,7 +61,8 @@
  *     ribbon_host_free(&host);
  *
  * Behind each function named here stands one that is proved to do what is said of it, for arguments that are what C
- * asks for. What is C alone is small: it turns a null pointer into RIBBON_NULL, and gives texts.
+ * asks for. What is C alone is small: it turns a null pointer into RIBBON_NULL, compares rows for
+ * ribbon_station_changed, puts texts of code page 037 together character by character, and gives sentences and sizes.
  *
  * Outputs. Every call sets every structure that it is given to, in every outcome: where nothing is told, all of it is
  * zero. A buffer is written at its front alone, so many bytes as the structure says; the rest stays as it was. A call
