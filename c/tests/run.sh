@@ -138,6 +138,9 @@ if has pkg-config "programs on what was installed"; then
     if has python3 "a client in Python on what was installed"; then
         try_counted "a client in Python on what was installed" python3 "$tests/client.py" \
             "$stage/usr/lib/libribbonscarp.so" "$top/crates/ws_code/src/reason.rt"
+        try "the Python package on what was installed" env -u RIBBONSCARP_LIBRARY LD_LIBRARY_PATH="$stage/usr/lib" \
+            PYTHONPATH="$top/python" PYTHONDONTWRITEBYTECODE=1 \
+            python3 -m unittest discover -q -s "$top/python/tests" -p test_host.py
     fi
 fi
 

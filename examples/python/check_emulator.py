@@ -1,13 +1,14 @@
 #!/usr/bin/env python3
-"""Tests an emulator: `check_emulator.py COMMAND..` starts it, with {port} in a word of COMMAND as the port of a host that
-this program plays. The emulator is to type BOB into the field behind Name and to press Enter, each time that it is asked.
+"""Tests an emulator: `check_emulator.py COMMAND..` plays a host, and starts COMMAND with the port in place of {port}.
+
+The emulator is to type BOB into the field behind Name, and to press Enter.
 """
 import subprocess
 import sys
 
 from ribbonscarp import EventKind, HostSession, Key, RibbonscarpError, listen
 
-# Clear Unit; Write to Display that unlocks the keyboard: at 6 44 the text, at 6 53 a field of ten cells; Read MDT Fields.
+# Clear Unit; Write to Display that unlocks the keyboard: a text at 6 44, a field of ten cells at 6 53; Read MDT Fields.
 FORM = (
     bytes.fromhex("0440 04110008 11062C")
     + "Name  . .".encode("cp037")

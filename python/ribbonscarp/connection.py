@@ -14,6 +14,26 @@ FAREWELL = 1.0
 """Seconds for what the other side still sends when a session is closed."""
 
 
+def open_line(host: str, port: int, wait: float) -> socket.socket:
+    """A connection to a host within so many seconds, which its addresses share: each gets its part of what is left.
+
+    `OSError` of the last address where none takes it. Looking a name up has no limit.
+    """
+    addresses = socket.getaddrinfo(host, port, type=socket.SOCK_STREAM)
+    end = time.monotonic() + wait
+    fault = OSError(f"no address of {host}")
+    for count, (family, kind, protocol, _, address) in zip(range(len(addresses), 0, -1), addresses):
+        line = socket.socket(family, kind, protocol)
+        line.settimeout(max((end - time.monotonic()) / count, 0.001))
+        try:
+            line.connect(address)
+            return line
+        except OSError as cause:
+            line.close()
+            fault = cause
+    raise fault
+
+
 class Connection:
     """A TCP connection. `wait` is the time of a write, in seconds."""
 

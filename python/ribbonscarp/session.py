@@ -6,20 +6,21 @@ import time
 from collections.abc import Callable
 
 from .codes import Key
-from .connection import Connection
+from .connection import Connection, open_line
 from .errors import ConnectionEnded, Refused, WaitedTooLong
 from .screen import Field, Screen, Which
 from .station import Station
 
 
 def connect(host: str, port: int = 23, *, terminal: str = "IBM-3179-2", wait: float = 30.0) -> Session:
-    """A session at a host. `wait` is how many seconds connecting may take, and then each wait and each write.
+    """A session at a host. `wait` is how many seconds connecting may take, over all addresses of a name together, and
+    then each wait and each write. Looking the name up has no limit.
 
     `OSError` where the host can't be reached in time; `ValueError` where there is no such terminal type.
     """
     station = Station(terminal)
     try:
-        line = socket.create_connection((host, port), timeout=wait)
+        line = open_line(host, port, wait)
     except BaseException:
         station.close()
         raise

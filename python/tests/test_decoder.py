@@ -3,7 +3,19 @@ from __future__ import annotations
 
 import unittest
 
-from ribbonscarp import Command, Decoder, Element, Header, Opcode, Reason, RecordEnd, Refused, Status, StatusError, Truncated
+from ribbonscarp import (
+    Command,
+    Decoder,
+    Element,
+    Header,
+    Opcode,
+    Reason,
+    RecordEnd,
+    Refused,
+    Status,
+    StatusError,
+    Truncated,
+)
 from support import OPENING, record
 
 STREAM = bytes.fromhex("FFF1") + record(bytes.fromhex("0440 04110008 C1"))

@@ -151,7 +151,8 @@ class FieldTest(unittest.TestCase):
         body += at(20, 2, "Selection or command") + at(21, 2, "===>") + field(21, 8, 40)
         body += at(10, 2, "From account") + field(10, 20, 4)
         screen = screen_of(body)
-        self.assertEqual([found.label for found in screen.fields], ["From", "to", "From account", "Selection or command"])
+        labels = [found.label for found in screen.fields]
+        self.assertEqual(labels, ["From", "to", "From account", "Selection or command"])
         rows: list[tuple[int | str | tuple[int, int], int]] = [
             ("From", 1),
             ("from . . :", 1),

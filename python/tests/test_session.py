@@ -1,9 +1,11 @@
 """A station at a live host: `t5250 serve`, and a socket that is slow, late, mad or gone."""
 from __future__ import annotations
 
+import contextlib
 import socket
 import time
 import unittest
+import unittest.mock
 from collections.abc import Callable
 
 from ribbonscarp import ConnectionEnded, Key, KeyRefused, Reason, Refused, Session, WaitedTooLong, connect
@@ -193,6 +195,23 @@ class SocketTest(unittest.TestCase):
             port = server.getsockname()[1]
         with self.assertRaises(ConnectionRefusedError):
             connect("127.0.0.1", port, wait=5)
+
+    def test_addresses_share_the_time(self) -> None:
+        """One that swallows leaves time for the next."""
+        with socket.socket() as full, contextlib.ExitStack() as waiting, Serve("await\n") as serve:
+            full.bind(("127.0.0.1", 0))
+            full.listen(0)
+            for _ in range(3):
+                line = waiting.enter_context(socket.socket())
+                line.setblocking(False)
+                line.connect_ex(full.getsockname())
+            ports = (full.getsockname()[1], serve.port)
+            addresses = [(socket.AF_INET, socket.SOCK_STREAM, 6, "", ("127.0.0.1", port)) for port in ports]
+            with unittest.mock.patch("socket.getaddrinfo", return_value=addresses):
+                begun = time.monotonic()
+                with connect("host", wait=1) as session:
+                    self.assertLess(time.monotonic() - begun, 0.9)
+                    session.wait_for(lambda screen: screen.state.is_ready)
 
     def test_closed_twice(self) -> None:
         session = self.begin(lambda line: None)

@@ -118,7 +118,8 @@ class StationTest(unittest.TestCase):
         station.close()
         station.close()
         calls: list[Callable[[], object]] = [lambda: station.push(b"A"), lambda: station.press(Key.TAB)]
-        for call in [*calls, lambda: station.screen]:
+        calls.append(lambda: station.screen)
+        for call in calls:
             with self.assertRaises(StatusError) as caught:
                 call()
             self.assertEqual(caught.exception.status, Status.NOTHING_HELD)
