@@ -1,6 +1,6 @@
 #!/usr/bin/env bash
-# All tests of the C interface and of the terminal: `make check` calls this with BUILD, LIB, GLUE, T5250, CC, CXX and MAKE.
-# The last line is 'N passed, N failed'; what the machine lacks is told by lines that begin with 'left out:'.
+# All tests of the C interface and of the terminal: `make check` calls this with BUILD, LIB, GLUE, T5250, CC, CXX and
+# MAKE. The last line is 'N passed, N failed'; what the machine lacks is told by lines that begin with 'left out:'.
 set -uo pipefail
 tests=$(cd "$(dirname "$0")" && pwd) || exit 2
 here=$(dirname "$tests")
@@ -117,6 +117,9 @@ fi
 
 # What is installed serves a program of someone else, by pkg-config.
 stage=$folder/stage
+prints() {
+    LD_LIBRARY_PATH=$stage/usr/lib "$2" | diff - "$1"
+}
 made_by=(BUILD="$BUILD" LIB="$LIB" GLUE="$GLUE" T5250="$T5250")
 try "make install" "$MAKE" -C "$here" install PREFIX=/usr DESTDIR="$stage" "${made_by[@]}"
 try "the program that was installed" "$stage/usr/bin/t5250" check "$top/examples/inquiry.hex"
@@ -127,10 +130,16 @@ if has pkg-config "programs on what was installed"; then
     flags+=(-I "$stage/usr/include" -L "$stage/usr/lib")
     try "a C program on what was installed" "$CC" "${warnings[@]}" -o "$folder/theirs" "$tests/installed.c" "${flags[@]}"
     try_counted "it runs" env LD_LIBRARY_PATH="$stage/usr/lib" "$folder/theirs"
+    try "a scraper on what was installed" "$CC" "${warnings[@]}" -o "$folder/scrape" "$here/examples/scrape.c" \
+        "${flags[@]}"
+    try "it scrapes" env LD_LIBRARY_PATH="$stage/usr/lib" "$tests/scrape.sh" "$folder/scrape" "$stage/usr/bin/t5250"
     if has "$CXX" "a C++ program on what was installed"; then
         try "a C++ program on what was installed" "$CXX" -std=c++11 -Wall -Werror -x c++ -o "$folder/theirs" \
             "$tests/installed.c" -x none "${flags[@]}"
         try_counted "it runs" env LD_LIBRARY_PATH="$stage/usr/lib" "$folder/theirs"
+        try "a C++ class on what was installed" "$CXX" -std=c++11 -Wall -Wextra -Wpedantic -Werror -o "$folder/theirs" \
+            "$here/examples/station.cpp" "${flags[@]}"
+        try "it prints station.out" prints "$here/examples/station.out" "$folder/theirs"
     fi
     try "the version of pkg-config" test "$(pkg-config --modversion ribbonscarp)" = \
         "$(sed -n 's/^#define RIBBON_VERSION "\(.*\)"/\1/p' "$here/ribbonscarp.h")"
@@ -146,8 +155,8 @@ fi
 
 # Nothing of it is left then but folders.
 uninstalls() {
-    "$MAKE" -C "$here" uninstall PREFIX=/usr DESTDIR="$stage" "${made_by[@]}" && find "$stage" ! -type d >"$folder/left" \
-        && [ ! -s "$folder/left" ]
+    "$MAKE" -C "$here" uninstall PREFIX=/usr DESTDIR="$stage" "${made_by[@]}" \
+        && find "$stage" ! -type d >"$folder/left" && [ ! -s "$folder/left" ]
 }
 try "make uninstall" uninstalls
 

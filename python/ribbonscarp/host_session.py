@@ -65,7 +65,7 @@ class HostSession:
         self.terminal: str | None = None
         self._connection = Connection(line, wait)
         self._events: deque[Event] = deque()
-        self._connection.write(self.host.opening)
+        self._connection.answer(self.host.opening)
 
     def send(self, body: bytes, opcode: Opcode = Opcode.PUT_GET) -> None:
         """Sends a record of a body, the bytes of its commands and orders. What `Host.send` refuses isn't sent."""

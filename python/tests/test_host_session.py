@@ -1,6 +1,7 @@
 """A live host for stations: `t5250 connect`, and sessions of this package."""
 from __future__ import annotations
 
+import functools
 import socket
 import time
 import unittest
@@ -76,16 +77,24 @@ class EachOtherTest(unittest.TestCase):
         self.assertEqual(told, [" Bye"])
 
     def test_two_stations(self) -> None:
-        """One after another at one listener, also at IPv6."""
-        address = "::1" if socket.has_ipv6 else "127.0.0.1"
-        with listen(address, wait=10) as listener:
-            port = listener.port
-            for _ in range(2):
-                with connect(address, port, wait=10) as session:
+        """One after another at one listener, also at an address of IPv6."""
+
+        def work(address: str, port: int) -> None:
+            with connect(address, port, terminal="IBM-5292-2", wait=10) as session:
+                session.wait_for(lambda screen: screen.state.is_ready)
+
+        for address in ("127.0.0.1", "::1"):
+            try:
+                listener = listen(address, wait=10)
+            except OSError:
+                self.assertEqual(address, "::1")  # The machine has none.
+                continue
+            with listener:
+                for _ in range(2):
+                    beside = Beside(functools.partial(work, address, listener.port))
                     with listener.accept() as host:
-                        host._take(0)
-                        session.wait_for(lambda screen: True)
-                        self.assertIsNone(host.terminal)
+                        self.assertEqual(host.wait_ready(), "IBM-5292-2")
+                    beside.finish()
 
     def test_waits(self) -> None:
         with listen(wait=10) as listener:

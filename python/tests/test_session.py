@@ -78,8 +78,8 @@ class SocketTest(unittest.TestCase):
 
         self.host = Beside(accept)
         session = connect("127.0.0.1", server.getsockname()[1], wait=wait)
-        self.addCleanup(session.close)
         self.addCleanup(self.host.finish)
+        self.addCleanup(session.close)
         return session
 
     def test_late(self) -> None:
