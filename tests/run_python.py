@@ -7,6 +7,7 @@ the status is 1 where one failed.
 """
 import os
 import pathlib
+import shutil
 import subprocess
 import sys
 import unittest
@@ -27,16 +28,13 @@ def run_tests(is_loud):
 
 
 def check_types():
-    """Whether mypy finds nothing in the package and in its programs; None where it isn't there."""
-    try:
-        command = [sys.executable, "-m", "mypy", "--strict", "--no-error-summary", "--cache-dir", os.devnull]
-        if subprocess.run(command + ["--version"], capture_output=True, check=False).returncode != 0:
-            return None
-        programs = sorted(map(str, (TOP / "examples/python").glob("*.py")))
-        done = subprocess.run(command + ["ribbonscarp", *programs], cwd=PACKAGE, check=False)
-        return done.returncode == 0
-    except FileNotFoundError:
+    """Whether mypy finds nothing in the package, its tests and its programs; None where it isn't there."""
+    if shutil.which("mypy") is None:
         return None
+    files = sorted([*PACKAGE.glob("tests/*.py"), *TOP.glob("examples/python/*.py")])
+    command = ["mypy", "--strict", "--no-error-summary", "--cache-dir", os.devnull, "ribbonscarp", *map(str, files)]
+    environment = dict(os.environ, MYPYPATH=f"{PACKAGE}:{PACKAGE / 'tests'}")
+    return subprocess.run(command, cwd=PACKAGE, env=environment, check=False).returncode == 0
 
 
 def main():

@@ -67,6 +67,10 @@ class Session:
         """The fields of the screen."""
         return self.screen.fields
 
+    def field(self, which: Which) -> Field:
+        """A field of the screen, by its number, the label before it, or a cell of it, as `Screen.field` says."""
+        return self.screen.field(which)
+
     @property
     def has_ended(self) -> bool:
         """Whether the host has closed the connection, as far as is known."""
