@@ -374,11 +374,12 @@ typedef struct {
     bool is_blinking;       /* the cursor */
 } ribbon_state;
 
-/* A cell of a screen. */
+/* A cell of a screen. It holds a character of code page 037 (40 to FE), an attribute (20 to 3F), nothing (00), Dup (1C), or
+ * another byte that a host has sent and that is no order code (01 to 04, 10 to 15 and 1D), which is shown as a full stop. */
 typedef struct {
     uint32_t character; /* what it shows, as a Unicode scalar value */
     uint16_t field;     /* index of the field that holds it, or RIBBON_NO_FIELD */
-    uint8_t byte;       /* what it holds, as of ribbon_station_cell */
+    uint8_t byte;       /* what it holds */
     uint8_t attribute;  /* what is in force there, 20 to 3F; 20 at an attribute's own cell */
 } ribbon_cell;
 
@@ -527,11 +528,8 @@ RIBBON_API ribbon_status ribbon_station_key(ribbon_station *station, uint32_t ki
  * handle holds no station. */
 RIBBON_API ribbon_status ribbon_station_state(ribbon_station *station, ribbon_state *state);
 
-/* Tells the byte of a cell: 40 to FE, a character of code page 037; 20 to 3F, an attribute; 00, nothing; 1C, Dup. It may
- * be any other byte too that a host has sent and that is no order code (01 to 04, 10 to 15 and 1D).
- *
- * Rows count from 1 to 24, columns from 1 to 80. RIBBON_BAD_ARGUMENT at another cell, RIBBON_NOTHING_HELD where the
- * handle holds no station. */
+/* Tells the byte that a cell holds; ribbon_cell says which there are. Rows count from 1 to 24, columns from 1 to 80.
+ * RIBBON_BAD_ARGUMENT at another cell, RIBBON_NOTHING_HELD where the handle holds no station. */
 RIBBON_API ribbon_status ribbon_station_cell(ribbon_station *station, uint8_t row, uint8_t column, uint8_t *byte);
 
 /* Tells the cells of rows `first_row` to `last_row`, 80 of each, in screen order: `room` is how many `cells` has.

@@ -184,8 +184,7 @@ class Screen:
     @cached_property
     def rows(self) -> tuple[str, ...]:
         """The 24 rows as text, of 80 characters each; row 1 comes first."""
-        shown = "".join(chr(character) for character, _, _, _ in self._told())
-        return tuple(shown[at : at + COLUMNS] for at in range(0, len(shown), COLUMNS))
+        return tuple(self._shown[at : at + COLUMNS] for at in range(0, len(self._shown), COLUMNS))
 
     @cached_property
     def cells(self) -> tuple[tuple[Cell, ...], ...]:
@@ -217,7 +216,7 @@ class Screen:
         _within(row, ROWS, "row")
         _within(column, COLUMNS, "column")
         place = (row - 1) * COLUMNS + column - 1
-        return "".join(self.rows)[place : place + length]
+        return self._shown[place : place + length]
 
     def find(self, text: str) -> tuple[int, int] | None:
         """Row and column where a row shows the text first; `None` where none does."""
@@ -256,6 +255,18 @@ class Screen:
             raise FieldNotFound(f"{many} {which!r}; there are: {known or 'none'}")
         return found[0]
 
+    @cached_property
+    def _shown(self) -> str:
+        """What all cells show, in screen order."""
+        return "".join(chr(character) for character, _, _, _ in self._told())
+
+    @cached_property
+    def _rows_with_fields(self) -> frozenset[int]:
+        rows: set[int] = set()
+        for row, column, length, _ in self._fields:
+            rows.update(range(row, row + (column - 1 + length - 1) // COLUMNS + 1))
+        return frozenset(rows)
+
     def _told(self) -> Iterator[tuple[Any, ...]]:
         """Of each cell its character, field, byte and attribute, as `ribbon_cell` has them."""
         return struct.iter_unpack("=IHBB", self._cells)
@@ -272,7 +283,7 @@ class Screen:
 
     def _make_field(self, number: int, row: int, column: int, length: int, format: int) -> Field:
         place = (row - 1) * COLUMNS + column - 1
-        text = "".join(self.rows)[place : place + length].rstrip(" ")
+        text = self._shown[place : place + length].rstrip(" ")
         content = self._cells[6 + 8 * place : 8 * (place + length) : 8]
         label = _label(self._before(number, row, column)) or _label(self._above(row))
         return Field(number, row, column, length, format, content, text, label)
@@ -288,12 +299,7 @@ class Screen:
 
     def _above(self, row: int) -> str:
         """What the row above shows, where no field stands in it."""
-        first, behind = (row - 2) * COLUMNS, (row - 1) * COLUMNS
-        for other_row, other_column, length, _ in self._fields:
-            start = (other_row - 1) * COLUMNS + other_column - 1
-            if start < behind and start + length > first:
-                return ""
-        return self.rows[row - 2] if row > 1 else ""
+        return self.rows[row - 2] if row > 1 and row - 1 not in self._rows_with_fields else ""
 
 
 def _label(text: str) -> str:
