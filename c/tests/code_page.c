@@ -78,6 +78,9 @@ static void test_to(void)
         CHECK(put[0] == 0xc1 && put[1] == 0x51);
     }
 
+    /* No byte behind the text is looked at. */
+    CHECK(ribbon_text_to_037("\xc3\xa9", 1, bytes, sizeof bytes, &told) == RIBBON_BAD_ARGUMENT && is_told(&told, 0, 0));
+
     FILL(told);
     CHECK(ribbon_text_to_037(NULL, 1, bytes, sizeof bytes, &told) == RIBBON_NULL && is_told(&told, 0, 0));
     FILL(told);
