@@ -40,7 +40,8 @@ def run(station: HostSession) -> None:
 
 def main() -> int:
     with listen(wait=10) as listener:
-        emulator = subprocess.Popen([word.replace("{port}", str(listener.port)) for word in sys.argv[1:]])
+        command = [word.replace("{port}", str(listener.port)) for word in sys.argv[1:]]
+        emulator = subprocess.Popen(command, stdout=subprocess.DEVNULL)
         try:
             with listener.accept() as station:
                 run(station)

@@ -3,12 +3,13 @@ from __future__ import annotations
 
 import os
 import re
+import socket
 import subprocess
 import sys
 import tempfile
 import unittest
 
-from support import EXAMPLES, PROGRAM, TOP, Serve
+from support import EXAMPLES, PROGRAM, TOP, Beside, Serve
 
 PROGRAMS = EXAMPLES / "python"
 INQUIRY = (EXAMPLES / "inquiry.serve").read_text(encoding="utf-8")
@@ -57,10 +58,13 @@ class ExamplesTest(unittest.TestCase):
         )
 
     def test_scrape_fails(self) -> None:
-        with Serve("await\n") as serve:
-            done = run("scrape.py", "127.0.0.1", str(serve.port), "QUSER", "4711")
+        """A host that closes at once."""
+        with socket.create_server(("127.0.0.1", 0)) as server:
+            host = Beside(lambda: server.accept()[0].close())
+            done = run("scrape.py", "127.0.0.1", str(server.getsockname()[1]), "QUSER", "4711")
+            host.finish()
         self.assertEqual((done.stdout, done.returncode), ("", 1))
-        self.assertIn("the text 'Sign On' hasn't come", done.stderr)
+        self.assertIn("the connection has ended: the text 'Sign On' hasn't come", done.stderr)
 
     def emulate(self, name: str) -> subprocess.CompletedProcess[str]:
         """The emulator is the program, with a script."""
