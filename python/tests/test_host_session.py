@@ -104,7 +104,7 @@ class EachOtherTest(unittest.TestCase):
             with socket.create_connection(("127.0.0.1", listener.port)) as line, listener.accept() as host:
                 with self.assertRaisesRegex(WaitedTooLong, "a station that is ready hasn't come within 0.1 seconds"):
                     host.wait_ready(wait=0.1)
-                self.assertLess(time.monotonic() - begun, 1)
+                self.assertLess(time.monotonic() - begun, 5)
                 # A terminal that isn't supported.
                 line.sendall(bytes.fromhex("FFFB18 FFFA1800") + b"IBM-3477-FC" + bytes.fromhex("FFF0"))
                 with self.assertRaises(Refused) as caught:

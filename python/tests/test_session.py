@@ -3,6 +3,7 @@ from __future__ import annotations
 
 import contextlib
 import socket
+import threading
 import time
 import unittest
 import unittest.mock
@@ -14,10 +15,13 @@ from support import EXAMPLES, FORM, OPENING, PAST_END, Beside, Serve, record
 INQUIRY = (EXAMPLES / "inquiry.serve").read_text(encoding="utf-8")
 
 
-def send_form(line: socket.socket) -> None:
-    """A form, and then nothing for a while."""
-    line.sendall(record(FORM))
-    time.sleep(0.4)
+def read_to_end(line: socket.socket) -> bytes:
+    """What a station sends until it closes."""
+    line.settimeout(20)
+    got = b""
+    while data := line.recv(4096):
+        got += data
+    return got
 
 
 class ServeTest(unittest.TestCase):
@@ -82,20 +86,34 @@ class SocketTest(unittest.TestCase):
         self.addCleanup(session.close)
         return session
 
+    def begin_with_form(self) -> Session:
+        """A session at a host that has sent a form, and then sends nothing."""
+        has_sent = threading.Event()
+
+        def play(line: socket.socket) -> None:
+            line.sendall(record(FORM))
+            has_sent.set()
+            read_to_end(line)
+
+        session = self.begin(play)
+        self.assertTrue(has_sent.wait(20))
+        return session
+
     def test_late(self) -> None:
         """A wait that is over loses nothing, and the next one goes on from there."""
 
+        goes_on = threading.Event()
+
         def play(line: socket.socket) -> None:
             line.sendall(record(FORM)[:-1])
-            time.sleep(0.5)
+            goes_on.wait(20)
             line.sendall(record(FORM)[-1:])
-            line.recv(4096)
+            read_to_end(line)
 
         session = self.begin(play)
-        begun = time.monotonic()
         with self.assertRaises(WaitedTooLong) as caught:
             session.wait_unlocked(wait=0.1)
-        self.assertLess(time.monotonic() - begun, 0.4)
+        goes_on.set()
         self.assertEqual(str(caught.exception).splitlines()[0],
                          "an unlocked keyboard hasn't come within 0.1 seconds; the screen shows")
         assert caught.exception.screen is not None
@@ -107,7 +125,7 @@ class SocketTest(unittest.TestCase):
         """Bytes that trickle don't lengthen a wait."""
 
         def play(line: socket.socket) -> None:
-            end = time.monotonic() + 1.0
+            end = time.monotonic() + 3.0
             try:
                 while time.monotonic() < end:
                     line.sendall(b"\xff\xf1")
@@ -117,21 +135,19 @@ class SocketTest(unittest.TestCase):
 
         session = self.begin(play)
         begun = time.monotonic()
-        with self.assertRaises(WaitedTooLong):
+        with self.assertRaises(WaitedTooLong):  # and not that the host has closed
             session.wait_text("Hi", wait=0.3)
-        self.assertLess(abs(time.monotonic() - begun - 0.3), 0.2)
+        self.assertGreaterEqual(time.monotonic() - begun, 0.3)
 
     def test_no_time(self) -> None:
         """With no time at all what has come counts."""
-        session = self.begin(send_form)
-        time.sleep(0.2)
+        session = self.begin_with_form()
         self.assertEqual(session.wait_unlocked(wait=0).cursor, (6, 53))
         with self.assertRaises(WaitedTooLong):
             session.wait_record(wait=0)
 
     def test_screen_takes_what_has_come(self) -> None:
-        session = self.begin(send_form)
-        time.sleep(0.2)
+        session = self.begin_with_form()
         self.assertEqual(len(session.fields), 1)
         self.assertEqual(session.screen.state.records, 1)
 
@@ -155,9 +171,7 @@ class SocketTest(unittest.TestCase):
 
         def play(line: socket.socket) -> None:
             line.sendall(bad)
-            line.settimeout(5)
-            while data := line.recv(4096):
-                answers.append(data)
+            answers.append(read_to_end(line))
 
         session = self.begin(play)
         with self.assertRaises(Refused) as caught:
@@ -167,7 +181,7 @@ class SocketTest(unittest.TestCase):
         self.assertEqual(len(session.station.screen.fields), 1)
         session.close()
         self.host.finish()
-        self.assertTrue(b"".join(answers).endswith(b"\xff\xfc\x27"))
+        self.assertTrue(answers[0].endswith(b"\xff\xfc\x27"))
 
     def test_urgent(self) -> None:
         """A data mark that comes as urgent data (Telnet Synch, RFC 854) stands where it was sent."""
@@ -176,7 +190,7 @@ class SocketTest(unittest.TestCase):
             line.sendall(b"\xff")
             line.send(b"\xf2", socket.MSG_OOB)
             line.sendall(record(FORM))
-            line.recv(4096)
+            read_to_end(line)
 
         self.assertEqual(self.begin(play).wait_unlocked().cursor, (6, 53))
 
@@ -209,8 +223,8 @@ class SocketTest(unittest.TestCase):
             addresses = [(socket.AF_INET, socket.SOCK_STREAM, 6, "", ("127.0.0.1", port)) for port in ports]
             with unittest.mock.patch("socket.getaddrinfo", return_value=addresses):
                 begun = time.monotonic()
-                with connect("host", wait=1) as session:
-                    self.assertLess(time.monotonic() - begun, 0.9)
+                with connect("host", wait=2) as session:
+                    self.assertLess(time.monotonic() - begun, 1.9)
                     session.wait_for(lambda screen: screen.state.is_ready)
 
     def test_closed_twice(self) -> None:
