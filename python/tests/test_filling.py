@@ -8,9 +8,9 @@ from support import ready_station
 
 
 def form(format: str, length: int, content: bytes = b"") -> bytes:
-    """A write of a field at 6 53 with a content and of one at 8 10, which takes the cursor, and Read MDT Fields."""
+    """A write of a field at 6 53 with a content and of one at 8 10 with X, where the cursor goes; Read MDT Fields."""
     head = bytes.fromhex("0440 04110008 110634 1D" + format + "20") + length.to_bytes(2, "big") + content
-    return head + bytes.fromhex("110809 1D4000200004 13080A 04520000")
+    return head + bytes.fromhex("110809 1D4000200004 E7 13080A 04520000")
 
 
 class FillingTest(unittest.TestCase):
@@ -52,7 +52,7 @@ class FillingTest(unittest.TestCase):
                     field = station.screen.fields[0]
                     self.assertEqual(field.content.hex().upper(), wanted)
                     self.assertEqual(field.is_modified, bool(held or text))
-                    self.assertEqual(station.screen.fields[1].text, "")
+                    self.assertEqual(station.screen.fields[1].text, "X")
 
     def test_too_long(self) -> None:
         """No key is pressed."""

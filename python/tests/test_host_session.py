@@ -1,6 +1,7 @@
 """A live host for stations: `t5250 connect`, and sessions of this package."""
 from __future__ import annotations
 
+import contextlib
 import functools
 import socket
 import time
@@ -110,3 +111,33 @@ class EachOtherTest(unittest.TestCase):
                 with self.assertRaises(Refused) as caught:
                     host.wait_ready()
                 self.assertEqual((caught.exception.reason, caught.exception.place), (Reason.UNSUPPORTED_TERMINAL, 19))
+
+    def test_flood(self) -> None:
+        """Bytes that don't end don't lengthen a wait."""
+
+        def flood(port: int) -> None:
+            with socket.create_connection(("127.0.0.1", port)) as line, contextlib.suppress(OSError):
+                end = time.monotonic() + 3.0
+                while time.monotonic() < end:
+                    line.sendall(b"\xff\xf1" * 1000)
+
+        with listen(wait=10) as listener:
+            beside = Beside(functools.partial(flood, listener.port))
+            with listener.accept() as host:
+                with self.assertRaises(WaitedTooLong):  # and not that the station has closed
+                    host.wait_ready(wait=0.3)
+            beside.finish()
+
+    def test_told_before_a_refusal(self) -> None:
+        """What came before a refused byte is told behind the refusal."""
+        attention = bytes.fromhex("000A12A0000004400000FFEF")
+        with listen(wait=10) as listener:
+            with socket.create_connection(("127.0.0.1", listener.port)) as line, listener.accept() as host:
+                name = bytes.fromhex("FFFA1800") + b"IBM-3179-2" + bytes.fromhex("FFF0")
+                line.sendall(bytes.fromhex("FFFB18") + name + bytes.fromhex("FFFB19FFFD19FFFB00FFFD00") + attention)
+                line.sendall(bytes.fromhex("000A13"))
+                with self.assertRaises(Refused):
+                    while True:
+                        host.wait_answer()
+                self.assertIs(host.wait_event().kind, EventKind.ATTENTION)
+                self.assertEqual(host.terminal, "IBM-3179-2")

@@ -150,18 +150,20 @@ class FieldTest(unittest.TestCase):
         body = WRITE + at(3, 2, "From . . . :") + field(3, 20, 4) + at(3, 26, "to") + field(3, 30, 4)
         body += at(20, 2, "Selection or command") + at(21, 2, "===>") + field(21, 8, 40)
         body += at(10, 2, "From account") + field(10, 20, 4)
+        body += at(12, 2, "Opt") + field(13, 2, 1) + field(14, 2, 1)
         screen = screen_of(body)
         labels = [found.label for found in screen.fields]
-        self.assertEqual(labels, ["From", "to", "From account", "Selection or command"])
+        self.assertEqual(labels, ["From", "to", "From account", "Opt", "", "Selection or command"])
         rows: list[tuple[int | str | tuple[int, int], int]] = [
             ("From", 1),
             ("from . . :", 1),
             ("To", 2),
             ("account", 3),
-            ("Selection", 4),
+            ("Opt", 4),
+            ("Selection", 6),
             ((3, 23), 1),
-            ((21, 8), 4),
-            (4, 4),
+            ((21, 8), 6),
+            (6, 6),
         ]
         for which, number in rows:
             self.assertEqual(screen.field(which).number, number, which)

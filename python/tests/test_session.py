@@ -3,6 +3,7 @@ from __future__ import annotations
 
 import contextlib
 import socket
+import struct
 import threading
 import time
 import unittest
@@ -38,6 +39,8 @@ class ServeTest(unittest.TestCase):
                 self.assertEqual(labels[1], ("Password", "", "SECRET".encode("cp037") + bytes(4)))
                 session.press(Key.ENTER)
                 screen = session.wait_text("Item inquiry", at=(1, 35))
+                with self.assertRaisesRegex(WaitedTooLong, "the text 'Item inquiry' at row 1, column 34 hasn't come"):
+                    session.wait_text("Item inquiry", at=(1, 34), wait=0)
                 self.assertEqual(screen.cursor, (3, 20))
                 session.type("4711")
                 session.press(Key.F5)
@@ -122,22 +125,22 @@ class SocketTest(unittest.TestCase):
         self.assertIsInstance(caught.exception, TimeoutError)
 
     def test_time_of_a_whole_wait(self) -> None:
-        """Bytes that trickle don't lengthen a wait."""
+        """Bytes that trickle or flood don't lengthen a wait."""
+        for count, pause in ((1, 0.02), (1000, 0.0)):
 
-        def play(line: socket.socket) -> None:
-            end = time.monotonic() + 3.0
-            try:
-                while time.monotonic() < end:
-                    line.sendall(b"\xff\xf1")
-                    time.sleep(0.02)
-            except OSError:
-                pass
+            def play(line: socket.socket, count: int = count, pause: float = pause) -> None:
+                end = time.monotonic() + 3.0
+                with contextlib.suppress(OSError):
+                    while time.monotonic() < end:
+                        line.sendall(b"\xff\xf1" * count)
+                        time.sleep(pause)
 
-        session = self.begin(play)
-        begun = time.monotonic()
-        with self.assertRaises(WaitedTooLong):  # and not that the host has closed
-            session.wait_text("Hi", wait=0.3)
-        self.assertGreaterEqual(time.monotonic() - begun, 0.3)
+            session = self.begin(play)
+            begun = time.monotonic()
+            with self.assertRaises(WaitedTooLong):  # and not that the host has closed
+                session.wait_text("Hi", wait=0.3)
+            self.assertGreaterEqual(time.monotonic() - begun, 0.3)
+            session.close()
 
     def test_no_time(self) -> None:
         """With no time at all what has come counts."""
@@ -203,6 +206,35 @@ class SocketTest(unittest.TestCase):
             for _ in range(100):
                 session.press(Key.ATTENTION)
                 time.sleep(0.01)
+
+    def test_reset(self) -> None:
+        """A connection that breaks has ended."""
+
+        def play(line: socket.socket) -> None:
+            line.setsockopt(socket.SOL_SOCKET, socket.SO_LINGER, struct.pack("ii", 1, 0))
+
+        with self.assertRaises(ConnectionEnded):
+            self.begin(play).wait_text("Hi")
+
+    def test_last_key_arrives(self) -> None:
+        """What was written comes through, though the host's last bytes are never read."""
+        got: list[bytes] = []
+        has_sent = threading.Event()
+
+        def play(line: socket.socket) -> None:
+            line.sendall(record(FORM))
+            got.append(line.recv(4096))
+            line.sendall(b"\xff\xf1" * 5000)
+            has_sent.set()
+            got.append(read_to_end(line))
+
+        session = self.begin(play)
+        session.wait_unlocked()
+        self.assertTrue(has_sent.wait(20))
+        session.press(Key.F1)
+        session.close()
+        self.host.finish()
+        self.assertTrue(b"".join(got).endswith(record(bytes.fromhex("063531"))))
 
     def test_nobody(self) -> None:
         with socket.create_server(("127.0.0.1", 0)) as server:

@@ -143,6 +143,7 @@ class StationTest(unittest.TestCase):
         """One that is forgotten is freed, and warned of."""
         with warnings.catch_warnings(record=True) as caught:
             warnings.simplefilter("always")
-            Station()
+            handle = Station()._handle
             gc.collect()
         self.assertEqual([str(warning.message) for warning in caught], ["unclosed Station"])
+        self.assertFalse(handle.handle.is_open)
