@@ -119,7 +119,7 @@ class EachOtherTest(unittest.TestCase):
             with socket.create_connection(("127.0.0.1", port)) as line, contextlib.suppress(OSError):
                 end = time.monotonic() + 3.0
                 while time.monotonic() < end:
-                    line.sendall(b"\xff\xf1" * 1000)
+                    line.sendall(b"\xff\xf1" * 500000)
 
         with listen(wait=10) as listener:
             beside = Beside(functools.partial(flood, listener.port))

@@ -150,7 +150,7 @@ class FieldTest(unittest.TestCase):
         body = WRITE + at(3, 2, "From . . . :") + field(3, 20, 4) + at(3, 26, "to") + field(3, 30, 4)
         body += at(20, 2, "Selection or command") + at(21, 2, "===>") + field(21, 8, 40)
         body += at(10, 2, "From account") + field(10, 20, 4)
-        body += at(12, 2, "Opt") + field(13, 2, 1) + field(14, 2, 1)
+        body += at(12, 2, "Opt") + field(13, 2, 1) + at(13, 5, "Apples") + field(14, 2, 1)
         screen = screen_of(body)
         labels = [found.label for found in screen.fields]
         self.assertEqual(labels, ["From", "to", "From account", "Opt", "", "Selection or command"])
