@@ -1,9 +1,9 @@
 """A live host for stations: `t5250 connect`, and sessions of this package."""
 from __future__ import annotations
 
-import contextlib
 import functools
 import socket
+import threading
 import time
 import unittest
 
@@ -111,14 +111,17 @@ class EachOtherTest(unittest.TestCase):
                 with self.assertRaises(Refused) as caught:
                     host.wait_ready()
                 self.assertEqual((caught.exception.reason, caught.exception.place), (Reason.UNSUPPORTED_TERMINAL, 19))
+                line.close()
 
     def test_flood(self) -> None:
         """Bytes that don't end don't lengthen a wait."""
 
+        is_over = threading.Event()
+
         def flood(port: int) -> None:
-            with socket.create_connection(("127.0.0.1", port)) as line, contextlib.suppress(OSError):
-                end = time.monotonic() + 3.0
-                while time.monotonic() < end:
+            with socket.create_connection(("127.0.0.1", port)) as line:
+                end = time.monotonic() + 5.0
+                while not is_over.is_set() and time.monotonic() < end:
                     line.sendall(b"\xff\xf1" * 500000)
 
         with listen(wait=10) as listener:
@@ -126,6 +129,7 @@ class EachOtherTest(unittest.TestCase):
             with listener.accept() as host:
                 with self.assertRaises(WaitedTooLong):  # and not that the station has closed
                     host.wait_ready(wait=0.3)
+                is_over.set()
             beside.finish()
 
     def test_told_before_a_refusal(self) -> None:
@@ -141,3 +145,4 @@ class EachOtherTest(unittest.TestCase):
                         host.wait_answer()
                 self.assertIs(host.wait_event().kind, EventKind.ATTENTION)
                 self.assertEqual(host.terminal, "IBM-3179-2")
+                line.close()

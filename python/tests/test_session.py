@@ -127,20 +127,21 @@ class SocketTest(unittest.TestCase):
     def test_time_of_a_whole_wait(self) -> None:
         """Bytes that trickle or flood don't lengthen a wait."""
         for count, pause in ((1, 0.02), (500000, 0.0)):
+            is_over = threading.Event()
 
             def play(line: socket.socket, count: int = count, pause: float = pause) -> None:
-                end = time.monotonic() + 3.0
-                with contextlib.suppress(OSError):
-                    while time.monotonic() < end:
-                        line.sendall(b"\xff\xf1" * count)
-                        time.sleep(pause)
+                end = time.monotonic() + 5.0
+                while not is_over.wait(pause) and time.monotonic() < end:
+                    line.sendall(b"\xff\xf1" * count)
 
             session = self.begin(play)
             begun = time.monotonic()
             with self.assertRaises(WaitedTooLong):  # and not that the host has closed
                 session.wait_text("Hi", wait=0.3)
             self.assertGreaterEqual(time.monotonic() - begun, 0.3)
+            is_over.set()
             session.close()
+            self.host.finish()
 
     def test_no_time(self) -> None:
         """With no time at all what has come counts."""
