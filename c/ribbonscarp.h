@@ -374,8 +374,9 @@ typedef struct {
     bool is_blinking;       /* the cursor */
 } ribbon_state;
 
-/* A cell of a screen. It holds a character of code page 037 (40 to FE), an attribute (20 to 3F), nothing (00), Dup (1C), or
- * another byte that a host has sent and that is no order code (01 to 04, 10 to 15 and 1D), which is shown as a full stop. */
+/* A cell of a screen. It holds a character of code page 037 (40 to FE), an attribute (20 to 3F), nothing (00), Dup (1C),
+ * or another byte that a host has sent and that is no order code (01 to 04, 10 to 15 and 1D); that is shown as a full
+ * stop. */
 typedef struct {
     uint32_t character; /* what it shows, as a Unicode scalar value */
     uint16_t field;     /* index of the field that holds it, or RIBBON_NO_FIELD */
