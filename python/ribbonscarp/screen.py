@@ -6,6 +6,7 @@ from __future__ import annotations
 
 import operator
 import struct
+import sys
 from collections.abc import Callable, Iterator
 from dataclasses import dataclass
 from enum import Enum, IntEnum
@@ -14,10 +15,13 @@ from typing import Any, TypeAlias
 
 from .codes import Read
 from .errors import FieldNotFound
-from .library import COLUMNS, NO_FIELD, ROWS
+from .library import CELLS, COLUMNS, NO_FIELD, ROWS
 
 Which: TypeAlias = int | str | tuple[int, int]
 """How a field is named: by its number, by the label before it, or by the row and column of one of its cells."""
+
+
+_UTF_32 = {"little": "utf-32-le", "big": "utf-32-be"}[sys.byteorder]
 
 
 class Color(Enum):
@@ -257,8 +261,11 @@ class Screen:
 
     @cached_property
     def _shown(self) -> str:
-        """What all cells show, in screen order."""
-        return "".join(chr(character) for character, _, _, _ in self._told())
+        """What all cells show, in screen order: the first four bytes of each are its character."""
+        characters = bytearray(4 * CELLS)
+        for byte in range(4):
+            characters[byte::4] = self._cells[byte::8]
+        return characters.decode(_UTF_32)
 
     @cached_property
     def _rows_with_fields(self) -> frozenset[int]:
