@@ -14,7 +14,6 @@ ribbon_status ws_c_station_state(ribbon_handle *handle, ribbon_state *state);
 ribbon_status ws_c_station_cell(ribbon_handle *handle, uint8_t row, uint8_t column, uint8_t *byte);
 ribbon_status ws_c_station_cells(ribbon_handle *handle, uint8_t first_row, uint8_t last_row, ribbon_cell *cells,
                                  size_t room);
-ribbon_status ws_c_station_changed(ribbon_handle *handle, uint32_t *rows);
 ribbon_status ws_c_station_row(ribbon_handle *handle, uint8_t row, uint8_t *text, size_t room, ribbon_told *told);
 ribbon_status ws_c_station_field(ribbon_handle *handle, size_t index, ribbon_field *field);
 ribbon_status ws_c_host_new(ribbon_handle *handle, uint8_t *opening, size_t room, ribbon_told *told);

@@ -221,22 +221,6 @@ ribbon_status ribbon_decoder_finish(ribbon_decoder *decoder, uint64_t *place)
     return ws_c_decoder_finish(&decoder->handle, place);
 }
 
-ribbon_status ribbon_from_037(uint8_t byte, uint32_t *character)
-{
-    CLEAR(character);
-    if (character == NULL)
-        return RIBBON_NULL;
-    return ws_c_from_037(byte, character);
-}
-
-ribbon_status ribbon_to_037(uint32_t character, uint8_t *byte)
-{
-    CLEAR(byte);
-    if (byte == NULL)
-        return RIBBON_NULL;
-    return ws_c_to_037(character, byte);
-}
-
 /* A byte brings at most RIBBON_REPLY_ROOM bytes, and so many are to be left before each. A command of 3 bytes or more
  * brings at most three for each of its own, so the first of `count` bytes, which may end a command that began before,
  * brings 17, and each further at most 3. */

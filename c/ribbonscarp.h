@@ -23,11 +23,16 @@
  *             break;
  *         }
  *         draw(&station);                                        // by ribbon_station_cells or ribbon_station_row
- *         if (ribbon_station_key(&station, RIBBON_KEY_AID, RIBBON_AID_ENTER, answer, sizeof answer, &told)
- *             == RIBBON_DONE)
- *             write_all(host, answer, told.length);
  *     }
  *     ribbon_station_free(&station);
+ *
+ * A key that the user presses there, as Enter; most keys send nothing:
+ *
+ *     if (ribbon_station_key(&station, RIBBON_KEY_AID, RIBBON_AID_ENTER, answer, sizeof answer, &told)
+ *         == RIBBON_KEY_REFUSED)
+ *         fprintf(stderr, "%s\n", ribbon_refusal_text(told.reason));
+ *     write_all(host, answer, told.length);
+ *     draw(&station);
  *
  * A host, to a station:
  *
@@ -56,7 +61,8 @@
  *     ribbon_host_free(&host);
  *
  * Behind each function named here stands one that is proved to do what is said of it, for arguments that are what C
- * asks for. What is C alone is small: it turns a null pointer into RIBBON_NULL, and gives texts.
+ * asks for. What is C alone is small: it turns a null pointer into RIBBON_NULL, compares rows for
+ * ribbon_station_changed, puts texts of code page 037 together character by character, and gives sentences and sizes.
  *
  * Outputs. Every call sets every structure that it is given to, in every outcome: where nothing is told, all of it is
  * zero. A buffer is written at its front alone, so many bytes as the structure says; the rest stays as it was. A call
@@ -131,6 +137,7 @@ enum {
     RIBBON_REPLY_ROOM = 17,    /* bytes: what a station or a host writes at one byte, or a host at first */
     RIBBON_ANSWER_ROOM = 5404, /* bytes: what a key sends */
     RIBBON_ROW_ROOM = 160,     /* bytes: a row of 80 characters in UTF-8 */
+    RIBBON_CHARACTER_ROOM = 2, /* bytes: a character of code page 037 in UTF-8 */
     RIBBON_UNIT_ROOM = 133,    /* bytes: what a decoder gives at one byte */
     RIBBON_CANCEL_ROOM = 12,   /* bytes: what a cancel sends */
     RIBBON_ROWS = 24,          /* of a screen */
@@ -367,11 +374,13 @@ typedef struct {
     bool is_blinking;       /* the cursor */
 } ribbon_state;
 
-/* A cell of a screen. */
+/* A cell of a screen. It holds a character of code page 037 (40 to FE), an attribute (20 to 3F), nothing (00), Dup (1C),
+ * or another byte that a host has sent and that is no order code (01 to 04, 10 to 15 and 1D); that is shown as a full
+ * stop. */
 typedef struct {
     uint32_t character; /* what it shows, as a Unicode scalar value */
     uint16_t field;     /* index of the field that holds it, or RIBBON_NO_FIELD */
-    uint8_t byte;       /* what it holds: a character of code page 037, an attribute (20 to 3F) or 00 */
+    uint8_t byte;       /* what it holds */
     uint8_t attribute;  /* what is in force there, 20 to 3F; 20 at an attribute's own cell */
 } ribbon_cell;
 
@@ -380,8 +389,34 @@ typedef struct {
     uint8_t row;     /* of its first cell */
     uint8_t column;  /* of its first cell */
     uint16_t length; /* its number of cells */
-    uint16_t format; /* its format word (SC30-3533, Start of Field order), with its MDT, 0800 */
+    uint16_t format; /* its format word: RIBBON_FORMAT_... */
 } ribbon_field;
+
+/* A field's format word (SC30-3533, Start of Field order), by its bits. The other bits are kept, without effect. */
+enum {
+    RIBBON_FORMAT_BYPASS = 0x2000,          /* keys don't enter the field */
+    RIBBON_FORMAT_DUP = 0x1000,             /* the Dup key is allowed */
+    RIBBON_FORMAT_MODIFIED = 0x0800,        /* the modified data tag, MDT: the field was changed */
+    RIBBON_FORMAT_SHIFT = 0x0700,           /* the bits that say what the field takes: RIBBON_SHIFT_... */
+    RIBBON_FORMAT_MONOCASE = 0x0020,        /* small letters become capitals */
+    RIBBON_FORMAT_MANDATORY_ENTER = 0x0008, /* the field has to be changed before an attention key answers */
+    RIBBON_FORMAT_ADJUST = 0x0007           /* the bits that say what Field Exit does: RIBBON_ADJUST_..., or nothing */
+};
+
+enum {
+    RIBBON_SHIFT_ALPHABETIC = 0x0000, /* takes all characters */
+    RIBBON_SHIFT_ALPHABETIC_ONLY = 0x0100,
+    RIBBON_SHIFT_NUMERIC = 0x0200, /* takes all characters */
+    RIBBON_SHIFT_NUMERIC_ONLY = 0x0300,
+    RIBBON_SHIFT_DIGITS_ONLY = 0x0500,
+    RIBBON_SHIFT_SIGNED_NUMERIC = 0x0700
+};
+
+enum {
+    RIBBON_ADJUST_ZEROS = 0x0005,         /* right adjust, zeros before */
+    RIBBON_ADJUST_BLANKS = 0x0006,        /* right adjust, blanks before */
+    RIBBON_ADJUST_MANDATORY_FILL = 0x0007 /* has no effect */
+};
 
 /* Handles. Their fields are no business of a program. */
 typedef struct {
@@ -422,6 +457,36 @@ RIBBON_API ribbon_status ribbon_from_037(uint8_t byte, uint32_t *character);
 
 /* Gives the byte of a character in code page 037. RIBBON_BAD_ARGUMENT where it has none. */
 RIBBON_API ribbon_status ribbon_to_037(uint32_t character, uint8_t *byte);
+
+/* Puts the characters of `count` bytes of code page 037 into `text` as UTF-8, `told->length` bytes and no final 0.
+ *
+ * RIBBON_BAD_ARGUMENT at the first byte that has none, whose index is `told->place`: the characters before it are put.
+ * RIBBON_NO_ROOM where `text` has less than RIBBON_CHARACTER_ROOM bytes for each: nothing is put. */
+RIBBON_API ribbon_status ribbon_text_from_037(const uint8_t *bytes, size_t count, char *text, size_t room,
+                                              ribbon_told *told);
+
+/* Puts the bytes in code page 037 of a text of `size` bytes in UTF-8 into `bytes`, `told->length` of them: one for each
+ * character, no more than the text has bytes.
+ *
+ * RIBBON_BAD_ARGUMENT at the first character that has none, or where no UTF-8 stands: `told->place` is the index of its
+ * first byte, and the bytes of those before it are put. RIBBON_NO_ROOM where `room` is less than `size`: nothing is put. */
+RIBBON_API ribbon_status ribbon_text_to_037(const char *text, size_t size, uint8_t *bytes, size_t room,
+                                            ribbon_told *told);
+
+/* How many bytes a handle has, and each structure that calls set: for languages that can't read this header. A handle of
+ * so many zero bytes, aligned as a pointer is, holds nothing. */
+RIBBON_API size_t ribbon_station_size(void);
+RIBBON_API size_t ribbon_host_size(void);
+RIBBON_API size_t ribbon_decoder_size(void);
+RIBBON_API size_t ribbon_told_size(void);
+RIBBON_API size_t ribbon_pushed_size(void);
+RIBBON_API size_t ribbon_step_size(void);
+RIBBON_API size_t ribbon_event_size(void);
+RIBBON_API size_t ribbon_answer_size(void);
+RIBBON_API size_t ribbon_read_field_size(void);
+RIBBON_API size_t ribbon_state_size(void);
+RIBBON_API size_t ribbon_cell_size(void);
+RIBBON_API size_t ribbon_field_size(void);
 
 /* The most that `count` bytes can bring in answer, at a station or a host, with the room that a call asks for before a
  * byte: a reply buffer of so many bytes never ends in RIBBON_NO_ROOM. SIZE_MAX where that is no size. */
@@ -464,8 +529,8 @@ RIBBON_API ribbon_status ribbon_station_key(ribbon_station *station, uint32_t ki
  * handle holds no station. */
 RIBBON_API ribbon_status ribbon_station_state(ribbon_station *station, ribbon_state *state);
 
-/* Tells the byte of a cell: a character of code page 037, an attribute (20 to 3F) or 00. Rows count from 1 to 24,
- * columns from 1 to 80. RIBBON_BAD_ARGUMENT at another cell, RIBBON_NOTHING_HELD where the handle holds no station. */
+/* Tells the byte that a cell holds; ribbon_cell says which there are. Rows count from 1 to 24, columns from 1 to 80.
+ * RIBBON_BAD_ARGUMENT at another cell, RIBBON_NOTHING_HELD where the handle holds no station. */
 RIBBON_API ribbon_status ribbon_station_cell(ribbon_station *station, uint8_t row, uint8_t column, uint8_t *byte);
 
 /* Tells the cells of rows `first_row` to `last_row`, 80 of each, in screen order: `room` is how many `cells` has.

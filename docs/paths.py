@@ -11,7 +11,7 @@ import subprocess
 import sys
 
 ROOT = pathlib.Path(__file__).resolve().parent.parent
-SOURCE = re.compile(r"[\w./{},-]+\.(?:antt|rt|py|sh|md|h|c|rs|rattle|script|edit|txt)")
+SOURCE = re.compile(r"[\w./{},-]+\.(?:antt|rt|py|sh|md|h|c|cpp|rs|rattle|script|edit|txt)")
 
 
 def names(text):

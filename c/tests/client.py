@@ -1,7 +1,9 @@
 """A client of the shared library in another language: `client.py LIBRARY REASON_RT`. Ends with 'N passed, N failed'.
 
-It carries a session of a station and a host from hand to hand, and compares the library's sentences with the crates'."""
+It carries a session of a station and a host from hand to hand, and compares the library's sentences with the crates',
+and their numbers and names with the header's and with docs/PROFILE.md."""
 import ctypes
+import pathlib
 import re
 import sys
 from ctypes import POINTER, Structure, byref, c_bool, c_char_p, c_size_t, c_uint8, c_uint16, c_uint32, c_uint64, c_void_p
@@ -57,8 +59,16 @@ class Cell(Structure):
     _fields_ = [("character", c_uint32), ("field", c_uint16), ("byte", c_uint8), ("attribute", c_uint8)]
 
 
+SIZES = {"station": Station, "host": Handle, "decoder": Handle, "told": Told, "pushed": Pushed, "event": Event,
+         "answer": Answer, "read_field": ReadField, "state": State, "cell": Cell}
+
+
 def load(path):
     library = ctypes.CDLL(path)
+    for name, structure in SIZES.items():
+        size = getattr(library, f"ribbon_{name}_size")
+        size.restype = c_size_t
+        check(size() == ctypes.sizeof(structure), f"the size of {name}: {size()}")
     library.ribbon_version.restype = c_char_p
     for name in ("status", "reason", "refusal"):
         getattr(library, f"ribbon_{name}_text").restype = c_char_p
@@ -153,6 +163,16 @@ def texts(library, source):
     for name, number in numbers.items():
         given = library.ribbon_reason_text(number).decode()
         check(given == sentences.get(name), f"the sentence for {name}: {given!r}, {sentences.get(name)!r}")
+    told = {number for number in range(1, 256) if library.ribbon_reason_text(number) != b"no such reason"}
+    check(told == set(numbers.values()), f"the numbers that have a sentence: {sorted(told)}")
+    top = pathlib.Path(source).resolve().parents[3]
+    header = (top / "c/ribbonscarp.h").read_text(encoding="utf-8")
+    constants = {"".join(word.capitalize() for word in name.split("_")): int(number)
+                 for name, number in re.findall(r"RIBBON_REASON_(\w+) = (\d+)", header)}
+    check(constants.pop("None", None) == 0 and constants == numbers, "the header's constants are the crate's numbers")
+    table = (top / "docs/PROFILE.md").read_text(encoding="utf-8").partition("## Reasons\n")[2].partition("\n## ")[0]
+    check({name: int(number) for number, name in re.findall(r"^\| (\d+) (\w+) \|", table, re.M)} == numbers,
+          "the table of docs/PROFILE.md has the crate's numbers and names")
     for byte in range(0x40, 0xFF):
         character, back = c_uint32(), c_uint8()
         check(library.ribbon_from_037(byte, byref(character)) == DONE and chr(character.value) == bytes([byte]).decode("cp037"), f"037 {byte:02X}")

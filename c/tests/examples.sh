@@ -1,8 +1,8 @@
 #!/usr/bin/env bash
-# Builds the programs of c/examples with all warnings as errors. Runs the sign-on, the session of both ends, and the
-# emulator and the checker on every capture of examples/ and on 500 generated streams, and compares what they print with
-# signon.out, session.out, `t5250 play`, `t5250 show` and `t5250 check`; under valgrind where it is there. Ends with
-# 'N passed, N failed'.
+# Builds the programs of c/examples with all warnings as errors. Runs the sign-on, the session of both ends, the scraper at
+# a live host, and the emulator and the checker on every capture of examples/ and on 500 generated streams, and compares
+# what they print with signon.out, session.out, `t5250 play`, `t5250 show` and `t5250 check`; under valgrind where it is
+# there. Ends with 'N passed, N failed'.
 #
 #     examples.sh BUILD PROGRAM       BUILD has libribbonscarp.a, PROGRAM is t5250
 set -uo pipefail
@@ -23,7 +23,7 @@ count() {
     fi
 }
 
-for name in emulator checker signon session; do
+for name in emulator checker signon session scrape; do
     ${CC:-cc} -std=c11 -O1 -Wall -Wextra -Wpedantic -Werror -I "$here" -o "$folder/$name" "$here/examples/$name.c" \
         "$build/libribbonscarp.a"
     count $? "$name is built"
@@ -57,6 +57,8 @@ count $? "the sign-on"
 "$program" play "$here/examples/session.script" >"$folder/wanted"
 "$folder/session" | cmp - "$here/examples/session.out" && cmp "$folder/wanted" "$here/examples/session.out"
 count $? "the session of both ends"
+"$here/tests/scrape.sh" "$folder/scrape" "$program"
+count $? "the scraper at a live host"
 
 # All of it again in one process, where each byte that is read and each block is watched.
 if command -v valgrind >/dev/null; then

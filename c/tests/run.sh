@@ -1,6 +1,6 @@
 #!/usr/bin/env bash
-# All tests of the C interface and of the terminal: `make check` calls this with BUILD, T5250, CC, CXX and MAKE. The last
-# line is 'N passed, N failed'; what the machine lacks is told by lines that begin with 'left out:'.
+# All tests of the C interface and of the terminal: `make check` calls this with BUILD, LIB, GLUE, T5250, CC, CXX and
+# MAKE. The last line is 'N passed, N failed'; what the machine lacks is told by lines that begin with 'left out:'.
 set -uo pipefail
 tests=$(cd "$(dirname "$0")" && pwd) || exit 2
 here=$(dirname "$tests")
@@ -56,9 +56,13 @@ has() {
     command -v "$1" >/dev/null || { echo "left out: $2, since $1 isn't here"; return 1; }
 }
 
-# Both libraries give the same, and show the names of the interface alone.
-try "calls.c is built" "$CC" "${warnings[@]}" -g -I "$here" -o "$folder/calls" "$tests/calls.c" "$BUILD/libribbonscarp.a"
-try_counted "each call, static" "$folder/calls"
+# The test programs. Both libraries give the same, and show the names of the interface alone.
+programs=(calls changed sentences code_page format)
+for name in "${programs[@]}"; do
+    try "$name.c is built" "$CC" "${warnings[@]}" -g -I "$here" -o "$folder/$name" "$tests/$name.c" \
+        "$BUILD/libribbonscarp.a"
+    try_counted "$name" "$folder/$name"
+done
 try "calls.c is built, shared" "$CC" "${warnings[@]}" -I "$here" -o "$folder/calls_shared" "$tests/calls.c" \
     -L "$BUILD" -lribbonscarp -Wl,-rpath,"$BUILD"
 try_counted "each call, shared" "$folder/calls_shared"
@@ -71,6 +75,15 @@ visible() {
 }
 try "nm shows ribbon_ alone" visible
 
+# What exports.h declares is what the proved library exports, and the C side calls each of them.
+exports_agree() {
+    grep -oE '\bws_c_[a-z0-9_]+\(' "$here/exports.h" | tr -d '(' | sort >"$folder/declared"
+    nm -g --defined-only "$LIB" 2>/dev/null | awk '$3 ~ /^ws_c_/ {print $3}' | sort >"$folder/defined"
+    cat "$here"/*.c | grep -oE '\bws_c_[a-z0-9_]+\(' | tr -d '(' | sort -u >"$folder/called"
+    diff "$folder/declared" "$folder/defined" && diff "$folder/declared" "$folder/called"
+}
+try "exports.h declares the library's exports" exports_agree
+
 try "memory.c is built" "$CC" "${warnings[@]}" -g -I "$here" -Wl,--wrap=malloc -Wl,--wrap=realloc -o "$folder/memory" \
     "$tests/memory.c" "$BUILD/libribbonscarp.a"
 try_counted "every allocation refused" "$folder/memory"
@@ -78,14 +91,18 @@ try_counted "every allocation refused" "$folder/memory"
 # The C side with sanitizers: its objects are built again, and linked to the proved library.
 sanitized=(-fsanitize=address,undefined -fno-sanitize-recover=all -g -O1)
 if echo 'int main(void){return 0;}' | "$CC" -x c "${sanitized[@]}" -o "$folder/probe" - 2>/dev/null; then
-    try "the C side is built with sanitizers" "$CC" "${warnings[@]}" "${sanitized[@]}" -I "$here" -o "$folder/sanitized" \
-        "$tests/calls.c" "$here/ribbonscarp.c" "$here/texts.c" "$LIB" "$GLUE"
-    try_counted "each call with sanitizers" "$folder/sanitized" few
+    for name in "${programs[@]}"; do
+        try "$name.c and the C side are built with sanitizers" "$CC" "${warnings[@]}" "${sanitized[@]}" -I "$here" \
+            -o "$folder/sanitized" "$tests/$name.c" "$here"/*.c "$LIB" "$GLUE"
+        try_counted "$name with sanitizers" "$folder/sanitized" few
+    done
 else
     echo "left out: the address and undefined-behaviour sanitizers, which $CC lacks"
 fi
-if has valgrind "each call under valgrind"; then
-    try_counted "each call under valgrind" "${careful[@]}" "$folder/calls" few
+if has valgrind "the test programs under valgrind"; then
+    for name in "${programs[@]}"; do
+        try_counted "$name under valgrind" "${careful[@]}" "$folder/$name" few
+    done
     try_counted "every allocation refused, under valgrind" "${careful[@]}" "$folder/memory"
 fi
 if has python3 "the client in Python and the examples"; then
@@ -100,7 +117,12 @@ fi
 
 # What is installed serves a program of someone else, by pkg-config.
 stage=$folder/stage
-try "make install" "$MAKE" -C "$here" install PREFIX=/usr DESTDIR="$stage" BUILD="$BUILD" LIB="$LIB" GLUE="$GLUE"
+prints() {
+    LD_LIBRARY_PATH=$stage/usr/lib "$2" | diff - "$1"
+}
+made_by=(BUILD="$BUILD" LIB="$LIB" GLUE="$GLUE" T5250="$T5250")
+try "make install" "$MAKE" -C "$here" install PREFIX=/usr DESTDIR="$stage" "${made_by[@]}"
+try "the program that was installed" "$stage/usr/bin/t5250" check "$top/examples/inquiry.hex"
 if has pkg-config "programs on what was installed"; then
     export PKG_CONFIG_PATH=$stage/usr/lib/pkgconfig PKG_CONFIG_SYSROOT_DIR=$stage
     read -r -a flags <<<"$(pkg-config --define-variable=prefix=/usr --cflags --libs ribbonscarp)"
@@ -108,10 +130,16 @@ if has pkg-config "programs on what was installed"; then
     flags+=(-I "$stage/usr/include" -L "$stage/usr/lib")
     try "a C program on what was installed" "$CC" "${warnings[@]}" -o "$folder/theirs" "$tests/installed.c" "${flags[@]}"
     try_counted "it runs" env LD_LIBRARY_PATH="$stage/usr/lib" "$folder/theirs"
+    try "a scraper on what was installed" "$CC" "${warnings[@]}" -o "$folder/scrape" "$here/examples/scrape.c" \
+        "${flags[@]}"
+    try "it scrapes" env LD_LIBRARY_PATH="$stage/usr/lib" "$tests/scrape.sh" "$folder/scrape" "$stage/usr/bin/t5250"
     if has "$CXX" "a C++ program on what was installed"; then
         try "a C++ program on what was installed" "$CXX" -std=c++11 -Wall -Werror -x c++ -o "$folder/theirs" \
             "$tests/installed.c" -x none "${flags[@]}"
         try_counted "it runs" env LD_LIBRARY_PATH="$stage/usr/lib" "$folder/theirs"
+        try "a C++ class on what was installed" "$CXX" -std=c++11 -Wall -Wextra -Wpedantic -Werror -o "$folder/theirs" \
+            "$here/examples/station.cpp" "${flags[@]}"
+        try "it prints station.out" prints "$here/examples/station.out" "$folder/theirs"
     fi
     try "the version of pkg-config" test "$(pkg-config --modversion ribbonscarp)" = \
         "$(sed -n 's/^#define RIBBON_VERSION "\(.*\)"/\1/p' "$here/ribbonscarp.h")"
@@ -119,13 +147,23 @@ if has pkg-config "programs on what was installed"; then
     if has python3 "a client in Python on what was installed"; then
         try_counted "a client in Python on what was installed" python3 "$tests/client.py" \
             "$stage/usr/lib/libribbonscarp.so" "$top/crates/ws_code/src/reason.rt"
+        try "the Python package on what was installed" env -u RIBBONSCARP_LIBRARY LD_LIBRARY_PATH="$stage/usr/lib" \
+            PYTHONPATH="$top/python" PYTHONDONTWRITEBYTECODE=1 \
+            python3 -m unittest discover -q -s "$top/python/tests" -p test_host.py
     fi
 fi
+
+# Nothing of it is left then but folders.
+uninstalls() {
+    "$MAKE" -C "$here" uninstall PREFIX=/usr DESTDIR="$stage" "${made_by[@]}" \
+        && find "$stage" ! -type d >"$folder/left" && [ ! -s "$folder/left" ]
+}
+try "make uninstall" uninstalls
 
 # The terminal, typed into.
 if has python3 "the terminal"; then
     if echo '#include <curses.h>' | "$CC" -D_XOPEN_SOURCE_EXTENDED=1 -E -x c - >/dev/null 2>&1; then
-        try "make terminal" "$MAKE" -C "$here" terminal BUILD="$BUILD" LIB="$LIB" GLUE="$GLUE" T5250="$T5250"
+        try "make terminal" "$MAKE" -C "$here" terminal "${made_by[@]}"
         try "host5250.c is built" "$CC" "${warnings[@]}" -g -I "$here" -o "$folder/host5250" "$top/terminal/host5250.c" \
             "$BUILD/libribbonscarp.a"
         try_counted "the terminal" python3 "$top/terminal/run_terminal.py" "$BUILD/term5250" "$folder/host5250" "$T5250"

@@ -1,0 +1,74 @@
+"""A 5250 display station, a host's end and a decoder (RFC 1205, RFC 4777), over the shared library of Ribbonscarp.
+
+`connect` gives a live session at a host, `listen` takes stations that connect. Beneath them `Station`, `Host` and
+`Decoder` take bytes and give bytes, without any socket. docs/DRIVING.md has whole programs.
+"""
+from .codes import TERMINALS, Key, KeyRefusal, Opcode, Read, Reason, Status
+from .decoder import Command, Decoder, Element, Header, RecordEnd, Step
+from .errors import (
+    ConnectionEnded,
+    FieldNotFound,
+    KeyRefused,
+    LibraryNotFound,
+    Refused,
+    RibbonscarpError,
+    SendRefused,
+    StatusError,
+    Truncated,
+    WaitedTooLong,
+)
+from .filling import keys_to_fill
+from .host import Answer, AnswerField, Event, EventKind, Heard, Host
+from .host_session import HostSession, Listener, listen
+from .screen import Cell, Color, Field, Screen, Shift, State, Style, Which
+from .session import Session, connect
+from .station import Station
+
+__all__ = [
+    "TERMINALS",
+    "Answer",
+    "AnswerField",
+    "Cell",
+    "Color",
+    "Command",
+    "ConnectionEnded",
+    "Decoder",
+    "Element",
+    "Event",
+    "EventKind",
+    "Field",
+    "FieldNotFound",
+    "Header",
+    "Heard",
+    "Host",
+    "HostSession",
+    "Key",
+    "KeyRefusal",
+    "KeyRefused",
+    "LibraryNotFound",
+    "Listener",
+    "Opcode",
+    "Read",
+    "Reason",
+    "RecordEnd",
+    "Refused",
+    "RibbonscarpError",
+    "Screen",
+    "SendRefused",
+    "Session",
+    "Shift",
+    "State",
+    "Station",
+    "Status",
+    "StatusError",
+    "Step",
+    "Style",
+    "Truncated",
+    "WaitedTooLong",
+    "Which",
+    "connect",
+    "keys_to_fill",
+    "listen",
+]
+
+__version__ = "2.0.0"

@@ -1,0 +1,99 @@
+"""What goes wrong, and where."""
+from __future__ import annotations
+
+from collections.abc import Sequence
+from typing import TYPE_CHECKING
+
+from .codes import Key, KeyRefusal, Reason, Status
+
+if TYPE_CHECKING:
+    from .decoder import Step
+    from .host import Event
+    from .screen import Screen
+
+
+class RibbonscarpError(Exception):
+    """Every error of this package."""
+
+
+class LibraryNotFound(RibbonscarpError):
+    """The shared library isn't there, or is of another version. `faults` tells it of each place."""
+
+    def __init__(self, faults: Sequence[str]) -> None:
+        super().__init__("no libribbonscarp: " + "; ".join(faults))
+        self.faults = list(faults)
+
+
+class StatusError(RibbonscarpError):
+    """A call had no effect, as `status` says: nothing was sent, and nothing changed."""
+
+    def __init__(self, status: Status, text: str) -> None:
+        super().__init__(text)
+        self.status = status
+
+
+class Refused(RibbonscarpError):
+    """A byte of the other end is refused; every further call on this end fails.
+
+    `place` counts bytes from the first that came, 0. What was written in answer before that byte is in `reply`; what a
+    host's end was told before it in `events`, what a decoder found before it in `steps`.
+    """
+
+    def __init__(self, reason: Reason, place: int, text: str) -> None:
+        super().__init__(f"byte {place} is refused: {text}")
+        self.reason = reason
+        self.place = place
+        self.reply = b""
+        self.events: tuple[Event, ...] = ()
+        self.steps: tuple[Step, ...] = ()
+
+
+class Truncated(RibbonscarpError):
+    """A stream ends inside a command or a record, behind `length` bytes."""
+
+    def __init__(self, length: int) -> None:
+        super().__init__(f"the stream ends inside a command or a record, behind {length} bytes")
+        self.length = length
+
+
+class SendRefused(RibbonscarpError):
+    """The screen can't take an element of a body, for `reason` (50 to 55). Nothing is sent."""
+
+    def __init__(self, reason: Reason, text: str) -> None:
+        super().__init__(text)
+        self.reason = reason
+
+
+class KeyRefused(RibbonscarpError):
+    """The keyboard or the field refuses `key`, a `Key` or a character. The cursor stood at `place`, and stays there."""
+
+    def __init__(self, refusal: KeyRefusal, key: Key | str, place: tuple[int, int], text: str) -> None:
+        name = key.name if isinstance(key, Key) else repr(key)
+        super().__init__(f"key {name} at row {place[0]}, column {place[1]}: {text}")
+        self.refusal = refusal
+        self.key = key
+        self.place = place
+
+
+class FieldNotFound(RibbonscarpError, LookupError):
+    """No field, or more than one, is what was asked for."""
+
+
+class WaitedTooLong(RibbonscarpError, TimeoutError):
+    """The time of a wait is over. The session goes on, and nothing is lost; `screen` is a station's then."""
+
+    def __init__(self, what: str, seconds: float, screen: Screen | None = None) -> None:
+        super().__init__(f"{what} hasn't come within {seconds:g} seconds{_shown(screen)}")
+        self.screen = screen
+
+
+class ConnectionEnded(RibbonscarpError, ConnectionError):
+    """The other side has closed the connection, or doesn't take what is written; `screen` is a station's then."""
+
+    def __init__(self, fault: str, screen: Screen | None = None) -> None:
+        super().__init__(f"the connection has ended: {fault}{_shown(screen)}")
+        self.screen = screen
+
+
+def _shown(screen: Screen | None) -> str:
+    return "" if screen is None else f"; the screen shows\n{screen}"

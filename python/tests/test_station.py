@@ -1,0 +1,149 @@
+"""A station in Python: bytes, keys, what they are refused for, and what is seen of it."""
+from __future__ import annotations
+
+import gc
+import threading
+import unittest
+import warnings
+from collections.abc import Callable
+
+from ribbonscarp import Key, KeyRefusal, KeyRefused, Read, Reason, Refused, Station, Status, StatusError
+from support import FORM, OPENING, PAST_END, ready_station, record
+
+
+class StationTest(unittest.TestCase):
+    def test_opening(self) -> None:
+        """The answers of the negotiation, in one piece and byte by byte."""
+        wanted = bytes.fromhex("FFFB18 FFFA1800") + b"IBM-5291-1" + bytes.fromhex("FFF0 FFFB19 FFFD19 FFFB00 FFFD00")
+        with Station("ibm-5291-1") as station:
+            self.assertFalse(station.state.is_ready)
+            self.assertEqual(station.push(OPENING), wanted)
+            self.assertTrue(station.state.is_ready)
+        with Station("IBM-5291-1") as station:
+            self.assertEqual(b"".join(station.push(bytes([byte])) for byte in OPENING), wanted)
+            self.assertEqual(station.push(b""), b"")
+
+    def test_terminal(self) -> None:
+        with self.assertRaisesRegex(ValueError, "no terminal type is 'IBM-3477-FC'; there are IBM-5251-11, "):
+            Station("IBM-3477-FC")
+        with self.assertRaises(ValueError):
+            Station("IBM-3179-2é")
+
+    def test_answer(self) -> None:
+        with ready_station(FORM) as station:
+            self.assertEqual(station.state.cursor, (6, 53))
+            self.assertIs(station.state.pending_read, Read.MDT_FIELDS)
+            station.type("BOB")
+            answer = station.press(Key.ENTER)
+            self.assertEqual(answer, record(bytes.fromhex("0638F1 110635 C2D6C2")))
+            self.assertTrue(station.state.is_locked)
+            self.assertIs(station.state.pending_read, Read.NONE)
+            self.assertEqual(station.press(Key.ATTENTION), bytes.fromhex("000A12A0000004400000FFEF"))
+            self.assertEqual(station.press(Key.SYSTEM_REQUEST), bytes.fromhex("000A12A0000004040000FFEF"))
+
+    def test_keys(self) -> None:
+        """Every key that is no attention key is taken, and sends nothing."""
+        with ready_station(FORM) as station:
+            station.type("AC")
+            station.press(Key.LEFT)
+            station.insert("B")
+            self.assertEqual(station.screen.fields[0].text, "ABC")
+            for key in (Key.LEFT, Key.RIGHT, Key.UP, Key.DOWN, Key.HOME, Key.TAB, Key.BACK_TAB, Key.DELETE):
+                self.assertEqual(station.press(key), b"", key)
+            self.assertEqual(station.press(Key.ERASE_INPUT), b"")
+            self.assertEqual(station.screen.fields[0].text, "")
+
+    def test_key_refused(self) -> None:
+        rows: list[tuple[Key | str, KeyRefusal, str | None]] = [
+            ("€", KeyRefusal.WRONG_CHARACTER, "key '€' at row 6, column 53: the field doesn't take this character"),
+            ("\ud800", KeyRefusal.WRONG_CHARACTER, None),
+            (Key.DUP, KeyRefusal.DUP_NOT_ALLOWED, "key DUP at row 6, column 53: the field doesn't take Dup"),
+        ]
+        with ready_station(FORM) as station:
+            for key, refusal, text in rows:
+                with self.assertRaises(KeyRefused) as caught:
+                    station.press(key) if isinstance(key, Key) else station.type(key)
+                error = caught.exception
+                self.assertEqual((error.refusal, error.key, error.place), (refusal, key, (6, 53)))
+                self.assertIn(text or "", str(error))
+            station.press(Key.LEFT)
+            with self.assertRaises(KeyRefused) as caught:
+                station.type("A")
+            self.assertEqual((caught.exception.refusal, caught.exception.place), (KeyRefusal.PROTECTED, (6, 52)))
+
+    def test_early(self) -> None:
+        """Before the host has sent anything."""
+        with Station() as station:
+            with self.assertRaises(StatusError) as caught:
+                station.press(Key.ENTER)
+            self.assertEqual(caught.exception.status, Status.NOT_READY)
+            with self.assertRaises(KeyRefused) as refused:
+                station.type("A")
+            self.assertEqual(refused.exception.refusal, KeyRefusal.LOCKED)
+
+    def test_refused(self) -> None:
+        """The screen is as it was, and what was answered before the byte is there."""
+        with ready_station(FORM) as station:
+            before = station.screen
+            taken = len(OPENING) + len(record(FORM))
+            bad = bytes.fromhex("FFFD27") + record(PAST_END)
+            with self.assertRaises(Refused) as caught:
+                station.push(bad)
+            error = caught.exception
+            self.assertEqual((error.reason, error.place), (Reason.PAST_END, taken + len(bad) - 1))
+            self.assertEqual(error.reply, bytes.fromhex("FFFC27"))
+            self.assertEqual(station.screen.rows, before.rows)
+            calls: list[Callable[[], object]] = [lambda: station.push(b"A"), lambda: station.press(Key.TAB)]
+            for call in calls:
+                with self.assertRaises(StatusError) as failed:
+                    call()
+                self.assertEqual(failed.exception.status, Status.FAILED)
+
+    def test_changed_rows(self) -> None:
+        with ready_station(FORM) as station:
+            self.assertEqual(station.changed_rows(), [6])
+            self.assertEqual(station.changed_rows(), [])
+            station.push(record(bytes.fromhex("04110000 110A50 24"), 2))
+            self.assertEqual(station.changed_rows(), list(range(10, 25)))
+
+    def test_many_bytes(self) -> None:
+        """No piece lacks room for its answers, also one that asks for a terminal's name again and again."""
+        ask = bytes.fromhex("FFFA1801FFF0")
+        name = bytes.fromhex("FFFA1800") + b"IBM-3179-2" + bytes.fromhex("FFF0")
+        with ready_station() as station:
+            self.assertEqual(station.push(ask * 20000), name * 20000)
+
+    def test_closed(self) -> None:
+        station = Station()
+        station.close()
+        station.close()
+        calls: list[Callable[[], object]] = [lambda: station.push(b"A"), lambda: station.press(Key.TAB)]
+        calls.append(lambda: station.screen)
+        for call in calls:
+            with self.assertRaises(StatusError) as caught:
+                call()
+            self.assertEqual(caught.exception.status, Status.NOTHING_HELD)
+
+    def test_another_thread(self) -> None:
+        told: list[str] = []
+
+        def use(station: Station) -> None:
+            try:
+                station.push(b"A")
+            except RuntimeError as error:
+                told.append(str(error))
+
+        with Station() as station:
+            thread = threading.Thread(target=use, args=(station,))
+            thread.start()
+            thread.join()
+        self.assertEqual(told, ["Station is used by another thread than made it"])
+
+    def test_unclosed(self) -> None:
+        """One that is forgotten is freed, and warned of."""
+        with warnings.catch_warnings(record=True) as caught:
+            warnings.simplefilter("always")
+            handle = Station()._handle
+            gc.collect()
+        self.assertEqual([str(warning.message) for warning in caught], ["unclosed Station"])
+        self.assertFalse(handle.handle.is_open)
