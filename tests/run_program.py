@@ -316,20 +316,23 @@ def filled_runs(runs, folder):
 
 
 def socket_runs(runs, folder):
-    """Where standard output is closed, no socket is made."""
+    """A command that lacks a standard stream makes no socket."""
     path, script = os.path.join(folder, "calls"), os.path.join(folder, "text.hex")
     known = subprocess.run(["strace", "-o", path, "true"], capture_output=True) if shutil.which("strace") else None
     if known is None or known.returncode != 0:
         print("left out: calls of sockets, since strace isn't there or may not look")
         return
     with open(script, "w") as file:
-        file.write(BOB)
-    for redirected, wanted in ("", True), (">&-", False), ("<&- >&-", False), ("<&-", True):
-        played = ["sh", "-c", f'exec "$0" play --tcp "$1" {redirected}', PROGRAM, script]
-        traced = ["strace", "-f", "-qq", "-e", "trace=socket", "-o", path, *played]
-        subprocess.run(traced, capture_output=True, timeout=60)
+        file.write("settle\n")
+    play, connect, serve = f"play --tcp {script}", "connect --wait 1 127.0.0.1:1", "serve --wait 1 127.0.0.1:0"
+    rows = [(play, "", True), (play, "<&-", True), (play, ">&-", False), (play, "<&- >&-", False),
+            (connect, "", True), (connect, "<&-", False), (connect, ">&-", False), (connect, "<&- >&- 2>&-", False),
+            (serve, "<&-", False), (serve, ">&-", False), (serve, "<&- >&- 2>&-", False)]
+    for words, redirected, wanted in rows:
+        traced = ["strace", "-f", "-qq", "-e", "trace=socket", "-o", path, "sh", "-c", f'exec "$0" {words} {redirected}', PROGRAM]
+        subprocess.run(traced, stdin=subprocess.DEVNULL, capture_output=True, timeout=60)
         with open(path) as file:
-            runs.count(f"play --tcp {redirected}: sockets", ("socket(" in file.read()) == wanted)
+            runs.count(f"{words} {redirected}: sockets", ("socket(" in file.read()) == wanted)
 
 
 def blank_runs(runs, folder):

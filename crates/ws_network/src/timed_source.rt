@@ -1,5 +1,5 @@
 ghost use Rattle.std.specs.Io.{ReadsAtMost};
-ghost use Rattle.std.specs.Prelude.{◌≡◌, Some, Ok, Err, IfOk, IfErr};
+ghost use Rattle.std.specs.Prelude.{◌≡◌, Some, Ok, IsErr, IfOk, IfErr};
 ghost use Rattle.std_io.specs.IoError.{error_kind};
 ghost use Rattle.ws_code.specs.Device.{one_more};
 ghost use Rattle.ws_network.specs.Times as Spec;
@@ -81,7 +81,7 @@ impl<'a, C: Clock> TimedSource<'a, C> {
     // Keeps why a read failed.
     fn note(&mut self, outcome: io::Result<usize>) -> Result<usize, DeviceFailed>
         ensures ok { IfOk outcome (λ given. (result ≡ Ok given) × (self.new ≡ self.old)) }
-        ensures err { IfErr outcome (λ error. (result ≡ Err DeviceFailed)
+        ensures err { IfErr outcome (λ error. IsErr result
             × (self.new ≡ record {
               failures = one_more self.old.failures;
               failure = Some (error_kind error);
