@@ -5,7 +5,7 @@ use std::fmt::Debug;
 use std::process::Abort;
 use ws_code::{Body, Fault, Reason, SliceSource};
 use ws_record::{
-    Fed, Item, Live, Opcode, RawBody, Receiver, Step, Stepped, decode_all, decode_from,
+    Fed, Head, Item, Live, Opcode, RawBody, Receiver, Step, Stepped, decode_all, decode_from,
 };
 use ws_telnet::{CommandCode, Telnet};
 
@@ -254,4 +254,22 @@ fn bytes_behind_a_step_are_left(rt: HostRuntime) {
     let reason = Reason::LengthBelowHeader;
     same(&rt, fed.step, Step::Refused { place: 3, reason });
     same(&rt, live.feed(b"").step, Step::Failed);
+}
+
+// The high byte of the flags comes first.
+#[test]
+fn flags_as_they_come(rt: HostRuntime) {
+    let bytes = b"\x00\x0a\x12\xa0\x00\x00\x04\x40\x01\x00\xff\xef";
+    let items = decode_all::<RawBody>(rt.alloc(), bytes).expect(&rt, "a stream");
+    match items.as_slice() {
+        [Item::Record(record)] => same(&rt, record.flags, 0x4001),
+        _ => panic!(rt; "a record"),
+    }
+    let head = Head {
+        flags: 0x4001,
+        opcode: Opcode::NoOperation,
+        length: 10,
+    };
+    let mut live = Live::<RawBody>::new();
+    same(&rt, live.feed(bytes).step, Step::Open(head));
 }

@@ -59,23 +59,23 @@ impl<U: Drop> Made<U> {
 
 // What the steps give up to a fault, and the fault where there is one.
 #[derive(Drop)]
-struct Watched<U: Drop> {
+struct GivenInSteps<U: Drop> {
     items: Vec<Item<U>>,
     end: Result<(), Fault>,
 }
 
-fn watched<B: Body>(rt: &impl Abort, alloc: Global, bytes: &[u8]) -> Watched<B::Unit> {
+fn watched<B: Body>(rt: &impl Abort, alloc: Global, bytes: &[u8]) -> GivenInSteps<B::Unit> {
     let mut live = Live::<B>::new();
     let mut made = Made::new(alloc);
     for byte in bytes {
         if let Some(fault) = made.take(rt, alloc, live.push(*byte)) {
-            return Watched {
+            return GivenInSteps {
                 items: made.items,
                 end: Err(fault),
             };
         }
     }
-    Watched {
+    GivenInSteps {
         items: made.items,
         end: live.finish(),
     }
