@@ -135,8 +135,8 @@ pub use Rattle.ws_session.specs.declared.world.Move.TheVariants.{Send as SendMov
 pub use Rattle.ws_session.specs.Refusals.{is_refusal, refusals_in}
 pub use Rattle.ws_session.specs.HostLeads.{HostLeads, HostParts, IsSent, IsSendFault, IsHostPushed, HostStands}
 pub use Rattle.ws_session.specs.HostLeads.{IsReacted, unopened_host_side}
-pub use Rattle.ws_session.specs.StationLeads.{StationParts, StationLeads, IsPushed, IsKeyed, IsTaken, IsStepped}
-pub use Rattle.ws_session.specs.StationLeads.{is_record, records_in, TakesItem, IsClosed, keeps_body}
+pub use Rattle.ws_session.specs.StationLeads.{StationParts, StationLeads, IsPushed, IsKeyed, IsTaken}
+pub use Rattle.ws_session.specs.StationLeads.{is_record, records_in, keeps_body}
 pub use Rattle.ws_session.specs.Manners.{station_at_item, StationRefuses, station_manner, station_at_key, host_at_send}
 pub use Rattle.ws_session.specs.Manners.{host_at_item, IsKeyRefusal, StationGoes, host_manner, HostGoes, HostRefuses}
 pub use Rattle.ws_session.specs.Manners.{applied_by, IsKeyTaken, goes_on, told_by}
