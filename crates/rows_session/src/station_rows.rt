@@ -256,7 +256,8 @@ fn the_largest_record_is_kept_without_memory(rt: HostRuntime) {
     let write = b"\x04\x11\x00\x08\xc1\xff\xef";
     same(&rt, refusal_of(&mut station, write), None);
     // 65,535 bytes, the length's two FF once more, and IAC EOR
-    same(&rt, station.taken(), OPENING.len() as u64 + 65_539);
+    let taken = (OPENING.len() as u64).saturating_add(65_539);
+    same(&rt, station.taken(), taken);
     same(&rt, station.screen().cell(Address::default()), 0xc1);
     // Those of the opening, those of the record with each FF twice, IAC EOR.
     same(&rt, station.taken(), 21 + 65_537 + 2);

@@ -2,7 +2,7 @@
 
 use Rattle.std.specs.Prelude.{◌≡◌, ℕ, ◌+◌, ◌<◌, List, [], ◌∷◌, ◌++◌, ◌⊎◌, Bool, true, false, Option, None, Some, IfSome}
 use Rattle.std.specs.Prelude.{Result, Ok, Err}
-use Rattle.std.specs.Prelude.{length, take, drop, map}
+use Rattle.std.specs.Prelude.{length, take, map}
 use Rattle.std.specs.List.{flat_map}
 use Rattle.ws_code.specs.Code.{Rules, IsChain}
 use Rattle.ws_code.specs.Device.{MayTake, WentOut, FailedWithin}
