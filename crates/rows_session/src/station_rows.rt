@@ -259,8 +259,6 @@ fn the_largest_record_is_kept_without_memory(rt: HostRuntime) {
     let taken = (OPENING.len() as u64).saturating_add(65_539);
     same(&rt, station.taken(), taken);
     same(&rt, station.screen().cell(Address::default()), 0xc1);
-    // Those of the opening, those of the record with each FF twice, IAC EOR.
-    same(&rt, station.taken(), 21 + 65_537 + 2);
 }
 
 // A key sends this record, which isn't written by a sink that takes none.
