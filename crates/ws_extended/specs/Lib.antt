@@ -1,0 +1,10 @@
+pub mod Carried
+pub mod ErrorLine
+pub mod ExtendedElements
+pub mod ExtendedKeys
+pub mod ExtendedLaws
+pub mod ExtendedMachine
+pub mod ExtendedReasons
+pub mod ExtendedStates
+pub mod ExtendedViews
+pub mod Image
