@@ -3,8 +3,9 @@ ghost use Rattle.std.specs.Prelude.{◌≡◌, [], None, is_some};
 ghost use Rattle.ws_screen.specs.Bodies.{after_elements};
 ghost use Rattle.ws_screen.specs.Events.{History};
 ghost use Rattle.ws_screen.specs.Given.{Gives};
+ghost use Rattle.ws_screen.specs.ScreenParts.{IsLegal};
 ghost use Rattle.ws_extended.specs.ErrorLine.{IsRow};
-ghost use Rattle.ws_extended.specs.ExtendedStates.{ExtendedState, covered, gives_back, reset_history, state_after_end, state_after_reset, uncovered};
+ghost use Rattle.ws_extended.specs.ExtendedStates.{ExtendedState, covered, gives_back, reset_history, state_after_end, state_after_reset, told_screen, uncovered};
 ghost use Rattle.ws_extended.specs.ExtendedViews.{Shows, kept_of};
 
 use super::ExtendedScreen;
@@ -85,12 +86,15 @@ impl ExtendedScreen {
 
     /// The screen that the key Reset would leave: what asks at once is told of it (own choice).
     pub fn told(&self) -> Screen
-        ensures { (state : ExtendedState) → Shows state self.now
+        ensures told { (state : ExtendedState) → Shows state self.now → result ≡ told_screen state }
+        ensures given { (state : ExtendedState) → Shows state self.now
             → Gives (state_after_reset state).history result }
+        ensures legal { IsLegal result }
     {
         let mut told = Screen::new();
         told.assign(&self.screen);
         give_back_at_reset(&self.kept, &mut told);
+        told.known();
         told
     }
 
