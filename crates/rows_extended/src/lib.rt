@@ -10,6 +10,8 @@ mod image_rows;
 #[cfg(test)]
 mod record_rows;
 #[cfg(test)]
+mod reply_rows;
+#[cfg(test)]
 mod run_rows;
 
 // Expects two values to be the same, and shows both where they aren't.

@@ -1,4 +1,5 @@
 pub mod Carried
+pub mod CommandNames
 pub mod ErrorLine
 pub mod ExtendedElements
 pub mod ExtendedKeys
@@ -8,3 +9,4 @@ pub mod ExtendedReasons
 pub mod ExtendedStates
 pub mod ExtendedViews
 pub mod Image
+pub mod QueryReply

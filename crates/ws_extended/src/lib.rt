@@ -3,6 +3,7 @@
 #![tactic(auto)]
 
 mod ask;
+mod command_names;
 mod error_line;
 mod extended_commands;
 mod extended_element;
@@ -10,9 +11,11 @@ mod extended_place;
 mod extended_screen;
 mod image;
 mod laws;
+mod replies;
 mod spell;
 
 pub use ask::Ask;
+pub use command_names::{command_name, command_named, names_are_read};
 pub use extended_commands::ExtendedCommands;
 pub use extended_element::ExtendedElement;
 pub use extended_place::ExtendedPlace;
@@ -22,3 +25,4 @@ pub use laws::{
     image_gives, image_is_small, profile_acts_alike, profile_is_extended, reasons_stay,
     reset_gives_back, restore_gives_back,
 };
+pub use replies::{QUERY_REPLY_BYTES, query_reply};
