@@ -12,7 +12,7 @@ pub fn at(rt: &impl Abort, row: u8, col: u8) -> Address {
 }
 
 // The element that bytes begin with, and the number of its bytes.
-fn first_element(place: ExtendedPlace, bytes: &[u8]) -> Option<(ExtendedElement, usize)> {
+pub fn first_element(place: ExtendedPlace, bytes: &[u8]) -> Option<(ExtendedElement, usize)> {
     let mut machine = ExtendedCommands::start(place);
     let mut at = Standing {
         place,

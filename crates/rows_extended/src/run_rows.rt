@@ -1,4 +1,5 @@
 // Bodies of live hosts, byte by byte.
+use crate::displays::first_element;
 use crate::same;
 use ws_code::{Code, End, Nothing, Reason, Standing};
 use ws_extended::{Ask, ExtendedCommands, ExtendedElement};
@@ -132,18 +133,14 @@ fn bodies(rt: HostRuntime) {
 
 #[test]
 fn a_query_is_one_element(rt: HostRuntime) {
-    let place = ExtendedCommands::first();
-    let mut machine = ExtendedCommands::start(place);
-    let mut at = Standing {
-        place,
-        is_inside: false,
-    };
-    let mut slot = None;
-    let run = machine.run(
-        &mut at,
-        &[0x04, 0xf3, 0x00, 0x05, 0xd9, 0x70, 0x00],
-        &mut slot,
+    let query = [0x04, 0xf3, 0x00, 0x05, 0xd9, 0x70, 0x00];
+    let (element, count) = first_element(ExtendedCommands::first(), &query).expect(
+        &rt,
+        "an element",
     );
-    same(&rt, (run.used, run.end), (7, End::Enough));
-    same(&rt, slot, Some(ExtendedElement::Asks(Ask::Query)));
+    same(
+        &rt,
+        (element, count),
+        (ExtendedElement::Asks(Ask::Query), 7),
+    );
 }
