@@ -1,3 +1,4 @@
+pub mod Asking
 pub mod Carried
 pub mod CommandNames
 pub mod ErrorLine

@@ -57,6 +57,7 @@ impl Code for ExtendedCommands {
         ExtendedPlace::InProfile(Place::CommandsOnly)
     }
 
+    #[inline(always)]
     fn after(unit: &ExtendedElement) -> ExtendedPlace {
         match unit {
             ExtendedElement::Profile(element) => ExtendedPlace::InProfile(Commands::after(element)),
@@ -80,6 +81,7 @@ impl Code for ExtendedCommands {
         self.phase = Phase::Begin;
     }
 
+    #[inline(always)]
     fn push(&mut self, byte: u8) -> Push<ExtendedElement> {
         self.step(byte)
     }

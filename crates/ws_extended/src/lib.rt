@@ -3,6 +3,7 @@
 #![tactic(auto)]
 
 mod ask;
+mod asked;
 mod command_names;
 mod error_line;
 mod extended_commands;
@@ -15,12 +16,13 @@ mod replies;
 mod spell;
 
 pub use ask::Ask;
+pub use asked::Asked;
 pub use command_names::{command_name, command_named, names_are_read};
 pub use extended_commands::ExtendedCommands;
 pub use extended_element::ExtendedElement;
 pub use extended_place::ExtendedPlace;
 pub use extended_screen::ExtendedScreen;
-pub use image::put_image;
+pub use image::{known_image, put_image};
 pub use laws::{
     image_gives, image_is_small, profile_acts_alike, profile_is_extended, reasons_stay,
     reset_gives_back, restore_gives_back,

@@ -55,9 +55,8 @@ fn capabilities(terminal: TerminalType) -> &'static [u8]
 {
     match terminal {
         TerminalType::Ibm5292Model2 | TerminalType::Ibm3179Model2 => &COLORS,
-        TerminalType::Ibm5251Model11
-        | TerminalType::Ibm5291Model1
-        | TerminalType::Ibm3196ModelA1 => &MONOCHROME,
+        TerminalType::Ibm5251Model11 | TerminalType::Ibm5291Model1 | TerminalType::Ibm3196ModelA1 =>
+            &MONOCHROME,
     }
 }
 

@@ -23,6 +23,7 @@ use ws_stream::order_code::INSERT_CURSOR;
 use ws_stream::{Commands, Element, Place};
 
 // Where the profile's machine stands.
+#[inline(always)]
 pub(super) fn place_inside(place: ExtendedPlace) -> Place
     ensures { result ≡ inner_place place }
 {
@@ -33,6 +34,7 @@ pub(super) fn place_inside(place: ExtendedPlace) -> Place
 }
 
 // What an element of the profile is at a place.
+#[inline(always)]
 fn lifted(place: ExtendedPlace, element: Element) -> ExtendedElement
     ensures { result ≡ lift place element }
 {
@@ -46,6 +48,7 @@ fn lifted(place: ExtendedPlace, element: Element) -> ExtendedElement
 }
 
 // Why no element begins with a byte that isn't the profile's machine's.
+#[inline(always)]
 fn refused_first(place: ExtendedPlace, byte: u8) -> Option<Reason>
     ensures refused { (reason : AReason) → result ≡ Some reason
         → (takes_first place byte ≡ false) × (reason ≡ begin_reason place byte) }
@@ -60,6 +63,7 @@ fn refused_first(place: ExtendedPlace, byte: u8) -> Option<Reason>
 }
 
 // Hands a byte to the profile's machine, where only an element of the profile can begin so.
+#[inline(always)]
 fn hand_down(place: ExtendedPlace, inner: &mut Commands, byte: u8) -> Push<ExtendedElement>
     requires at { (reading_of inner.old).place ≡ inner_place place }
     requires unfinished { IsUnfinished element_rules (inner_place place) (unfinished_of inner.old) }
@@ -108,6 +112,7 @@ fn behind_escape(place: ExtendedPlace, code: u8) -> Option<Push<ExtendedElement>
 
 impl ExtendedCommands {
     // The profile's machine takes the byte.
+    #[inline(always)]
     fn go_on(&mut self, byte: u8) -> Push<ExtendedElement>
         requires at { (reading_of self.old.inner).place ≡ inner_place self.old.place }
         requires unfinished { IsUnfinished element_rules (inner_place self.old.place)
@@ -140,6 +145,7 @@ impl ExtendedCommands {
     }
 
     // The first byte of an element.
+    #[inline(always)]
     fn begin(&mut self, byte: u8) -> Push<ExtendedElement>
         requires { self.old.phase ≡ Phase.Begin }
         ensures { IsStep extended_rules self.old.place [] byte
@@ -190,6 +196,7 @@ impl ExtendedCommands {
     }
 
     // The answer to a byte, by what was waited for.
+    #[inline(always)]
     pub(super) fn step(&mut self, byte: u8) -> Push<ExtendedElement>
         requires { IsUnfinished extended_rules self.old.place
             (begun_in self.old.phase (unfinished_of self.old.inner)) }
