@@ -1,19 +1,18 @@
 // Bodies of live hosts, byte by byte.
 use crate::displays::first_element;
 use crate::same;
-use ws_code::{Code, End, Nothing, Reason, Standing};
-use ws_extended::{Ask, ExtendedCommands, ExtendedElement};
+use ws_code::{Code, End, Keep, Nothing, Reason, Standing};
+use ws_extended::{Ask, Asked, ExtendedCommands, ExtendedElement};
 
 // How many bytes are taken, and how the run ends.
-fn run(values: &[u8]) -> (usize, End) {
+fn run<K: Keep<ExtendedElement>>(values: &[u8], keep: &mut K) -> (usize, End) {
     let place = ExtendedCommands::first();
     let mut machine = ExtendedCommands::start(place);
     let mut at = Standing {
         place,
         is_inside: false,
     };
-    let mut keep = Nothing;
-    let run = machine.run(&mut at, values, &mut keep);
+    let run = machine.run(&mut at, values, keep);
     (run.used, run.end)
 }
 
@@ -120,7 +119,7 @@ fn expect(rt: &impl std::process::Abort, rows: &[Row]) {
             Some((used, reason)) => (*used, End::Bad(*reason)),
             None => (body.len(), End::More),
         };
-        same(rt, run(body), wanted);
+        same(rt, run(body, &mut Nothing), wanted);
     }
 }
 
@@ -143,4 +142,33 @@ fn a_query_is_one_element(rt: HostRuntime) {
         (element, count),
         (ExtendedElement::Asks(Ask::Query), 7),
     );
+}
+
+// A body is read that asks twice, and why its record isn't carried out is known.
+#[test]
+fn what_is_asked(rt: HostRuntime) {
+    let rows: [(&[u8], Option<Ask>, Option<Reason>); 5] = [
+        (&[0x04, 0x40, 0x04, 0x21, 0xc1], None, None),
+        (&[0x04, 0x40, 0x04, 0x02], Some(Ask::SaveScreen), None),
+        (
+            &[0x04, 0x02, 0x04, 0x62],
+            Some(Ask::SaveScreen),
+            Some(Reason::ReadScreen),
+        ),
+        (
+            &[0x04, 0x72, 0x04, 0x02, 0x04, 0x62],
+            Some(Ask::ReadImmediate),
+            Some(Reason::SaveRestore),
+        ),
+        (
+            &[0x04, 0x83, 0x04, 0x83],
+            Some(Ask::ReadImmediateAlternate),
+            Some(Reason::ReadImmediate),
+        ),
+    ];
+    for (body, ask, refused) in rows {
+        let mut asked = Asked::new();
+        same(&rt, run(body, &mut asked), (body.len(), End::More));
+        same(&rt, (asked.ask, asked.refused), (ask, refused));
+    }
 }

@@ -1,6 +1,7 @@
 -- What a contract sees of a display as live hosts use it.
-use Rattle.std.specs.Prelude.{ℕ, ◌≡◌, Option, Some, None, true}
+use Rattle.std.specs.Prelude.{ℕ, ◌≡◌, Bool, false, true, Option, Some, None}
 use Rattle.std.specs.Option.{IsSome}
+use Rattle.ws_stream.specs.Elements.{lets_orders_follow}
 use Rattle.ws_screen.specs.Given.{Gives, NeedsWrite}
 use Rattle.ws_screen.specs.ScreenParts.{ScreenParts}
 use Rattle.ws_extended.specs.ErrorLine.{error_row}
@@ -30,6 +31,14 @@ pub record Shows (state : ExtendedState) (display : ExtendedParts) : Type 0 wher
   pub row_is : display.error_row ≡ error_row state.history
   pub kept_is : display.kept ≡ state.kept
   pub text_is : display.text ≡ state.text
+
+-- a write is open behind an element that was carried out
+abbrev pub leaves_write_open : ExtendedElement → Bool
+leaves_write_open (Profile e) = lets_orders_follow e
+leaves_write_open (Text e) = true
+leaves_write_open RestoreScreen = false
+leaves_write_open WriteError = true
+leaves_write_open (Asks ask) = false
 
 -- what an element needs: an order an open write, and a text that it is text in one
 abbrev pub NeedsOpenWrite : ExtendedElement → ScreenParts → Type 0

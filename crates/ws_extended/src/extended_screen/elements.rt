@@ -1,11 +1,12 @@
 //! What a live host's elements do to a display.
-ghost use Rattle.std.specs.Prelude.{◌≡◌, false, true, OnErr, OnOk, unwrap_or};
+ghost use Rattle.std.specs.Prelude.{◌≡◌, false, true, None, IsSome, is_some, OnErr, OnOk, unwrap_or};
 ghost use Rattle.ws_screen.specs.Events.{did};
+ghost use Rattle.ws_stream.specs.Elements.{lets_orders_follow};
 ghost use Rattle.ws_screen.specs.Bodies.{after_element};
 ghost use Rattle.ws_screen.specs.Faults.{fault, refusal};
 ghost use Rattle.ws_extended.specs.ErrorLine.{IsRow, sets_error_row};
 ghost use Rattle.ws_extended.specs.ExtendedStates.{ExtendedState, nulls_fields, state_after, state_before, state_fault, uncovers};
-ghost use Rattle.ws_extended.specs.ExtendedViews.{NeedsOpenWrite, Shows};
+ghost use Rattle.ws_extended.specs.ExtendedViews.{NeedsOpenWrite, Shows, leaves_write_open};
 ghost use Rattle.ws_extended.specs.declared.extended_element.ExtendedElement.TheVariants.{Profile, RestoreScreen, Text, WriteError};
 
 use super::ExtendedScreen;
@@ -78,6 +79,8 @@ impl ExtendedScreen {
         ensures fault { refusal result ≡ fault self.old.screen element.now }
         ensures after { OnOk result ((state : ExtendedState) → Shows state self.old
             → Shows (record state { history = after_element state.history element.now }) self.new) }
+        ensures open_ { OnOk result
+            (is_some self.new.screen.writing ≡ lets_orders_follow element.now) }
         ensures unchanged { OnErr result (self.new ≡ self.old) }
     {
         self.screen.apply(element)?;
@@ -92,6 +95,8 @@ impl ExtendedScreen {
             → refusal result ≡ state_fault state (Profile element.now) }
         ensures after { OnOk result ((state : ExtendedState) → Shows state self.old
             → Shows (state_after state (Profile element.now)) self.new) }
+        ensures open_ { OnOk result
+            (is_some self.new.screen.writing ≡ lets_orders_follow element.now) }
         ensures unchanged { OnErr result (self.new ≡ self.old) }
     {
         self.make_ready(element);
@@ -105,6 +110,7 @@ impl ExtendedScreen {
             → refusal result ≡ state_fault state (Text element.now) }
         ensures after { OnOk result ((state : ExtendedState) → Shows state self.old
             → Shows (state_after state (Text element.now)) self.new) }
+        ensures open_ { OnOk result (is_some self.new.screen.writing ≡ true) }
         ensures unchanged { OnErr result (self.new ≡ self.old) }
     {
         match element {
@@ -123,8 +129,9 @@ impl ExtendedScreen {
 
     // Restore Screen: what comes back stands behind it.
     fn restore(&mut self)
-        ensures { (state : ExtendedState) → Shows state self.old
+        ensures restored { (state : ExtendedState) → Shows state self.old
             → Shows (state_after state RestoreScreen) self.new }
+        ensures closed { self.new.screen.writing ≡ None }
     {
         self.uncover(0);
         self.end_write();
@@ -132,8 +139,9 @@ impl ExtendedScreen {
 
     // Write Error Code.
     fn write_error(&mut self)
-        ensures { (state : ExtendedState) → Shows state self.old
+        ensures begun { (state : ExtendedState) → Shows state self.old
             → Shows (state_after state WriteError) self.new }
+        ensures open_ { IsSome self.new.screen.writing }
     {
         self.uncover(0);
         self.cover();
@@ -148,6 +156,8 @@ impl ExtendedScreen {
             → refusal result ≡ state_fault state element.now }
         ensures after { OnOk result ((state : ExtendedState) → Shows state self.old
             → Shows (state_after state element.now) self.new) }
+        ensures open_ { OnOk result
+            (is_some self.new.screen.writing ≡ leaves_write_open element.now) }
         ensures unchanged { OnErr result (self.new ≡ self.old) }
     {
         match element {

@@ -1,5 +1,5 @@
 //! What keys and opcodes do to a display.
-ghost use Rattle.std.specs.Prelude.{◌≡◌, ◌++◌, ◌∷◌, ◌&&◌, true, false, is_some, Err, OnErr, OnOk};
+ghost use Rattle.std.specs.Prelude.{◌≡◌, ◌++◌, ◌∷◌, ◌&&◌, true, false, None, is_some, Err, OnErr, OnOk};
 ghost use Rattle.ws_screen.specs.Events.{cancelled, lit};
 ghost use Rattle.ws_keys.specs.Keys.{IsPressed, edit_of, events_by};
 ghost use Rattle.ws_extended.specs.ExtendedStates.{ExtendedState};
@@ -39,8 +39,10 @@ impl ExtendedScreen {
 
     /// Turns the message light on or off, as the opcodes for it do at the end of their record (RFC 1205, section 4).
     pub fn set_message(&mut self, on: bool)
-        ensures { (state : ExtendedState) → Shows state self.old
+        ensures lit { (state : ExtendedState) → Shows state self.old
             → Shows (record state { history = lit on ∷ state.history }) self.new }
+        ensures exact { self.new
+            ≡ record self.old { screen = record self.old.screen { message = on } } }
     {
         self.screen.set_message(on);
     }
@@ -48,8 +50,10 @@ impl ExtendedScreen {
     /// Forgets the pending read and locks the keyboard, as the opcode Cancel Invite does at the end of its record (RFC
     /// 1205, section 4). An error stands as before.
     pub fn cancel_read(&mut self)
-        ensures { (state : ExtendedState) → Shows state self.old
+        ensures cancelled { (state : ExtendedState) → Shows state self.old
             → Shows (record state { history = cancelled ∷ state.history }) self.new }
+        ensures exact { self.new ≡ record self.old
+            { screen = record self.old.screen { pending = None; locked = true } } }
     {
         self.screen.cancel_read();
     }

@@ -1,5 +1,5 @@
 //! What an error and the key Reset do to a display.
-ghost use Rattle.std.specs.Prelude.{◌≡◌, [], None, is_some};
+ghost use Rattle.std.specs.Prelude.{◌≡◌, [], None, IsSome, is_some};
 ghost use Rattle.ws_screen.specs.Bodies.{after_elements};
 ghost use Rattle.ws_screen.specs.Events.{History};
 ghost use Rattle.ws_screen.specs.Given.{Gives};
@@ -29,7 +29,8 @@ fn give_back(kept: &Option<KeptRow>, screen: &mut Screen, cc2: u8)
 
 // Carries out the key Reset on a screen.
 fn give_back_at_reset(kept: &Option<KeptRow>, screen: &mut Screen)
-    ensures { (h : History) → Gives h screen.old
+    ensures closed { screen.old.writing ≡ None → screen.new.writing ≡ None }
+    ensures given { (h : History) → Gives h screen.old
         → Gives (reset_history h (kept_of kept.now)) screen.new }
 {
     if let Some(kept) = kept {
@@ -90,6 +91,7 @@ impl ExtendedScreen {
         ensures given { (state : ExtendedState) → Shows state self.now
             → Gives (state_after_reset state).history result }
         ensures legal { IsLegal result }
+        ensures closed { self.now.screen.writing ≡ None → result.writing ≡ None }
     {
         let mut told = Screen::new();
         told.assign(&self.screen);
@@ -100,15 +102,18 @@ impl ExtendedScreen {
 
     /// Ends the open write, if one is open.
     pub fn end_write(&mut self)
-        ensures { (state : ExtendedState) → Shows state self.old
+        ensures ended { (state : ExtendedState) → Shows state self.old
             → Shows (state_after_end state) self.new }
+        ensures closed { self.new.screen.writing ≡ None }
     {
         self.screen.end_write();
     }
 
     // Keeps the error line, and blanks it.
     pub(super) fn cover(&mut self)
-        ensures { (state : ExtendedState) → Shows state self.old → Shows (covered state) self.new }
+        ensures covered { (state : ExtendedState) → Shows state self.old
+            → Shows (covered state) self.new }
+        ensures open_ { IsSome self.new.screen.writing }
     {
         let row = self.error_row;
         self.screen.known();
@@ -131,8 +136,9 @@ impl ExtendedScreen {
     /// The key Reset: where an error stands, the row comes back and the keyboard is unlocked; where none stands, it
     /// does nothing (own choice).
     pub fn reset(&mut self)
-        ensures { (state : ExtendedState) → Shows state self.old
+        ensures reset { (state : ExtendedState) → Shows state self.old
             → Shows (state_after_reset state) self.new }
+        ensures closed { self.old.screen.writing ≡ None → self.new.screen.writing ≡ None }
     {
         give_back_at_reset(&self.kept, &mut self.screen);
         self.kept = None;

@@ -6,7 +6,7 @@ use Rattle.ws_extended.specs.ExtendedLaws.{extended_begins}
 use Rattle.rows_extended.proofs.run_rows.run.Goals as goal
 
 pub run-run-requires : goal.run-run-requires
-run-run-requires c =
+run-run-requires g c =
     let place = c.start-machine.result.place in
     let unfinished = subst (λ (x : List ℕ). IsUnfinished extended_rules place x) (sym c.start-machine.ensures.fresh)
     (extended_begins place) in

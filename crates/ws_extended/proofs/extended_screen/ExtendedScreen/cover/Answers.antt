@@ -3,8 +3,8 @@ use Rattle.ws_extended.specs.ExtendedViews.{ExtendedParts, Shows, kept_of}
 use Rattle.ws_extended.proofs.StateSteps.{cover_shows}
 use Rattle.ws_extended.proofs.extended_screen.ExtendedScreen.cover.Goals as goal
 
-pub returns : goal.returns
-returns c = λ state shows.
+pub returns-clause-covered : goal.returns-clause-covered
+returns-clause-covered c = λ state shows.
     let i = c.self.inside in
     let kept = c.of-kept.result in
     cover_shows state i.screen c.begin_error.new.screen i.error_row i.text (kept_of i.kept)

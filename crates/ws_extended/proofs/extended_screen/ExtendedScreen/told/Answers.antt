@@ -14,5 +14,5 @@ returns-clause-told c = λ state shows.
     let gives : Gives (state_after_reset state).history told =
     (reset_shows state i.screen told i.error_row i.text (kept_of i.kept)
     (subst (λ (p : ExtendedParts). Shows state p) (sym c.self.view_is) shows)
-    (λ h g. c.give_back_at_reset.ensures h (subst (λ (s : ScreenParts). Gives h s) (sym c.assign.ensures) g))).gives in
+    (λ h g. c.give_back_at_reset.ensures.given h (subst (λ (s : ScreenParts). Gives h s) (sym c.assign.ensures) g))).gives in
     one_screen (state_after_reset state).history told gives c.known.ensures.legal.size

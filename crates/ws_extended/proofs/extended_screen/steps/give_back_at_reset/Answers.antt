@@ -8,8 +8,8 @@ use Rattle.ws_extended.specs.declared.error_line.KeptRow.{KeptRow}
 use Rattle.ws_extended.proofs.StateSteps.{comes_back, gives_ended}
 use Rattle.ws_extended.proofs.extended_screen.steps.give_back_at_reset.Goals as goal
 
-pub returns-in-Some : goal.returns-in-Some
-returns-in-Some c = λ h g.
+pub returns-in-Some-clause-given : goal.returns-in-Some-clause-given
+returns-in-Some-clause-given c = λ h g.
     let kept = c.in-Some.kept in
     subst (λ (o : Option KeptRow). Gives (reset_history h (kept_of o)) c.end_write-in-Some.new.self) (sym c.in-Some.is)
     (gives_ended (after_elements h (given_back RESETS kept.row kept.cells)) c.give_back.new.screen
