@@ -1,8 +1,10 @@
 // Records of live hosts, by the record layer as it is.
 use crate::same;
+use std::alloc::Global;
+use std::process::Abort;
 use ws_code::{Fault, Reason};
 use ws_extended::{Ask, ExtendedCommands, ExtendedElement};
-use ws_record::{Item, decode_all};
+use ws_record::{Item, decode_all, encode};
 use ws_stream::Commands;
 
 const QUERY: &[u8] =
@@ -68,15 +70,25 @@ const ROWS: [Row; 12] = [
     },
 ];
 
+// Where a stream is refused and why, if it is; what is accepted is encoded to its bytes again.
+fn refusal(rt: &impl Abort, alloc: Global, bytes: &[u8]) -> Option<(u64, Reason)> {
+    match decode_all::<ExtendedCommands>(alloc, bytes) {
+        Ok(items) => match encode::<ExtendedCommands>(alloc, items.as_slice()) {
+            Ok(encoded) => {
+                same(rt, encoded.as_slice(), bytes);
+                None
+            }
+            Err(_) => panic!(rt; "an encoding"),
+        },
+        Err(Fault::Refused { place, reason }) => Some((place, reason)),
+        Err(_) => panic!(rt; "neither accepted nor refused"),
+    }
+}
+
 #[test]
 fn streams(rt: HostRuntime) {
     for row in ROWS {
-        let refused = match decode_all::<ExtendedCommands>(rt.alloc(), row.bytes) {
-            Ok(_) => None,
-            Err(Fault::Refused { place, reason }) => Some((place, reason)),
-            Err(_) => panic!(&rt; "neither accepted nor refused"),
-        };
-        same(&rt, refused, row.refused);
+        same(&rt, refusal(&rt, rt.alloc(), row.bytes), row.refused);
     }
 }
 
