@@ -1,5 +1,5 @@
-ghost use Rattle.std.specs.Prelude.{◌≡◌, ◌≢◌, ◌<◌, ◌++◌, ◌∷◌, [], List, ℕ, true, false, Some, None, take};
-ghost use Rattle.ws_code.specs.Code.{IsPrefix, IsUnfinished};
+ghost use Rattle.std.specs.Prelude.{◌≡◌, ◌≢◌, ◌<◌, ◌++◌, ◌∷◌, [], List, ℕ, true, false, Some, None, take, IfSome};
+ghost use Rattle.ws_code.specs.Code.{IsPrefix, IsSpelled, IsUnfinished};
 ghost use Rattle.ws_code.specs.declared.reason.Reason.{Reason as AReason};
 ghost use Rattle.ws_code.specs.declared.code.Push.{Push as APush};
 ghost use Rattle.ws_code.specs.Step.{IsStep};
@@ -44,6 +44,20 @@ fn lifted(place: ExtendedPlace, element: Element) -> ExtendedElement
             Element::Ic(_) | Element::Put(_) => ExtendedElement::Text(element),
             _ => ExtendedElement::Profile(element),
         },
+    }
+}
+
+// A byte that is an element by itself where orders and data of the profile may stand.
+#[inline(always)]
+fn data_element(place: ExtendedPlace, byte: u8) -> Option<ExtendedElement>
+    ensures { IfSome result (IsSpelled extended_rules place (byte ∷ [])) }
+{
+    match place {
+        ExtendedPlace::InProfile(Place::Anything) => {
+            let byte = DataByte::new(byte)?;
+            Some(ExtendedElement::Profile(Element::Put(byte)))
+        }
+        _ => None,
     }
 }
 
@@ -151,6 +165,10 @@ impl ExtendedCommands {
         ensures { IsStep extended_rules self.old.place [] byte
             self.new.place (begun_in self.new.phase (unfinished_of self.new.inner)) result }
     {
+        // Most bytes of a long body are data.
+        if let Some(unit) = data_element(self.place, byte) {
+            return Push::Unit(unit);
+        }
         if byte == ESCAPE {
             let _more = self.inner.push(byte);
             self.phase = Phase::Escaped;

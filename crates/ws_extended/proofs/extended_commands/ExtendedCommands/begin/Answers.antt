@@ -58,9 +58,9 @@ go_on-requires-clause-reason c =
     (sym (none_yet m c.requires))
     (first_reasons m.place c.args.byte c.ranges.byte.fits (c.in-None.ensures.taken refl))
 
-pub returns-in-Some : goal.returns-in-Some
-returns-in-Some c =
-    let refused : _ = c.in-Some.ensures.refused c.in-Some.reason refl in
+pub returns-in-Some-refused_first : goal.returns-in-Some-refused_first
+returns-in-Some-refused_first c =
+    let refused : _ = c.in-Some-refused_first.ensures.refused c.in-Some-refused_first.reason refl in
     (none_begins c.args.self.now.place c.args.byte c.if-byte-eq-ESCAPE.false refused.0, refused.1)
 
 pub returns-in-None : goal.returns-in-None
