@@ -135,7 +135,8 @@ before_end t s a = record (cleared t) {
 abbrev behind_end : ScreenParts → ScreenParts → ℕ → ScreenParts
 behind_end t s a = record (after_cc2 (lights s) (Some s.cursor) (before_end t s a)) { writing = None }
 
-ended : (t s : ScreenParts) (a : ℕ) → FollowsAll (ends_of (before_end t s a).writing) (before_end t s a) (behind_end t s a)
+ended : (t s : ScreenParts) (a : ℕ)
+    → FollowsAll (ends_of (before_end t s a).writing) (before_end t s a) (behind_end t s a)
 ended t s a = end_follows (before_end t s a) (after_cc2 (lights s) (Some s.cursor) (before_end t s a)) (write_end s a)
     refl refl
 
@@ -211,7 +212,8 @@ leads_to_end row s t new ok apart closed leads =
     (soh_leads (flat_map field_image s.fields ++ (home_image s.home_set ++ put)) (cleared t) new (replicate 1920 0)
     (header row s.switches) [] (write_at cc2 0)
     (fields_lead (record switched { home_set = None }) new cc2 (home_image s.home_set ++ put) s.fields [] 1
-    (replicate 1920 0) 0 (length-replicate {A = ℕ} 1920 0) (omega arith) apart (omega arith) tt (omega (arith, ok.legal.few))
+    (replicate 1920 0) 0 (length-replicate {A = ℕ} 1920 0) (omega arith) apart (omega arith) tt
+    (omega (arith, ok.legal.few))
     (λ cells a size. home_leads switched new cells s.fields (write_at cc2 a) put s.home_set
     (sba_leads homed new cells s.fields cc2 a 0 (map Put s.cells ++ moved)
     (cells_lead homed new s.fields cc2 moved s.cells cells size ok.legal.size
@@ -268,7 +270,8 @@ pub image_gives : (g : History) (s : ScreenParts) → Gives g s → IsLegal s �
     → open_write h ≡ None → s ≡ screen_of (after_end (after_elements h (image row s)))
 image_gives g s given legal done row h closed =
     one_screen (after_end (after_elements h (image row s))) s
-    (makes row s (record { legal = legal; closed = done }) (behind_attributes g s given legal.apart) h closed).0 legal.size
+    (makes row s (record { legal = legal; closed = done }) (behind_attributes g s given legal.apart) h closed).0
+    legal.size
 
 pub image_unrefused : (g : History) (s : ScreenParts) → Gives g s → IsLegal s → s.writing ≡ None → (row : ℕ)
     (h : History) → open_write h ≡ None → body_fault h (image row s) ≡ None

@@ -124,7 +124,8 @@ text_stands (Sf f) h k = absurd (false≢true (sym (field_out (rest (spelling (S
 
 -- an element of the profile that begins so stands at the place
 pub up : (place : ExtendedPlace) (e : Element) (bytes rest : List ℕ) → is_inner place bytes ≡ true
-    → Stands element_rules (inner_place place) e → spelling e ≡ bytes ++ rest → Stands extended_rules place (lift place e)
+    → Stands element_rules (inner_place place) e → spelling e ≡ bytes ++ rest
+    → Stands extended_rules place (lift place e)
 up (InProfile place) e bytes rest h s same = record { is_unit = s.is_unit; may_follow = s.may_follow }
 up (Asked ask) e bytes rest h s same = never bytes ask h
 up ErrorText e bytes rest h s same =

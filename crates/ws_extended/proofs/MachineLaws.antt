@@ -80,7 +80,13 @@ asks_stand place ask = record { is_unit = tt; may_follow = go place }
     go (Asked before) = refl
 
 pub escape_more : (place : ExtendedPlace) → IsUnfinished extended_rules place (ESCAPE ∷ [])
-escape_more place = record { unit = Asks SaveScreen; next = 0x02; rest = []; stands = asks_stand place SaveScreen; spelled = refl }
+escape_more place = record {
+  unit = Asks SaveScreen;
+  next = 0x02;
+  rest = [];
+  stands = asks_stand place SaveScreen;
+  spelled = refl;
+}
 
 pub query_begun : (place : ExtendedPlace) → IsUnfinished extended_rules place (ESCAPE ∷ WRITE_STRUCTURED_FIELD ∷ [])
 query_begun place = record {
@@ -219,6 +225,7 @@ query_bad place count b small ne front =
     let all : (take count query_field ++ b ∷ []) ++ front.rest ≡ query_field =
     only_query front.unit place ((take count query_field ++ b ∷ []) ++ front.rest) front.stands front.spelled in
     let tails : b ∷ front.rest ≡ get_or query_field count 0 ∷ drop (count + 1) query_field =
-    append_cancel_left (take count query_field) (b ∷ front.rest) (get_or query_field count 0 ∷ drop (count + 1) query_field)
+    append_cancel_left (take count query_field) (b ∷ front.rest)
+    (get_or query_field count 0 ∷ drop (count + 1) query_field)
     (sym (append_assoc (take count query_field) (b ∷ []) front.rest) ∙ all ∙ sym (query_cut count small)) in
     ne (ap first tails)

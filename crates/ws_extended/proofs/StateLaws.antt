@@ -2,7 +2,6 @@
 use Rattle.std.proofs.Common.{◌≡◌, ℕ, ◌<◌, List, [], ◌∷◌, ◌++◌, Bool, true, false, Option, Some, None, map, refl, sym}
 use Rattle.std.proofs.Common.{ap, ◌∙◌, subst, unwrap_or, if◌then◌else◌}
 use Rattle.ws_code.specs.Code.{IsWhole}
-use Rattle.ws_code.specs.declared.reason.Reason.{Reason}
 use Rattle.ws_stream.specs.declared.element.Element.{Element}
 use Rattle.ws_screen.specs.declared.open_write.OpenWrite.{OpenWrite}
 use Rattle.ws_screen.specs.Bodies.{after_element, after_elements, after_end, element_fault, screen_of}

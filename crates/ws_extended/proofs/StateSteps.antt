@@ -1,5 +1,5 @@
 -- What the parts of a display with an error line are behind a step.
-use Rattle.std.proofs.Common.{◌≡◌, ℕ, List, [], ◌∷◌, ◌++◌, Bool, true, false, Option, Some, None, map, replicate, refl}
+use Rattle.std.proofs.Common.{◌≡◌, ℕ, List, [], ◌∷◌, ◌++◌, true, Option, Some, None, map, replicate, refl}
 use Rattle.std.proofs.Common.{sym, ap, ◌∙◌, subst, unwrap_or, length}
 use Rattle.std.proofs.lemmas.Bool.{false≢true}
 use Rattle.ws_stream.specs.declared.element.Element.{Element}
@@ -137,7 +137,8 @@ module _ (state : ExtendedState) (old new : ScreenParts) (row text : ℕ) (kept 
 
   -- an error that begins, and the row that it keeps
   pub cover_shows : (mid : ScreenParts) (kept' : Kept) → FollowsAll (ends_of old.writing) old mid → IsLegal mid
-      → mid.writing ≡ None → length old.cells ≡ 1920 → IsRow row → kept'.row ≡ row → kept'.cells ≡ row_cells row old.cells
+      → mid.writing ≡ None → length old.cells ≡ 1920 → IsRow row → kept'.row ≡ row
+      → kept'.cells ≡ row_cells row old.cells
       → Carries (error_begins row) mid new → Shows (covered state) (parts new row (Some kept') 0)
   cover_shows mid kept' end legal closed size at same of carries =
       let h : History = state.history in

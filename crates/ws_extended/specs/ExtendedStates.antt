@@ -79,7 +79,9 @@ bytes_behind n e = n
 -- the display behind an element: the profile's elements and a text's are carried out, and what asks ends an open write
 -- and no more
 abbrev pub state_after : ExtendedState → ExtendedElement → ExtendedState
-state_after state (Profile e) = record (state_before state e) { history = after_element (state_before state e).history e }
+state_after state (Profile e) = record (state_before state e) {
+  history = after_element (state_before state e).history e;
+}
 state_after state (Text e) = record state {
   history = after_element state.history (shows_text e);
   text = bytes_behind state.text e;
@@ -96,7 +98,8 @@ state_after_all state (u ∷ us) = state_after_all (state_after state u) us
 -- why an element is refused: as in the profile, and with more text than its row has cells
 abbrev pub state_fault : ExtendedState → ExtendedElement → Option Reason
 state_fault state (Profile e) = element_fault (state_before state e).history e
-state_fault state (Text (Put byte)) = if state.text == COLUMNS then Some PastEnd else element_fault state.history (Put byte)
+state_fault state (Text (Put byte)) =
+    if state.text == COLUMNS then Some PastEnd else element_fault state.history (Put byte)
 state_fault state (Text e) = None
 state_fault state RestoreScreen = None
 state_fault state WriteError = None

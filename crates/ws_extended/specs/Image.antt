@@ -1,5 +1,5 @@
--- The image of a screen: the elements of the profile that make any screen equal to it (own choice; SC30-3533, Save Screen
--- command, leaves it to the display).
+-- The image of a screen: the elements of the profile that make any screen equal to it (own choice; SC30-3533, Save
+-- Screen command, leaves it to the display).
 use Rattle.std.specs.Prelude.{ℕ, ◌<◌, ◌+◌, ◌-◌, ◌/◌, ◌%◌, List, [], ◌∷◌, ◌++◌, Option, Some, None, map}
 use Rattle.std.specs.Prelude.{if◌then◌else◌}
 use Rattle.std.specs.List.{flat_map, AllByRecursion}

@@ -124,7 +124,8 @@ impl KeptRow {
 
     /// Gives the row back to a screen, with a CC2 for the end of the write.
     pub fn give_back(&self, screen: &mut Screen, cc2: u8)
-        ensures carried { Carries (given_back cc2 self.now.row self.now.cells) screen.old screen.new }
+        ensures carried { Carries (given_back cc2 self.now.row self.now.cells)
+            screen.old screen.new }
         ensures open_ { IsSome screen.new.writing }
     {
         carry(screen, &Element::Write { cc1: 0, cc2 });

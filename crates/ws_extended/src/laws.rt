@@ -34,12 +34,15 @@ pub fn profile_is_extended()
 /// Where the profile stands, a byte that it takes is taken; one that isn't taken is refused for the profile's reason;
 /// and the profile refuses no other bytes that are taken than the codes of the seven commands.
 pub fn reasons_stay()
-    ensures taken { (place : APlace) (bytes : List ℕ) (b : ℕ) → IsUnfinished element_rules place bytes
+    ensures taken { (place : APlace) (bytes : List ℕ) (b : ℕ)
+        → IsUnfinished element_rules place bytes
         → IsPrefix element_rules place (bytes ++ b ∷ [])
         → IsPrefix extended_rules (InProfile place) (bytes ++ b ∷ []) }
-    ensures same { (place : APlace) (bytes : List ℕ) (b : ℕ) → IsUnfinished element_rules place bytes
+    ensures same { (place : APlace) (bytes : List ℕ) (b : ℕ)
+        → IsUnfinished element_rules place bytes
         → extended_reason (InProfile place) bytes b ≡ element_reason place bytes b }
-    ensures seven { (place : APlace) (bytes : List ℕ) (b : ℕ) → IsUnfinished element_rules place bytes
+    ensures seven { (place : APlace) (bytes : List ℕ) (b : ℕ)
+        → IsUnfinished element_rules place bytes
         → (IsPrefix element_rules place (bytes ++ b ∷ []) → ⊥)
         → IsPrefix extended_rules (InProfile place) (bytes ++ b ∷ [])
         → (bytes ≡ ESCAPE ∷ []) × (is_one_of b other_commands ≡ true) }
@@ -71,7 +74,8 @@ pub fn profile_acts_alike()
         → state_after_all (record { history = h; kept = None; text = n }) (map Profile es)
         ≡ record { history = after_elements h es; kept = None; text = n } }
     ensures refused { (h : History) (n : ℕ) (e : Element)
-        → state_fault (record { history = h; kept = None; text = n }) (Profile e) ≡ element_fault h e }
+        → state_fault (record { history = h; kept = None; text = n }) (Profile e)
+        ≡ element_fault h e }
 {}
 
 /// Whatever stood on a display, a saved screen that comes back is as it was, its error line too, and no error stands.
@@ -81,7 +85,8 @@ pub fn restore_gives_back()
         → (row : ℕ) (state : ExtendedState)
         → s ≡ screen_of (state_after_end (state_after_all state (saved_screen row s))).history }
     ensures row { (row : ℕ) (s : ScreenParts) (state : ExtendedState)
-        → error_row (state_after_end (state_after_all state (saved_screen row s))).history ≡ row_of row }
+        → error_row (state_after_end (state_after_all state (saved_screen row s))).history
+        ≡ row_of row }
     ensures none { (row : ℕ) (s : ScreenParts) (state : ExtendedState)
         → (state_after_all state (saved_screen row s)).kept ≡ None }
     ensures body { (row : ℕ) (s : ScreenParts) → IsLegal s → IsTyped s → row < 256
@@ -101,13 +106,14 @@ pub fn reset_gives_back()
         → (row : ℕ) (text : List Element) → IsRow row → IsErrorText text
         → (body_fault h (error_shown row text) ≡ None)
         × (body_fault (after_error h row text) (given_back RESETS row (row_cells row s.cells)) ≡ None) }
-    ensures reset { (h : History) (s : ScreenParts) → Gives h s → IsLegal s → s.writing ≡ None → (n : ℕ)
-        → (text : List Element) → IsErrorText text → IsRow (error_row h)
+    ensures reset { (h : History) (s : ScreenParts) → Gives h s → IsLegal s → s.writing ≡ None
+        → (n : ℕ) (text : List Element) → IsErrorText text → IsRow (error_row h)
         → Gives (state_after_reset (state_after_end (state_after_all
         (record { history = h; kept = None; text = n }) (WriteError ∷ map Text text)))).history (record s {
           locked = false;
           cursor = unwrap_or (text_cursor text None) s.cursor;
         }) }
-    ensures nothing { (h : History) (n : ℕ) → state_after_reset (record { history = h; kept = None; text = n })
+    ensures nothing { (h : History) (n : ℕ)
+        → state_after_reset (record { history = h; kept = None; text = n })
         ≡ record { history = h; kept = None; text = n } }
 {}

@@ -82,7 +82,8 @@ fn hand_down(place: ExtendedPlace, inner: &mut Commands, byte: u8) -> Push<Exten
     requires at { (reading_of inner.old).place ≡ inner_place place }
     requires unfinished { IsUnfinished element_rules (inner_place place) (unfinished_of inner.old) }
     requires inner { is_inner place (unfinished_of inner.old ++ byte ∷ []) ≡ true }
-    requires reason { (IsPrefix element_rules (inner_place place) (unfinished_of inner.old ++ byte ∷ []) → ⊥)
+    requires reason { (IsPrefix element_rules (inner_place place)
+        (unfinished_of inner.old ++ byte ∷ []) → ⊥)
         → element_reason (inner_place place) (unfinished_of inner.old) byte
         ≡ extended_reason place (unfinished_of inner.old) byte }
     ensures step { IsStep extended_rules place (unfinished_of inner.old) byte
@@ -131,7 +132,8 @@ impl ExtendedCommands {
         requires at { (reading_of self.old.inner).place ≡ inner_place self.old.place }
         requires unfinished { IsUnfinished element_rules (inner_place self.old.place)
             (unfinished_of self.old.inner) }
-        requires inner { is_inner self.old.place (unfinished_of self.old.inner ++ byte ∷ []) ≡ true }
+        requires inner { is_inner self.old.place
+            (unfinished_of self.old.inner ++ byte ∷ []) ≡ true }
         requires reason { (IsPrefix element_rules (inner_place self.old.place)
             (unfinished_of self.old.inner ++ byte ∷ []) → ⊥)
             → element_reason (inner_place self.old.place) (unfinished_of self.old.inner) byte

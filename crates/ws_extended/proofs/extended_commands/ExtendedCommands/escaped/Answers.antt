@@ -44,5 +44,5 @@ pub returns-in-None : goal.returns-in-None
 returns-in-None c =
     let m = c.args.self.now in
     let n = c.go_on.new.self in
-    subst (λ (l : List ℕ). IsStep extended_rules m.place l c.args.byte n.place (begun_in n.phase (unfinished_of n.inner))
-    c.go_on.result) (escape_there m c.requires) c.go_on.ensures
+    subst (λ (l : List ℕ). IsStep extended_rules m.place l c.args.byte n.place
+    (begun_in n.phase (unfinished_of n.inner)) c.go_on.result) (escape_there m c.requires) c.go_on.ensures

@@ -8,8 +8,11 @@ push-requires c = rw c.requires.at c.requires.unfinished
 
 pub returns-in-More-clause-step : goal.returns-in-More-clause-step
 returns-in-More-clause-step c =
-    let step : _ = rw c.requires.at at c.in-More.ensures in
-    (refl, step.1, unfinished_up c.args.place (unfinished_of c.args.inner.now ++ c.args.byte ∷ []) c.requires.inner step.2)
+    let step : _ = rw c.requires.at at c.in-More.ensures in (
+      refl,
+      step.1,
+      unfinished_up c.args.place (unfinished_of c.args.inner.now ++ c.args.byte ∷ []) c.requires.inner step.2,
+    )
 
 pub returns-in-Unit-clause-step : goal.returns-in-Unit-clause-step
 returns-in-Unit-clause-step c =

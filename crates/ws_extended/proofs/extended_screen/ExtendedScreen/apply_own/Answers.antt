@@ -1,5 +1,5 @@
-use Rattle.std.proofs.Common.{◌≡◌, Bool, true, false, Some, None, refl, sym, ◌∙◌}
-use Rattle.std.specs.Prelude.{OnErr, OnOk, Result, Ok, Err}
+use Rattle.std.proofs.Common.{◌≡◌, Bool, true, false, Some, None, refl, ◌∙◌}
+use Rattle.std.specs.Prelude.{OnErr, Result, Ok, Err}
 use Rattle.ws_code.specs.declared.reason.Reason.{Reason}
 use Rattle.ws_screen.specs.Faults.{fault, refusal}
 use Rattle.ws_screen.proofs.Applies.{same_fault}
