@@ -242,13 +242,13 @@ few-after_input_field a fs f few ok = go f.format refl
 
 -- a new screen is legal
 pub legal-new : (s : ScreenParts) → length s.cells ≡ 1920 → ((c : ℕ) → slice_index s.cells c ≡ 0) → s.fields ≡ []
-    → s.writing ≡ None → IsLegal s
-legal-new s size blank none closed =
+    → s.writing ≡ None → s.switches ≡ 0 → IsLegal s
+legal-new s size blank none closed off =
     record {
       size = size;
       clean = λ c. rw (blank c) refl;
       apart = rw none zero-le;
       few = rw none zero-le;
-      within =
-          rw closed zero-le;
+      within = rw closed zero-le;
+      switched = omega (arith, off);
     }

@@ -1,6 +1,6 @@
 -- What contracts see of a `Screen`: 24 rows of 80 cells, the format table and the rest of a
 -- display's state.
-use Rattle.std.specs.Prelude.{ℕ, ◌≡◌, ◌≤◌, ◌+◌, List, [], ◌∷◌, Bool, false, Option, Some, None, length, not, find}
+use Rattle.std.specs.Prelude.{ℕ, ◌≡◌, ◌≤◌, ◌<◌, ◌+◌, List, [], ◌∷◌, Bool, false, Option, Some, None, length, not, find}
 use Rattle.std.specs.Prelude.{nat_le, nat_lt, ◌&&◌, slice_index}
 use Rattle.std.specs.Option.{option_map_or}
 use Rattle.ws_code.specs.declared.address.TheConstants.{CELLS}
@@ -58,11 +58,12 @@ AreApart low (f ∷ fs) = (low ≤ f.start) × (1 ≤ f.length) × AreApart (f.s
 abbrev pub IsClean : List ℕ → Type 0
 IsClean cells = (c : ℕ) → is_order (slice_index cells c) ≡ false
 
--- what is true of every screen: its size, clean cells, legal fields, and an address on the screen
--- or just past it
+-- what is true of every screen: its size, clean cells, legal fields, an address on the screen or
+-- just past it, and key switches of three bytes
 pub record IsLegal (s : ScreenParts) : Type 0 where
   pub size : length s.cells ≡ CELLS
   pub clean : IsClean s.cells
   pub apart : AreApart 0 s.fields
   pub few : length s.fields ≤ MAX_FIELDS
   pub within : address_of s.writing ≤ CELLS
+  pub switched : s.switches < 0x1000000

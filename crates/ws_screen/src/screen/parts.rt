@@ -84,6 +84,20 @@ impl Screen {
         }
     }
 
+    /// Where an Insert Cursor set the home.
+    pub fn home_set(&self) -> Option<Address>
+        ensures { result ≡ self.now.home_set }
+    {
+        self.home_set
+    }
+
+    /// The key switches: bit n - 1 is on where key n returns no field data.
+    pub fn switches(&self) -> u32
+        ensures { result ≡ self.now.switches }
+    {
+        self.switches
+    }
+
     /// Whether the keyboard is locked.
     pub fn locked(&self) -> bool
         ensures { result ≡ self.now.locked }

@@ -13,4 +13,5 @@ invariant_of-self c = record {
   apart = rw c.clear_table_mdts.ensures (apart-cc1 c.args.cc1 _ c.self.invariant.apart);
   few = rw c.clear_table_mdts.ensures (few-map (after_cc1 c.args.cc1) _ c.self.invariant.few);
   within = c.self.invariant.within;
+  switched = c.self.invariant.switched;
 }

@@ -28,6 +28,7 @@ invariant_of-self c =
       few = rw (c.enter_any-ends.ensures.entered_, c.format.ensures, c.length.ensures)
           (few-after_input_field _ _ c.args.start.now c.self.invariant.few ok);
       within = omega (arith, rw c.open_write_in-open.ensures at c.self.invariant.within);
+      switched = c.self.invariant.switched;
     }
 
 pub returns-clause-event : goal.returns-clause-event

@@ -1,0 +1,16 @@
+pub mod Carrying
+pub mod ErrorLaws
+pub mod Fields
+pub mod ImageBodies
+pub mod ImageLaws
+pub mod ImageSizes
+pub mod Keeping
+pub mod Leads
+pub mod Lifting
+pub mod MachineLaws
+pub mod Painting
+pub mod ProfileBodies
+pub mod ProfileReasons
+pub mod Starts
+pub mod StateLaws
+pub mod StateSteps

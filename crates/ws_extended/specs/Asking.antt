@@ -1,0 +1,37 @@
+-- What a record asks at once. It is told of the screen that the record leaves, once: a record that asks again is
+-- refused by the reason of its second command that asks (own choice).
+use Rattle.std.specs.Prelude.{◌≡◌, List, [], ◌∷◌, Option, Some, None}
+use Rattle.std.specs.List.{flat_map}
+use Rattle.ws_code.specs.declared.reason.Reason.{Reason}
+use Rattle.ws_extended.specs.ExtendedReasons.{ask_reason}
+use Rattle.ws_extended.specs.declared.ask.Ask.{Ask}
+use Rattle.ws_extended.specs.declared.extended_element.ExtendedElement.{ExtendedElement}
+use Rattle.ws_extended.specs.declared.extended_element.ExtendedElement.TheVariants.{Profile, Text, RestoreScreen}
+use Rattle.ws_extended.specs.declared.extended_element.ExtendedElement.TheVariants.{WriteError, Asks}
+
+-- what an element asks
+abbrev pub ask_in : ExtendedElement → List Ask
+ask_in (Profile e) = []
+ask_in (Text e) = []
+ask_in RestoreScreen = []
+ask_in WriteError = []
+ask_in (Asks ask) = ask ∷ []
+
+-- what elements ask, in order
+abbrev pub asks_in : List ExtendedElement → List Ask
+asks_in units = flat_map ask_in units
+
+-- the first of these
+abbrev pub first_ask : List Ask → Option Ask
+first_ask [] = None
+first_ask (ask ∷ asks) = Some ask
+
+-- why the record is refused, if it is
+abbrev pub second_reason : List Ask → Option Reason
+second_reason [] = None
+second_reason (ask ∷ []) = None
+second_reason (ask ∷ again ∷ asks) = Some (ask_reason again)
+
+-- these are the first command that asks, and the reason of the second
+abbrev pub HasAsked : List Ask → Option Ask → Option Reason → Type 0
+HasAsked asks ask refused = (ask ≡ first_ask asks) × (refused ≡ second_reason asks)

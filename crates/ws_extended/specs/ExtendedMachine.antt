@@ -1,0 +1,43 @@
+-- What the machine of `ExtendedCommands` keeps of an unfinished element.
+use Rattle.std.specs.Prelude.{ℕ, List, [], ◌∷◌, Bool, true, false, ◌==◌, nat_lt, take, if◌then◌else◌}
+use Rattle.ws_stream.specs.declared.command_code.TheConstants.{ESCAPE, WRITE_STRUCTURED_FIELD}
+use Rattle.ws_stream.specs.declared.element.Element.{Element}
+use Rattle.ws_stream.specs.declared.place.Place.{Place}
+use Rattle.ws_stream.specs.declared.place.Place.TheVariants.{Anything}
+use Rattle.ws_extended.specs.ExtendedElements.{is_text, query_field}
+use Rattle.ws_extended.specs.ExtendedReasons.{is_inner}
+use Rattle.ws_extended.specs.declared.extended_commands.phase.Phase.{Phase}
+use Rattle.ws_extended.specs.declared.extended_commands.phase.Phase.TheVariants.{Begin, Escaped, Inside, InQuery}
+use Rattle.ws_extended.specs.declared.extended_element.ExtendedElement.{ExtendedElement}
+use Rattle.ws_extended.specs.declared.extended_element.ExtendedElement.TheVariants.{Profile, Text}
+use Rattle.ws_extended.specs.declared.extended_place.ExtendedPlace.{ExtendedPlace}
+use Rattle.ws_extended.specs.declared.extended_place.ExtendedPlace.TheVariants.{InProfile, ErrorText, Asked}
+
+-- the place at which the profile's machine reads an element
+abbrev pub inner_place : ExtendedPlace → Place
+inner_place (InProfile place) = place
+inner_place ErrorText = Anything
+inner_place (Asked ask) = Anything
+
+-- an element of the profile that was read at a place
+abbrev pub lift : ExtendedPlace → Element → ExtendedElement
+lift (InProfile place) e = Profile e
+lift ErrorText e = if is_text e then Text e else Profile e
+lift (Asked ask) e = Profile e
+
+-- the bytes of the element so far, by what is waited for and by those that the profile's machine has
+abbrev pub begun_in : Phase → List ℕ → List ℕ
+begun_in Begin bytes = []
+begun_in Escaped bytes = ESCAPE ∷ []
+begun_in Inside bytes = bytes
+begun_in (InQuery count) bytes = ESCAPE ∷ WRITE_STRUCTURED_FIELD ∷ take count query_field
+
+-- the profile's machine has these bytes, by what is waited for
+abbrev pub is_sound : ExtendedPlace → Phase → List ℕ → Bool
+is_sound place Begin [] = true
+is_sound place Begin (b ∷ bytes) = false
+is_sound place Escaped [] = false
+is_sound place Escaped (b ∷ []) = b == ESCAPE
+is_sound place Escaped (b ∷ c ∷ bytes) = false
+is_sound place Inside bytes = is_inner place bytes
+is_sound place (InQuery count) bytes = nat_lt count 5

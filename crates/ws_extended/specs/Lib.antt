@@ -1,0 +1,13 @@
+pub mod Asking
+pub mod Carried
+pub mod CommandNames
+pub mod ErrorLine
+pub mod ExtendedElements
+pub mod ExtendedKeys
+pub mod ExtendedLaws
+pub mod ExtendedMachine
+pub mod ExtendedReasons
+pub mod ExtendedStates
+pub mod ExtendedViews
+pub mod Image
+pub mod QueryReply

@@ -1,0 +1,17 @@
+use crate::Ask;
+use ws_stream::Element;
+
+/// An element of a live host's body: one of the profile, or one of seven commands beside it (SC30-3533, commands).
+#[derive(Debug, Drop, PartialEq, Eq)]
+pub enum ExtendedElement {
+    /// A command, an order or a cell's byte of the profile.
+    Profile(Element),
+    /// An Insert Cursor or a cell's byte of an error's text.
+    Text(Element),
+    /// Restore Screen, behind which stands what was sent at a Save Screen.
+    RestoreScreen,
+    /// Write Error Code, behind which stands its text.
+    WriteError,
+    /// A command that asks at once.
+    Asks(Ask),
+}

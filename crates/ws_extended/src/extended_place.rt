@@ -1,0 +1,13 @@
+use crate::Ask;
+use ws_stream::Place;
+
+/// Where an element of a live host's body stands. It says which elements may stand there.
+#[derive(Clone, Copy, Debug, PartialEq, Eq)]
+pub enum ExtendedPlace {
+    /// Those of the profile that may stand there, and all commands.
+    InProfile(Place),
+    /// Behind Write Error Code or its text: text, and all commands.
+    ErrorText,
+    /// Behind a command that asks at once: others that do.
+    Asked(Ask),
+}
