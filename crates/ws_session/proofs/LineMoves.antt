@@ -1,5 +1,5 @@
 use Rattle.ws_session.proofs.Common as C
-use C.{IfOk, OnOk, ◌≡◌, ℕ, ◌+◌, ◌≤◌, List, [], ◌∷◌, ◌++◌, Result, Ok, Err, length, take, drop, refl, ap, ◌∙◌, sym}
+use C.{IfOk, OnOk, ◌≡◌, ℕ, ◌+◌, ◌-◌, ◌≤◌, List, [], ◌∷◌, ◌++◌, Result, Ok, Err, length, take, drop, refl, ap, ◌∙◌, sym}
 use C.{arith, append_assoc, length-append, length-drop, append-nil, length-take-le, take_all, drop_all, drop-drop}
 use C.{drop-append-le, flat_map-append, take-add, drop-append_seam, take-append-add, Reason, Refusal, Event, Move}
 use C.{Act, Crossing, with_piece_at, HostParts, StationParts, TerminalType, WorldParts, Runs, new_world, TwoEnds}
@@ -8,6 +8,7 @@ use C.{HaveMoved, HasRun, WireParts, AreDelivered, inl, inr, subst, take-append-
 use C.{MayGive, AreFaithful, HaveCrossed, HasCrossed, IsStopped, IsEnded, AreEnded}
 use Rattle.std.specs.List.{AllByRecursion}
 use Rattle.ws_session.specs.declared.line.Line.{Line}
+use Rattle.ws_session.specs.BrokenOff.{AreNext, IsCut}
 use Rattle.ws_session.proofs.Arriving.{come_on}
 
 -- Moves of a session whose bytes go over two lines.
@@ -182,6 +183,27 @@ module _ (x y : TwoEnds) (a b : ℕ) (cs : List Crossing) (le : a ≤ b) where
 
   pub up_all : y.to_host ≡ [] → ComesUp x a cs y → ComesUp x b cs y
   up_all none p = (p.0, p.1, all_have_come _ _ _ _ _ a b cs _ _ _ _ p.0 p.1 le none p.2, p.3)
+
+-- the next of some bytes are the next of more
+next_of_more : (bytes flight : List ℕ) (n m : ℕ) → n ≤ m → AreNext bytes (take n flight) → AreNext bytes (take m flight)
+next_of_more bytes flight n m le next =
+    let more = take (m - n) (drop n flight) in
+    let sum : m ≡ n + (m - n) = omega (arith, le) in (
+      next.0 ++ more,
+      ap (λ k. take k flight) sum ∙ take-add n (m - n) flight ∙ ap (λ z. z ++ more) next.1
+          ∙ append_assoc bytes next.0 more,
+      next.2,
+    )
+
+-- what is cut of some bytes is cut of more
+pub cut_of_more : {S R : Type 0} (takes : MayTake S) (failures : S → ℕ) (gives : MayGive R) (misses : R → ℕ)
+    (flight : List ℕ) (n m : ℕ) (from to : Line S R) (fault : Fault) → n ≤ m
+    → IsCut takes failures gives misses (take n flight) from to fault
+    → IsCut takes failures gives misses (take m flight) from to fault
+cut_of_more takes failures gives misses flight n m from to fault le (inl c) =
+    inl (c.0, c.1, next_of_more c.1.sent flight n m le c.2, c.3)
+cut_of_more takes failures gives misses flight n m from to fault le (inr c) =
+    inr (c.0, c.1, next_of_more c.0 flight n m le c.2, c.3)
 
 -- one move more
 pub moved_on : (a b c : TwoEnds) (ms : List Move) (m : Move) (ds us es vs : List Crossing)

@@ -109,14 +109,12 @@ module _ (old mid new : HostParts) (bytes : List ℕ) (items : List (Item Answer
 
   pub host_at_last : (refusal : Refusal) → mid.screen ≡ old.screen → IsHostFronted mid new
       (bytes ++ byte ∷ []) items side (Err refusal) → EndsAt old new byte refusal bytes items side
-  host_at_last (At place reason) same f = (
-    (omega (arith, f.0, length-append bytes (byte ∷ [])), f.1 ∙ same, f.3, f.4),
-    omega (arith, f.2, length-append bytes (byte ∷ [])),
-  )
-  host_at_last Memory same f = (
-    (f.0 ∙ same, elim f.2 [ inl e ↦ inl (last_wanting e) | inr w ↦ inr w ], f.3),
-    omega (arith, f.1, length-append bytes (byte ∷ [])),
-  )
+  host_at_last (At place reason) same f =
+      let taken : new.receiver.live.taken ≡ length bytes + 1 = omega (arith, f.2, length-append bytes (byte ∷ [])) in
+      ((omega (arith, f.0, length-append bytes (byte ∷ [])), f.1 ∙ same, f.3, f.4, taken), taken)
+  host_at_last Memory same f =
+      let taken : new.receiver.live.taken ≡ length bytes + 1 = omega (arith, f.1, length-append bytes (byte ∷ [])) in
+      ((f.0 ∙ same, elim f.2 [ inl e ↦ inl (last_wanting e) | inr w ↦ inr w ], f.3, taken), taken)
   host_at_last Failed same f = absurd f
 
 -- what a byte gives

@@ -1,6 +1,6 @@
 -- A session over two lines that ended early: what was done of it, and what went into its lines
 
-use Rattle.std.specs.Prelude.{◌≡◌, ℕ, ◌≤◌, ◌⊎◌, List, [], ◌∷◌, ◌++◌}
+use Rattle.std.specs.Prelude.{◌≡◌, ℕ, ◌-◌, ◌≤◌, ◌⊎◌, List, [], ◌∷◌, ◌++◌, length, take}
 use Rattle.ws_code.specs.declared.fault.Fault.{Fault}
 use Rattle.ws_code.specs.declared.fault.Fault.TheVariants.{Memory}
 use Rattle.ws_code.specs.Device.{MayTake, MayGive}
@@ -12,20 +12,21 @@ use Rattle.ws_session.specs.Carrying.{IsCarryFault}
 use Rattle.ws_session.specs.Crossings.{Crossing, HaveCrossed}
 use Rattle.ws_session.specs.TwoLines.{TwoEnds, ComesDown, ComesUp, HasRun}
 
--- these bytes are the next of those in flight
+-- these bytes are the next of those that are due, at most 4,096
 abbrev pub AreNext : List ℕ → List ℕ → Type 0
-AreNext bytes flight = (later : List ℕ) × (flight ≡ bytes ++ later)
+AreNext bytes due = (later : List ℕ) × (due ≡ bytes ++ later) × (length bytes ≤ 4096)
 
 module _ {S R : Type 0} (takes : MayTake S) (failures : S → ℕ) (gives : MayGive R) (misses : R → ℕ) where
-  -- The next of the bytes in flight went into the line. They crossed, and then memory was wanting; or they did not.
+  -- The next of these bytes, at most 4,096, went into the line. They crossed, and then memory was wanting; or they did
+  -- not.
   abbrev pub IsCut : List ℕ → Line S R → Line S R → Fault → Type 0
-  IsCut flight from to fault =
-      ((fault ≡ Memory) × (piece : Crossing) × AreNext piece.sent flight
+  IsCut due from to fault =
+      ((fault ≡ Memory) × (piece : Crossing) × AreNext piece.sent due
       × HaveCrossed takes failures gives misses from (piece ∷ []) to)
-      ⊎ ((bytes : List ℕ) × (slice : List ℕ) × AreNext bytes flight
+      ⊎ ((bytes : List ℕ) × (slice : List ℕ) × AreNext bytes due
       × IsCarryFault takes failures from.sink to.sink gives misses from.source to.source bytes slice fault)
 
-  -- a delivery to the station: so many of its bytes came, or fewer, and the next were cut
+  -- a delivery to the station: fewer of its bytes came, and the next of the others were cut
   pub record CutsDown (old : TwoEnds) (count : ℕ) (from to : Line S R) (fault : Fault) : Type 0 where
     pub fewer : ℕ
     pub crossings : List Crossing
@@ -34,7 +35,7 @@ module _ {S R : Type 0} (takes : MayTake S) (failures : S → ℕ) (gives : MayG
     pub within : fewer ≤ count
     pub crossed : HaveCrossed takes failures gives misses from crossings last
     pub came : ComesDown old fewer crossings ends
-    pub cut : IsCut ends.to_station last to fault
+    pub cut : IsCut (take (count - fewer) ends.to_station) last to fault
 
   -- the same of one to the host end
   pub record CutsUp (old : TwoEnds) (count : ℕ) (from to : Line S R) (fault : Fault) : Type 0 where
@@ -45,7 +46,7 @@ module _ {S R : Type 0} (takes : MayTake S) (failures : S → ℕ) (gives : MayG
     pub within : fewer ≤ count
     pub crossed : HaveCrossed takes failures gives misses from crossings last
     pub came : ComesUp old fewer crossings ends
-    pub cut : IsCut ends.to_host last to fault
+    pub cut : IsCut (take (count - fewer) ends.to_host) last to fault
 
 module _ {S R T Q : Type 0} (takes : MayTake S) (failures : S → ℕ) (gives : MayGive R) (misses : R → ℕ)
     (takes' : MayTake T) (failures' : T → ℕ) (gives' : MayGive Q) (misses' : Q → ℕ) where

@@ -13,8 +13,8 @@ refused_byte (Some Failed) = None
 refused_byte (Some Memory) = None
 refused_byte None = None
 
--- An end is shut: it has refused a byte, or has taken as many as can be counted. It takes no more, and nothing that is
--- done at it has an effect.
+-- An end is shut: it has ended, at a byte that it refused or for which memory was wanting, or it has taken as many as
+-- can be counted. It takes no more, and nothing that is done at it has an effect.
 abbrev pub IsShut : Option Refusal → ℕ → Type 0
 IsShut ended taken = IsSome ended ⊎ (taken + 1 ≡ 2 ^ 64)
 

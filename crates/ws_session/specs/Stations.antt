@@ -79,7 +79,7 @@ module _ {D P U H PlaceV V K R : Type 0} (rules : Rules P U) (d : DisplayOf D U 
     pub holds : Holds rules bytes (items ++ item ∷ []) so_far begun
     pub refuses : takes_on d side item ≡ Refuses reason
 
-  -- the same of a byte behind these
+  -- a byte behind these completes no item
   abbrev pub IsInsideOn : PartsOn D P → PartsOn D P → List ℕ → List (Item U) → SideOn H → ℕ → R → Type 0
   IsInsideOn old new bytes items side byte reply = StaysInsideOn old new (bytes ++ byte ∷ []) items side reply
 

@@ -1,5 +1,5 @@
 //! A session whose bytes go over a connection.
-ghost use Rattle.std.specs.Prelude.{◌≡◌, ◌<◌, ◌^◌, ◌≤◌, ◌+◌, ◌⊎◌, ◌∷◌, [], List as Seq, length, vec_len, IfOk, IfErr, OnOk};
+ghost use Rattle.std.specs.Prelude.{◌≡◌, ◌<◌, ◌^◌, ◌≤◌, ◌+◌, ◌⊎◌, ◌∷◌, [], List as Seq, length, take, vec_len, IfOk, IfErr, OnOk};
 ghost use Rattle.ws_nego.specs.declared.terminal.TerminalType.{TerminalType as ATerminal};
 ghost use Rattle.ws_session.specs.BrokenOff.{IsCut, CutsDown, CutsUp, BreaksOff, HasEndedEarly};
 ghost use Rattle.ws_session.specs.Crossings.{Crossing, AreFaithful, HaveCrossed, IsEnded, AreEnded};
@@ -135,7 +135,7 @@ impl World {
         ensures fault { IfErr result
             (IsEnded S.takes S.failures R.gives R.failures line.old line.new) }
         ensures early { IfErr result (IsCut S.takes S.failures R.gives R.failures
-            (ends_of self.old).to_station line.old line.new) }
+            (take piece (ends_of self.old).to_station) line.old line.new) }
     {
         self.known_wires();
         let mut taken = [0u8; PIECE];
@@ -193,7 +193,7 @@ impl World {
         ensures fault { IfErr result
             (IsEnded S.takes S.failures R.gives R.failures line.old line.new) }
         ensures early { IfErr result (IsCut S.takes S.failures R.gives R.failures
-            (ends_of self.old).to_host line.old line.new) }
+            (take piece (ends_of self.old).to_host) line.old line.new) }
     {
         self.known_wires();
         let mut taken = [0u8; PIECE];

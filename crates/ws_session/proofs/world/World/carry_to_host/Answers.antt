@@ -1,7 +1,7 @@
-use Rattle.ws_session.proofs.Common.{◌≡◌, ◌≤◌, ◌+◌, [], ◌∷◌, ◌++◌, length, refl, arith, drop_all}
+use Rattle.ws_session.proofs.Common.{◌≡◌, ◌≤◌, ◌+◌, ◌-◌, [], ◌∷◌, ◌++◌, length, refl, arith, drop_all}
 use Rattle.ws_session.proofs.Common.{err_from_is_err_and, bytes_to_host, ends_of}
 use Rattle.ws_session.proofs.LineMoves.{up_none, up_more, up_all, crossed_on, stopped_behind, faithful_front}
-use Rattle.ws_session.proofs.LineMoves.{faithful_back}
+use Rattle.ws_session.proofs.LineMoves.{faithful_back, cut_of_more}
 use Rattle.ws_session.proofs.ByteSteps.{host_stops, none_comes_up, host_bytes_on}
 use Rattle.ws_session.proofs.world.World.carry_to_host.Goals as goal
 
@@ -77,5 +77,6 @@ returns-in_err-piece_to_host-clause-early g c =
       within = omega (arith, i.all);
       crossed = i.crossed;
       came = i.heard;
-      cut = c.in_err-piece_to_host.ensures.early;
+      cut = cut_of_more _ _ _ _ (ends_of c.loop-left.self).to_host c.min-piece.result (c.args.count - i.gone) _ _ _
+          (omega (arith, i.all, c.min-piece.ensures, c.min.ensures)) c.in_err-piece_to_host.ensures.early;
     })

@@ -1,6 +1,6 @@
 use Rattle.ws_session.proofs.Common.{◌≡◌, length, List, ℕ, [], ◌∷◌, arith, take, drop, inl, inr, refl, ap, ◌∙◌}
 use Rattle.ws_session.proofs.Common.{length-take-le, length-drop, err_from_is_err_and, on_ok_weaker, IfErr-weaker}
-use Rattle.ws_session.proofs.Common.{with_piece_at, WireParts, take-append-drop, sym}
+use Rattle.ws_session.proofs.Common.{with_piece_at, WireParts, append-nil, sym, ◌≤◌}
 use Rattle.ws_session.specs.contracts.world.World.{the_view}
 use Rattle.ws_session.proofs.LineMoves.{both_of_ok, down_piece, written_back}
 use Rattle.ws_session.proofs.world.World.piece_to_station.Goals as goal
@@ -54,17 +54,32 @@ returns-clause-fault g c = IfErr-weaker c.bytes_to_station.result _ _ (λ fault 
 pub returns-in_err-carry-clause-early : goal.returns-in_err-carry-clause-early
 returns-in_err-carry-clause-early g c =
     let p = err_from_is_err_and c.from_residual.result c.from_residual.ensures.1 in
-    let flight = c.waiting.result.now in
-    let next = sym c.waiting.ensures.bytes ∙ sym (take-append-drop c.args.piece flight) in
-    rw (p.1, p.2) (rw (← c.self.view_is) (inr (_, _, (drop c.args.piece flight, next), c.in_err-carry.ensures.fault)))
+    let s = c.self.inside in
+    let n = c.args.piece in
+    let flight = drop s.down.at s.down.bytes in
+    let fits = rw (← c.self.view_is) at c.requires.some in
+    let same : take n c.waiting.result.now ≡ take n flight = ap (take n) c.waiting.ensures.bytes in
+    let small : length (take n c.waiting.result.now) ≤ 4096 = omega (arith, ap (λ (z : List ℕ). length z) same,
+    length-take-le n flight (omega (arith, fits, length-drop s.down.at s.down.bytes)), c.requires.small) in
+    rw (p.1, p.2) (rw (← c.self.view_is) (inr (
+      _,
+      _,
+      ([], sym same ∙ sym (append-nil (take n c.waiting.result.now)), small),
+      c.in_err-carry.ensures.fault,
+    )))
 
 pub returns-clause-early : goal.returns-clause-early
 returns-clause-early g c =
-    let flight = c.waiting.result.now in
-    let next = sym c.waiting.ensures.bytes ∙ sym (take-append-drop c.args.piece flight) in
+    let s = c.self.inside in
+    let n = c.args.piece in
+    let flight = drop s.down.at s.down.bytes in
+    let fits = rw (← c.self.view_is) at c.requires.some in
+    let same : take n c.waiting.result.now ≡ take n flight = ap (take n) c.waiting.ensures.bytes in
+    let small : length (take n c.waiting.result.now) ≤ 4096 = omega (arith, ap (λ (z : List ℕ). length z) same,
+    length-take-le n flight (omega (arith, fits, length-drop s.down.at s.down.bytes)), c.requires.small) in
     rw (← c.self.view_is) (IfErr-weaker c.bytes_to_station.result _ _ (λ fault m. inl (
       m,
-      record { sent = take c.args.piece flight; read = c.carry.new.taken },
-      (drop c.args.piece flight, next),
+      record { sent = take n c.waiting.result.now; read = c.carry.new.taken },
+      ([], sym same ∙ sym (append-nil (take n c.waiting.result.now)), small),
       (record { sink = c.carry.new.sink; source = c.carry.new.source }, c.in_ok-carry.ensures.carried, refl),
     )) c.bytes_to_station.ensures.fault)
