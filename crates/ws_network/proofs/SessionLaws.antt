@@ -1,5 +1,5 @@
-use Rattle.std.proofs.Common.{◌≡◌, ℕ, List, Bool, true, false, refl, sym, ap, ◌∙◌, subst, Bor}
-use Rattle.std.specs.Prelude.{Option, None, Some, IfSome, MatchOption}
+use Rattle.std.proofs.Common.{◌≡◌, ℕ, List, true, sym, subst, Bor}
+use Rattle.std.specs.Prelude.{Option, None, Some, MatchOption}
 use Rattle.std.specs.Option.{is_none}
 use Rattle.std.proofs.lemmas.Bool.{false≢true}
 use Rattle.ws_live.specs.LiveScript.{AreLiveLines}
@@ -10,12 +10,11 @@ use Rattle.ws_network.specs.Sessions.{AreFromScript}
 module _ {L V : Type 0} (items : V → List L) (means : List ℕ → List (List ℕ) → L → Type 0)
     (opener : List ℕ → Type 0) where
   pub from_script : (script : Option (Bor (List ℕ))) (read : Option V) (lines : List L)
-      → is_none read ≡ is_none script
-      → IfSome read (λ v. (file : List ℕ) × AreLiveLines means opener file (items v))
+      → MatchOption read (is_none script ≡ true) (λ v. (file : List ℕ) × AreLiveLines means opener file (items v))
       → MatchOption read (Unit {0}) (λ v. lines ≡ items v) → AreFromScript means opener script lines
-  from_script None read lines same file all = tt
-  from_script (Some path) None lines same file all = absurd (false≢true (sym same))
-  from_script (Some path) (Some v) lines same file all = (
+  from_script None read lines file all = tt
+  from_script (Some path) None lines none all = absurd (false≢true none)
+  from_script (Some path) (Some v) lines file all = (
     file.0,
     subst (λ z. AreLiveLines means opener file.0 z) (sym all) file.1,
   )

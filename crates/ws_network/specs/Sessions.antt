@@ -1,6 +1,7 @@
 -- What the sessions of `connect` and `serve` come to that don't end early.
 
-use Rattle.std.specs.Prelude.{◌≡◌, ℕ, List, [], ◌++◌, Bool, false, Option, None, Some, MatchOption, Bor}
+use Rattle.std.specs.Prelude.{◌≡◌, ℕ, List, [], ◌++◌, Bool, false, Option, None, Some, MatchOption}
+use Rattle.std.specs.Borrow.{Bor}
 use Rattle.ws_code.specs.Device.{MayTake, WentOut}
 use Rattle.ws_session.specs.Attachments.{AttachedParts}
 use Rattle.ws_session.specs.HostLeads.{HostParts, HostLeads, unopened_host_side, side_after_open}

@@ -1,6 +1,6 @@
 //! Live sessions over a connection: the sockets and the script. What the lines do at an end, and what they print, is
 //! said where they are carried out.
-ghost use Rattle.std.specs.Prelude.{◌≡◌, [], ℕ, List, None, IfOk, OnOk, IfSome, MatchOption};
+ghost use Rattle.std.specs.Prelude.{◌≡◌, [], ℕ, List, true, IfOk, OnOk, MatchOption};
 ghost use Rattle.std.specs.Option.{is_none};
 ghost use Rattle.ws_code.specs.Device.{WentOut};
 ghost use Rattle.ws_live.specs.LiveScript.{AreLiveLines};
@@ -137,8 +137,7 @@ fn read_script_file<R: Files + AllocGlobal, L: LiveLine>(
     rt: &R,
     script: Option<&str>,
 ) -> Result<Option<Vec<L>>, RunFault>
-    ensures none { IfOk result (λ read. is_none read ≡ is_none script) }
-    ensures lines { IfOk result (λ read. IfSome read (λ lines.
+    ensures { IfOk result (λ read. MatchOption read (is_none script.entry ≡ true) (λ lines.
         (file : List ℕ) × AreLiveLines L.means L.opener file lines.items)) }
 {
     let Some(path) = script else {
