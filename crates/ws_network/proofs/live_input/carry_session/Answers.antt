@@ -15,3 +15,11 @@ returns-in_err-carry_lines-in-Some-clause-fault g c =
         refl,
       ),
     )
+
+pub returns-in_ok-carry_lines-in-Some-clause-ran : goal.returns-in_ok-carry_lines-in-Some-clause-ran
+returns-in_ok-carry_lines-in-Some-clause-ran g c =
+    rw (c.in-Some.is) (
+      c.as_slice.result.now,
+      c.as_slice.ensures.value,
+      c.in_ok-carry_lines-in-Some.ensures.ran,
+    )
