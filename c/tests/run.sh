@@ -122,13 +122,36 @@ if has pkg-config "programs on what was installed"; then
     fi
 fi
 
+# What of the terminal is no drawing: each test with all of it.
+terminal=$top/terminal
+logic=("$terminal"/{action,address,ahead,bindings,hold,kept,keys_file,look,moves,paste,recording,sentence,status,stroke,telnet}.c)
+probe=()
+[ -x "$folder/probe" ] && probe=("${sanitized[@]}")
+for test in "$terminal"/tests/*.c; do
+    name=$(basename "$test" .c)
+    try "$name.c is built" "$CC" "${warnings[@]}" "${probe[@]}" -g -I "$here" -I "$terminal" -o "$folder/terminal_$name" \
+        "$test" "${logic[@]}" "$BUILD/libribbonscarp.a"
+    try_counted "the terminal's $name" "$folder/terminal_$name"
+done
+
 # The terminal, typed into.
 if has python3 "the terminal"; then
     if echo '#include <curses.h>' | "$CC" -D_XOPEN_SOURCE_EXTENDED=1 -E -x c - >/dev/null 2>&1; then
         try "make terminal" "$MAKE" -C "$here" terminal BUILD="$BUILD" LIB="$LIB" GLUE="$GLUE" T5250="$T5250"
-        try "host5250.c is built" "$CC" "${warnings[@]}" -g -I "$here" -o "$folder/host5250" "$top/terminal/host5250.c" \
+        try "host5250.c is built" "$CC" "${warnings[@]}" -g -I "$here" -o "$folder/host5250" "$terminal/host5250.c" \
             "$BUILD/libribbonscarp.a"
-        try_counted "the terminal" python3 "$top/terminal/run_terminal.py" "$BUILD/term5250" "$folder/host5250" "$T5250"
+        careful_terminal=()
+        if [ ${#probe[@]} -gt 0 ]; then
+            try "the terminal is built with sanitizers" "$MAKE" -C "$here" terminal BUILD="$BUILD" LIB="$LIB" GLUE="$GLUE" \
+                T5250="$T5250" TERMINAL="$folder/sanitized_terminal" CFLAGS="${sanitized[*]}"
+            careful_terminal=(--sanitized "$folder/sanitized_terminal")
+        fi
+        try "the terminal is installed" "$MAKE" -C "$here" install PREFIX=/usr DESTDIR="$stage" BUILD="$BUILD" LIB="$LIB" \
+            GLUE="$GLUE"
+        try "its page of the manual" grep -q '^.TH TERM5250 1' "$stage/usr/share/man/man1/term5250.1"
+        try "the installed terminal" "$stage/usr/bin/term5250" --version
+        try_counted "the terminal" python3 "$terminal/run_terminal.py" "$BUILD/term5250" "$folder/host5250" "$T5250" \
+            "${careful_terminal[@]}" ${TERMINAL_TESTS:-}
     else
         echo "left out: the terminal, since the headers of ncurses aren't here (libncurses-dev)"
     fi

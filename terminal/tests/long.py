@@ -1,0 +1,138 @@
+"""Random keys and records, and hosts that send garbage, at a terminal with sanitizers: no report, and each time the
+terminal as it was found."""
+import random
+import time
+
+import hosts
+from hosts import Host, READ, field, plain, text, write
+from window import Terminal, check
+
+KEYS = ["\r", "\t", "\x1b[Z", "\x7f", "\x08", "\x1bOA", "\x1bOB", "\x1bOC", "\x1bOD", "\x1bOH", "\x1b[F", "\x1b[2~", "\x1b[3~",
+        "\x1b[5~", "\x1b[6~", "\x1bOP", "\x1bOR", "\x1b[24~", "\x1b[1;2P", "\x1b!", "\x1b1", "\x1ba", "\x1bs", "\x1be", "\x1bc",
+        "\x1b\x1b", "\x12", "\x12", "\x12", "\x01", "\x05", "\x0b", "\n", "\x06", "\x0e", "\x04", "\x0f", "\x0c", "\x07", "\x10",
+        "\x14", "\x18", "\x03", "\x1bOM", "\x1bOk", "\x1bOu", "\x1b[1;5C", "\x1b]11;?\x07", "\x1b[<0;20;3M\x1b[<0;20;3m",
+        "\x1b[<0;200;90M", "\x1b[200~12\r\nab\x1b[201~", "\x1b[200~", "\x1b[201~", "\x1dx", "\x1d\x1d", "\x1d\x1b", "\x00",
+        "caf\u00e9", "\u20ac", "12.5", "x", " ", "A long text that fills more than one field of them all"]
+SIZES = [(24, 80), (25, 80), (30, 100), (20, 60), (1, 1), (50, 200), (24, 79), (23, 80), (3, 500)]
+SAID = ("AddressSanitizer", "runtime error", "LeakSanitizer", "ERROR:")
+
+
+def form(dice):
+    body = write(dice.choice([0x00, 0x08, 0x08, 0x08, 0x0A, 0x09, 0x18, 0x28, 0x48]))
+    for k in range(dice.randrange(24)):
+        row, column = dice.randint(1, 24), dice.randint(2, 60)
+        body += text(row, column, "".join(chr(dice.randint(0x20, 0x7E)) for _ in range(dice.randrange(15))),
+                     dice.randint(0x20, 0x3F))
+    for row in dice.sample(range(2, 23), dice.randrange(1, 12)):
+        shift = dice.choice([0, 1, 2, 3, 5, 7])
+        bits = dice.choice([0, 0x2000, 0x1000, 0x20, 0x05, 0x06, 0x08])
+        body += field(row, dice.randint(2, 50), dice.choice([1, 2, 6, 30, 200 if row < 20 else 9]),
+                      0x4000 | shift << 8 | bits, dice.randint(0x20, 0x3F))
+    return body + (READ if dice.random() < 0.9 else b"")
+
+
+def something(dice):
+    """What a host sends next: mostly forms, some that the screen refuses."""
+    kind = dice.random()
+    if kind < 0.75:
+        return hosts.record(form(dice))
+    if kind < 0.85:
+        return hosts.record(b"\x04\x11\x00" + bytes([dice.choice([0x08, 0x01, 0x02, 0x00])]), 2)
+    if kind < 0.9:
+        return hosts.record(b"", dice.choice([11, 12, 10, 1, 2]))
+    return dice.choice([hosts.SEND_TYPE, b"\xff\xf1", b"\xff\xf2", b"\xff\xfd\x03", b"\xff\xfb\x01"]) * dice.randint(1, 30)
+
+
+def say_nothing(t, said, what):
+    check(not any(word in said for word in SAID), f"no sanitizer speaks: {what}", said[-1500:])
+
+
+def one_session(dice, sanitized, seconds, counts):
+    host = Host()
+    words = dice.choice([[], ["--no-hold"], ["--mono"], ["--separators", "off"], ["--background", "own"], ["--no-mouse"]])
+    rows, columns = dice.choice(SIZES[:3])
+    t = Terminal(*words, f"127.0.0.1:{host.port}", rows=rows, columns=columns, program=sanitized,
+                 term=dice.choice(["xterm", "screen", "vt100", "linux", "xterm-256color"]), ASAN_OPTIONS="exitcode=99")
+    host.ready()
+    end = time.monotonic() + seconds
+    try:
+        while time.monotonic() < end and t.child.poll() is None:
+            for _ in range(dice.randrange(8)):
+                t.type(dice.choice(KEYS))
+                counts["keys"] += 1
+            if dice.random() < 0.5:
+                host.send_raw(something(dice))
+                counts["records"] += 1
+            if dice.random() < 0.03:
+                t.resize(*dice.choice(SIZES))
+                counts["sizes"] += 1
+            while t.read(0.002):
+                pass
+    except OSError:
+        pass  # A refused record closes the line.
+    t.type("\x1b[201~")
+    while t.read(0.2):
+        pass
+    t.resize(25, 80)
+    t.read(0.2)
+    t.type("\x1dx\x1dq")
+    said = t.ended(1 if "efused" in t.said.decode("utf-8", "replace") else 0, seconds=30)
+    say_nothing(t, said, "random keys and records")
+    host.close()
+    counts["sessions"] += 1
+
+
+def random_work(seed, sanitized, seconds):
+    dice = random.Random(seed)
+    counts = dict.fromkeys(("sessions", "keys", "records", "sizes"), 0)
+    end = time.monotonic() + seconds
+    while time.monotonic() < end:
+        one_session(dice, sanitized, min(20, max(end - time.monotonic(), 1)), counts)
+    print("random work:", ", ".join(f"{count} {name}" for name, count in counts.items()), flush=True)
+
+
+def garbage(dice):
+    kind = dice.randrange(5)
+    data = dice.randbytes(dice.randint(1, 3000))
+    if kind == 1:
+        data = data.replace(b"\xff", b"")
+    elif kind == 2:
+        data = b"\xff\xfd\x18" + data
+    elif kind == 3:
+        data = bytes(dice.choice([0xFF, 0xFA, 0xFB, 0xFD, 0xF0, 0xEF, 0x18, 0x01, 0x00]) for _ in range(2000))
+    elif kind == 4:
+        whole = bytearray(hosts.record(form(dice)))
+        for _ in range(dice.randint(1, 4)):
+            whole[dice.randrange(len(whole))] = dice.randrange(256)
+        data = bytes(whole)
+    return data
+
+
+def garbage_hosts(seed, sanitized, count):
+    dice = random.Random(seed)
+    for number in range(count):
+        data, negotiates = garbage(dice), dice.random() < 0.5
+        if negotiates:
+            host = Host()
+            port = host.port
+        else:
+            port = plain(lambda line, data=data: (line.sendall(data), time.sleep(0.05)))
+        t = Terminal(f"127.0.0.1:{port}", program=sanitized, ASAN_OPTIONS="exitcode=99")
+        if negotiates:
+            host.ready()
+            host.send_raw(data)
+            t.read(0.2)
+            host.close()
+        t.until(lambda: "^] leaves" in t.status(), f"garbage host {number} ends", seconds=20)
+        t.type("\x1dq")
+        said = t.ended(t.child.poll() if t.child.poll() is not None else ended_with(t), seconds=20)
+        say_nothing(t, said, f"garbage host {number}")
+
+
+def ended_with(t):
+    """The status with which it ends: 0 or 1 by what was refused, and no other."""
+    end = time.monotonic() + 10
+    while t.child.poll() is None and time.monotonic() < end:
+        t.read(0.02)
+    check(t.child.returncode in (0, 1), "a status of 0 or 1", t.child.returncode)
+    return t.child.returncode
