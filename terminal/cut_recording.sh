@@ -11,4 +11,4 @@ case "$#:${2:-host}" in
     exit 2
     ;;
 esac
-exec awk -v side="${2:-host}" '$2 == side { print $3 }' -- "$1"
+exec awk -v side="${2:-host}" '$2 == side { print $3 }' <"$1"

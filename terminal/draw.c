@@ -54,25 +54,27 @@ static const char *turn_words(const session *s, const ribbon_state *state)
     return state->is_locked ? "waiting for the host" : "";
 }
 
-/* The sentence that stands, and what to do about it. */
-static const char *standing_words(session *s)
+/* The key that goes on from here: Reset's, as it is bound, or the menu's. */
+static const char *way_words(session *s)
 {
-    char keys[16]; /* room for one or two of them */
-    bindings_keys(&s->keys, (action){ACTION_RESET, 0}, keys, sizeof keys);
+    char keys[40];
     if (s->phase == PHASE_OVER)
-        (void)snprintf(s->shown, sizeof s->shown, "%s ^] leaves.", s->standing);
-    else if (s->is_held)
-        (void)snprintf(s->shown, sizeof s->shown, "%s Reset: %s", s->standing, keys);
-    else
-        return "";
-    return s->shown;
+        return "^] leaves";
+    if (!s->is_held)
+        return "^] menu";
+    bindings_keys(&s->keys, (action){ACTION_RESET, 0}, keys, sizeof keys);
+    keys[strcspn(keys, ",")] = 0; /* the first of them */
+    (void)snprintf(s->way, sizeof s->way, "Reset: %.16s", keys);
+    return s->way;
 }
 
 status_parts draw_parts(session *s, const ribbon_state *state)
 {
     ribbon_field field;
     status_parts parts = {.turn = turn_words(s, state), .where = s->asked->where};
-    parts.note = s->note[0] != 0 ? s->note : standing_words(s);
+    parts.note = s->note[0] != 0 ? s->note : s->standing;
+    parts.way = way_words(s);
+    parts.is_way_out = s->is_held || s->phase == PHASE_OVER;
     parts.is_message_lit = state->is_message_lit;
     parts.is_inserting = s->is_inserting;
     parts.is_recording = s->recording.file != NULL;

@@ -45,6 +45,8 @@ static const struct {
     {"\033[15;2~", STROKE_F1 + 16}, {"\033[17;2~", STROKE_F1 + 17}, {"\033[18;2~", STROKE_F1 + 18},
     {"\033[19;2~", STROKE_F1 + 19}, {"\033[20;2~", STROKE_F1 + 20}, {"\033[21;2~", STROKE_F1 + 21},
     {"\033[23;2~", STROKE_F1 + 22}, {"\033[24;2~", STROKE_F1 + 23},
+    {"\033[[A", STROKE_F1}, {"\033[[B", STROKE_F1 + 1}, {"\033[[C", STROKE_F1 + 2}, {"\033[[D", STROKE_F1 + 3},
+    {"\033[[E", STROKE_F1 + 4},
 };
 
 /* Codes of curses and their strokes. */
@@ -113,16 +115,13 @@ static void read_coded(input_reader *r, int code, input *i)
         i->key |= STROKE_ESCAPED;
 }
 
-/* Whether a character belongs to a sequence that nobody knows, or is its last: then it is told. */
-static bool read_sequence(input_reader *r, wchar_t character, input *i)
+/* A character of a sequence that nobody knows. It is told, so that whoever typed its begin by hand hears of it. */
+static void read_sequence(input_reader *r, wchar_t character, input *i)
 {
-    bool is_string = r->sequence == SEQUENCE_STRING;
-    bool is_last = is_string ? character == 0x07 || character == '\\' || character == 0x9c
-                             : r->sequence == SEQUENCE_ONE || (character >= 0x40 && character <= 0x7e);
+    bool is_end = r->sequence == SEQUENCE_STRING ? character == '\\' || character == 0x9c : character >= 0x40;
     i->kind = INPUT_UNKNOWN;
-    if (is_last)
+    if (is_end || character < 0x20)
         r->sequence = SEQUENCE_NONE;
-    return is_last;
 }
 
 /* What stands behind Esc. */
@@ -130,7 +129,7 @@ static bool read_escaped(input_reader *r, wchar_t character, input *i)
 {
     r->is_escaped = false;
     if (character == '[' || character == ']' || character == 'O') {
-        r->sequence = character == '[' ? SEQUENCE_CONTROL : character == ']' ? SEQUENCE_STRING : SEQUENCE_ONE;
+        r->sequence = character == ']' ? SEQUENCE_STRING : SEQUENCE_CONTROL;
         return false;
     }
     *i = (input){.kind = INPUT_STROKE, .key = (stroke)character | STROKE_ESCAPED};
@@ -143,8 +142,10 @@ static bool read_character(input_reader *r, wchar_t character, input *i)
     *i = (input){.kind = INPUT_CHARACTER, .key = (stroke)character};
     if (r->is_pasting)
         return true;
-    if (r->sequence != SEQUENCE_NONE)
-        return read_sequence(r, character, i);
+    if (r->sequence != SEQUENCE_NONE) {
+        read_sequence(r, character, i);
+        return true;
+    }
     if (r->is_escaped)
         return read_escaped(r, character, i);
     r->is_escaped = character == STROKE_ESCAPE;

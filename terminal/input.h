@@ -25,7 +25,7 @@ typedef struct {
     mbstate_t state; /* of a character that has come in part */
     bool is_escaped; /* Esc came, and what it stands before is still to come */
     bool is_pasting;
-    enum { SEQUENCE_NONE, SEQUENCE_CONTROL, SEQUENCE_STRING, SEQUENCE_ONE } sequence; /* that nobody knows, and is left */
+    enum { SEQUENCE_NONE, SEQUENCE_CONTROL, SEQUENCE_STRING } sequence; /* that nobody knows, and is left */
 } input_reader;
 
 /* Tells curses of keys that its description of the terminal may lack. */

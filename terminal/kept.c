@@ -59,7 +59,6 @@ static const kept_piece *piece_at(const kept *k, size_t at)
 bool kept_walk(const kept *k, kept_visit *visit, void *self)
 {
     uint8_t bytes[KEPT_PIECE];
-    bool has_begun = false;
     size_t place = k->first_byte;
     for (size_t at = 0; at < k->pieces_used; at++) {
         const kept_piece *piece = piece_at(k, at);
@@ -67,8 +66,7 @@ bool kept_walk(const kept *k, kept_visit *visit, void *self)
         memcpy(bytes, k->bytes + place, front);
         memcpy(bytes + front, k->bytes, piece->length - front);
         place = (place + piece->length) % KEPT_ROOM;
-        has_begun = has_begun || piece->begins;
-        if (has_begun && !visit(self, piece, bytes))
+        if (!visit(self, piece, bytes))
             return false;
     }
     return true;

@@ -37,7 +37,7 @@ typedef bool kept_visit(void *self, const kept_piece *piece, const uint8_t *byte
 void kept_add(kept *k, bool is_host, uint64_t milliseconds, const uint8_t *bytes, size_t count, kept_visit *visit,
               void *self);
 
-/* Hands over each piece from the first on with which a record of the host begins; false where `visit` ended it. */
+/* Hands over each piece, from the oldest on; false where `visit` ended it. */
 bool kept_walk(const kept *k, kept_visit *visit, void *self);
 
 #endif

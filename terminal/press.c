@@ -101,7 +101,7 @@ static void refuse(session *s, action key, const pressed *p)
         paste_stop(&s->paste);
         (void)snprintf(text, NOTE_ROOM, "%zu pasted. %s", s->paste.count, why);
     } else if (dropped > 0) {
-        (void)snprintf(text, NOTE_ROOM, "%s %zu keys dropped.", why, dropped);
+        (void)snprintf(text, NOTE_ROOM, "%s %zu dropped.", why, dropped);
     } else {
         (void)snprintf(text, NOTE_ROOM, "%s", why);
     }

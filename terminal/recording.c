@@ -69,7 +69,8 @@ bool recording_piece(void *self, const kept_piece *piece, const uint8_t *bytes)
     static const char digits[] = "0123456789ABCDEF";
     recording *r = self;
     char hex[2 * KEPT_PIECE + 1];
-    if (r->file == NULL)
+    r->has_begun = r->has_begun || piece->begins;
+    if (r->file == NULL || !r->has_begun)
         return true;
     for (uint32_t at = 0; at < piece->length; at++) {
         hex[2 * at] = digits[bytes[at] >> 4];
@@ -86,6 +87,7 @@ bool recording_piece(void *self, const kept_piece *piece, const uint8_t *bytes)
 bool recording_begin(recording *r, const char *name, const kept *k)
 {
     char made[FILE_NAME_ROOM];
+    r->has_begun = false;
     r->file = file_made(name, made, sizeof made);
     (void)snprintf(r->name, sizeof r->name, "%s", r->file != NULL ? made : name);
     return r->file != NULL && kept_walk(k, recording_piece, r);

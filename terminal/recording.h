@@ -10,6 +10,7 @@ enum { FILE_NAME_ROOM = 4096 };
 
 typedef struct {
     FILE *file;                /* null where nothing is recorded */
+    bool has_begun;            /* with a piece that begins a record of the host's: what comes before isn't written */
     char name[FILE_NAME_ROOM]; /* of that file, or of the last one */
 } recording;
 

@@ -59,7 +59,8 @@ def parts(words):
 
 def main():
     words = arguments()
-    window.Terminal.program, hosts.Host5250.program, window.Terminal.t5250 = words.programs
+    programs = [str(pathlib.Path(name).resolve()) for name in words.programs]
+    window.Terminal.program, hosts.Host5250.program, window.Terminal.t5250 = programs
     for part in parts(words):
         if words.only not in part.__name__:
             continue

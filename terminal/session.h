@@ -40,7 +40,7 @@ typedef struct {
     int status;        /* of the program */
     char note[NOTE_ROOM];     /* a sentence up to the next key */
     char standing[NOTE_ROOM]; /* a sentence up to Reset, or to the end */
-    char shown[NOTE_ROOM + 80]; /* that sentence, with what ends it */
+    char way[24];             /* the key that ends what stands */
 } session;
 
 /* Milliseconds of a clock that only goes forward. */

@@ -11,41 +11,48 @@ static void put_signs(const status_parts *parts, char *text, size_t room)
                    parts->is_recording ? " REC" : "", parts->waits ? " T" : "");
 }
 
-/* What stands at the right; the menu's key and the field's length only where a long sentence leaves room for them. */
+/* What stands at the right; the way on and the field's length only where a long sentence leaves room for them. */
 static void put_right(const status_parts *parts, size_t left_needs, char *text, size_t room)
 {
-    char signs[20], place[12], field[24] = "";
-    static const char menu[] = "  ^] menu";
+    char signs[20], place[12], way[40], field[24] = "";
     put_signs(parts, signs, sizeof signs);
     (void)snprintf(place, sizeof place, "  %02u/%03u ", parts->row % 100, parts->column % 1000);
+    (void)snprintf(way, sizeof way, "  %s", parts->way);
     if (parts->field_length > 0)
         (void)snprintf(field, sizeof field, "  field %u", parts->field_length);
     size_t needs = left_needs + strlen(signs) + strlen(place);
-    bool has_menu = needs + strlen(menu) <= STATUS_COLUMNS;
-    bool has_field = needs + strlen(menu) + strlen(field) <= STATUS_COLUMNS;
-    (void)snprintf(text, room, "%s%s%s%s", signs, has_menu ? menu : "", has_field ? field : "", place);
+    bool has_way = parts->is_way_out || needs + strlen(way) <= STATUS_COLUMNS;
+    bool has_field = needs + strlen(way) + strlen(field) <= STATUS_COLUMNS;
+    (void)snprintf(text, room, "%s%s%s%s", signs, has_way ? way : "", has_field ? field : "", place);
+}
+
+/* Fills the line's front with a text; where it is cut, two full stops say so. */
+static void put_left(const wchar_t *text, size_t length, wchar_t *line, size_t room)
+{
+    line[0] = L' ';
+    for (size_t at = 1; at < room; at++)
+        line[at] = at - 1 < length ? text[at - 1] : L' ';
+    if (length + 1 > room)
+        line[room - 1] = line[room - 2] = L'.';
 }
 
 void status_line(const status_parts *parts, wchar_t line[STATUS_COLUMNS + 1])
 {
-    char left[600], right[80];
+    char left[600], right[2 * STATUS_COLUMNS];
     wchar_t wide[600];
-    bool has_turn = parts->turn[0] != 0;
     if (parts->note[0] != 0)
         (void)snprintf(left, sizeof left, "%s", parts->note);
     else
-        (void)snprintf(left, sizeof left, "%s%s%s", parts->turn, has_turn ? "  " : "", parts->where);
+        (void)snprintf(left, sizeof left, "%s%s%s", parts->turn, parts->turn[0] != 0 ? "  " : "", parts->where);
     size_t length = mbstowcs(wide, left, sizeof wide / sizeof wide[0] - 1);
     if (length == (size_t)-1)
         length = 0;
     put_right(parts, length + 1, right, sizeof right);
-    size_t room = STATUS_COLUMNS - strlen(right), at = 0;
-    line[at++] = L' ';
-    for (size_t from = 0; at < room; from++)
-        line[at++] = from < length ? wide[from] : L' ';
-    for (size_t from = 0; at < STATUS_COLUMNS; from++)
-        line[at++] = (wchar_t)right[from];
-    line[at] = 0;
+    size_t room = STATUS_COLUMNS - strlen(right); /* it has 66 characters at most */
+    put_left(wide, length, line, room);
+    for (size_t at = room; at < STATUS_COLUMNS; at++)
+        line[at] = (wchar_t)right[at - room];
+    line[STATUS_COLUMNS] = 0;
 }
 
 void status_title(const status_parts *parts, char *text, size_t room)

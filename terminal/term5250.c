@@ -89,7 +89,8 @@ static void take_events(session *s, window *w, input_reader *reader, const struc
         s->draws_all = true;
     }
     session_step(s, waits[0].revents);
-    press_ahead(s);
+    if (window_has_screen()) /* no key goes out unseen */
+        press_ahead(s);
     *more = (waits[1].revents != 0 || *more) && take_keys(s, reader);
     if (!*more && (waits[1].revents & (POLLHUP | POLLERR | POLLNVAL)) != 0) {
         session_over(s, 1, "The terminal is gone.");
@@ -177,7 +178,7 @@ static int prepare(session *s, const options *asked)
 
 static int work(session *s, const options *asked)
 {
-    window w = {.is_open = false};
+    window w = {.screen = NULL};
     if (!window_begin(&w, asked)) {
         window_end(&w);
         return complain("the window can't be used", "");

@@ -43,11 +43,11 @@ bool window_knows(char *why, size_t room)
         return false;
     }
     const char *moves = tigetstr("cup");
-    if (moves == NULL || moves == (const char *)-1) {
+    bool can_move = moves != NULL && moves != (const char *)-1;
+    if (!can_move)
         (void)snprintf(why, room, "TERM is %s, which can't move its cursor", name);
-        return false;
-    }
-    return true;
+    (void)del_curterm(cur_term);
+    return can_move;
 }
 
 static void send(const char *text)
@@ -166,10 +166,9 @@ void window_title(window *w, const char *text)
 
 bool window_begin(window *w, const options *asked)
 {
-    *w = (window){.separators = asked->separators};
-    if (newterm(NULL, stdout, stdin) == NULL)
+    *w = (window){.separators = asked->separators, .screen = newterm(NULL, stdout, stdin)};
+    if (w->screen == NULL)
         return false;
-    w->is_open = true;
     if (raw() == ERR || noecho() == ERR || nonl() == ERR || keypad(stdscr, TRUE) == ERR || nodelay(stdscr, TRUE) == ERR)
         return false;
     (void)meta(stdscr, TRUE); /* these are niceties, and not every window has them */
@@ -207,7 +206,7 @@ bool window_has_status(void)
 
 void window_end(window *w)
 {
-    if (!w->is_open)
+    if (w->screen == NULL)
         return;
     (void)endwin(); /* whatever it answers, there is nothing more to be done */
     send(PLAIN_PASTE);
@@ -215,5 +214,6 @@ void window_end(window *w)
         send("\033[0 q");
     if (w->before_title != NULL)
         send(GIVE_TITLE_BACK);
-    w->is_open = false;
+    delscreen(w->screen);
+    w->screen = NULL;
 }

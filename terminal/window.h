@@ -11,7 +11,7 @@
 enum { SCREEN_ROWS = 24, SCREEN_COLUMNS = 80 };
 
 typedef struct {
-    bool is_open;
+    SCREEN *screen;       /* null where the window isn't open */
     bool has_colors;      /* the station's screen is shown in colours */
     bool separators;      /* are drawn */
     bool is_covered;      /* by a sentence over the last row */

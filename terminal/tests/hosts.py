@@ -100,6 +100,10 @@ class Host:
     def close(self):
         self.listening.close()
         if self.line is not None:
+            try:
+                self.line.shutdown(socket.SHUT_RDWR)  # A close alone waits for the thread that reads.
+            except OSError:
+                pass
             self.line.close()
 
 

@@ -127,6 +127,9 @@ class Window:
                 self.put(self.last)
         else:
             self.erase(final, numbers[0], count)
+        if final in "HABCDGd":  # As any terminal does with what was meant for a larger window.
+            self.row = max(0, min(self.row, self.rows - 1))
+            self.column = max(0, min(self.column, self.columns - 1))
 
     def erase(self, final, number, count):
         row, blank = self.cells[self.row], (" ", {})

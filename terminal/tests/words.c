@@ -59,7 +59,7 @@ static void shows(const status_parts *parts, const char *wanted)
 
 static void the_line_is_in_words(void)
 {
-    status_parts parts = {.turn = "waiting for the host", .where = "as400:23", .note = "", .row = 1, .column = 1};
+    status_parts parts = {.turn = "waiting for the host", .where = "as400:23", .note = "", .way = "^] menu", .row = 1, .column = 1};
     shows(&parts, " waiting for the host  as400:23                                 ^] menu  01/001 ");
     parts.turn = "";
     parts.field_length = 10;
@@ -72,7 +72,10 @@ static void the_line_is_in_words(void)
     shows(&parts, " This field takes digits only, and not '\xc3\xa9'.           ^] menu  field 10  06/053 ");
     parts.note = "A sentence of seventy characters leaves room for the cursor's place al.";
     parts.waits = true;
-    shows(&parts, " A sentence of seventy characters leaves room for the cursor's place  T  06/053 ");
+    shows(&parts, " A sentence of seventy characters leaves room for the cursor's plac.. T  06/053 ");
+    parts.way = "Reset: ^R";
+    parts.is_way_out = true;
+    shows(&parts, " A sentence of seventy characters leaves room for the cu.. T  Reset: ^R  06/053 ");
 }
 
 static void the_title_has_it_too(void)

@@ -55,7 +55,8 @@ def sign_on_and_form():
         t.type("\x1bOB\x1bOB")
         t.at("08/059")
         t.rings("a key outside a field", lambda: t.type("y"))
-        t.tells("The cursor isn't in an input field: 'y' went nowhere. Reset: ^R")
+        t.tells("The cursor isn't in an input field: 'y' went nowhere.")
+        t.tells("Reset: ^R")
         t.type("\x12\x1b[Z\r")
         t.shows(0, "Item inquiry")
         t.tells("MW")
@@ -68,7 +69,8 @@ def sign_on_and_form():
         t.type("\x1b2")  # Esc 2: F2
         t.shows(9, "round 2")
         t.type("\x1bOR")  # F3
-        t.tells("The host has closed the line. ^] leaves.")
+        t.tells("The host has closed the line.")
+        t.tells("^] leaves")
         t.shows(9, "round 2", "the screen stays")
         t.leave(0, "The host has closed the line.")
         printed = host.stop()
@@ -114,7 +116,7 @@ def holds():
     """A refused key holds the others off, so that nothing wrong is sent."""
     host, t = at_form()
     t.rings("a letter in a numeric field", lambda: t.type("12x.50\r"))
-    t.tells("No 'x' here: the field takes 0-9 + - , . only. Reset: ^R")
+    t.tells("No 'x' here: the field takes 0-9 + - , . only.")
     t.settle()
     check(t.window.text(2)[19:25] == "12" and host.answer(0.3) is None, "12x.50 isn't sent as 12.50", t.window.text(2))
     t.rings("a key while one is held", lambda: t.type("7"))
@@ -165,7 +167,8 @@ def typed_ahead():
     t.type("4x5\r")
     t.until(lambda: " T " in t.status(), "they wait again")
     t.rings("the first that is refused", lambda: host.send(FORM))
-    t.tells("No 'x' here: the field takes 0-9 + - , . only. 2 keys dropped. Reset: ^R")
+    t.tells("No 'x' here: the field takes 0-9 + - , . only. 2 dropped.")
+    t.tells("Reset: ^R")
     check(host.answer(0.3) is None and t.window.text(2)[19:25] == "4", "what is behind it is dropped whole")
     t.type("\x12\r")
     check(inputs(host.answer()) == (0xF1, {(3, 20): "4"}), "then the screen goes out as it is seen")
