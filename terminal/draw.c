@@ -29,7 +29,7 @@ static void draw_cell(const window *w, int row, int column, const ribbon_cell *c
 
 static void draw_rows(session *s, const window *w)
 {
-    static ribbon_cell cells[RIBBON_COLUMNS]; /* Of the stack it would be the largest part. */
+    ribbon_cell cells[RIBBON_COLUMNS];
     uint32_t rows;
     if (ribbon_station_changed(&s->station, &rows) != RIBBON_DONE)
         return;

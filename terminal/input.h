@@ -25,6 +25,7 @@ typedef struct {
     mbstate_t state; /* of a character that has come in part */
     bool is_escaped; /* Esc came, and what it stands before is still to come */
     bool is_pasting;
+    uint64_t heard; /* when something came last, in milliseconds; the caller's */
     enum { SEQUENCE_NONE, SEQUENCE_CONTROL, SEQUENCE_STRING } sequence; /* that nobody knows, and is left */
 } input_reader;
 

@@ -88,10 +88,9 @@ static void put(int row, int column, const char *text)
 static void draw_keys(const session *s, int top)
 {
     for (size_t at = 0; at + 1 < action_name_count; at++) { /* all but `nothing` */
-        char keys[40], text[64];
+        char keys[KEY_COLUMN - 14], text[64]; /* as many keys as have room behind the words */
         bindings_keys(&s->keys, action_names[at].does, keys, sizeof keys);
         (void)snprintf(text, sizeof text, "%-13s %s", action_names[at].words, keys);
-        text[KEY_COLUMN - 1] = 0;
         put(top + (int)at % KEY_ROWS, (int)at / KEY_ROWS * KEY_COLUMN, text);
     }
 }
@@ -99,11 +98,12 @@ static void draw_keys(const session *s, int top)
 static void draw_words(const session *s)
 {
     static const char *const signs[] = {
-        "F1 to F12     Esc 1 .. Esc = too      F13 to F24   Shift or Esc F1 ..; Esc ! .. Esc +",
-        "Click         moves the cursor (with Shift the window selects). A pasted line end",
-        "              goes to the next field, and sends nothing.",
-        "MW  a message waits    INS  insert mode    REC  recording    T  keys wait (Reset drops)",
-        "field 10  length of the field    06/053  row and column of the cursor",
+        "F1 to F12     also Esc 1 to Esc =",
+        "F13 to F24    with Shift, or behind Esc; also Esc ! to Esc +",
+        "Mouse         a click moves the cursor; with Shift the window selects text",
+        "Paste         a line's end goes to the next field, and sends nothing",
+        "MW  a message waits   INS  insert mode   REC  recording   T  keys wait",
+        "field 10  length of the cursor's field   06/053  row and column of the cursor",
     };
     char title[100];
     (void)snprintf(title, sizeof title, "term5250 at %.60s", s->asked->where);

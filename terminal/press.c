@@ -38,6 +38,7 @@ static uint32_t station_key_of(action_kind kind)
 turn press_turn(session *s)
 {
     ribbon_state state;
+    /* The station knows no errors of the host's: has_error stays off. */
     turn now = {.is_over = s->phase == PHASE_OVER, .is_held = s->is_held, .waits = s->ahead.count > 0};
     now.is_locked = ribbon_station_state(&s->station, &state) != RIBBON_DONE || state.is_locked;
     return now;

@@ -15,7 +15,11 @@
 #include <string.h>
 #include <unistd.h>
 
-enum { KEYS_AT_ONCE = 1024, DRAWN_EVERY = 40 /* milliseconds, while more comes */ };
+enum {
+    KEYS_AT_ONCE = 1024,
+    DRAWN_EVERY = 40,    /* milliseconds, while more comes */
+    PASTE_SILENCE = 5000 /* milliseconds, behind which a paste without its end is over */
+};
 
 /* ---- Keys ---- */
 
@@ -62,11 +66,23 @@ static void take_input(session *s, const input *i)
         press_key(s, (action){ACTION_MOVE_TO, i->row * SCREEN_COLUMNS + i->column});
 }
 
+/* A window that loses a paste's end mustn't take the keyboard away. */
+static void end_silent_paste(session *s, input_reader *reader)
+{
+    uint64_t now = session_clock();
+    if (reader->is_pasting && now - reader->heard > PASTE_SILENCE) {
+        reader->is_pasting = false;
+        press_paste_ends(s);
+    }
+    reader->heard = now;
+}
+
 /* Takes what was typed; true where more of it may wait in curses. */
 static bool take_keys(session *s, input_reader *reader)
 {
     input i;
     unsigned count = 0;
+    end_silent_paste(s, reader);
     while (count < KEYS_AT_ONCE && !s->is_leaving && input_next(reader, &i)) {
         take_input(s, &i);
         count++;
@@ -75,7 +91,7 @@ static bool take_keys(session *s, input_reader *reader)
         reader->is_escaped = false;
         menu_key(s, STROKE_ESCAPE);
     } else if (reader->is_escaped) {
-        session_tell(s, "Esc: 1 to = are F1 to F12, a is Attention, Esc is Reset; ^] has them all.");
+        session_tell(s, "Esc: 1 to = are F1 to F12, Esc is Reset, ^] has them all.");
     }
     return count == KEYS_AT_ONCE;
 }
@@ -144,7 +160,7 @@ static bool read_keys(session *s, const options *asked)
                  : is_set            ? snprintf(name, sizeof name, "%s/term5250/keys", folder)
                                      : snprintf(name, sizeof name, "%s/.config/term5250/keys", home);
     FILE *file = length > 0 && (size_t)length < sizeof name ? fopen(name, "r") : NULL;
-    if (file == NULL && asked->keys == NULL && errno == ENOENT)
+    if (file == NULL && asked->keys == NULL && (errno == ENOENT || errno == ENOTDIR))
         return true;
     if (file == NULL) {
         (void)complain(name, strerror(errno));

@@ -5,7 +5,9 @@
 #include "look.h"
 #include "options.h"
 
-#define _XOPEN_SOURCE_EXTENDED 1
+#ifndef _XOPEN_SOURCE_EXTENDED
+#define _XOPEN_SOURCE_EXTENDED 1 /* curses with wide characters */
+#endif
 #include <curses.h>
 
 enum { SCREEN_ROWS = 24, SCREEN_COLUMNS = 80 };

@@ -214,6 +214,11 @@ def pastes():
     t.tells(" T ")
     host.send(FORM)
     t.until(lambda: t.window.text(2)[19:21] == "11" and t.window.text(3)[19:21] == "ab", "pasted text waits as keys do")
+    t.type("\x1b[200~12")
+    t.until(lambda: t.window.text(4)[19:21].strip() == "", "a paste without its end")
+    t.settle(5.5)
+    t.type("\r")
+    check(host.answer() is not None, "is over behind a silence")
     t.leave()
     host.close()
 
