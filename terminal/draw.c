@@ -131,6 +131,8 @@ void draw(session *s, window *w)
     ribbon_state state;
     if (ribbon_station_state(&s->station, &state) != RIBBON_DONE)
         return;
+    if (s->is_of_screen && s->note_records != state.records)
+        s->note[0] = 0;
     status_parts parts = draw_parts(s, &state);
     bool covers = !window_has_status() && is_note(s);
     s->draws_all = s->draws_all || covers != w->is_covered;

@@ -9,7 +9,7 @@ typedef struct {
     bool is_over;   /* nothing is sent any more */
     bool is_held;   /* a key was refused, and there was no Reset since */
     bool has_error; /* an error of the host's stands */
-    bool is_locked; /* the keyboard */
+    bool is_locked; /* the keyboard; or the host takes nothing of what is sent */
     bool waits;     /* keys wait */
 } turn;
 

@@ -17,11 +17,11 @@ static void switch_recording(session *s)
 {
     if (s->recording.file != NULL) {
         bool is_whole = recording_end(&s->recording);
-        session_tell(s, is_whole ? "Recorded in %s." : "The end of %s couldn't be written.", s->recording.name);
+        session_report(s, is_whole ? "Recorded in %s." : "The end of %s couldn't be written.", s->recording.name);
     } else if (recording_begin(&s->recording, s->asked->record != NULL ? s->asked->record : RECORDING_NAME, &s->kept)) {
-        session_tell(s, "Recording in %s. It holds passwords.", s->recording.name);
+        session_report(s, "Recording in %s. It holds passwords.", s->recording.name);
     } else {
-        session_tell(s, "%s can't be written: %s.", s->recording.name, strerror(errno));
+        session_report(s, "%s can't be written: %s.", s->recording.name, strerror(errno));
     }
 }
 
@@ -29,9 +29,9 @@ static void save_kept(session *s)
 {
     recording saved;
     if (!recording_begin(&saved, RECORDING_NAME, &s->kept) || !recording_end(&saved))
-        session_tell(s, "%s can't be written: %s.", saved.name, strerror(errno));
+        session_report(s, "%s can't be written: %s.", saved.name, strerror(errno));
     else
-        session_tell(s, "Saved in %s. It holds passwords.", saved.name);
+        session_report(s, "Saved in %s. It holds passwords.", saved.name);
 }
 
 static bool write_screen(session *s, FILE *file)
@@ -57,9 +57,9 @@ static void print_screen(session *s)
     if (file != NULL && fclose(file) != 0)
         is_written = false;
     if (is_written)
-        session_tell(s, "The screen is in %s.", name);
+        session_report(s, "The screen is in %s.", name);
     else
-        session_tell(s, "%s can't be written: %s.", name, strerror(errno));
+        session_report(s, "%s can't be written: %s.", name, strerror(errno));
 }
 
 void menu_key(session *s, uint32_t character)

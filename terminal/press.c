@@ -35,12 +35,18 @@ static uint32_t station_key_of(action_kind kind)
     return 0;
 }
 
+/* Whether a key's answer has room; where there is no line yet, the station tells by itself that nothing can be sent. */
+static bool can_send(const session *s)
+{
+    return s->phase != PHASE_OPEN || line_left(&s->line) >= RIBBON_ANSWER_ROOM;
+}
+
 turn press_turn(session *s)
 {
     ribbon_state state;
     /* The station knows no errors of the host's: has_error stays off. */
     turn now = {.is_over = s->phase == PHASE_OVER, .is_held = s->is_held, .waits = s->ahead.count > 0};
-    now.is_locked = ribbon_station_state(&s->station, &state) != RIBBON_DONE || state.is_locked;
+    now.is_locked = ribbon_station_state(&s->station, &state) != RIBBON_DONE || state.is_locked || !can_send(s);
     return now;
 }
 
@@ -87,32 +93,34 @@ static pressed press_several(session *s, action key)
 /* What a refused key leaves: a bell, a sentence and, unless nobody wants it, a hold; the keys behind it are dropped. */
 static void refuse(session *s, action key, const pressed *p)
 {
-    char why[NOTE_ROOM - 64];
-    bool is_pasted = key.kind == ACTION_PASTED || key.kind == ACTION_PASTED_END, is_hold = s->asked->holds;
+    char why[NOTE_ROOM - 64], text[NOTE_ROOM];
     size_t dropped = ahead_drop(&s->ahead);
     if (p->status == RIBBON_KEY_REFUSED)
         sentence_refused(&s->station, key, p->refusal, why, sizeof why);
     else
         (void)snprintf(why, sizeof why, "Nothing can be sent: %s.", ribbon_status_text(p->status));
-    s->rings = true;
-    s->is_held = is_hold = is_hold && p->status == RIBBON_KEY_REFUSED;
-    char *text = is_hold ? s->standing : s->note;
-    s->note[0] = 0;
-    if (is_pasted) {
+    if (key.kind == ACTION_PASTED || key.kind == ACTION_PASTED_END) {
         paste_stop(&s->paste);
-        (void)snprintf(text, NOTE_ROOM, "%zu pasted. %s", s->paste.count, why);
+        (void)snprintf(text, sizeof text, "%zu pasted. %s", s->paste.count, why);
     } else if (dropped > 0) {
-        (void)snprintf(text, NOTE_ROOM, "%s %zu dropped.", why, dropped);
+        (void)snprintf(text, sizeof text, "%s %zu dropped.", why, dropped);
     } else {
-        (void)snprintf(text, NOTE_ROOM, "%s", why);
+        (void)snprintf(text, sizeof text, "%s", why);
     }
+    s->rings = true;
+    s->note[0] = 0;
+    s->is_held = s->asked->holds && p->status == RIBBON_KEY_REFUSED;
+    if (s->is_held)
+        (void)snprintf(s->standing, sizeof s->standing, "%s", text);
+    else
+        session_tell(s, "%s", text);
 }
 
 /* A key that isn't held off. */
 static bool press_does(session *s, action key)
 {
     pressed p = {0};
-    if (s->phase == PHASE_OPEN && line_left(&s->line) < RIBBON_ANSWER_ROOM) {
+    if (!can_send(s)) { /* These are keys that don't wait; the others do. */
         session_tell(s, "The host doesn't take what is sent: the key wasn't pressed.");
         s->rings = true;
         return false;
@@ -147,7 +155,7 @@ static void reset(session *s, verdict what)
     switch (what) {
     case VERDICT_DROP_AHEAD:
         s->rings = true;
-        session_tell(s, "%zu keys typed ahead dropped.", ahead_drop(&s->ahead));
+        session_report(s, "%zu keys typed ahead dropped.", ahead_drop(&s->ahead));
         break;
     case VERDICT_END_HOLD:
         s->is_held = false;

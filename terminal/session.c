@@ -23,9 +23,21 @@ uint64_t session_clock(void)
 void session_tell(session *s, const char *format, ...)
 {
     va_list rest;
+    ribbon_state state;
     va_start(rest, format);
     (void)vsnprintf(s->note, sizeof s->note, format, rest);
     va_end(rest);
+    s->is_of_screen = true;
+    s->note_records = ribbon_station_state(&s->station, &state) == RIBBON_DONE ? state.records : 0;
+}
+
+void session_report(session *s, const char *format, ...)
+{
+    va_list rest;
+    va_start(rest, format);
+    (void)vsnprintf(s->note, sizeof s->note, format, rest);
+    va_end(rest);
+    s->is_of_screen = false;
 }
 
 void session_over(session *s, int status, const char *format, ...)
@@ -51,7 +63,7 @@ static void keep(session *s, bool is_host, const uint8_t *bytes, size_t count)
     bool was_recording = s->recording.file != NULL;
     kept_add(&s->kept, is_host, session_clock() - s->begun, bytes, count, recording_piece, &s->recording);
     if (was_recording && s->recording.file == NULL) {
-        session_tell(s, "Nothing more is recorded in %s: %s.", s->recording.name, strerror(errno));
+        session_report(s, "Nothing more is recorded in %s: %s.", s->recording.name, strerror(errno));
         s->rings = true;
     }
 }
@@ -78,7 +90,7 @@ static void tell_refused(session *s, const ribbon_pushed *pushed)
     ribbon_state state;
     bool is_ready = ribbon_station_state(&s->station, &state) == RIBBON_DONE && state.is_ready;
     sentence_bytes(s->said, s->said_count, said, sizeof said);
-    if (!is_ready && s->said_count > 0)
+    if (!is_ready && s->said_count > 0 && pushed->reason != RIBBON_REASON_RECORD_BEFORE_NEGOTIATION)
         session_over(s, 1, "This is no 5250 host: it sent `%s`.", said);
     else
         session_over(s, 1, "Refused at the host's byte %llu, reason %s.",

@@ -38,7 +38,9 @@ typedef struct {
     bool repaints;     /* and the window is to be painted anew */
     bool is_leaving;   /* the program ends */
     int status;        /* of the program */
-    char note[NOTE_ROOM];     /* a sentence up to the next key */
+    char note[NOTE_ROOM];     /* a sentence up to the next key, and: */
+    bool is_of_screen;        /* no further than the next record of the host */
+    uint64_t note_records;    /* that had come when it was told */
     char standing[NOTE_ROOM]; /* a sentence up to Reset, or to the end */
     char way[24];             /* the key that ends what stands */
 } session;
@@ -61,8 +63,11 @@ void session_step(session *s, short ready);
 /* Sends a station's bytes, as soon as the host takes them; false where too many wait already. */
 bool session_send(session *s, const uint8_t *bytes, size_t count);
 
-/* Tells a sentence up to the next key. */
+/* Tells a sentence about the screen, up to the next key or record: behind that it may be true no longer. */
 void session_tell(session *s, const char *format, ...) __attribute__((format(printf, 2, 3)));
+
+/* Tells a sentence about what was done, up to the next key. */
+void session_report(session *s, const char *format, ...) __attribute__((format(printf, 2, 3)));
 
 /* Ends the session, not the program: the screen stays, with a sentence. */
 void session_over(session *s, int status, const char *format, ...) __attribute__((format(printf, 3, 4)));

@@ -221,7 +221,7 @@ int main(int count, char **words)
         return complain("memory is wanting", "");
     status = prepare(s, &asked);
     if (status == 0) {
-        session_tell(s, "%s", locale);
+        session_report(s, "%s", locale);
         status = work(s, &asked);
     }
     session_free(s);

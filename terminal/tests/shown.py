@@ -259,6 +259,8 @@ def editing():
                 seconds=3)
     t.rings("Backspace at the field's begin", lambda: t.type("\x01\x7f"))
     t.tells("The field begins here.")
+    host.send(b"\x04\x11\x00\x00", 2)
+    t.until(lambda: "begins here" not in t.status(), "no longer than it is true")
     t.rings("a key that is none", lambda: t.type("\x1b[1;5C"))
     t.rings("a control that is none", lambda: t.type("\x03"))
     t.tells("^C is no key here")
