@@ -109,8 +109,8 @@ static void draw_words(const session *s)
     (void)snprintf(title, sizeof title, "term5250 at %.60s", s->asked->where);
     put(0, 0, title);
     put(1, 0, "q  leave           p  the screen into " SCREEN_NAME "       any other key  back");
-    put(2, 0, s->recording.file != NULL ? "r  stop recording  s  save the last 256 KiB of both ends (it holds passwords)"
-                                        : "r  record           s  save the last 256 KiB of both ends (it holds passwords)");
+    put(2, 0, s->recording.file != NULL ? "r  stop recording" : "r  record");
+    put(2, 19, "s  save the last 256 KiB of both ends (these hold passwords)");
     if (s->standing[0] != 0)
         put(3, 0, s->standing);
     draw_keys(s, 4);

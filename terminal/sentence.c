@@ -49,7 +49,7 @@ static void tell_wrong(ribbon_station *station, action key, char *text, size_t r
         return;
     }
     if (ribbon_station_state(station, &state) == RIBBON_DONE)
-        (void)ribbon_station_field(station, state.cursor_field, &field); /* without one it stays a field that takes all */
+        (void)ribbon_station_field(station, state.cursor_field, &field); /* without one it is a field that takes all */
     if (kind_of(field.format) != NULL)
         (void)snprintf(text, room, "No %s here: the field takes %s only.", shown, kind_of(field.format));
     else

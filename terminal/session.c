@@ -128,7 +128,7 @@ static void tell_closed(session *s)
                  is_ready ? "" : " before a session began");
 }
 
-/* Takes what has come: no more than the station's replies have room for, and so much that keys are looked at between. */
+/* Takes what has come: no more than the station's replies have room for, and so little that keys are looked at soon. */
 static void hear(session *s)
 {
     uint8_t bytes[PIECE];

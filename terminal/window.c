@@ -23,7 +23,7 @@ const char *window_locale(void)
     bool is_set = setlocale(LC_ALL, "") != NULL;
     const char *set = nl_langinfo(CODESET);
     if (is_set && strcmp(set, "ANSI_X3.4-1968") != 0)
-        return strcmp(set, "UTF-8") == 0 ? "" : "The locale has no UTF-8: some of the host's characters can't be shown.";
+        return strcmp(set, "UTF-8") == 0 ? "" : "The locale has no UTF-8: some characters can't be shown.";
     if (setlocale(LC_CTYPE, "C.UTF-8") != NULL)
         return "The locale has no UTF-8: C.UTF-8 is taken in its place.";
     return "The locale has no UTF-8, and C.UTF-8 isn't here: letters beyond ASCII can't be shown.";

@@ -19,8 +19,9 @@ class Tmux:
         self.folder = tempfile.mkdtemp()
         self.base = ["tmux", "-S", os.path.join(self.folder, "socket"), "-f", "/dev/null"]
         command = " ".join(shlex.quote(word) for word in (Terminal.program, *words))
+        around = f"env -u COLORFGBG -u NO_COLOR HOME=/nowhere LC_ALL=C.UTF-8 TERM={term}"
         self.run("new-session", "-d", "-x", str(columns), "-y", str(rows), "-e", f"TERM={term}",
-                 f"env -u COLORFGBG -u NO_COLOR HOME=/nowhere LC_ALL=C.UTF-8 TERM={term} {command}; echo status $?; sleep 60")
+                 f"{around} {command}; echo status $?; sleep 60")
         self.run("set-option", "-g", "status", "off")
         self.run("resize-window", "-x", str(columns), "-y", str(rows))
 

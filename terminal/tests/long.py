@@ -2,22 +2,25 @@
 terminal as it was found."""
 import pathlib
 import random
+import tempfile
 import time
 
 import hosts
 from hosts import Host, READ, field, plain, text, write
 from window import Terminal, check
 
-KEYS = ["\r", "\t", "\x1b[Z", "\x7f", "\x08", "\x1bOA", "\x1bOB", "\x1bOC", "\x1bOD", "\x1bOH", "\x1b[F", "\x1b[2~", "\x1b[3~",
-        "\x1b[5~", "\x1b[6~", "\x1bOP", "\x1bOR", "\x1b[24~", "\x1b[1;2P", "\x1b!", "\x1b1", "\x1ba", "\x1bs", "\x1be", "\x1bc",
-        "\x1b\x1b", "\x12", "\x12", "\x12", "\x01", "\x05", "\x0b", "\n", "\x06", "\x0e", "\x04", "\x0f", "\x0c", "\x07", "\x10",
-        "\x14", "\x18", "\x03", "\x1bOM", "\x1bOk", "\x1bOu", "\x1b[1;5C", "\x1b]11;?\x07", "\x1b[<0;20;3M\x1b[<0;20;3m",
-        "\x1b[<0;200;90M", "\x1b[200~12\r\nab\x1b[201~", "\x1b[200~", "\x1b[201~", "\x1dx", "\x1d\x1d", "\x1d\x1b", "\x00",
-        "caf\u00e9", "\u20ac", "12.5", "x", " ", "A long text that fills more than one field of them all"]
+KEYS = ["\r", "\t", "\x1b[Z", "\x7f", "\x08", "\x1bOA", "\x1bOB", "\x1bOC", "\x1bOD", "\x1bOH", "\x1b[F", "\x1b[2~",
+        "\x1b[3~", "\x1b[5~", "\x1b[6~", "\x1bOP", "\x1bOR", "\x1b[24~", "\x1b[1;2P", "\x1b!", "\x1b1", "\x1ba", "\x1bs",
+        "\x1be", "\x1bc", "\x1b\x1b", "\x12", "\x12", "\x12", "\x01", "\x05", "\x0b", "\n", "\x06", "\x0e", "\x04", "\x0f",
+        "\x0c", "\x07", "\x10", "\x14", "\x18", "\x03", "\x1bOM", "\x1bOk", "\x1bOu", "\x1b[1;5C", "\x1b]11;?\x07",
+        "\x1b[<0;20;3M\x1b[<0;20;3m", "\x1b[<0;200;90M", "\x1b[200~12\r\nab\x1b[201~", "\x1b[200~", "\x1b[201~",
+        "\x1dx", "\x1d\x1d", "\x1d\x1b", "\x1ds", "\x1dp", "\x1dr", "\x00", "caf\u00e9", "\u20ac", "12.5", "x", " ",
+        "A long text that fills more than one field of them all"]
 SIZES = [(24, 80), (25, 80), (30, 100), (20, 60), (1, 1), (50, 200), (24, 79), (23, 80), (3, 500)]
 # What curses itself doesn't give back, it keeps for the next window.
 SUPPRESSED = pathlib.Path(__file__).resolve().parent / "curses.supp"
-CAREFUL = {"ASAN_OPTIONS": "exitcode=99:fast_unwind_on_malloc=0", "LSAN_OPTIONS": f"suppressions={SUPPRESSED}:print_suppressions=0"}
+CAREFUL = {"ASAN_OPTIONS": "exitcode=99:fast_unwind_on_malloc=0",
+           "LSAN_OPTIONS": f"suppressions={SUPPRESSED}:print_suppressions=0"}
 SAID = ("AddressSanitizer", "runtime error", "LeakSanitizer", "ERROR:")
 
 
@@ -55,12 +58,12 @@ def say_nothing(said, what):
     check(not any(word in said for word in SAID), f"no sanitizer speaks: {what}", said[-1500:])
 
 
-def one_session(dice, sanitized, seconds, counts):
+def one_session(dice, sanitized, seconds, counts, folder):
     host = Host()
     words = dice.choice([[], ["--no-hold"], ["--mono"], ["--separators", "off"], ["--background", "own"], ["--no-mouse"]])
     rows, columns = dice.choice(SIZES[:3])
     t = Terminal(*words, f"127.0.0.1:{host.port}", rows=rows, columns=columns, program=sanitized,
-                 term=dice.choice(["xterm", "screen", "vt100", "linux", "xterm-256color"]), **CAREFUL)
+                 term=dice.choice(["xterm", "screen", "vt100", "linux", "xterm-256color"]), folder=folder, **CAREFUL)
     host.ready()
     end = time.monotonic() + seconds
     try:
@@ -97,7 +100,8 @@ def random_work(seed, sanitized, seconds):
     counts = dict.fromkeys(("sessions", "keys", "records", "sizes"), 0)
     end = time.monotonic() + seconds
     while time.monotonic() < end:
-        one_session(dice, sanitized, min(20, max(end - time.monotonic(), 1)), counts)
+        with tempfile.TemporaryDirectory() as folder:
+            one_session(dice, sanitized, min(20, max(end - time.monotonic(), 1)), counts, folder)
     print("random work:", ", ".join(f"{count} {name}" for name, count in counts.items()), flush=True)
 
 

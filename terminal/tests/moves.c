@@ -31,7 +31,8 @@ static void type(ribbon_station *station, const char *text)
     uint8_t answer[RIBBON_ANSWER_ROOM];
     ribbon_told told;
     for (; *text != 0; text++)
-        CHECK(ribbon_station_key(station, RIBBON_KEY_CHAR, (uint32_t)*text, answer, sizeof answer, &told) == RIBBON_DONE);
+        CHECK(ribbon_station_key(station, RIBBON_KEY_CHAR, (uint32_t)*text, answer, sizeof answer, &told)
+              == RIBBON_DONE);
 }
 
 static bool is_at(ribbon_station *station, unsigned row, unsigned column)

@@ -12,7 +12,7 @@
 
 static kept both;
 
-/* `.` for a part of a command, `b` for a byte of a record, `E` for its end; `|` stands before a byte that may begin one. */
+/* `.` for a part of a command, `b` for a byte of a record, `E` for its end; `|` before a byte that may begin one. */
 static void scans(const char *bytes, size_t count, const char *wanted)
 {
     telnet t = {0};
@@ -89,8 +89,8 @@ static void the_last_is_kept(void)
     for (size_t at = 0; at < sizeof stream; at++)
         stream[at] = at % 1000 == 0 ? 'R' : at % 1000 == 998 ? '\xff' : at % 1000 == 999 ? '\xef' : 'x';
     for (size_t at = 0; at < sizeof stream; at += 700)
-        kept_add(&both, true, at, (const uint8_t *)stream + at, sizeof stream - at < 700 ? sizeof stream - at : 700, NULL,
-                 NULL);
+        kept_add(&both, true, at, (const uint8_t *)stream + at, sizeof stream - at < 700 ? sizeof stream - at : 700,
+                 NULL, NULL);
     CHECK(both.bytes_used >= KEPT_LEAST && both.bytes_used <= KEPT_ROOM);
     CHECK(kept_walk(&both, count_bytes, counts));
     CHECK(counts[1] % 1000 == 0 && counts[1] + 1000 >= KEPT_LEAST);

@@ -59,7 +59,8 @@ static void shows(const status_parts *parts, const char *wanted)
 
 static void the_line_is_in_words(void)
 {
-    status_parts parts = {.turn = "waiting for the host", .where = "as400:23", .note = "", .way = "^] menu", .row = 1, .column = 1};
+    status_parts parts = {.turn = "waiting for the host", .where = "as400:23", .note = "", .way = "^] menu"};
+    parts.row = parts.column = 1;
     shows(&parts, " waiting for the host  as400:23                                 ^] menu  01/001 ");
     parts.turn = "";
     parts.field_length = 10;
@@ -81,7 +82,8 @@ static void the_line_is_in_words(void)
 static void the_title_has_it_too(void)
 {
     char text[100];
-    status_parts parts = {.turn = "waiting for the host", .where = "h:1", .note = "", .is_inserting = true, .waits = true};
+    status_parts parts = {.turn = "waiting for the host", .where = "h:1", .note = ""};
+    parts.is_inserting = parts.waits = true;
     status_title(&parts, text, sizeof text);
     CHECK(strcmp(text, "h:1: waiting for the host: INS T - term5250") == 0);
     parts = (status_parts){.turn = "", .where = "h:1", .note = "n"};
