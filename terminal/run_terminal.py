@@ -9,7 +9,9 @@ import argparse
 import pathlib
 import sys
 import time
+import traceback
 
+sys.dont_write_bytecode = True
 sys.path.insert(0, str(pathlib.Path(__file__).resolve().parent / "tests"))
 import faults
 import hosts
@@ -36,19 +38,19 @@ def parts(words):
     yield from (shown.attributes, shown.grounds, shown.locales, shown.status_line, shown.blinking_without_shapes,
                 shown.at_24_rows, shown.small_windows, shown.function_keys, shown.keypad, shown.editing, shown.keys_files,
                 shown.print_screen)
-    yield from (faults.refused, faults.recordings, faults.cut_behind_iac, faults.kept_is_the_last, faults.bad_peers,
+    yield from (faults.refused, faults.refused_by_name, faults.recordings, faults.cut_behind_iac, faults.kept_is_the_last, faults.bad_peers,
                 faults.synch, faults.ipv6, faults.floods, faults.while_connecting, faults.in_the_menu,
                 faults.command_lines, faults.unwritable_files)
     yield in_tmux.sizes
 
     def screens():
-        work.screens_in_a_row(5000 if words.long else 300)
+        work.screens_in_a_row(5000 if words.long else 500)
 
     def random_work():
-        long.random_work(5250, words.sanitized, 600 if words.long else 10)
+        long.random_work(5250, words.sanitized, 600 if words.long else 20)
 
     def garbage_hosts():
-        long.garbage_hosts(1205, words.sanitized, 120 if words.long else 12)
+        long.garbage_hosts(1205, words.sanitized, 120 if words.long else 20)
 
     yield screens
     if words.sanitized:
@@ -65,7 +67,10 @@ def main():
         if words.only not in part.__name__:
             continue
         begun = time.monotonic()
-        part()
+        try:
+            part()
+        except Exception:  # What isn't there is told, and the other parts go on.
+            window.check(False, part.__name__, traceback.format_exc())
         if words.times:
             print(f"{part.__name__}: {time.monotonic() - begun:.1f} seconds")
     print(f"{window.Counts.passed} passed, {window.Counts.failed} failed")

@@ -23,11 +23,11 @@ bool signals_begin(void)
 {
     struct sigaction action = {.sa_handler = on_signal}, ignore = {.sa_handler = SIG_IGN};
     sigset_t held;
-    sigemptyset(&action.sa_mask);
-    sigemptyset(&ignore.sa_mask);
-    sigemptyset(&held);
+    (void)sigemptyset(&action.sa_mask); /* none of these can fail for signals that there are */
+    (void)sigemptyset(&ignore.sa_mask);
+    (void)sigemptyset(&held);
     for (size_t at = 0; at < CAUGHT; at++) {
-        sigaddset(&held, caught[at]);
+        (void)sigaddset(&held, caught[at]);
         if (sigaction(caught[at], &action, NULL) != 0)
             return false;
     }
@@ -50,6 +50,6 @@ int signals_wait(struct pollfd *lines, nfds_t count, int milliseconds)
 {
     struct timespec time = {milliseconds / 1000, milliseconds % 1000 * 1000000L};
     sigset_t none;
-    sigemptyset(&none);
+    (void)sigemptyset(&none);
     return ppoll(lines, count, milliseconds < 0 ? NULL : &time, &none);
 }

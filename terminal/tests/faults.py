@@ -41,6 +41,17 @@ def refused():
         host.close()
 
 
+def refused_by_name():
+    host = Host5250("--bad")
+    t = Terminal(f"127.0.0.1:{host.port}")
+    t.shows(0, "Sign On")
+    t.type("\r")
+    t.tells("reason 30")
+    t.shows(0, "Sign On", "the screen stays")
+    t.leave(1, "reason 30")
+    host.stop()
+
+
 def recordings():
     with tempfile.TemporaryDirectory() as folder:
         old = os.path.join(folder, "mine")

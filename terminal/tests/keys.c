@@ -144,9 +144,10 @@ static void there_is_an_end_of_keys(void)
 {
     bindings_begin(&bound);
     stroke key = 0x100 | STROKE_ESCAPED;
-    while (bound.count < BINDINGS)
-        CHECK(bindings_set(&bound, key++, (action){ACTION_TAB, 0}));
-    CHECK(!bindings_set(&bound, key, (action){ACTION_TAB, 0}));
+    bool is_set = true;
+    while (is_set && bound.count < BINDINGS)
+        is_set = bindings_set(&bound, key++, (action){ACTION_TAB, 0});
+    CHECK(is_set && !bindings_set(&bound, key, (action){ACTION_TAB, 0}));
     CHECK(bindings_set(&bound, key - 1, (action){ACTION_HOME, 0}));
 }
 

@@ -74,7 +74,8 @@ static bool count_bytes(void *self, const kept_piece *piece, const uint8_t *byte
     size_t *counts = self;
     if (counts[0] == 0 && !piece->begins)
         return true;
-    CHECK(piece->is_host && piece->begins == (bytes[0] == 'R'));
+    if (!piece->is_host || piece->begins != (bytes[0] == 'R'))
+        return false;
     counts[0] += 1;
     counts[1] += piece->length;
     return true;

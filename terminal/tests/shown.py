@@ -178,6 +178,16 @@ def small_windows():
     check(t.window.text(2)[19:25] == "", "and nothing was typed", t.window.text(2))
     t.resize(24, 80)
     t.until(lambda: "Order" in t.window.text(0) and t.window.text(23) == "", "24 rows again")
+    t.type("\r")
+    host.answer()
+    t.type("8\r")
+    t.until(lambda: ": T" in t.window.title, "keys wait")
+    t.resize(23, 80)
+    t.shows(0, "This window is 80 by 23")
+    host.send(FORM)
+    check(host.answer(0.4) is None, "those that wait don't go out either")
+    t.resize(25, 80)
+    check(inputs(host.answer()) == (0xF1, {(3, 20): "8"}), "but when there is room again")
     t.leave()
     host.close()
 
@@ -194,6 +204,7 @@ WAYS = [
 LOWER = [
     [f"\x1bO{letter}" for letter in "PQRS"] + [f"\x1b[{k}~" for k in (15, 17, 18, 19, 20, 21, 23, 24)],
     [f"\x1b[{k}~" for k in (11, 12, 13, 14)],
+    [f"\x1b[[{letter}" for letter in "ABCDE"],
     ["\x1b" + key for key in "1234567890-="],
 ]
 
@@ -261,11 +272,19 @@ def editing():
     t.tells("The field begins here.")
     host.send(b"\x04\x11\x00\x00", 2)
     t.until(lambda: "begins here" not in t.status(), "no longer than it is true")
-    t.rings("a key that is none", lambda: t.type("\x1b[1;5C"))
+    for sequence in "\x1b[1;5C", "\x1bO5C", "\x1b]11;rgb:0/0/0\x07":
+        t.rings("a sequence that is no key", lambda: t.type(sequence))
+    t.type("\x1b")
+    t.settle(0.2)  # The rest of a key's sequence comes late.
+    t.rings("it, come late", lambda: t.type("[1;5C"))
     t.rings("a control that is none", lambda: t.type("\x03"))
     t.tells("^C is no key here")
-    t.type("z")
-    t.until(lambda: t.window.text(5)[74:80].strip() == "z", "and nothing of them is typed")
+    t.rings("Esc before what is no key", lambda: t.type("\x1bz"))
+    t.tells("Esc z is no key here")
+    t.type(b"\xc3")
+    t.settle(0.2)  # And of a letter.
+    t.type(b"\xa9")
+    t.until(lambda: t.window.text(5)[74:80].strip() == "\u00e9", "and nothing of them is typed")
     t.leave()
     host.close()
 

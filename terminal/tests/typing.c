@@ -9,14 +9,14 @@ static ahead waiting; /* Of the stack it would be a large part. */
 static void keys_wait_in_order(void)
 {
     action key;
-    for (uint32_t at = 0; at < 3 * AHEAD_ROOM; at++) {
-        CHECK(ahead_put(&waiting, (action){ACTION_CHARACTER, at}));
-        CHECK(ahead_take(&waiting, &key) && key.value == at);
-    }
-    CHECK(!ahead_take(&waiting, &key));
+    bool is_right = true;
+    for (uint32_t at = 0; at < 3 * AHEAD_ROOM; at++)
+        is_right = is_right && ahead_put(&waiting, (action){ACTION_CHARACTER, at}) && ahead_take(&waiting, &key)
+                   && key.value == at;
+    CHECK(is_right && !ahead_take(&waiting, &key));
     for (uint32_t at = 0; at < AHEAD_ROOM; at++)
-        CHECK(ahead_put(&waiting, (action){ACTION_CHARACTER, at}));
-    CHECK(!ahead_put(&waiting, (action){ACTION_CHARACTER, 7}));
+        is_right = is_right && ahead_put(&waiting, (action){ACTION_CHARACTER, at});
+    CHECK(is_right && !ahead_put(&waiting, (action){ACTION_CHARACTER, 7}));
     CHECK(ahead_take(&waiting, &key) && key.value == 0);
     CHECK(ahead_drop(&waiting) == AHEAD_ROOM - 1);
     CHECK(ahead_drop(&waiting) == 0 && !ahead_take(&waiting, &key));

@@ -149,6 +149,12 @@ def without_hold():
     t.until(lambda: t.window.text(2)[19:25] == "12." and "No 'x'" not in t.status(), "its sentence goes with the next key")
     t.type("5\r")
     check(inputs(host.answer()) == (0xF1, {(3, 20): "12.5"}), "the others go on")
+    host.send(FORM)
+    t.at("03/020")
+    t.paste("9x8\n7")
+    t.tells("1 pasted. No 'x' here")
+    t.type("6\r")
+    check(inputs(host.answer()) == (0xF1, {(3, 20): "96"}), "a paste stops all the same")
     t.leave()
     host.close()
 
