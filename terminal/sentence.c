@@ -1,3 +1,4 @@
+#define _GNU_SOURCE
 #include "sentence.h"
 
 #include <stdio.h>
@@ -8,7 +9,7 @@
 const char *sentence_character(uint32_t character, char *text, size_t room)
 {
     int length = -1;
-    if (iswprint((wint_t)character))
+    if (iswprint((wint_t)character) && wcwidth((wchar_t)character) == 1) /* a column each, as the status line counts */
         length = snprintf(text, room, "'%lc'", (wint_t)character);
     if (length < 0)
         (void)snprintf(text, room, "U+%04X", (unsigned)character);

@@ -189,6 +189,7 @@ void window_resize(window *w)
     struct winsize size;
     w->shape = NULL;
     w->title[0] = 0;
+    (void)reset_prog_mode(); /* whoever stopped the program may have changed the line's modes */
     if (ioctl(STDOUT_FILENO, TIOCGWINSZ, &size) == 0 && size.ws_row > 0 && size.ws_col > 0)
         (void)resizeterm(size.ws_row, size.ws_col); /* without memory the old size stays */
     (void)clearok(stdscr, TRUE);

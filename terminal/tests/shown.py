@@ -1,5 +1,6 @@
 """What is shown: attributes, colours, the status line, small windows; and what each key does."""
 import os
+import signal
 import tempfile
 
 from hosts import Host, READ, field, inputs, text, write
@@ -176,6 +177,11 @@ def small_windows():
     t.resize(30, 100)
     t.until(lambda: "Order" in t.window.text(0) and "03/020" in t.status(), "a window that grows again is drawn")
     check(t.window.text(2)[19:25] == "", "and nothing was typed", t.window.text(2))
+    os.kill(t.child.pid, signal.SIGSTOP)
+    t.settle()
+    t.window.clear()
+    os.kill(t.child.pid, signal.SIGCONT)
+    t.shows(0, "Order", "a program that was stopped draws all again")
     t.resize(24, 80)
     t.until(lambda: "Order" in t.window.text(0) and t.window.text(23) == "", "24 rows again")
     t.type("\r")

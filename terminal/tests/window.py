@@ -234,6 +234,18 @@ class Terminal:
         act()
         return self.until(lambda: self.window.bells > before, f"{what} rings")
 
+    def idles(self, what):
+        """The program waits, and takes no time of the processor."""
+
+        def ticks():
+            with open(f"/proc/{self.child.pid}/stat") as file:
+                return sum(int(word) for word in file.read().rpartition(")")[2].split()[11:13])
+
+        self.settle()
+        before = ticks()
+        self.settle(0.5)
+        return check(ticks() - before <= 0.1 * os.sysconf("SC_CLK_TCK"), f"it idles {what}", ticks() - before)
+
     def settle(self, seconds=0.25):
         while self.read(seconds):
             pass

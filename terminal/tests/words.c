@@ -96,6 +96,8 @@ static void characters_and_bytes_are_shown(void)
     char text[40];
     CHECK(strcmp(sentence_character('x', text, sizeof text), "'x'") == 0);
     CHECK(strcmp(sentence_character(0x20ac, text, sizeof text), "'\xe2\x82\xac'") == 0);
+    CHECK(strcmp(sentence_character(0x4e00, text, sizeof text), "U+4E00") == 0);
+    CHECK(strcmp(sentence_character(0x301, text, sizeof text), "U+0301") == 0);
     CHECK(strcmp(sentence_character(0x1b, text, sizeof text), "U+001B") == 0);
     sentence_bytes((const uint8_t *)"SSH-2\r\n\xff", 8, text, sizeof text);
     CHECK(strcmp(text, "SSH-2\\x0D\\x0A\\xFF") == 0);
