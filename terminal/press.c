@@ -27,8 +27,10 @@ static const struct {
     {ACTION_SYSTEM_REQUEST, RIBBON_KEY_SYSTEM_REQUEST},
 };
 
-static uint32_t station_key_of(action_kind kind)
+static uint32_t station_key_of(action_kind kind, bool is_inserting)
 {
+    if (kind == ACTION_PASTED && is_inserting)
+        return RIBBON_KEY_INSERT;
     for (size_t at = 0; at < sizeof station_keys / sizeof station_keys[0]; at++)
         if (station_keys[at].kind == kind)
             return station_keys[at].key;
@@ -59,7 +61,8 @@ static pressed press_one(session *s, action key)
     pressed p = {.status = ribbon_station_state(&s->station, &before)};
     if (p.status != RIBBON_DONE)
         return p;
-    p.status = ribbon_station_key(&s->station, station_key_of(key.kind), key.value, answer, sizeof answer, &told);
+    p.status = ribbon_station_key(&s->station, station_key_of(key.kind, s->is_inserting), key.value, answer,
+                                  sizeof answer, &told);
     p.refusal = told.reason;
     if (p.status == RIBBON_DONE && told.length > 0 && !session_send(s, answer, told.length))
         session_over(s, 1, "The host doesn't take what is sent."); /* there was room for it: press_does saw to that */
@@ -94,8 +97,9 @@ static pressed press_several(session *s, action key)
 static void refuse(session *s, action key, const pressed *p)
 {
     char why[NOTE_ROOM - 64], text[NOTE_ROOM];
-    size_t dropped = ahead_drop(&s->ahead);
-    if (p->status == RIBBON_KEY_REFUSED)
+    bool is_refused = p->status == RIBBON_KEY_REFUSED; /* and not a request before a session has begun */
+    size_t dropped = is_refused ? ahead_drop(&s->ahead) : 0;
+    if (is_refused)
         sentence_refused(&s->station, key, p->refusal, why, sizeof why);
     else
         (void)snprintf(why, sizeof why, "Nothing can be sent: %s.", ribbon_status_text(p->status));
@@ -109,7 +113,7 @@ static void refuse(session *s, action key, const pressed *p)
     }
     s->rings = true;
     s->note[0] = 0;
-    s->is_held = s->asked->holds && p->status == RIBBON_KEY_REFUSED;
+    s->is_held = s->asked->holds && is_refused;
     if (s->is_held)
         (void)snprintf(s->standing, sizeof s->standing, "%s", text);
     else
@@ -127,15 +131,12 @@ static bool press_does(session *s, action key)
     }
     if (key.kind == ACTION_PASTED_END && !paste_line_ends(&s->paste))
         return true;
-    if (key.kind == ACTION_PASTED && s->is_inserting)
-        key.kind = ACTION_INSERTED;
-    bool is_pasted = key.kind == ACTION_PASTED;
-    p = station_key_of(key.kind) != 0 ? press_one(s, key) : press_several(s, key);
+    p = station_key_of(key.kind, s->is_inserting) != 0 ? press_one(s, key) : press_several(s, key);
     if (p.status != RIBBON_DONE) {
         refuse(s, key, &p);
         return false;
     }
-    if (is_pasted)
+    if (key.kind == ACTION_PASTED)
         paste_went_in(&s->paste, p.has_moved_on);
     return true;
 }

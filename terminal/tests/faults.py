@@ -169,6 +169,9 @@ def bad_peers():
     t.tells("the session hasn't begun")
     t.type("a")
     t.tells(" T ")
+    t.rings("Attention before the session has begun", lambda: t.type("\x1ba"))
+    t.tells("Nothing can be sent")
+    t.tells(" T ")
     t.leave(0, "Left.")
 
 

@@ -155,6 +155,13 @@ def without_hold():
     t.tells("1 pasted. No 'x' here")
     t.type("6\r")
     check(inputs(host.answer()) == (0xF1, {(3, 20): "96"}), "a paste stops all the same")
+    host.send(FORM)
+    t.at("03/020")
+    t.type("2\x1bOD\x0f")
+    t.paste("10x8\n7")
+    t.tells("2 pasted. No 'x' here")
+    t.type("6\r")
+    check(inputs(host.answer()) == (0xF1, {(3, 20): "1062"}), "in insert mode too")
     t.leave()
     host.close()
 
