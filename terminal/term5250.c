@@ -40,8 +40,11 @@ static void take_stroke(session *s, stroke key)
 
 static void take_in_menu(session *s, const input *i)
 {
-    if (i->kind == INPUT_CHARACTER || i->kind == INPUT_STROKE)
+    bool is_key = i->kind == INPUT_CHARACTER || i->kind == INPUT_STROKE;
+    if (is_key && !s->paste.is_on)
         menu_key(s, i->key);
+    else
+        s->rings = true;
 }
 
 static void take_input(session *s, const input *i)
@@ -159,6 +162,7 @@ static bool read_keys(session *s, const options *asked)
     int length = asked->keys != NULL ? snprintf(name, sizeof name, "%s", asked->keys)
                  : is_set            ? snprintf(name, sizeof name, "%s/term5250/keys", folder)
                                      : snprintf(name, sizeof name, "%s/.config/term5250/keys", home);
+    errno = ENAMETOOLONG;
     FILE *file = length > 0 && (size_t)length < sizeof name ? fopen(name, "r") : NULL;
     if (file == NULL && asked->keys == NULL && (errno == ENOENT || errno == ENOTDIR))
         return true;

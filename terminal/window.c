@@ -138,8 +138,8 @@ void window_cursor(window *w, bool is_locked, bool is_inserting, bool is_blinkin
 
 static void begin_title(window *w)
 {
-    char *before = tigetstr("tsl"), *behind = tigetstr("fsl");
-    bool has_both = before != NULL && before != (char *)-1 && behind != NULL && behind != (char *)-1;
+    const char *before = tigetstr("tsl"), *behind = tigetstr("fsl"), *none = (const char *)-1;
+    bool has_both = before != NULL && before != none && behind != NULL && behind != none;
     if (tigetflag("XT") > 0) {
         before = "\033]0;";
         behind = "\007";

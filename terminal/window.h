@@ -19,7 +19,7 @@ typedef struct {
     bool is_covered;      /* by a sentence over the last row */
     const char *shape;    /* of the cursor, as it was set last; null before */
     char title[300];      /* as it was set last */
-    char *before_title, *behind_title; /* null where there is no title */
+    const char *before_title, *behind_title; /* null where there is no title */
 } window;
 
 /* Takes a locale in which the host's characters can be shown. A sentence where the environment's isn't one; it lasts. */

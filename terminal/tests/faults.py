@@ -292,6 +292,7 @@ def in_the_menu():
     t.resize(30, 100)
     t.shows(1, "q  leave", "the menu in another size")
     t.tells("03/020")
+    t.rings("text that is pasted there", lambda: t.paste("q"))
     t.type("x")
     t.shows(0, "Order", "and behind it the screen that has come")
     t.type("\x1d")
