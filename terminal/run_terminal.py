@@ -38,7 +38,7 @@ def parts(words):
     yield from (shown.attributes, shown.grounds, shown.locales, shown.status_line, shown.blinking_without_shapes,
                 shown.at_24_rows, shown.small_windows, shown.function_keys, shown.keypad, shown.editing, shown.keys_files,
                 shown.print_screen)
-    yield from (faults.refused, faults.refused_by_name, faults.recordings, faults.cut_behind_iac, faults.kept_is_the_last, faults.bad_peers,
+    yield from (faults.refused, faults.refused_by_name, faults.recordings, faults.cutting, faults.cut_behind_iac, faults.kept_is_the_last, faults.bad_peers,
                 faults.synch, faults.ipv6, faults.floods, faults.while_connecting, faults.in_the_menu,
                 faults.command_lines, faults.unwritable_files)
     yield in_tmux.sizes

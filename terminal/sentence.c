@@ -21,10 +21,10 @@ const char *sentence_character(uint32_t character, char *text, size_t room)
 static const char *kind_of(uint16_t format)
 {
     switch (format >> 8 & 7) {
-    case 1: return "letters , . -";
-    case 3: return "0-9 + - , .";
-    case 5: return "digits";
-    case 7: return "digits, and a sign by a key";
+    case 1: return "letters , . - only";
+    case 3: return "0-9 + - , . only";
+    case 5: return "digits only";
+    case 7: return "digits, and Field Minus";
     default: return NULL;
     }
 }
@@ -52,7 +52,7 @@ static void tell_wrong(ribbon_station *station, action key, char *text, size_t r
     if (ribbon_station_state(station, &state) == RIBBON_DONE)
         (void)ribbon_station_field(station, state.cursor_field, &field); /* without one it is a field that takes all */
     if (kind_of(field.format) != NULL)
-        (void)snprintf(text, room, "No %s here: the field takes %s only.", shown, kind_of(field.format));
+        (void)snprintf(text, room, "No %s here: the field takes %s.", shown, kind_of(field.format));
     else
         (void)snprintf(text, room, "No %s here: the field doesn't take it.", shown);
 }

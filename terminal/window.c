@@ -120,14 +120,28 @@ attr_t window_look(const window *w, const look *l, short *pair)
 
 /* ---- Cursor and title ---- */
 
+/* tmux and screen take the window's sequences, whether the description that they ask for has them or not. */
+static bool is_multiplexed(void)
+{
+    const char *name = getenv("TERM");
+    return name != NULL && (strncmp(name, "screen", 6) == 0 || strncmp(name, "tmux", 4) == 0);
+}
+
+/* The cursor of curses; where no status line tells, it vanishes with the keyboard, and stands out in insert mode. */
+static void plain_cursor(bool is_locked, bool is_inserting, bool is_blinking)
+{
+    bool is_told = window_has_status();
+    (void)curs_set(is_locked && !is_told ? 0 : is_blinking || (is_inserting && !is_told) ? 2 : 1);
+}
+
 /* A block where keys are typed over, a bar where they are inserted, a line below where the host has the keyboard (DEC,
- * DECSCUSR); where the window can't, the cursor of curses, which vanishes with the keyboard if no status line tells. */
+ * DECSCUSR); where the window can't, the cursor of curses. */
 void window_cursor(window *w, bool is_locked, bool is_inserting, bool is_blinking)
 {
     static const char *const shapes[] = {"\033[2 q", "\033[6 q", "\033[4 q", "\033[1 q", "\033[5 q", "\033[3 q"};
     const char *known = tigetstr("Ss");
-    if (known == NULL || known == (const char *)-1) {
-        (void)curs_set(is_locked && !window_has_status() ? 0 : is_blinking ? 2 : 1);
+    if ((known == NULL || known == (const char *)-1) && !is_multiplexed()) {
+        plain_cursor(is_locked, is_inserting, is_blinking);
         return;
     }
     const char *shape = shapes[(is_locked ? 2 : is_inserting ? 1 : 0) + (is_blinking ? 3 : 0)];
@@ -140,7 +154,7 @@ static void begin_title(window *w)
 {
     const char *before = tigetstr("tsl"), *behind = tigetstr("fsl"), *none = (const char *)-1;
     bool has_both = before != NULL && before != none && behind != NULL && behind != none;
-    if (tigetflag("XT") > 0) {
+    if (tigetflag("XT") > 0 || is_multiplexed()) {
         before = "\033]0;";
         behind = "\007";
     } else if (!has_both || tigetflag("hs") <= 0 || before[0] != '\033' || before[1] != ']') {

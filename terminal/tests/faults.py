@@ -8,6 +8,7 @@ import threading
 import time
 
 import hosts
+import work
 from hosts import Host, Host5250, READ, field, inputs, plain, text, write
 from window import Terminal, check
 from work import FORM, at_form, cut, shown_of
@@ -99,6 +100,12 @@ def recordings():
         check(inputs(host.answer()) == (0xF1, {(3, 20): "7"}), "and the session goes on")
         t.leave()
         host.close()
+
+
+def cutting():
+    usage = [subprocess.run([work.CUT, *words], capture_output=True, text=True) for words in ([], ["a", "both"], ["a"] * 3)]
+    check(all(one.returncode == 2 and one.stderr.startswith("usage") for one in usage), "the script's usage", usage)
+    check(subprocess.run([work.CUT, "/nowhere/at/all"], capture_output=True).returncode != 0, "a file that isn't there")
 
 
 def cut_behind_iac():

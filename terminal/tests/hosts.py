@@ -5,6 +5,7 @@ import queue
 import socket
 import subprocess
 import threading
+import time
 
 DO, WILL, SB, SE, IAC, EOR = 0xFD, 0xFB, 0xFA, 0xF0, 0xFF, 0xEF
 BINARY, TYPE, END = 0, 24, 25
@@ -45,6 +46,7 @@ class Host:
         self.came = queue.Queue()
         self.is_ready = threading.Event()
         self.line = None
+        self.window = None  # A terminal whose output is taken while an answer is waited for.
         self.raw = b""
         self.negotiates, self.reads = negotiates, reads
         threading.Thread(target=self.serve, daemon=True).start()
@@ -92,10 +94,14 @@ class Host:
 
     def answer(self, seconds=10):
         """The opcode, flags and body of the next record; None where none comes, or the line is closed."""
-        try:
-            return self.came.get(timeout=seconds)
-        except queue.Empty:
-            return None
+        end = time.monotonic() + seconds
+        while time.monotonic() < end:
+            try:
+                return self.came.get(timeout=0.02)
+            except queue.Empty:
+                if self.window is not None:
+                    self.window.read(0)
+        return None
 
     def close(self):
         self.listening.close()

@@ -70,6 +70,12 @@ def work_at(columns, rows):
         t.until(lambda shown: "Order" in shown[0] and "the last row caf\u00e9" in shown[23], f"the screen at {size}")
         if rows > 24:
             t.until(lambda shown: "^] menu" in shown[24] and "03/020" in shown[24], f"the status line at {size}")
+        if term != "xterm":  # Of which tmux knows no title.
+            title = lambda: t.run("display-message", "-p", "#{pane_title}")
+            t.until(lambda shown: f"127.0.0.1:{host.port}" in title(), f"the title at {size}")
+            t.keys("C-o")
+            t.until(lambda shown: "INS" in title(), f"insert mode at {size}")
+            t.keys("C-o")
         t.keys("KP1", "KP2", "KP.", "KP5")
         t.until(lambda shown: shown[2][19:25].rstrip() == "12.5", f"the keypad at {size}")
         t.type("x")

@@ -8,6 +8,7 @@ import hosts
 from hosts import Host, Host5250, READ, field, inputs, text, write
 from window import Terminal, check
 
+CUT = os.path.join(os.path.dirname(os.path.dirname(os.path.abspath(__file__))), "cut_recording.sh")
 FORM = write() + text(1, 30, "Order", 0x22) + text(3, 2, "Price") + field(3, 20, 6, 0x4300) \
     + field(4, 20, 40) + field(5, 20, 10, 0x4000, 0x27) + field(6, 75, 10) + READ
 
@@ -15,7 +16,7 @@ FORM = write() + text(1, 30, "Order", 0x22) + text(3, 2, "Price") + field(3, 20,
 def at_form(*words, form=FORM, **more):
     """A terminal at a host that has sent a form."""
     host = Host()
-    t = Terminal(*words, f"127.0.0.1:{host.port}", **more)
+    host.window = t = Terminal(*words, f"127.0.0.1:{host.port}", **more)
     check(host.ready(), "the session begins")
     host.send(form)
     t.at("03/020")
@@ -82,8 +83,7 @@ def sign_on_and_form():
 
 
 def cut(name, *side):
-    script = os.path.join(os.path.dirname(os.path.dirname(os.path.abspath(__file__))), "cut_recording.sh")
-    return subprocess.run([script, name, *side], capture_output=True, text=True).stdout
+    return subprocess.run([CUT, name, *side], capture_output=True, text=True).stdout
 
 
 def shown_of(name):
