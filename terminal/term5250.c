@@ -93,7 +93,7 @@ static bool take_keys(session *s, input_reader *reader)
     if (reader->is_escaped && s->is_menu_open) {
         reader->is_escaped = false;
         menu_key(s, STROKE_ESCAPE);
-    } else if (reader->is_escaped) {
+    } else if (reader->is_escaped && window_has_status()) { /* it is no reason to cover a row */
         session_tell(s, "Esc: 1 to = are F1 to F12, Esc is Reset, ^] has them all.");
     }
     return count == KEYS_AT_ONCE;

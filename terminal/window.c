@@ -130,8 +130,10 @@ static bool is_multiplexed(void)
 /* The cursor of curses; where no status line tells, it vanishes with the keyboard, and stands out in insert mode. */
 static void plain_cursor(bool is_locked, bool is_inserting, bool is_blinking)
 {
-    bool is_told = window_has_status();
-    (void)curs_set(is_locked && !is_told ? 0 : is_blinking || (is_inserting && !is_told) ? 2 : 1);
+    int shown = is_blinking ? 2 : 1;
+    if (!window_has_status())
+        shown = is_locked ? 0 : is_inserting ? 2 : shown;
+    (void)curs_set(shown); /* not every window can */
 }
 
 /* A block where keys are typed over, a bar where they are inserted, a line below where the host has the keyboard (DEC,
