@@ -100,6 +100,14 @@ def recordings():
         check(inputs(host.answer()) == (0xF1, {(3, 20): "7"}), "and the session goes on")
         t.leave()
         host.close()
+        host = Host()
+        t = Terminal("--record", "/dev/full", f"127.0.0.1:{host.port}")
+        t.tells("Nothing more is recorded in /dev/full: No space left on device.")
+        check(host.ready(), "a full disk ends no session")
+        host.send(FORM)
+        t.shows(0, "Order")
+        t.leave()
+        host.close()
 
 
 def cutting():
