@@ -1,5 +1,6 @@
 """Random keys and records, and hosts that send garbage, at a terminal with sanitizers: no report, and each time the
 terminal as it was found."""
+import os
 import pathlib
 import random
 import tempfile
@@ -58,6 +59,25 @@ def say_nothing(said, what):
     check(not any(word in said for word in SAID), f"no sanitizer speaks: {what}", said[-1500:])
 
 
+def is_shown(printed, shown):
+    """A window's row shows a row of the screen; a column separator stands in a blank."""
+    return all(a == b or (a == " " and b == "_") for a, b in zip(printed.ljust(80), shown.ljust(80)))
+
+
+def same_screen(t, folder):
+    """The window shows what the station's screen is, as the menu prints it into a file."""
+    before = set(os.listdir(folder))
+    t.type("\x1b[201~\x1dx\x1dp")  # Whether a paste is, and the menu.
+    t.until(lambda: "The screen is in" in t.status(), "the screen is printed", 20)
+    t.settle()
+    made = [name for name in os.listdir(folder) if name not in before]
+    with open(os.path.join(folder, made[0]), encoding="utf-8") as file:
+        printed = file.read().split("\n")[:24]
+    rows = [t.window.text(row) for row in range(24)]
+    differ = [(a, b) for a, b in zip(printed, rows) if not is_shown(a, b)]
+    check(not differ, "the window shows the station's screen", differ)
+
+
 def one_session(dice, sanitized, seconds, counts, folder):
     host = Host()
     words = dice.choice([[], ["--no-hold"], ["--mono"], ["--separators", "off"], ["--background", "own"], ["--no-mouse"]])
@@ -77,15 +97,20 @@ def one_session(dice, sanitized, seconds, counts, folder):
             if dice.random() < 0.03:
                 t.resize(*dice.choice(SIZES))
                 counts["sizes"] += 1
+            if dice.random() < 0.015 and t.window.rows > 24 and t.window.columns >= 80:
+                same_screen(t, folder)
+                counts["windows"] += 1
             while t.read(0.002):
                 pass
     except OSError:
         pass  # A refused record closes the line.
-    t.type("\x1b[201~")
     while t.read(0.2):
         pass
     t.resize(25, 80)
     t.read(0.2)
+    if t.child.poll() is None:
+        same_screen(t, folder)
+        counts["windows"] += 1
     t.type("\x1dx\x1dq")
     status = ended_with(t, 30)
     said = t.ended(status)
@@ -97,7 +122,7 @@ def one_session(dice, sanitized, seconds, counts, folder):
 
 def random_work(seed, sanitized, seconds):
     dice = random.Random(seed)
-    counts = dict.fromkeys(("sessions", "keys", "records", "sizes"), 0)
+    counts = dict.fromkeys(("sessions", "keys", "records", "sizes", "windows"), 0)
     end = time.monotonic() + seconds
     while time.monotonic() < end:
         with tempfile.TemporaryDirectory() as folder:
