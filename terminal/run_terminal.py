@@ -40,7 +40,7 @@ def parts(words):
                 shown.print_screen)
     yield from (faults.refused, faults.refused_by_name, faults.recordings, faults.cutting, faults.cut_behind_iac, faults.kept_is_the_last, faults.bad_peers,
                 faults.synch, faults.ipv6, faults.floods, faults.while_connecting, faults.in_the_menu,
-                faults.command_lines, faults.unwritable_files)
+                faults.command_lines, faults.without_a_terminal, faults.unwritable_files)
     yield in_tmux.sizes
 
     def screens():

@@ -347,8 +347,14 @@ def command_lines():
     ):
         said = Terminal(*words, **more).ended(2, *texts)
         check("\x1b" not in said or "no connection" in said, "it is told before the window is touched", words)
-    run = lambda *words, **more: subprocess.run([Terminal.program, *words], stdin=subprocess.DEVNULL, capture_output=True,
-                                                text=True, **more)
+
+
+def run(*words):
+    """The program without a terminal."""
+    return subprocess.run([Terminal.program, *words], stdin=subprocess.DEVNULL, capture_output=True, text=True)
+
+
+def without_a_terminal():
     plain_run = run("localhost:1")
     check(plain_run.returncode == 2 and "needs a terminal" in plain_run.stderr, "without a terminal", plain_run.stderr)
     for words in (["--help"], ["-h"], ["a", "--help"]):

@@ -32,6 +32,9 @@ class Tmux:
     def rows(self):
         return self.run("capture-pane", "-p").split("\n")
 
+    def title(self):
+        return self.run("display-message", "-p", "#{pane_title}")
+
     def until(self, fact, what, seconds=10):
         end = time.monotonic() + seconds
         while time.monotonic() < end:
@@ -71,10 +74,9 @@ def work_at(columns, rows):
         if rows > 24:
             t.until(lambda shown: "^] menu" in shown[24] and "03/020" in shown[24], f"the status line at {size}")
         if term != "xterm":  # Of which tmux knows no title.
-            title = lambda: t.run("display-message", "-p", "#{pane_title}")
-            t.until(lambda shown: f"127.0.0.1:{host.port}" in title(), f"the title at {size}")
+            t.until(lambda shown: f"127.0.0.1:{host.port}" in t.title(), f"the title at {size}")
             t.keys("C-o")
-            t.until(lambda shown: "INS" in title(), f"insert mode at {size}")
+            t.until(lambda shown: "INS" in t.title(), f"insert mode at {size}")
             t.keys("C-o")
         t.keys("KP1", "KP2", "KP.", "KP5")
         t.until(lambda shown: shown[2][19:25].rstrip() == "12.5", f"the keypad at {size}")
