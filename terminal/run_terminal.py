@@ -35,7 +35,7 @@ def arguments():
 def parts(words):
     yield from (work.sign_on_and_form, work.names_and_signals, work.holds, work.without_hold, work.typed_ahead, work.pastes,
                 work.against_serve)
-    yield from (shown.attributes, shown.grounds, shown.locales, shown.status_line, shown.blinking_without_shapes,
+    yield from (shown.attributes, shown.grounds, shown.locales, shown.characters, shown.status_line, shown.blinking_without_shapes,
                 shown.at_24_rows, shown.small_windows, shown.function_keys, shown.keypad, shown.editing, shown.keys_files,
                 shown.print_screen)
     yield from (faults.refused, faults.refused_by_name, faults.recordings, faults.cutting, faults.cut_behind_iac, faults.kept_is_the_last, faults.bad_peers,

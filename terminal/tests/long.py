@@ -66,16 +66,16 @@ def is_shown(printed, shown):
 
 def same_screen(t, folder):
     """The window shows what the station's screen is, as the menu prints it into a file."""
-    before = set(os.listdir(folder))
-    t.type("\x1b[201~\x1dx\x1dp")  # Whether a paste is, and the menu.
+    t.settle()  # What was typed before may print it too.
+    t.type("\x1b[201~\x1dx\x1dp")  # Whether a paste is on or not, and the menu.
     t.until(lambda: "The screen is in" in t.status(), "the screen is printed", 20)
     t.settle()
-    made = [name for name in os.listdir(folder) if name not in before]
-    with open(os.path.join(folder, made[0]), encoding="utf-8") as file:
+    name = t.status().partition("The screen is in ")[2].partition(". ")[0]
+    with open(os.path.join(folder, name), encoding="utf-8") as file:
         printed = file.read().split("\n")[:24]
     rows = [t.window.text(row) for row in range(24)]
     differ = [(a, b) for a, b in zip(printed, rows) if not is_shown(a, b)]
-    check(not differ, "the window shows the station's screen", differ)
+    check(not differ, "the window shows the station's screen", differ[:4])
 
 
 def one_session(dice, sanitized, seconds, counts, folder):

@@ -94,6 +94,25 @@ def locales():
         host.close()
 
 
+def characters():
+    """All of code page 037 is shown, and can be typed."""
+    every = bytes(range(0x40, 0xFF)).decode("cp037")
+    rows = [every[:60], every[60:120], every[120:]]
+    host = Host()
+    t = Terminal(f"127.0.0.1:{host.port}")
+    host.ready()
+    host.send(write() + b"".join(text(3 + k, 5, row) for k, row in enumerate(rows)) + field(12, 2, 200) + READ)
+    t.at("12/002")
+    for k, row in enumerate(rows):
+        t.until(lambda: t.window.text(2 + k)[4:] == row.rstrip(" "), f"row {k} of all characters")
+    t.type(every)
+    t.at("14/033")
+    t.type("\r")
+    check(inputs(host.answer())[1] == {(12, 2): every}, "all of them typed")
+    t.leave()
+    host.close()
+
+
 def status_line():
     host = Host(negotiates=False)
     t = Terminal(f"127.0.0.1:{host.port}")
