@@ -66,8 +66,9 @@ def is_shown(printed, shown):
 
 def same_screen(t, folder):
     """The window shows what the station's screen is, as the menu prints it into a file."""
-    t.settle()  # What was typed before may print it too.
-    t.type("\x1b[201~\x1dx\x1dp")  # Whether a paste is on or not, and the menu.
+    t.type("\x1b[201~\x1dx")  # Whether a paste is on or not, and the menu; an earlier note goes.
+    t.settle()
+    t.type("\x1dp")
     t.until(lambda: "The screen is in" in t.status(), "the screen is printed", 20)
     t.settle()
     name = t.status().partition("The screen is in ")[2].partition(". ")[0]
