@@ -84,7 +84,8 @@ static pressed press_several(session *s, action key)
     case ACTION_FIELD_BEGIN: p.status = moves_field_begin(&s->station, &p.refusal); break;
     case ACTION_FIELD_END: p.status = moves_field_end(&s->station, &p.refusal); break;
     case ACTION_ERASE_EOF: p.status = moves_erase_eof(&s->station, &p.refusal); break;
-    default: p.status = moves_backspace(&s->station, &p.refusal, &at_begin); break;
+    case ACTION_BACKSPACE: p.status = moves_backspace(&s->station, &p.refusal, &at_begin); break;
+    default: p.status = RIBBON_BAD_ARGUMENT; break; /* no other key comes here */
     }
     if (at_begin) {
         session_tell(s, "The field begins here.");
