@@ -87,7 +87,8 @@ bool bindings_find(const bindings *b, stroke key, action *does)
             *does = b->rows[at].does;
             return true;
         }
-    return false;
+    bool is_capital = key >= ESCAPED((stroke)'A') && key <= ESCAPED((stroke)'Z');
+    return is_capital && bindings_find(b, key + 'a' - 'A', does);
 }
 
 void bindings_keys(const bindings *b, action does, char *text, size_t room)

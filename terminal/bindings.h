@@ -22,7 +22,7 @@ void bindings_begin(bindings *b);
 /* Sets what a key does; false where there is no room. */
 bool bindings_set(bindings *b, stroke key, action does);
 
-/* What a key does; false where it isn't bound. */
+/* What a key does; false where it isn't bound. Behind Esc a capital that isn't bound counts as its small letter. */
 bool bindings_find(const bindings *b, stroke key, action *does);
 
 /* The keys of an action, `, ` between them; as many as there is room for. */

@@ -76,6 +76,7 @@ static void keys_do_from_the_first_on(void)
     CHECK(does("Esc a", ACTION_ATTENTION, 0) && does("Esc e", ACTION_ERASE_INPUT, 0));
     CHECK(does("^T", ACTION_SYSTEM_REQUEST, 0) && does("^F", ACTION_FIELD_PLUS, 0) && does("^]", ACTION_MENU, 0));
     CHECK(does("KeypadEnter", ACTION_AID, RIBBON_AID_ENTER) && does("PageUp", ACTION_AID, RIBBON_AID_ROLL_DOWN));
+    CHECK(does("Esc A", ACTION_ATTENTION, 0) && !does("Esc Z", ACTION_NOTHING, 0));
     for (unsigned number = 1; number <= 24; number++) {
         (void)snprintf(name, sizeof name, "F%u", number);
         CHECK(does(name, ACTION_AID, action_of_function(number).value));
@@ -129,6 +130,7 @@ static void keys_files_are_read(void)
     CHECK(does("^A", ACTION_ATTENTION, 0) && does("KeypadPlus", ACTION_FIELD_PLUS, 0));
     CHECK(does("Esc =", ACTION_AID, RIBBON_AID_F20) && does("^E", ACTION_FIELD_END, 0) && does("^]", ACTION_MENU, 0));
     CHECK(reads("^B = nothing", why, sizeof why) && does("^B", ACTION_NOTHING, 0));
+    CHECK(reads("Esc A = dup", why, sizeof why) && does("Esc A", ACTION_DUP, 0) && does("Esc a", ACTION_ATTENTION, 0));
     for (size_t at = 0; at < sizeof wrong_files / sizeof wrong_files[0]; at++) {
         CHECK(!reads(wrong_files[at].text, why, sizeof why));
         if (strcmp(why, wrong_files[at].why) != 0)
