@@ -23,8 +23,8 @@ typedef enum {
     VERDICT_END_INSERT
 } verdict;
 
-/* What becomes of a key of the station's, or of Reset, which ends the first of what stands: the keys that wait, the hold,
- * the host's error; else insert mode. Attention and System Request never wait. */
+/* What becomes of a key of the station's, or of Reset, which ends the first of what stands: the keys that wait, the
+ * hold, the host's error; else insert mode. Attention and System Request never wait. */
 verdict hold_judges(const turn *now, action_kind key);
 
 #endif

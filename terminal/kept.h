@@ -32,8 +32,8 @@ typedef struct {
 /* What is done with a piece; false ends the walk. */
 typedef bool kept_visit(void *self, const kept_piece *piece, const uint8_t *bytes);
 
-/* Keeps bytes, and hands each piece that they make to `visit`, where that isn't null. A host's piece ends with a record's
- * end. */
+/* Keeps bytes, and hands each piece that they make to `visit`, where that isn't null. A host's piece ends with a
+ * record's end. */
 void kept_add(kept *k, bool is_host, uint64_t milliseconds, const uint8_t *bytes, size_t count, kept_visit *visit,
               void *self);
 

@@ -18,8 +18,8 @@ typedef struct {
  * no plain file but a pipe or a device, it is written to. `made` gets its name. Null, by errno, where that can't be. */
 FILE *file_made(const char *name, char *made, size_t room);
 
-/* Begins a recording with what has been kept so far. False, by errno, where the file can't be made or written; nothing is
- * recorded then. */
+/* Begins a recording with what has been kept so far. False, by errno, where the file can't be made or written; nothing
+ * is recorded then. */
 bool recording_begin(recording *r, const char *name, const kept *k);
 
 /* Records a piece; false, by errno, where the file can't be written: nothing is recorded from then on. A kept_visit. */

@@ -1,8 +1,8 @@
 #!/usr/bin/env python3
 """Types into the terminal: `run_terminal.py TERM5250 HOST5250 T5250 [--sanitized TERM5250] [--long] [--only WORD]`.
 
-Its parts stand in tests/: what a clerk does, what is shown, faults, sizes in tmux, random work. A terminal that was built
-with sanitizers takes the random work, which is left out without it. With --long it is ten minutes of random keys and
+Its parts stand in tests/: what a clerk does, what is shown, faults, sizes in tmux, random work. A terminal that was
+built with sanitizers takes the random work, which is left out without it. With --long it is ten minutes of random keys and
 records, 120 hosts that send garbage, and 5,000 screens; without, a little of each, and all takes about two minutes.
 With --only the parts whose name has a word. Ends with 'N passed, N failed'."""
 import argparse
@@ -33,14 +33,15 @@ def arguments():
 
 
 def parts(words):
-    yield from (work.sign_on_and_form, work.names_and_signals, work.holds, work.without_hold, work.typed_ahead, work.pastes,
-                work.against_serve)
-    yield from (shown.attributes, shown.grounds, shown.locales, shown.characters, shown.status_line, shown.blinking_without_shapes,
-                shown.at_24_rows, shown.small_windows, shown.function_keys, shown.keypad, shown.editing, shown.keys_files,
-                shown.print_screen)
-    yield from (faults.refused, faults.refused_by_name, faults.recordings, faults.cutting, faults.cut_behind_iac, faults.kept_is_the_last, faults.bad_peers,
-                faults.synch, faults.ipv6, faults.floods, faults.while_connecting, faults.in_the_menu,
-                faults.command_lines, faults.without_a_terminal, faults.unwritable_files)
+    yield from (work.sign_on_and_form, work.names_and_signals, work.holds, work.without_hold, work.typed_ahead,
+                work.pastes, work.against_serve)
+    yield from (shown.attributes, shown.grounds, shown.locales, shown.characters, shown.status_line,
+                shown.blinking_without_shapes, shown.at_24_rows, shown.small_windows, shown.function_keys, shown.keypad,
+                shown.editing, shown.keys_files, shown.print_screen)
+    yield from (faults.refused, faults.refused_by_name, faults.recordings, faults.cutting, faults.cut_behind_iac,
+                faults.kept_is_the_last, faults.bad_peers, faults.synch, faults.ipv6, faults.floods,
+                faults.while_connecting, faults.in_the_menu, faults.command_lines, faults.without_a_terminal,
+                faults.unwritable_files)
     yield in_tmux.sizes
 
     def screens():

@@ -1,5 +1,5 @@
-/* Keys of the keyboard, by numbers of their own: a character is its Unicode scalar value, and what isn't one has a number
- * above all characters. */
+/* Keys of the keyboard, by numbers of their own: a character is its Unicode scalar value, and what isn't one has a
+ * number above all characters. */
 #ifndef STROKE_H
 #define STROKE_H
 
@@ -43,7 +43,7 @@ enum {
     STROKE_ESCAPED = 0x400000 /* is added where Esc was pressed before it */
 };
 
-/* The stroke of a name: `^A` to `^Z`, `^]` and its like, `Tab`, `Enter`, `Left`, `F1` to `F24`, `Keypad0` and the others
+/* The stroke of a name: `^A` to `^Z`, `^]` and its like, `Tab`, `Enter`, `Left`, `F1` to `F24`, `Keypad0` and others
  * of the table in stroke.c; with `Esc ` before it that behind Esc, where a character may stand by itself too. Letters
  * of names in either case. False where there is none of the name. */
 bool stroke_by_name(const char *name, stroke *found);

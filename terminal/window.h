@@ -22,7 +22,8 @@ typedef struct {
     const char *before_title, *behind_title; /* null where there is no title */
 } window;
 
-/* Takes a locale in which the host's characters can be shown. A sentence where the environment's isn't one; it lasts. */
+/* Takes a locale in which the host's characters can be shown; a sentence, which lasts, where the environment's isn't
+ * one, else nothing. */
 const char *window_locale(void);
 
 /* Whether the window can be worked in: false, with a sentence, where TERM isn't known or can't move a cursor. */

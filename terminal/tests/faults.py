@@ -87,7 +87,8 @@ def recordings():
             check(shown.count("CLEAR-UNIT") == count, f"{name} can be shown", count, shown[-200:])
             with open(name) as file:
                 lines = file.read().splitlines()
-            check(all(line.split()[0].isdigit() and line.split()[1] in ("host", "station") for line in lines), "its lines")
+            heads = [line.split()[:2] for line in lines]
+            check(all(time.isdigit() and side in ("host", "station") for time, side in heads), "its lines")
             check(os.stat(name).st_mode & 0o777 == 0o600, "others can't read it")
         host.close()
         pipe = os.path.join(folder, "pipe")
@@ -111,8 +112,9 @@ def recordings():
 
 
 def cutting():
-    usage = [subprocess.run([work.CUT, *words], capture_output=True, text=True) for words in ([], ["a", "both"], ["a"] * 3)]
-    check(all(one.returncode == 2 and one.stderr.startswith("usage") for one in usage), "the script's usage", usage)
+    for words in ([], ["a", "both"], ["a"] * 3):
+        told = subprocess.run([work.CUT, *words], capture_output=True, text=True)
+        check(told.returncode == 2 and told.stderr.startswith("usage"), "the script's usage", told)
     check(subprocess.run([work.CUT, "/nowhere/at/all"], capture_output=True).returncode != 0, "a file that isn't there")
 
 
@@ -359,7 +361,8 @@ def without_a_terminal():
     check(plain_run.returncode == 2 and "needs a terminal" in plain_run.stderr, "without a terminal", plain_run.stderr)
     for words in (["--help"], ["-h"], ["a", "--help"]):
         helped = run(*words)
-        check(helped.returncode == 0 and helped.stdout.startswith("usage: ") and not helped.stderr, "help", words, helped)
+        is_right = helped.returncode == 0 and helped.stdout.startswith("usage: ") and not helped.stderr
+        check(is_right, "help", words, helped)
     version = run("--version")
     check(version.returncode == 0 and version.stdout.startswith("term5250 ") and not version.stderr, "version", version)
     with open("/dev/full", "w") as full:

@@ -29,11 +29,13 @@ def text(row, column, words, attribute=None):
 
 
 def field(row, column, length, form=0x4000, attribute=0x24):
-    return at(row, column - 1) + bytes([0x1D]) + form.to_bytes(2, "big") + bytes([attribute]) + length.to_bytes(2, "big")
+    order = bytes([0x1D]) + form.to_bytes(2, "big") + bytes([attribute]) + length.to_bytes(2, "big")
+    return at(row, column - 1) + order
 
 
 def record(body, opcode=3, flags=0):
-    whole = (10 + len(body)).to_bytes(2, "big") + b"\x12\xa0\x00\x00\x04" + flags.to_bytes(2, "big") + bytes([opcode]) + body
+    header = (10 + len(body)).to_bytes(2, "big") + b"\x12\xa0\x00\x00\x04" + flags.to_bytes(2, "big") + bytes([opcode])
+    whole = header + body
     return whole.replace(b"\xff", b"\xff\xff") + bytes([IAC, EOR])
 
 

@@ -11,10 +11,10 @@ from hosts import Host, READ, field, plain, text, write
 from window import Terminal, check
 
 KEYS = ["\r", "\t", "\x1b[Z", "\x7f", "\x08", "\x1bOA", "\x1bOB", "\x1bOC", "\x1bOD", "\x1bOH", "\x1b[F", "\x1b[2~",
-        "\x1b[3~", "\x1b[5~", "\x1b[6~", "\x1bOP", "\x1bOR", "\x1b[24~", "\x1b[1;2P", "\x1b!", "\x1b1", "\x1ba", "\x1bs",
-        "\x1be", "\x1bc", "\x1b\x1b", "\x12", "\x12", "\x12", "\x01", "\x05", "\x0b", "\n", "\x06", "\x0e", "\x04", "\x0f",
-        "\x0c", "\x07", "\x10", "\x14", "\x18", "\x03", "\x1bOM", "\x1bOk", "\x1bOu", "\x1b[1;5C", "\x1b]11;?\x07",
-        "\x1b[<0;20;3M\x1b[<0;20;3m", "\x1b[<0;200;90M", "\x1b[200~12\r\nab\x1b[201~", "\x1b[200~", "\x1b[201~",
+        "\x1b[3~", "\x1b[5~", "\x1b[6~", "\x1bOP", "\x1bOR", "\x1b[24~", "\x1b[1;2P", "\x1b!", "\x1b1", "\x1ba",
+        "\x1bs", "\x1be", "\x1bc", "\x1b\x1b", "\x12", "\x12", "\x12", "\x01", "\x05", "\x0b", "\n", "\x06", "\x0e",
+        "\x04", "\x0f", "\x0c", "\x07", "\x10", "\x14", "\x18", "\x03", "\x1bOM", "\x1bOk", "\x1bOu", "\x1b[1;5C",
+        "\x1b]11;?\x07", "\x1b[<0;20;3M\x1b[<0;20;3m", "\x1b[<0;200;90M", "\x1b[200~12\r\nab\x1b[201~", "\x1b[200~", "\x1b[201~",
         "\x1dx", "\x1d\x1d", "\x1d\x1b", "\x1ds", "\x1dp", "\x1dr", "\x00", "caf\u00e9", "\u20ac", "12.5", "x", " ",
         "A long text that fills more than one field of them all"]
 SIZES = [(24, 80), (25, 80), (30, 100), (20, 60), (1, 1), (50, 200), (24, 79), (23, 80), (3, 500)]
@@ -52,7 +52,8 @@ def something(dice):
         return hosts.record(b"\x04\x11\x00" + bytes([dice.choice([0x08, 0x01, 0x02, 0x00])]), 2)
     if kind < 0.9:
         return hosts.record(b"", dice.choice([11, 12, 10, 1, 2]))
-    return dice.choice([hosts.SEND_TYPE, b"\xff\xf1", b"\xff\xf2", b"\xff\xfd\x03", b"\xff\xfb\x01"]) * dice.randint(1, 30)
+    command = dice.choice([hosts.SEND_TYPE, b"\xff\xf1", b"\xff\xf2", b"\xff\xfd\x03", b"\xff\xfb\x01"])
+    return command * dice.randint(1, 30)
 
 
 def say_nothing(said, what):
@@ -76,12 +77,13 @@ def same_screen(t, folder):
         printed = file.read().split("\n")[:24]
     rows = [t.window.text(row) for row in range(24)]
     differ = [(a, b) for a, b in zip(printed, rows) if not is_shown(a, b)]
-    check(not differ, "the window shows the station's screen", differ[:4])
+    check(not differ, "the window shows the station's screen", name, differ[:4])
 
 
 def one_session(dice, sanitized, seconds, counts, folder):
     host = Host()
-    words = dice.choice([[], ["--no-hold"], ["--mono"], ["--separators", "off"], ["--background", "own"], ["--no-mouse"]])
+    words = dice.choice([[], ["--no-hold"], ["--mono"], ["--separators", "off"], ["--background", "own"],
+                         ["--no-mouse"]])
     rows, columns = dice.choice(SIZES[:3])
     t = Terminal(*words, f"127.0.0.1:{host.port}", rows=rows, columns=columns, program=sanitized,
                  term=dice.choice(["xterm", "screen", "vt100", "linux", "xterm-256color"]), folder=folder, **CAREFUL)

@@ -33,7 +33,8 @@ static const struct {
     {5, "", RIBBON_KEY_CHAR, {ACTION_CHARACTER, '-'}, "No '-' here: the field takes digits, and Field Minus."},
     {-1, "", RIBBON_KEY_CHAR, {ACTION_CHARACTER, 'y'}, "The cursor isn't in an input field: 'y' went nowhere."},
     {-1, "", RIBBON_KEY_DELETE, {ACTION_DELETE, 0}, "The cursor isn't in an input field."},
-    {0, "", RIBBON_KEY_FIELD_MINUS, {ACTION_FIELD_MINUS, 0}, "This key is for numeric fields, and this field isn't one."},
+    {0, "", RIBBON_KEY_FIELD_MINUS, {ACTION_FIELD_MINUS, 0},
+     "This key is for numeric fields, and this field isn't one."},
     {0, "", RIBBON_KEY_DUP, {ACTION_DUP, 0}, "The field doesn't take Dup."},
     {0, "", RIBBON_KEY_AID, {ACTION_AID, RIBBON_AID_ENTER}, "The host asks for nothing."},
 };

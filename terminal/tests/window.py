@@ -1,6 +1,8 @@
 """A terminal's window of our own, the program in it, and counted checks.
 
-The window understands the part of ECMA-48 that curses writes for `xterm`, and keeps what stands where and how it looks."""
+The window understands the part of ECMA-48 that curses writes for `xterm`, and keeps what stands where and how it
+looks."""
+import codecs
 import fcntl
 import os
 import pty
@@ -81,7 +83,9 @@ class Window:
         elif first == "\n":
             self.row = min(self.row + 1, self.rows - 1)
         elif first == "\b":
-            self.column = max(min(self.column, self.columns) - 1, 0)
+            self.column = max(min(self.column, self.columns - 1) - 1, 0)
+        elif first == "\t":
+            self.column = min((self.column // 8 + 1) * 8, self.columns - 1)
         elif first == "\x07":
             self.bells += 1
         elif first >= " ":
@@ -99,6 +103,8 @@ class Window:
             self.title = found.group(1).partition(";")[2]
         else:
             found = OTHER.match(data)
+            if found and found.group(1) == "M":  # As `screen` goes up.
+                self.row = max(self.row - 1, 0)
         return found.end() if found else 0
 
     def control(self, words, final):
@@ -118,6 +124,8 @@ class Window:
             self.column += count if final == "C" else -count
         elif final == "G":
             self.column = count - 1
+        elif final == "Z":
+            self.column = max((self.column - 1) // 8 * 8, 0)
         elif final == "d":
             self.row = count - 1
         elif final == "m":
@@ -127,16 +135,19 @@ class Window:
                 self.put(self.last)
         else:
             self.erase(final, numbers[0], count)
-        if final in "HABCDGd":  # As any terminal does with what was meant for a larger window.
+        if final in "HABCDGdZ":  # As any terminal does with what was meant for a larger window.
             self.row = max(0, min(self.row, self.rows - 1))
             self.column = max(0, min(self.column, self.columns - 1))
 
     def erase(self, final, number, count):
+        if final == "J" and number == 2:
+            self.clear()
+            return
         row, blank = self.cells[self.row], (" ", {})
         if final == "J":
             self.cells[self.row + 1 :] = [[blank] * self.columns for _ in range(self.rows - self.row - 1)]
         if final in "JK":
-            span = range(self.column, self.columns) if number == 0 else range(0, self.column + 1)
+            span = range(self.column, self.columns) if number == 0 else range(0, min(self.column + 1, self.columns))
             for column in span:
                 row[column] = blank
         elif final == "X":
@@ -173,6 +184,7 @@ class Terminal:
     def __init__(self, *words, rows=25, columns=80, term="xterm", program=None, folder=None, **environment):
         self.window = Window(rows, columns)
         self.said = b""
+        self.decoder = codecs.getincrementaldecoder("utf-8")("replace")
         self.master, self.slave = pty.openpty()
         self.set_size(rows, columns)
         self.before = termios.tcgetattr(self.slave)
@@ -206,7 +218,7 @@ class Terminal:
             except OSError:
                 return False
             self.said += data
-            self.window.feed(data.decode("utf-8", "replace"))
+            self.window.feed(self.decoder.decode(data))
             return bool(data)
         return False
 
