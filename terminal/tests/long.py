@@ -15,8 +15,8 @@ KEYS = ["\r", "\t", "\x1b[Z", "\x7f", "\x08", "\x1bOA", "\x1bOB", "\x1bOC", "\x1
         "\x1bs", "\x1be", "\x1bc", "\x1b\x1b", "\x12", "\x12", "\x12", "\x01", "\x05", "\x0b", "\n", "\x06", "\x0e",
         "\x04", "\x0f", "\x0c", "\x07", "\x10", "\x14", "\x18", "\x03", "\x1bOM", "\x1bOk", "\x1bOu", "\x1b[1;5C",
         "\x1b]11;?\x07", "\x1b[<0;20;3M\x1b[<0;20;3m", "\x1b[<0;200;90M", "\x1b[200~12\r\nab\x1b[201~", "\x1b[200~",
-        "\x1b[201~", "\x1dx", "\x1d\x1d", "\x1d\x1b", "\x1ds", "\x1dp", "\x1dr", "\x00", "caf\u00e9", "\u20ac", "12.5", "x", " ",
-        "A long text that fills more than one field of them all"]
+        "\x1b[201~", "\x1dx", "\x1d\x1d", "\x1d\x1b", "\x1ds", "\x1dp", "\x1dr", "\x00", "caf\u00e9",
+        "\u20ac", "12.5", "x", " ", "A long text that fills more than one field of them all"]
 SIZES = [(24, 80), (25, 80), (30, 100), (20, 60), (1, 1), (50, 200), (24, 79), (23, 80), (3, 500)]
 # What curses itself doesn't give back, it keeps for the next window.
 SUPPRESSED = pathlib.Path(__file__).resolve().parent / "curses.supp"
