@@ -39,6 +39,7 @@ class Window:
 
     def __init__(self, rows, columns):
         self.rows, self.columns = rows, columns
+        self.top, self.bottom = 0, rows  # The rows that scroll.
         self.clear()
         self.row = self.column = 0
         self.look = {}
@@ -49,7 +50,7 @@ class Window:
         self.modes = set()
 
     def clear(self):
-        self.cells = [[(" ", {}) for _ in range(self.columns)] for _ in range(self.rows)]
+        self.cells = [[(" ", {})] * self.columns for _ in range(self.rows)]
 
     def text(self, row):
         return "".join(cell[0] for cell in self.cells[row]).rstrip()
@@ -81,7 +82,7 @@ class Window:
         if first == "\r":
             self.column = 0
         elif first == "\n":
-            self.row = min(self.row + 1, self.rows - 1)
+            self.go_down()
         elif first == "\b":
             self.column = max(min(self.column, self.columns - 1) - 1, 0)
         elif first == "\t":
@@ -103,9 +104,27 @@ class Window:
             self.title = found.group(1).partition(";")[2]
         else:
             found = OTHER.match(data)
-            if found and found.group(1) == "M":  # As `screen` goes up.
-                self.row = max(self.row - 1, 0)
+            if found and found.group(1) == "M":
+                self.go_up()
         return found.end() if found else 0
+
+    def go_down(self):
+        if self.row + 1 == self.bottom:
+            self.scroll(self.top, 1)
+        else:
+            self.row = min(self.row + 1, self.rows - 1)
+
+    def go_up(self):
+        if self.row == self.top:
+            self.scroll(self.top, -1)
+        else:
+            self.row = max(self.row - 1, 0)
+
+    def scroll(self, top, count):
+        """Rows from the top one to the last that scrolls go up; down where the count is negative."""
+        held = self.cells[top : self.bottom]
+        blanks = [[(" ", {})] * self.columns for _ in range(min(abs(count), len(held)))]
+        self.cells[top : self.bottom] = held[count:] + blanks if count > 0 else blanks + held[:count]
 
     def control(self, words, final):
         if words[:1] in ("?", ">", "=", "<"):
@@ -116,18 +135,10 @@ class Window:
             return
         numbers = [int(word) if word else 0 for word in words.split(";")]
         count = max(numbers[0], 1)
-        if final == "H":
-            self.row, self.column = count - 1, max(numbers[1] if len(numbers) > 1 else 1, 1) - 1
-        elif final in "AB":
-            self.row += count if final == "B" else -count
-        elif final in "CD":
-            self.column += count if final == "C" else -count
-        elif final == "G":
-            self.column = count - 1
-        elif final == "Z":
-            self.column = max((self.column - 1) // 8 * 8, 0)
-        elif final == "d":
-            self.row = count - 1
+        if final in "HABCDGdZ":
+            self.move(final, count, max(numbers[1] if len(numbers) > 1 else 1, 1))
+        elif final in "rSTLM":
+            self.move_rows(final, count, numbers)
         elif final == "m":
             self.sgr(numbers)
         elif final == "b":
@@ -135,9 +146,32 @@ class Window:
                 self.put(self.last)
         else:
             self.erase(final, numbers[0], count)
-        if final in "HABCDGdZ":  # As any terminal does with what was meant for a larger window.
-            self.row = max(0, min(self.row, self.rows - 1))
-            self.column = max(0, min(self.column, self.columns - 1))
+
+    def move(self, final, count, second):
+        if final == "H":
+            self.row, self.column = count - 1, second - 1
+        elif final in "AB":
+            self.row += count if final == "B" else -count
+        elif final in "CD":
+            self.column += count if final == "C" else -count
+        elif final == "G":
+            self.column = count - 1
+        elif final == "Z":
+            self.column = (self.column - 1) // 8 * 8
+        else:
+            self.row = count - 1
+        # As any terminal does with what was meant for a larger window.
+        self.row = max(0, min(self.row, self.rows - 1))
+        self.column = max(0, min(self.column, self.columns - 1))
+
+    def move_rows(self, final, count, numbers):
+        if final == "r":
+            self.top, self.bottom = count - 1, numbers[1] if len(numbers) > 1 else self.rows
+            self.row = self.column = 0
+        elif final in "ST":
+            self.scroll(self.top, count if final == "S" else -count)
+        elif self.top <= self.row < self.bottom:
+            self.scroll(self.row, count if final == "M" else -count)
 
     def erase(self, final, number, count):
         if final == "J" and number == 2:
