@@ -188,7 +188,8 @@ static void serve(int line, bool is_bad)
     ribbon_told told;
     unsigned round = 0;
     ssize_t came;
-    bool goes_on = ribbon_host_new(&host, reply, sizeof reply, &told) == RIBBON_DONE && send_all(line, reply, told.length);
+    bool goes_on = ribbon_host_new(&host, reply, sizeof reply, &told) == RIBBON_DONE
+                   && send_all(line, reply, told.length);
     while (goes_on && (came = recv(line, bytes, sizeof bytes, 0)) > 0) {
         ribbon_pushed pushed;
         for (size_t at = 0; goes_on && at < (size_t)came; at += pushed.taken) {

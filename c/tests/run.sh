@@ -153,6 +153,40 @@ if has pkg-config "programs on what was installed"; then
     fi
 fi
 
+# What of the terminal is no drawing: each test with all of it.
+terminal=$top/terminal
+logic=("$terminal"/{action,address,ahead,bindings,hold,kept,keys_file,look,moves,paste,recording,sentence,status,stroke,telnet}.c)
+probe=()
+[ -x "$folder/probe" ] && probe=("${sanitized[@]}")
+for test in "$terminal"/tests/*.c; do
+    name=$(basename "$test" .c)
+    try "$name.c is built" "$CC" "${warnings[@]}" "${probe[@]}" -g -I "$here" -I "$terminal" -o "$folder/terminal_$name" \
+        "$test" "${logic[@]}" "$BUILD/libribbonscarp.a"
+    try_counted "the terminal's $name" "$folder/terminal_$name"
+done
+
+# The terminal, typed into.
+if has python3 "the terminal"; then
+    if echo '#include <curses.h>' | "$CC" -D_XOPEN_SOURCE_EXTENDED=1 -E -x c - >/dev/null 2>&1; then
+        try "make terminal" "$MAKE" -C "$here" terminal "${made_by[@]}"
+        try "host5250.c is built" "$CC" "${warnings[@]}" -g -I "$here" -o "$folder/host5250" "$terminal/host5250.c" \
+            "$BUILD/libribbonscarp.a"
+        careful_terminal=()
+        if [ ${#probe[@]} -gt 0 ]; then
+            try "the terminal is built with sanitizers" "$MAKE" -C "$here" terminal "${made_by[@]}" \
+                TERMINAL="$folder/sanitized_terminal" CFLAGS="${sanitized[*]}"
+            careful_terminal=(--sanitized "$folder/sanitized_terminal")
+        fi
+        try "the terminal is installed" "$MAKE" -C "$here" install PREFIX=/usr DESTDIR="$stage" "${made_by[@]}"
+        try "its page of the manual" grep -q '^.TH TERM5250 1' "$stage/usr/share/man/man1/term5250.1"
+        try "the installed terminal" "$stage/usr/bin/term5250" --version
+        try_counted "the terminal" python3 "$terminal/run_terminal.py" "$BUILD/term5250" "$folder/host5250" "$T5250" \
+            "${careful_terminal[@]}" ${TERMINAL_TESTS:-}
+    else
+        echo "left out: the terminal, since the headers of ncurses aren't here (libncurses-dev)"
+    fi
+fi
+
 # Nothing of it is left then but folders.
 uninstalls() {
     "$MAKE" -C "$here" uninstall PREFIX=/usr DESTDIR="$stage" "${made_by[@]}" \
@@ -160,16 +194,5 @@ uninstalls() {
 }
 try "make uninstall" uninstalls
 
-# The terminal, typed into.
-if has python3 "the terminal"; then
-    if echo '#include <curses.h>' | "$CC" -D_XOPEN_SOURCE_EXTENDED=1 -E -x c - >/dev/null 2>&1; then
-        try "make terminal" "$MAKE" -C "$here" terminal "${made_by[@]}"
-        try "host5250.c is built" "$CC" "${warnings[@]}" -g -I "$here" -o "$folder/host5250" "$top/terminal/host5250.c" \
-            "$BUILD/libribbonscarp.a"
-        try_counted "the terminal" python3 "$top/terminal/run_terminal.py" "$BUILD/term5250" "$folder/host5250" "$T5250"
-    else
-        echo "left out: the terminal, since the headers of ncurses aren't here (libncurses-dev)"
-    fi
-fi
 echo "$passed passed, $failed failed"
 [ $failed -eq 0 ]

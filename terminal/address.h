@@ -1,0 +1,16 @@
+/* HOST[:PORT], as it is written: a name or an address, of IPv6 also as [ADDRESS]:PORT. */
+#ifndef ADDRESS_H
+#define ADDRESS_H
+
+#include <stdbool.h>
+#include <stddef.h>
+
+typedef struct {
+    char host[256];
+    char port[32]; /* a number or a service's name; 23 where none is written */
+} address;
+
+/* Reads an address; false, with a sentence in `why`, where it isn't one. */
+bool address_read(address *a, const char *text, char *why, size_t room);
+
+#endif

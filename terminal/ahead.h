@@ -1,0 +1,23 @@
+/* What is typed ahead: keys that wait, in order, until the keyboard is free. */
+#ifndef AHEAD_H
+#define AHEAD_H
+
+#include "action.h"
+
+enum { AHEAD_ROOM = 4096 };
+
+typedef struct {
+    action keys[AHEAD_ROOM];
+    size_t first, count;
+} ahead;
+
+/* Puts a key behind those that wait; false, and nothing is put, where there is no room. */
+bool ahead_put(ahead *a, action key);
+
+/* Takes the key that has waited longest; false where none waits. */
+bool ahead_take(ahead *a, action *key);
+
+/* Drops all keys, and tells how many. */
+size_t ahead_drop(ahead *a);
+
+#endif

@@ -1,0 +1,156 @@
+#include "draw.h"
+
+#include "menu.h"
+
+#include <string.h>
+
+static bool is_note(const session *s)
+{
+    return s->note[0] != 0 || s->standing[0] != 0;
+}
+
+static void draw_cell(const window *w, int row, int column, const ribbon_cell *cell)
+{
+    cchar_t shown;
+    wchar_t text[2] = {(wchar_t)cell->character, 0};
+    look l = look_of(cell->attribute, w->has_colors);
+    bool is_attribute = cell->byte >= 0x20 && cell->byte <= 0x3f;
+    if (l.is_hidden || is_attribute)
+        l = look_of(0x20, w->has_colors);
+    short pair;
+    attr_t attributes = window_look(w, &l, &pair);
+    if (w->separators && l.has_separators && cell->character == ' ') {
+        text[0] = L'_';
+        attributes |= A_DIM;
+    }
+    if (setcchar(&shown, text, attributes, pair, NULL) == OK)
+        (void)mvadd_wch(row, column, &shown); /* at the window's last cell it answers ERR, though it is drawn */
+}
+
+static void draw_rows(session *s, const window *w)
+{
+    ribbon_cell cells[RIBBON_COLUMNS];
+    uint32_t rows;
+    if (ribbon_station_changed(&s->station, &rows) != RIBBON_DONE)
+        return;
+    for (uint8_t row = 1; row <= RIBBON_ROWS; row++) {
+        if (!s->draws_all && (rows >> (row - 1) & 1) == 0)
+            continue;
+        if (ribbon_station_cells(&s->station, row, row, cells, RIBBON_COLUMNS) != RIBBON_DONE)
+            return;
+        for (int column = 0; column < RIBBON_COLUMNS; column++)
+            draw_cell(w, row - 1, column, &cells[column]);
+    }
+}
+
+static const char *turn_words(const session *s, const ribbon_state *state)
+{
+    if (s->phase == PHASE_DIALLING)
+        return "connecting";
+    if (s->phase == PHASE_OVER)
+        return "the session is over";
+    if (!state->is_ready)
+        return "connected, the session hasn't begun";
+    return state->is_locked ? "waiting for the host" : "";
+}
+
+/* The key that goes on from here: Reset's, as it is bound, or the menu's. */
+static const char *way_words(session *s)
+{
+    char keys[40];
+    if (s->phase == PHASE_OVER)
+        return "^] leaves";
+    if (!s->is_held)
+        return "^] menu";
+    bindings_keys(&s->keys, (action){ACTION_RESET, 0}, keys, sizeof keys);
+    keys[strcspn(keys, ",")] = 0; /* the first of them */
+    (void)snprintf(s->way, sizeof s->way, "Reset: %.16s", keys);
+    return s->way;
+}
+
+status_parts draw_parts(session *s, const ribbon_state *state)
+{
+    ribbon_field field;
+    status_parts parts = {.turn = turn_words(s, state), .where = s->asked->where};
+    parts.note = s->note[0] != 0 ? s->note : s->standing;
+    parts.way = way_words(s);
+    parts.is_way_out = s->is_held || s->phase == PHASE_OVER;
+    parts.is_message_lit = state->is_message_lit;
+    parts.is_inserting = s->is_inserting;
+    parts.is_recording = s->recording.file != NULL;
+    parts.waits = s->ahead.count > 0;
+    if (ribbon_station_field(&s->station, state->cursor_field, &field) == RIBBON_DONE)
+        parts.field_length = field.length;
+    parts.row = state->cursor_row;
+    parts.column = state->cursor_column;
+    return parts;
+}
+
+void draw_status(const status_parts *parts, int row)
+{
+    wchar_t text[STATUS_COLUMNS + 1];
+    status_line(parts, text);
+    (void)attron(A_REVERSE);
+    (void)mvaddwstr(row, 0, text); /* at the window's last cell it answers ERR, though it is drawn */
+    (void)attroff(A_REVERSE);
+}
+
+static void draw_too_small(void)
+{
+    (void)erase();
+    (void)mvprintw(0, 0, "This window is %d by %d. A 5250", COLS, LINES);
+    (void)mvprintw(1, 0, "needs 80 by 24, better 80 by 25.");
+    (void)mvprintw(2, 0, "No key goes out. ^] opens the menu.");
+}
+
+static void draw_screen(session *s, window *w, const ribbon_state *state, const status_parts *parts)
+{
+    if (s->draws_all)
+        (void)erase();
+    draw_rows(s, w);
+    if (window_has_status())
+        draw_status(parts, SCREEN_ROWS);
+    else if (is_note(s))
+        draw_status(parts, SCREEN_ROWS - 1);
+    (void)move(state->cursor_row - 1, state->cursor_column - 1);
+}
+
+static void ring(session *s, const ribbon_state *state)
+{
+    if (state->is_message_lit && !s->was_lit && !window_has_status())
+        s->rings = true; /* where no sign tells of the message light, the bell does */
+    s->was_lit = state->is_message_lit;
+    if (s->rings)
+        (void)beep();
+    s->rings = false;
+}
+
+void draw(session *s, window *w)
+{
+    char title[sizeof w->title];
+    ribbon_state state;
+    if (ribbon_station_state(&s->station, &state) != RIBBON_DONE)
+        return;
+    if (s->is_of_screen && s->note_records != state.records)
+        s->note[0] = 0;
+    status_parts parts = draw_parts(s, &state);
+    bool covers = !window_has_status() && is_note(s);
+    s->draws_all = s->draws_all || covers != w->is_covered;
+    if (s->is_menu_open)
+        menu_draw(s, &parts);
+    else if (window_has_screen())
+        draw_screen(s, w, &state, &parts);
+    else
+        draw_too_small();
+    w->is_covered = covers;
+    s->draws_all = s->is_menu_open || !window_has_screen();
+    if (s->repaints)
+        (void)clearok(stdscr, TRUE);
+    s->repaints = false;
+    ring(s, &state);
+    (void)refresh();
+    status_title(&parts, title, sizeof title);
+    window_title(w, title);
+    if (!s->is_menu_open)
+        window_cursor(w, state.is_locked, s->is_inserting, state.is_blinking);
+}

@@ -1,0 +1,128 @@
+#include "menu.h"
+
+#include "draw.h"
+#include "window.h"
+
+#include <errno.h>
+#include <string.h>
+
+enum { KEY_ROWS = 11, KEY_COLUMN = 27 };
+
+#define RECORDING_NAME "term5250.rec"
+#define SCREEN_NAME "term5250.txt"
+
+/* ---- What is saved ---- */
+
+static void switch_recording(session *s)
+{
+    if (s->recording.file != NULL) {
+        bool is_whole = recording_end(&s->recording);
+        session_report(s, is_whole ? "Recorded in %s." : "The end of %s couldn't be written.", s->recording.name);
+    } else if (recording_begin(&s->recording, s->asked->record != NULL ? s->asked->record : RECORDING_NAME, &s->kept)) {
+        session_report(s, "Recording in %s. It holds passwords.", s->recording.name);
+    } else {
+        session_report(s, "%s can't be written: %s.", s->recording.name, strerror(errno));
+    }
+}
+
+static void save_kept(session *s)
+{
+    recording saved;
+    if (!recording_begin(&saved, RECORDING_NAME, &s->kept) || !recording_end(&saved))
+        session_report(s, "%s can't be written: %s.", saved.name, strerror(errno));
+    else
+        session_report(s, "Saved in %s. It holds passwords.", saved.name);
+}
+
+static bool write_screen(session *s, FILE *file)
+{
+    char text[RIBBON_ROW_ROOM];
+    ribbon_told told;
+    for (uint8_t row = 1; row <= RIBBON_ROWS; row++) {
+        if (ribbon_station_row(&s->station, row, text, sizeof text, &told) != RIBBON_DONE)
+            return false;
+        while (told.length > 0 && text[told.length - 1] == ' ')
+            told.length--;
+        if (fprintf(file, "%.*s\n", (int)told.length, text) < 0)
+            return false;
+    }
+    return true;
+}
+
+static void print_screen(session *s)
+{
+    char name[FILE_NAME_ROOM] = SCREEN_NAME;
+    FILE *file = file_made(SCREEN_NAME, name, sizeof name);
+    bool is_written = file != NULL && write_screen(s, file);
+    if (file != NULL && fclose(file) != 0)
+        is_written = false;
+    if (is_written)
+        session_report(s, "The screen is in %s.", name);
+    else
+        session_report(s, "%s can't be written: %s.", name, strerror(errno));
+}
+
+void menu_key(session *s, uint32_t character)
+{
+    s->is_menu_open = false;
+    s->draws_all = true;
+    s->note[0] = 0;
+    switch (character) {
+    case 'q': s->is_leaving = true; break;
+    case 'r': switch_recording(s); break;
+    case 's': save_kept(s); break;
+    case 'p': print_screen(s); break;
+    default: break;
+    }
+}
+
+/* ---- What is drawn ---- */
+
+/* Text of ASCII, cut where the window ends. */
+static void put(int row, int column, const char *text)
+{
+    if (row < LINES && column < COLS)
+        (void)mvaddnstr(row, column, text, COLS - column); /* at the window's last cell it answers ERR */
+}
+
+static void draw_keys(const session *s, int top)
+{
+    for (size_t at = 0; at + 1 < action_name_count; at++) { /* all but `nothing` */
+        char keys[KEY_COLUMN - 14], text[64]; /* as many keys as have room behind the words */
+        bindings_keys(&s->keys, action_names[at].does, keys, sizeof keys);
+        (void)snprintf(text, sizeof text, "%-13s %s", action_names[at].words, keys);
+        put(top + (int)at % KEY_ROWS, (int)at / KEY_ROWS * KEY_COLUMN, text);
+    }
+}
+
+static void draw_words(const session *s)
+{
+    static const char *const signs[] = {
+        "F1 to F12     also Esc 1 to Esc =",
+        "F13 to F24    with Shift, or behind Esc; also Esc ! to Esc +",
+        "Mouse         a click moves the cursor; with Shift the window selects text",
+        "Paste         a line's end goes to the next field, and sends nothing",
+        "MW  a message waits   INS  insert mode   REC  recording   T  keys wait",
+        "field 10  length of the cursor's field   06/053  row and column of the cursor",
+    };
+    char title[100];
+    (void)snprintf(title, sizeof title, "term5250 at %.60s", s->asked->where);
+    put(0, 0, title);
+    put(1, 0, "q  leave           p  the screen into " SCREEN_NAME "       any other key  back");
+    put(2, 0, s->recording.file != NULL ? "r  stop recording" : "r  record");
+    put(2, 19, "s  save the last 256 KiB of both ends (these hold passwords)");
+    if (s->standing[0] != 0)
+        put(3, 0, s->standing);
+    draw_keys(s, 4);
+    for (size_t at = 0; at < sizeof signs / sizeof signs[0]; at++)
+        put(5 + KEY_ROWS + (int)at, 0, signs[at]);
+}
+
+void menu_draw(session *s, const status_parts *parts)
+{
+    (void)erase();
+    draw_words(s);
+    if (window_has_screen())
+        draw_status(parts, window_has_status() ? SCREEN_ROWS : SCREEN_ROWS - 1);
+    (void)move(0, 0);
+}

@@ -1,0 +1,229 @@
+#include "press.h"
+
+#include "moves.h"
+#include "sentence.h"
+
+#include <string.h>
+
+/* What came of a key. */
+typedef struct {
+    ribbon_status status;
+    uint8_t refusal;
+    bool has_moved_on; /* a character filled its field, and the cursor went to another */
+} pressed;
+
+/* The keys that are one of the station's. */
+static const struct {
+    action_kind kind;
+    uint32_t key;
+} station_keys[] = {
+    {ACTION_CHARACTER, RIBBON_KEY_CHAR}, {ACTION_INSERTED, RIBBON_KEY_INSERT}, {ACTION_PASTED, RIBBON_KEY_CHAR},
+    {ACTION_PASTED_END, RIBBON_KEY_TAB}, {ACTION_AID, RIBBON_KEY_AID}, {ACTION_LEFT, RIBBON_KEY_LEFT},
+    {ACTION_RIGHT, RIBBON_KEY_RIGHT}, {ACTION_UP, RIBBON_KEY_UP}, {ACTION_DOWN, RIBBON_KEY_DOWN},
+    {ACTION_HOME, RIBBON_KEY_HOME}, {ACTION_TAB, RIBBON_KEY_TAB}, {ACTION_BACK_TAB, RIBBON_KEY_BACK_TAB},
+    {ACTION_FIELD_EXIT, RIBBON_KEY_FIELD_EXIT}, {ACTION_FIELD_PLUS, RIBBON_KEY_FIELD_EXIT},
+    {ACTION_FIELD_MINUS, RIBBON_KEY_FIELD_MINUS}, {ACTION_DUP, RIBBON_KEY_DUP}, {ACTION_DELETE, RIBBON_KEY_DELETE},
+    {ACTION_ERASE_INPUT, RIBBON_KEY_ERASE_INPUT}, {ACTION_ATTENTION, RIBBON_KEY_ATTENTION},
+    {ACTION_SYSTEM_REQUEST, RIBBON_KEY_SYSTEM_REQUEST},
+};
+
+static uint32_t station_key_of(action_kind kind, bool is_inserting)
+{
+    if (kind == ACTION_PASTED && is_inserting)
+        return RIBBON_KEY_INSERT;
+    for (size_t at = 0; at < sizeof station_keys / sizeof station_keys[0]; at++)
+        if (station_keys[at].kind == kind)
+            return station_keys[at].key;
+    return 0;
+}
+
+/* Whether a key's answer has room; where there is no line yet, the station tells by itself that nothing can be sent. */
+static bool can_send(const session *s)
+{
+    return s->phase != PHASE_OPEN || line_left(&s->line) >= RIBBON_ANSWER_ROOM;
+}
+
+turn press_turn(session *s)
+{
+    ribbon_state state;
+    /* The station knows no errors of the host's: has_error stays off. */
+    turn now = {.is_over = s->phase == PHASE_OVER, .is_held = s->is_held, .waits = s->ahead.count > 0};
+    now.is_locked = ribbon_station_state(&s->station, &state) != RIBBON_DONE || state.is_locked || !can_send(s);
+    return now;
+}
+
+/* A key of the station's by itself; what it sends goes out. */
+static pressed press_one(session *s, action key)
+{
+    uint8_t answer[RIBBON_ANSWER_ROOM];
+    ribbon_told told;
+    ribbon_state before, after;
+    pressed p = {.status = ribbon_station_state(&s->station, &before)};
+    if (p.status != RIBBON_DONE)
+        return p;
+    p.status = ribbon_station_key(&s->station, station_key_of(key.kind, s->is_inserting), key.value, answer,
+                                  sizeof answer, &told);
+    p.refusal = told.reason;
+    if (p.status == RIBBON_DONE && told.length > 0 && !session_send(s, answer, told.length))
+        session_over(s, 1, "The host doesn't take what is sent."); /* there was room for it: press_does saw to that */
+    if (ribbon_station_state(&s->station, &after) == RIBBON_DONE)
+        p.has_moved_on = after.cursor_field != before.cursor_field;
+    return p;
+}
+
+static pressed press_several(session *s, action key)
+{
+    pressed p = {0};
+    bool at_begin = false;
+    switch (key.kind) {
+    case ACTION_MOVE_TO:
+        p.status = moves_to(&s->station, (uint8_t)(key.value / RIBBON_COLUMNS + 1),
+                            (uint8_t)(key.value % RIBBON_COLUMNS + 1), &p.refusal);
+        break;
+    case ACTION_NEW_LINE: p.status = moves_new_line(&s->station, &p.refusal); break;
+    case ACTION_FIELD_BEGIN: p.status = moves_field_begin(&s->station, &p.refusal); break;
+    case ACTION_FIELD_END: p.status = moves_field_end(&s->station, &p.refusal); break;
+    case ACTION_ERASE_EOF: p.status = moves_erase_eof(&s->station, &p.refusal); break;
+    case ACTION_BACKSPACE: p.status = moves_backspace(&s->station, &p.refusal, &at_begin); break;
+    default: p.status = RIBBON_BAD_ARGUMENT; break; /* no other key comes here */
+    }
+    if (at_begin) {
+        session_tell(s, "The field begins here.");
+        s->rings = true;
+    }
+    return p;
+}
+
+/* What a refused key leaves: a bell, a sentence and, unless nobody wants it, a hold; the keys behind it are dropped. */
+static void refuse(session *s, action key, const pressed *p)
+{
+    char why[NOTE_ROOM - 64], text[NOTE_ROOM];
+    bool is_refused = p->status == RIBBON_KEY_REFUSED; /* and not a request before a session has begun */
+    size_t dropped = is_refused ? ahead_drop(&s->ahead) : 0;
+    if (is_refused)
+        sentence_refused(&s->station, key, p->refusal, why, sizeof why);
+    else
+        (void)snprintf(why, sizeof why, "Nothing can be sent: %s.", ribbon_status_text(p->status));
+    if (key.kind == ACTION_PASTED || key.kind == ACTION_PASTED_END) {
+        paste_stop(&s->paste);
+        (void)snprintf(text, sizeof text, "%zu pasted. %s", s->paste.count, why);
+    } else if (dropped > 0) {
+        (void)snprintf(text, sizeof text, "%s %zu dropped.", why, dropped);
+    } else {
+        (void)snprintf(text, sizeof text, "%s", why);
+    }
+    s->rings = true;
+    s->note[0] = 0;
+    s->is_held = s->asked->holds && is_refused;
+    if (s->is_held)
+        (void)snprintf(s->standing, sizeof s->standing, "%s", text);
+    else
+        session_tell(s, "%s", text);
+}
+
+/* A key that isn't held off. */
+static bool press_does(session *s, action key)
+{
+    pressed p = {0};
+    if (!can_send(s)) { /* These are keys that don't wait; the others do. */
+        session_tell(s, "The host doesn't take what is sent: the key wasn't pressed.");
+        s->rings = true;
+        return false;
+    }
+    if (key.kind == ACTION_PASTED_END && !paste_line_ends(&s->paste))
+        return true;
+    p = station_key_of(key.kind, s->is_inserting) != 0 ? press_one(s, key) : press_several(s, key);
+    if (p.status != RIBBON_DONE) {
+        refuse(s, key, &p);
+        return false;
+    }
+    if (key.kind == ACTION_PASTED)
+        paste_went_in(&s->paste, p.has_moved_on);
+    return true;
+}
+
+static void let_wait(session *s, action key)
+{
+    if (ahead_put(&s->ahead, key))
+        return;
+    s->rings = true;
+    session_tell(s, "%d keys wait, and no more can.", AHEAD_ROOM);
+    paste_stop(&s->paste);
+}
+
+/* What Reset ends of what stands. */
+static void reset(session *s, verdict what)
+{
+    switch (what) {
+    case VERDICT_DROP_AHEAD:
+        s->rings = true;
+        session_report(s, "%zu keys typed ahead dropped.", ahead_drop(&s->ahead));
+        break;
+    case VERDICT_END_HOLD:
+        s->is_held = false;
+        s->standing[0] = 0;
+        break;
+    default: s->is_inserting = false; break;
+    }
+    paste_stop(&s->paste);
+}
+
+/* What the terminal does by itself, whoever has the keyboard; false where it is another key. */
+static bool press_own(session *s, action key)
+{
+    switch (key.kind) {
+    case ACTION_NOTHING: return true;
+    case ACTION_REDRAW: s->draws_all = s->repaints = true; return true;
+    case ACTION_MENU: s->is_menu_open = s->draws_all = true; return true;
+    case ACTION_INSERT_MODE:
+        if (s->is_held || s->phase == PHASE_OVER)
+            s->rings = true;
+        else
+            s->is_inserting = !s->is_inserting;
+        return true;
+    default: return false;
+    }
+}
+
+void press_key(session *s, action key)
+{
+    s->note[0] = 0;
+    if (press_own(s, key))
+        return;
+    turn now = press_turn(s);
+    verdict what = hold_judges(&now, key.kind);
+    switch (what) {
+    case VERDICT_PRESS: (void)press_does(s, key); break; /* a refusal has been told */
+    case VERDICT_WAIT: let_wait(s, key); break;
+    case VERDICT_RING: s->rings = true; paste_stop(&s->paste); break;
+    default: reset(s, what); break;
+    }
+}
+
+void press_pasted(session *s, uint32_t character)
+{
+    action key = paste_character(&s->paste, character);
+    if (key.kind != ACTION_NOTHING)
+        press_key(s, key);
+}
+
+void press_paste_begins(session *s)
+{
+    paste_begin(&s->paste);
+}
+
+void press_paste_ends(session *s)
+{
+    paste_end(&s->paste);
+}
+
+void press_ahead(session *s)
+{
+    turn now = press_turn(s);
+    action key;
+    while (!now.is_over && !now.is_held && !now.is_locked && ahead_take(&s->ahead, &key)) {
+        if (!press_does(s, key))
+            return;
+        now = press_turn(s);
+    }
+}

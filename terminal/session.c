@@ -1,0 +1,222 @@
+#define _GNU_SOURCE
+#include "session.h"
+
+#include "sentence.h"
+
+#include <errno.h>
+#include <stdarg.h>
+#include <stdlib.h>
+#include <string.h>
+#include <time.h>
+#include <unistd.h>
+
+enum { PIECE = KEPT_PIECE, PIECES_AT_ONCE = 16 };
+
+uint64_t session_clock(void)
+{
+    struct timespec now;
+    if (clock_gettime(CLOCK_MONOTONIC, &now) != 0)
+        return 0;
+    return (uint64_t)now.tv_sec * 1000 + (uint64_t)now.tv_nsec / 1000000;
+}
+
+void session_tell(session *s, const char *format, ...)
+{
+    va_list rest;
+    ribbon_state state;
+    va_start(rest, format);
+    (void)vsnprintf(s->note, sizeof s->note, format, rest);
+    va_end(rest);
+    s->is_of_screen = true;
+    s->note_records = ribbon_station_state(&s->station, &state) == RIBBON_DONE ? state.records : 0;
+}
+
+void session_report(session *s, const char *format, ...)
+{
+    va_list rest;
+    va_start(rest, format);
+    (void)vsnprintf(s->note, sizeof s->note, format, rest);
+    va_end(rest);
+    s->is_of_screen = false;
+}
+
+void session_over(session *s, int status, const char *format, ...)
+{
+    va_list rest;
+    va_start(rest, format);
+    (void)vsnprintf(s->standing, sizeof s->standing, format, rest);
+    va_end(rest);
+    s->note[0] = 0;
+    s->status = status;
+    s->is_held = false;
+    s->rings = true;
+    (void)ahead_drop(&s->ahead); /* nobody will take these keys any more */
+    dial_end(&s->dial);
+    line_end(&s->line);
+    s->phase = PHASE_OVER;
+}
+
+/* ---- What goes over the line ---- */
+
+static void keep(session *s, bool is_host, const uint8_t *bytes, size_t count)
+{
+    bool was_recording = s->recording.file != NULL;
+    kept_add(&s->kept, is_host, session_clock() - s->begun, bytes, count, recording_piece, &s->recording);
+    if (was_recording && s->recording.file == NULL) {
+        session_report(s, "Nothing more is recorded in %s: %s.", s->recording.name, strerror(errno));
+        s->rings = true;
+    }
+}
+
+bool session_send(session *s, const uint8_t *bytes, size_t count)
+{
+    if (!line_put(&s->line, bytes, count))
+        return false;
+    keep(s, false, bytes, count);
+    return true;
+}
+
+/* Keeps the first bytes of records, to tell what a host sends that is none. */
+static void scan(session *s, const uint8_t *bytes, size_t count)
+{
+    for (size_t at = 0; at < count && s->said_count < SAID_ROOM; at++)
+        if (telnet_take(&s->scanned, bytes[at]) == TELNET_BYTE)
+            s->said[s->said_count++] = bytes[at];
+}
+
+static void tell_refused(session *s, const ribbon_pushed *pushed)
+{
+    char said[60];
+    ribbon_state state;
+    bool is_ready = ribbon_station_state(&s->station, &state) == RIBBON_DONE && state.is_ready;
+    sentence_bytes(s->said, s->said_count, said, sizeof said);
+    if (!is_ready && s->said_count > 0 && pushed->reason != RIBBON_REASON_RECORD_BEFORE_NEGOTIATION)
+        session_over(s, 1, "This is no 5250 host: it sent `%s`.", said);
+    else
+        session_over(s, 1, "Refused at the host's byte %llu, reason %s.",
+                     (unsigned long long)pushed->place, ribbon_reason_text(pushed->reason));
+}
+
+/* Gives the station what the host sent, and the host what the station answers. */
+static void take(session *s, const uint8_t *bytes, size_t count)
+{
+    uint8_t reply[PIECE];
+    ribbon_pushed pushed;
+    ribbon_status status = RIBBON_NO_ROOM;
+    keep(s, true, bytes, count);
+    scan(s, bytes, count);
+    for (size_t at = 0; status == RIBBON_NO_ROOM && s->phase == PHASE_OPEN; at += pushed.taken) {
+        status = ribbon_station_push(&s->station, bytes + at, count - at, reply, sizeof reply, &pushed);
+        if (!session_send(s, reply, pushed.replied))
+            session_over(s, 1, "The host doesn't take the station's replies.");
+    }
+    if (s->phase != PHASE_OPEN)
+        return;
+    if (status == RIBBON_REFUSED) {
+        (void)line_flush(&s->line); /* what was answered before; the session is over either way */
+        tell_refused(s, &pushed);
+    } else if (status != RIBBON_DONE) {
+        session_over(s, 1, "The station has failed: %s.", ribbon_status_text(status));
+    }
+}
+
+static void tell_closed(session *s)
+{
+    ribbon_state state;
+    bool is_ready = ribbon_station_state(&s->station, &state) == RIBBON_DONE && state.is_ready;
+    session_over(s, is_ready ? 0 : 1, "The host has closed the line%s.",
+                 is_ready ? "" : " before a session began");
+}
+
+/* Takes what has come: no more than the station's replies have room for, and so little that keys are looked at soon. */
+static void hear(session *s)
+{
+    uint8_t bytes[PIECE];
+    size_t count;
+    for (unsigned piece = 0; piece < PIECES_AT_ONCE && s->phase == PHASE_OPEN; piece++) {
+        if (line_left(&s->line) < ribbon_reply_room(PIECE) + RIBBON_ANSWER_ROOM)
+            return;
+        switch (line_hear(&s->line, bytes, sizeof bytes, &count)) {
+        case LINE_CAME: take(s, bytes, count); break;
+        case LINE_NOTHING: return;
+        case LINE_CLOSED: tell_closed(s); return;
+        case LINE_LOST: session_over(s, 1, "The line is lost: %s.", strerror(errno)); return;
+        }
+    }
+}
+
+/* ---- The session ---- */
+
+static void fail_to_connect(session *s)
+{
+    session_over(s, 2, "no connection to %s: %s", s->asked->where, s->dial.why);
+    s->is_leaving = true;
+}
+
+static void go_on(session *s, dial_state state)
+{
+    if (state == DIAL_FAILED)
+        fail_to_connect(s);
+    if (state != DIAL_DONE)
+        return;
+    int socket = s->dial.line;
+    s->dial.line = -1;
+    dial_end(&s->dial);
+    s->phase = PHASE_OPEN;
+    if (!line_begin(&s->line, socket))
+        session_over(s, 1, "The line can't be used: %s.", strerror(errno));
+}
+
+session *session_new(void)
+{
+    session *s = calloc(1, sizeof *s);
+    if (s == NULL)
+        return NULL;
+    s->dial.pipe = s->dial.line = s->line.socket = -1;
+    s->begun = session_clock();
+    return s;
+}
+
+bool session_begin(session *s, const options *asked)
+{
+    s->asked = asked;
+    go_on(s, dial_begin(&s->dial, &asked->to));
+    return !s->is_leaving;
+}
+
+struct pollfd session_wait(const session *s)
+{
+    struct pollfd wait = {.fd = -1};
+    if (s->phase == PHASE_DIALLING)
+        return dial_wait(&s->dial);
+    if (s->phase == PHASE_OVER)
+        return wait;
+    wait.fd = s->line.socket;
+    if (s->line.count > 0)
+        wait.events |= POLLOUT;
+    if (line_left(&s->line) >= ribbon_reply_room(PIECE) + RIBBON_ANSWER_ROOM)
+        wait.events |= POLLIN;
+    return wait;
+}
+
+void session_step(session *s, short ready)
+{
+    if (ready == 0)
+        return;
+    if (s->phase == PHASE_DIALLING) {
+        go_on(s, dial_step(&s->dial));
+        return;
+    }
+    if (s->phase == PHASE_OPEN && (ready & ~POLLOUT) != 0)
+        hear(s);
+    if (s->phase == PHASE_OPEN && !line_flush(&s->line))
+        session_over(s, 1, "The line is lost: %s.", strerror(errno));
+}
+
+void session_free(session *s)
+{
+    dial_end(&s->dial);
+    line_end(&s->line);
+    ribbon_station_free(&s->station);
+    free(s);
+}

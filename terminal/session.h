@@ -1,0 +1,78 @@
+/* A session with a host: the station, its line, what is typed ahead, and what is kept. */
+#ifndef SESSION_H
+#define SESSION_H
+
+#include "ahead.h"
+#include "bindings.h"
+#include "dial.h"
+#include "kept.h"
+#include "line.h"
+#include "options.h"
+#include "paste.h"
+#include "recording.h"
+#include "ribbonscarp.h"
+
+enum { SAID_ROOM = 64, NOTE_ROOM = 400 };
+
+typedef struct {
+    const options *asked;
+    bindings keys;
+    ribbon_station station;
+    enum { PHASE_DIALLING, PHASE_OPEN, PHASE_OVER } phase;
+    dial dial;
+    line line;
+    uint64_t begun; /* milliseconds of the system's clock */
+    kept kept;
+    telnet scanned;          /* of what the host sends */
+    uint8_t said[SAID_ROOM]; /* the first bytes of its records */
+    size_t said_count;
+    recording recording;
+    ahead ahead;
+    paste paste;
+    bool is_held;      /* by a refused key */
+    bool is_inserting;
+    bool was_lit;      /* the message light, when it was looked at last */
+    bool rings;        /* the bell is still to be rung */
+    bool is_menu_open;
+    bool draws_all;    /* all is to be drawn, whatever has changed */
+    bool repaints;     /* and the window is to be painted anew */
+    bool is_leaving;   /* the program ends */
+    int status;        /* of the program */
+    char note[NOTE_ROOM];     /* a sentence up to the next key, and: */
+    bool is_of_screen;        /* no further than the next record of the host */
+    uint64_t note_records;    /* that had come when it was told */
+    char standing[NOTE_ROOM]; /* a sentence up to Reset, or to the end */
+    char way[24];             /* the key that ends what stands */
+} session;
+
+/* Milliseconds of a clock that only goes forward. */
+uint64_t session_clock(void);
+
+/* A session that holds nothing yet; null where memory is wanting. */
+session *session_new(void);
+
+/* Begins to connect; false, with a sentence in `standing`, where that can't be. */
+bool session_begin(session *s, const options *asked);
+
+/* What is to be waited for at the line; of no events where nothing is. */
+struct pollfd session_wait(const session *s);
+
+/* Goes on at the line, where it is ready: connects, sends, takes what has come. */
+void session_step(session *s, short ready);
+
+/* Sends a station's bytes, as soon as the host takes them; false where too many wait already. */
+bool session_send(session *s, const uint8_t *bytes, size_t count);
+
+/* Tells a sentence about the screen, up to the next key or record: behind that it may be true no longer. */
+void session_tell(session *s, const char *format, ...) __attribute__((format(printf, 2, 3)));
+
+/* Tells a sentence about what was done, up to the next key. */
+void session_report(session *s, const char *format, ...) __attribute__((format(printf, 2, 3)));
+
+/* Ends the session, not the program: the screen stays, with a sentence. */
+void session_over(session *s, int status, const char *format, ...) __attribute__((format(printf, 3, 4)));
+
+/* Ends it, and frees all. */
+void session_free(session *s);
+
+#endif

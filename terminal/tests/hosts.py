@@ -1,0 +1,158 @@
+"""Hosts to try the terminal at: `host5250`, and one in Python that sends whatever a test asks for.
+
+What it sends is spelled as RFC 854, RFC 1205 and SC30-3533 (commands and orders) say."""
+import queue
+import socket
+import subprocess
+import threading
+import time
+
+DO, WILL, SB, SE, IAC, EOR = 0xFD, 0xFB, 0xFA, 0xF0, 0xFF, 0xEF
+BINARY, TYPE, END = 0, 24, 25
+SEND_TYPE = bytes([IAC, SB, TYPE, 1, IAC, SE])
+UNLOCK, READ = b"\x04\x11\x00\x08", b"\x04\x52\x00\x00"
+
+
+def write(cc2=0x08):
+    """Clear Unit, and a Write to Display."""
+    return bytes([0x04, 0x40, 0x04, 0x11, 0x00, cc2])
+
+
+def at(row, column):
+    return bytes([0x11, row, column])
+
+
+def text(row, column, words, attribute=None):
+    """Text, behind an attribute where one is named."""
+    front = at(row, column - 1) + bytes([attribute]) if attribute is not None else at(row, column)
+    return front + words.encode("cp037") + (b"\x20" if attribute is not None else b"")
+
+
+def field(row, column, length, form=0x4000, attribute=0x24):
+    order = bytes([0x1D]) + form.to_bytes(2, "big") + bytes([attribute]) + length.to_bytes(2, "big")
+    return at(row, column - 1) + order
+
+
+def record(body, opcode=3, flags=0):
+    header = (10 + len(body)).to_bytes(2, "big") + b"\x12\xa0\x00\x00\x04" + flags.to_bytes(2, "big") + bytes([opcode])
+    whole = header + body
+    return whole.replace(b"\xff", b"\xff\xff") + bytes([IAC, EOR])
+
+
+class Host:
+    """A host for one station: `send` sends a record, `answer` gives the next record that comes."""
+
+    def __init__(self, family=socket.AF_INET, where="127.0.0.1", negotiates=True, reads=True):
+        self.listening = socket.create_server((where, 0), family=family)
+        self.port = self.listening.getsockname()[1]
+        self.came = queue.Queue()
+        self.is_ready = threading.Event()
+        self.line = None
+        self.window = None  # A terminal whose output is taken while an answer is waited for.
+        self.raw = b""
+        self.negotiates, self.reads = negotiates, reads
+        threading.Thread(target=self.serve, daemon=True).start()
+
+    def serve(self):
+        try:
+            self.line = self.listening.accept()[0]
+            self.line.setsockopt(socket.IPPROTO_TCP, socket.TCP_NODELAY, 1)
+            if self.negotiates:
+                self.negotiate()
+            self.is_ready.set()
+            while self.reads and (data := self.line.recv(65536)):
+                self.take(data)
+        except OSError:
+            pass
+        self.came.put(None)
+
+    def negotiate(self):
+        self.line.sendall(bytes([IAC, DO, TYPE]) + SEND_TYPE)
+        self.line.sendall(bytes([IAC, DO, END, IAC, WILL, END, IAC, DO, BINARY, IAC, WILL, BINARY]))
+        wanted = [bytes([IAC, verb, option]) for verb in (WILL, DO) for option in (END, BINARY)]
+        while not all(token in self.raw for token in wanted):
+            data = self.line.recv(4096)
+            if not data:
+                raise OSError
+            self.raw += data
+        last = max(self.raw.rfind(token) + 3 for token in wanted)
+        self.raw = self.raw[last:]
+
+    def take(self, data):
+        self.raw += data
+        while b"\xff\xef" in self.raw.replace(b"\xff\xff", b"\x00\x00"):
+            end = self.raw.replace(b"\xff\xff", b"\x00\x00").index(b"\xff\xef")
+            whole, self.raw = self.raw[:end].replace(b"\xff\xff", b"\xff"), self.raw[end + 2 :]
+            self.came.put((whole[9], int.from_bytes(whole[7:9], "big"), whole[10:]))
+
+    def ready(self):
+        return self.is_ready.wait(10)
+
+    def send(self, body, opcode=3):
+        self.line.sendall(record(body, opcode))
+
+    def send_raw(self, data):
+        self.line.sendall(data)
+
+    def answer(self, seconds=10):
+        """The opcode, flags and body of the next record; None where none comes, or the line is closed."""
+        end = time.monotonic() + seconds
+        while time.monotonic() < end:
+            try:
+                return self.came.get(timeout=0.02)
+            except queue.Empty:
+                if self.window is not None:
+                    self.window.read(0)
+        return None
+
+    def close(self):
+        self.listening.close()
+        if self.line is not None:
+            try:
+                self.line.shutdown(socket.SHUT_RDWR)  # A close alone waits for the thread that reads.
+            except OSError:
+                pass
+            self.line.close()
+
+
+def inputs(answer):
+    """The key of an answer, and the text of its fields by their place."""
+    if answer is None:
+        return None, {}
+    body, fields = answer[2], {}
+    for part in body[3:].split(b"\x11")[1:]:
+        fields[part[0], part[1]] = part[2:].decode("cp037")
+    return body[2], fields
+
+
+def plain(serve):
+    """A server that does what is asked with its first connection; its port."""
+    listening = socket.create_server(("127.0.0.1", 0))
+
+    def run():
+        line = listening.accept()[0]
+        try:
+            serve(line)
+        except OSError:
+            pass
+        line.close()
+        listening.close()
+
+    threading.Thread(target=run, daemon=True).start()
+    return listening.getsockname()[1]
+
+
+class Host5250:
+    """The program host5250."""
+
+    program = None
+
+    def __init__(self, *words):
+        self.child = subprocess.Popen([Host5250.program, *words], stdout=subprocess.PIPE, text=True)
+        self.port = self.child.stdout.readline().split()[1]
+
+    def stop(self):
+        self.child.terminate()
+        rest = self.child.stdout.read()
+        self.child.wait()
+        return rest
