@@ -132,7 +132,7 @@ module _ {t : TerminalType} {w : World} {old : WorldParts} (r : Runs t old w) (m
         (λ (s : StationParts). IsSome s.ended) old.station station byte reply c.told why p in
         let l = gone_none (q.1.led at done w.station r.station (omega (arith, few_in))) in
         absurd (station_never r more_in byte is_in q.0 station why
-            (q.2.led at done w.station l (omega (arith, few_in))))
+        (q.2.led at done w.station l (omega (arith, few_in))))
 
 -- once nothing is in flight, more bytes make no difference
 pub stops : (n m : ℕ) → n ≤ m → (w : World) → byte_to_station (bytes_to_station n w) ≡ bytes_to_station n w

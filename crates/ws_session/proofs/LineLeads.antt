@@ -33,7 +33,7 @@ module _ {Place PlaceV Side U V Deed Told E : Type 0} (rules : Rules Place U) (o
 
   byte_led : (a b : E) (x : ℕ) (w : List ℕ) (s : List Event) (front : List ℕ) → Comes
       (Goes rules out manner leads is_shut) refuses over tells refusal a x b w s → length front + 2 < 2 ^ 64 → Led a
-          front → Led b (front ++ x ∷ [])
+      front → Led b (front ++ x ∷ [])
   byte_led a b x w s front c few (inr o) = inr (subst over (sym (c.stays o).0) o)
   byte_led a b x w s front c few (inl l) = by c.why c.through where
     by : (why : Option Refusal) → Through (Goes rules out manner leads is_shut) refuses over a (Came x ∷ []) w c.told
@@ -70,7 +70,7 @@ station_moved a b (ToHost n) ds us front p few l = stays StationIsLed a.station 
 station_moved a b (ToStation n) ds us front p few l = bytes_led element_rules answer_rules station_manner StationLeads
     StationRefuses (λ (s : StationParts). IsSome s.ended) (λ (t : Applied). let none : List Event = [] in none)
     (λ place reason. StationRefused place reason) IsShutOn a.station b.station (all_read ds) p.1.0 p.1.1 front
-        p.1.2.come few l
+    p.1.2.come few l
 station_moved a b (Press key) ds us front p few l = stays StationIsLed b.station b.station ds front p.0 refl
     (act_led element_rules answer_rules station_manner StationLeads StationRefuses (λ (s : StationParts).
     IsSome s.ended) (λ (t : Applied). let none : List Event = [] in none) (λ place reason. StationRefused place reason)

@@ -22,7 +22,7 @@ returns-in_default-clause-sent g c = deed_led HostGoes HostRefuses g.K.Sink.take
     (order_goes c.self.inside.end c.send.new.self _ c.in-Ok.bytes.items (sends_as c.self.inside.end c.args.opcode
     c.args.body.now c.requires.other _ _ c.in-Ok.ensures.sent)
     (not_shut _ _ SendFailed _ c.in-Ok.ensures.failed c.in-Ok.ensures.full))
-        (rw c.as_slice.ensures.value at c.in_default.ensures.ok)
+    (rw c.as_slice.ensures.value at c.in_default.ensures.ok)
 
 pub returns-else-eq-clause-sent : goal.returns-else-eq-clause-sent
 returns-else-eq-clause-sent g c =

@@ -58,8 +58,12 @@ returns-in_err-carry-clause-early g c =
     let flight = drop s.up.at s.up.bytes in
     let fits = rw (← c.self.view_is) at c.requires.some in
     let same : take n c.waiting.result.now ≡ take n flight = ap (take n) c.waiting.ensures.bytes in
-    let small : length (take n c.waiting.result.now) ≤ 4096 = omega (arith, ap (λ (z : List ℕ). length z) same,
-    length-take-le n flight (omega (arith, fits, length-drop s.up.at s.up.bytes)), c.requires.small) in
+    let small : length (take n c.waiting.result.now) ≤ 4096 = omega (
+      arith,
+      ap (λ (z : List ℕ). length z) same,
+      length-take-le n flight (omega (arith, fits, length-drop s.up.at s.up.bytes)),
+      c.requires.small,
+    ) in
     rw (p.1, p.2) (rw (← c.self.view_is) (inr (
       _,
       _,
@@ -74,8 +78,12 @@ returns-clause-early g c =
     let flight = drop s.up.at s.up.bytes in
     let fits = rw (← c.self.view_is) at c.requires.some in
     let same : take n c.waiting.result.now ≡ take n flight = ap (take n) c.waiting.ensures.bytes in
-    let small : length (take n c.waiting.result.now) ≤ 4096 = omega (arith, ap (λ (z : List ℕ). length z) same,
-    length-take-le n flight (omega (arith, fits, length-drop s.up.at s.up.bytes)), c.requires.small) in
+    let small : length (take n c.waiting.result.now) ≤ 4096 = omega (
+      arith,
+      ap (λ (z : List ℕ). length z) same,
+      length-take-le n flight (omega (arith, fits, length-drop s.up.at s.up.bytes)),
+      c.requires.small,
+    ) in
     rw (← c.self.view_is) (IfErr-weaker c.bytes_to_host.result _ _ (λ fault m. inl (
       m,
       record { sent = take n c.waiting.result.now; read = c.carry.new.taken },
