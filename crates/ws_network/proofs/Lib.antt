@@ -1,1 +1,2 @@
 pub mod LiveFaults
+pub mod SessionLaws

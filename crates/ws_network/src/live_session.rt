@@ -1,8 +1,10 @@
 //! Live sessions over a connection: the sockets and the script. What the lines do at an end, and what they print, is
 //! said where they are carried out.
-ghost use Rattle.std.specs.Prelude.{◌≡◌, [], ℕ, List, true, IfOk, MatchOption};
+ghost use Rattle.std.specs.Prelude.{◌≡◌, [], ℕ, List, true, IfOk, OnOk, MatchOption};
 ghost use Rattle.std.specs.Option.{is_none};
+ghost use Rattle.ws_code.specs.Device.{WentOut};
 ghost use Rattle.ws_live.specs.LiveScript.{AreLiveLines};
+ghost use Rattle.ws_network.specs.Sessions.{HasConnected, HasServed, HasRunLive};
 
 use crate::live_input::{carry_at_host, carry_at_station};
 use crate::timed_sink::TimedSink;
@@ -40,6 +42,8 @@ where
     R: Runtime + AllocGlobal + Net<Listener = TcpListener, Stream = TcpStream>,
     O: Sink,
     requires empty { out.old.held ≡ [] }
+    ensures { IfOk result
+        (HasRunLive O.takes O.failures out.old.sink out.new.sink asked.entry) }
 {
     match asked {
         Live::Connect(asked) => connect(rt, &asked, streams, out),
@@ -58,6 +62,8 @@ where
     R: Runtime + AllocGlobal + Net<Listener = TcpListener, Stream = TcpStream>,
     O: Sink,
     requires empty { out.old.held ≡ [] }
+    ensures { IfOk result
+        (HasConnected O.takes O.failures out.old.sink out.new.sink asked.now) }
 {
     let script = read_script_file::<R, StationLine>(rt, asked.script)?;
     streams.suffice(script.is_none())?;
@@ -95,6 +101,8 @@ where
     R: Runtime + AllocGlobal + Net<Listener = TcpListener, Stream = TcpStream>,
     O: Sink,
     requires empty { out.old.held ≡ [] }
+    ensures { IfOk result
+        (HasServed O.takes O.failures out.old.sink out.new.sink asked.now) }
 {
     let script = read_script_file::<R, HostLine>(rt, asked.script)?;
     streams.suffice(script.is_none())?;
@@ -174,6 +182,8 @@ fn put_listening<R: AllocGlobal, O: Sink>(
 ) -> Result<(), RunFault>
     requires empty { out.old.held ≡ [] }
     ensures held { out.new.held ≡ [] }
+    ensures told { OnOk result ((line : List ℕ)
+        × WentOut O.takes O.failures out.old.sink out.new.sink line) }
 {
     let Ok(address) = listener.local_addr() else {
         return Err(RunFault::NoConnection);

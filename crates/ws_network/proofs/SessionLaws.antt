@@ -1,0 +1,86 @@
+use Rattle.std.proofs.Common.{◌≡◌, ℕ, List, [], ◌∷◌, Bool, true, false, sym, subst, Bor}
+use Rattle.std.specs.Prelude.{Option, None, Some, MatchOption}
+use Rattle.std.specs.Option.{is_none}
+use Rattle.std.proofs.lemmas.Bool.{false≢true}
+use Rattle.ws_code.specs.Device.{WentOut}
+use Rattle.ws_nego.specs.Host.{opening}
+use Rattle.ws_record.specs.Encode.{plain_spelling}
+use Rattle.ws_record.specs.declared.record.Item.TheVariants.{Telnet}
+use Rattle.ws_stream.specs.Elements.{element_rules}
+use Rattle.ws_session.specs.Attachments.{AttachedParts}
+use Rattle.ws_session.specs.HostLeads.{HostParts, HostLeads, unopened_host_side, side_after_open}
+use Rattle.ws_session.specs.StationLeads.{StationParts, StationLeads}
+use Rattle.ws_session.specs.StationSide.{new_station_side}
+use Rattle.ws_live.specs.ConnectText.{IsConnectText}
+use Rattle.ws_live.specs.LiveScript.{AreLiveLines}
+use Rattle.ws_live.specs.ServeText.{IsServeText}
+use Rattle.ws_live.specs.declared.connect_line.StationLine.{StationLine}
+use Rattle.ws_live.specs.declared.serve_line.HostLine.{HostLine}
+use Rattle.ws_network.specs.Sessions.{AreFromScript, IsConnected, IsServed}
+use Rattle.ws_network.specs.Times.{Reads, Writes, no_reads, no_writes, gives, takes, tells, begins}
+use Rattle.ws_words.specs.declared.live_command.ConnectAsked.{ConnectAsked}
+use Rattle.ws_words.specs.declared.live_command.ServeAsked.{ServeAsked}
+
+-- The lines of a session are those of the file that is named.
+
+module _ {L V : Type 0} (items : V → List L) (means : List ℕ → List (List ℕ) → L → Type 0)
+    (opener : List ℕ → Type 0) where
+  pub from_script : (script : Option (Bor (List ℕ))) (read : Option V) (lines : List L)
+      → MatchOption read (is_none script ≡ true) (λ v. (file : List ℕ) × AreLiveLines means opener file (items v))
+      → MatchOption read (Unit {0}) (λ v. lines ≡ items v) → AreFromScript means opener script lines
+  from_script None read lines file all = tt
+  from_script (Some path) None lines none all = absurd (false≢true none)
+  from_script (Some path) (Some v) lines file all = (
+    file.0,
+    subst (λ z. AreLiveLines means opener file.0 z) (sym all) file.1,
+  )
+
+-- an end at a connection, where the devices are new
+abbrev new_at : {E : Type 0} → E → Reads → Writes → AttachedParts E Reads Writes
+new_at end source sink = record { end = end; source = source; sink = sink; waiting = []; broken = false }
+
+-- a station that is new at a connection has carried the lines out
+module _ (asked : ConnectAsked) (lines : List StationLine) (all_well : Bool) (text : List ℕ)
+    (to : AttachedParts StationParts Reads Writes × ℕ) where
+  abbrev Ran : AttachedParts StationParts Reads Writes → ℕ → Type 0
+  Ran attached begun = IsConnectText takes (λ s. s.failures) gives (λ s. s.failures) tells begins (λ n. n)
+      asked.paint asked.ready (attached, begun) lines all_well text to
+
+  pub connected : (station : StationParts) (source : Reads) (sink : Writes)
+      (attached : AttachedParts StationParts Reads Writes) (begun : ℕ)
+      → StationLeads station [] [] (new_station_side asked.terminal)
+      → attached ≡ new_at station source sink → source ≡ no_reads → sink ≡ no_writes → begun ≡ 0
+      → Ran attached begun → IsConnected asked lines all_well text
+  connected station source sink attached begun new is read written none ran = record {
+    station = station;
+    new = new;
+    to = to;
+    ran = subst (λ z. Ran (new_at station no_reads z) 0) written
+        (subst (λ z. Ran (new_at station z sink) 0) read (subst (λ z. Ran z 0) is (subst (Ran attached) none ran)));
+  }
+
+-- a host end whose opening went out has carried the lines out
+module _ (asked : ServeAsked) (lines : List HostLine) (all_well : Bool) (text : List ℕ)
+    (to : AttachedParts HostParts Reads Writes × ℕ) where
+  abbrev RanServe : AttachedParts HostParts Reads Writes → ℕ → Type 0
+  RanServe attached begun = IsServeText takes (λ s. s.failures) gives (λ s. s.failures) tells begins (λ n. n)
+      asked.ready (attached, begun) lines all_well text to
+
+  abbrev Told : Writes → Writes → List ℕ → Type 0
+  Told from sink bytes = WentOut takes (λ s. s.failures) from sink bytes
+
+  pub served : (host : HostParts) (source : Reads) (from sink : Writes) (bytes : List ℕ)
+      (attached : AttachedParts HostParts Reads Writes) (begun : ℕ)
+      → HostLeads host [] [] (side_after_open unopened_host_side) → Told from sink bytes
+      → bytes ≡ plain_spelling element_rules (Telnet opening ∷ [])
+      → attached ≡ new_at host source sink → source ≡ no_reads → from ≡ no_writes → begun ≡ 0
+      → RanServe attached begun → IsServed asked lines all_well text
+  served host source from sink bytes attached begun opened told spelled is read written none ran = record {
+    host = host;
+    opened = opened;
+    sink = sink;
+    told = subst (Told no_writes sink) spelled (subst (λ z. Told z sink bytes) written told);
+    to = to;
+    ran = subst (λ z. RanServe (new_at host z sink) 0) read
+        (subst (λ z. RanServe z 0) is (subst (RanServe attached) none ran));
+  }
