@@ -1,8 +1,8 @@
 #include "action.h"
 
 #include "ribbonscarp.h"
+#include "stroke.h"
 
-#include <stdlib.h>
 #include <string.h>
 
 const named_action action_names[] = {
@@ -59,12 +59,9 @@ bool action_by_name(const char *name, action *found)
             *found = action_names[at].does;
             return true;
         }
-    if (name[0] != 'f' || name[1] < '1' || name[1] > '9')
+    unsigned number;
+    if (name[0] != 'f' || !function_key_number(name + 1, &number))
         return false;
-    char *end = NULL;
-    unsigned long number = strtoul(name + 1, &end, 10);
-    if (*end != 0 || number > 24)
-        return false;
-    *found = action_of_function((unsigned)number);
+    *found = action_of_function(number);
     return true;
 }

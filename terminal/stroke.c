@@ -21,6 +21,18 @@ static const struct {
 
 enum { NAMES = sizeof names / sizeof names[0] };
 
+bool function_key_number(const char *digits, unsigned *number)
+{
+    if (digits[0] < '1' || digits[0] > '9')
+        return false;
+    char *end = NULL;
+    unsigned long value = strtoul(digits, &end, 10);
+    if (*end != 0 || value > 24)
+        return false;
+    *number = (unsigned)value;
+    return true;
+}
+
 /* `F1` to `F24`, `Keypad0` to `Keypad9`. */
 static bool by_number(const char *name, stroke *found)
 {
@@ -28,11 +40,8 @@ static bool by_number(const char *name, stroke *found)
         *found = STROKE_KEYPAD_0 + (stroke)(name[6] - '0');
         return true;
     }
-    if ((name[0] != 'F' && name[0] != 'f') || name[1] < '1' || name[1] > '9')
-        return false;
-    char *end = NULL;
-    unsigned long number = strtoul(name + 1, &end, 10);
-    if (*end != 0 || number > 24)
+    unsigned number;
+    if ((name[0] != 'F' && name[0] != 'f') || !function_key_number(name + 1, &number))
         return false;
     *found = STROKE_F1 + (stroke)number - 1;
     return true;

@@ -51,6 +51,9 @@ bool stroke_by_name(const char *name, stroke *found);
 /* The name, as stroke_by_name takes it; gives `text`. */
 const char *stroke_name(stroke s, char *text, size_t room);
 
+/* The number of a function key, 1 to 24, in digits that begin with no 0. False for any other text. */
+bool function_key_number(const char *digits, unsigned *number);
+
 /* The character that a key of the numeric keypad types, 0 where it isn't one. */
 uint32_t stroke_keypad_character(stroke s);
 

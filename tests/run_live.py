@@ -7,6 +7,7 @@ anywhere; another program than that of
 meets a socket of Python that plays the other side, also one that is silent, slow, mad or gone. The last line tells how
 many passed and how many failed, and the status is 1 where one failed.
 """
+import contextlib
 import os
 import queue
 import re
@@ -419,11 +420,18 @@ key F3
 INQUIRY_PRINTED = SIGN_ON_FIELDS + PRICE_SCREEN + "key refused Locked\n"
 
 
+@contextlib.contextmanager
+def script_file(suffix, text):
+    """A file with a script, as text or as bytes."""
+    with tempfile.NamedTemporaryFile("wb", suffix=suffix) as script:
+        script.write(text if isinstance(text, bytes) else text.encode())
+        script.flush()
+        yield script
+
+
 @test
 def a_script_at_a_host():
-    with tempfile.NamedTemporaryFile("w", suffix=".connect") as script:
-        script.write(INQUIRY_SCRIPT)
-        script.flush()
+    with script_file(".connect", INQUIRY_SCRIPT) as script:
         host = Host(inquiry_as_host)
         Run(["connect", "--wait", "10", "127.0.0.1:%d" % host.port, script.name]).end(1, INQUIRY_PRINTED)
         host.end()
@@ -606,17 +614,13 @@ def wrong_lines():
     words = ["wait", "await ", "await records", "await text", "await text ", "key enter", "key", "send 3 00", "down all",
              "show x", "fields ", "Show", "type", " await", "cancel", "\ufeffawait"]
     for line in words:
-        with tempfile.NamedTemporaryFile("w", suffix=".connect") as script:
-            script.write("show\n\n%s\n" % line)
-            script.flush()
+        with script_file(".connect", "show\n\n%s\n" % line) as script:
             # Nothing is connected: there is no host.
             Run(["connect", "--wait", "1", "127.0.0.1:1", script.name]).end(2, "", "script line 3\n")
     words = ["wait", "await record", "await ", "  CLEAR-UNIT", "send", "send ", "send x", "send 3 ", "send 3 0", "send 10", "send 256",
              "send 3 0440F3", "type A", "key Enter", "show", "cancel ", "down all", "settle"]
     for line in words:
-        with tempfile.NamedTemporaryFile("w", suffix=".serve") as script:
-            script.write("cancel\n# no line\n%s\n" % line)
-            script.flush()
+        with script_file(".serve", "cancel\n# no line\n%s\n" % line) as script:
             Run(["serve", "--wait", "1", "127.0.0.1:0", script.name]).end(2, "", "script line 3\n")
 
 
@@ -743,9 +747,7 @@ def a_station_at_a_served_script():
 def sends_in_words():
     text = "await\n" + SIGN_ON_WORDS + "await\nsend 1\nsend 3\n  CLEAR-UNIT\n"
     printed = "host ready IBM-3179-2\nanswer 6 53 F1\n"
-    with tempfile.NamedTemporaryFile("w", suffix=".serve") as script:
-        script.write(text)
-        script.flush()
+    with script_file(".serve", text) as script:
         ready = "host ready IBM-3179-2\nok\nok\nanswer 6 53 F1\nok\nok\nok\n"
         rows = [(["127.0.0.1:0"], text, printed), (["127.0.0.1:0", script.name], None, printed),
                 (["--ready", "127.0.0.1:0"], text, ready)]
@@ -798,9 +800,7 @@ def bad_lines_of_sends_in_words():
             ("send 3 0440\n  CLEAR-UNIT", 2), ("send 3\n  CLEAR-UNIT\n\n  WRITE 00 08", 4),
             ("send 3\n  WRITE 00 08\n  TEXT \u20ac", 3), ("send 3\n CLEAR-UNIT", 2), ("send x\n  CLEAR-UNIT", 1)]
     for text, number in rows:
-        with tempfile.NamedTemporaryFile("w", suffix=".serve", encoding="utf-8") as script:
-            script.write("await\n%s\nawait\n" % text)
-            script.flush()
+        with script_file(".serve", "await\n%s\nawait\n" % text) as script:
             Run(["serve", "--wait", "1", "127.0.0.1:0", script.name]).end(2, "", "script line %d\n" % (number + 1))
         serve = Run(["serve", "--wait", "10", "127.0.0.1:0"], "await\n%s\nawait\n" % text)
         side = station_at(serve)
@@ -890,9 +890,7 @@ def a_station_that_closes_inside_an_answer():
 @test
 def a_station_that_never_reads():
     text = "await\n" + "send 2 0411000011010140\n" * 1 + "".join("send 2 04110000%s\n" % ("C1" * 1900) for _ in range(4000))
-    with tempfile.NamedTemporaryFile("w", suffix=".serve") as script:
-        script.write(text)
-        script.flush()
+    with script_file(".serve", text) as script:
         serve = Run(["serve", "--wait", "1", "127.0.0.1:0", script.name])
         side = station_at(serve)
         side.stream.setsockopt(socket.SOL_SOCKET, socket.SO_RCVBUF, 4096)
@@ -1098,16 +1096,12 @@ def ready_with_a_script_file():
         side.take(record(3, hexed("0636F1" "110635C1")))
         if not side.closed():
             raise Failure("the station goes on")
-    with tempfile.NamedTemporaryFile("w", suffix=".connect") as script:
-        script.write("# no line\n\nawait\nfields\ntype A\nkey Enter\n")
-        script.flush()
+    with script_file(".connect", "# no line\n\nawait\nfields\ntype A\nkey Enter\n") as script:
         host = Host(play)
         Run(["connect", "--ready", "--wait", "5", "127.0.0.1:%d" % host.port, script.name]).end(
             0, "ok\n" + SIGN_ON_FIELDS + "ok\nok\nok\n")
         host.end()
-    with tempfile.NamedTemporaryFile("w", suffix=".serve") as script:
-        script.write("await\n# no line\nsend 1\n\nawait\n")
-        script.flush()
+    with script_file(".serve", "await\n# no line\nsend 1\n\nawait\n") as script:
         serve = Run(["serve", "--ready", "--wait", "5", "127.0.0.1:0", script.name])
         side = station_at(serve)
         negotiate_as_station(side)
@@ -1135,9 +1129,7 @@ def script_files_that_go_otherwise():
             (gone, "await\nawait\n", "host ready IBM-3179-2\nended\n"),
             (mad, "await\nawait\n", "host refused at 1: reason 10 LengthBelowHeader\n")]
     for play, text, printed in rows:
-        with tempfile.NamedTemporaryFile("w", suffix=".serve") as script:
-            script.write(text)
-            script.flush()
+        with script_file(".serve", text) as script:
             serve = Run(["serve", "--wait", "1", "127.0.0.1:0", script.name])
             side = station_at(serve)
             player = threading.Thread(target=lambda: (play(side), side.close()))
@@ -1159,9 +1151,7 @@ def script_files_that_go_otherwise():
     rows = [(host, "await\nkey Dup\n", "key refused DupNotAllowed\n"), (host, "await\nawait record\n", "late\n"),
             (host_gone, "await\n", "ended\n"), (host_mad, "await\n", "station refused at 1: reason 10 LengthBelowHeader\n")]
     for play, text, printed in rows:
-        with tempfile.NamedTemporaryFile("w", suffix=".connect") as script:
-            script.write(text)
-            script.flush()
+        with script_file(".connect", text) as script:
             at = Host(play)
             Run(["connect", "--wait", "1", "127.0.0.1:%d" % at.port, script.name]).end(1, printed)
             at.end()
@@ -1177,9 +1167,7 @@ def lines_that_are_not_utf_8():
     for text, number in rows:
         printed = SIGN_ON_FIELDS if b"fields" in text else ""
         at_host(host, ["--wait", "5"], text, 2, printed, "script line %d\n" % number, host_ends=False)
-        with tempfile.NamedTemporaryFile("wb", suffix=".connect") as script:
-            script.write(text)
-            script.flush()
+        with script_file(".connect", text) as script:
             Run(["connect", "127.0.0.1:1", script.name]).end(2, "", "script line %d\n" % number)
     rows = [(b"cancel\n\xff\n", 2), (b"send 1\n# \xff\n", 2), (b"send 3\n  CLEAR-UNIT\n  TEXT \xff\n", 3),
             (b"send 3\n  CLEAR-UNIT\n\xff\n", 3), (b"send 3\n  CLEAR-UNIT\n\n\xff\n", 4), (b"send 3\n\xff\n", 2)]
@@ -1189,9 +1177,7 @@ def lines_that_are_not_utf_8():
         negotiate_as_station(side)
         serve.end(2, None, "script line %d\n" % (number + 1))
         side.close()
-        with tempfile.NamedTemporaryFile("wb", suffix=".serve") as script:
-            script.write(text)
-            script.flush()
+        with script_file(".serve", text) as script:
             Run(["serve", "127.0.0.1:0", script.name]).end(2, "", "script line %d\n" % number)
 
 
@@ -1292,9 +1278,7 @@ def closed_streams_that_are_needed():
 
 @test
 def closed_streams_that_are_not_needed():
-    with tempfile.NamedTemporaryFile("w", suffix=".connect") as script:
-        script.write("await\nfields\n")
-        script.flush()
+    with script_file(".connect", "await\nfields\n") as script:
         for closed, words, text in ((0,), [script.name], None), ((0, 2), [script.name], None), ((2,), [], "await\nfields\n"):
             found = []
 
@@ -1310,9 +1294,7 @@ def closed_streams_that_are_not_needed():
             connect.end(0, SIGN_ON_FIELDS)
             host.end()
             expect(found, ["/dev/null"] * len(closed), "what stands for the closed streams")
-    with tempfile.NamedTemporaryFile("w", suffix=".serve") as script:
-        script.write("await\n")
-        script.flush()
+    with script_file(".serve", "await\n") as script:
         for closed, words, text in ((0,), [script.name], None), ((0, 2), [script.name], None), ((2,), [], "await\n"):
             serve = Run(["serve", "--wait", "1", "127.0.0.1:0"] + words, text, closed=closed)
             side = station_at(serve)
