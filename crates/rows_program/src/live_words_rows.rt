@@ -150,7 +150,13 @@ fn words_of<'a>(
     words
 }
 
-fn expect_live(rt: &impl Abort, alloc: Global, command: &str, more: &[&str], wanted: Live) {
+fn expect_live<'a>(
+    rt: &impl Abort,
+    alloc: Global,
+    command: &'a str,
+    more: &'a [&'a str],
+    wanted: Live<'a>,
+) {
     let words = words_of(rt, alloc, command, more);
     match read_words(alloc, words.as_slice()) {
         Ok(task) => same_at(rt, more, task, Task::Live(wanted)),
@@ -159,7 +165,7 @@ fn expect_live(rt: &impl Abort, alloc: Global, command: &str, more: &[&str], wan
 }
 
 // The words are no command line: what is told of them isn't help.
-fn expect_wrong(rt: &impl Abort, alloc: Global, command: &str, more: &[&str]) {
+fn expect_wrong<'a>(rt: &impl Abort, alloc: Global, command: &'a str, more: &'a [&'a str]) {
     let words = words_of(rt, alloc, command, more);
     match read_words(alloc, words.as_slice()) {
         Ok(_) => panic!(rt; "{more:?}"),
