@@ -33,21 +33,26 @@ const SERVE: ServeAsked = ServeAsked {
 
 // Words behind `connect`, and what they ask for.
 #[rattlefmt::skip]
-const CONNECTS: [(&[&str], ConnectAsked); 20] = [
+const CONNECTS: [(&[&str], ConnectAsked); 9] = [
     (&["host"], CONNECT),
     (&["--wait", "1", "host"], ConnectAsked { wait: 1, ..CONNECT }),
     (&["host", "--wait", "86400"], ConnectAsked { wait: 86_400, ..CONNECT }),
     (&["--wait=007", "host"], ConnectAsked { wait: 7, ..CONNECT }),
     (&["--ready", "host"], ConnectAsked { ready: true, ..CONNECT }),
     (&["--color", "host"], ConnectAsked { paint: Paint::Color, ..CONNECT }),
+    (&["host", "a.connect"], ConnectAsked { script: Some("a.connect"), ..CONNECT }),
+    (&["host", " a b "], ConnectAsked { script: Some(" a b "), ..CONNECT }),
+    (&["host", "--", "--ready"], ConnectAsked { script: Some("--ready"), ..CONNECT }),
+];
+
+// The names of terminals, the last with all other options.
+#[rattlefmt::skip]
+const TERMINALS: [(&[&str], ConnectAsked); 6] = [
     (&["--terminal", "IBM-5251-11", "host"], ConnectAsked { terminal: TerminalType::Ibm5251Model11, ..CONNECT }),
     (&["--terminal", "IBM-5291-1", "host"], ConnectAsked { terminal: TerminalType::Ibm5291Model1, ..CONNECT }),
     (&["--terminal", "IBM-5292-2", "host"], ConnectAsked { terminal: TerminalType::Ibm5292Model2, ..CONNECT }),
     (&["--terminal", "IBM-3196-A1", "host"], ConnectAsked { terminal: TerminalType::Ibm3196ModelA1, ..CONNECT }),
     (&["--terminal=ibm-3179-2", "host"], CONNECT),
-    (&["host", "a.connect"], ConnectAsked { script: Some("a.connect"), ..CONNECT }),
-    (&["host", " a b "], ConnectAsked { script: Some(" a b "), ..CONNECT }),
-    (&["host", "--", "--ready"], ConnectAsked { script: Some("--ready"), ..CONNECT }),
     (&["--ready", "--color", "--wait", "2", "--terminal", "IBM-5291-1", "host:1", "s"], ConnectAsked {
         host: HostPort { host: "host", port: 1 },
         terminal: TerminalType::Ibm5291Model1,
@@ -56,6 +61,11 @@ const CONNECTS: [(&[&str], ConnectAsked); 20] = [
         paint: Paint::Color,
         script: Some("s"),
     }),
+];
+
+// The forms of a host.
+#[rattlefmt::skip]
+const HOSTS: [(&[&str], ConnectAsked); 5] = [
     (&["host:65535"], ConnectAsked { host: HostPort { host: "host", port: 65_535 }, ..CONNECT }),
     (&["10.0.0.1:023"], ConnectAsked { host: HostPort { host: "10.0.0.1", port: 23 }, ..CONNECT }),
     (&["[fe80::1]"], ConnectAsked { host: HostPort { host: "fe80::1", port: 23 }, ..CONNECT }),
@@ -82,9 +92,9 @@ const SERVES: [(&[&str], ServeAsked); 9] = [
     }),
 ];
 
-// Words behind `connect` that ask for nothing.
+// Words behind `connect` that ask for nothing: no host, or none with such a port.
 #[rattlefmt::skip]
-const WRONG_CONNECTS: [&[&str]; 30] = [
+const WRONG_PORTS: [&[&str]; 12] = [
     &[],
     &[""],
     &[":23"],
@@ -97,6 +107,11 @@ const WRONG_CONNECTS: [&[&str]; 30] = [
     &["host:0x17"],
     &["host:telnet"],
     &["host:1:2"],
+];
+
+// No address in brackets.
+#[rattlefmt::skip]
+const WRONG_BRACKETS: [&[&str]; 9] = [
     &["["],
     &["[]"],
     &["[::1"],
@@ -106,6 +121,11 @@ const WRONG_CONNECTS: [&[&str]; 30] = [
     &["[host]:23"],
     &["[10.0.0.1]"],
     &["::1]:23"],
+];
+
+// No options.
+#[rattlefmt::skip]
+const WRONG_OPTIONS: [&[&str]; 9] = [
     &["--wait", "0", "host"],
     &["--wait", "86401", "host"],
     &["--wait", "-1", "host"],
@@ -178,7 +198,39 @@ fn words_of_connect(rt: HostRuntime) {
     for (words, asked) in &CONNECTS {
         expect_live(&rt, rt.alloc(), "connect", words, Live::Connect(*asked));
     }
-    for words in &WRONG_CONNECTS {
+}
+
+#[test]
+fn terminals_of_connect(rt: HostRuntime) {
+    for (words, asked) in &TERMINALS {
+        expect_live(&rt, rt.alloc(), "connect", words, Live::Connect(*asked));
+    }
+}
+
+#[test]
+fn hosts_of_connect(rt: HostRuntime) {
+    for (words, asked) in &HOSTS {
+        expect_live(&rt, rt.alloc(), "connect", words, Live::Connect(*asked));
+    }
+}
+
+#[test]
+fn no_ports_of_connect(rt: HostRuntime) {
+    for words in &WRONG_PORTS {
+        expect_wrong(&rt, rt.alloc(), "connect", words);
+    }
+}
+
+#[test]
+fn no_brackets_of_connect(rt: HostRuntime) {
+    for words in &WRONG_BRACKETS {
+        expect_wrong(&rt, rt.alloc(), "connect", words);
+    }
+}
+
+#[test]
+fn no_options_of_connect(rt: HostRuntime) {
+    for words in &WRONG_OPTIONS {
         expect_wrong(&rt, rt.alloc(), "connect", words);
     }
 }
