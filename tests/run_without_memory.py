@@ -23,7 +23,7 @@ TEST_PROGRAM = os.path.abspath(os.path.join(CRATES, "rows_program", "out", "rows
 WITHIN_MEMORY = [
     "memory_rows::streams_within_memory",
     "memory_rows::host_end_within_memory",
-    "memory_rows::split_within_memory",
+    "split_rows::split_within_memory",
     "memory_rows::world_within_memory",
     "memory_rows::program_within_memory",
     "make_rows::made_within_memory",

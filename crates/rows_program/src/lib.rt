@@ -22,6 +22,8 @@ mod show_rows;
 #[cfg(test)]
 mod size_rows;
 #[cfg(test)]
+mod split_rows;
+#[cfg(test)]
 mod stream_rows;
 #[cfg(test)]
 mod tcp_rows;

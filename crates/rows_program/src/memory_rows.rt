@@ -5,8 +5,8 @@ use crate::{holds, same, same_bytes};
 use arrayvec::ArrayVec;
 use std::alloc::Global;
 use std::process::Abort;
-use ws_code::{Address, Aid, DataByte, Fault, Ffw, List, Reason, SliceSource, VecSink, WriteSink};
-use ws_keys::{HostAnswer, HostFault, Key, split_answer};
+use ws_code::{Address, Aid, DataByte, Fault, Ffw, List, SliceSource, VecSink, WriteSink};
+use ws_keys::{HostAnswer, HostFault, Key};
 use ws_live::{ScriptFault, read_script};
 use ws_nego::TerminalType;
 use ws_program::{TextFault, check_to, hex_bytes, show_to};
@@ -56,7 +56,7 @@ fn form(rt: &impl Abort) -> [Element; 5] {
     ]
 }
 
-fn parts(rt: &impl Abort) -> [AnswerPart; 5] {
+pub(crate) fn parts(rt: &impl Abort) -> [AnswerPart; 5] {
     let letter_b = DataByte::new(0xc2).expect(rt, "a byte");
     let letter_o = DataByte::new(0xd6).expect(rt, "a byte");
     [
@@ -141,7 +141,7 @@ fn send_within(rt: &impl Abort, host: &mut HostEnd) {
     same(rt, host.fields().len(), 1);
 }
 
-fn is_bob(answer: &HostAnswer) -> bool {
+pub(crate) fn is_bob(answer: &HostAnswer) -> bool {
     match answer.fields.as_slice() {
         [field] => field.content.as_slice() == b"\xc2\xd6\xc2".as_slice(),
         _ => false,
@@ -199,34 +199,12 @@ fn host_end_within_memory(rt: HostRuntime) {
 }
 
 // A station that shows `bob`'s form. None of this takes memory.
-fn station_with_bob(rt: &impl Abort) -> Station {
+pub(crate) fn station_with_bob(rt: &impl Abort) -> Station {
     let mut station = Station::new(TerminalType::default());
     for byte in OPENING.iter().chain(BOB.iter()) {
         holds(rt, station.push(*byte).is_ok());
     }
     station
-}
-
-// Splits `bob`'s answer, at the second time where memory was wanted. Want of memory hides no answer that doesn't fit.
-#[test]
-fn split_within_memory(rt: HostRuntime) {
-    let station = station_with_bob(&rt);
-    let screen = station.screen();
-    let kind = screen.pending().expect(&rt, "a read");
-    let parts = parts(&rt);
-    let answer = match split_answer(rt.alloc(), screen, kind, &parts) {
-        Ok(answer) => answer,
-        Err(fault) => {
-            holds(&rt, matches!(fault, HostFault::Memory));
-            split_answer(rt.alloc(), screen, kind, &parts).expect(&rt, "split at the second time")
-        }
-    };
-    holds(&rt, is_bob(&answer));
-    let [head, at, first, second, third] = parts;
-    let twice = [head, at, first, second, third, at];
-    let found = split_answer(rt.alloc(), screen, kind, &twice);
-    let mismatch = matches!(found, Err(HostFault::Reason(Reason::AnswerMismatch)));
-    holds(&rt, mismatch);
 }
 
 // The elements of `bob` in a list, where there is memory for it.
