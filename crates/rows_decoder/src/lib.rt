@@ -1,5 +1,5 @@
-//! The tests of the decoder: `ws_record`, and `ws_text` over the bodies of `ws_stream`. They call what these crates hand
-//! out, and nothing else.
+//! The tests of the decoder: `ws_record`, and `ws_text` over the bodies of `ws_stream` and `ws_extended`. They call what
+//! these crates hand out, and nothing else.
 #![tactic(auto)]
 
 // A body for rows of both ways.
@@ -27,6 +27,10 @@ mod vectors;
 mod command_rows;
 #[cfg(test)]
 mod encoding_rows;
+#[cfg(test)]
+mod extended_answer_line_rows;
+#[cfg(test)]
+mod extended_line_rows;
 #[cfg(test)]
 mod hostile_rows;
 #[cfg(test)]

@@ -51,7 +51,7 @@ pub use Rattle.ws_record.specs.Grammar.{IsInGrammar, IsRecord, Holds, record_byt
 pub use Rattle.ws_record.specs.Grammar.{opcode_byte, IsFramed, IsBodyBytes, IsStretch, Spells}
 pub use Rattle.ws_record.specs.Grammar.{commands}
 pub use Rattle.ws_record.specs.HeaderSoFar.{HeaderSoFar, declared, head_in}
-pub use Rattle.ws_record.specs.Live.{Watching, Leads, LeadsWith, IsFrontStep, IsLiveStep, CompletesUnit}
+pub use Rattle.ws_record.specs.Live.{Watching, Leads, LeadsWith, IsFrontStep, IsLiveStep, CompletesUnit, HoldsPart}
 pub use Rattle.ws_record.specs.OpenPrefix.{BeginsList, IsOpenPrefix, IsFirstClosedTo}
 pub use Rattle.ws_record.specs.OpenPrefix.{AreOpenBelow, IsRefusedByPrefix, IsTruncatedByPrefix}
 pub use Rattle.ws_record.specs.OpenRecord.{CanBeFramed, RecordSoFar, no_record, Keeping, HasRead, IsHead}
@@ -63,6 +63,7 @@ pub use Rattle.ws_record.specs.Refusal.{header_reason, IsBodyReason, IsReason}
 pub use Rattle.ws_record.specs.Refusal.Layer.{Tokens, Header, Body}
 pub use Rattle.ws_record.specs.Steps.{IsStepOf, IsItemOf, IsFedOf}
 pub use Rattle.ws_record.specs.Taking.{ArePlain, KeepsTold, IsTaken, IsEnd, IsWordTaken, grown, EndIn, IsHeaderStep}
+pub use Rattle.ws_record.specs.Taking.{OnlyIfOn}
 pub use Rattle.ws_record.specs.declared.news.Advance.{Advance}
 pub use Rattle.ws_record.specs.declared.news.News.{News}
 pub use Rattle.ws_record.specs.declared.news.News.TheVariants.{More, Unit as Whole, Open, Close, NoMemory}

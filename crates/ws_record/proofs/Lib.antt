@@ -2,6 +2,7 @@ pub mod Common
 pub mod Encodings
 pub mod Faults
 pub mod Flights
+pub mod FrontParts
 pub mod Fronts
 pub mod Headers
 pub mod Lives

@@ -1,10 +1,11 @@
 use Rattle.ws_record.proofs.Common as C
 use C.{common_steps, ◌≡◌, ℕ, ◌+◌, ◌<◌, ◌≤◌, ◌^◌, List, ◌++◌, Option, None, length, take, arith, Rules, Item, More}
 use C.{RecordSoFar, Watching, Leads, LeadsWith, Kept, bytes_on, each_on, left_of, length_rest, room_on, upto}
-use C.{holds_last, Advance, false, ◌≢◌, refl, [], ◌∷◌, inl, inr, sym, ap, ◌∙◌, append_assoc, length-append, cases_lt}
+use C.{holds_last, Advance, false, ◌≢◌, refl, [], ◌∷◌, inl, sym, ap, ◌∙◌, append_assoc, length-append}
 use C.{append-nil, IsUnfinished, IsSpelled, AreBytes, AreBytes-front, CanEnd, token_rules, unfinished_of, sub_of, IAC}
 use C.{Telnet, Data, Eor, TelnetToken, TelnetItem, News, Whole, Open, Close, NoMemory, Holds, Keeping, HasRead}
 use C.{IsFrontStep, IsLiveStep, ArePlain, IsTaken, IsEnd, IsWordTaken, IsAdvance, OnLastNews, IsStepOf}
+use C.{Head, HoldsPart, OnlyIfOn, ◌⊎◌, length-take-le, KeepsTold, same_last}
 use C.{AllByRecursion-front, AllByRecursion-last, SpellsBytes, one_last, true, Onward, plain_byte}
 use Rattle.ws_telnet.specs.Words.{IsWord}
 use Rattle.ws_telnet.specs.declared.word.Word.{Word}
@@ -41,7 +42,38 @@ module _ {Place U : Type 0} (rules : Rules Place U) where
       let all = holds_values _ _ _ v one are.1 plain.1 in
       rw (append_assoc bytes (b ∷ []) v) at (rw (append_assoc so_far (b ∷ []) v) at all)
 
-  -- before the first byte of a front, and before the second where the first is an FF
+  -- nothing is complete in the bytes that lead to a decoder beside what they lead with
+  pub part_led : {live : Watching Place} {bytes : List ℕ} {items : List (Item U)} {so_far : RecordSoFar U}
+      → Leads rules live bytes items so_far → HoldsPart rules bytes items so_far.head so_far.units
+  part_led {live} {so_far = so_far} l = record {
+    so_far = so_far.bytes;
+    begun = live.begun;
+    unfinished = live.reader.begun;
+    holds = l.holds;
+    is_head = l.reads.head;
+    cut = l.reads.cut;
+  }
+
+  pub part_first : {live : Watching Place} {bytes : List ℕ} {items : List (Item U)} {so_far : RecordSoFar U}
+      → Leads rules live bytes items so_far → (piece : List ℕ) (n : ℕ) → n ≤ 0
+      → HoldsPart rules (bytes ++ take n piece) items so_far.head so_far.units
+  part_first {bytes = bytes} l piece n k = let zero : n ≡ 0 = omega (arith, k) in
+      rw (zero, append-nil bytes) (part_led l)
+
+  -- the bytes hold these items
+  abbrev pub IsHeld : List (Item U) → List ℕ → Type 0
+  IsHeld items bytes = (so_far begun : List ℕ) × Holds rules bytes items so_far begun
+
+  pub part_held : {bytes : List ℕ} {items : List (Item U)} {head : Option Head} {units : List U}
+      → HoldsPart rules bytes items head units → IsHeld items bytes
+  part_held part = (part.so_far, part.begun, part.holds)
+
+  -- more than that only units with which a keep goes on
+  abbrev pub IsPart : (Kept → Type 0) → List (Item U) → RecordSoFar U → List ℕ → Type 0
+  IsPart may_answer items so_far bytes = (more : List U) × OnlyIfOn may_answer more
+      × HoldsPart rules bytes items so_far.head (so_far.units ++ more)
+
+  -- before the first byte of a front
   module _ {live : Watching Place} {bytes : List ℕ} {items : List (Item U)} {so_far : RecordSoFar U}
       (l : Leads rules live bytes items so_far) (piece : List ℕ) where
     pub held_at_none : (n : ℕ) → n < 1 → (x begun : List ℕ) × Holds rules (bytes ++ take n piece) items x begun
@@ -51,14 +83,6 @@ module _ {Place U : Type 0} (rules : Rules Place U) where
     -- an FF behind the bytes
     pub holds_iac : live.begun ≡ [] → Holds rules (bytes ++ IAC ∷ []) items so_far.bytes (IAC ∷ [])
     holds_iac fresh = holds_more _ (rw fresh at l.holds) (IAC ∷ []) iac_goes_on
-
-    pub held_at_one : live.begun ≡ [] → take 1 piece ≡ IAC ∷ [] → (n : ℕ) → n < 2
-        → (x begun : List ℕ) × Holds rules (bytes ++ take n piece) items x begun
-    held_at_one fresh one n lt = elim (cases_lt n 1) [
-      | inl k ↦ held_at_none n k
-      | inr k ↦
-          (let first : n ≡ 1 = omega (arith, k, lt) in (so_far.bytes, IAC ∷ [], rw (first, one) (holds_iac fresh)))
-    ]
 
   -- a front that carries values to the open record, the last one with its last byte
   pub record Carries (bytes : List ℕ) (items : List (Item U)) (so_far front values : List ℕ) : Type 0 where
@@ -94,6 +118,87 @@ module _ {Place U : Type 0} (rules : Rules Place U) where
         let ends = one_last v _ _ e in
         (f, b, begun, refl, rw (ap (λ x. so_far ++ x) ends.0 ∙ append-nil so_far) h, rw ends.1 spelled);
   }
+
+module _ {Place U K : Type 0} (rules : Rules Place U) (holds : K → List U → List ℕ → Type 0) (old new : K)
+    (items : List (Item U)) (so_far : RecordSoFar U) where
+  -- the keep holds the units that are complete in the bytes
+  abbrev pub KeepsPart : List ℕ → Type 0
+  KeepsPart bytes = (more : List U) × (told : List ℕ) × KeepsTold holds old new more told
+      × HoldsPart rules bytes items so_far.head (so_far.units ++ more)
+
+  module _ (may_answer : Kept → Type 0) (bytes : List ℕ) (to : Keeping Place) (f : List ℕ) (b : ℕ) where
+    -- of values that the record takes, before the last one
+    pub values_kept : (front values : List ℕ) (news : News) → Carries rules bytes items so_far.bytes front values
+        → IsTaken rules holds may_answer so_far old values to new news → front ≡ f ++ b ∷ []
+        → OnLastNews news (KeepsPart (bytes ++ f))
+    values_kept front values (Refused reason) c t e =
+        let at = c.at_last t.0 t.1 t.2 in
+        let same = same_last f at.0 b at.1 (sym e ∙ at.3) in (
+          t.3.1,
+          t.3.5.0,
+          t.3.5.1,
+          rw same.0 (record {
+            so_far = so_far.bytes ++ t.0;
+            begun = at.2;
+            unfinished = t.3.0.begun;
+            holds = at.4;
+            is_head = t.3.2.head;
+            cut = t.3.2.cut;
+          }),
+        )
+    values_kept front values NoMemory c t e =
+        let at = c.at_last t.0 t.1 t.2 in
+        let same = same_last f at.0 b at.1 (sym e ∙ at.3) in (
+          t.3.1,
+          t.3.8.0,
+          t.3.8.1,
+          rw same.0 (record {
+            so_far = so_far.bytes ++ t.0;
+            begun = at.2;
+            unfinished = t.3.7.0.begun;
+            holds = at.4;
+            is_head = t.3.7.1.head;
+            cut = t.3.7.1.cut;
+          }),
+        )
+    values_kept front values Failed c t e = absurd t
+    values_kept front values news c t e = tt
+
+    module _ (begun : List ℕ) (h : Holds rules (bytes ++ f) items so_far.bytes begun) (reader : Keeping Place)
+        (reads : HasRead rules reader so_far) where
+      same_kept : new ≡ old → KeepsPart (bytes ++ f)
+      same_kept same = (
+        [],
+        [],
+        (λ units told h. rw (append-nil told, append-nil units, same) h),
+        rw (append-nil so_far.units) (record {
+          so_far = so_far.bytes;
+          begun = begun;
+          unfinished = reader.begun;
+          holds = h;
+          is_head = reads.head;
+          cut = reads.cut;
+        }),
+      )
+
+      end_kept : (news : News) → IsEnd rules so_far to news → new ≡ old → OnLastNews news (KeepsPart (bytes ++ f))
+      end_kept (Refused reason) t same = same_kept same
+      end_kept NoMemory t same = absurd t
+      end_kept Failed t same = absurd t
+      end_kept news t same = tt
+
+      -- of a word
+      pub word_kept : (machine : Tokens) (w : Word) (news : News) → IsWord begun b machine w
+          → IsWordTaken rules holds may_answer so_far reader old w to new news
+          → OnLastNews news (KeepsPart (bytes ++ f))
+      word_kept machine word.More news i t = rw t.0 tt
+      word_kept machine word.Data news i t =
+          values_kept _ _ news (carries_one rules _ _ _ f _ b _ h i.0) t refl
+      word_kept machine word.Eor news i t = end_kept news t.0 t.1
+      word_kept machine (word.Command code) news i t = rw t.0 tt
+      word_kept machine (word.Option verb option) news i t = rw t.0 tt
+      word_kept machine word.Sub news i t = rw t.0 tt
+      word_kept machine (word.Bad reason) news i t = rw t.0 (same_kept t.1)
 
 module _ {Place U : Type 0} (rules : Rules Place U) (can : CanEnd rules) (law : SpellsBytes rules) where
   pub leads : {live : Watching Place} {bytes : List ℕ} {items : List (Item U)} {so_far : RecordSoFar U}
@@ -203,7 +308,7 @@ module _ {Place U : Type 0} (rules : Rules Place U) (can : CanEnd rules) (law : 
       word_advance (word.Command code) news i t = rw t.0 (command_advance _ i.0 i.1 t.1, t.2)
       word_advance (word.Option verb option) news i t = rw t.0 (command_advance _ i.0 i.1 t.1, t.2)
       word_advance word.Sub news i t = rw t.0 (command_advance _ i.0 i.1 t.1, i.1, t.2)
-      word_advance (word.Bad reason) news i t = rw (t, ← append_assoc bytes f (b ∷ []))
+      word_advance (word.Bad reason) news i t = rw (t.0, ← append_assoc bytes f (b ∷ []))
           (refuse_token _ can law h reads.framed reads.cut b i.0 i.1)
 
     -- the bytes are counted, and what has failed doesn't matter
@@ -224,10 +329,6 @@ module _ {Place U K : Type 0} (rules : Rules Place U) (holds : K → List U → 
     pub count : live.taken ≡ length (bytes ++ front)
 
 module _ {Place U : Type 0} (rules : Rules Place U) where
-  -- the bytes hold these items
-  abbrev pub IsHeld : List (Item U) → List ℕ → Type 0
-  IsHeld items bytes = (so_far begun : List ℕ) × Holds rules bytes items so_far begun
-
   -- what `Live::advance` says of a piece
   abbrev pub Advanced : {K : Type 0} → (K → List U → List ℕ → Type 0) → (Kept → Type 0) → Watching Place → K → List ℕ
       → Advance → Watching Place → K → Type 0
@@ -238,10 +339,21 @@ module _ {Place U : Type 0} (rules : Rules Place U) where
     advance : (bytes : List ℕ) (items : List (Item U)) (so_far : RecordSoFar U) → Leads rules was bytes items so_far
         → length bytes + length piece < 2 ^ 64
         → IsAdvance rules holds may_answer bytes items so_far old (take result.used piece) live new result.news;
+    near_full : (bytes : List ℕ) (items : List (Item U)) (so_far : RecordSoFar U) → Leads rules was bytes items so_far
+        → length bytes + 1 < 2 ^ 64 → length bytes + result.used < 2 ^ 64
+        → IsAdvance rules holds may_answer bytes items so_far old (take result.used piece) live new result.news;
     first : (bytes : List ℕ) (items : List (Item U)) (so_far : RecordSoFar U) → Leads rules was bytes items so_far
-        → (n : ℕ) → n < result.used → IsHeld items (bytes ++ take n piece);
+        → (n : ℕ) → n < result.used → IsHeld rules items (bytes ++ take n piece);
+    before : (bytes : List ℕ) (items : List (Item U)) (so_far : RecordSoFar U) → Leads rules was bytes items so_far
+        → (n : ℕ) → n < result.used → IsPart rules may_answer items so_far (bytes ++ take n piece);
+    kept : (bytes : List ℕ) (items : List (Item U)) (so_far : RecordSoFar U) → Leads rules was bytes items so_far
+        → (n : ℕ) → n + 1 ≡ result.used
+        → OnLastNews result.news (KeepsPart rules holds old new items so_far (bytes ++ take n piece));
     full : was.taken + 1 ≡ 2 ^ 64 → result.news ≡ Failed;
     failed : was.failed ≡ true → result.news ≡ Failed;
+    idle : (was.failed ≡ true) ⊎ (was.taken + 1 ≡ 2 ^ 64) → (result.used ≡ 0) × (new ≡ old);
+    only : (bytes : List ℕ) (items : List (Item U)) (so_far : RecordSoFar U) → Leads rules was bytes items so_far
+        → result.news ≡ Failed → length bytes + 1 ≡ 2 ^ 64;
     after : OnLastNews result.news (live.failed ≡ true);
   }
 
@@ -301,7 +413,22 @@ module _ {Place U : Type 0} (rules : Rules Place U) where
   live_step bytes items so_far byte new step f = f
 
 module _ {Place U : Type 0} (rules : Rules Place U) where
-  -- what a front of what is left of a piece made
+  -- what a front of what is left of a piece made, whose bytes can be counted
+  pub front_counted : {K : Type 0} {holds : K → List U → List ℕ → Type 0} {may_answer : Kept → Type 0}
+      {was live : Watching Place} {old new : K} {result : Advance} {items : List (Item U)} {so_far : RecordSoFar U}
+      (piece : List ℕ) (i : ℕ) → Advanced rules holds may_answer was old (left_of piece i) result live new
+      → (bytes : List ℕ) → Leads rules was (bytes ++ take i piece) items so_far → i ≤ length piece
+      → length bytes + (i + result.used) + 1 < 2 ^ 64
+      → Made rules holds may_answer (bytes ++ take i piece) items so_far old live new result.news
+      (take result.used (left_of piece i))
+  front_counted {result = result} piece i e bytes l within fits =
+      let long : length (bytes ++ take i piece) ≡ length bytes + i =
+      omega (arith, length-append bytes (take i piece), length-take-le i piece within) in
+      record {
+        advance = e.near_full _ _ _ l (omega (arith, long, fits)) (omega (arith, long, fits));
+        count = grind (arith, common_steps);
+      }
+
   pub front_made : {K : Type 0} {holds : K → List U → List ℕ → Type 0} {may_answer : Kept → Type 0}
       {was live : Watching Place} {old new : K} {result : Advance} {items : List (Item U)} {so_far : RecordSoFar U}
       (piece : List ℕ) (i : ℕ) → Advanced rules holds may_answer was old (left_of piece i) result live new
@@ -323,22 +450,36 @@ module _ {Place U : Type 0} (rules : Rules Place U) where
   abbrev pub IsLed : Watching Place → List ℕ → ℕ → Watching Place → Type 0
   IsLed from piece used live = (used ≤ length piece)
       × ((bytes : List ℕ) (items : List (Item U)) (so_far : RecordSoFar U) → Leads rules from bytes items so_far
-      → length bytes + length piece + 1 < 2 ^ 64
+      → length bytes + used + 1 < 2 ^ 64
       → LeadsWith rules live (bytes ++ take used piece) items so_far.head so_far.units
-      × ((n : ℕ) → n ≤ used → IsHeld rules items (bytes ++ take n piece)))
+      × ((n : ℕ) → n ≤ used → HoldsPart rules (bytes ++ take n piece) items so_far.head so_far.units))
+      × (from.taken + used < 2 ^ 64 → live.taken ≡ from.taken + used)
+
+  -- nothing is complete before the last byte of a front of what is left
+  pub part_on : {was : Watching Place} (piece : List ℕ) (i used : ℕ) (bytes : List ℕ) (items : List (Item U))
+      (so_far : RecordSoFar U)
+      → ((bytes : List ℕ) (items : List (Item U)) (so_far : RecordSoFar U) → Leads rules was bytes items so_far
+      → (n : ℕ) → n < used → IsPart rules (λ kept. kept ≡ answer.Enough) items so_far
+      (bytes ++ take n (left_of piece i)))
+      → LeadsWith rules was (bytes ++ take i piece) items so_far.head so_far.units
+      → ((n : ℕ) → n ≤ i → HoldsPart rules (bytes ++ take n piece) items so_far.head so_far.units)
+      → (n : ℕ) → n < i + used → HoldsPart rules (bytes ++ take n piece) items so_far.head so_far.units
+  part_on piece i used bytes items so_far e l below =
+      each_on (λ b. HoldsPart rules b items so_far.head so_far.units) bytes piece i used below
+      (λ n lt. (let part = e _ _ _ l.1 n lt in rw (only_enough _ part.1, append-nil so_far.units) at part.2))
 
   pub led_on : {from was live : Watching Place} {result : Advance} (piece : List ℕ) (i : ℕ) (slot : Option U)
       → AdvancedInSlot was (left_of piece i) result live slot → result.news ≡ More → IsLed from piece i was
       → IsLed from piece (i + result.used) live
-  led_on {live = live} {result = result} piece i slot e more led = (
+  led_on {result = result} piece i slot e more led = (
     omega (arith, led.0, e.within, length_rest piece i),
-    λ bytes items so_far l fits. (
-        let before = led.1 bytes items so_far l fits in
+    (λ bytes items so_far l fits. (
+        let before = led.1 bytes items so_far l (omega (arith, fits)) in
         let on = rw (bytes_on bytes piece i result.used) at
-        (more_step rules (front_made piece i e bytes before.0.1 fits) more) in (
+        (more_step rules (front_counted piece i e bytes before.0.1 led.0 fits) more) in (
           on,
-          upto (λ n. IsHeld rules items (bytes ++ take n piece)) (i + result.used) (each_on (IsHeld rules items) bytes
-              piece i
-              result.used before.1 (e.first _ _ _ before.0.1)) (on.0, live.begun, on.1.holds),
-        )),
+          upto (λ n. HoldsPart rules (bytes ++ take n piece) items so_far.head so_far.units) (i + result.used)
+              (part_on piece i result.used bytes items so_far e.before before.0 before.1) (part_led rules on.1),
+        ))),
+    λ fits. omega (arith, fits, led.2, e.counted),
   )

@@ -270,6 +270,19 @@ module _ {Place U K : Type 0} (rules : Rules Place U) (holds : K → List U → 
       begins stop.split stands in
       rw whole.1 at (ran whole.0)
 
+  -- before the value at which it stops
+  module _ (stop : StopsAtLast rules holds may_answer (reading_of reader) old v) where
+    all_are : AreBytes (stop.front ++ stop.last ∷ [])
+    all_are = rw stop.split at y.are
+
+    shorter : length stop.front + 1 ≤ reader.left
+    shorter = omega (arith, ap length stop.split, length-append stop.front (stop.last ∷ []), y.long, y.room)
+
+    read_before : HasRead rules (moved reader (length stop.front) stop.before) (grown so_far stop.front
+        stop.on.run.units)
+    read_before = body_run rules y.reads y.ten stop.before stop.front
+        (AreBytes-front stop.front (stop.last ∷ []) all_are) (omega (arith, shorter)) stop.on.run
+
   -- What a run over the values makes of the record. Behind a value that is refused, or a unit that isn't kept, no
   -- matter how the reader and the keep stand.
   pub taken : (end : End) (to : Reading Place) (standing : Standing Place) (kept new : K)
@@ -297,35 +310,36 @@ module _ {Place U K : Type 0} (rules : Rules Place U) (holds : K → List U → 
     run.4,
   )
   taken end.NoMemory to standing kept new run took =
-      let stop = run.0 in (
+      let stop = run.0 in
+      let after : Reading Place = record { place = rules.after run.1; begun = [] } in (
         stop.front,
         stop.last,
         stop.split,
         (
-          moved reader used (record { place = rules.after run.1; begun = [] }),
+          moved reader used after,
           stop.on.run.units,
           run.1,
-          rw (← stop.split) (unit_read stop run.1 (record { place = rules.after run.1; begun = [] }) run.2 refl),
+          rw (← stop.split) (unit_read stop run.1 after run.2 refl),
           refl,
           run.4,
+          stop.on.on,
+          (_, read_before stop),
+          (v, λ units told h. took _ told (rw append-nil at (run.3 _ told (stop.on.kept units told h)))),
         ),
       )
   taken (end.Bad reason) to standing kept new run took =
-      let stop = run.0 in
-      let all : AreBytes (stop.front ++ stop.last ∷ []) = rw stop.split at y.are in
-      let shorter : length stop.front + 1 ≤ reader.left =
-      omega (arith, ap length stop.split, length-append stop.front (stop.last ∷ []), y.long, y.room) in
-      let read = body_run rules y.reads y.ten stop.before stop.front (AreBytes-front stop.front (stop.last ∷ []) all)
-      (omega (arith, shorter)) stop.on.run in (
+      let stop = run.0 in (
         stop.front,
         stop.last,
         stop.split,
         (
           moved reader (length stop.front) stop.before,
           stop.on.run.units,
-          read,
-          body_bad _ read y.ten free begins _ _ (AllByRecursion-last (λ b. b < 256) stop.front stop.last all)
-              (omega (arith, shorter)) run.1 run.2,
+          read_before stop,
+          body_bad _ (read_before stop) y.ten free begins _ _ (AllByRecursion-last (λ b. b < 256) stop.front stop.last
+              (all_are stop)) (omega (arith, shorter stop)) run.1 run.2,
+          stop.on.on,
+          (v, λ units told h. took _ told (rw append-nil at (run.3 _ told (stop.on.kept units told h)))),
         ),
       )
 
@@ -341,8 +355,19 @@ module _ {Place U K : Type 0} (rules : Rules Place U) (holds : K → List U → 
       let same : (so_far.bytes ++ front) ++ b ∷ [] ≡ so_far.bytes ++ v = rw (e, append_assoc) in
       let short : length (so_far.bytes ++ front) < 10 = rw s.0 at r.head in
       (s.0, rw same at s.1, refl, grind (arith, common_steps, same))
-  header_step before to front b (Refused reason) r e s other =
-      (front, b, e, (before, [], rw (append-nil so_far.units) r, s))
+  header_step before to front b (Refused reason) r e s other = (
+    front,
+    b,
+    e,
+    (
+      before,
+      [],
+      rw (append-nil so_far.units) r,
+      s,
+      inl refl,
+      ([], λ units told h. rw (append-nil told, append-nil units) h),
+    ),
+  )
   header_step before to front b news r e s other = absurd s
 
 pub plain_front : (piece : List ℕ) (used count : ℕ) → used ≤ length (take count piece) → ArePlain (take count piece)

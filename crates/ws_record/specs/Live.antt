@@ -13,7 +13,7 @@ use Rattle.ws_record.specs.declared.live.Step.TheVariants.{More, Open, Unit as W
 use Rattle.ws_record.specs.declared.live.Step.TheVariants.{Failed}
 use Rattle.ws_record.specs.Grammar.{Holds}
 use Rattle.ws_record.specs.Refusal.{Layer, IsOpen, IsRefused}
-use Rattle.ws_record.specs.OpenRecord.{RecordSoFar, no_record, Keeping, HasRead}
+use Rattle.ws_record.specs.OpenRecord.{RecordSoFar, no_record, Keeping, HasRead, IsHead}
 use Rattle.ws_record.specs.DataStep.{record_of}
 
 -- What a live decoder keeps: how many bytes it took, the token that they end inside of, the subnegotiation that ended
@@ -39,6 +39,16 @@ module _ {Place U : Type 0} where
   abbrev pub LeadsWith : Rules Place U → Watching Place → List ℕ → List (Item U) → Option Head → List U → Type 0
   LeadsWith rules live bytes items head units = (so_far : List ℕ)
       × Leads rules live bytes items (record { bytes = so_far; head = head; units = units })
+
+  -- The bytes hold these items, then an open record with this head and these units. Nothing more is complete in them.
+  pub record HoldsPart (rules : Rules Place U) (bytes : List ℕ) (items : List (Item U)) (head : Option Head)
+      (units : List U) : Type 0 where
+    pub so_far : List ℕ
+    pub begun : List ℕ
+    pub unfinished : List ℕ
+    pub holds : Holds rules bytes items so_far begun
+    pub is_head : IsHead head so_far
+    pub cut : IsCut rules (drop 10 so_far) units unfinished
 
   -- Behind these bytes, which hold these items, the byte completes a unit of the open record's body, and no layer
   -- refuses a byte up to it.

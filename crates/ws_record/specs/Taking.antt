@@ -2,7 +2,7 @@
 
 use Rattle.std.specs.Prelude.{◌≡◌, ◌≢◌, ℕ, List, [], ◌∷◌, ◌++◌, ◌⊎◌, Some, None, drop}
 use Rattle.std.specs.List.{AllByRecursion}
-use Rattle.ws_code.specs.Code.{Rules, IsCut}
+use Rattle.ws_code.specs.Code.{Rules}
 use Rattle.ws_code.specs.declared.keep.Kept.{Kept}
 use Rattle.ws_code.specs.declared.keep.Kept.TheVariants as answer
 use Rattle.ws_telnet.specs.declared.codes.TheConstants.{IAC}
@@ -71,11 +71,14 @@ module _ {Place U : Type 0} where
         × (drop 10 (so_far.bytes ++ values) ≡ [])
     IsTaken (Refused reason) =
         EndIn values (λ front last. (before : Keeping Place) × (more : List U)
-        × HasRead rules before (grown so_far front more) × IsDataRefused rules (so_far.bytes ++ front) last reason)
+        × HasRead rules before (grown so_far front more) × IsDataRefused rules (so_far.bytes ++ front) last reason
+        × OnlyIfOn may_answer more × ((told : List ℕ) × KeepsTold holds old new more told))
     IsTaken NoMemory =
         EndIn values (λ front last. (after : Keeping Place) × (more : List U) × (unit : U)
         × HasRead rules after (grown so_far (front ++ last ∷ []) (more ++ unit ∷ [])) × (after.begun ≡ [])
-        × may_answer answer.NoMemory)
+        × may_answer answer.NoMemory × OnlyIfOn may_answer more
+        × ((before : Keeping Place) × HasRead rules before (grown so_far front more))
+        × ((told : List ℕ) × KeepsTold holds old new more told))
     IsTaken news = ⊥
 
   -- what the end of a record makes of it: it is whole, and no other is open; or it can't end here
@@ -99,4 +102,5 @@ module _ {Place U : Type 0} where
       (news ≡ Option verb option) × (reader' ≡ reader) × (new ≡ old)
   IsWordTaken rules holds may_answer so_far reader old word.Sub reader' new news =
       (news ≡ Sub) × (reader' ≡ reader) × (new ≡ old)
-  IsWordTaken rules holds may_answer so_far reader old (word.Bad reason) reader' new news = news ≡ Refused reason
+  IsWordTaken rules holds may_answer so_far reader old (word.Bad reason) reader' new news =
+      (news ≡ Refused reason) × (new ≡ old)

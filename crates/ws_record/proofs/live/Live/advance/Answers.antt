@@ -2,8 +2,8 @@ use Rattle.ws_record.proofs.Common.{◌≡◌, ◌++◌, length, take, ap, arith
 use Rattle.ws_record.proofs.Lives.{recount}
 use Rattle.ws_record.proofs.live.Live.advance.Goals as goal
 
-pub returns-clause-advance : goal.returns-clause-advance
-returns-clause-advance g c = λ bytes items so_far l fits.
+pub returns-clause-near_full : goal.returns-clause-near_full
+returns-clause-near_full g c = λ bytes items so_far l some fits.
     let front = take c.take_front-advance.result.used c.args.piece.now in
     let taken : c.saturating_add-self-inside.result ≡ length (bytes ++ front) = omega (
       arith,
@@ -15,3 +15,12 @@ returns-clause-advance g c = λ bytes items so_far l fits.
     c.take_front-advance.new.keep bytes items so_far c.self-2.inside.tokens c.self-2.inside.open_record front _
     c.take_front-advance.result.news (λ on. rw (taken, c.is_last-self-inside.ensures.1 on))
     (rw (← c.self-2.view_is) at (c.take_front-advance.ensures.advance bytes items so_far l))
+
+pub returns-clause-advance : goal.returns-clause-advance
+returns-clause-advance g c = λ bytes items so_far l fits.
+    returns-clause-near_full g c bytes items so_far l (omega (arith, fits, c.requires))
+    (omega (arith, fits, c.take_front-advance.ensures.within))
+
+pub returns-clause-only : goal.returns-clause-only
+returns-clause-only g c = λ bytes items so_far l failed.
+    absurd (rw failed at (c.take_front-advance.ensures.advance bytes items so_far l))

@@ -1,14 +1,15 @@
-use Rattle.ws_record.proofs.Common.{arith, append-nil, bytes_on, each_on}
-use Rattle.ws_record.proofs.Lives.{front_step, held_at_none, IsHeld, front_made, led_on}
+use Rattle.ws_record.proofs.Common.{ℕ, inl, inr, arith, append-nil, bytes_on, ◌+◌, ◌^◌, length, cases_lt}
+use Rattle.ws_record.proofs.Lives.{front_step, front_made, front_counted, led_on, part_first, part_on, part_held}
 use Rattle.ws_record.proofs.live.Live.feed.Goals as goal
 
 pub loop-used-init : goal.loop-used-init
 loop-used-init g c = (
   omega arith,
-  λ bytes items so_far l fits. (
+  (λ bytes items so_far l fits. (
     (so_far.bytes, rw (append-nil bytes) l),
-    λ n k. held_at_none _ l c.args.piece.now n (omega (arith, k)),
-  ),
+    λ n k. part_first _ l c.args.piece.now n k,
+  )),
+  λ fits. omega arith,
 )
 
 pub loop-used-preserved-in-More : goal.loop-used-preserved-in-More
@@ -21,23 +22,47 @@ loop-used-preserved g c = led_on g.B.Code.rules c.args.piece.now c.loop-used.use
 
 pub returns-in_default-clause-step : goal.returns-in_default-clause-step
 returns-in_default-clause-step g c = λ bytes items so_far l fits.
-    let inv = c.loop-used.invariant.1 bytes items so_far l fits in (
+    let inv = c.loop-used.invariant.1 bytes items so_far l (omega (arith, fits, c.loop-used.invariant.0)) in
+    let made = front_made g.B.Code.rules c.args.piece.now c.loop-used.used c.advance-advance.ensures bytes inv.0.1 fits
+    in (
       inv.0.0,
-      rw (bytes_on bytes _ c.loop-used.used _) at (front_step g.B.Code.rules _ _ c.step_of-step.result
-          (front_made _ c.args.piece.now c.loop-used.used c.advance-advance.ensures bytes inv.0.1 fits)
+      rw (bytes_on bytes c.args.piece.now c.loop-used.used c.advance-advance.result.used) at
+          (front_step g.B.Code.rules c.step_of-step.new.self c.advance-advance.result.news c.step_of-step.result made
           c.step_of-step.ensures.step),
     )
 
+pub returns-in_default-clause-before : goal.returns-in_default-clause-before
+returns-in_default-clause-before g c = λ bytes items so_far l fits.
+    let inv = c.loop-used.invariant.1 bytes items so_far l (omega (arith, fits, c.loop-used.invariant.0)) in
+    part_on g.B.Code.rules c.args.piece.now c.loop-used.used c.advance-advance.result.used bytes items so_far
+    c.advance-advance.ensures.before inv.0 inv.1
+
 pub returns-in_default-clause-first : goal.returns-in_default-clause-first
-returns-in_default-clause-first g c = λ bytes items so_far l fits.
-    let inv = c.loop-used.invariant.1 bytes items so_far l fits in
-    each_on (IsHeld g.B.Code.rules items) bytes c.args.piece.now c.loop-used.used c.advance-advance.result.used inv.1
-    (c.advance-advance.ensures.first _ _ _ inv.0.1)
+returns-in_default-clause-first g c = λ bytes items so_far l fits n lt.
+    part_held _ (returns-in_default-clause-before g c bytes items so_far l fits n lt)
+
+pub returns-in_default-clause-only : goal.returns-in_default-clause-only
+returns-in_default-clause-only g c = λ bytes items so_far l failed.
+    let used : ℕ = c.loop-used.used + c.advance-advance.result.used in
+    elim (cases_lt (length bytes + used + 1) (2 ^ 64)) [
+      | inl fits ↦ (let inv = c.loop-used.invariant.1 bytes items so_far l (omega (arith, fits)) in
+          let made = front_counted g.B.Code.rules c.args.piece.now c.loop-used.used c.advance-advance.ensures bytes
+          inv.0.1 c.loop-used.invariant.0 fits in
+          absurd (rw failed at (front_step g.B.Code.rules c.step_of-step.new.self c.advance-advance.result.news
+          c.step_of-step.result made c.step_of-step.ensures.step)))
+      | inr ge ↦ ge
+    ]
 
 pub returns-clause-step : goal.returns-clause-step
 returns-clause-step g c = λ bytes items so_far l fits.
-    let inv = c.loop-used.invariant.1 bytes items so_far l fits in (inv.0.0, inv.0)
+    let inv = c.loop-used.invariant.1 bytes items so_far l (omega (arith, fits, c.loop-used.invariant.0)) in
+    (inv.0.0, inv.0)
+
+pub returns-clause-before : goal.returns-clause-before
+returns-clause-before g c = λ bytes items so_far l fits n lt.
+    (c.loop-used.invariant.1 bytes items so_far l (omega (arith, fits, c.loop-used.invariant.0))).1 n
+    (omega (arith, lt))
 
 pub returns-clause-first : goal.returns-clause-first
 returns-clause-first g c = λ bytes items so_far l fits n lt.
-    (c.loop-used.invariant.1 bytes items so_far l fits).1 n (omega (arith, lt))
+    part_held _ (returns-clause-before g c bytes items so_far l fits n lt)

@@ -1,4 +1,4 @@
-use Rattle.ws_record.proofs.Common.{Ok, Err, refl, sym, arith, ◌∙◌, append-nil, handed_on, bytes_on, each_on, ◌++◌, ◌+◌}
+use Rattle.ws_record.proofs.Common.{refl, sym, arith, ◌∙◌, append-nil, bytes_on, each_on, ◌++◌, ◌+◌}
 use Rattle.ws_record.proofs.Common.{take, length_rest, upto}
 use Rattle.ws_record.proofs.Lives.{front_made, held_at_none, IsHeld}
 use Rattle.ws_record.proofs.Receivers.{receives, fed_given, fed_taken, fed_first, fed_fault, fed_none_before}
@@ -90,7 +90,8 @@ returns-then-not-goes_on-clause-fault g c =
 
 pub returns-then-not-goes_on-clause-none_before : goal.returns-then-not-goes_on-clause-none_before
 returns-then-not-goes_on-clause-none_before g c =
-    fed_none_before g.B.Code.rules c.args.piece.now c.loop-used.used c.advance-advance.result.used _ _ c.loop-used.invariant.0 c.fed_of.result
+    fed_none_before g.B.Code.rules c.args.piece.now c.loop-used.used c.advance-advance.result.used _ _
+    c.loop-used.invariant.0 c.fed_of.result
     (λ bytes items t fits.
     let inv = c.loop-used.invariant.1 bytes items t fits in
     let was = rw (← c.self-in-loop-used.view_is) at inv.0 in
