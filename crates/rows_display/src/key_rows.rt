@@ -1,48 +1,11 @@
 // What each key does: cells, MDT, cursor and lock afterwards.
 
-use crate::screens::{aid, apply, at};
+use crate::screens::{aid, apply, at, begin_field, check_cells, put_field, screen_of};
 use crate::{holds, same, same_at};
 use std::process::Abort;
-use ws_code::{DataByte, Ffw};
 use ws_keys::{Key, KeyRefusal, press};
 use ws_screen::Screen;
-use ws_stream::{Element, FieldStart};
-
-// Makes an input field with its attribute at a row and a column.
-fn begin_field(rt: &impl Abort, screen: &mut Screen, cell: (u8, u8), format: u16, length: u16) {
-    let format = Ffw::new(format).expect(rt, "a format word");
-    let field = FieldStart::new(Some(format), &[], 0x20, length).expect(rt, "a field");
-    apply(rt, screen, &Element::Sba(at(rt, cell.0, cell.1)));
-    apply(rt, screen, &Element::Sf(field));
-}
-
-// Makes an input field whose first cell is in a row's second column, and fills it.
-fn put_field(rt: &impl Abort, screen: &mut Screen, row: u8, format: u16, cells: &[u8]) {
-    assert!(rt; cells.len() < 80);
-    begin_field(rt, screen, (row, 1), format, cells.len() as u16);
-    for byte in cells {
-        let byte = DataByte::new(*byte).expect(rt, "no order code");
-        apply(rt, screen, &Element::Put(byte));
-    }
-}
-
-// A field of four cells at 2, 2; one with bypass at 3, 2, modified; one at 4, 2. The keyboard is unlocked.
-fn screen_of(rt: &impl Abort, format: u16, cells: &[u8]) -> Screen {
-    let mut screen = Screen::new();
-    apply(rt, &mut screen, &Element::Write { cc1: 0, cc2: 0x08 });
-    put_field(rt, &mut screen, 2, format, cells);
-    put_field(rt, &mut screen, 3, 0x6800, &[0xd1, 0xd2]);
-    put_field(rt, &mut screen, 4, 0x4800, &[0xe2, 0xe3]);
-    screen.end_write();
-    screen
-}
-
-fn check_cells(rt: &impl Abort, screen: &Screen, row: u8, cells: &[u8]) {
-    for (index, byte) in cells.iter().enumerate() {
-        assert!(rt; index < 78);
-        same(rt, screen.cell(at(rt, row, index as u8 + 2)), *byte);
-    }
-}
+use ws_stream::Element;
 
 fn is_modified(rt: &impl Abort, screen: &Screen, row: u8) -> bool {
     let field = screen.field_at(at(rt, row, 2)).expect(rt, "a field");

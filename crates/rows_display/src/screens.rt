@@ -1,11 +1,11 @@
 // Screens that a host's bytes make, for rows of several files.
 
-use crate::holds;
+use crate::{holds, same};
 use std::process::Abort;
-use ws_code::{Address, Aid, Body, Code, Standing};
+use ws_code::{Address, Aid, Body, Code, DataByte, Ffw, Standing};
 use ws_keys::Key;
 use ws_screen::Screen;
-use ws_stream::{Commands, Element, Place};
+use ws_stream::{Commands, Element, FieldStart, Place};
 
 pub fn at(rt: &impl Abort, row: u8, col: u8) -> Address {
     Address::new(row, col).expect(rt, "a cell")
@@ -69,4 +69,40 @@ pub fn one_field(high: u8, low: u8, cells: u8, read: u8) -> [u8; 17] {
         0x04, 0x11, 0x00, 0x08, 0x11, 0x06, 0x34, 0x1D, high, low, 0x20, 0x00, cells, 0x04, read,
         0x00, 0x00,
     ]
+}
+
+// Makes an input field with its attribute at a row and a column.
+pub fn begin_field(rt: &impl Abort, screen: &mut Screen, cell: (u8, u8), format: u16, length: u16) {
+    let format = Ffw::new(format).expect(rt, "a format word");
+    let field = FieldStart::new(Some(format), &[], 0x20, length).expect(rt, "a field");
+    apply(rt, screen, &Element::Sba(at(rt, cell.0, cell.1)));
+    apply(rt, screen, &Element::Sf(field));
+}
+
+// Makes an input field whose first cell is in a row's second column, and fills it.
+pub fn put_field(rt: &impl Abort, screen: &mut Screen, row: u8, format: u16, cells: &[u8]) {
+    assert!(rt; cells.len() < 80);
+    begin_field(rt, screen, (row, 1), format, cells.len() as u16);
+    for byte in cells {
+        let byte = DataByte::new(*byte).expect(rt, "no order code");
+        apply(rt, screen, &Element::Put(byte));
+    }
+}
+
+// A field of four cells at 2, 2; one with bypass at 3, 2, modified; one at 4, 2. The keyboard is unlocked.
+pub fn screen_of(rt: &impl Abort, format: u16, cells: &[u8]) -> Screen {
+    let mut screen = Screen::new();
+    apply(rt, &mut screen, &Element::Write { cc1: 0, cc2: 0x08 });
+    put_field(rt, &mut screen, 2, format, cells);
+    put_field(rt, &mut screen, 3, 0x6800, &[0xd1, 0xd2]);
+    put_field(rt, &mut screen, 4, 0x4800, &[0xe2, 0xe3]);
+    screen.end_write();
+    screen
+}
+
+pub fn check_cells(rt: &impl Abort, screen: &Screen, row: u8, cells: &[u8]) {
+    for (index, byte) in cells.iter().enumerate() {
+        assert!(rt; index < 78);
+        same(rt, screen.cell(at(rt, row, index as u8 + 2)), *byte);
+    }
 }
