@@ -2,6 +2,8 @@
 #![tactic(auto)]
 
 #[cfg(test)]
+mod answer_rows;
+#[cfg(test)]
 mod displays;
 #[cfg(test)]
 mod error_rows;
@@ -13,6 +15,8 @@ mod record_rows;
 mod reply_rows;
 #[cfg(test)]
 mod run_rows;
+#[cfg(test)]
+mod told_rows;
 
 // Expects two values to be the same, and shows both where they aren't.
 #[cfg(test)]

@@ -1,3 +1,6 @@
+pub mod AnswerBodies
+pub mod AnswerReasons
+pub mod AnswerSteps
 pub mod Carrying
 pub mod ErrorLaws
 pub mod Fields
@@ -12,5 +15,7 @@ pub mod Painting
 pub mod ProfileBodies
 pub mod ProfileReasons
 pub mod Starts
+pub mod Running
 pub mod StateLaws
 pub mod StateSteps
+pub mod ToldLaws

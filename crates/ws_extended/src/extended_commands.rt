@@ -7,6 +7,7 @@ ghost use Rattle.ws_extended.specs.ExtendedLaws.{extended_nonempty, extended_byt
 ghost use Rattle.ws_extended.specs.ExtendedMachine.{begun_in, inner_place, is_sound};
 
 mod phase;
+mod running;
 mod steps;
 
 use crate::spell::spell;
@@ -14,7 +15,7 @@ use crate::{ExtendedElement, ExtendedPlace};
 use arrayvec::ArrayVec;
 use phase::Phase;
 use steps::place_inside;
-use ws_code::{Body, Code, Push};
+use ws_code::{Body, Code, End, Keep, Push, Run, Standing};
 use ws_stream::{Commands, Element, Place};
 
 /// Reads a live host's body element by element: what `Commands` reads, and seven commands beside it (SC30-3533,
@@ -84,6 +85,30 @@ impl Code for ExtendedCommands {
     #[inline(always)]
     fn push(&mut self, byte: u8) -> Push<ExtendedElement> {
         self.step(byte)
+    }
+
+    #[inline(always)]
+    fn run<K: Keep<ExtendedElement>>(
+        &mut self,
+        at: &mut Standing<ExtendedPlace>,
+        values: &[u8],
+        keep: &mut K,
+    ) -> Run {
+        for (index, value) in values.iter().enumerate() {
+            match self.take(at, keep, *value) {
+                End::More => {}
+                end => {
+                    return Run {
+                        used: index + 1,
+                        end,
+                    };
+                }
+            }
+        }
+        Run {
+            used: values.len(),
+            end: End::More,
+        }
     }
 
     fn known(unit: &ExtendedElement) {

@@ -1,11 +1,16 @@
-//! What live hosts send beside the profile (SC30-3533): the elements of seven commands more, the image of a screen that
-//! is saved, and the line on which an error stands. No call takes memory.
+//! What live hosts send beside the profile (SC30-3533), the elements of seven commands more; the image of a screen that
+//! is saved, and the line on which an error stands; what a station tells at once, and the bodies that it sends. No call
+//! takes memory.
 #![tactic(auto)]
 
+mod answer_laws;
 mod ask;
 mod asked;
 mod command_names;
 mod error_line;
+mod extended_answer_part;
+mod extended_answer_place;
+mod extended_answers;
 mod extended_commands;
 mod extended_element;
 mod extended_place;
@@ -14,10 +19,15 @@ mod image;
 mod laws;
 mod replies;
 mod spell;
+mod telling;
 
+pub use answer_laws::{answer_reasons_stay, answers_are_extended, told_is_body};
 pub use ask::Ask;
 pub use asked::Asked;
 pub use command_names::{command_name, command_named, names_are_read};
+pub use extended_answer_part::ExtendedAnswerPart;
+pub use extended_answer_place::ExtendedAnswerPlace;
+pub use extended_answers::ExtendedAnswers;
 pub use extended_commands::ExtendedCommands;
 pub use extended_element::ExtendedElement;
 pub use extended_place::ExtendedPlace;
@@ -28,3 +38,4 @@ pub use laws::{
     reset_gives_back, restore_gives_back,
 };
 pub use replies::{QUERY_REPLY_BYTES, query_reply};
+pub use telling::{MOST_TOLD_BYTES, put_told};

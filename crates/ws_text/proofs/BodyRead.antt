@@ -1,6 +1,6 @@
 use Rattle.ws_text.proofs.Common.{◌≡◌, ◌<◌, ℕ, ◌+◌, true, false, List, [], ◌∷◌, ◌++◌, length, refl, sym, ap, subst, ◌∙◌}
 use Rattle.ws_text.proofs.Common.{Result, Ok, Err, MatchResult, IfOk, IfErr, lines, append-nil, Rules, Opcode, Record}
-use Rattle.ws_text.proofs.Common.{TextFault, Line, Memory, OpenRecord, with_more, IsOpen, Puts, IsLine, Wording}
+use Rattle.ws_text.proofs.Common.{TextFault, Line, Memory, OpenRecord, with_more, with_line, IsOpen, Puts, IsLine, Wording}
 use Rattle.ws_text.proofs.Common.{IsClear, EndsEverywhere}
 use Rattle.ws_text.specs.BodyLines.{AddUnits, CanAdd, IsAddFault, new_record}
 use Rattle.ws_text.specs.Parts.Part.{Units}
@@ -13,11 +13,11 @@ use Rattle.ws_text.proofs.OpenRecords.{open_encoded, same_units}
 module _ {Place U : Type 0} (rules : Rules Place U) (w : Wording U) where
   add_more : (before : List (List ℕ)) (line : List ℕ) (from r : Record U) (units : List U)
       → AddUnits rules w before from r → CanAdd rules w line r units
-      → AddUnits rules w (before ++ line ∷ []) from (with_more r units)
+      → AddUnits rules w (before ++ line ∷ []) from (with_line w r units)
   add_more [] line from r units e h =
-      (units, subst (λ (z : Record U). CanAdd rules w line z units) e h, ap (λ z. with_more z units) e)
+      (units, subst (λ (z : Record U). CanAdd rules w line z units) e h, ap (λ z. with_line w z units) e)
   add_more (first ∷ before) line from r units a h =
-      (a.0, a.1, add_more before line (with_more from a.0) r units a.2 h)
+      (a.0, a.1, add_more before line (with_line w from a.0) r units a.2 h)
 
   -- what lines behind others add
   added_behind : IsClear w → (before after : List (List ℕ)) (from r to : Record U)
@@ -25,8 +25,8 @@ module _ {Place U : Type 0} (rules : Rules Place U) (w : Wording U) where
   added_behind clear [] after from r to x e = subst (λ (z : Record U). AddUnits rules w after z to) (sym e) x
   added_behind clear (line ∷ before) after from r to x y =
       let same = same_units x.0 y.0 (one_line w clear line (Units x.0) (Units y.0) x.1.0 y.1.0) in
-      added_behind clear before after (with_more from y.0) r to
-      (subst (λ (z : List U). AddUnits rules w (before ++ after) (with_more from z) to) same x.2) y.2
+      added_behind clear before after (with_line w from y.0) r to
+      (subst (λ (z : List U). AddUnits rules w (before ++ after) (with_line w from z) to) same x.2) y.2
 
   module _ (opcode : Opcode) where
     abbrev made_of : List U → Record U
@@ -39,12 +39,13 @@ module _ {Place U : Type 0} (rules : Rules Place U) (w : Wording U) where
 
     pub body_goes_on : EndsEverywhere rules → {o next : OpenRecord Place U} {text rest behind line : List ℕ}
         {number : ℕ} → BodySoFar o text rest number → lines rest ≡ line ∷ lines behind → length behind < length rest
-        → Puts rules (λ units. IsLine w line (Units units)) o next true → BodySoFar next text behind (number + 1)
+        → Puts rules w (λ units. IsLine w line (Units units)) o next true → BodySoFar next text behind (number + 1)
     body_goes_on ends {next = next} {line = line} so e shorter h =
         let is = h.2 (made_of so.made) so.is in
-        more_so_far so e shorter (so.made ++ h.0) is (λ before a.
+        let more = w.behind so.made h.0 in
+        more_so_far so e shorter (so.made ++ more) is (λ before a.
         add_more before line (new_record opcode) (made_of so.made) h.0 a
-        (h.1, open_encoded rules ends next (made_of (so.made ++ h.0)) is))
+        (h.1, open_encoded rules ends next (made_of (so.made ++ more)) is))
 
     -- all lines are read
     pub whole_body : {o : OpenRecord Place U} {text rest : List ℕ} {number : ℕ} → (so : BodySoFar o text rest number)
@@ -55,7 +56,7 @@ module _ {Place U : Type 0} (rules : Rules Place U) (w : Wording U) where
 
     pub bad_body : {o : OpenRecord Place U} {text rest line : List ℕ} {after : List (List ℕ)} {number : ℕ}
         (next : OpenRecord Place U) → (so : BodySoFar o text rest number) → lines rest ≡ line ∷ after
-        → Puts rules (λ units. IsLine w line (Units units)) o next false
+        → Puts rules w (λ units. IsLine w line (Units units)) o next false
         → IsAddFault rules w (lines text) (new_record opcode) (Line (number + 1))
     bad_body next so e bad = (
       so.before,

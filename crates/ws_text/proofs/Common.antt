@@ -35,7 +35,7 @@ pub use Rattle.ws_text.specs.AnswerWords.{answer_wording}
 pub use Rattle.ws_text.specs.ElementWords.{ArePairs, element_wording, AreBytes, AreField, AreFill, ArePlace}
 pub use Rattle.ws_text.specs.ElementWords.{format_and_controls}
 pub use Rattle.ws_text.specs.ItemLines.{words_text, element_line, is_put, element_lines, head_text, hex_behind_blank}
-pub use Rattle.ws_text.specs.Items.{AreItems, with_more, Leads, Adds, IsScreen, Reads, EndsHere, IsTextFault}
+pub use Rattle.ws_text.specs.Items.{AreItems, with_more, with_line, Leads, Adds, IsScreen, Reads, EndsHere, IsTextFault}
 pub use Rattle.ws_text.specs.Names.{commands, look_up, verbs}
 pub use Rattle.ws_text.specs.Parts.{Part as part, Part}
 pub use Rattle.ws_text.specs.Printing.{Prints}
@@ -47,7 +47,7 @@ pub use Rattle.ws_text.specs.TextLines.IsHeadText.{long, short}
 pub use Rattle.ws_text.specs.TextLines.IsWorded.{item, indented}
 pub use Rattle.ws_text.specs.TextLines.Means.{worded, comment, empty, typed}
 pub use Rattle.ws_text.specs.WordLaws.{head_of, tail_of, elements_clear}
-pub use Rattle.ws_text.specs.Wording.{Wording, EndsEverywhere, IsClear, Run}
+pub use Rattle.ws_text.specs.Wording.{Wording, AreOneByOne, EndsEverywhere, IsClear, Run}
 pub use Rattle.ws_text.specs.Wording.Run.{Bytes, Other}
 pub use Rattle.ws_text.specs.Words.{IsHexByte, IsHexPair, words_of, IsHex, IsNumber, IsSmall, IsCell}
 pub use Rattle.ws_text.specs.declared.items.TextFault.{TextFault}

@@ -1,5 +1,5 @@
 use Rattle.ws_text.proofs.Common.{◌≡◌, ℕ, List, [], ◌∷◌, ◌++◌, refl, sym, subst, arith, Rules, CanBeEncoded}
-use Rattle.ws_text.proofs.Common.{CanAllBeEncoded, Item, Part, Adds, AreItems, Leads, with_more, Follows, Wording}
+use Rattle.ws_text.proofs.Common.{CanAllBeEncoded, Item, Part, Adds, AreItems, Leads, with_line, Follows, Wording}
 use Rattle.ws_text.proofs.Common.{EndsEverywhere}
 use Rattle.ws_code.proofs.Lists.{AllByRecursion-append, AllByRecursion-front}
 use Rattle.ws_text.specs.Parts.Part.{Nothing, Head, Command, Units}
@@ -18,24 +18,24 @@ module _ {Place U : Type 0} (rules : Rules Place U) (ends : EndsEverywhere rules
       subst (λ (z : List (Item U)). CanAllBeEncoded rules z) (sym e)
       (AllByRecursion-append (CanBeEncoded rules) from (last ∷ []) can (one, tt))
 
-  adds_encoded : (says : Part U) (from to : List (Item U)) → CanAllBeEncoded rules from → Adds rules says from to
-      → CanAllBeEncoded rules to
-  adds_encoded Nothing from to can e = subst (λ (z : List (Item U)). CanAllBeEncoded rules z) (sym e) can
-  adds_encoded (Head flags opcode) from to can e =
+  adds_encoded : (w : Wording U) (says : Part U) (from to : List (Item U)) → CanAllBeEncoded rules from
+      → Adds rules w says from to → CanAllBeEncoded rules to
+  adds_encoded w Nothing from to can e = subst (λ (z : List (Item U)). CanAllBeEncoded rules z) (sym e) can
+  adds_encoded w (Head flags opcode) from to can e =
       with_last from to _ can
       (can_be_encoded rules ends (record { flags = flags; opcode = opcode; body = [] }) rules.first 0 none_follow) e
-  adds_encoded (Command telnet) from to can e = with_last from to (an_item.Telnet telnet) can tt e
-  adds_encoded (Units units) from to can h =
+  adds_encoded w (Command telnet) from to can e = with_last from to (an_item.Telnet telnet) can tt e
+  adds_encoded w (Units units) from to can h =
       let before = AllByRecursion-front (CanBeEncoded rules) h.0 (an_item.Record h.1 ∷ [])
       (subst (λ (z : List (Item U)). CanAllBeEncoded rules z) h.2 can) in
-      with_last h.0 to (an_item.Record (with_more h.1 units)) before h.4 h.3
+      with_last h.0 to (an_item.Record (with_line w h.1 units)) before h.4 h.3
 
   module _ (w : Wording U) where
     leads_encoded : (lines : List (List ℕ)) (from to : List (Item U)) → CanAllBeEncoded rules from
         → Leads rules w lines from to → CanAllBeEncoded rules to
     leads_encoded [] from to can e = subst (λ (z : List (Item U)). CanAllBeEncoded rules z) (sym e) can
     leads_encoded (line ∷ lines) from to can h =
-        leads_encoded lines h.0 to (adds_encoded h.2.0 from h.0 can h.2.2) h.3
+        leads_encoded lines h.0 to (adds_encoded w h.2.0 from h.0 can h.2.2) h.3
 
     pub items_encoded : (text : List ℕ) (items : List (Item U)) → AreItems rules w text items
         → CanAllBeEncoded rules items

@@ -25,9 +25,13 @@ pub mod ShownItems
 pub mod ShownBytes
 pub mod ShownNumbers
 pub mod ShownElements
+pub mod ShownExtended
 pub mod ShownLines
 pub mod ShownTelnet
 pub mod Prints
 pub mod Texts
 pub mod AnswerTexts
+pub mod ExtendedAnswerTexts
+pub mod ExtendedTexts
+pub mod ExtendedWordsRead
 pub mod AnswerWordLaws

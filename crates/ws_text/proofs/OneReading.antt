@@ -1,7 +1,7 @@
 use Rattle.ws_text.proofs.Common.{◌≡◌, ℕ, List, [], ◌∷◌, ◌++◌, length, refl, sym, ap, subst, ◌∙◌, arith, length-append}
 use Rattle.ws_text.proofs.Common.{Result, Ok, Err, MatchResult, IfOk, IfErr, Rules, Item, Record, TextFault, Line}
 use Rattle.ws_text.proofs.Common.{Memory, Part, Adds, AreItems, EndsHere, IsScreen, IsTextFault, Leads, Reads}
-use Rattle.ws_text.proofs.Common.{with_more, Wording, IsClear, Vec, Global}
+use Rattle.ws_text.proofs.Common.{with_line, Wording, IsClear, Vec, Global}
 use Rattle.ws_text.specs.Parts.Part.{Nothing, Head, Command, Units}
 use Rattle.ws_text.proofs.OneLine.{one_line}
 use Rattle.ws_record.specs.declared.record.Item.TheVariants as an_item
@@ -22,21 +22,22 @@ module _ {Place U : Type 0} (rules : Rules Place U) where
   pub same_record : (q r : Record U) → an_item.Record q ≡ an_item.Record r → q ≡ r
   same_record q r e = cc
 
-  adds_same : (says : Part U) (from a b : List (Item U)) → Adds rules says from a → Adds rules says from b → a ≡ b
-  adds_same Nothing from a b x y = x ∙ sym y
-  adds_same (Head flags opcode) from a b x y = x ∙ sym y
-  adds_same (Command telnet) from a b x y = x ∙ sym y
-  adds_same (Units us) from a b x y =
+  adds_same : (w : Wording U) (says : Part U) (from a b : List (Item U)) → Adds rules w says from a
+      → Adds rules w says from b → a ≡ b
+  adds_same w Nothing from a b x y = x ∙ sym y
+  adds_same w (Head flags opcode) from a b x y = x ∙ sym y
+  adds_same w (Command telnet) from a b x y = x ∙ sym y
+  adds_same w (Units us) from a b x y =
       let both = last_same x.0 y.0 (an_item.Record x.1) (an_item.Record y.1) (sym x.2 ∙ y.2) in
       let records = same_record x.1 y.1 both.1 in
-      x.3 ∙ ap (λ z. z ++ an_item.Record (with_more x.1 us) ∷ []) both.0
-      ∙ ap (λ r. y.0 ++ an_item.Record (with_more r us) ∷ []) records ∙ sym y.3
+      x.3 ∙ ap (λ z. z ++ an_item.Record (with_line w x.1 us) ∷ []) both.0
+      ∙ ap (λ r. y.0 ++ an_item.Record (with_line w r us) ∷ []) records ∙ sym y.3
 
   module _ (w : Wording U) (clear : IsClear w) where
     reads_same : (line : List ℕ) (from a b : List (Item U)) → Reads rules w line from a → Reads rules w line from b → a
         ≡ b
     reads_same line from a b x y =
-        adds_same y.0 from a b (subst (λ (z : Part U). Adds rules z from a)
+        adds_same w y.0 from a b (subst (λ (z : Part U). Adds rules w z from a)
         (one_line w clear line x.0 y.0 x.1 y.1) x.2) y.2
 
     ends_at : (behind : List (List ℕ)) (line : List ℕ) (rest : List (List ℕ)) → behind ≡ line ∷ rest → EndsHere behind

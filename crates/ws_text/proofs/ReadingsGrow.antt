@@ -1,5 +1,5 @@
 use Rattle.ws_text.proofs.Common.{◌≡◌, inr, ℕ, List, [], ◌∷◌, ◌++◌, true, false, refl, sym, subst, ◌∙◌, Option, Some}
-use Rattle.ws_text.proofs.Common.{None, Rules, Telnet, CanBeEncoded, Opcode, Item, Record, OpenRecord, Adds, with_more}
+use Rattle.ws_text.proofs.Common.{None, Rules, Telnet, CanBeEncoded, Opcode, Item, Record, OpenRecord, Adds, with_line}
 use Rattle.ws_text.proofs.Common.{Part, part, AreRead, IsOpen, Puts, Wording, EndsEverywhere}
 use Rattle.ws_text.specs.declared.line.LineUnits.{LineUnits}
 use Rattle.ws_text.specs.declared.reading.Reading.{Reading}
@@ -35,33 +35,33 @@ module _ {Place U : Type 0} (rules : Rules Place U) where
     -- units behind those of the open record
     pub units_read : EndsEverywhere rules → (reading : Reading Place U) (o new : OpenRecord Place U)
         (units : LineUnits U) (from : List (Item U)) → AreRead rules reading from → reading.last ≡ Some o
-        → Puts rules (Are w units) o new true
+        → Puts rules w (Are w units) o new true
         → Takes rules (FoundAdds rules w (found.Units units) from)
         (Some (record { items = reading.items; last = Some new }))
     units_read ends reading o new units from are e h =
         let last = subst (λ (z : Option (OpenRecord Place U)). EndsIn rules are.before z from) e are.last in
         let is = h.2 last.0 last.1 in
-        let to = are.before ++ an_item.Record (with_more last.0 h.0) ∷ [] in (
+        let to = are.before ++ an_item.Record (with_line w last.0 h.0) ∷ [] in (
           to,
           (
             part.Units h.0,
             (h.0, h.1, refl),
-            (are.before, last.0, last.2, refl, open_encoded rules ends new (with_more last.0 h.0) is),
+            (are.before, last.0, last.2, refl, open_encoded rules ends new (with_line w last.0 h.0) is),
           ),
-          record { before = are.before; held = are.held; last = (with_more last.0 h.0, is, refl) },
+          record { before = are.before; held = are.held; last = (with_line w last.0 h.0, is, refl) },
         )
 
     -- units that can't stand there
     pub no_units_read : (reading : Reading Place U) (o new : OpenRecord Place U) (units : LineUnits U)
         (from : List (Item U)) → AreRead rules reading from → reading.last ≡ Some o
-        → Puts rules (Are w units) o new false → Takes rules (FoundAdds rules w (found.Units units) from) None
+        → Puts rules w (Are w units) o new false → Takes rules (FoundAdds rules w (found.Units units) from) None
     no_units_read reading o new units from are e bad = λ to h.
         let last = subst (λ (z : Option (OpenRecord Place U)). EndsIn rules are.before z from) e are.last in
-        let adds = subst (λ (z : Part U). Adds rules z from to) h.1.2 h.2 in
+        let adds = subst (λ (z : Part U). Adds rules w z from to) h.1.2 h.2 in
         let both = last_same rules adds.0 are.before (an_item.Record adds.1) (an_item.Record last.0)
         (sym adds.2 ∙ last.2) in
         bad last.0 h.1.0 last.1 h.1.1
-        (subst (λ (z : Record U). CanBeEncoded rules (an_item.Record (with_more z h.1.0)))
+        (subst (λ (z : Record U). CanBeEncoded rules (an_item.Record (with_line w z h.1.0)))
         (same_record rules adds.1 last.0 both.1) adds.4)
 
   -- items of another kind, which are these all the same

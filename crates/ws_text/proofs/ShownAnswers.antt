@@ -54,14 +54,14 @@ part_back (Byte byte) h =
     run (encode_upper (byte ∷ [])) refl refl (byte ∷ [], hex_back (byte ∷ []) (h.0, tt) (omega arith), ((h, tt), refl))
 
 -- their runs
-with_back : (u : AnswerPart) (runs : List (Run AnswerPart)) → flat_map (run_units answer_rules answer_wording)
-    (runs_with u runs) ≡ u ∷ flat_map (run_units answer_rules answer_wording) runs
+with_back : (u : AnswerPart) (runs : List (Run AnswerPart)) → flat_map (run_units answer_rules answer_wording (λ us. us))
+    (runs_with u runs) ≡ u ∷ flat_map (run_units answer_rules answer_wording (λ us. us)) runs
 with_back (Byte b) [] = refl
 with_back (Byte b) (Bytes bytes ∷ runs) = refl
 with_back (Byte b) (Other u ∷ runs) = refl
 with_back u runs = refl
 
-runs_back : (us : List AnswerPart) → flat_map (run_units answer_rules answer_wording) (runs_of us) ≡ us
+runs_back : (us : List AnswerPart) → flat_map (run_units answer_rules answer_wording (λ us. us)) (runs_of us) ≡ us
 runs_back [] = refl
 runs_back (u ∷ us) = with_back u (runs_of us) ∙ ap (λ z. u ∷ z) (runs_back us)
 
@@ -80,6 +80,8 @@ runs_right (u ∷ us) h = with_right u (runs_of us) h.0 (runs_right us h.1)
 
 answers_printed : Printed answer_rules answer_wording
 answers_printed = record {
+  written = λ us. us;
+  settles = λ before us c. refl;
   name_of = part_name;
   rest_of = part_rest;
   name_from = name_from;
@@ -101,4 +103,5 @@ answers_printed = record {
 pub shown_answers_read : (text : List ℕ) (items : List (Item AnswerPart)) → ShowsAnswers text items
     → AreItems answer_rules answer_wording text items
 unfolding answers_printed
-shown_answers_read text items s = all_shown_read answer_rules (λ _. refl) answer_wording answers_printed text items s
+shown_answers_read text items s = all_shown_read answer_rules (λ _. refl) answer_wording
+    (record { none = λ _. refl; more = λ _ _ _. refl }) answers_printed text items s

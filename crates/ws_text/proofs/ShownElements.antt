@@ -219,14 +219,14 @@ element_back (Put byte) h =
     run (byte_word byte) refl refl (byte ∷ [], hex_back (byte ∷ []) (h.0, tt) (omega arith), ((h, tt), refl))
 
 -- their runs
-with_back : (e : Element) (runs : List (Run Element)) → flat_map (run_units element_rules element_wording)
-    (runs_with e runs) ≡ e ∷ flat_map (run_units element_rules element_wording) runs
+with_back : (e : Element) (runs : List (Run Element)) → flat_map (run_units element_rules element_wording (λ us. us))
+    (runs_with e runs) ≡ e ∷ flat_map (run_units element_rules element_wording (λ us. us)) runs
 with_back (Put b) [] = refl
 with_back (Put b) (Bytes bytes ∷ runs) = refl
 with_back (Put b) (Other e ∷ runs) = refl
 with_back e runs = refl
 
-runs_back : (es : List Element) → flat_map (run_units element_rules element_wording) (runs_of es) ≡ es
+runs_back : (es : List Element) → flat_map (run_units element_rules element_wording (λ us. us)) (runs_of es) ≡ es
 runs_back [] = refl
 runs_back (e ∷ es) = with_back e (runs_of es) ∙ ap (λ z. e ∷ z) (runs_back es)
 
@@ -245,6 +245,8 @@ runs_right (e ∷ es) h = with_right e (runs_of es) h.0 (runs_right es h.1)
 
 elements_printed : Printed element_rules element_wording
 elements_printed = record {
+  written = λ us. us;
+  settles = λ before us c. refl;
   name_of = element_name;
   rest_of = element_rest;
   name_from = name_from;
@@ -266,4 +268,5 @@ elements_printed = record {
 pub shown_read : (text : List ℕ) (items : List (Item Element)) → Shows text items
     → AreItems element_rules element_wording text items
 unfolding elements_printed
-shown_read text items s = all_shown_read element_rules (λ _. refl) element_wording elements_printed text items s
+shown_read text items s = all_shown_read element_rules (λ _. refl) element_wording
+    (record { none = λ _. refl; more = λ _ _ _. refl }) elements_printed text items s

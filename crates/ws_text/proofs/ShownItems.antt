@@ -1,7 +1,7 @@
 use Rattle.ws_text.proofs.Common.{◌≡◌, ℕ, ◌^◌, ◌<◌, List, [], ◌∷◌, ◌++◌, get_or, map, refl, sym, ap, subst, ◌∙◌, arith}
 use Rattle.ws_text.proofs.Common.{append_assoc, codes, AllByRecursion, flat_map, decimal, lines, append-nil, Rules}
 use Rattle.ws_text.proofs.Common.{IsChain, CanBeEncoded, CanAllBeEncoded, Opcode, Item, head_text, AreItems, IsScreen}
-use Rattle.ws_text.proofs.Common.{Leads, Wording, Run, EndsEverywhere, part}
+use Rattle.ws_text.proofs.Common.{Leads, Wording, AreOneByOne, Run, EndsEverywhere, part}
 use Rattle.ws_record.specs.Encode.{IsInRange}
 use Rattle.ws_text.specs.Shown.{ShowsItems, shown_text}
 use Rattle.ws_text.proofs.ShownBytes.{line_of, AreFrom, ended, lines_back}
@@ -15,7 +15,7 @@ use Rattle.ws_text.proofs.ItemsRead.{leads_append}
 -- Items that are shown are read back.
 
 module _ {Place U : Type 0} (rules : Rules Place U) (ends : EndsEverywhere rules) (w : Wording U)
-    (p : Printed rules w) where
+    (by_one : AreOneByOne w) (p : Printed rules w) where
   -- the units of a body may stand
   are_units : (place : Place) (us : List U) → IsChain rules place us → AllByRecursion rules.is_unit us
   are_units place [] c = tt
@@ -68,39 +68,46 @@ module _ {Place U : Type 0} (rules : Rules Place U) (ends : EndsEverywhere rules
   other_first : (line : List ℕ) → (get_or line 0 0 ≡ 115 → ⊥) → IsScreen line → ⊥
   other_first line h e = h (ap (λ z. get_or z 0 0) e)
 
+  abbrev units_of : List (Run U) → List U
+  units_of runs = flat_map (run_units rules w p.written) runs
+
   leads_runs : (flags : ℕ) (opcode : Opcode) (before : List (Item U)) (us : List U) (runs : List (Run U))
-      → AllByRecursion (IsRunRight rules w) runs → CanBeEncoded rules (made flags opcode (us ++ flat_map
-      (run_units rules w) runs))
+      → AllByRecursion (IsRunRight rules w) runs
+      → CanBeEncoded rules (made flags opcode (us ++ w.behind us (units_of runs)))
       → Leads rules w (run_lines runs) (before ++ made flags opcode us ∷ [])
-      (before ++ made flags opcode (us ++ flat_map (run_units rules w) runs) ∷ [])
-  leads_runs flags opcode before us [] h can = ap (λ z. before ++ made flags opcode z ∷ []) (append-nil us)
+      (before ++ made flags opcode (us ++ w.behind us (units_of runs)) ∷ [])
+  leads_runs flags opcode before us [] h can =
+      ap (λ z. before ++ made flags opcode z ∷ []) (ap (λ z. us ++ z) (by_one.none us) ∙ append-nil us)
   leads_runs flags opcode before us (run ∷ runs) h can =
-      let same = append_assoc us (run_units rules w run) (flat_map (run_units rules w) runs) in
-      let all = subst (λ (z : List U). CanBeEncoded rules (made flags opcode z)) (sym same) can in (
-        before ++ made flags opcode (us ++ run_units rules w run) ∷ [],
+      let first = w.behind us (run_units rules w p.written run) in
+      let more = w.behind (us ++ first) (units_of runs) in
+      let same : us ++ w.behind us (units_of (run ∷ runs)) ≡ (us ++ first) ++ more =
+      ap (λ z. us ++ z) (by_one.more us (run_units rules w p.written run) (units_of runs))
+      ∙ sym (append_assoc us first more) in
+      let all = subst (λ (z : List U). CanBeEncoded rules (made flags opcode z)) same can in (
+        before ++ made flags opcode (us ++ first) ∷ [],
         other_first (line_of (run_words rules w p run)) (λ e. omega (arith, e)),
         (
-          part.Units (run_units rules w run),
+          part.Units (run_units rules w p.written run),
           run_says rules w p run h.0,
           (
             before,
             record { flags = flags; opcode = opcode; body = us },
             refl,
             refl,
-            front_encoded rules ends (record { flags = flags; opcode = opcode; body = [] })
-                (us ++ run_units rules w run) (flat_map (run_units rules w) runs) all,
+            front_encoded rules ends (record { flags = flags; opcode = opcode; body = [] }) (us ++ first) more all,
           ),
         ),
-        subst (λ (z : List U). Leads rules w (run_lines runs) (before ++ made flags opcode (us
-            ++ run_units rules w run) ∷ [])
-            (before ++ made flags opcode z ∷ [])) same
-            (leads_runs flags opcode before (us ++ run_units rules w run) runs h.1 all),
+        subst (λ (z : List U). Leads rules w (run_lines runs) (before ++ made flags opcode (us ++ first) ∷ [])
+            (before ++ made flags opcode z ∷ [])) (sym same)
+            (leads_runs flags opcode before (us ++ first) runs h.1 all),
       )
 
   leads_item : (place : ℕ) (x : Item U) (before : List (Item U)) → place < 2 ^ 64
       → CanBeEncoded rules x → IsInRange x → Leads rules w (printed_lines place x) before (before ++ x ∷ [])
   leads_item place (an_item.Record r) before at can range =
-      let same = p.runs_back r.body in
+      let same : w.behind [] (units_of (p.runs_of r.body)) ≡ r.body =
+      ap (λ z. w.behind [] z) (p.runs_back r.body) ∙ p.settles [] r.body can.0.chain in
       let all = subst (λ (z : List U). CanBeEncoded rules (made r.flags r.opcode z)) (sym same) can in (
         before ++ made r.flags r.opcode [] ∷ [],
         other_first (line_of (head_words place r.flags r.opcode)) (λ e. omega (arith, e)),

@@ -2,6 +2,7 @@ use Rattle.ws_text.proofs.Common.{◌≡◌, inl, ℕ, ◌^◌, ◌<◌, List, [
 use Rattle.ws_text.proofs.Common.{AllByRecursion, flat_map, decimal, encode_upper, Rules, IsData, two_bytes}
 use Rattle.ws_text.proofs.Common.{opcode_byte, Opcode, Item, Record, Telnet, head_text, Wording, Run, Bytes, Other}
 use Rattle.ws_text.proofs.Common.{IsLine, AreUnits, run, long, item, indented, worded, part}
+use Rattle.ws_code.specs.Code.{IsChain, place_after}
 use Rattle.ws_text.specs.ItemLines.{telnet_text}
 use Rattle.ws_record.proofs.Encodings.{opcode_fits}
 use Rattle.ws_text.proofs.ShownBytes.{line_of, AreFrom, AreWords, literal, words_back, line_from, is_text}
@@ -12,25 +13,30 @@ use Rattle.ws_record.specs.declared.record.Item.TheVariants as an_item
 -- Printed lines are read back.
 
 module _ {Place U : Type 0} (rules : Rules Place U) (w : Wording U) where
-  abbrev pub run_units : Run U → List U
-  run_units (Bytes bytes) = map w.byte bytes
-  run_units (Other u) = u ∷ []
+  -- the units that a run's line says, each as it is written
+  abbrev pub run_units : (List U → List U) → Run U → List U
+  run_units written (Bytes bytes) = map w.byte bytes
+  run_units written (Other u) = written (u ∷ [])
 
   -- it can be printed
   abbrev pub IsRunRight : Run U → Type 0
   IsRunRight (Bytes bytes) = (0 < length bytes) × AllByRecursion IsData bytes
   IsRunRight (Other u) = rules.is_unit u
 
-  -- How units are printed. Each is a name and words, which say it; those that are bytes go on in runs.
+  -- How units are printed. Each is a name and words, which say it as it is written; those that are bytes go on in
+  -- runs. Units that may stand somewhere are what those that are written are there.
   pub record Printed : Type 1 where
+    pub written : List U → List U
+    pub settles : (before us : List U) → IsChain rules (place_after rules rules.first before) us
+        → w.behind before (written us) ≡ us
     pub name_of : U → List ℕ
     pub rest_of : U → List (List ℕ)
     pub name_from : (u : U) → AreFrom 33 (name_of u)
     pub rest_from : (u : U) → rules.is_unit u → AreWords (rest_of u)
-    pub says : (u : U) → rules.is_unit u → AreUnits w (name_of u) (rest_of u) (u ∷ [])
+    pub says : (u : U) → rules.is_unit u → AreUnits w (name_of u) (rest_of u) (written (u ∷ []))
     pub bytes_from : AreFrom 33 w.bytes
     pub runs_of : List U → List (Run U)
-    pub runs_back : (us : List U) → flat_map run_units (runs_of us) ≡ us
+    pub runs_back : (us : List U) → flat_map (run_units written) (runs_of us) ≡ written us
     pub runs_right : (us : List U) → AllByRecursion rules.is_unit us → AllByRecursion IsRunRight (runs_of us)
     pub run_line : Run U → List ℕ
     pub bytes_joined : (bytes : List ℕ) → run_line (Bytes bytes)
@@ -66,7 +72,8 @@ module _ {Place U : Type 0} (rules : Rules Place U) (w : Wording U) (p : Printed
   run_rest_from (Bytes bytes) h = (hex_from bytes (data_are_bytes bytes h.1), tt)
   run_rest_from (Other u) h = p.rest_from u h
 
-  run_back : (r : Run U) → IsRunRight rules w r → AreUnits w (run_name r) (run_rest r) (run_units rules w r)
+  run_back : (r : Run U) → IsRunRight rules w r → AreUnits w (run_name r) (run_rest r)
+      (run_units rules w p.written r)
   run_back (Bytes bytes) h =
       run (encode_upper bytes) refl refl (bytes, hex_back bytes (data_are_bytes bytes h.1) h.0, (h.1, refl))
   run_back (Other u) h = p.says u h
@@ -78,10 +85,10 @@ module _ {Place U : Type 0} (rules : Rules Place U) (w : Wording U) (p : Printed
   run_line_from r h = line_from [] ([] ∷ run_name r ∷ run_rest r) tt (run_words_from r h)
 
   pub run_says : (r : Run U) → IsRunRight rules w r → IsLine w (line_of (run_words r)) (part.Units
-      (run_units rules w r))
+      (run_units rules w p.written r))
   run_says r h = (
     is_text (line_of (run_words r)) (run_line_from r h),
-    worded (indented (run_name r) (run_rest r) (run_units rules w r)
+    worded (indented (run_name r) (run_rest r) (run_units rules w p.written r)
         (words_back [] ([] ∷ run_name r ∷ run_rest r) tt (run_words_from r h)) (run_back r h) refl),
   )
 

@@ -19,24 +19,24 @@ two_bytes_of w h = ap (λ n. n ∷ w % 256 ∷ []) (omega arith)
 
 -- The lines of units, one unit after another.
 
-module _ {U : Type 0} (is_byte : U → Bool) (line : Bool → U → List ℕ) where
+module _ {S U : Type 0} (is_byte : U → S) (line : S → U → List ℕ) where
   -- whether the last unit is a byte, and of no unit what was so before
-  abbrev pub is_byte_last : Bool → List U → Bool
+  abbrev pub is_byte_last : S → List U → S
   is_byte_last before [] = before
   is_byte_last before (u ∷ us) = is_byte_last (is_byte u) us
 
   -- the lines that units add to those of the units before them, of which the last is a byte or not
-  abbrev pub lines_behind : Bool → List U → List ℕ
+  abbrev pub lines_behind : S → List U → List ℕ
   lines_behind before [] = []
   lines_behind before (u ∷ us) = line before u ++ lines_behind (is_byte u) us
 
-  pub lines_behind_more : (before : Bool) (us : List U) (u : U) → lines_behind before (us ++ u ∷ [])
+  pub lines_behind_more : (before : S) (us : List U) (u : U) → lines_behind before (us ++ u ∷ [])
       ≡ lines_behind before us ++ line (is_byte_last before us) u
   lines_behind_more before [] u = append-nil (line before u)
   lines_behind_more before (x ∷ us) u = ap (λ z. line before x ++ z) (lines_behind_more (is_byte x) us u)
       ∙ sym (append_assoc (line before x) (lines_behind (is_byte x) us) (line (is_byte_last (is_byte x) us) u))
 
-  pub is_byte_last_more : (before : Bool) (us : List U) (u : U) → is_byte_last before (us ++ u ∷ []) ≡ is_byte u
+  pub is_byte_last_more : (before : S) (us : List U) (u : U) → is_byte_last before (us ++ u ∷ []) ≡ is_byte u
   is_byte_last_more before [] u = refl
   is_byte_last_more before (x ∷ us) u = is_byte_last_more (is_byte x) us u
 

@@ -20,4 +20,9 @@ IsOnePart name words (Byte byte) = ⊥
 
 -- how the parts of a station's answers are written
 abbrev pub answer_wording : Wording AnswerPart
-answer_wording = record { bytes = codes "BYTES"; byte = λ b. Byte b; IsOne = IsOnePart }
+answer_wording = record {
+  bytes = codes "BYTES";
+  byte = λ b. Byte b;
+  IsOne = IsOnePart;
+  behind = λ before units. units;
+}

@@ -1,6 +1,6 @@
 -- The words of a line that is one element: a name and what stands behind it.
 
-use Rattle.std.specs.Prelude.{◌≡◌, ℕ, ◌<◌, List, [], ◌∷◌, ◌++◌, Option, Some, None, codes, ◌⊎◌}
+use Rattle.std.specs.Prelude.{◌≡◌, ℕ, List, [], ◌∷◌, ◌++◌, Option, Some, None, codes, ◌⊎◌}
 use Rattle.ws_code.specs.DataByte.{IsData}
 use Rattle.ws_stream.specs.FieldOrder.{FieldOrder, IsFieldOrder}
 use Rattle.ws_stream.specs.Parts.{IsSoh, IsEraseList}
@@ -83,4 +83,9 @@ IsOneElement name words e = (kind : Kind) × (look_up name kinds ≡ Some kind) 
 
 -- how a host's commands and orders are written
 abbrev pub element_wording : Wording Element
-element_wording = record { bytes = codes "PUT"; byte = λ b. element.Put b; IsOne = IsOneElement }
+element_wording = record {
+  bytes = codes "PUT";
+  byte = λ b. element.Put b;
+  IsOne = IsOneElement;
+  behind = λ before units. units;
+}

@@ -1,6 +1,10 @@
 pub mod AnswerLines
 pub mod AnswerWords
 pub mod ElementWords
+pub mod ExtendedAnswerLines
+pub mod ExtendedLines
+pub mod ExtendedWords
+pub mod ExtendedWordLaws
 pub mod FieldLaws
 pub mod FirstLine
 pub mod ItemLines

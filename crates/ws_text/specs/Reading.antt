@@ -11,7 +11,7 @@ use Rattle.ws_text.specs.declared.gathered.Gathered.{Gathered}
 use Rattle.ws_text.specs.declared.line.Found.{Found}
 use Rattle.ws_text.specs.declared.open_record.OpenRecord.{OpenRecord}
 use Rattle.ws_text.specs.declared.reading.Reading.{Reading}
-use Rattle.ws_text.specs.Items.{Adds, with_more}
+use Rattle.ws_text.specs.Items.{Adds, with_line}
 use Rattle.ws_text.specs.Parts.{Part}
 use Rattle.ws_text.specs.Found.{FoundSays}
 use Rattle.ws_text.specs.Wording.{Wording}
@@ -42,11 +42,11 @@ module _ {Place U : Type 0} (rules : Rules Place U) where
     pub follows : Follows rules r.body open_.place open_.size
 
   -- Units that are so stand behind those of a record; or no units that are so can stand there.
-  abbrev pub Puts : (List U → Type 0) → OpenRecord Place U → OpenRecord Place U → Bool → Type 0
-  Puts Are old new true = (units : List U) × Are units
-      × ((r : Record U) → IsOpen old r → IsOpen new (with_more r units))
-  Puts Are old new false = (r : Record U) (units : List U) → IsOpen old r → Are units
-      → ¬ CanBeEncoded rules (an_item.Record (with_more r units))
+  abbrev pub Puts : Wording U → (List U → Type 0) → OpenRecord Place U → OpenRecord Place U → Bool → Type 0
+  Puts w Are old new true = (units : List U) × Are units
+      × ((r : Record U) → IsOpen old r → IsOpen new (with_line w r units))
+  Puts w Are old new false = (r : Record U) (units : List U) → IsOpen old r → Are units
+      → ¬ CanBeEncoded rules (an_item.Record (with_line w r units))
 
   -- the last item is the open record, or no record
   abbrev pub EndsIn : List (Item U) → Option (OpenRecord Place U) → List (Item U) → Type 0
@@ -66,4 +66,4 @@ module _ {Place U : Type 0} (rules : Rules Place U) where
 
   -- what was found in a line makes these items of those before it
   abbrev pub FoundAdds : Wording U → Found U → List (Item U) → List (Item U) → Type 0
-  FoundAdds w found from to = (says : Part U) × FoundSays w found says × Adds rules says from to
+  FoundAdds w found from to = (says : Part U) × FoundSays w found says × Adds rules w says from to

@@ -10,7 +10,10 @@ use Rattle.ws_stream.specs.AnswerParts.{answer_rules}
 use Rattle.ws_stream.specs.Elements.{element_rules}
 use Rattle.ws_stream.specs.declared.answer_part.AnswerPart.{AnswerPart}
 use Rattle.ws_stream.specs.declared.element.Element.{Element}
+use Rattle.ws_extended.specs.ExtendedElements.{extended_rules}
+use Rattle.ws_extended.specs.declared.extended_element.ExtendedElement.{ExtendedElement}
 use Rattle.ws_text.specs.AnswerLines.{answer_text}
+use Rattle.ws_text.specs.ExtendedLines.{extended_item_text}
 use Rattle.ws_text.specs.ItemLines.{item_text}
 use Rattle.ws_text.specs.Items.{EndsHere}
 
@@ -38,3 +41,7 @@ Shows text items = ShowsItems element_rules item_text text items
 -- a text that shows a station's items
 abbrev pub ShowsAnswers : List ℕ → List (Item AnswerPart) → Type 0
 ShowsAnswers text items = ShowsItems answer_rules answer_text text items
+
+-- a text that shows a live host's items
+abbrev pub ShowsExtended : List ℕ → List (Item ExtendedElement) → Type 0
+ShowsExtended text items = ShowsItems extended_rules extended_item_text text items

@@ -128,17 +128,17 @@ says_same Sf words e f a b = single (λ x. element.Sf x) a.0 b.0 e f (one_field 
 pub some_same : {A : Type 0} (x y : A) (o : Option A) → o ≡ Some x → o ≡ Some y → x ≡ y
 some_same x y o e f = let both : Some x ≡ Some y = sym e ∙ f in cc
 
-one_same : (name : List ℕ) (words : List (List ℕ)) (e f : Element) → IsOneElement name words e
+pub one_same : (name : List ℕ) (words : List (List ℕ)) (e f : Element) → IsOneElement name words e
     → IsOneElement name words f → e ≡ f
 one_same name words e f a b =
     let kind = some_same a.0 b.0 (look_up name kinds) a.1 b.1 in
     says_same b.0 words e f (subst (λ (z : Kind). Says z words e) kind a.2) b.2
 
 -- those of a host's commands and orders
-text_is_no_kind : (words : List (List ℕ)) (e : Element) → IsOneElement (codes "TEXT") words e → ⊥
+pub text_is_no_kind : (words : List (List ℕ)) (e : Element) → IsOneElement (codes "TEXT") words e → ⊥
 text_is_no_kind words e h = cc h.1
 
-put_is_no_kind : (words : List (List ℕ)) (e : Element) → IsOneElement (codes "PUT") words e → ⊥
+pub put_is_no_kind : (words : List (List ℕ)) (e : Element) → IsOneElement (codes "PUT") words e → ⊥
 put_is_no_kind words e h = cc h.1
 
 -- a line of an element's words names one element or one run of bytes

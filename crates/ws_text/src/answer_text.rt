@@ -43,14 +43,20 @@ fn put_parts<S: Sink>(sink: &mut S, output: Output, parts: &[AnswerPart]) -> Out
     output
 }
 
-fn is_byte(part: AnswerPart) -> bool
+/// Whether the part is a byte of a field.
+pub fn is_byte(part: AnswerPart) -> bool
     ensures { result ≡ Shown.is_byte part }
 {
     matches!(part, AnswerPart::Byte(_))
 }
 
-// Writes a line's end, two blanks and the part; a byte behind a byte goes on with that one's line.
-fn put_line<S: Sink>(sink: &mut S, output: Output, is_behind_byte: bool, part: AnswerPart) -> Output
+/// Writes a line's end, two blanks and the part; a byte behind a byte goes on with that one's line.
+pub fn put_line<S: Sink>(
+    sink: &mut S,
+    output: Output,
+    is_behind_byte: bool,
+    part: AnswerPart,
+) -> Output
     ensures { Prints S.takes S.failures sink.old sink.new output result
         (Shown.part_line is_behind_byte part) }
 {

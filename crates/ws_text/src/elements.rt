@@ -3,8 +3,11 @@ ghost use Rattle.std.specs.Str.Lines.{lines};
 ghost use Rattle.ws_record.specs.declared.record.Record.{Record as ARecord};
 ghost use Rattle.ws_stream.specs.Elements.{element_rules};
 ghost use Rattle.ws_stream.specs.declared.element.Element.{Element as AnElement};
+ghost use Rattle.ws_extended.specs.ExtendedElements.{extended_rules};
+ghost use Rattle.ws_extended.specs.declared.extended_element.ExtendedElement.{ExtendedElement as AnExtended};
 ghost use Rattle.ws_text.specs.BodyLines.{AddUnits, IsAddFault, new_record};
 ghost use Rattle.ws_text.specs.ElementWords.{element_wording};
+ghost use Rattle.ws_text.specs.ExtendedWords.{extended_wording};
 ghost use Rattle.ws_text.specs.Items.{with_more};
 ghost use Rattle.ws_text.specs.Reading.{IsOpen, Puts};
 ghost use Rattle.ws_text.specs.Parts.{Part as part};
@@ -18,6 +21,7 @@ use crate::runs::put_units;
 use crate::worded::Worded;
 use std::alloc::Global;
 use ws_code::List;
+use ws_extended::{ExtendedCommands, ExtendedElement};
 use ws_record::Opcode;
 use ws_stream::{Commands, Element};
 
@@ -39,6 +43,25 @@ pub fn read_elements(alloc: Global, opcode: Opcode, text: &[u8]) -> Result<List<
         → MatchResult result (λ elements. elements ≡ r.body) (λ fault. fault ≡ TextFault.Memory) }
 {
     read_body::<Commands>(alloc, opcode, text)
+}
+
+/// The same for a live host's elements, as `put_extended_item` prints them: seven commands beside those of the profile,
+/// and behind a line `WRITE-ERROR`, up to the next command, `IC`, `PUT` and `TEXT` of the error's text (SC30-3533,
+/// commands).
+pub fn read_extended_elements(
+    alloc: Global,
+    opcode: Opcode,
+    text: &[u8],
+) -> Result<List<ExtendedElement>, TextFault>
+    ensures ok { IfOk result (λ elements. AddUnits extended_rules extended_wording (lines text.now)
+        (new_record opcode) (with_more (new_record opcode) elements)) }
+    ensures fault { IfErr result
+        (IsAddFault extended_rules extended_wording (lines text.now) (new_record opcode)) }
+    ensures only { (r : ARecord AnExtended)
+        → AddUnits extended_rules extended_wording (lines text.now) (new_record opcode) r
+        → MatchResult result (λ elements. elements ≡ r.body) (λ fault. fault ≡ TextFault.Memory) }
+{
+    read_body::<ExtendedCommands>(alloc, opcode, text)
 }
 
 // The units of a record's body, line by line. Where a growth was refused, the lines behind it are read all the same.
@@ -72,7 +95,7 @@ fn read_body<B: Worded>(
 // Puts the units that the line says behind those of the record; `false` where none that it says can stand there.
 fn put_line<B: Worded>(begun: &mut OpenRecord<B::Place, B::Unit>, line: &[u8]) -> bool
     requires { (r : ARecord B.Unit) × IsOpen B.rules begun.old r }
-    ensures { Puts B.rules (λ units. IsLine B.wording line.now (part.Units units))
+    ensures { Puts B.rules B.wording (λ units. IsLine B.wording line.now (part.Units units))
         begun.old begun.new result }
 {
     match read_line::<B>(line) {

@@ -126,14 +126,20 @@ fn put_elements<S: Sink>(sink: &mut S, output: Output, elements: &[Element]) -> 
     output
 }
 
-fn is_put(element: &Element) -> bool
+/// Whether the element is a byte for a cell.
+pub fn is_put(element: &Element) -> bool
     ensures { result ≡ Shown.is_put element.now }
 {
     matches!(element, Element::Put(_))
 }
 
-// Writes a line's end, two blanks and the element; a byte behind a byte goes on with that one's line.
-fn put_line<S: Sink>(sink: &mut S, output: Output, is_behind_put: bool, element: &Element) -> Output
+/// Writes a line's end, two blanks and the element; a byte behind a byte goes on with that one's line.
+pub fn put_line<S: Sink>(
+    sink: &mut S,
+    output: Output,
+    is_behind_put: bool,
+    element: &Element,
+) -> Output
     ensures { Prints S.takes S.failures sink.old sink.new output result
         (Shown.element_line is_behind_put element.now) }
 {

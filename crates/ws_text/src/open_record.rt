@@ -41,8 +41,9 @@ pub fn begin<B: Body>(alloc: Global, flags: u16, opcode: Opcode) -> OpenRecord<B
 /// Puts the unit behind those of the record; `false` where it can't stand there.
 pub fn put_unit<B: Worded>(begun: &mut OpenRecord<B::Place, B::Unit>, unit: B::Unit) -> bool
     requires { (r : ARecord B.Unit) × IsOpen B.rules begun.old r }
-    ensures { Puts B.rules (λ units. units ≡ unit ∷ []) begun.old begun.new result }
+    ensures { Puts B.rules B.wording (λ units. units ≡ unit ∷ []) begun.old begun.new result }
 {
+    let unit = B::settle(begun.place, unit);
     if !B::may_follow(begun.place, &unit) {
         return false;
     }

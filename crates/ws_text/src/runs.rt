@@ -18,7 +18,7 @@ pub fn put_units<B: Worded>(
     units: LineUnits<'_, B::Unit>,
 ) -> bool
     requires { (r : ARecord B.Unit) × IsOpen B.rules begun.old r }
-    ensures { Puts B.rules (Are B.wording units.entry) begun.old begun.new result }
+    ensures { Puts B.rules B.wording (Are B.wording units.entry) begun.old begun.new result }
 {
     match units {
         LineUnits::One(unit) => put_unit::<B>(begun, unit),
@@ -30,7 +30,7 @@ pub fn put_units<B: Worded>(
 // The same for a run of bytes in hex.
 fn put_run<B: Worded>(begun: &mut OpenRecord<B::Place, B::Unit>, hex: &str) -> bool
     requires { (r : ARecord B.Unit) × IsOpen B.rules begun.old r }
-    ensures { Puts B.rules (IsRun B.wording hex.now) begun.old begun.new result }
+    ensures { Puts B.rules B.wording (IsRun B.wording hex.now) begun.old begun.new result }
 {
     let mut rest = hex.as_bytes();
     if rest.is_empty() {
@@ -49,7 +49,7 @@ fn put_run<B: Worded>(begun: &mut OpenRecord<B::Place, B::Unit>, hex: &str) -> b
 // The same for characters, each of which has a byte in code page 037.
 fn put_typed<B: Worded>(begun: &mut OpenRecord<B::Place, B::Unit>, text: &str) -> bool
     requires { (r : ARecord B.Unit) × IsOpen B.rules begun.old r }
-    ensures { Puts B.rules (AreTyped B.wording text.now) begun.old begun.new result }
+    ensures { Puts B.rules B.wording (AreTyped B.wording text.now) begun.old begun.new result }
 {
     for character in text.chars() {
         if !put_byte::<B>(begun, from_char(character)) {
@@ -62,7 +62,7 @@ fn put_typed<B: Worded>(begun: &mut OpenRecord<B::Place, B::Unit>, text: &str) -
 // The same for a byte, if there is one.
 fn put_byte<B: Worded>(begun: &mut OpenRecord<B::Place, B::Unit>, byte: Option<u8>) -> bool
     requires { (r : ARecord B.Unit) × IsOpen B.rules begun.old r }
-    ensures { Puts B.rules
+    ensures { Puts B.rules B.wording
         (λ units. (b : ℕ) × (byte ≡ Some b) × IsData b × (units ≡ B.wording.byte b ∷ []))
         begun.old begun.new result }
 {

@@ -49,8 +49,9 @@ fn lifted(place: ExtendedPlace, element: Element) -> ExtendedElement
 
 // A byte that is an element by itself where orders and data of the profile may stand.
 #[inline(always)]
-fn data_element(place: ExtendedPlace, byte: u8) -> Option<ExtendedElement>
-    ensures { IfSome result (IsSpelled extended_rules place (byte ∷ [])) }
+pub(super) fn data_element(place: ExtendedPlace, byte: u8) -> Option<ExtendedElement>
+    ensures spelled { IfSome result (IsSpelled extended_rules place (byte ∷ [])) }
+    ensures behind { IfSome result (λ unit. extended_rules.after unit ≡ place) }
 {
     match place {
         ExtendedPlace::InProfile(Place::Anything) => {

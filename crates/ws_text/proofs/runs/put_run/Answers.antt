@@ -6,20 +6,20 @@ use Rattle.ws_text.proofs.runs.put_run.Goals as goal
 
 pub loop-rest-init : goal.loop-rest-init
 loop-rest-init g c =
-    put_none g.B.Code.rules _ c.args.begun.now
+    put_none g.B.Code.rules g.B.Worded.wording g.met.B.Worded.one_by_one _ c.args.begun.now
     (run_begun g.B.Worded.wording c.args.hex.now c.as_bytes-rest.result.now c.as_bytes-rest.ensures.value)
 
 pub returns-then-not-put_byte : goal.returns-then-not-put_byte
 returns-then-not-put_byte g c = λ r all is are.
-    byte_not_put g.B.Code.rules g.B.Worded.wording g.met.B.Worded.ends c.put_byte.new.begun _ c.loop-rest.invariant
-    c.if-not-put_byte.ensures all
+    byte_not_put g.B.Code.rules g.B.Worded.wording g.met.B.Worded.one_by_one g.met.B.Worded.ends c.put_byte.new.begun _
+    c.loop-rest.invariant c.if-not-put_byte.ensures all
     (next_of_run g.B.Worded.wording c.args.hex.now c.loop-rest.rest.now _
     (not_nil_by c.loop-rest.rest.now _ c.is_empty-in-loop-rest.ensures c.loop-rest-test.true)
     c.first_byte-byte.ensures.byte c.loop-rest.invariant.so are) r is
 
 pub loop-rest-preserved : goal.loop-rest-preserved
 loop-rest-preserved g c =
-    byte_put g.B.Code.rules g.B.Worded.wording _ c.loop-rest.invariant c.if-not-put_byte.ensures
+    byte_put g.B.Code.rules g.B.Worded.wording g.met.B.Worded.one_by_one _ c.loop-rest.invariant c.if-not-put_byte.ensures
     (λ b read. run_more_by g.B.Worded.wording _ b c.loop-rest.invariant.so c.first_byte-byte.ensures.byte read
     c.first_byte-byte.ensures.behind)
 

@@ -1,0 +1,20 @@
+-- A run of bytes through the machine of `ExtendedCommands`.
+use Rattle.ws_code.specs.Run.{Reading}
+use Rattle.ws_code.specs.declared.keep.Kept.{Kept}
+use Rattle.ws_code.specs.declared.keep.Kept.TheVariants.{GoOn, Enough, NoMemory}
+use Rattle.ws_code.specs.declared.run.End.{End}
+use Rattle.ws_code.specs.declared.run.End.TheVariants.{More, Enough as EndsEnough, NoMemory as EndsNoMemory}
+use Rattle.ws_stream.specs.UnfinishedElement.{unfinished_of}
+use Rattle.ws_extended.specs.ExtendedMachine.{begun_in}
+use Rattle.ws_extended.specs.declared.extended_commands.ExtendedCommands.{ExtendedCommands}
+use Rattle.ws_extended.specs.declared.extended_place.ExtendedPlace.{ExtendedPlace}
+
+-- where the element stands that is read, and its bytes so far
+abbrev pub reading_by : ExtendedCommands → Reading ExtendedPlace
+reading_by m = record { place = m.place; begun = begun_in m.phase (unfinished_of m.inner) }
+
+-- how a run goes on, by what became of an element
+abbrev pub kept_end : Kept → End
+kept_end GoOn = More
+kept_end Enough = EndsEnough
+kept_end NoMemory = EndsNoMemory

@@ -1,0 +1,16 @@
+use crate::ExtendedPlace;
+
+/// Where a part of what a live host's station sends stands. It says which parts may stand there.
+#[derive(Clone, Copy, Debug, PartialEq, Eq)]
+pub enum ExtendedAnswerPlace {
+    /// What begins a body.
+    Beginning,
+    /// Bytes and addresses of fields.
+    Fields,
+    /// A byte of a reply, behind which so many more stand.
+    InReply(u8),
+    /// Behind a reply: another one.
+    Replied,
+    /// The elements of a saved screen that may stand there.
+    InSaved(ExtendedPlace),
+}

@@ -1,0 +1,27 @@
+use Rattle.std.proofs.Common.{ap, length, refl, sym, ◌∙◌}
+use Rattle.ws_screen.specs.ScreenParts.{ScreenParts}
+use Rattle.ws_extended.specs.ExtendedStates.{state_after_reset}
+use Rattle.ws_extended_station.specs.ExtendedDisplays.{with_state}
+use Rattle.ws_extended_station.specs.contracts.extended_display.ExtendedDisplay.{the_view}
+use Rattle.ws_extended_station.proofs.Pressing.{key_pressed}
+use Rattle.ws_extended_station.proofs.extended_display.ExtendedDisplayStationDisplay.press.Goals as goal
+
+pub returns-in-Profile-clause-pressed : goal.returns-in-Profile-clause-pressed
+returns-in-Profile-clause-pressed c = rw c.in-Profile.is (rw (← c.self.view_is) (λ side given.
+    key_pressed (the_view c.self.inside) side given c.in-Profile.key c.press.new.self c.press.result
+    (ap (λ (w : ScreenParts). length w.cells) (sym c.screen.ensures) ∙ c.known.ensures.legal.size)
+    c.press.ensures.held c.press.ensures.pressed c.press.ensures.screen
+    c.press.ensures.unchanged))
+
+pub returns-in-Reset-clause-pressed : goal.returns-in-Reset-clause-pressed
+returns-in-Reset-clause-pressed c = rw c.in-Reset.is (rw (← c.self.view_is) (λ side given. (
+  with_state side (state_after_reset side.happened.state),
+  refl,
+  record {
+    options = refl;
+    given = record {
+      shows = c.reset.ensures.reset side.happened.state given.shows;
+      terminal_is = given.terminal_is;
+    };
+  },
+)))

@@ -1,0 +1,45 @@
+-- The profile on the display that live hosts use: what its records, keys and acts are there, and what they do.
+use Rattle.std.specs.Prelude.{◌≡◌, ℕ, List, None, map}
+use Rattle.ws_record.specs.declared.record.Record.{Record}
+use Rattle.ws_record.specs.declared.record.Item.{Item}
+use Rattle.ws_record.specs.declared.record.Item.TheVariants.{Record as RecordItem, Telnet as TelnetItem}
+use Rattle.ws_stream.specs.declared.answer_part.AnswerPart.{AnswerPart}
+use Rattle.ws_stream.specs.declared.element.Element.{Element}
+use Rattle.ws_keys.specs.declared.key.Key.{Key}
+use Rattle.ws_extended.specs.declared.extended_element.ExtendedElement.{ExtendedElement}
+use Rattle.ws_extended.specs.declared.extended_element.ExtendedElement.TheVariants.{Profile}
+use Rattle.ws_session.specs.Acts.{Act, Came, Did}
+use Rattle.ws_session.specs.Displays.{SideOn}
+use Rattle.ws_session.specs.Reaction.{Reaction, Refuses, GoesOn}
+use Rattle.ws_session.specs.StationSide.{StationSide}
+use Rattle.ws_extended_station.specs.Bytewise.{by_bytes}
+use Rattle.ws_extended_station.specs.ExtendedDisplays.{ExtendedSide, with_profile}
+use Rattle.ws_extended_station.specs.declared.extended_key.ExtendedKey.{ExtendedKey}
+use Rattle.ws_extended_station.specs.declared.extended_key.ExtendedKey.TheVariants.{Profile as ProfileKey}
+
+-- a record of the profile, an item of its streams, and an act at its station
+abbrev pub record_there : Record Element → Record ExtendedElement
+record_there r = record { flags = r.flags; opcode = r.opcode; body = map Profile r.body }
+
+abbrev pub item_there : Item Element → Item ExtendedElement
+item_there (RecordItem r) = RecordItem (record_there r)
+item_there (TelnetItem t) = TelnetItem t
+
+abbrev pub act_there : Act Key → Act ExtendedKey
+act_there (Came byte) = Came byte
+act_there (Did key) = Did (ProfileKey key)
+
+-- no error stands
+abbrev pub NoErrorStands : ExtendedSide → Type 0
+NoErrorStands s = s.happened.state.kept ≡ None
+
+-- what a station of the profile does, there: it refuses for the same reason, or goes on with the same events, and
+-- writes the same, told by its bytes
+abbrev pub as_reacted : ExtendedSide → Reaction StationSide (List (Item AnswerPart))
+    → Reaction ExtendedSide (List (Item ℕ))
+as_reacted s (Refuses reason) = Refuses reason
+as_reacted s (GoesOn next items) = GoesOn (with_profile s next) (map by_bytes items)
+
+-- these items have arrived, and it stands on this side
+abbrev pub HasCome : {U H : Type 0} → List (Item U) → SideOn H → List ℕ → List (Item U) → SideOn H → Type 0
+HasCome arrived next bytes items side = (items ≡ arrived) × (side ≡ next)

@@ -1,0 +1,113 @@
+-- The display that live hosts use, as a station that stands on it sees it.
+use Rattle.std.specs.Prelude.{ℕ, ◌≡◌, ◌&&◌, List, [], Bool, false, Option, Some, None, is_some}
+use Rattle.std.specs.Prelude.{if◌then◌else◌}
+use Rattle.ws_code.specs.declared.reason.Reason.{Reason}
+use Rattle.ws_nego.specs.declared.terminal.TerminalType.{TerminalType}
+use Rattle.ws_record.specs.RawBody.{raw_rules}
+use Rattle.ws_record.specs.declared.record.Record.{Record}
+use Rattle.ws_record.specs.declared.record.Item.{Item}
+use Rattle.ws_screen.specs.Bodies.{screen_of}
+use Rattle.ws_screen.specs.Events.{History}
+use Rattle.ws_keys.specs.declared.key.KeyRefusal.TheVariants.{Locked}
+use Rattle.ws_extended.specs.ExtendedKeys.{waits_for_reset}
+use Rattle.ws_extended.specs.ExtendedStates.{ExtendedState, state_after_reset}
+use Rattle.ws_extended.specs.ExtendedViews.{ExtendedParts, Shows}
+use Rattle.ws_extended.specs.declared.extended_element.ExtendedElement.{ExtendedElement}
+use Rattle.ws_session.specs.declared.key_fault.KeyFault.TheVariants.{Key as Refused}
+use Rattle.ws_session.specs.Displays.{DisplayOf, SideOn, KeyReactionOn, RefusesKey, Silent, Answers, Signals}
+use Rattle.ws_session.specs.Reaction.{Reaction, Refuses, GoesOn}
+use Rattle.ws_session.specs.StationSide.{StationSide, answer_record, profile}
+use Rattle.ws_extended_station.specs.Bytewise.{by_bytes}
+use Rattle.ws_extended_station.specs.ExtendedRecords.{record_fault, record_writes, state_after_record}
+use Rattle.ws_extended_station.specs.declared.extended_key.ExtendedKey.{ExtendedKey}
+use Rattle.ws_extended_station.specs.declared.extended_key.ExtendedKey.TheVariants.{Profile, Reset}
+use Rattle.ws_extended_station.specs.declared.extended_reply.ExtendedReply.{ExtendedReply}
+use Rattle.ws_extended_station.specs.declared.extended_reply.ExtendedReply.TheVariants.{Bytes, Kept as IsKept}
+
+-- a display that live hosts use, its terminal, and the bytes that its last record had it write
+pub record DisplayParts : Type 0 where
+  pub display : ExtendedParts
+  pub terminal : TerminalType
+  pub told : List ℕ
+
+-- what has happened to it, and its terminal
+pub record ExtendedHappened : Type 0 where
+  pub state : ExtendedState
+  pub terminal : TerminalType
+
+-- which displays that gives
+pub record ExtendedGives (h : ExtendedHappened) (d : DisplayParts) : Type 0 where
+  pub shows : Shows h.state d.display
+  pub terminal_is : d.terminal ≡ h.terminal
+
+-- the row on which an error stands, if one does
+abbrev pub standing_row : ExtendedParts → Option ℕ
+standing_row d = if is_some d.kept then Some d.error_row else None
+
+-- a display to which nothing has happened
+abbrev pub new_happened : TerminalType → ExtendedHappened
+new_happened terminal = record { state = record { history = []; kept = None; text = 0 }; terminal = terminal }
+
+abbrev pub ExtendedSide : Type 0
+ExtendedSide = SideOn ExtendedHappened
+
+-- a side that has come to another state
+abbrev pub with_state : ExtendedSide → ExtendedState → ExtendedSide
+with_state s state = record s { happened = record s.happened { state = state } }
+
+-- the side of the profile in one of this display, and one of this display with what happened to such a side
+abbrev pub profile_side : ExtendedSide → StationSide
+profile_side s = record { options = s.options; happened = s.happened.state.history }
+
+abbrev pub with_profile : ExtendedSide → StationSide → ExtendedSide
+with_profile s t = record {
+  options = t.options;
+  happened = record s.happened { state = record s.happened.state { history = t.happened } };
+}
+
+-- a record, by the reason for which it is refused, if it is
+abbrev pub extended_applies : ExtendedSide → Record ExtendedElement → Option Reason
+    → Reaction ExtendedSide (List (Item ℕ))
+extended_applies s r (Some reason) = Refuses reason
+extended_applies s r None =
+    let after = state_after_record s.happened.state r in
+    GoesOn (with_state s after) (record_writes s.happened.terminal after r)
+
+-- what a key of the profile does there, it does here
+abbrev pub as_profile : ExtendedSide → KeyReactionOn History → KeyReactionOn ExtendedHappened
+as_profile s (RefusesKey fault) = RefusesKey fault
+as_profile s (Silent next) = Silent (with_profile s next)
+as_profile s (Answers next kind aid) = Answers (with_profile s next) kind aid
+as_profile s (Signals opcode flags) = Signals opcode flags
+
+-- but where an error stands, keys wait for Reset
+abbrev pub extended_presses : ExtendedSide → ExtendedKey → KeyReactionOn ExtendedHappened
+extended_presses s Reset = Silent (with_state s (state_after_reset s.happened.state))
+extended_presses s (Profile key) =
+    if is_some s.happened.state.kept && waits_for_reset key then RefusesKey (Refused Locked)
+    else as_profile s (profile.presses (profile_side s) key)
+
+-- Reset sends nothing
+abbrev pub extended_sends : ExtendedKey → Bool
+extended_sends Reset = false
+extended_sends (Profile key) = profile.sends key
+
+-- the bytes of a reply: at a record, those that it had the display write
+abbrev pub extended_written : DisplayParts → ExtendedReply → List ℕ
+extended_written d (Bytes bytes) = bytes
+extended_written d IsKept = d.told
+
+-- the display that live hosts use; what it writes is told by its bytes
+abbrev pub extended : DisplayOf DisplayParts ExtendedElement ExtendedHappened (Unit {0}) ℕ ExtendedKey ExtendedReply
+extended = record {
+  out = raw_rules;
+  fresh = new_happened;
+  gives = λ h d. ExtendedGives h d;
+  shows = λ h. screen_of h.state.history;
+  shown = λ d. d.display.screen;
+  applies = λ s r. extended_applies s r (record_fault s.happened.state r.body);
+  sends = extended_sends;
+  presses = extended_presses;
+  answer = λ screen kind aid. by_bytes (answer_record screen kind aid);
+  written = extended_written;
+}

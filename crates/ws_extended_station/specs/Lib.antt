@@ -1,0 +1,7 @@
+pub mod BesideProfile
+pub mod Bytewise
+pub mod CarriedOut
+pub mod ExtendedDisplays
+pub mod ExtendedRecords
+pub mod SavedScreens
+pub mod Written
