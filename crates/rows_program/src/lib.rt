@@ -8,6 +8,8 @@ mod answers;
 #[cfg(test)]
 mod buffered_rows;
 #[cfg(test)]
+mod extended_rows;
+#[cfg(test)]
 mod live_words_rows;
 #[cfg(test)]
 mod make_rows;

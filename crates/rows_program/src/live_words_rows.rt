@@ -17,6 +17,7 @@ const CONNECT: ConnectAsked = ConnectAsked {
     wait: 30,
     ready: false,
     paint: Paint::Plain,
+    extended: false,
     script: None,
 };
 
@@ -28,18 +29,20 @@ const SERVE: ServeAsked = ServeAsked {
     },
     wait: 30,
     ready: false,
+    any: false,
     script: None,
 };
 
 // Words behind `connect`, and what they ask for.
 #[rattlefmt::skip]
-const CONNECTS: [(&[&str], ConnectAsked); 9] = [
+const CONNECTS: [(&[&str], ConnectAsked); 10] = [
     (&["host"], CONNECT),
     (&["--wait", "1", "host"], ConnectAsked { wait: 1, ..CONNECT }),
     (&["host", "--wait", "86400"], ConnectAsked { wait: 86_400, ..CONNECT }),
     (&["--wait=007", "host"], ConnectAsked { wait: 7, ..CONNECT }),
     (&["--ready", "host"], ConnectAsked { ready: true, ..CONNECT }),
     (&["--color", "host"], ConnectAsked { paint: Paint::Color, ..CONNECT }),
+    (&["--extended", "host"], ConnectAsked { extended: true, ..CONNECT }),
     (&["host", "a.connect"], ConnectAsked { script: Some("a.connect"), ..CONNECT }),
     (&["host", " a b "], ConnectAsked { script: Some(" a b "), ..CONNECT }),
     (&["host", "--", "--ready"], ConnectAsked { script: Some("--ready"), ..CONNECT }),
@@ -59,6 +62,7 @@ const TERMINALS: [(&[&str], ConnectAsked); 6] = [
         wait: 2,
         ready: true,
         paint: Paint::Color,
+        extended: false,
         script: Some("s"),
     }),
 ];
@@ -75,11 +79,12 @@ const HOSTS: [(&[&str], ConnectAsked); 5] = [
 
 // Words behind `serve`, and what they ask for.
 #[rattlefmt::skip]
-const SERVES: [(&[&str], ServeAsked); 9] = [
+const SERVES: [(&[&str], ServeAsked); 10] = [
     (&["127.0.0.1:5250"], SERVE),
     (&["--wait", "1", "127.0.0.1:5250"], ServeAsked { wait: 1, ..SERVE }),
     (&["127.0.0.1:5250", "--wait=86400"], ServeAsked { wait: 86_400, ..SERVE }),
     (&["--ready", "127.0.0.1:5250"], ServeAsked { ready: true, ..SERVE }),
+    (&["--any", "127.0.0.1:5250"], ServeAsked { any: true, ..SERVE }),
     (&["127.0.0.1:5250", "a.serve"], ServeAsked { script: Some("a.serve"), ..SERVE }),
     (&["127.0.0.1:5250", " a b "], ServeAsked { script: Some(" a b "), ..SERVE }),
     (&["localhost:0"], ServeAsked { address: HostPort { host: "localhost", port: 0 }, ..SERVE }),
@@ -88,6 +93,7 @@ const SERVES: [(&[&str], ServeAsked); 9] = [
         address: HostPort { host: "::ffff:10.0.0.1", port: 23 },
         wait: 2,
         ready: true,
+        any: false,
         script: Some("s"),
     }),
 ];

@@ -3,7 +3,7 @@ use crate::answers::{answer_words, expect_answer};
 use crate::{holds, same, same_at, same_bytes};
 use ws_code::{FailingSink, VecSink};
 use ws_program::{RunFault, answer};
-use ws_words::Asked;
+use ws_words::{Asked, Sender};
 
 const MAKE: &[&str] = &["t5250", "make"];
 
@@ -161,7 +161,7 @@ fn made_within_memory(rt: HostRuntime) {
     let mut sink = VecSink::new(rt.alloc());
     let asked = Asked::Make {
         file: None,
-        answers: false,
+        from: Sender::Host,
     };
     let text = b"telnet NOP\nrecord opcode 1".as_slice();
     match answer(&rt, rt.alloc(), asked, text, &mut sink) {

@@ -9,7 +9,7 @@ use ws_live::Paint;
 use ws_program::{RunFault, TextFault, check_to, hex_bytes, status};
 use ws_record::RawBody;
 use ws_text::TextFault as ItemsFault;
-use ws_words::{Asked, Task, read_words};
+use ws_words::{Asked, Sender, Task, read_words};
 
 fn expect_bytes(rt: &impl Abort, alloc: Global, text: &[u8], bytes: &[u8]) {
     let read = hex_bytes(alloc, text).expect(rt, "bytes");
@@ -35,39 +35,44 @@ const FILE: Option<&str> = Some("a.hex");
 const CHECK: Asked = Asked::Check {
     file: None,
     cut: NonZeroU16::MAX,
-    answers: false,
+    from: Sender::Host,
 };
 
 // Words, and what they ask for.
 #[rattlefmt::skip]
 const COMMAND_LINES: [(&[&str], Asked); 16] = [
     (&["t5250", "check"], CHECK),
-    (&["t5250", "check", "a.hex"], Asked::Check { file: FILE, cut: NonZeroU16::MAX, answers: false }),
-    (&["t5250", "check", "--cut", "1"], Asked::Check { file: None, cut: NonZeroU16::MIN, answers: false }),
-    (&["t5250", "check", "--cut=65535", "a.hex"], Asked::Check { file: FILE, cut: NonZeroU16::MAX, answers: false }),
-    (&["t5250", "check", "--answers"], Asked::Check { file: None, cut: NonZeroU16::MAX, answers: true }),
+    (&["t5250", "check", "a.hex"], Asked::Check { file: FILE, cut: NonZeroU16::MAX, from: Sender::Host }),
+    (&["t5250", "check", "--cut", "1"], Asked::Check { file: None, cut: NonZeroU16::MIN, from: Sender::Host }),
+    (&["t5250", "check", "--cut=65535", "a.hex"],
+        Asked::Check { file: FILE, cut: NonZeroU16::MAX, from: Sender::Host }),
+    (&["t5250", "check", "--answers"], Asked::Check { file: None, cut: NonZeroU16::MAX, from: Sender::Station }),
     (&["t5250", "check", "--", "--answers"],
-        Asked::Check { file: Some("--answers"), cut: NonZeroU16::MAX, answers: false }),
-    (&["t5250", "show"], Asked::Show { file: None, answers: false, paint: Paint::Plain }),
-    (&["t5250", "show", "--answers", "a.hex"], Asked::Show { file: FILE, answers: true, paint: Paint::Plain }),
+        Asked::Check { file: Some("--answers"), cut: NonZeroU16::MAX, from: Sender::Host }),
+    (&["t5250", "show"], Asked::Show { file: None, from: Sender::Host, paint: Paint::Plain }),
+    (&["t5250", "show", "--answers", "a.hex"], Asked::Show { file: FILE, from: Sender::Station, paint: Paint::Plain }),
     (&["t5250", "play"], Asked::Play { file: None, screen: false, tcp: false, paint: Paint::Plain }),
     (&["t5250", "play", "a.hex"], Asked::Play { file: FILE, screen: false, tcp: false, paint: Paint::Plain }),
     (&["t5250", "play", "--screen", "a.hex"],
         Asked::Play { file: FILE, screen: true, tcp: false, paint: Paint::Plain }),
     (&["t5250", "play", "a.hex", "--tcp"], Asked::Play { file: FILE, screen: false, tcp: true, paint: Paint::Plain }),
-    (&["t5250", "show", "--color", "a.hex"], Asked::Show { file: FILE, answers: false, paint: Paint::Color }),
+    (&["t5250", "show", "--color", "a.hex"], Asked::Show { file: FILE, from: Sender::Host, paint: Paint::Color }),
     (&["t5250", "play", "--color", "--screen"],
         Asked::Play { file: None, screen: true, tcp: false, paint: Paint::Color }),
-    (&["t5250", "make"], Asked::Make { file: None, answers: false }),
-    (&["t5250", "make", "--answers", "a.hex"], Asked::Make { file: FILE, answers: true }),
+    (&["t5250", "make"], Asked::Make { file: None, from: Sender::Host }),
+    (&["t5250", "make", "--answers", "a.hex"], Asked::Make { file: FILE, from: Sender::Station }),
 ];
 
-// Words that ask for pieces of seven bytes, and whether of a station's answers.
-const SEVENS: [(&[&str], bool); 2] = [
-    (&["t5250", "check", "a.hex", "--cut", "7"], false),
+// Words that ask for pieces of seven bytes, and of which sender.
+const SEVENS: [(&[&str], Sender); 3] = [
+    (&["t5250", "check", "a.hex", "--cut", "7"], Sender::Host),
     (
         &["t5250", "check", "--cut", "7", "--answers", "a.hex"],
-        true,
+        Sender::Station,
+    ),
+    (
+        &["t5250", "check", "--extended", "--cut", "7", "a.hex"],
+        Sender::ExtendedHost,
     ),
 ];
 
@@ -84,17 +89,17 @@ fn command_lines(rt: HostRuntime) {
         expect_asked(&rt, rt.alloc(), words, *asked);
     }
     let cut = NonZeroU16::MIN.saturating_add(6);
-    for (words, answers) in &SEVENS {
+    for (words, from) in &SEVENS {
         let asked = Asked::Check {
             file: FILE,
             cut,
-            answers: *answers,
+            from: *from,
         };
         expect_asked(&rt, rt.alloc(), words, asked);
     }
     let show = Asked::Show {
         file: FILE,
-        answers: false,
+        from: Sender::Host,
         paint: Paint::Plain,
     };
     same(&rt, show.file(), FILE);

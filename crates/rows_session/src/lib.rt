@@ -42,6 +42,8 @@ mod station_rows;
 #[cfg(test)]
 mod colored_rows;
 #[cfg(test)]
+mod extended_live_rows;
+#[cfg(test)]
 mod live_rows;
 #[cfg(test)]
 mod script_rows;

@@ -7,6 +7,7 @@ use crate::{same, same_at};
 use std::alloc::Global;
 use std::process::Abort;
 use ws_code::{SliceSource, VecSink, write_whole};
+use ws_keys::Key;
 use ws_live::{
     BufferedSink, HostLine, LiveMove, Paint, StationLine, Watch, answer_on, carry_lines, read_lines,
 };
@@ -37,14 +38,14 @@ impl<S> Watch<S> for Counter {
 
 // What came of the lines of a session.
 #[derive(Clone, Copy, Debug, PartialEq, Eq)]
-struct Came {
-    all_well: bool,
-    is_over: bool,
-    waits: u64,
+pub(crate) struct Came {
+    pub(crate) all_well: bool,
+    pub(crate) is_over: bool,
+    pub(crate) waits: u64,
 }
 
 // Carries out the lines of a script, with `ok`; what they print, and what came of them.
-fn carried<R: Abort + AllocGlobal, E, S, K, L: LiveMove<E, S, K>>(
+pub(crate) fn carried<R: Abort + AllocGlobal, E, S, K, L: LiveMove<E, S, K>>(
     rt: &R,
     attached: &mut Attached<E, S, K>,
     script: &str,
@@ -156,7 +157,7 @@ const STATIONS: [(&str, &str, Came); 7] = [
 fn lines_at_a_station(rt: HostRuntime) {
     for (script, printed, wanted) in &STATIONS {
         let mut attached = station_given(rt.alloc(), OPENING_AND_BOB);
-        let came = carried::<HostRuntime, _, _, _, StationLine>(
+        let came = carried::<HostRuntime, _, _, _, StationLine<Key>>(
             &rt,
             &mut attached,
             script,

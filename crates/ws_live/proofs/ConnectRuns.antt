@@ -5,15 +5,13 @@ use Rattle.std.specs.Prelude.{Result, Ok, Err, Option, Some, is_none}
 use Rattle.std.proofs.Math.Seq.{drop-cons}
 use Rattle.std.proofs.lemmas.Bool.{cases_lt}
 use Rattle.std.proofs.lemmas.List.{append-nil, take_more}
+use Rattle.ws_code.specs.Code.{Rules}
 use Rattle.ws_code.specs.Device.{MayTake, MayGive}
 use Rattle.ws_code.specs.declared.fault.Fault.{Fault}
 use Rattle.ws_code.specs.declared.fault.Fault.TheVariants as fault
-use Rattle.ws_screen.specs.ScreenParts.{ScreenParts}
-use Rattle.ws_keys.specs.declared.key.Key.{Key}
-use Rattle.ws_session.specs.Acts.{Did}
-use Rattle.ws_session.specs.Attachments.{AttachedParts, HaveLedUnwritten}
-use Rattle.ws_session.specs.Manners.{StationGoes, StationRefuses}
-use Rattle.ws_session.specs.StationLeads.{StationParts}
+use Rattle.ws_session.specs.Attachments.{AttachedParts}
+use Rattle.ws_session.specs.Displays.{DisplayOf}
+use Rattle.ws_session.specs.PartsOn.{PartsOn}
 use Rattle.ws_session.specs.declared.end_step.Applied.{Applied}
 use Rattle.ws_session.specs.declared.key_fault.KeyFault.{KeyFault}
 use Rattle.ws_live.specs.declared.live.Closing.{Closing}
@@ -22,7 +20,8 @@ use Rattle.ws_live.specs.declared.connect.Waited.TheVariants as waits
 use Rattle.ws_live.specs.declared.connect_line.Awaited.{Awaited}
 use Rattle.ws_live.specs.declared.connect_line.Awaited.TheVariants as awaits
 use Rattle.ws_live.specs.ConnectText.{refused_text, pressed, closing_of_both, IsMet, IsPressed, KeyRuns, ArePressed}
-use Rattle.ws_live.specs.ConnectText.{KeysRun, Hears, HasWaited, HearsOne, HearsNone, WaitsFor, IsWaited}
+use Rattle.ws_live.specs.ConnectText.{KeysRun, Hears, HasWaited, HearsOne, HearsNone, WaitsFor, IsWaited, IsUnwritten}
+use Rattle.ws_live.specs.Operating.{OperatedOn}
 
 -- Keys and records at a station, one more at a time.
 
@@ -44,21 +43,22 @@ both_pressed : (a b : Bool) → closing_of_both (pressed a) (pressed b) ≡ pres
 both_pressed true b = refl
 both_pressed false b = refl
 
-module _ {S K : Type 0} (takes : MayTake K) (failures : K → ℕ) (gives : MayGive S) (misses : S → ℕ) where
+module _ {D P U H PlaceV V Q R S K : Type 0} (rules : Rules P U) (d : DisplayOf D U H PlaceV V Q R)
+    (takes : MayTake K) (failures : K → ℕ) (gives : MayGive S) (misses : S → ℕ) where
   abbrev Parts : Type 0
-  Parts = AttachedParts StationParts S K
+  Parts = AttachedParts (PartsOn D P) S K
 
-  pub pressed_more : (from mid to : Parts) (keys : List Key) (key : Key) (refused : Option KeyFault) (well : Bool)
-      (text : List ℕ) → ArePressed takes failures gives misses from keys well text mid
-      → IsPressed takes failures gives misses key mid refused to
-      → ArePressed takes failures gives misses from (keys ++ key ∷ []) (well && is_none refused)
+  pub pressed_more : (from mid to : Parts) (keys : List Q) (key : Q) (refused : Option KeyFault) (well : Bool)
+      (text : List ℕ) → ArePressed rules d takes failures gives misses from keys well text mid
+      → IsPressed rules d takes failures gives misses key mid refused to
+      → ArePressed rules d takes failures gives misses from (keys ++ key ∷ []) (well && is_none refused)
       (text ++ refused_text refused) to
   pressed_more from mid to [] key refused well text h p = (
     refused,
     to,
     true,
     [],
-    subst (λ (z : Parts). IsPressed takes failures gives misses key z refused to) h.0 p,
+    subst (λ (z : Parts). IsPressed rules d takes failures gives misses key z refused to) h.0 p,
     (refl, refl, refl),
     ap (λ b. b && is_none refused) h.1 ∙ sym (and_true (is_none refused)),
     ap (λ z. z ++ refused_text refused) h.2 ∙ sym (append-nil (refused_text refused)),
@@ -75,23 +75,23 @@ module _ {S K : Type 0} (takes : MayTake K) (failures : K → ℕ) (gives : MayG
   )
 
   -- the keys of a list, of which so many are pressed
-  module _ (from mid to : Parts) (keys : List Key) (i : ℕ) (key : Key) (inside : i < length keys)
+  module _ (from mid to : Parts) (keys : List Q) (i : ℕ) (key : Q) (inside : i < length keys)
       (is : key ≡ get_or keys i key) where
     pub pressed_on : (refused : Option KeyFault) (well : Bool) (text : List ℕ)
-        → ArePressed takes failures gives misses from (take i keys) well text mid
-        → IsPressed takes failures gives misses key mid refused to
-        → ArePressed takes failures gives misses from (take (i + 1) keys) (well && is_none refused)
+        → ArePressed rules d takes failures gives misses from (take i keys) well text mid
+        → IsPressed rules d takes failures gives misses key mid refused to
+        → ArePressed rules d takes failures gives misses from (take (i + 1) keys) (well && is_none refused)
         (text ++ refused_text refused) to
     pressed_on refused well text h p =
         let next : take i keys ++ key ∷ [] ≡ take (i + 1) keys = ap (λ z. take i keys ++ z ∷ []) is
         ∙ sym (take_more keys i key inside) in
-        subst (λ (z : List Key). ArePressed takes failures gives misses from z (well && is_none refused)
+        subst (λ (z : List Q). ArePressed rules d takes failures gives misses from z (well && is_none refused)
         (text ++ refused_text refused) to) next (pressed_more from mid to (take i keys) key refused well text h p)
 
     pub unwritten_at : (well : Bool) (text : List ℕ) (outcome : Result Closing Fault)
-        → ArePressed takes failures gives misses from (take i keys) well text mid
-        → HaveLedUnwritten StationGoes StationRefuses takes failures gives misses mid to (Did key ∷ []) → outcome
-        ≡ Err fault.Write → KeysRun takes failures gives misses keys from outcome text to
+        → ArePressed rules d takes failures gives misses from (take i keys) well text mid
+        → IsUnwritten rules d takes failures gives misses key mid to → outcome
+        ≡ Err fault.Write → KeysRun rules d takes failures gives misses keys from outcome text to
     unwritten_at well text outcome h led e = let n : suc i ≡ i + 1 = omega arith in inr (
       take i keys,
       key,
@@ -107,46 +107,47 @@ module _ {S K : Type 0} (takes : MayTake K) (failures : K → ℕ) (gives : MayG
 
     -- one key more, and how they close then
     pub key_more : (well : Bool) (text last : List ℕ) (closing next : Closing)
-        → ArePressed takes failures gives misses from (take i keys) well text mid → closing ≡ pressed well
-        → KeyRuns takes failures gives misses key mid (Ok next) last to
-        → (more : Bool) × ArePressed takes failures gives misses from (take (i + 1) keys) more (text ++ last) to
+        → ArePressed rules d takes failures gives misses from (take i keys) well text mid → closing ≡ pressed well
+        → KeyRuns rules d takes failures gives misses key mid (Ok next) last to
+        → (more : Bool) × ArePressed rules d takes failures gives misses from (take (i + 1) keys) more (text ++ last) to
         × (closing_of_both closing next ≡ pressed more)
     key_more well text last closing next h e (inl r) =
         let same : next ≡ pressed (is_none r.0) = ok_same next (pressed (is_none r.0)) r.2 in (
           well && is_none r.0,
-          subst (λ (z : List ℕ). ArePressed takes failures gives misses from (take (i + 1) keys) (well && is_none r.0)
-              (text ++ z) to) (sym r.3) (pressed_on r.0 well text h r.1),
+          subst (λ (z : List ℕ). ArePressed rules d takes failures gives misses from (take (i + 1) keys)
+              (well && is_none r.0) (text ++ z) to) (sym r.3) (pressed_on r.0 well text h r.1),
           ap (λ z. closing_of_both z next) e ∙ ap (λ z. closing_of_both (pressed well) z) same ∙ both_pressed well
               (is_none r.0),
         )
     key_more well text last closing next h e (inr r) = absurd (ok_no_err next fault.Write r.1)
 
-    pub key_stops : (well : Bool) (text last : List ℕ) (why : Fault) → ArePressed takes failures gives misses from
-        (take i keys) well text mid
-        → KeyRuns takes failures gives misses key mid (Err why) last to → KeysRun takes failures gives misses keys from
-        (Err why) (text ++ last) to
+    pub key_stops : (well : Bool) (text last : List ℕ) (why : Fault)
+        → ArePressed rules d takes failures gives misses from (take i keys) well text mid
+        → KeyRuns rules d takes failures gives misses key mid (Err why) last to
+        → KeysRun rules d takes failures gives misses keys from (Err why) (text ++ last) to
     key_stops well text last why h (inl r) = absurd (ok_no_err (pressed (is_none r.0)) why (sym r.2))
     key_stops well text last why h (inr r) =
         let all : text ≡ text ++ last = sym (append-nil text) ∙ ap (λ z. text ++ z) (sym r.2) in
-        subst (λ (z : List ℕ). KeysRun takes failures gives misses keys from (Err why) z to) all
+        subst (λ (z : List ℕ). KeysRun rules d takes failures gives misses keys from (Err why) z to) all
         (unwritten_at well text (Err why) h r.0 r.1)
 
-  pub is_waited : (tells : S → Bool → Type 0) (from to : Parts) (awaited : Awaited) (waited : Waited)
-      → (awaited ≡ awaits.Record → ⊥) → WaitsFor takes failures gives misses tells (IsMet awaited) from waited to
-      → IsWaited takes failures gives misses tells awaited from waited to
-  is_waited tells from to awaits.Unlocked waited other h = h
-  is_waited tells from to (awaits.Text text) waited other h = h
-  is_waited tells from to awaits.Record waited other h = absurd (other refl)
+  pub is_waited : (tells : S → Bool → Type 0) (operated : OperatedOn D) (from to : Parts) (awaited : Awaited)
+      (waited : Waited) → (awaited ≡ awaits.Record → ⊥)
+      → WaitsFor rules d takes failures gives misses tells (IsMet d.shown operated awaited) from waited to
+      → IsWaited rules d takes failures gives misses tells operated awaited from waited to
+  is_waited tells operated from to awaits.Turn waited other h = h
+  is_waited tells operated from to (awaits.Text text) waited other h = h
+  is_waited tells operated from to awaits.Record waited other h = absurd (other refl)
 
-  module _ (Met : ScreenParts → Type 0) where
+  module _ (Met : D → Type 0) where
     pub waited_more : (from mid to : Parts) (told : List Applied) (one : Applied)
-        → HasWaited takes failures gives misses Met from told mid → (Met mid.end.screen → ⊥)
-        → Hears takes failures gives misses mid (Some one) to
-        → HasWaited takes failures gives misses Met from (told ++ one ∷ []) to
+        → HasWaited rules d takes failures gives misses Met from told mid → (Met mid.end.screen → ⊥)
+        → Hears rules d takes failures gives misses mid (Some one) to
+        → HasWaited rules d takes failures gives misses Met from (told ++ one ∷ []) to
     waited_more from mid to [] one h unmet heard = (
       to,
       subst (λ (z : Parts). Met z.end.screen → ⊥) h unmet,
-      subst (λ (z : Parts). Hears takes failures gives misses z (Some one) to) h heard,
+      subst (λ (z : Parts). Hears rules d takes failures gives misses z (Some one) to) h heard,
       refl,
     )
     waited_more from mid to (first ∷ told) one h unmet heard =
@@ -158,8 +159,8 @@ module _ {S K : Type 0} (takes : MayTake K) (failures : K → ℕ) (gives : MayG
 
   -- what isn't a record
   pub hears_none : (tells : S → Bool → Type 0) (from to : Parts) (waited : Waited)
-      → HearsOne takes failures gives misses tells from waited to → (waited ≡ waits.Met → ⊥)
-      → HearsNone takes failures gives misses tells from waited to
+      → HearsOne rules d takes failures gives misses tells from waited to → (waited ≡ waits.Met → ⊥)
+      → HearsNone rules d takes failures gives misses tells from waited to
   hears_none tells from to waits.Met h other = absurd (other refl)
   hears_none tells from to waits.Late h other = h
   hears_none tells from to waits.Ended h other = h

@@ -3,6 +3,7 @@ pub mod ColoredCells
 pub mod ConnectRuns
 pub mod FieldTexts
 pub mod LineFronts
+pub mod LiveDisplays
 pub mod LiveLines
 pub mod LiveOutput
 pub mod LiveRuns

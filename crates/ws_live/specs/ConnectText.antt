@@ -1,33 +1,35 @@
--- What a line of a script for a station does there, and what it prints, by the station's screens.
+-- What a line of a script for a station does there, and what it prints, by the station's display.
 
 use Rattle.std.specs.Prelude.{◌≡◌, ℕ, ◌≤◌, List, [], ◌∷◌, ◌++◌, ◌⊎◌, Bool, true, false, ◌&&◌, Option, None, Some}
 use Rattle.std.specs.Prelude.{IfSome, IfNone, is_none}
 use Rattle.std.specs.Prelude.{Result, Ok, Err, string_bytes, length, if◌then◌else◌}
 use Rattle.std.specs.Str.{encode_utf8_all}
+use Rattle.ws_code.specs.Code.{Rules}
 use Rattle.ws_code.specs.Device.{MayTake, MayGive, most_reads}
 use Rattle.ws_code.specs.declared.address.TheConstants.{ROWS}
 use Rattle.ws_code.specs.declared.fault.Fault.{Fault}
 use Rattle.ws_code.specs.declared.fault.Fault.TheVariants as fault
 use Rattle.ws_screen.specs.Lines.{row_chars}
 use Rattle.ws_screen.specs.ScreenParts.{ScreenParts}
-use Rattle.ws_keys.specs.declared.key.Key.{Key}
 use Rattle.ws_session.specs.Acts.{Did}
 use Rattle.ws_session.specs.Attachments.{AttachedParts, HaveLed, HaveLedUnwritten, HasHeard, IsHearFault}
-use Rattle.ws_session.specs.Manners.{StationGoes, StationRefuses, IsKeyRefusal, IsKeyTaken}
-use Rattle.ws_session.specs.StationLeads.{StationParts}
+use Rattle.ws_session.specs.Displays.{DisplayOf}
+use Rattle.ws_session.specs.PartsOn.{PartsOn}
+use Rattle.ws_session.specs.StationActs.{GoesOnDisplay, RefusesOn, IsKeyRefusalOn, IsKeyTakenOn}
 use Rattle.ws_session.specs.declared.end_step.Applied.{Applied}
 use Rattle.ws_session.specs.declared.key_fault.KeyFault.{KeyFault}
 use Rattle.ws_session.specs.declared.world.Event.TheVariants.{KeyRefused, StationRefused}
 use Rattle.ws_live.specs.FieldLines.{AreFieldLines}
 use Rattle.ws_live.specs.PlayLines.{event_text}
-use Rattle.ws_live.specs.ScreenLines.{IsScreenText}
+use Rattle.ws_live.specs.ScreenLines.{IsDisplayText}
 use Rattle.ws_live.specs.declared.connect.Waited.{Waited}
 use Rattle.ws_live.specs.declared.connect.Waited.TheVariants.{Met, Late as WasLate, Ended as HasEnded, Failed}
 use Rattle.ws_live.specs.declared.connect_line.StationLine.{StationLine}
 use Rattle.ws_live.specs.declared.connect_line.StationLine.TheVariants.{Nothing as NoLine, Press, Await, Fields, Show}
 use Rattle.ws_live.specs.declared.connect_line.Awaited.{Awaited}
-use Rattle.ws_live.specs.declared.connect_line.Awaited.TheVariants.{Unlocked, Record, Text}
+use Rattle.ws_live.specs.declared.connect_line.Awaited.TheVariants.{Turn, Record, Text}
 use Rattle.ws_live.specs.LiveText.{IsLiveText}
+use Rattle.ws_live.specs.Operating.{OperatedOn}
 use Rattle.ws_live.specs.Waits.{InTime}
 use Rattle.ws_live.specs.declared.live.Ran.{Ran}
 use Rattle.ws_live.specs.declared.live.Closing.{Closing}
@@ -43,14 +45,8 @@ pub record ShowsText (cells text : List ℕ) : Type 0 where
   pub back : List ℕ
   pub is : encode_utf8_all (row_chars cells row) ≡ front ++ text ++ back
 
--- what is awaited holds of a screen; a record is awaited by itself
-abbrev pub IsMet : Awaited → ScreenParts → Type 0
-IsMet Unlocked screen = screen.locked ≡ false
-IsMet (Text text) screen = ShowsText screen.cells (string_bytes text)
-IsMet Record screen = Unit {0}
-
 -- the lines that wait
-abbrev pub station_waits : StationLine → Bool
+abbrev pub station_waits : {Q : Type 0} → StationLine Q → Bool
 station_waits (Await awaited) = true
 station_waits line = false
 
@@ -90,99 +86,116 @@ abbrev pub closing_of_both : Closing → Closing → Closing
 closing_of_both Done next = next
 closing_of_both closing next = closing
 
-module _ {S K : Type 0} (takes : MayTake K) (failures : K → ℕ) (gives : MayGive S) (misses : S → ℕ) where
-  -- a station on a source and a sink
-  abbrev pub Parts : Type 0
-  Parts = AttachedParts StationParts S K
+-- what is awaited holds of a display, which shows this screen; a record is awaited by itself
+abbrev pub IsMet : {D : Type 0} → (D → ScreenParts) → OperatedOn D → Awaited → D → Type 0
+IsMet shown operated Turn display = operated.IsTurn display
+IsMet shown operated (Text text) display = ShowsText (shown display).cells (string_bytes text)
+IsMet shown operated Record display = Unit {0}
 
-  -- one call of `hear` leads from there to there, and tells this
-  abbrev pub Hears : Parts → Option Applied → Parts → Type 0
-  Hears from heard to = HasHeard StationGoes StationRefuses takes failures gives misses from to heard
+module _ {D P U H PlaceV V Q R : Type 0} (rules : Rules P U) (d : DisplayOf D U H PlaceV V Q R) where
+  module _ {S K : Type 0} (takes : MayTake K) (failures : K → ℕ) (gives : MayGive S) (misses : S → ℕ) where
+    -- a station on such a display, on a source and a sink
+    abbrev pub Parts : Type 0
+    Parts = AttachedParts (PartsOn D P) S K
 
-  -- a key was pressed: what it sends went out, or it was refused, and nothing is changed; no byte was read or taken
-  pub record IsPressed (key : Key) (from : Parts) (refused : Option KeyFault) (to : Parts) : Type 0 where
-    pub led : HaveLed StationGoes StationRefuses takes failures gives misses from to (Did key ∷ []) []
-    pub same : IfSome refused (λ why. to ≡ from)
-    pub why : IfSome refused (IsKeyRefusal from.end key)
-    pub taken : IfNone refused (IsKeyTaken from.end key)
-    pub waiting : to.waiting ≡ from.waiting
-    pub unread : to.source ≡ from.source
+    -- one call of `hear` leads from there to there, and tells this
+    abbrev pub Hears : Parts → Option Applied → Parts → Type 0
+    Hears from heard to = HasHeard (GoesOnDisplay rules d) (RefusesOn rules d) takes failures gives misses from to heard
 
-  -- a key, how its line would close, and what it prints: it was pressed, or what it sends didn't go out
-  abbrev pub KeyRuns : Key → Parts → Result Closing Fault → List ℕ → Parts → Type 0
-  KeyRuns key from outcome text to = ((refused : Option KeyFault) × IsPressed key from refused to
-      × (outcome ≡ Ok (pressed (is_none refused))) × (text ≡ refused_text refused))
-      ⊎ (HaveLedUnwritten StationGoes StationRefuses takes failures gives misses from to (Did key ∷ [])
-      × (outcome ≡ Err fault.Write) × (text ≡ []))
+    -- it failed for this
+    abbrev pub HearsFault : Parts → Fault → Parts → Type 0
+    HearsFault from why to =
+        IsHearFault (GoesOnDisplay rules d) (RefusesOn rules d) takes failures gives misses from to why
 
-  -- keys one after another
-  abbrev pub ArePressed : Parts → List Key → Bool → List ℕ → Parts → Type 0
-  ArePressed from [] well text to = (to ≡ from) × (well ≡ true) × (text ≡ [])
-  ArePressed from (key ∷ keys) well text to = (refused : Option KeyFault) × (mid : Parts) × (rest_well : Bool)
-      × (rest : List ℕ) × IsPressed key from refused mid × ArePressed mid keys rest_well rest to
-      × (well ≡ is_none refused && rest_well) × (text ≡ refused_text refused ++ rest)
+    -- a key was pressed: what it sends went out, or it was refused, and nothing is changed; no byte was read or taken
+    pub record IsPressed (key : Q) (from : Parts) (refused : Option KeyFault) (to : Parts) : Type 0 where
+      pub led : HaveLed (GoesOnDisplay rules d) (RefusesOn rules d) takes failures gives misses from to
+          (Did key ∷ []) []
+      pub same : IfSome refused (λ why. to ≡ from)
+      pub why : IfSome refused (IsKeyRefusalOn rules d from.end key)
+      pub taken : IfNone refused (IsKeyTakenOn rules d from.end key)
+      pub waiting : to.waiting ≡ from.waiting
+      pub unread : to.source ≡ from.source
 
-  -- all were pressed, or up to one that wasn't written
-  abbrev pub KeysRun : List Key → Parts → Result Closing Fault → List ℕ → Parts → Type 0
-  KeysRun keys from outcome text to =
-      ((well : Bool) × ArePressed from keys well text to × (outcome ≡ Ok (pressed well)))
-      ⊎ ((before : List Key) × (key : Key) × (after : List Key) × (well : Bool) × (mid : Parts)
-      × (keys ≡ before ++ key ∷ after) × ArePressed from before well text mid
-      × HaveLedUnwritten StationGoes StationRefuses takes failures gives misses mid to (Did key ∷ [])
-      × (outcome ≡ Err fault.Write))
+    -- it was pressed, and what it sends didn't go out
+    abbrev pub IsUnwritten : Q → Parts → Parts → Type 0
+    IsUnwritten key from to =
+        HaveLedUnwritten (GoesOnDisplay rules d) (RefusesOn rules d) takes failures gives misses from to (Did key ∷ [])
 
-  -- records were applied one after another, and before each it wasn't yet met
-  abbrev pub HasWaited : (ScreenParts → Type 0) → Parts → List Applied → Parts → Type 0
-  HasWaited Met' from [] to = to ≡ from
-  HasWaited Met' from (told ∷ more) to = (mid : Parts) × (Met' from.end.screen → ⊥) × Hears from (Some told) mid
-      × HasWaited Met' mid more to
+    -- a key, how its line would close, and what it prints: it was pressed, or what it sends didn't go out
+    abbrev pub KeyRuns : Q → Parts → Result Closing Fault → List ℕ → Parts → Type 0
+    KeyRuns key from outcome text to = ((refused : Option KeyFault) × IsPressed key from refused to
+        × (outcome ≡ Ok (pressed (is_none refused))) × (text ≡ refused_text refused))
+        ⊎ (IsUnwritten key from to × (outcome ≡ Err fault.Write) × (text ≡ []))
 
-  -- What a wait comes to, at a watch that tells of a source whether the read that failed was late.
-  module _ (tells : S → Bool → Type 0) where
-    -- no record more was applied: the host closed, a read failed, for want of time or otherwise, a byte was refused, or
-    -- a write failed
-    abbrev pub HearsNone : Parts → Waited → Parts → Type 0
-    HearsNone from Met to = ⊥
-    HearsNone from WasLate to = IsHearFault StationGoes StationRefuses takes failures gives misses from to fault.Read
-        × tells to.source true
-    HearsNone from HasEnded to = Hears from None to
-    HearsNone from (Failed why) to = IsHearFault StationGoes StationRefuses takes failures gives misses from to why
-        × (why ≡ fault.Read → tells to.source false)
+    -- keys one after another
+    abbrev pub ArePressed : Parts → List Q → Bool → List ℕ → Parts → Type 0
+    ArePressed from [] well text to = (to ≡ from) × (well ≡ true) × (text ≡ [])
+    ArePressed from (key ∷ keys) well text to = (refused : Option KeyFault) × (mid : Parts) × (rest_well : Bool)
+        × (rest : List ℕ) × IsPressed key from refused mid × ArePressed mid keys rest_well rest to
+        × (well ≡ is_none refused && rest_well) × (text ≡ refused_text refused ++ rest)
 
-    -- the next record, whatever it is
-    abbrev pub HearsOne : Parts → Waited → Parts → Type 0
-    HearsOne from Met to = (told : Applied) × Hears from (Some told) to
-    HearsOne from waited to = HearsNone from waited to
+    -- all were pressed, or up to one that wasn't written
+    abbrev pub KeysRun : List Q → Parts → Result Closing Fault → List ℕ → Parts → Type 0
+    KeysRun keys from outcome text to =
+        ((well : Bool) × ArePressed from keys well text to × (outcome ≡ Ok (pressed well)))
+        ⊎ ((before : List Q) × (key : Q) × (after : List Q) × (well : Bool) × (mid : Parts)
+        × (keys ≡ before ++ key ∷ after) × ArePressed from before well text mid × IsUnwritten key mid to
+        × (outcome ≡ Err fault.Write))
 
-    -- a wait: up to the first record at which it was met, or one that never came; no wait takes more than the most
-    -- records
-    abbrev pub WaitsFor : (ScreenParts → Type 0) → Parts → Waited → Parts → Type 0
-    WaitsFor Met' from waited to =
-        ((told : List Applied) × HasWaited Met' from told to × Met' to.end.screen × (waited ≡ Met))
-        ⊎ (((told : List Applied) × (mid : Parts) × HasWaited Met' from told mid × (Met' mid.end.screen → ⊥)
-        × HearsNone mid waited to)
-        ⊎ ((told : List Applied) × HasWaited Met' from told to × (length told ≡ most_reads)
-        × (waited ≡ Failed fault.Read)))
+    -- records were applied one after another, and before each it wasn't yet met
+    abbrev pub HasWaited : (D → Type 0) → Parts → List Applied → Parts → Type 0
+    HasWaited Met' from [] to = to ≡ from
+    HasWaited Met' from (told ∷ more) to = (mid : Parts) × (Met' from.end.screen → ⊥) × Hears from (Some told) mid
+        × HasWaited Met' mid more to
 
-    -- what is awaited: one more record, or a screen by which it is met
-    abbrev pub IsWaited : Awaited → Parts → Waited → Parts → Type 0
-    IsWaited Record from waited to = HearsOne from waited to
-    IsWaited awaited from waited to = WaitsFor (IsMet awaited) from waited to
+    -- What a wait comes to, at a watch that tells of a source whether the read that failed was late.
+    module _ (tells : S → Bool → Type 0) where
+      -- no record more was applied: the host closed, a read failed, for want of time or otherwise, a byte was refused,
+      -- or a write failed
+      abbrev pub HearsNone : Parts → Waited → Parts → Type 0
+      HearsNone from Met to = ⊥
+      HearsNone from WasLate to = HearsFault from fault.Read to × tells to.source true
+      HearsNone from HasEnded to = Hears from None to
+      HearsNone from (Failed why) to = HearsFault from why to × (why ≡ fault.Read → tells to.source false)
 
-    -- a line at a station, how it closed, and what it printed, with screens in a paint
-    abbrev pub StationRuns : Paint → StationLine → Parts → Result Closing Fault → List ℕ → Parts → Type 0
-    StationRuns paint NoLine from outcome text to = (to ≡ from) × (outcome ≡ Ok Nothing) × (text ≡ [])
-    StationRuns paint (Press keys) from outcome text to = KeysRun keys from outcome text to
-    StationRuns paint (Await awaited) from outcome text to = (waited : Waited) × IsWaited awaited from waited to
-        × (outcome ≡ waited_outcome waited) × (text ≡ waited_text waited)
-    StationRuns paint Fields from outcome text to = (to ≡ from) × (outcome ≡ Ok Done)
-        × AreFieldLines from.end.screen text
-    StationRuns paint Show from outcome text to = (to ≡ from) × (outcome ≡ Ok Done)
-        × IsScreenText paint from.end.screen text
+      -- the next record, whatever it is
+      abbrev pub HearsOne : Parts → Waited → Parts → Type 0
+      HearsOne from Met to = (told : Applied) × Hears from (Some told) to
+      HearsOne from waited to = HearsNone from waited to
 
-    -- what the lines of a script at a station print, and whether all went well
-    module _ {W : Type 0} (begins : W → S → W → Type 0) (begun : W → ℕ) where
-      abbrev pub IsConnectText : Paint → Bool → (Parts × W) → List StationLine → Bool → List ℕ → (Parts × W) → Type 0
-      IsConnectText paint ready from lines all_well text to = (ran : Ran)
-          × IsLiveText (InTime (StationRuns paint) station_waits begins begun) ready from lines ran text to
-          × (all_well ≡ ran.all_well)
+      -- a wait: up to the first record at which it was met, or one that never came; no wait takes more than the most
+      -- records
+      abbrev pub WaitsFor : (D → Type 0) → Parts → Waited → Parts → Type 0
+      WaitsFor Met' from waited to =
+          ((told : List Applied) × HasWaited Met' from told to × Met' to.end.screen × (waited ≡ Met))
+          ⊎ (((told : List Applied) × (mid : Parts) × HasWaited Met' from told mid × (Met' mid.end.screen → ⊥)
+          × HearsNone mid waited to)
+          ⊎ ((told : List Applied) × HasWaited Met' from told to × (length told ≡ most_reads)
+          × (waited ≡ Failed fault.Read)))
+
+      -- Lines of an operator at it.
+      module _ (operated : OperatedOn D) where
+        -- what is awaited: one more record, or a display by which it is met
+        abbrev pub IsWaited : Awaited → Parts → Waited → Parts → Type 0
+        IsWaited Record from waited to = HearsOne from waited to
+        IsWaited awaited from waited to = WaitsFor (IsMet d.shown operated awaited) from waited to
+
+        -- a line at a station, how it closed, and what it printed, with screens in a paint
+        abbrev pub StationRuns : Paint → StationLine Q → Parts → Result Closing Fault → List ℕ → Parts → Type 0
+        StationRuns paint NoLine from outcome text to = (to ≡ from) × (outcome ≡ Ok Nothing) × (text ≡ [])
+        StationRuns paint (Press keys) from outcome text to = KeysRun keys from outcome text to
+        StationRuns paint (Await awaited) from outcome text to = (waited : Waited) × IsWaited awaited from waited to
+            × (outcome ≡ waited_outcome waited) × (text ≡ waited_text waited)
+        StationRuns paint Fields from outcome text to = (to ≡ from) × (outcome ≡ Ok Done)
+            × AreFieldLines (d.shown from.end.screen) text
+        StationRuns paint Show from outcome text to = (to ≡ from) × (outcome ≡ Ok Done)
+            × IsDisplayText paint (d.shown from.end.screen) (operated.behind from.end.screen) text
+
+        -- what the lines of a script at a station print, and whether all went well
+        module _ {W : Type 0} (begins : W → S → W → Type 0) (begun : W → ℕ) where
+          abbrev pub IsConnectText : Paint → Bool → (Parts × W) → List (StationLine Q) → Bool → List ℕ → (Parts × W)
+              → Type 0
+          IsConnectText paint ready from lines all_well text to = (ran : Ran)
+              × IsLiveText (InTime (StationRuns paint) station_waits begins begun) ready from lines ran text to
+              × (all_well ≡ ran.all_well)

@@ -2,10 +2,14 @@ pub mod Buffering
 pub mod ColoredRows
 pub mod ConnectLines
 pub mod ConnectText
+pub mod ErrorRow
+pub mod ExtendedKeyNames
 pub mod FieldLines
 pub mod KeyNames
+pub mod KeyWords
 pub mod LiveScript
 pub mod LiveText
+pub mod Operating
 pub mod PlaceAndReason
 pub mod PlayLines
 pub mod ScreenLines

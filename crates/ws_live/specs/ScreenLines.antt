@@ -56,3 +56,8 @@ state_line s = codes "cursor " ++ cell_text s.cursor ++ codes ", " ++ lock_name 
 abbrev pub IsScreenText : Paint → ScreenParts → List ℕ → Type 0
 IsScreenText paint s text = (rows : List ℕ) × AreRows paint s.cells (range_with_len 1 ROWS) rows
     × (text ≡ codes "screen\n" ++ rows ++ state_line s)
+
+-- the lines of a screen, and what is printed behind them, if anything is
+abbrev pub IsDisplayText : Paint → ScreenParts → List ℕ → List ℕ → Type 0
+IsDisplayText paint s [] text = IsScreenText paint s text
+IsDisplayText paint s (b ∷ behind) text = (lines : List ℕ) × IsScreenText paint s lines × (text ≡ lines ++ b ∷ behind)

@@ -6,13 +6,14 @@ ghost use Rattle.ws_text.specs.Printing.{Prints};
 use crate::connect_line::{Awaited, StationLine};
 use crate::field_lines::put_field_lines;
 use crate::live::{Carried, Closing, LiveMove, Watch};
+use crate::named_key::NamedKey;
+use crate::operated_display::OperatedDisplay;
 use crate::paint::Paint;
 use crate::play::put_event;
-use crate::screen_lines::put_screen;
+use crate::screen_lines::put_display;
 use ws_code::{Fault, ROWS, Sink, Source};
-use ws_keys::Key;
 use ws_screen::Screen;
-use ws_session::{Attached, Event, Station};
+use ws_session::{Attached, Event, StationOn};
 use ws_text::Output;
 
 // What becomes of a wait.
@@ -24,14 +25,18 @@ enum Waited {
     Failed(Fault),
 }
 
-impl<S: Source, K: Sink> LiveMove<Station, S, K> for StationLine {
-    ghost runs = { Spec.StationRuns K.takes K.failures S.gives S.failures };
+impl<D: OperatedDisplay, S: Source, K: Sink> LiveMove<StationOn<D>, S, K> for StationLine<D::Key>
+where
+    D::Key: NamedKey,
+{
+    ghost runs = { λ tells. Spec.StationRuns D.Commands.rules D.does
+        K.takes K.failures S.gives S.failures tells D.operated };
 
     ghost waits = { Spec.station_waits };
 
     fn carry_out<W: Watch<S>, O: Sink>(
         &self,
-        attached: &mut Attached<Station, S, K>,
+        attached: &mut Attached<StationOn<D>, S, K>,
         watch: &mut W,
         paint: Paint,
         out: &mut O,
@@ -52,7 +57,7 @@ impl<S: Source, K: Sink> LiveMove<Station, S, K> for StationLine {
                 outcome: Ok(Closing::Done),
             },
             StationLine::Show => Carried {
-                output: put_screen(out, output, paint, attached.end().screen()),
+                output: put_display(out, output, paint, attached.end().display()),
                 outcome: Ok(Closing::Done),
             },
         }
@@ -60,14 +65,16 @@ impl<S: Source, K: Sink> LiveMove<Station, S, K> for StationLine {
 }
 
 // Presses keys one after another, and prints why one is refused.
-fn press_keys<S: Source, K: Sink, O: Sink>(
-    attached: &mut Attached<Station, S, K>,
-    keys: &[Key],
+fn press_keys<D: OperatedDisplay, S: Source, K: Sink, O: Sink>(
+    attached: &mut Attached<StationOn<D>, S, K>,
+    keys: &[D::Key],
     out: &mut O,
     output: Output,
 ) -> Carried
+where
+    D::Key: Copy,
     requires works { attached.old.broken ≡ false }
-    ensures runs { (text : List ℕ) × Spec.KeysRun K.takes K.failures S.gives S.failures keys.now
+    ensures runs { (text : List ℕ) × Spec.KeysRun D.Commands.rules D.does K.takes K.failures S.gives S.failures keys.now
         attached.old result.outcome text attached.new
         × Prints O.takes O.failures out.old out.new output result.output text }
     ensures works { IfOk result.outcome (λ closing. attached.new.broken ≡ false) }
@@ -92,14 +99,14 @@ fn press_keys<S: Source, K: Sink, O: Sink>(
 }
 
 // Presses a key, and prints why it is refused.
-fn press_key<S: Source, K: Sink, O: Sink>(
-    attached: &mut Attached<Station, S, K>,
-    key: Key,
+fn press_key<D: OperatedDisplay, S: Source, K: Sink, O: Sink>(
+    attached: &mut Attached<StationOn<D>, S, K>,
+    key: D::Key,
     out: &mut O,
     output: Output,
 ) -> Carried
     requires works { attached.old.broken ≡ false }
-    ensures runs { (text : List ℕ) × Spec.KeyRuns K.takes K.failures S.gives S.failures key
+    ensures runs { (text : List ℕ) × Spec.KeyRuns D.Commands.rules D.does K.takes K.failures S.gives S.failures key
         attached.old result.outcome text attached.new
         × Prints O.takes O.failures out.old out.new output result.output text }
     ensures works { IfOk result.outcome (λ closing. attached.new.broken ≡ false) }
@@ -131,14 +138,14 @@ fn closing_of_both(closing: Closing, next: Closing) -> Closing
 }
 
 // Takes what the host sends, until what is awaited holds.
-fn wait<S: Source, K: Sink, W: Watch<S>>(
-    attached: &mut Attached<Station, S, K>,
+fn wait<D: OperatedDisplay, S: Source, K: Sink, W: Watch<S>>(
+    attached: &mut Attached<StationOn<D>, S, K>,
     watch: &mut W,
     awaited: &Awaited,
 ) -> Waited
     requires works { attached.old.broken ≡ false }
-    ensures waited { Spec.IsWaited K.takes K.failures S.gives S.failures W.tells
-        awaited.now attached.old result attached.new }
+    ensures waited { Spec.IsWaited D.Commands.rules D.does K.takes K.failures S.gives S.failures
+        W.tells D.operated awaited.now attached.old result attached.new }
     ensures begun { HasBegun W.begins W.begun attached.old.source watch.old watch.new }
     ensures works { Spec.IsWorking result attached.new.broken }
 {
@@ -150,19 +157,20 @@ fn wait<S: Source, K: Sink, W: Watch<S>>(
 }
 
 // Takes records, until what is awaited holds.
-fn wait_for<S: Source, K: Sink, W: Watch<S>>(
-    attached: &mut Attached<Station, S, K>,
+fn wait_for<D: OperatedDisplay, S: Source, K: Sink, W: Watch<S>>(
+    attached: &mut Attached<StationOn<D>, S, K>,
     watch: &mut W,
     awaited: &Awaited,
 ) -> Waited
     requires works { attached.old.broken ≡ false }
-    ensures waited { Spec.WaitsFor K.takes K.failures S.gives S.failures W.tells
-        (Spec.IsMet awaited.now) attached.old result attached.new }
+    ensures waited { Spec.WaitsFor D.Commands.rules D.does K.takes K.failures S.gives S.failures
+        W.tells (Spec.IsMet D.does.shown D.operated awaited.now)
+        attached.old result attached.new }
     ensures same { watch.new ≡ watch.old }
     ensures works { Spec.IsWorking result attached.new.broken }
 {
     for _ in 0..4_294_967_296u64 {
-        if is_met(attached.end().screen(), awaited) {
+        if is_met(attached.end().display(), awaited) {
             return Waited::Met;
         }
         match hear_record(attached, watch) {
@@ -174,13 +182,15 @@ fn wait_for<S: Source, K: Sink, W: Watch<S>>(
 }
 
 // Whether what is awaited holds; a record is awaited by itself.
-fn is_met(screen: &Screen, awaited: &Awaited) -> bool
-    ensures met { result ≡ true → Spec.IsMet awaited.now screen.now }
-    ensures unmet { result ≡ false → Spec.IsMet awaited.now screen.now → ⊥ }
+fn is_met<D: OperatedDisplay>(display: &D, awaited: &Awaited) -> bool
+    ensures met { result ≡ true
+        → Spec.IsMet D.does.shown D.operated awaited.now display.now }
+    ensures unmet { result ≡ false
+        → Spec.IsMet D.does.shown D.operated awaited.now display.now → ⊥ }
 {
     match awaited {
-        Awaited::Unlocked => !screen.locked(),
-        Awaited::Text(text) => shows(screen, text.as_str()),
+        Awaited::Turn => display.is_turn(),
+        Awaited::Text(text) => shows(display.screen(), text.as_str()),
         Awaited::Record => true,
     }
 }
@@ -199,13 +209,13 @@ fn shows(screen: &Screen, text: &str) -> bool
 }
 
 // Takes one record more.
-fn hear_record<S: Source, K: Sink, W: Watch<S>>(
-    attached: &mut Attached<Station, S, K>,
+fn hear_record<D: OperatedDisplay, S: Source, K: Sink, W: Watch<S>>(
+    attached: &mut Attached<StationOn<D>, S, K>,
     watch: &W,
 ) -> Waited
     requires works { attached.old.broken ≡ false }
-    ensures heard { Spec.HearsOne K.takes K.failures S.gives S.failures W.tells
-        attached.old result attached.new }
+    ensures heard { Spec.HearsOne D.Commands.rules D.does K.takes K.failures S.gives S.failures
+        W.tells attached.old result attached.new }
     ensures works { Spec.IsWorking result attached.new.broken }
 {
     match attached.hear() {

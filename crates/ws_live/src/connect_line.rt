@@ -1,26 +1,24 @@
 ghost use Rattle.std.specs.Prelude.{◌≡◌, ◌++◌, [], ◌<◌, List as Seq, true, length, codes, IfOk, IfErr};
-ghost use Rattle.ws_keys.specs.declared.key.Key.{Key as AKey};
 ghost use Rattle.ws_live.specs.ConnectLines as Spec;
 ghost use Rattle.ws_live.specs.ConnectLines.{BeginsStationLine, IsStationLine, IsStationSoFar};
 ghost use Rattle.ws_live.specs.ScriptFaults.{IsLineFault, IsNoComment, has_no_blank};
 
-use crate::key_name::key_named;
 use crate::live_line::LiveLine;
+use crate::named_key::NamedKey;
 use crate::script::ScriptFault;
 use crate::script_line::{LineFault, add, typed_key};
 use crate::script_move::split_word;
 use std::alloc::Global;
 use std::str;
 use ws_code::List;
-use ws_keys::Key;
 
-/// A line of a script for a station at a host.
+/// A line of a script for a station at a host, whose display has keys of this type.
 #[derive(Drop)]
-pub enum StationLine {
+pub enum StationLine<Q> {
     /// An empty line or a comment.
     Nothing,
     /// The keys are pressed one after another.
-    Press(List<Key>),
+    Press(List<Q>),
     /// The station takes what the host sends, until this holds.
     Await(Awaited),
     /// The fields are printed.
@@ -32,16 +30,16 @@ pub enum StationLine {
 /// What a station waits for.
 #[derive(Drop)]
 pub enum Awaited {
-    /// The keyboard is unlocked.
-    Unlocked,
+    /// It is the operator's turn: in the profile, the keyboard is unlocked.
+    Turn,
     /// One record more was applied.
     Record,
     /// Some row shows this text.
     Text(String),
 }
 
-impl LiveLine for StationLine {
-    ghost means = { λ line inside read. (inside ≡ []) × IsStationLine line read };
+impl<Q: NamedKey> LiveLine for StationLine<Q> {
+    ghost means = { λ line inside read. (inside ≡ []) × IsStationLine Q.words line read };
 
     ghost begins = { BeginsStationLine };
 
@@ -66,10 +64,10 @@ impl LiveLine for StationLine {
 }
 
 // A line without its line end.
-fn read_line(alloc: Global, line: &[u8]) -> Result<StationLine, LineFault>
-    ensures line { IfOk result (IsStationLine line.now) }
-    ensures fault { IfErr result (IsLineFault (IsStationLine line.now)
-        (IsStationSoFar line.now)) }
+fn read_line<Q: NamedKey>(alloc: Global, line: &[u8]) -> Result<StationLine<Q>, LineFault>
+    ensures line { IfOk result (IsStationLine Q.words line.now) }
+    ensures fault { IfErr result (IsLineFault (IsStationLine Q.words line.now)
+        (IsStationSoFar Q.words line.now)) }
 {
     let Ok(text) = str::from_utf8(line) else {
         return Err(LineFault::Bad);
@@ -87,15 +85,15 @@ fn read_line(alloc: Global, line: &[u8]) -> Result<StationLine, LineFault>
 }
 
 // A line that is one word.
-fn read_word(word: &str) -> Result<StationLine, LineFault>
+fn read_word<Q: NamedKey>(word: &str) -> Result<StationLine<Q>, LineFault>
     requires some { 0 < length word.now }
     requires no_blank { has_no_blank word.now ≡ true }
     requires no_comment { IsNoComment word.now }
-    ensures line { IfOk result (Spec.Means word.now) }
-    ensures fault { IfErr result (IsLineFault (Spec.Means word.now) ⊥) }
+    ensures line { IfOk result (Spec.Means Q.words word.now) }
+    ensures fault { IfErr result (IsLineFault (Spec.Means Q.words word.now) ⊥) }
 {
     match word {
-        "await" => Ok(StationLine::Await(Awaited::Unlocked)),
+        "await" => Ok(StationLine::Await(Awaited::Turn)),
         "fields" => Ok(StationLine::Fields),
         "show" => Ok(StationLine::Show),
         _ => Err(LineFault::Bad),
@@ -103,13 +101,17 @@ fn read_word(word: &str) -> Result<StationLine, LineFault>
 }
 
 // A command with words behind its blank.
-fn read_command(alloc: Global, command: &str, words: &str) -> Result<StationLine, LineFault>
+fn read_command<Q: NamedKey>(
+    alloc: Global,
+    command: &str,
+    words: &str,
+) -> Result<StationLine<Q>, LineFault>
     requires no_blank { has_no_blank command.now ≡ true }
     requires no_comment { IsNoComment (command.now ++ codes " " ++ words.now) }
-    ensures line { IfOk result (Spec.Means (command.now ++ codes " " ++ words.now)) }
+    ensures line { IfOk result (Spec.Means Q.words (command.now ++ codes " " ++ words.now)) }
     ensures fault { IfErr result
-        (IsLineFault (Spec.Means (command.now ++ codes " " ++ words.now))
-        (Spec.IsCommandSoFar (command.now ++ codes " " ++ words.now))) }
+        (IsLineFault (Spec.Means Q.words (command.now ++ codes " " ++ words.now))
+        (Spec.IsCommandSoFar Q.words (command.now ++ codes " " ++ words.now))) }
 {
     match command {
         "type" => Ok(StationLine::Press(typed_keys(alloc, words, false)?)),
@@ -121,24 +123,24 @@ fn read_command(alloc: Global, command: &str, words: &str) -> Result<StationLine
 }
 
 // A key for each character of a text.
-fn typed_keys(alloc: Global, text: &str, inserts: bool) -> Result<List<Key>, LineFault>
-    ensures keys { IfOk result (Spec.AreKeysOf inserts text.now) }
+fn typed_keys<Q: NamedKey>(alloc: Global, text: &str, inserts: bool) -> Result<List<Q>, LineFault>
+    ensures keys { IfOk result (Spec.AreKeysOf Q.words inserts text.now) }
     ensures fault { IfErr result (λ fault. fault ≡ LineFault.Memory) }
 {
     let mut keys = Vec::new(alloc);
     for character in text.chars() {
-        add(&mut keys, typed_key(inserts, character))?;
+        add(&mut keys, Q::from_profile(typed_key(inserts, character)))?;
     }
     Ok(List::of(keys))
 }
 
 // The key of this name.
-fn named_key(alloc: Global, name: &str) -> Result<List<Key>, LineFault>
-    ensures keys { IfOk result (Spec.AreNamed name.now) }
-    ensures fault { IfErr result (IsLineFault (Spec.AreNamed name.now)
-        ((keys : Seq AKey) × Spec.AreNamed name.now keys)) }
+fn named_key<Q: NamedKey>(alloc: Global, name: &str) -> Result<List<Q>, LineFault>
+    ensures keys { IfOk result (Spec.AreNamed Q.words name.now) }
+    ensures fault { IfErr result (IsLineFault (Spec.AreNamed Q.words name.now)
+        ((keys : Seq Q) × Spec.AreNamed Q.words name.now keys)) }
 {
-    let Some(key) = key_named(name) else {
+    let Some(key) = Q::named(name) else {
         return Err(LineFault::Bad);
     };
     let mut keys = Vec::new(alloc);

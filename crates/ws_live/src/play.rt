@@ -84,6 +84,7 @@ fn put_events<S: Sink>(sink: &mut S, events: &[Event]) -> Output
     output
 }
 
+/// Writes the lines of an event.
 pub fn put_event<S: Sink>(sink: &mut S, output: Output, event: &Event) -> Output
     ensures { Prints S.takes S.failures sink.old sink.new output result
         (Spec.event_text event.now) }

@@ -9,6 +9,7 @@ ghost use Rattle.ws_live.specs.ScreenLines as Spec;
 ghost use Rattle.ws_live.specs.PlayLines.{AreScreenLines};
 
 use crate::colored_cells::{put_colored_cells, without_last_blanks};
+use crate::operated_display::OperatedDisplay;
 use crate::paint::Paint;
 use ws_code::{ROWS, Sink};
 use ws_screen::{Screen, Shown};
@@ -42,6 +43,21 @@ pub fn put_screen<S: Sink>(sink: &mut S, output: Output, paint: Paint, screen: &
     let output = put_text(sink, output, "screen\n");
     let output = put_rows(sink, output, paint, screen);
     put_state(sink, output, screen)
+}
+
+/// Writes the lines of a display: those of its screen, and what is printed behind them.
+pub fn put_display<D: OperatedDisplay, S: Sink>(
+    sink: &mut S,
+    output: Output,
+    paint: Paint,
+    display: &D,
+) -> Output
+    ensures { (lines : List ℕ)
+        × Spec.IsDisplayText paint (D.does.shown display.now) (D.operated.behind display.now) lines
+        × Prints S.takes S.failures sink.old sink.new output result lines }
+{
+    let output = put_screen(sink, output, paint, display.screen());
+    display.put_behind(sink, output)
 }
 
 // Writes the lines of all rows.

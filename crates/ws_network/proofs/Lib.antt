@@ -1,2 +1,3 @@
+pub mod AnySessionLaws
 pub mod LiveFaults
 pub mod SessionLaws

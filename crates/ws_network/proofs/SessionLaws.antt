@@ -2,6 +2,7 @@ use Rattle.std.proofs.Common.{◌≡◌, ℕ, List, [], ◌∷◌, Bool, true, f
 use Rattle.std.specs.Prelude.{Option, None, Some, MatchOption}
 use Rattle.std.specs.Option.{is_none}
 use Rattle.std.proofs.lemmas.Bool.{false≢true}
+use Rattle.ws_code.specs.Code.{Rules}
 use Rattle.ws_code.specs.Device.{WentOut}
 use Rattle.ws_nego.specs.Host.{opening}
 use Rattle.ws_record.specs.Encode.{plain_spelling}
@@ -9,10 +10,13 @@ use Rattle.ws_record.specs.declared.record.Item.TheVariants.{Telnet}
 use Rattle.ws_stream.specs.Elements.{element_rules}
 use Rattle.ws_session.specs.Attachments.{AttachedParts}
 use Rattle.ws_session.specs.HostLeads.{HostParts, HostLeads, unopened_host_side, side_after_open}
-use Rattle.ws_session.specs.StationLeads.{StationParts, StationLeads}
-use Rattle.ws_session.specs.StationSide.{new_station_side}
+use Rattle.ws_session.specs.Displays.{DisplayOf}
+use Rattle.ws_session.specs.PartsOn.{PartsOn}
+use Rattle.ws_session.specs.StationManners.{new_side_on}
+use Rattle.ws_session.specs.Stations.{LeadsOn}
 use Rattle.ws_live.specs.ConnectText.{IsConnectText}
 use Rattle.ws_live.specs.LiveScript.{AreLiveLines}
+use Rattle.ws_live.specs.Operating.{OperatedOn}
 use Rattle.ws_live.specs.ServeText.{IsServeText}
 use Rattle.ws_live.specs.declared.connect_line.StationLine.{StationLine}
 use Rattle.ws_live.specs.declared.serve_line.HostLine.{HostLine}
@@ -36,21 +40,22 @@ module _ {L V : Type 0} (items : V → List L) (means : List ℕ → List (List 
   )
 
 -- an end at a connection, where the devices are new
-abbrev new_at : {E : Type 0} → E → Reads → Writes → AttachedParts E Reads Writes
+abbrev pub new_at : {E : Type 0} → E → Reads → Writes → AttachedParts E Reads Writes
 new_at end source sink = record { end = end; source = source; sink = sink; waiting = []; broken = false }
 
 -- a station that is new at a connection has carried the lines out
-module _ (asked : ConnectAsked) (lines : List StationLine) (all_well : Bool) (text : List ℕ)
-    (to : AttachedParts StationParts Reads Writes × ℕ) where
-  abbrev Ran : AttachedParts StationParts Reads Writes → ℕ → Type 0
-  Ran attached begun = IsConnectText takes (λ s. s.failures) gives (λ s. s.failures) tells begins (λ n. n)
-      asked.paint asked.ready (attached, begun) lines all_well text to
+module _ {D P U H PlaceV V Q R : Type 0} (rules : Rules P U) (d : DisplayOf D U H PlaceV V Q R)
+    (operated : OperatedOn D) (asked : ConnectAsked) (lines : List (StationLine Q)) (all_well : Bool) (text : List ℕ)
+    (to : AttachedParts (PartsOn D P) Reads Writes × ℕ) where
+  abbrev Ran : AttachedParts (PartsOn D P) Reads Writes → ℕ → Type 0
+  Ran attached begun = IsConnectText rules d takes (λ s. s.failures) gives (λ s. s.failures) tells operated begins
+      (λ n. n) asked.paint asked.ready (attached, begun) lines all_well text to
 
-  pub connected : (station : StationParts) (source : Reads) (sink : Writes)
-      (attached : AttachedParts StationParts Reads Writes) (begun : ℕ)
-      → StationLeads station [] [] (new_station_side asked.terminal)
+  pub connected : (station : PartsOn D P) (source : Reads) (sink : Writes)
+      (attached : AttachedParts (PartsOn D P) Reads Writes) (begun : ℕ)
+      → LeadsOn rules d station [] [] (new_side_on d asked.terminal)
       → attached ≡ new_at station source sink → source ≡ no_reads → sink ≡ no_writes → begun ≡ 0
-      → Ran attached begun → IsConnected asked lines all_well text
+      → Ran attached begun → IsConnected rules d operated asked lines all_well text
   connected station source sink attached begun new is read written none ran = record {
     station = station;
     new = new;

@@ -1,3 +1,5 @@
+pub mod AnySessions
 pub mod LiveFaults
+pub mod LiveSessions
 pub mod Sessions
 pub mod Times

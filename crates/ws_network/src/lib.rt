@@ -2,6 +2,7 @@
 //! standard input.
 #![tactic(auto)]
 
+mod any_input;
 mod live_input;
 mod live_session;
 mod timed_sink;

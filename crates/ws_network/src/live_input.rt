@@ -17,27 +17,29 @@ use std::marker::Model;
 use std::rt::Runtime;
 use ws_code::{Sink, Source};
 use ws_live::{
-    BufferedSink, HostLine, LiveLine, LiveMove, Paint, Ran, ScriptFault, StationLine, Watch,
-    answer_on, carry_line, carry_lines, is_indented,
+    BufferedSink, HostLine, LiveLine, LiveMove, NamedKey, OperatedDisplay, Paint, Ran, ScriptFault,
+    StationLine, Watch, answer_on, carry_line, carry_lines, is_indented,
 };
 use ws_program::RunFault;
-use ws_session::{Attached, HostEnd, Station};
+use ws_session::{Attached, HostEnd, StationOn};
 
 /// Carries out the lines of a script at a station, or without one those of standard input: true where all went well.
 /// Screens are printed in the paint.
 ///
 /// Faults as `carry_lines` has them; without a script also `Read` where standard input fails, and `Line` and `Memory`
 /// where a line of it is bad, or a growth was refused in reading it.
-pub fn carry_at_station<R, S, K, W, O>(
+pub fn carry_at_station<D, R, S, K, W, O>(
     rt: &R,
-    attached: &mut Attached<Station, S, K>,
+    attached: &mut Attached<StationOn<D>, S, K>,
     watch: &mut W,
-    script: Option<Vec<StationLine>>,
+    script: Option<Vec<StationLine<D::Key>>>,
     ready: bool,
     paint: Paint,
     out: &mut BufferedSink<O>,
 ) -> Result<bool, RunFault>
 where
+    D: OperatedDisplay,
+    D::Key: NamedKey,
     R: Runtime + AllocGlobal,
     S: Source,
     K: Sink,
@@ -45,15 +47,17 @@ where
     O: Sink,
     requires works { attached.old.broken ≡ false }
     requires empty { out.old.held ≡ [] }
-    ensures ran { IfOk result (λ all_well. (lines : List AStationLine) × (text : List ℕ)
+    ensures ran { IfOk result (λ all_well. (lines : List (AStationLine D.Key)) × (text : List ℕ)
         × MatchOption script (Unit {0}) (λ asked. lines ≡ asked.items)
-        × IsConnectText K.takes K.failures S.gives S.failures W.tells W.begins W.begun
+        × IsConnectText D.Commands.rules D.does K.takes K.failures S.gives S.failures
+        W.tells D.operated W.begins W.begun
         paint ready (attached.old, watch.old) lines all_well text (attached.new, watch.new)
         × WentOut O.takes O.failures out.old.sink out.new.sink text) }
-    ensures fault { IfErr result (λ fault. (lines : List AStationLine)
+    ensures fault { IfErr result (λ fault. (lines : List (AStationLine D.Key))
         × MatchOption script (Unit {0}) (λ asked. lines ≡ asked.items)
         × IsSessionFault
-        (InTime (StationRuns K.takes K.failures S.gives S.failures W.tells paint)
+        (InTime (StationRuns D.Commands.rules D.does K.takes K.failures S.gives S.failures
+        W.tells D.operated paint)
         station_waits W.begins W.begun) ready O.takes O.failures
         (attached.old, watch.old) (attached.new, watch.new) out.old.sink out.new.sink
         (is_some script) lines fault) }
@@ -108,8 +112,8 @@ where
     }
 }
 
-// Carries out the lines of a script, or without one those of standard input.
-fn carry_session<R, E, S, K, L, W, O>(
+/// Carries out the lines of a script, or without one those of standard input.
+pub fn carry_session<R, E, S, K, L, W, O>(
     rt: &R,
     attached: &mut Attached<E, S, K>,
     watch: &mut W,

@@ -4,8 +4,11 @@ ghost use Rattle.std.specs.Prelude.{◌≡◌, [], ℕ, List, true, IfOk, OnOk, 
 ghost use Rattle.std.specs.Option.{is_none};
 ghost use Rattle.ws_code.specs.Device.{WentOut};
 ghost use Rattle.ws_live.specs.LiveScript.{AreLiveLines};
-ghost use Rattle.ws_network.specs.Sessions.{HasConnected, HasServed, HasRunLive};
+ghost use Rattle.ws_network.specs.AnySessions.{HasAnyServed};
+ghost use Rattle.ws_network.specs.LiveSessions.{HasServedAs, HasRunLive};
+ghost use Rattle.ws_network.specs.Sessions.{HasConnected, HasConnectedOn, HasServed};
 
+use crate::any_input::carry_at_any_host;
 use crate::live_input::{carry_at_host, carry_at_station};
 use crate::timed_sink::TimedSink;
 use crate::timed_source::TimedSource;
@@ -15,10 +18,14 @@ use std::net::{Net, Shutdown, TcpListener, TcpStream, ToSocketAddrs};
 use std::rt::{Files, Runtime};
 use std::time::{Clock, Duration};
 use std::{fs, io};
+use ws_any_host::{AnyHost, AnyLine};
 use ws_code::{Sink, Source, write_whole};
-use ws_live::{BufferedSink, HostLine, LiveLine, StationLine, hand_on, read_lines};
+use ws_extended_station::ExtendedDisplay;
+use ws_live::{
+    BufferedSink, HostLine, LiveLine, NamedKey, OperatedDisplay, StationLine, hand_on, read_lines,
+};
 use ws_program::{OpenStreams, RunFault};
-use ws_session::{Attached, HostEnd, Station};
+use ws_session::{Attached, HostEnd, ProfileDisplay, StationOn};
 use ws_text::{Output, put_text};
 use ws_words::{ConnectAsked, HostPort, Live, ServeAsked};
 
@@ -65,7 +72,30 @@ where
     ensures { IfOk result
         (HasConnected O.takes O.failures out.old.sink out.new.sink asked.now) }
 {
-    let script = read_script_file::<R, StationLine>(rt, asked.script)?;
+    if asked.extended {
+        connect_on::<ExtendedDisplay, R, O>(rt, asked, streams, out)
+    } else {
+        connect_on::<ProfileDisplay, R, O>(rt, asked, streams, out)
+    }
+}
+
+// The same on this display.
+fn connect_on<D, R, O>(
+    rt: &R,
+    asked: &ConnectAsked<'_>,
+    streams: OpenStreams,
+    out: &mut BufferedSink<O>,
+) -> Result<bool, RunFault>
+where
+    D: OperatedDisplay,
+    D::Key: NamedKey,
+    R: Runtime + AllocGlobal + Net<Listener = TcpListener, Stream = TcpStream>,
+    O: Sink,
+    requires empty { out.old.held ≡ [] }
+    ensures { IfOk result (HasConnectedOn O.takes O.failures out.old.sink out.new.sink
+        D.Commands.rules D.does D.operated D.Key.words asked.now) }
+{
+    let script = read_script_file::<R, StationLine<D::Key>>(rt, asked.script)?;
     streams.suffice(script.is_none())?;
     let limit = Duration::from_secs(u64::from(asked.wait));
     let timer = Timer::new(rt, limit);
@@ -73,7 +103,7 @@ where
         return Err(RunFault::NoConnection);
     };
     let mut attached = Attached::new(
-        Station::new(asked.terminal),
+        StationOn::<D>::new(asked.terminal),
         TimedSource::new(&stream, &timer),
         TimedSink::new(&stream, &timer),
     );
@@ -92,6 +122,27 @@ where
 
 // A host for one station.
 fn serve<R, O>(
+    rt: &R,
+    asked: &ServeAsked<'_>,
+    streams: OpenStreams,
+    out: &mut BufferedSink<O>,
+) -> Result<bool, RunFault>
+where
+    R: Runtime + AllocGlobal + Net<Listener = TcpListener, Stream = TcpStream>,
+    O: Sink,
+    requires empty { out.old.held ≡ [] }
+    ensures { IfOk result (HasServedAs O.takes O.failures out.old.sink out.new.sink
+        asked.now.any asked.now) }
+{
+    if asked.any {
+        serve_any(rt, asked, streams, out)
+    } else {
+        serve_profile(rt, asked, streams, out)
+    }
+}
+
+// A host that takes the profile's records.
+fn serve_profile<R, O>(
     rt: &R,
     asked: &ServeAsked<'_>,
     streams: OpenStreams,
@@ -121,6 +172,48 @@ where
     let source = TimedSource::new(&stream, &timer);
     let mut attached = Attached::new(host, source, sink);
     let all_well = carry_at_host(
+        rt,
+        &mut attached,
+        &mut Waits::new(&timer),
+        script,
+        asked.ready,
+        out,
+    )?;
+    close(rt, &stream);
+    Ok(all_well)
+}
+
+// A host that takes any record.
+fn serve_any<R, O>(
+    rt: &R,
+    asked: &ServeAsked<'_>,
+    streams: OpenStreams,
+    out: &mut BufferedSink<O>,
+) -> Result<bool, RunFault>
+where
+    R: Runtime + AllocGlobal + Net<Listener = TcpListener, Stream = TcpStream>,
+    O: Sink,
+    requires empty { out.old.held ≡ [] }
+    ensures { IfOk result
+        (HasAnyServed O.takes O.failures out.old.sink out.new.sink asked.now) }
+{
+    let script = read_script_file::<R, AnyLine>(rt, asked.script)?;
+    streams.suffice(script.is_none())?;
+    let limit = Duration::from_secs(u64::from(asked.wait));
+    let Ok(listener) = TcpListener::bind(rt, (asked.address.host, asked.address.port)) else {
+        return Err(RunFault::NoConnection);
+    };
+    put_listening(rt, &listener, out)?;
+    let Ok(stream) = accept(&listener) else {
+        return Err(RunFault::NoConnection);
+    };
+    let timer = Timer::new(rt, limit);
+    let mut host = AnyHost::new(rt.alloc());
+    let mut sink = TimedSink::new(&stream, &timer);
+    write_whole(&mut sink, host.open().as_slice())?;
+    let source = TimedSource::new(&stream, &timer);
+    let mut attached = Attached::new(host, source, sink);
+    let all_well = carry_at_any_host(
         rt,
         &mut attached,
         &mut Waits::new(&timer),

@@ -1,16 +1,31 @@
-use Rattle.std.proofs.Common.{◌≡◌, ◌≢◌, ℕ, ◌<◌, List, [], ◌∷◌, ◌++◌, length, refl, sym, ap, ◌∙◌, subst}
+use Rattle.std.proofs.Common.{◌≡◌, ℕ, List, [], length, refl, sym, ap, ◌∙◌, subst}
 use Rattle.std.proofs.Common.{arith, inl, inr}
-use Rattle.std.specs.Prelude.{Bool, true, false, Option, Some, None, Result, Ok, Err, ◌⊎◌, IfOk, IfErr}
+use Rattle.std.specs.Prelude.{Bool, true, false, None, Result, Ok, Err, IfOk, IfErr}
 use Rattle.ws_code.specs.Code.{Rules}
-use Rattle.ws_code.specs.Device.{MayTake, Taken, Writes, WentOut, FailedAfter, FailedWithin}
-use Rattle.ws_code.specs.Device.{IsWriteFailure}
+use Rattle.ws_code.specs.Device.{MayTake, WentOut, FailedWithin}
 use Rattle.ws_code.specs.declared.fault.Fault.TheVariants as device
 use Rattle.ws_live.specs.Buffering.{Buffering, buffered_takes}
 use Rattle.ws_live.proofs.Buffers.{flushed_out, flush_fails, fails_behind}
-use Rattle.ws_program.specs.Answering.{HasAnswered, IsAnswerFault}
-use Rattle.ws_program.specs.StreamText.{View, Placed, lines_of, AreShown, AreFirstLines}
+use Rattle.ws_record.specs.declared.record.Item.{Item}
+use Rattle.ws_stream.specs.Elements.{element_rules}
+use Rattle.ws_stream.specs.AnswerParts.{answer_rules}
+use Rattle.ws_extended.specs.ExtendedElements.{extended_rules}
+use Rattle.ws_text.specs.AnswerWords.{answer_wording}
+use Rattle.ws_text.specs.ElementWords.{element_wording}
+use Rattle.ws_text.specs.ExtendedWords.{extended_wording}
+use Rattle.ws_text.specs.Shown.{Shows, ShowsAnswers, ShowsExtended}
+use Rattle.ws_text.specs.Wording.{Wording}
+use Rattle.ws_program.specs.Answering.{HasAnswered, HasChecked, HasCheckedHex, HasShown, IsAnswerFault, IsHexFault}
+use Rattle.ws_program.specs.Answering.{IsCheckHexFault}
+use Rattle.ws_program.specs.Checking.{IsCheckFault}
+use Rattle.ws_program.specs.Making.{HasMade, IsMakeFault}
+use Rattle.ws_program.specs.StreamText.{View, Placed, lines_of, AreShown, AreFirstLines, IsShowFault}
+use Rattle.ws_program.specs.ExtendedView.{extended_view}
+use Rattle.ws_program.specs.Views.{painted_host_view, answer_view}
 use Rattle.ws_words.specs.declared.command_line.Asked.{Asked}
 use Rattle.ws_words.specs.declared.command_line.Asked.TheVariants.{Check, Show, Play, Make}
+use Rattle.ws_words.specs.declared.command_line.Sender.{Sender}
+use Rattle.ws_words.specs.declared.command_line.Sender.TheVariants.{Host, ExtendedHost, Station}
 use Rattle.ws_program.specs.declared.fault.RunFault.{RunFault}
 use Rattle.ws_program.specs.declared.fault.RunFault.TheVariants.{Read, NotHex, Line, Memory}
 use Rattle.ws_program.specs.declared.fault.RunFault.TheVariants.{Write, NoConnection, Refused}
@@ -32,26 +47,57 @@ module _ {S : Type 0} (takes : MayTake S) (failures : S → ℕ) (count : Buffer
   none_fails none f = omega (arith, f.within, ap length none)
 
   module _ (out : WentOut takes failures mid.sink to mid.held) (idle : mid.held ≡ [] → to ≡ mid.sink) where
+    -- the line of a check
+    check_flushed : {Place U : Type 0} (rules : Rules Place U) (bytes : List ℕ) (accepted : Bool)
+        → HasChecked (buffered_takes takes failures) count from mid rules bytes accepted
+        → HasChecked takes failures from.sink to rules bytes accepted
+    check_flushed rules bytes accepted h =
+        (h.0, h.1, h.2, flushed_out takes failures count from empty mid to _ h.3 out)
+
+    check_hex_flushed : (sender : Sender) (input : List ℕ) (accepted : Bool)
+        → HasCheckedHex (buffered_takes takes failures) count from mid sender input accepted
+        → HasCheckedHex takes failures from.sink to sender input accepted
+    check_hex_flushed Host input accepted h = (h.0, h.1, check_flushed element_rules h.0 accepted h.2)
+    check_hex_flushed ExtendedHost input accepted h = (h.0, h.1, check_flushed extended_rules h.0 accepted h.2)
+    check_hex_flushed Station input accepted h = (h.0, h.1, check_flushed answer_rules h.0 accepted h.2)
+
+    -- what is shown
+    show_flushed : {Place U : Type 0} (rules : Rules Place U) (view : View U) (bytes : List ℕ) (accepted : Bool)
+        → HasShown (buffered_takes takes failures) count from mid rules view bytes accepted
+        → HasShown takes failures from.sink to rules view bytes accepted
+    show_flushed rules view bytes accepted h =
+        (h.0, h.1, flushed_out takes failures count from empty mid to h.0 h.2 out)
+
+    -- what is made
+    make_flushed : {Place U : Type 0} (rules : Rules Place U) (w : Wording U)
+        (Showing : List ℕ → List (Item U) → Type 0)
+        (input : List ℕ) (accepted : Bool)
+        → HasMade rules w Showing (buffered_takes takes failures) count from mid input accepted
+        → HasMade rules w Showing takes failures from.sink to input accepted
+    make_flushed rules w Showing input accepted h =
+        (h.0, h.1, flushed_out takes failures count from empty mid to _ h.2 out, h.3)
+
     -- all that it did
     pub done_flushed : (asked : Asked) (input : List ℕ) (accepted : Bool)
         → HasAnswered (buffered_takes takes failures) count from mid asked input accepted
         → HasAnswered takes failures from.sink to asked input accepted
-    done_flushed (Check file cut false) input accepted h =
-        (h.0, h.1, (h.2.0, h.2.1, h.2.2, flushed_out takes failures count from empty mid to _ h.2.3 out))
-    done_flushed (Check file cut true) input accepted h =
-        (h.0, h.1, (h.2.0, h.2.1, h.2.2, flushed_out takes failures count from empty mid to _ h.2.3 out))
-    done_flushed (Show file false paint) input accepted h =
-        (h.0, h.1, (h.2.0, h.2.1, flushed_out takes failures count from empty mid to h.2.0 h.2.2 out))
-    done_flushed (Show file true paint) input accepted h =
-        (h.0, h.1, (h.2.0, h.2.1, flushed_out takes failures count from empty mid to h.2.0 h.2.2 out))
+    done_flushed (Check file cut sender) input accepted h = check_hex_flushed sender input accepted h
+    done_flushed (Show file Host paint) input accepted h =
+        (h.0, h.1, show_flushed element_rules (painted_host_view paint) h.0 accepted h.2)
+    done_flushed (Show file ExtendedHost paint) input accepted h =
+        (h.0, h.1, show_flushed extended_rules (extended_view paint) h.0 accepted h.2)
+    done_flushed (Show file Station paint) input accepted h =
+        (h.0, h.1, show_flushed answer_rules answer_view h.0 accepted h.2)
     done_flushed (Play file screen false paint) input accepted h =
         (h.0, h.1, h.2, h.3, flushed_out takes failures count from empty mid to h.2 h.4 out, h.5)
     done_flushed (Play file screen true paint) input accepted h =
         (h.0, h.1, h.2, h.3, flushed_out takes failures count from empty mid to h.2 h.4 out)
-    done_flushed (Make file false) input accepted h =
-        (h.0, h.1, flushed_out takes failures count from empty mid to _ h.2 out, h.3)
-    done_flushed (Make file true) input accepted h =
-        (h.0, h.1, flushed_out takes failures count from empty mid to _ h.2 out, h.3)
+    done_flushed (Make file Host) input accepted h =
+        make_flushed element_rules element_wording Shows input accepted h
+    done_flushed (Make file ExtendedHost) input accepted h =
+        make_flushed extended_rules extended_wording ShowsExtended input accepted h
+    done_flushed (Make file Station) input accepted h =
+        make_flushed answer_rules answer_wording ShowsAnswers input accepted h
 
     unchanged : mid ≡ from → to ≡ from.sink
     unchanged same = idle (none_held same) ∙ ap (λ (b : Buffering S). b.sink) same
@@ -62,52 +108,76 @@ module _ {S : Type 0} (takes : MayTake S) (failures : S → ℕ) (count : Buffer
         let g = fails_behind takes failures count from empty mid text f in
         subst (λ (s : S). FailedWithin takes failures from.sink s text) (sym (idle g.1)) g.0
 
-    -- or its fault
+    -- or its fault: of a check
+    check_fault_flushed : {Place U : Type 0} (rules : Rules Place U) (input : List ℕ) (fault : RunFault)
+        → IsHexFault (buffered_takes takes failures) count from mid
+        (IsCheckFault rules (buffered_takes takes failures) count from mid) input fault
+        → IsHexFault takes failures from.sink to (IsCheckFault rules takes failures from.sink to) input fault
+    check_fault_flushed rules input NotHex f = (unchanged f.0, f.1)
+    check_fault_flushed rules input Memory (b, h, inl e) = (b, h, inl (unchanged e))
+    check_fault_flushed rules input Memory (b, h, inr e) = (b, h, inl (unchanged e))
+    check_fault_flushed rules input Write f = (f.0, f.1, (f.2.0, f.2.1, fails_too f.2.0 f.2.2))
+    check_fault_flushed rules input Read f = absurd f
+    check_fault_flushed rules input (Refused place reason) f = absurd f
+    check_fault_flushed rules input (Truncated n) f = absurd f
+    check_fault_flushed rules input NoConnection f = absurd f
+    check_fault_flushed rules input Failed f = absurd f
+    check_fault_flushed rules input (Line number) f = absurd f
+
+    check_hex_fault_flushed : (sender : Sender) (input : List ℕ) (fault : RunFault)
+        → IsCheckHexFault (buffered_takes takes failures) count from mid sender input fault
+        → IsCheckHexFault takes failures from.sink to sender input fault
+    check_hex_fault_flushed Host input fault f = check_fault_flushed element_rules input fault f
+    check_hex_fault_flushed ExtendedHost input fault f = check_fault_flushed extended_rules input fault f
+    check_hex_fault_flushed Station input fault f = check_fault_flushed answer_rules input fault f
+
+    -- of what is shown
+    show_fault_flushed : {Place U : Type 0} (rules : Rules Place U) (view : View U) (input : List ℕ) (fault : RunFault)
+        → IsHexFault (buffered_takes takes failures) count from mid
+        (IsShowFault (buffered_takes takes failures) count from mid rules view) input fault
+        → IsHexFault takes failures from.sink to (IsShowFault takes failures from.sink to rules view) input fault
+    show_fault_flushed rules view input NotHex f = (unchanged f.0, f.1)
+    show_fault_flushed rules view input Memory (b, h, inl e) = (b, h, inl (unchanged e))
+    show_fault_flushed rules view input Memory (b, h, inr e) =
+        (b, h, inr (e.0, e.1, e.2, flushed_out takes failures count from empty mid to _ e.3 out))
+    show_fault_flushed rules view input Write f = (f.0, f.1, (f.2.0, f.2.1, fails_too f.2.0 f.2.2))
+    show_fault_flushed rules view input Read f = absurd f
+    show_fault_flushed rules view input (Refused place reason) f = absurd f
+    show_fault_flushed rules view input (Truncated n) f = absurd f
+    show_fault_flushed rules view input NoConnection f = absurd f
+    show_fault_flushed rules view input Failed f = absurd f
+    show_fault_flushed rules view input (Line number) f = absurd f
+
+    -- of what is made
+    make_fault_flushed : {Place U : Type 0} (rules : Rules Place U) (w : Wording U)
+        (Showing : List ℕ → List (Item U) → Type 0)
+        (input : List ℕ) (fault : RunFault)
+        → IsMakeFault rules w Showing (buffered_takes takes failures) count from mid input fault
+        → IsMakeFault rules w Showing takes failures from.sink to input fault
+    make_fault_flushed rules w Showing input (Line number) f = (unchanged f.0, f.1)
+    make_fault_flushed rules w Showing input Memory f = (unchanged f.0, f.1)
+    make_fault_flushed rules w Showing input Write f = (f.0, f.1, fails_too _ f.2)
+    make_fault_flushed rules w Showing input NotHex f = absurd f
+    make_fault_flushed rules w Showing input Read f = absurd f
+    make_fault_flushed rules w Showing input (Refused place reason) f = absurd f
+    make_fault_flushed rules w Showing input (Truncated n) f = absurd f
+    make_fault_flushed rules w Showing input NoConnection f = absurd f
+    make_fault_flushed rules w Showing input Failed f = absurd f
+
     pub fault_flushed : (asked : Asked) (input : List ℕ) (fault : RunFault)
         → IsAnswerFault (buffered_takes takes failures) count from mid asked input fault
         → IsAnswerFault takes failures from.sink to asked input fault
-    fault_flushed (Check file cut false) input NotHex f = (unchanged f.0, f.1)
-    fault_flushed (Check file cut false) input Memory (b, h, inl e) = (b, h, inl (unchanged e))
-    fault_flushed (Check file cut false) input Memory (b, h, inr e) = (b, h, inl (unchanged e))
-    fault_flushed (Check file cut false) input Write f = (f.0, f.1, (f.2.0, f.2.1, fails_too f.2.0 f.2.2))
-    fault_flushed (Check file cut false) input Read f = absurd f
-    fault_flushed (Check file cut false) input (Refused place reason) f = absurd f
-    fault_flushed (Check file cut false) input (Truncated n) f = absurd f
-    fault_flushed (Check file cut false) input NoConnection f = absurd f
-    fault_flushed (Check file cut false) input Failed f = absurd f
-    fault_flushed (Check file cut false) input (Line number) f = absurd f
-    fault_flushed (Check file cut true) input NotHex f = (unchanged f.0, f.1)
-    fault_flushed (Check file cut true) input Memory (b, h, inl e) = (b, h, inl (unchanged e))
-    fault_flushed (Check file cut true) input Memory (b, h, inr e) = (b, h, inl (unchanged e))
-    fault_flushed (Check file cut true) input Write f = (f.0, f.1, (f.2.0, f.2.1, fails_too f.2.0 f.2.2))
-    fault_flushed (Check file cut true) input Read f = absurd f
-    fault_flushed (Check file cut true) input (Refused place reason) f = absurd f
-    fault_flushed (Check file cut true) input (Truncated n) f = absurd f
-    fault_flushed (Check file cut true) input NoConnection f = absurd f
-    fault_flushed (Check file cut true) input Failed f = absurd f
-    fault_flushed (Check file cut true) input (Line number) f = absurd f
-    fault_flushed (Show file false paint) input NotHex f = (unchanged f.0, f.1)
-    fault_flushed (Show file true paint) input NotHex f = (unchanged f.0, f.1)
-    fault_flushed (Show file false paint) input Memory (b, h, inl e) = (b, h, inl (unchanged e))
-    fault_flushed (Show file true paint) input Memory (b, h, inl e) = (b, h, inl (unchanged e))
-    fault_flushed (Show file false paint) input Memory (b, h, inr e) =
-        (b, h, inr (e.0, e.1, e.2, flushed_out takes failures count from empty mid to _ e.3 out))
-    fault_flushed (Show file true paint) input Memory (b, h, inr e) =
-        (b, h, inr (e.0, e.1, e.2, flushed_out takes failures count from empty mid to _ e.3 out))
-    fault_flushed (Show file false paint) input Write f = (f.0, f.1, (f.2.0, f.2.1, fails_too f.2.0 f.2.2))
-    fault_flushed (Show file true paint) input Write f = (f.0, f.1, (f.2.0, f.2.1, fails_too f.2.0 f.2.2))
-    fault_flushed (Show file false paint) input Read f = absurd f
-    fault_flushed (Show file true paint) input Read f = absurd f
-    fault_flushed (Show file false paint) input (Refused place reason) f = absurd f
-    fault_flushed (Show file true paint) input (Refused place reason) f = absurd f
-    fault_flushed (Show file false paint) input (Truncated n) f = absurd f
-    fault_flushed (Show file true paint) input (Truncated n) f = absurd f
-    fault_flushed (Show file false paint) input NoConnection f = absurd f
-    fault_flushed (Show file true paint) input NoConnection f = absurd f
-    fault_flushed (Show file false paint) input Failed f = absurd f
-    fault_flushed (Show file true paint) input Failed f = absurd f
-    fault_flushed (Show file false paint) input (Line number) f = absurd f
-    fault_flushed (Show file true paint) input (Line number) f = absurd f
+    fault_flushed (Check file cut sender) input fault f = check_hex_fault_flushed sender input fault f
+    fault_flushed (Show file Host paint) input fault f =
+        show_fault_flushed element_rules (painted_host_view paint) input fault f
+    fault_flushed (Show file ExtendedHost paint) input fault f =
+        show_fault_flushed extended_rules (extended_view paint) input fault f
+    fault_flushed (Show file Station paint) input fault f = show_fault_flushed answer_rules answer_view input fault f
+    fault_flushed (Make file Host) input fault f = make_fault_flushed element_rules element_wording Shows input fault f
+    fault_flushed (Make file ExtendedHost) input fault f =
+        make_fault_flushed extended_rules extended_wording ShowsExtended input fault f
+    fault_flushed (Make file Station) input fault f =
+        make_fault_flushed answer_rules answer_wording ShowsAnswers input fault f
     fault_flushed (Play file screen false paint) input (Line number) f = (unchanged f.0, f.1)
     fault_flushed (Play file screen false paint) input Memory f = (unchanged f.0, f.1)
     fault_flushed (Play file screen false paint) input Write f = (f.0, f.1, f.2, f.3, fails_too f.2 f.4)
@@ -128,46 +198,56 @@ module _ {S : Type 0} (takes : MayTake S) (failures : S → ℕ) (count : Buffer
     fault_flushed (Play file screen true paint) input (Refused place reason) f = absurd f
     fault_flushed (Play file screen true paint) input (Truncated n) f = absurd f
     fault_flushed (Play file screen true paint) input Failed f = absurd f
-    fault_flushed (Make file false) input (Line number) f = (unchanged f.0, f.1)
-    fault_flushed (Make file false) input Memory f = (unchanged f.0, f.1)
-    fault_flushed (Make file false) input Write f = (f.0, f.1, fails_too _ f.2)
-    fault_flushed (Make file false) input NotHex f = absurd f
-    fault_flushed (Make file false) input Read f = absurd f
-    fault_flushed (Make file false) input (Refused place reason) f = absurd f
-    fault_flushed (Make file false) input (Truncated n) f = absurd f
-    fault_flushed (Make file false) input NoConnection f = absurd f
-    fault_flushed (Make file false) input Failed f = absurd f
-    fault_flushed (Make file true) input (Line number) f = (unchanged f.0, f.1)
-    fault_flushed (Make file true) input Memory f = (unchanged f.0, f.1)
-    fault_flushed (Make file true) input Write f = (f.0, f.1, fails_too _ f.2)
-    fault_flushed (Make file true) input NotHex f = absurd f
-    fault_flushed (Make file true) input Read f = absurd f
-    fault_flushed (Make file true) input (Refused place reason) f = absurd f
-    fault_flushed (Make file true) input (Truncated n) f = absurd f
-    fault_flushed (Make file true) input NoConnection f = absurd f
-    fault_flushed (Make file true) input Failed f = absurd f
 
   module _ (none : FailedWithin takes failures mid.sink to mid.held) where
     -- what it did doesn't go out whole
+    check_unflushed : {Place U : Type 0} (rules : Rules Place U) (bytes : List ℕ) (accepted : Bool)
+        → HasChecked (buffered_takes takes failures) count from mid rules bytes accepted
+        → IsCheckFault rules takes failures from.sink to bytes device.Write
+    check_unflushed rules bytes accepted h =
+        (_, (h.0, h.1, refl), flush_fails takes failures count from empty mid to _ h.3 none)
+
+    check_hex_unflushed : (sender : Sender) (input : List ℕ) (accepted : Bool)
+        → HasCheckedHex (buffered_takes takes failures) count from mid sender input accepted
+        → IsCheckHexFault takes failures from.sink to sender input Write
+    check_hex_unflushed Host input accepted h = (h.0, h.1, check_unflushed element_rules h.0 accepted h.2)
+    check_hex_unflushed ExtendedHost input accepted h = (h.0, h.1, check_unflushed extended_rules h.0 accepted h.2)
+    check_hex_unflushed Station input accepted h = (h.0, h.1, check_unflushed answer_rules h.0 accepted h.2)
+
+    show_unflushed : {Place U : Type 0} (rules : Rules Place U) (view : View U) (bytes : List ℕ) (accepted : Bool)
+        → HasShown (buffered_takes takes failures) count from mid rules view bytes accepted
+        → IsShowFault takes failures from.sink to rules view bytes device.Write
+    show_unflushed rules view bytes accepted h =
+        (h.0, inr (accepted, h.1), flush_fails takes failures count from empty mid to h.0 h.2 none)
+
+    make_unflushed : {Place U : Type 0} (rules : Rules Place U) (w : Wording U)
+        (Showing : List ℕ → List (Item U) → Type 0)
+        (input : List ℕ) (accepted : Bool)
+        → HasMade rules w Showing (buffered_takes takes failures) count from mid input accepted
+        → IsMakeFault rules w Showing takes failures from.sink to input Write
+    make_unflushed rules w Showing input accepted h =
+        (h.0, h.1, flush_fails takes failures count from empty mid to _ h.2 none)
+
     done_unflushed : (asked : Asked) (input : List ℕ) (accepted : Bool)
         → HasAnswered (buffered_takes takes failures) count from mid asked input accepted
         → IsAnswerFault takes failures from.sink to asked input Write
-    done_unflushed (Check file cut false) input accepted h =
-        (h.0, h.1, (_, (h.2.0, h.2.1, refl), flush_fails takes failures count from empty mid to _ h.2.3 none))
-    done_unflushed (Check file cut true) input accepted h =
-        (h.0, h.1, (_, (h.2.0, h.2.1, refl), flush_fails takes failures count from empty mid to _ h.2.3 none))
-    done_unflushed (Show file false paint) input accepted h =
-        (h.0, h.1, (h.2.0, inr (accepted, h.2.1), flush_fails takes failures count from empty mid to h.2.0 h.2.2 none))
-    done_unflushed (Show file true paint) input accepted h =
-        (h.0, h.1, (h.2.0, inr (accepted, h.2.1), flush_fails takes failures count from empty mid to h.2.0 h.2.2 none))
+    done_unflushed (Check file cut sender) input accepted h = check_hex_unflushed sender input accepted h
+    done_unflushed (Show file Host paint) input accepted h =
+        (h.0, h.1, show_unflushed element_rules (painted_host_view paint) h.0 accepted h.2)
+    done_unflushed (Show file ExtendedHost paint) input accepted h =
+        (h.0, h.1, show_unflushed extended_rules (extended_view paint) h.0 accepted h.2)
+    done_unflushed (Show file Station paint) input accepted h =
+        (h.0, h.1, show_unflushed answer_rules answer_view h.0 accepted h.2)
     done_unflushed (Play file screen false paint) input accepted h =
         (h.0, h.1, h.2, h.3, flush_fails takes failures count from empty mid to h.2 h.4 none)
     done_unflushed (Play file screen true paint) input accepted h =
         (h.0, h.1, inr (accepted, h.2, h.3, flush_fails takes failures count from empty mid to h.2 h.4 none))
-    done_unflushed (Make file false) input accepted h =
-        (h.0, h.1, flush_fails takes failures count from empty mid to _ h.2 none)
-    done_unflushed (Make file true) input accepted h =
-        (h.0, h.1, flush_fails takes failures count from empty mid to _ h.2 none)
+    done_unflushed (Make file Host) input accepted h =
+        make_unflushed element_rules element_wording Shows input accepted h
+    done_unflushed (Make file ExtendedHost) input accepted h =
+        make_unflushed extended_rules extended_wording ShowsExtended input accepted h
+    done_unflushed (Make file Station) input accepted h =
+        make_unflushed answer_rules answer_wording ShowsAnswers input accepted h
 
     unheld : {X : Type 0} → mid ≡ from → X
     unheld same = absurd (none_fails (none_held same) none)
@@ -176,51 +256,76 @@ module _ {S : Type 0} (takes : MayTake S) (failures : S → ℕ) (count : Buffer
     unfailed text f = absurd (none_fails (fails_behind takes failures count from empty mid text f).1 none)
 
     -- behind a fault neither
+    check_fault_unflushed : {Place U : Type 0} (rules : Rules Place U) (input : List ℕ) (fault : RunFault)
+        → IsHexFault (buffered_takes takes failures) count from mid
+        (IsCheckFault rules (buffered_takes takes failures) count from mid) input fault
+        → IsHexFault takes failures from.sink to (IsCheckFault rules takes failures from.sink to) input Write
+    check_fault_unflushed rules input NotHex f = unheld f.0
+    check_fault_unflushed rules input Memory (b, h, inl e) = unheld e
+    check_fault_unflushed rules input Memory (b, h, inr e) = unheld e
+    check_fault_unflushed rules input Write f = unfailed f.2.0 f.2.2
+    check_fault_unflushed rules input Read f = absurd f
+    check_fault_unflushed rules input (Refused place reason) f = absurd f
+    check_fault_unflushed rules input (Truncated n) f = absurd f
+    check_fault_unflushed rules input NoConnection f = absurd f
+    check_fault_unflushed rules input Failed f = absurd f
+    check_fault_unflushed rules input (Line number) f = absurd f
+
+    check_hex_fault_unflushed : (sender : Sender) (input : List ℕ) (fault : RunFault)
+        → IsCheckHexFault (buffered_takes takes failures) count from mid sender input fault
+        → IsCheckHexFault takes failures from.sink to sender input Write
+    check_hex_fault_unflushed Host input fault f = check_fault_unflushed element_rules input fault f
+    check_hex_fault_unflushed ExtendedHost input fault f = check_fault_unflushed extended_rules input fault f
+    check_hex_fault_unflushed Station input fault f = check_fault_unflushed answer_rules input fault f
+
+    show_fault_unflushed : {Place U : Type 0} (rules : Rules Place U) (view : View U)
+        (input : List ℕ) (fault : RunFault)
+        → IsHexFault (buffered_takes takes failures) count from mid
+        (IsShowFault (buffered_takes takes failures) count from mid rules view) input fault
+        → IsHexFault takes failures from.sink to (IsShowFault takes failures from.sink to rules view) input Write
+    show_fault_unflushed rules view input NotHex f = unheld f.0
+    show_fault_unflushed rules view input Memory (b, h, inl e) = unheld e
+    show_fault_unflushed rules view input Memory (b, h, inr e) =
+        (b, h, (_, inl (first_lines e.0 e.1), flush_fails takes failures count from empty mid to _ e.3 none))
+    show_fault_unflushed rules view input Write f = unfailed f.2.0 f.2.2
+    show_fault_unflushed rules view input Read f = absurd f
+    show_fault_unflushed rules view input (Refused place reason) f = absurd f
+    show_fault_unflushed rules view input (Truncated n) f = absurd f
+    show_fault_unflushed rules view input NoConnection f = absurd f
+    show_fault_unflushed rules view input Failed f = absurd f
+    show_fault_unflushed rules view input (Line number) f = absurd f
+
+    make_fault_unflushed : {Place U : Type 0} (rules : Rules Place U) (w : Wording U)
+        (Showing : List ℕ → List (Item U) → Type 0)
+        (input : List ℕ) (fault : RunFault)
+        → IsMakeFault rules w Showing (buffered_takes takes failures) count from mid input fault
+        → IsMakeFault rules w Showing takes failures from.sink to input Write
+    make_fault_unflushed rules w Showing input (Line number) f = unheld f.0
+    make_fault_unflushed rules w Showing input Memory f = unheld f.0
+    make_fault_unflushed rules w Showing input Write f = unfailed _ f.2
+    make_fault_unflushed rules w Showing input NotHex f = absurd f
+    make_fault_unflushed rules w Showing input Read f = absurd f
+    make_fault_unflushed rules w Showing input (Refused place reason) f = absurd f
+    make_fault_unflushed rules w Showing input (Truncated n) f = absurd f
+    make_fault_unflushed rules w Showing input NoConnection f = absurd f
+    make_fault_unflushed rules w Showing input Failed f = absurd f
+
     fault_unflushed : (asked : Asked) (input : List ℕ) (fault : RunFault)
         → IsAnswerFault (buffered_takes takes failures) count from mid asked input fault
         → IsAnswerFault takes failures from.sink to asked input Write
-    fault_unflushed (Check file cut false) input NotHex f = unheld f.0
-    fault_unflushed (Check file cut false) input Memory (b, h, inl e) = unheld e
-    fault_unflushed (Check file cut false) input Memory (b, h, inr e) = unheld e
-    fault_unflushed (Check file cut false) input Write f = unfailed f.2.0 f.2.2
-    fault_unflushed (Check file cut false) input Read f = absurd f
-    fault_unflushed (Check file cut false) input (Refused place reason) f = absurd f
-    fault_unflushed (Check file cut false) input (Truncated n) f = absurd f
-    fault_unflushed (Check file cut false) input NoConnection f = absurd f
-    fault_unflushed (Check file cut false) input Failed f = absurd f
-    fault_unflushed (Check file cut false) input (Line number) f = absurd f
-    fault_unflushed (Check file cut true) input NotHex f = unheld f.0
-    fault_unflushed (Check file cut true) input Memory (b, h, inl e) = unheld e
-    fault_unflushed (Check file cut true) input Memory (b, h, inr e) = unheld e
-    fault_unflushed (Check file cut true) input Write f = unfailed f.2.0 f.2.2
-    fault_unflushed (Check file cut true) input Read f = absurd f
-    fault_unflushed (Check file cut true) input (Refused place reason) f = absurd f
-    fault_unflushed (Check file cut true) input (Truncated n) f = absurd f
-    fault_unflushed (Check file cut true) input NoConnection f = absurd f
-    fault_unflushed (Check file cut true) input Failed f = absurd f
-    fault_unflushed (Check file cut true) input (Line number) f = absurd f
-    fault_unflushed (Show file false paint) input NotHex f = unheld f.0
-    fault_unflushed (Show file true paint) input NotHex f = unheld f.0
-    fault_unflushed (Show file false paint) input Memory (b, h, inl e) = unheld e
-    fault_unflushed (Show file true paint) input Memory (b, h, inl e) = unheld e
-    fault_unflushed (Show file false paint) input Memory (b, h, inr e) =
-        (b, h, (_, inl (first_lines e.0 e.1), flush_fails takes failures count from empty mid to _ e.3 none))
-    fault_unflushed (Show file true paint) input Memory (b, h, inr e) =
-        (b, h, (_, inl (first_lines e.0 e.1), flush_fails takes failures count from empty mid to _ e.3 none))
-    fault_unflushed (Show file false paint) input Write f = unfailed f.2.0 f.2.2
-    fault_unflushed (Show file true paint) input Write f = unfailed f.2.0 f.2.2
-    fault_unflushed (Show file false paint) input Read f = absurd f
-    fault_unflushed (Show file true paint) input Read f = absurd f
-    fault_unflushed (Show file false paint) input (Refused place reason) f = absurd f
-    fault_unflushed (Show file true paint) input (Refused place reason) f = absurd f
-    fault_unflushed (Show file false paint) input (Truncated n) f = absurd f
-    fault_unflushed (Show file true paint) input (Truncated n) f = absurd f
-    fault_unflushed (Show file false paint) input NoConnection f = absurd f
-    fault_unflushed (Show file true paint) input NoConnection f = absurd f
-    fault_unflushed (Show file false paint) input Failed f = absurd f
-    fault_unflushed (Show file true paint) input Failed f = absurd f
-    fault_unflushed (Show file false paint) input (Line number) f = absurd f
-    fault_unflushed (Show file true paint) input (Line number) f = absurd f
+    fault_unflushed (Check file cut sender) input fault f = check_hex_fault_unflushed sender input fault f
+    fault_unflushed (Show file Host paint) input fault f =
+        show_fault_unflushed element_rules (painted_host_view paint) input fault f
+    fault_unflushed (Show file ExtendedHost paint) input fault f =
+        show_fault_unflushed extended_rules (extended_view paint) input fault f
+    fault_unflushed (Show file Station paint) input fault f =
+        show_fault_unflushed answer_rules answer_view input fault f
+    fault_unflushed (Make file Host) input fault f =
+        make_fault_unflushed element_rules element_wording Shows input fault f
+    fault_unflushed (Make file ExtendedHost) input fault f =
+        make_fault_unflushed extended_rules extended_wording ShowsExtended input fault f
+    fault_unflushed (Make file Station) input fault f =
+        make_fault_unflushed answer_rules answer_wording ShowsAnswers input fault f
     fault_unflushed (Play file screen false paint) input (Line number) f = unheld f.0
     fault_unflushed (Play file screen false paint) input Memory f = unheld f.0
     fault_unflushed (Play file screen false paint) input Write f = unfailed f.2 f.4
@@ -240,24 +345,6 @@ module _ {S : Type 0} (takes : MayTake S) (failures : S → ℕ) (count : Buffer
     fault_unflushed (Play file screen true paint) input (Refused place reason) f = absurd f
     fault_unflushed (Play file screen true paint) input (Truncated n) f = absurd f
     fault_unflushed (Play file screen true paint) input Failed f = absurd f
-    fault_unflushed (Make file false) input (Line number) f = unheld f.0
-    fault_unflushed (Make file false) input Memory f = unheld f.0
-    fault_unflushed (Make file false) input Write f = unfailed _ f.2
-    fault_unflushed (Make file false) input NotHex f = absurd f
-    fault_unflushed (Make file false) input Read f = absurd f
-    fault_unflushed (Make file false) input (Refused place reason) f = absurd f
-    fault_unflushed (Make file false) input (Truncated n) f = absurd f
-    fault_unflushed (Make file false) input NoConnection f = absurd f
-    fault_unflushed (Make file false) input Failed f = absurd f
-    fault_unflushed (Make file true) input (Line number) f = unheld f.0
-    fault_unflushed (Make file true) input Memory f = unheld f.0
-    fault_unflushed (Make file true) input Write f = unfailed _ f.2
-    fault_unflushed (Make file true) input NotHex f = absurd f
-    fault_unflushed (Make file true) input Read f = absurd f
-    fault_unflushed (Make file true) input (Refused place reason) f = absurd f
-    fault_unflushed (Make file true) input (Truncated n) f = absurd f
-    fault_unflushed (Make file true) input NoConnection f = absurd f
-    fault_unflushed (Make file true) input Failed f = absurd f
 
     pub outcome_unflushed : (asked : Asked) (input : List ℕ) (outcome : Result Bool RunFault)
         → IfOk outcome (λ accepted. HasAnswered (buffered_takes takes failures) count from mid asked input accepted)

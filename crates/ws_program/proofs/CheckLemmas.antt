@@ -3,9 +3,6 @@ use Rattle.std.proofs.Common.{ap, ◌∙◌, subst, arith, length-append}
 use Rattle.std.proofs.Math.Seq.{take-add}
 use Rattle.std.proofs.lemmas.List.{take-append-drop}
 use Rattle.ws_code.specs.Code.{Rules}
-use Rattle.ws_code.specs.Device.{MayTake}
-use Rattle.ws_code.specs.declared.fault.Fault.{Fault}
-use Rattle.ws_code.specs.declared.fault.Fault.TheVariants.{Refused, Truncated, Memory, Read, Write, Failed}
 use Rattle.ws_code.specs.declared.keep.Kept.TheVariants as answer
 use Rattle.ws_code.specs.declared.reason.Reason.{Reason}
 use Rattle.ws_telnet.specs.declared.token.Telnet.{Telnet}
@@ -25,7 +22,6 @@ use Rattle.ws_code.proofs.Lists.{same_front}
 use Rattle.ws_program.specs.declared.check.Tally.{Tally}
 use Rattle.ws_program.specs.CheckLine.{record_count, command_count}
 use Rattle.ws_program.specs.Checking.{Counts, tally_after, one_record, one_command}
-use Rattle.ws_text.specs.Printing.{IsTextFault}
 
 record_count-append : {U : Type 0} (xs ys : List (Item U)) → record_count (xs ++ ys) ≡ record_count xs + record_count ys
 record_count-append [] ys = omega arith

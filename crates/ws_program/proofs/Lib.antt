@@ -1,5 +1,6 @@
 pub mod Buffers
 pub mod CheckLemmas
+pub mod ExtendedRecords
 pub mod FrontItems
 pub mod HexDigits
 pub mod Makings

@@ -6,6 +6,7 @@ use Rattle.ws_code.specs.Code.{Rules}
 use Rattle.ws_code.specs.Device.{MayTake, WentOut, FailedWithin}
 use Rattle.ws_code.specs.declared.fault.Fault.{Fault}
 use Rattle.ws_code.specs.declared.fault.Fault.TheVariants as device
+use Rattle.ws_extended.specs.ExtendedElements.{extended_rules}
 use Rattle.ws_stream.specs.Elements.{element_rules}
 use Rattle.ws_stream.specs.AnswerParts.{answer_rules}
 use Rattle.ws_program.specs.HexText.{IsHexOf, without_blanks}
@@ -13,13 +14,17 @@ use Rattle.ws_program.specs.CheckLine.{IsVerdict, is_accepted, line_of}
 use Rattle.ws_program.specs.Checking.{IsCheckFault}
 use Rattle.ws_text.specs.AnswerWords.{answer_wording}
 use Rattle.ws_text.specs.ElementWords.{element_wording}
-use Rattle.ws_text.specs.Shown.{Shows, ShowsAnswers}
+use Rattle.ws_text.specs.ExtendedWords.{extended_wording}
+use Rattle.ws_text.specs.Shown.{Shows, ShowsAnswers, ShowsExtended}
 use Rattle.ws_program.specs.Making.{HasMade, IsMakeFault}
 use Rattle.ws_program.specs.StreamText.{View, IsShown, IsShowFault}
+use Rattle.ws_program.specs.ExtendedView.{extended_view}
 use Rattle.ws_program.specs.Views.{painted_host_view, answer_view}
 use Rattle.ws_live.specs.declared.paint.Paint.{Paint}
 use Rattle.ws_words.specs.declared.command_line.Asked.{Asked}
 use Rattle.ws_words.specs.declared.command_line.Asked.TheVariants.{Check, Show, Play, Make}
+use Rattle.ws_words.specs.declared.command_line.Sender.{Sender}
+use Rattle.ws_words.specs.declared.command_line.Sender.TheVariants.{Host, ExtendedHost, Station}
 use Rattle.ws_program.specs.declared.fault.RunFault.{RunFault}
 use Rattle.ws_program.specs.declared.fault.RunFault.TheVariants.{Read, NotHex, Line, Memory, Write, NoConnection}
 use Rattle.ws_program.specs.declared.verdict.Verdict.{Verdict}
@@ -74,23 +79,40 @@ module _ {S : Type 0} (takes : MayTake S) (failures : S → ℕ) (from to : S) w
   HasPlayedByTcp paint screen script all_well = (moves : List Move) × IsScript script moves
       × (text : List ℕ) × IsToldText paint moves screen all_well text × WentOut takes failures from to text
 
+  -- the line of a check of the bytes that a hex text tells went out: as the commands of a host, of the profile alone or
+  -- also beside it, or as a station's answers
+  abbrev pub HasCheckedHex : Sender → List ℕ → Bool → Type 0
+  HasCheckedHex Host input accepted = (bytes : List ℕ) × IsHexOf bytes input × HasChecked element_rules bytes accepted
+  HasCheckedHex ExtendedHost input accepted = (bytes : List ℕ) × IsHexOf bytes input
+      × HasChecked extended_rules bytes accepted
+  HasCheckedHex Station input accepted = (bytes : List ℕ) × IsHexOf bytes input × HasChecked answer_rules bytes accepted
+
+  -- what is shown of them went out; a station's answers have no screen
+  abbrev pub HasShownHex : Paint → Sender → List ℕ → Bool → Type 0
+  HasShownHex paint Host input accepted = (bytes : List ℕ) × IsHexOf bytes input
+      × HasShown element_rules (painted_host_view paint) bytes accepted
+  HasShownHex paint ExtendedHost input accepted = (bytes : List ℕ) × IsHexOf bytes input
+      × HasShown extended_rules (extended_view paint) bytes accepted
+  HasShownHex paint Station input accepted = (bytes : List ℕ) × IsHexOf bytes input
+      × HasShown answer_rules answer_view bytes accepted
+
+  -- the stream of the items that a text spells went out, as those of a sender
+  abbrev pub HasMadeBy : Sender → List ℕ → Bool → Type 0
+  HasMadeBy Host input accepted =
+      HasMade element_rules element_wording Shows takes failures from to input accepted
+  HasMadeBy ExtendedHost input accepted =
+      HasMade extended_rules extended_wording ShowsExtended takes failures from to input accepted
+  HasMadeBy Station input accepted =
+      HasMade answer_rules answer_wording ShowsAnswers takes failures from to input accepted
+
   -- the program did what it was asked for with its input: with the commands of a host, or the answers of a
   -- station, that a hex text tells, with a script, or with items as text
   abbrev pub HasAnswered : Asked → List ℕ → Bool → Type 0
-  HasAnswered (Check file cut false) input accepted = (bytes : List ℕ) × IsHexOf bytes input
-      × HasChecked element_rules bytes accepted
-  HasAnswered (Check file cut true) input accepted = (bytes : List ℕ) × IsHexOf bytes input
-      × HasChecked answer_rules bytes accepted
-  HasAnswered (Show file false paint) input accepted = (bytes : List ℕ) × IsHexOf bytes input
-      × HasShown element_rules (painted_host_view paint) bytes accepted
-  HasAnswered (Show file true paint) input accepted = (bytes : List ℕ) × IsHexOf bytes input
-      × HasShown answer_rules answer_view bytes accepted
+  HasAnswered (Check file cut sender) input accepted = HasCheckedHex sender input accepted
+  HasAnswered (Show file sender paint) input accepted = HasShownHex paint sender input accepted
   HasAnswered (Play file screen false paint) input accepted = HasPlayed paint screen input accepted
   HasAnswered (Play file screen true paint) input accepted = HasPlayedByTcp paint screen input accepted
-  HasAnswered (Make file false) input accepted =
-      HasMade element_rules element_wording Shows takes failures from to input accepted
-  HasAnswered (Make file true) input accepted =
-      HasMade answer_rules answer_wording ShowsAnswers takes failures from to input accepted
+  HasAnswered (Make file sender) input accepted = HasMadeBy sender input accepted
 
   -- what is answered of a hex text where a command answers such faults of its bytes
   abbrev pub IsHexFault : (List ℕ → Fault → Type 0) → List ℕ → RunFault → Type 0
@@ -99,6 +121,30 @@ module _ {S : Type 0} (takes : MayTake S) (failures : S → ℕ) (from to : S) w
       × ((to ≡ from) ⊎ IsFault bytes device.Memory)
   IsHexFault IsFault input Write = (bytes : List ℕ) × IsHexOf bytes input × IsFault bytes device.Write
   IsHexFault IsFault input fault = ⊥
+
+  -- what is answered of one where the line of its check doesn't go out
+  abbrev pub IsCheckHexFault : Sender → List ℕ → RunFault → Type 0
+  IsCheckHexFault Host input fault = IsHexFault (IsCheckFault element_rules takes failures from to) input fault
+  IsCheckHexFault ExtendedHost input fault = IsHexFault (IsCheckFault extended_rules takes failures from to) input fault
+  IsCheckHexFault Station input fault = IsHexFault (IsCheckFault answer_rules takes failures from to) input fault
+
+  -- what is answered of one where what is shown of it doesn't go out
+  abbrev pub IsShowHexFault : Paint → Sender → List ℕ → RunFault → Type 0
+  IsShowHexFault paint Host input fault = IsHexFault
+      (IsShowFault takes failures from to element_rules (painted_host_view paint)) input fault
+  IsShowHexFault paint ExtendedHost input fault = IsHexFault
+      (IsShowFault takes failures from to extended_rules (extended_view paint)) input fault
+  IsShowHexFault paint Station input fault = IsHexFault
+      (IsShowFault takes failures from to answer_rules answer_view) input fault
+
+  -- what is answered of items as text whose stream doesn't go out
+  abbrev pub IsMakeFaultBy : Sender → List ℕ → RunFault → Type 0
+  IsMakeFaultBy Host input fault =
+      IsMakeFault element_rules element_wording Shows takes failures from to input fault
+  IsMakeFaultBy ExtendedHost input fault =
+      IsMakeFault extended_rules extended_wording ShowsExtended takes failures from to input fault
+  IsMakeFaultBy Station input fault =
+      IsMakeFault answer_rules answer_wording ShowsAnswers takes failures from to input fault
 
   -- what is answered of a script that isn't played, or whose lines don't go out
   abbrev pub IsPlayFault : Paint → Bool → List ℕ → RunFault → Type 0
@@ -123,20 +169,11 @@ module _ {S : Type 0} (takes : MayTake S) (failures : S → ℕ) (from to : S) w
 
   -- what the program answers where it didn't do all that it was asked for
   abbrev pub IsAnswerFault : Asked → List ℕ → RunFault → Type 0
-  IsAnswerFault (Check file cut false) input fault = IsHexFault
-      (IsCheckFault element_rules takes failures from to) input fault
-  IsAnswerFault (Check file cut true) input fault = IsHexFault
-      (IsCheckFault answer_rules takes failures from to) input fault
-  IsAnswerFault (Show file false paint) input fault = IsHexFault
-      (IsShowFault takes failures from to element_rules (painted_host_view paint)) input fault
-  IsAnswerFault (Show file true paint) input fault = IsHexFault
-      (IsShowFault takes failures from to answer_rules answer_view) input fault
+  IsAnswerFault (Check file cut sender) input fault = IsCheckHexFault sender input fault
+  IsAnswerFault (Show file sender paint) input fault = IsShowHexFault paint sender input fault
   IsAnswerFault (Play file screen false paint) input fault = IsPlayFault paint screen input fault
   IsAnswerFault (Play file screen true paint) input fault = IsTcpPlayFault paint screen input fault
-  IsAnswerFault (Make file false) input fault =
-      IsMakeFault element_rules element_wording Shows takes failures from to input fault
-  IsAnswerFault (Make file true) input fault =
-      IsMakeFault answer_rules answer_wording ShowsAnswers takes failures from to input fault
+  IsAnswerFault (Make file sender) input fault = IsMakeFaultBy sender input fault
 
 -- the exit status: 0 where all was accepted, 1 where it wasn't, 2 on a fault
 abbrev pub status_of : {E : Type 0} → Result Bool E → ℕ

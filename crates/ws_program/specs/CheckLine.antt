@@ -5,7 +5,6 @@ use Rattle.std.specs.Fmt.{decimal}
 use Rattle.ws_code.specs.Code.{Rules}
 use Rattle.ws_code.specs.declared.fault.Fault.{Fault}
 use Rattle.ws_code.specs.declared.fault.Fault.TheVariants as faults
-use Rattle.ws_code.specs.declared.reason.Reason.{Reason}
 use Rattle.ws_record.specs.declared.record.Item.{Item}
 use Rattle.ws_record.specs.declared.record.Item.TheVariants.{Record, Telnet}
 use Rattle.ws_record.specs.Grammar.{IsInGrammar}

@@ -1,6 +1,7 @@
 pub mod Answering
 pub mod CheckLine
 pub mod Checking
+pub mod ExtendedView
 pub mod HexText
 pub mod RunFaults
 pub mod StreamText

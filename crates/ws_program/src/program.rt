@@ -1,10 +1,16 @@
 ghost use Rattle.std.specs.Prelude.{◌≡◌, ◌≢◌, [], IfOk, IfErr};
 ghost use Rattle.ws_stream.specs.AnswerParts.{answer_rules};
 ghost use Rattle.ws_stream.specs.Elements.{element_rules};
-ghost use Rattle.ws_program.specs.Answering.{HasAnswered, HasChecked, HasShown, HasPlayed, HasPlayedByTcp, IsAnswerFault, IsHexFault, IsPlayFault, IsTcpPlayFault, status_of};
+ghost use Rattle.ws_program.specs.Answering.{HasAnswered, HasChecked, HasCheckedHex, IsCheckHexFault, HasShown};
+ghost use Rattle.ws_program.specs.Answering.{HasShownHex, IsShowHexFault, HasMadeBy, IsMakeFaultBy};
+ghost use Rattle.ws_program.specs.ExtendedView.{extended_view};
+ghost use Rattle.ws_program.specs.Answering.{HasPlayed, HasPlayedByTcp, IsAnswerFault, IsHexFault, IsPlayFault};
+ghost use Rattle.ws_program.specs.Answering.{IsTcpPlayFault, status_of};
 ghost use Rattle.ws_text.specs.AnswerWords.{answer_wording};
 ghost use Rattle.ws_text.specs.ElementWords.{element_wording};
-ghost use Rattle.ws_text.specs.Shown.{Shows, ShowsAnswers};
+ghost use Rattle.ws_extended.specs.ExtendedElements.{extended_rules};
+ghost use Rattle.ws_text.specs.ExtendedWords.{extended_wording};
+ghost use Rattle.ws_text.specs.Shown.{Shows, ShowsAnswers, ShowsExtended};
 ghost use Rattle.ws_program.specs.HexText.{IsHexOf};
 ghost use Rattle.ws_program.specs.Checking.{IsCheckFault};
 ghost use Rattle.ws_program.specs.Making.{HasMade, IsMakeFault};
@@ -18,17 +24,18 @@ use crate::fault::RunFault;
 use crate::hex_text::hex_bytes;
 use crate::make::make_to;
 use crate::open_streams::OpenStreams;
-use crate::show::{show_answers_to, show_painted_to};
+use crate::show::{show_answers_to, show_extended_to, show_painted_to};
 use crate::tcp::play_tcp;
 use std::alloc::Global;
 use std::net::{Net, TcpListener, TcpStream};
 use ws_code::{Body, Sink};
+use ws_extended::ExtendedCommands;
 use ws_live::{BufferedSink, Paint, play_painted_to, read_script};
 use ws_nego::TerminalType;
 use ws_session::World;
 use ws_stream::{Answers, Commands};
-use ws_text::{read_answer_items, read_items};
-use ws_words::Asked;
+use ws_text::{read_answer_items, read_extended_items, read_items};
+use ws_words::{Asked, Sender};
 
 /// Does what the program was asked for with the whole of its input: true where all was accepted.
 ///
@@ -51,20 +58,8 @@ pub fn answer<R: Net<Listener = TcpListener, Stream = TcpStream>, S: Sink>(
         IsAnswerFault S.takes S.failures sink.old sink.new asked.entry text.now fault) }
 {
     match asked {
-        Asked::Check { cut, answers, .. } => {
-            if answers {
-                check_text::<Answers, S>(alloc, text, cut.get(), sink)
-            } else {
-                check_text::<Commands, S>(alloc, text, cut.get(), sink)
-            }
-        }
-        Asked::Show { answers, paint, .. } => {
-            if answers {
-                show_answers_text(alloc, text, sink)
-            } else {
-                show_text(alloc, text, paint, sink)
-            }
-        }
+        Asked::Check { cut, from, .. } => check_sent(alloc, text, cut.get(), from, sink),
+        Asked::Show { from, paint, .. } => show_sent(alloc, text, paint, from, sink),
         Asked::Play {
             screen,
             tcp,
@@ -77,13 +72,7 @@ pub fn answer<R: Net<Listener = TcpListener, Stream = TcpStream>, S: Sink>(
                 play_script(alloc, text, screen, paint, sink)
             }
         }
-        Asked::Make { answers, .. } => {
-            if answers {
-                make_answers_stream(alloc, text, sink)
-            } else {
-                make_stream(alloc, text, sink)
-            }
-        }
+        Asked::Make { from, .. } => make_sent(alloc, text, from, sink),
     }
 }
 
@@ -155,7 +144,28 @@ fn in_one_place(asked: Asked<'_>) -> Asked<'_>
     }
 }
 
-// Writes the line of a check of the bytes that a hex text tells.
+// Writes the line of a check of the bytes that a hex text tells, as those of a sender.
+fn check_sent<S: Sink>(
+    alloc: Global,
+    text: &[u8],
+    cut: u16,
+    from: Sender,
+    sink: &mut S,
+) -> Result<bool, RunFault>
+    requires { cut ≢ 0 }
+    ensures done { IfOk result (λ accepted.
+        HasCheckedHex S.takes S.failures sink.old sink.new from text.now accepted) }
+    ensures fault { IfErr result (λ fault.
+        IsCheckHexFault S.takes S.failures sink.old sink.new from text.now fault) }
+{
+    match from {
+        Sender::Host => check_text::<Commands, S>(alloc, text, cut, sink),
+        Sender::ExtendedHost => check_text::<ExtendedCommands, S>(alloc, text, cut, sink),
+        Sender::Station => check_text::<Answers, S>(alloc, text, cut, sink),
+    }
+}
+
+// The same, as units of a body.
 fn check_text<B: Body, S: Sink>(
     alloc: Global,
     text: &[u8],
@@ -170,6 +180,26 @@ fn check_text<B: Body, S: Sink>(
 {
     let bytes = hex_bytes(alloc, text)?;
     Ok(check_to::<B, S>(alloc, bytes.as_slice(), cut, sink)?)
+}
+
+// Writes what is shown of the bytes that a hex text tells, as those of a sender.
+fn show_sent<S: Sink>(
+    alloc: Global,
+    text: &[u8],
+    paint: Paint,
+    from: Sender,
+    sink: &mut S,
+) -> Result<bool, RunFault>
+    ensures done { IfOk result (λ accepted.
+        HasShownHex S.takes S.failures sink.old sink.new paint from text.now accepted) }
+    ensures fault { IfErr result (λ fault.
+        IsShowHexFault S.takes S.failures sink.old sink.new paint from text.now fault) }
+{
+    match from {
+        Sender::Host => show_text(alloc, text, paint, sink),
+        Sender::ExtendedHost => show_extended_text(alloc, text, paint, sink),
+        Sender::Station => show_answers_text(alloc, text, sink),
+    }
 }
 
 // Writes what is shown of the bytes that a hex text tells, as a host's.
@@ -188,6 +218,24 @@ fn show_text<S: Sink>(
 {
     let bytes = hex_bytes(alloc, text)?;
     Ok(show_painted_to(alloc, paint, bytes.as_slice(), sink)?)
+}
+
+// The same as a live host's.
+fn show_extended_text<S: Sink>(
+    alloc: Global,
+    text: &[u8],
+    paint: Paint,
+    sink: &mut S,
+) -> Result<bool, RunFault>
+    ensures done { IfOk result (λ accepted. (bytes : Seq ℕ) × IsHexOf bytes text.now
+        × HasShown S.takes S.failures sink.old sink.new
+        extended_rules (extended_view paint) bytes accepted) }
+    ensures fault { IfErr result (IsHexFault S.takes S.failures sink.old sink.new
+        (IsShowFault S.takes S.failures sink.old sink.new
+        extended_rules (extended_view paint)) text.now) }
+{
+    let bytes = hex_bytes(alloc, text)?;
+    Ok(show_extended_to(alloc, paint, bytes.as_slice(), sink)?)
 }
 
 // The same as a station's.
@@ -238,6 +286,25 @@ fn play_script_by_tcp<R: Net<Listener = TcpListener, Stream = TcpStream>, S: Sin
     Ok(play_painted_to(&report, paint, screen, sink)?)
 }
 
+// Writes the stream of a sender whose items a text spells.
+fn make_sent<S: Sink>(
+    alloc: Global,
+    text: &[u8],
+    from: Sender,
+    sink: &mut S,
+) -> Result<bool, RunFault>
+    ensures done { IfOk result (λ accepted.
+        HasMadeBy S.takes S.failures sink.old sink.new from text.now accepted) }
+    ensures fault { IfErr result (λ fault.
+        IsMakeFaultBy S.takes S.failures sink.old sink.new from text.now fault) }
+{
+    match from {
+        Sender::Host => make_stream(alloc, text, sink),
+        Sender::ExtendedHost => make_extended_stream(alloc, text, sink),
+        Sender::Station => make_answers_stream(alloc, text, sink),
+    }
+}
+
 // Writes the stream of a host whose items a text spells.
 fn make_stream<S: Sink>(alloc: Global, text: &[u8], sink: &mut S) -> Result<bool, RunFault>
     ensures done { IfOk result (HasMade element_rules element_wording Shows
@@ -247,6 +314,18 @@ fn make_stream<S: Sink>(alloc: Global, text: &[u8], sink: &mut S) -> Result<bool
 {
     let items = read_items(alloc, text)?;
     make_to::<Commands, S>(alloc, items.as_slice(), sink)?;
+    Ok(true)
+}
+
+// The same of a live host.
+fn make_extended_stream<S: Sink>(alloc: Global, text: &[u8], sink: &mut S) -> Result<bool, RunFault>
+    ensures done { IfOk result (HasMade extended_rules extended_wording ShowsExtended
+        S.takes S.failures sink.old sink.new text.now) }
+    ensures fault { IfErr result (IsMakeFault extended_rules extended_wording ShowsExtended
+        S.takes S.failures sink.old sink.new text.now) }
+{
+    let items = read_extended_items(alloc, text)?;
+    make_to::<ExtendedCommands, S>(alloc, items.as_slice(), sink)?;
     Ok(true)
 }
 

@@ -5,6 +5,8 @@ ghost use Rattle.ws_record.specs.declared.record.Item.{Item as AnItem};
 ghost use Rattle.ws_stream.specs.AnswerParts.{answer_rules};
 ghost use Rattle.ws_stream.specs.Elements.{element_rules};
 ghost use Rattle.ws_stream.specs.declared.element.Element.{Element as AnElement};
+ghost use Rattle.ws_extended.specs.ExtendedElements.{extended_rules};
+ghost use Rattle.ws_program.specs.ExtendedView.{extended_view};
 ghost use Rattle.ws_text.specs.Shown.{Shows};
 ghost use Rattle.ws_program.specs.CheckLine.{verdict_by};
 ghost use Rattle.ws_program.specs.StreamText.{IsShown, AreFirstLines, IsShowFault, IsStop, HasBegun, IsNext, IsNextFault};
@@ -15,6 +17,7 @@ use crate::shown::Shown;
 use crate::verdict::verdict_by_fault;
 use std::alloc::Global;
 use ws_code::{Body, Fault, Sink};
+use ws_extended::ExtendedCommands;
 use ws_live::Paint;
 use ws_record::{Item, Receiver};
 use ws_stream::{Answers, Commands};
@@ -59,6 +62,29 @@ pub fn show_painted_to<S: Sink>(
         → (rest : List ℕ) × (whole ≡ part ++ rest) }
 {
     show_body_to::<Commands, S>(alloc, paint, bytes, sink)
+}
+
+/// Writes the items of a live host's stream, and the display that its records make, in a paint: true where the stream
+/// is accepted.
+///
+/// A record is carried out as a station on that display does. The rest is said at `show_body_to`.
+pub fn show_extended_to<S: Sink>(
+    alloc: Global,
+    paint: Paint,
+    bytes: &[u8],
+    sink: &mut S,
+) -> Result<bool, Fault>
+    ensures printed { IfOk result (λ accepted. (text : List ℕ)
+        × IsShown extended_rules (extended_view paint) bytes.now accepted text
+        × WentOut S.takes S.failures sink.old sink.new text) }
+    ensures fault { IfErr result (λ fault. IsShowFault S.takes S.failures sink.old sink.new
+        extended_rules (extended_view paint) bytes.now fault) }
+    ensures parts_begin { (accepted : Bool) (whole part : List ℕ)
+        → IsShown extended_rules (extended_view paint) bytes.now accepted whole
+        → AreFirstLines extended_rules (extended_view paint) bytes.now part
+        → (rest : List ℕ) × (whole ≡ part ++ rest) }
+{
+    show_body_to::<ExtendedCommands, S>(alloc, paint, bytes, sink)
 }
 
 /// Writes the items of a station's stream: true where it is accepted. No screen stands behind them.

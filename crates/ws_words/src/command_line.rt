@@ -1,6 +1,7 @@
 use crate::command_parts::{CommandParts, fault, flag, place};
 use crate::live_command::{
-    COLOR_HELP, Live, connect_asked, connect_command, paint_asked, serve_asked, serve_command,
+    COLOR_HELP, EXTENDED_HELP, Live, connect_asked, connect_command, paint_asked, serve_asked,
+    serve_command,
 };
 use clap::error::ErrorKind;
 use clap::{Arg, ArgAction, ArgMatches, Command, value_parser};
@@ -18,21 +19,31 @@ pub enum Task<'a> {
     Live(Live<'a>),
 }
 
+/// Who sends the stream that is read, and what it may hold.
+#[derive(Clone, Copy, Debug, PartialEq, Eq)]
+pub enum Sender {
+    /// A host, the commands of the profile.
+    Host,
+    /// A host, also the commands that live hosts send beside the profile.
+    ExtendedHost,
+    /// A station, its answers.
+    Station,
+}
+
 /// What is asked for of an input.
 #[derive(Clone, Copy, Debug, PartialEq, Eq)]
 pub enum Asked<'a> {
-    /// To check the bytes of a hex text, in pieces of `cut` bytes: as a station's answers, or as a host's
-    /// commands.
+    /// To check the bytes of a hex text, in pieces of `cut` bytes: as a host's commands, or as a station's answers.
     Check {
         file: Option<&'a str>,
         cut: NonZeroU16,
-        answers: bool,
+        from: Sender,
     },
     /// To show the items of a hex text: as a host's commands, with the screen that they make in a paint, or as a
     /// station's answers.
     Show {
         file: Option<&'a str>,
-        answers: bool,
+        from: Sender,
         paint: Paint,
     },
     /// To play a script with both ends, and to tell what happens; with `screen` also the station's screen at the end,
@@ -46,7 +57,7 @@ pub enum Asked<'a> {
     /// To write the stream whose items a text spells: as a host's commands, or as a station's answers.
     Make {
         file: Option<&'a str>,
-        answers: bool,
+        from: Sender,
     },
 }
 
@@ -82,17 +93,20 @@ It prints one line, as one of:
 
 Examples:
   t5250 check capture.hex
+  t5250 check --extended live.hex
   t5250 check --answers --cut 1 < answers.hex";
 
 const SHOW_EXAMPLES: &str = "\
 Each item is printed with the place of its last byte, counted from 0.
 Where the stream isn't accepted, the line of `check` is the last.
 
-A station's answers (--answers) have no screen.
+A station's answers (--answers) have no screen. With --extended the last line is
+`error row R` where an error stands.
 
 Examples:
   t5250 show capture.hex
   t5250 show --color capture.hex
+  t5250 show --extended live.hex
   t5250 show --answers answers.hex
   echo 000A12A0000004000001FFEF | t5250 show";
 
@@ -129,6 +143,7 @@ It prints a line of hex for each item.
 
 Examples:
   t5250 make screen.text
+  t5250 make --extended live.text
   t5250 make --answers answers.text
   t5250 show capture.hex | t5250 make";
 
@@ -174,6 +189,7 @@ fn check_command<'a>(alloc: Global) -> CommandParts<'a> {
         CHECK_EXAMPLES,
     )
     .word(flag(alloc, "answers", ANSWERS_HELP))
+    .made_word(extended(alloc))
     .word(cut(alloc))
     .word(place(alloc, "FILE", HEX_HELP, false))
 }
@@ -186,6 +202,7 @@ fn show_command<'a>(alloc: Global) -> CommandParts<'a> {
         SHOW_EXAMPLES,
     )
     .word(flag(alloc, "answers", ANSWERS_HELP))
+    .made_word(extended(alloc))
     .word(flag(alloc, "color", COLOR_HELP))
     .word(place(alloc, "FILE", HEX_HELP, false))
 }
@@ -211,7 +228,13 @@ fn make_command<'a>(alloc: Global) -> CommandParts<'a> {
         MAKE_EXAMPLES,
     )
     .word(flag(alloc, "answers", ANSWERS_HELP))
+    .made_word(extended(alloc))
     .word(place(alloc, "FILE", ITEMS_HELP, false))
+}
+
+// The flag for a host's commands beside the profile. A station's answers have none.
+fn extended<'a>(alloc: Global) -> Result<Arg<'a>, AllocError> {
+    flag(alloc, "extended", EXTENDED_HELP).conflicts_with("answers")
 }
 
 fn cut<'a>(alloc: Global) -> Arg<'a> {
@@ -271,14 +294,26 @@ fn check_asked<'a>(words: &ArgMatches<'a>) -> Asked<'a> {
     Asked::Check {
         file: words.get_str("FILE"),
         cut: NonZeroU16::new(cut).unwrap_or(NonZeroU16::MAX),
-        answers: words.get_flag("answers"),
+        from: sender_asked(words),
+    }
+}
+
+// Whose stream is read. No words have both flags.
+fn sender_asked(words: &ArgMatches<'_>) -> Sender {
+    if words.get_flag("answers") {
+        return Sender::Station;
+    }
+    if words.get_flag("extended") {
+        Sender::ExtendedHost
+    } else {
+        Sender::Host
     }
 }
 
 fn show_asked<'a>(words: &ArgMatches<'a>) -> Asked<'a> {
     Asked::Show {
         file: words.get_str("FILE"),
-        answers: words.get_flag("answers"),
+        from: sender_asked(words),
         paint: paint_asked(words),
     }
 }
@@ -295,6 +330,6 @@ fn play_asked<'a>(words: &ArgMatches<'a>) -> Asked<'a> {
 fn make_asked<'a>(words: &ArgMatches<'a>) -> Asked<'a> {
     Asked::Make {
         file: words.get_str("FILE"),
-        answers: words.get_flag("answers"),
+        from: sender_asked(words),
     }
 }

@@ -28,6 +28,14 @@ impl<'a> CommandParts<'a> {
         }
     }
 
+    /// The same of one for which memory may have been wanting.
+    pub fn made_word(self, word: Result<Arg<'a>, AllocError>) -> Self {
+        match word {
+            Ok(word) => self.word(word),
+            Err(lack) => CommandParts(Err(lack)),
+        }
+    }
+
     /// A command below it more.
     pub fn below(self, below: CommandParts<'a>) -> Self {
         match self.0 {

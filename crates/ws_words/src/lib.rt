@@ -6,6 +6,6 @@ mod command_parts;
 mod live_address;
 mod live_command;
 
-pub use command_line::{Asked, Task, no_text, read_words};
+pub use command_line::{Asked, Sender, Task, no_text, read_words};
 pub use live_address::HostPort;
 pub use live_command::{ConnectAsked, Live, ServeAsked};

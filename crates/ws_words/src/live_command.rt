@@ -23,6 +23,8 @@ pub struct ConnectAsked<'a> {
     pub ready: bool,
     /// Of the screens that are printed.
     pub paint: Paint,
+    /// Whether its display also takes what live hosts send beside the profile.
+    pub extended: bool,
     /// The file of a script; without it, standard input is read.
     pub script: Option<&'a str>,
 }
@@ -34,6 +36,8 @@ pub struct ServeAsked<'a> {
     /// In seconds, 1 to 86,400.
     pub wait: u32,
     pub ready: bool,
+    /// Whether it takes any terminal name and any record, and judges none.
+    pub any: bool,
     /// The file of a script; without it, standard input is read.
     pub script: Option<&'a str>,
 }
@@ -53,6 +57,9 @@ A refused key is told as `key refused REASON`. A wait that runs out prints
 `late`, and the session goes on; one whose host has closed prints `ended`.
 `station refused at P: reason K NAME` is the last line.
 
+With --extended, `key Reset` takes an error away that a host shows. Until then
+`await` goes on too, and `show` ends with `error row R`.
+
 Exit status:
   0  every line was carried out, none was late or ended, nothing was refused
   1  one was, or the station refused a byte
@@ -61,6 +68,7 @@ Exit status:
 Examples:
   t5250 connect pub400.com sign-on.connect
   t5250 connect --color --wait 5 '[::1]:5250' < sign-on.connect
+  t5250 connect --extended pub400.com sign-on.connect
   t5250 connect --ready --terminal IBM-5251-11 127.0.0.1:5250";
 
 const SERVE_EXAMPLES: &str = "\
@@ -84,15 +92,26 @@ A refused send is told as `send refused REASON`. A wait that runs out prints
 `host refused at P: reason K NAME` is the last line. Behind the last line of a
 script it answers on until the station closes, or the wait is over.
 
+With --any, for tests of emulators, it judges no terminal name and no record. It
+prints `terminal NAME` and `record flags FFFF opcode K HEX`; `send K` takes any
+bytes, and the elements of live hosts; there is no `cancel`.
+
 Exit status: as of connect.
 
 Examples:
   t5250 serve 127.0.0.1:5250 sign-on.serve
-  t5250 serve --ready --wait 5 '[::1]:0'";
+  t5250 serve --ready --wait 5 '[::1]:0'
+  t5250 serve --any 127.0.0.1:5250 live-host.serve";
 
 // What help says of the words of a command.
 /// Of the flag for screens in colour.
 pub const COLOR_HELP: &str = "Prints the rows of a screen in colour, by sequences of ECMA-48";
+
+/// Of the flag for what is beside the profile.
+pub const EXTENDED_HELP: &str =
+    "Takes also what live hosts send beside the profile, such as Query and Save Screen";
+
+const ANY_HELP: &str = "Takes any terminal name and any record, for tests of emulators";
 
 const HOST_HELP: &str =
     "A name or an address, one of IPv6 in brackets before a port; port 23 where none is named";
@@ -114,6 +133,7 @@ pub fn connect_command<'a>(alloc: Global) -> CommandParts<'a> {
         CONNECT_EXAMPLES,
     )
     .word(flag(alloc, "color", COLOR_HELP))
+    .word(flag(alloc, "extended", EXTENDED_HELP))
     .word(terminal(alloc))
     .word(place(alloc, "HOST[:PORT]", HOST_HELP, true));
     with_script(alloc, connect)
@@ -128,7 +148,9 @@ pub fn serve_command<'a>(alloc: Global) -> CommandParts<'a> {
     );
     with_script(
         alloc,
-        serve.word(place(alloc, "ADDRESS", ADDRESS_HELP, true)),
+        serve
+            .word(flag(alloc, "any", ANY_HELP))
+            .word(place(alloc, "ADDRESS", ADDRESS_HELP, true)),
     )
 }
 
@@ -199,6 +221,7 @@ pub fn connect_asked<'a>(
         wait: seconds(words),
         ready: words.get_flag("ready"),
         paint: paint_asked(words),
+        extended: words.get_flag("extended"),
         script: words.get_str("SCRIPT"),
     })
 }
@@ -219,6 +242,7 @@ pub fn serve_asked<'a>(
         address,
         wait: seconds(words),
         ready: words.get_flag("ready"),
+        any: words.get_flag("any"),
         script: words.get_str("SCRIPT"),
     })
 }

@@ -2,15 +2,17 @@ use Rattle.std.proofs.Common.{[], refl, ap, inl, inr, subst}
 use Rattle.std.specs.Prelude.{Option, None, IfNone, Result, Err}
 use Rattle.ws_code.specs.declared.fault.Fault.{Fault}
 use Rattle.ws_session.specs.declared.key_fault.KeyFault.{KeyFault}
-use Rattle.ws_session.specs.Manners.{IsKeyTaken}
+use Rattle.ws_session.specs.StationActs.{IsKeyTakenOn}
 use Rattle.ws_live.specs.declared.live.Closing.{Closing}
 use Rattle.ws_text.proofs.Prints.{prints_none}
 use Rattle.ws_live.proofs.connect.press_key.Goals as goal
 
 pub returns-in-Ok-None-clause-runs : goal.returns-in-Ok-None-clause-runs
 returns-in-Ok-None-clause-runs g c =
-    let taken : IfNone {T = KeyFault} None (IsKeyTaken c.args.attached.now.end c.args.key) =
-    subst (λ (o : Option KeyFault). IfNone o (IsKeyTaken c.args.attached.now.end c.args.key))
+    let taken : IfNone {T = KeyFault} None (IsKeyTakenOn g.D.Commands.Code.rules g.D.StationDisplay.does
+    c.args.attached.now.end c.args.key) =
+    subst (λ (o : Option KeyFault). IfNone o (IsKeyTakenOn g.D.Commands.Code.rules g.D.StationDisplay.does
+    c.args.attached.now.end c.args.key))
     c.in-Ok-None.field-0-is c.in-Ok-None.ensures.taken in (
       [],
       inl (

@@ -6,15 +6,18 @@ use Rattle.ws_live.proofs.connect.wait_for.Goals as goal
 pub returns-in_default-clause-waited : goal.returns-in_default-clause-waited
 returns-in_default-clause-waited g c =
     let so_far = c.loop.invariant in
-    let unmet : IsMet c.args.awaited.now c.loop.attached.end.screen
-    → ⊥ = λ met. c.is_met.ensures.unmet c.if-is_met.false (subst (IsMet c.args.awaited.now)
-    (sym (c.screen.ensures ∙ ap (λ e. e.screen) c.end.ensures)) met) in
+    let unmet : IsMet g.D.StationDisplay.does.shown g.D.OperatedDisplay.operated c.args.awaited.now
+    c.loop.attached.end.screen
+    → ⊥ = λ met. c.is_met.ensures.unmet c.if-is_met.false (subst (IsMet g.D.StationDisplay.does.shown
+    g.D.OperatedDisplay.operated c.args.awaited.now)
+    (sym (c.display.ensures ∙ ap (λ e. e.screen) c.end.ensures)) met) in
     inr (inl (
       so_far.0,
       c.loop.attached,
       so_far.1,
       unmet,
-      hears_none g.K.Sink.takes g.K.Sink.failures g.S.Source.gives g.S.Source.failures
+      hears_none g.D.Commands.Code.rules g.D.StationDisplay.does g.K.Sink.takes g.K.Sink.failures g.S.Source.gives
+          g.S.Source.failures
           g.W.Watch.tells c.loop.attached c.hear_record.new.attached c.hear_record.result
           c.hear_record.ensures.heard c.in_default.not-Met,
     ))
@@ -22,16 +25,22 @@ returns-in_default-clause-waited g c =
 pub loop-preserved : goal.loop-preserved
 loop-preserved g c =
     let so_far = c.loop.invariant in
-    let unmet : IsMet c.args.awaited.now c.loop.attached.end.screen
-    → ⊥ = λ met. c.is_met.ensures.unmet c.if-is_met.false (subst (IsMet c.args.awaited.now)
-    (sym (c.screen.ensures ∙ ap (λ e. e.screen) c.end.ensures)) met) in
+    let unmet : IsMet g.D.StationDisplay.does.shown g.D.OperatedDisplay.operated c.args.awaited.now
+    c.loop.attached.end.screen
+    → ⊥ = λ met. c.is_met.ensures.unmet c.if-is_met.false (subst (IsMet g.D.StationDisplay.does.shown
+    g.D.OperatedDisplay.operated c.args.awaited.now)
+    (sym (c.display.ensures ∙ ap (λ e. e.screen) c.end.ensures)) met) in
     let heard = c.in-Met.ensures.heard in (
       so_far.0 ++ heard.0 ∷ [],
-      waited_more g.K.Sink.takes g.K.Sink.failures g.S.Source.gives g.S.Source.failures
-          (IsMet c.args.awaited.now) c.args.attached.now c.loop.attached c.hear_record.new.attached so_far.0 heard.0
+      waited_more g.D.Commands.Code.rules g.D.StationDisplay.does g.K.Sink.takes g.K.Sink.failures g.S.Source.gives
+          g.S.Source.failures
+          (IsMet g.D.StationDisplay.does.shown g.D.OperatedDisplay.operated c.args.awaited.now) c.args.attached.now
+          c.loop.attached c.hear_record.new.attached so_far.0 heard.0
           so_far.1 unmet heard.1,
-      waits_on g.K.Sink.takes g.K.Sink.failures g.S.Source.gives g.S.Source.failures
-          (IsMet c.args.awaited.now) c.args.attached.now c.hear_record.new.attached so_far.0 heard.0 c.loop.counter
+      waits_on g.D.Commands.Code.rules g.D.StationDisplay.does g.K.Sink.takes g.K.Sink.failures g.S.Source.gives
+          g.S.Source.failures
+          (IsMet g.D.StationDisplay.does.shown g.D.OperatedDisplay.operated c.args.awaited.now) c.args.attached.now
+          c.hear_record.new.attached so_far.0 heard.0 c.loop.counter
           so_far.2,
       c.in-Met.ensures.works,
     )

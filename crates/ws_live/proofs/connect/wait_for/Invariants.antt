@@ -6,6 +6,7 @@ use Rattle.ws_live.proofs.connect.wait_for.Given as goal
 -- the records so far, before each of which it wasn't met
 abbrev pub invariant-loop : goal.invariant-loop
 invariant-loop g l = (told : List Applied)
-    × HasWaited g.K.Sink.takes g.K.Sink.failures g.S.Source.gives g.S.Source.failures
-    (IsMet l.awaited) l.fn.attached told l.attached
+    × HasWaited g.D.Commands.Code.rules g.D.StationDisplay.does g.K.Sink.takes g.K.Sink.failures g.S.Source.gives
+    g.S.Source.failures
+    (IsMet g.D.StationDisplay.does.shown g.D.OperatedDisplay.operated l.awaited) l.fn.attached told l.attached
     × (length told ≡ l.counter) × (l.attached.broken ≡ false)

@@ -5,8 +5,8 @@ use Rattle.ws_live.proofs.Scripts.{only_memory}
 use Rattle.ws_live.proofs.connect_line.named_key.Goals as goal
 
 pub returns-in_err-add-clause-fault : goal.returns-in_err-add-clause-fault
-returns-in_err-add-clause-fault c =
+returns-in_err-add-clause-fault g c =
     let p = err_from_is_err_and c.from_residual.result c.from_residual.ensures.1 in
     let key = c.in-Some.key in
-    rw (p.1, p.2) (only_memory (AreNamed c.args.name.now) _ c.in_err-add.ensures.fault
-    (key ∷ [], (key, sym c.key_named.ensures ∙ c.in-Some.is, refl)))
+    rw (p.1, p.2) (only_memory (AreNamed g.Q.NamedKey.words c.args.name.now) _ c.in_err-add.ensures.fault
+    (key ∷ [], (key, sym c.named.ensures ∙ c.in-Some.is, refl)))

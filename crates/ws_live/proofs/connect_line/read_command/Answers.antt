@@ -9,58 +9,61 @@ use Rattle.ws_live.proofs.Scripts.{fault_on, only_memory}
 use Rattle.ws_live.proofs.connect_line.read_command.Goals as goal
 
 pub returns-in_err-typed_keys-in-type-clause-fault : goal.returns-in_err-typed_keys-in-type-clause-fault
-returns-in_err-typed_keys-in-type-clause-fault c =
+returns-in_err-typed_keys-in-type-clause-fault g c =
     let p = err_from_is_err_and c.from_residual.result c.from_residual.ensures.1 in
     let command = c.args.command.now in
     let words = c.args.words.now in
-    rw (p.1, p.2) (only_memory (Means ((command ++ codes " ") ++ words)) _ c.in_err-typed_keys-in-type.ensures.fault
-    (types_so_far command words c.in-type.is c.utf8.words))
+    rw (p.1, p.2) (only_memory (Means g.Q.NamedKey.words ((command ++ codes " ") ++ words)) _
+    c.in_err-typed_keys-in-type.ensures.fault
+    (types_so_far g.Q.NamedKey.words command words c.in-type.is c.utf8.words))
 
 pub returns-in_err-typed_keys-in-insert-clause-fault : goal.returns-in_err-typed_keys-in-insert-clause-fault
-returns-in_err-typed_keys-in-insert-clause-fault c =
+returns-in_err-typed_keys-in-insert-clause-fault g c =
     let p = err_from_is_err_and c.from_residual-in_err-typed_keys-in-insert.result
     c.from_residual-in_err-typed_keys-in-insert.ensures.1 in
     let command = c.args.command.now in
     let words = c.args.words.now in
-    rw (p.1, p.2) (only_memory (Means ((command ++ codes " ") ++ words)) _ c.in_err-typed_keys-in-insert.ensures.fault
-    (inserts_so_far command words c.in-insert.is c.utf8.words))
+    rw (p.1, p.2) (only_memory (Means g.Q.NamedKey.words ((command ++ codes " ") ++ words)) _
+    c.in_err-typed_keys-in-insert.ensures.fault
+    (inserts_so_far g.Q.NamedKey.words command words c.in-insert.is c.utf8.words))
 
 pub returns-in_err-named_key-in-key-clause-fault : goal.returns-in_err-named_key-in-key-clause-fault
-returns-in_err-named_key-in-key-clause-fault c =
+returns-in_err-named_key-in-key-clause-fault g c =
     let p = err_from_is_err_and c.from_residual-in_err-named_key-in-key.result
     c.from_residual-in_err-named_key-in-key.ensures.1 in
     let command = c.args.command.now in
     let words = c.args.words.now in
-    rw (p.1, p.2) (fault_on (AreNamed words) (Means ((command ++ codes " ") ++ words)) _
-    (no_named_line command words c.requires.no_blank c.requires.no_comment c.in-key.is)
-    (named_so_far command words c.in-key.is) c.in_err-named_key-in-key.ensures.fault)
+    rw (p.1, p.2) (fault_on (AreNamed g.Q.NamedKey.words words) (Means g.Q.NamedKey.words ((command ++ codes " ") ++
+    words)) _
+    (no_named_line g.Q.NamedKey.words command words c.requires.no_blank c.requires.no_comment c.in-key.is)
+    (named_so_far g.Q.NamedKey.words command words c.in-key.is) c.in_err-named_key-in-key.ensures.fault)
 
 pub returns-in_err-read_awaited-in-await-clause-fault : goal.returns-in_err-read_awaited-in-await-clause-fault
-returns-in_err-read_awaited-in-await-clause-fault c =
+returns-in_err-read_awaited-in-await-clause-fault g c =
     let p = err_from_is_err_and c.from_residual-in_err-read_awaited-in-await.result
     c.from_residual-in_err-read_awaited-in-await.ensures.1 in
     let command = c.args.command.now in
     let words = c.args.words.now in
-    rw (p.1, p.2) (fault_on (IsAwaited words) (Means ((command ++ codes " ") ++ words)) _
-    (no_awaited_line command words c.requires.no_blank c.requires.no_comment c.in-await.is)
-    (awaits_so_far command words c.in-await.is) c.in_err-read_awaited-in-await.ensures.fault)
+    rw (p.1, p.2) (fault_on (IsAwaited words) (Means g.Q.NamedKey.words ((command ++ codes " ") ++ words)) _
+    (no_awaited_line g.Q.NamedKey.words command words c.requires.no_blank c.requires.no_comment c.in-await.is)
+    (awaits_so_far g.Q.NamedKey.words command words c.in-await.is) c.in_err-read_awaited-in-await.ensures.fault)
 
 pub returns-in_ok-typed_keys-in-type-clause-line : goal.returns-in_ok-typed_keys-in-type-clause-line
-returns-in_ok-typed_keys-in-type-clause-line c =
+returns-in_ok-typed_keys-in-type-clause-line g c =
     typed c.args.words.now (ap (λ (z : List ℕ). (z ++ codes " ") ++ c.args.words.now) c.in-type.is)
     c.in_ok-typed_keys-in-type.ensures.keys
 
 pub returns-in_ok-typed_keys-in-insert-clause-line : goal.returns-in_ok-typed_keys-in-insert-clause-line
-returns-in_ok-typed_keys-in-insert-clause-line c =
+returns-in_ok-typed_keys-in-insert-clause-line g c =
     inserted c.args.words.now (ap (λ (z : List ℕ). (z ++ codes " ") ++ c.args.words.now) c.in-insert.is)
     c.in_ok-typed_keys-in-insert.ensures.keys
 
 pub returns-in_ok-named_key-in-key-clause-line : goal.returns-in_ok-named_key-in-key-clause-line
-returns-in_ok-named_key-in-key-clause-line c =
+returns-in_ok-named_key-in-key-clause-line g c =
     named c.args.words.now (ap (λ (z : List ℕ). (z ++ codes " ") ++ c.args.words.now) c.in-key.is)
     c.in_ok-named_key-in-key.ensures.keys
 
 pub returns-in_default-clause-fault : goal.returns-in_default-clause-fault
-returns-in_default-clause-fault c =
-    no_station_command c.args.command.now c.args.words.now c.requires.no_blank c.requires.no_comment
+returns-in_default-clause-fault g c =
+    no_station_command g.Q.NamedKey.words c.args.command.now c.args.words.now c.requires.no_blank c.requires.no_comment
     c.in_default.not-type c.in_default.not-insert c.in_default.not-key c.in_default.not-await

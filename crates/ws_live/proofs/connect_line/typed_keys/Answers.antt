@@ -6,7 +6,7 @@ use Rattle.std.proofs.lemmas.Str.{scalars-chars, encodes-chars}
 use Rattle.ws_live.proofs.connect_line.typed_keys.Goals as goal
 
 pub returns-clause-keys : goal.returns-clause-keys
-returns-clause-keys c =
+returns-clause-keys g c =
     let end = YieldsList-end (YieldsList-from_chars c.args.text.now c.utf8.text cc) c.loop-character.yielded _
     c.loop-character.yielded_by _ _ c.in-None.is c.next.ensures.steps in
     let all = sym (map-id c.loop-character.yielded) ∙ end.0 in

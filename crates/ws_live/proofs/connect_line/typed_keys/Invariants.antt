@@ -4,4 +4,5 @@ use Rattle.ws_live.proofs.connect_line.typed_keys.Given as goal
 
 -- a key for each character so far
 abbrev pub invariant-loop-character : goal.invariant-loop-character
-invariant-loop-character l = l.keys.items ≡ map (typed_key l.inserts) l.yielded
+invariant-loop-character g l = l.keys.items
+    ≡ map (λ character. g.Q.NamedKey.words.profile (typed_key l.inserts character)) l.yielded

@@ -1,4 +1,4 @@
-use Rattle.std.proofs.Common.{◌≡◌, ◌++◌, ◌+◌, ◌-◌, ◌<◌, ℕ, List, length, take, drop, refl, sym, ap, ◌∙◌, subst, arith}
+use Rattle.std.proofs.Common.{◌≡◌, ◌++◌, ◌+◌, ◌-◌, ℕ, List, length, take, drop, refl, sym, ap, subst, arith}
 use Rattle.std.proofs.Common.{length-take, length-drop}
 use Rattle.std.proofs.lemmas.List.{take_all, length-take-le}
 use Rattle.ws_record.specs.Refusal.{IsRefused}

@@ -1,4 +1,4 @@
-use Rattle.std.proofs.Common.{◌∙◌, ap, refl, subst, ℕ, List}
+use Rattle.std.proofs.Common.{ap, refl, subst, ℕ, List}
 use Rattle.std.proofs.lemmas.Result.{err_from_is_err_and}
 use Rattle.ws_code.specs.Device.{WentOut}
 use Rattle.ws_stream.specs.Elements.{element_rules}

@@ -3,7 +3,6 @@ use Rattle.std.proofs.lemmas.Result.{err_from_is_err_and, IfErr-weaker, on_ok_we
 use Rattle.ws_code.proofs.DeviceLaws.{went_out_none}
 use Rattle.ws_program.specs.StreamText.{items_of}
 use Rattle.ws_program.specs.Views.{in_paint}
-use Rattle.ws_live.specs.declared.paint.Paint.{Paint}
 use Rattle.ws_live.specs.declared.paint.Paint.TheVariants.{Plain}
 use Rattle.ws_program.proofs.Shows.{shows_none, next_is, none_next}
 use Rattle.ws_program.proofs.Shows.{fewer_left, goes_on, part, accepted_behind}

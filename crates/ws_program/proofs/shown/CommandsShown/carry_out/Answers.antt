@@ -1,13 +1,7 @@
-use Rattle.std.specs.Prelude.{Result, Ok, Err, OnOk}
-use Rattle.ws_program.proofs.ViewLaws.{gives_more}
+use Rattle.ws_program.proofs.ViewLaws.{both_ok, gives_more}
 use Rattle.ws_program.specs.Views.{after_items}
-use Rattle.std.proofs.Common.{[], ◌∷◌, ◌++◌}
+use Rattle.std.proofs.Common.{[]}
 use Rattle.ws_program.proofs.shown.CommandsShown.carry_out.Goals as goal
-
--- two facts where it is Ok
-both_ok : {X E : Type 0} {P Q R : Type 0} (r : Result X E) → (P → Q → R) → OnOk r P → OnOk r Q → OnOk r R
-both_ok (Ok v) f p q = f p q
-both_ok (Err e) f p q = tt
 
 pub returns-in-Record-clause-after : goal.returns-in-Record-clause-after
 returns-in-Record-clause-after c =

@@ -1,0 +1,19 @@
+use Rattle.std.proofs.Common.{◌≡◌, Err}
+use Rattle.ws_session.specs.declared.refusal.Refusal.TheVariants.{Failed}
+use Rattle.ws_session.proofs.Shuts.{not_shut, shut_fails}
+use Rattle.ws_any_host.proofs.AnyActs.{any_came}
+use Rattle.ws_any_host.proofs.end.AnyHostEnd.take.Goals as goal
+
+pub returns-in-Ok-clause-taken : goal.returns-in-Ok-clause-taken
+returns-in-Ok-clause-taken c = any_came _ _ _ _ c.in-Ok.ensures.pushed
+    (not_shut _ _ Failed _ (λ over. (c.in-Ok.ensures.failed over).0) c.in-Ok.ensures.full)
+
+pub returns-in-Err-clause-refused : goal.returns-in-Err-clause-refused
+returns-in-Err-clause-refused c = record {
+  led = c.in-Err.ensures.pushed;
+  shut = λ shut. (
+    (let e : Err c.in-Err.refusal ≡ Err Failed = shut_fails _ _ Failed _ (λ over. (c.in-Err.ensures.failed over).0)
+        c.in-Err.ensures.full shut in cc),
+    c.in-Err.ensures.seen,
+  );
+}

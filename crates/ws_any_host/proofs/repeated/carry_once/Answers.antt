@@ -1,0 +1,56 @@
+use Rattle.std.proofs.Common.{inl, inr, refl, subst}
+use Rattle.std.specs.Prelude.{Result}
+use Rattle.ws_code.specs.declared.fault.Fault.{Fault}
+use Rattle.ws_text.specs.Printing.{IsOut}
+use Rattle.ws_text.specs.declared.output.Output.{Output}
+use Rattle.ws_text.proofs.Prints.{whole_out}
+use Rattle.ws_live.specs.declared.live.Closing.{Closing}
+use Rattle.ws_live.specs.declared.paint.Paint.TheVariants.{Plain}
+use Rattle.ws_any_host.proofs.repeated.carry_once.Goals as goal
+
+pub returns-in-Open-clause-carried : goal.returns-in-Open-clause-carried
+returns-in-Open-clause-carried g c =
+    let e = c.carry_out-carried.ensures.runs in (
+      e.0,
+      (
+        subst (λ (o : Result Closing Fault). g.L.LiveMove.runs g.W.Watch.tells Plain c.args.line.now
+            c.args.attached.now o e.0 c.carry_out-carried.new.attached) c.in-Ok.is e.1,
+        c.carry_out-carried.ensures.begun,
+      ),
+      subst (λ (o : Output). IsOut g.O.Sink.takes g.O.Sink.failures c.args.out.now.sink c.hand_on-output.new.out.sink o
+          e.0) c.in-Open.is
+          (c.hand_on-output.ensures.out c.args.out.now e.0 c.requires.empty (whole_out e.2)),
+    )
+
+pub returns-in-Failed-clause-fault : goal.returns-in-Failed-clause-fault
+returns-in-Failed-clause-fault g c =
+    let e = c.carry_out-carried.ensures.runs in
+    inr (
+      refl,
+      (
+        c.in-Ok.closing,
+        e.0,
+        (
+          subst (λ (o : Result Closing Fault). g.L.LiveMove.runs g.W.Watch.tells Plain c.args.line.now
+              c.args.attached.now o e.0 c.carry_out-carried.new.attached) c.in-Ok.is e.1,
+          c.carry_out-carried.ensures.begun,
+        ),
+        subst (λ (o : Output). IsOut g.O.Sink.takes g.O.Sink.failures c.args.out.now.sink c.hand_on-output.new.out.sink
+            o e.0) c.in-Failed.is
+            (c.hand_on-output.ensures.out c.args.out.now e.0 c.requires.empty (whole_out e.2)),
+      ),
+    )
+
+pub returns-in-Err-clause-fault : goal.returns-in-Err-clause-fault
+returns-in-Err-clause-fault g c =
+    let e = c.carry_out-carried.ensures.runs in
+    inl (
+      e.0,
+      c.hand_on-output.result,
+      (
+        subst (λ (o : Result Closing Fault). g.L.LiveMove.runs g.W.Watch.tells Plain c.args.line.now
+            c.args.attached.now o e.0 c.carry_out-carried.new.attached) c.in-Err.is e.1,
+        c.carry_out-carried.ensures.begun,
+      ),
+      c.hand_on-output.ensures.out c.args.out.now e.0 c.requires.empty (whole_out e.2),
+    )

@@ -1,0 +1,106 @@
+-- The lines of a script for a host that takes any record.
+
+use Rattle.std.specs.Prelude.{◌≡◌, ◌≢◌, ◌⊎◌, ℕ, ◌+◌, ◌-◌, ◌^◌, List, [], ◌++◌, codes, min}
+use Rattle.std.specs.Str.{IsUtf8}
+use Rattle.ws_code.specs.Code.{spelling_of}
+use Rattle.ws_record.specs.Grammar.{opcode_byte}
+use Rattle.ws_record.specs.declared.opcode.Opcode.{Opcode}
+use Rattle.ws_record.specs.declared.record.Record.{Record}
+use Rattle.ws_extended.specs.ExtendedElements.{extended_rules}
+use Rattle.ws_extended.specs.declared.extended_element.ExtendedElement.{ExtendedElement}
+use Rattle.ws_text.specs.BodyLines.{AddUnits, IsAddFault, new_record}
+use Rattle.ws_text.specs.ExtendedWords.{extended_wording}
+use Rattle.ws_text.specs.Words.{IsNumber, IsHex}
+use Rattle.ws_text.specs.declared.items.TextFault.{TextFault}
+use Rattle.ws_text.specs.declared.items.TextFault.TheVariants as items
+use Rattle.ws_live.specs.ConnectLines.{IsNothing}
+use Rattle.ws_live.specs.declared.script.ScriptFault.{ScriptFault}
+use Rattle.ws_live.specs.declared.script.ScriptFault.TheVariants.{Line, Memory}
+use Rattle.ws_any_host.specs.declared.any_line.AnyLine.{AnyLine}
+use Rattle.ws_any_host.specs.declared.any_line.AnyLine.TheVariants.{Nothing, Send, Await}
+
+-- a record that a script sends: its flags are all off
+abbrev pub sent : Opcode → List ℕ → Record ℕ
+sent opcode body = record { flags = 0; opcode = opcode; body = body }
+
+-- any opcode, in decimal
+abbrev pub IsOpcode : List ℕ → Opcode → Type 0
+IsOpcode number opcode = IsNumber number (opcode_byte opcode)
+
+-- an opcode, and behind a blank a body in hex
+abbrev pub IsBodyText : List ℕ → Opcode → List ℕ → Type 0
+IsBodyText words opcode body = (number : List ℕ) × (hex : List ℕ) × (words ≡ (number ++ codes " ") ++ hex)
+    × IsOpcode number opcode × IsHex hex body
+
+-- the words of a record to be sent: its opcode, and its body where it has one
+abbrev pub IsSendText : List ℕ → Record ℕ → Type 0
+IsSendText words r = (opcode : Opcode) × (body : List ℕ) × (r ≡ sent opcode body)
+    × ((IsOpcode words opcode × (body ≡ [])) ⊎ IsBodyText words opcode body)
+
+-- what a line means by itself
+abbrev pub Means : List ℕ → AnyLine → Type 0
+Means line Nothing = IsNothing line
+Means line (Send r) = (words : List ℕ) × (line ≡ codes "send " ++ words) × IsSendText words r
+Means line Await = line ≡ codes "await"
+
+-- a line by itself, which is UTF-8
+abbrev pub IsOneLine : List ℕ → AnyLine → Type 0
+IsOneLine line read = IsUtf8 line × Means line read
+
+-- the words of a record to be sent, up to its body
+abbrev pub IsSendBegun : List ℕ → Type 0
+IsSendBegun words = (number : List ℕ) × (hex : List ℕ) × (opcode : Opcode) × (words ≡ (number ++ codes " ") ++ hex)
+    × IsOpcode number opcode
+
+-- a line that sends one is good up to its body
+abbrev pub IsLineBegun : List ℕ → Type 0
+IsLineBegun line = (words : List ℕ) × (line ≡ codes "send " ++ words) × IsSendBegun words
+
+-- a line that sends a record, and says no more of it than its opcode
+abbrev pub SendsAlone : List ℕ → List ℕ → Opcode → Type 0
+SendsAlone line number opcode = IsUtf8 line × (line ≡ codes "send " ++ number) × IsOpcode number opcode
+
+-- elements may stand behind such a line
+abbrev pub OpensAnyBlock : List ℕ → Type 0
+OpensAnyBlock line = (number : List ℕ) × (opcode : Opcode) × SendsAlone line number opcode
+
+-- lines say a live host's elements, of a record of the opcode; these bytes spell them
+abbrev pub SayBytes : List (List ℕ) → Opcode → List ℕ → Type 0
+SayBytes elements opcode body = (r : Record ExtendedElement)
+    × AddUnits extended_rules extended_wording elements (new_record opcode) r
+    × (body ≡ spelling_of extended_rules r.body)
+
+-- why they say none
+abbrev pub IsWordFault : List (List ℕ) → Opcode → TextFault → Type 0
+IsWordFault elements opcode why = IsAddFault extended_rules extended_wording elements (new_record opcode) why
+
+-- a record is sent with the bytes of the elements that the lines behind its line say
+abbrev pub SendsInWords : List ℕ → List (List ℕ) → AnyLine → Type 0
+SendsInWords line elements read = (number : List ℕ) × (opcode : Opcode) × (body : List ℕ)
+    × SendsAlone line number opcode × SayBytes elements opcode body × (read ≡ Send (sent opcode body))
+
+-- a line of such a script, and the lines of elements behind it
+abbrev pub IsAnyLine : List ℕ → List (List ℕ) → AnyLine → Type 0
+IsAnyLine line elements read = ((elements ≡ []) × IsOneLine line read)
+    ⊎ ((elements ≢ []) × SendsInWords line elements read)
+
+-- a line that sends a record, up to the record's body
+abbrev pub BeginsAnyLine : List ℕ → Type 0
+BeginsAnyLine line = (IsUtf8 line × IsLineBegun line) ⊎ OpensAnyBlock line
+
+-- where elements are bad behind their line, which is the first: at the first line that adds none to the record, counted
+-- as far as 64 bits count
+abbrev pub AreBadAt : Opcode → List (List ℕ) → ℕ → Type 0
+AreBadAt opcode elements at = (number : ℕ) × IsWordFault elements opcode (items.Line number)
+    × (at ≡ min (number + 1) (2 ^ 64 - 1))
+
+-- where a line is bad with the elements behind it: at itself, or in these
+abbrev pub IsBadAnyLineAt : List ℕ → List (List ℕ) → ℕ → Type 0
+IsBadAnyLineAt line elements at = ((at ≡ 1) × ((elements ≡ []) ⊎ (OpensAnyBlock line → ⊥)))
+    ⊎ ((number : List ℕ) × (opcode : Opcode) × SendsAlone line number opcode × AreBadAt opcode elements at)
+
+-- why a line, or its words, isn't read: it is the bad one, and means nothing; or a growth was refused, and it is good
+-- up to there
+abbrev pub IsFault : {X : Type 0} → (X → Type 0) → Type 0 → ScriptFault → Type 0
+IsFault {X} IsRead IsGood (Line at) = (at ≡ 1) × ((x : X) → IsRead x → ⊥)
+IsFault IsRead IsGood Memory = IsGood

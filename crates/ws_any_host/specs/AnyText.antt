@@ -1,0 +1,88 @@
+-- What a line of a script does at a host that takes any record, and what it prints.
+
+use Rattle.std.specs.Prelude.{◌≡◌, ℕ, List, [], ◌∷◌, ◌++◌, ◌⊎◌, Bool, true, false, not, ◌&&◌, ◌==◌, nat_lt, codes}
+use Rattle.std.specs.Prelude.{Option, None, Some, IfSome, IfNone, Result, Ok, Err, if◌then◌else◌}
+use Rattle.std.specs.List.{flat_map}
+use Rattle.std.specs.Fmt.{decimal}
+use Rattle.hex.specs.Hex.{encode_upper}
+use Rattle.ws_code.specs.Device.{MayTake, MayGive}
+use Rattle.ws_code.specs.declared.fault.Fault.{Fault}
+use Rattle.ws_code.specs.declared.fault.Fault.TheVariants as fault
+use Rattle.ws_record.specs.Grammar.{two_bytes, opcode_byte}
+use Rattle.ws_record.specs.declared.record.Record.{Record}
+use Rattle.ws_session.specs.Acts.{Did}
+use Rattle.ws_session.specs.Attachments.{AttachedParts, HaveLed, IsSendFailure, HasHeard, IsHearFault}
+use Rattle.ws_session.specs.declared.send_fault.SendFault.{SendFault}
+use Rattle.ws_text.specs.ItemLines.{hex_behind_blank}
+use Rattle.ws_live.specs.ServeText.{given_outcome, given_text, unheard_outcome, unheard_text}
+use Rattle.ws_live.specs.declared.live.Closing.{Closing}
+use Rattle.ws_live.specs.declared.live.Closing.TheVariants.{Nothing, Done, Ended}
+use Rattle.ws_any_host.specs.AnyLeads.{AnyParts, AnyGoes, AnyRefuses, IsAnySendRefusal, IsAnySendTaken}
+use Rattle.ws_any_host.specs.declared.any_event.AnyEvent.{AnyEvent}
+use Rattle.ws_any_host.specs.declared.any_event.AnyEvent.TheVariants.{Ready, Record as Came}
+use Rattle.ws_any_host.specs.declared.any_line.AnyLine.{AnyLine}
+use Rattle.ws_any_host.specs.declared.any_line.AnyLine.TheVariants.{Nothing as NoLine, Send, Await}
+
+-- a byte of a name that stands for itself: it prints (ASCII), and is neither a blank nor `\`
+abbrev pub is_plain : ℕ → Bool
+is_plain byte = nat_lt 32 byte && nat_lt byte 127 && not (byte == 92)
+
+-- a byte of a name; own choice: any other is `\` and two hex digits, so that a name stays within its line
+abbrev pub name_byte : ℕ → List ℕ
+name_byte byte = if is_plain byte then byte ∷ [] else codes "\\" ++ encode_upper (byte ∷ [])
+
+-- a terminal's name as it came
+abbrev pub name_text : List ℕ → List ℕ
+name_text name = flat_map name_byte name
+
+-- what the host tells: the terminal's name; and a record by its flags in hex, its opcode in decimal, and its body in
+-- hex where it has one
+abbrev pub any_event_text : AnyEvent → List ℕ
+any_event_text (Ready name) = codes "terminal " ++ name_text name ++ codes "\n"
+any_event_text (Came r) = codes "record flags " ++ encode_upper (two_bytes r.flags) ++ codes " opcode "
+    ++ decimal (opcode_byte r.opcode) ++ hex_behind_blank r.body ++ codes "\n"
+
+-- the lines that wait
+abbrev pub any_waits : AnyLine → Bool
+any_waits Await = true
+any_waits line = false
+
+module _ {S K : Type 0} (takes : MayTake K) (failures : K → ℕ) (gives : MayGive S) (misses : S → ℕ) where
+  -- such a host on a source and a sink
+  abbrev pub Parts : Type 0
+  Parts = AttachedParts AnyParts S K
+
+  -- the record was written, or refused, and nothing is changed; no byte was read or taken
+  pub record IsDone (r : Record ℕ) (from : Parts) (refused : Option SendFault) (to : Parts) : Type 0 where
+    pub led : HaveLed AnyGoes AnyRefuses takes failures gives misses from to (Did r ∷ []) []
+    pub same : IfSome refused (λ why. to ≡ from)
+    pub why : IfSome refused (IsAnySendRefusal from.end r)
+    pub taken : IfNone refused (IsAnySendTaken from.end r)
+    pub waiting : to.waiting ≡ from.waiting
+    pub unread : to.source ≡ from.source
+
+  -- what it was told to send is sent or refused, or a write failed, or for want of memory nothing is done
+  abbrev pub IsGiven : Record ℕ → Parts → Result (Option SendFault) Fault → Parts → Type 0
+  IsGiven r from (Ok refused) to = IsDone r from refused to
+  IsGiven r from (Err why) to =
+      IsSendFailure AnyGoes AnyRefuses takes failures gives misses from to (Did r ∷ []) why
+
+  -- What a wait comes to, at a watch that tells of a source whether the read that failed was late.
+  module _ (tells : S → Bool → Type 0) where
+    -- the host heard the station up to the first thing that it tells, which is printed, or none came
+    abbrev pub HearsOne : Parts → Result Closing Fault → List ℕ → Parts → Type 0
+    HearsOne from outcome text to =
+        ((event : AnyEvent) × HasHeard AnyGoes AnyRefuses takes failures gives misses from to (Some event)
+        × (outcome ≡ Ok Done) × (text ≡ any_event_text event))
+        ⊎ ((HasHeard AnyGoes AnyRefuses takes failures gives misses from to None
+        × (outcome ≡ Ok Ended) × (text ≡ []))
+        ⊎ ((why : Fault) × (late : Bool) × IsHearFault AnyGoes AnyRefuses takes failures gives misses from to why
+        × (why ≡ fault.Read → tells to.source late)
+        × (outcome ≡ unheard_outcome late why) × (text ≡ unheard_text why)))
+
+    -- a line at such a host, how it closed, and what it printed
+    abbrev pub AnyRuns : AnyLine → Parts → Result Closing Fault → List ℕ → Parts → Type 0
+    AnyRuns NoLine from outcome text to = (to ≡ from) × (outcome ≡ Ok Nothing) × (text ≡ [])
+    AnyRuns (Send r) from outcome text to = (given : Result (Option SendFault) Fault) × IsGiven r from given to
+        × (outcome ≡ given_outcome given) × (text ≡ given_text given)
+    AnyRuns Await from outcome text to = HearsOne from outcome text to

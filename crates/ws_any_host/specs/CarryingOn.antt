@@ -1,0 +1,56 @@
+-- A line that is carried out again and again, for as long as it closes with something that was told.
+
+use Rattle.std.specs.Prelude.{◌≡◌, ℕ, List, ◌++◌, ◌⊎◌, Bool, true, false, not, replicate, Result, Ok, Err}
+use Rattle.ws_code.specs.Device.{MayTake, WentOut, FailedWithin, most_reads}
+use Rattle.ws_code.specs.declared.fault.Fault.{Fault}
+use Rattle.ws_code.specs.declared.fault.Fault.TheVariants as fault
+use Rattle.ws_text.specs.Printing.{IsOut}
+use Rattle.ws_text.specs.declared.output.Output.{Output}
+use Rattle.ws_live.specs.LiveText.{HaveRun, stops}
+use Rattle.ws_live.specs.ServeText.{is_told}
+use Rattle.ws_live.specs.declared.live.Closing.{Closing}
+
+-- what the line does
+module _ {L P : Type 0} (runs : L → P → Result Closing Fault → List ℕ → P → Type 0) (line : L) where
+  -- it was carried out so many times, and went well and printed this, and then came to this
+  pub record CarriesOn (from to : P) (outcome : Result Closing Fault) (text : List ℕ) : Type 0 where
+    pub count : ℕ
+    pub printed : List ℕ
+    pub mid : P
+    pub ran : HaveRun runs false from (replicate count line) true printed mid
+    pub last : List ℕ
+    pub came : runs line mid outcome last to
+    pub all : text ≡ printed ++ last
+
+  -- up to the first time that nothing is told; all is well where that stops nothing
+  abbrev pub IsCarriedText : P → Bool → List ℕ → P → Type 0
+  IsCarriedText from all_well text to = (closing : Closing) × CarriesOn from to (Ok closing) text
+      × (is_told closing ≡ false) × (all_well ≡ not (stops closing))
+
+  module _ {O : Type 0} (prints : MayTake O) (misprints : O → ℕ) (from to : P) (old new : O) where
+    -- once more, and what it printed is out
+    abbrev pub HasCarriedOnce : Closing → Type 0
+    HasCarriedOnce closing = (text : List ℕ) × runs line from (Ok closing) text to
+        × WentOut prints misprints old new text
+
+    -- a device or memory failed, or what was told didn't go out
+    abbrev pub IsOnceFault : Fault → Type 0
+    IsOnceFault why = ((text : List ℕ) × (output : Output) × runs line from (Err why) text to
+        × IsOut prints misprints old new output text)
+        ⊎ ((why ≡ fault.Write) × ((closing : Closing) × (text : List ℕ) × runs line from (Ok closing) text to
+        × FailedWithin prints misprints old new text))
+
+    -- what was told is printed
+    abbrev pub HasCarriedOn : Bool → Type 0
+    HasCarriedOn all_well = (text : List ℕ) × IsCarriedText from all_well text to
+        × WentOut prints misprints old new text
+
+    -- a device or memory failed, or what was told didn't go out, or too much was told
+    abbrev pub IsCarryOnFault : Fault → Type 0
+    IsCarryOnFault why = ((text : List ℕ) × (output : Output) × CarriesOn from to (Err why) text
+        × IsOut prints misprints old new output text)
+        ⊎ (((why ≡ fault.Write) × ((closing : Closing) × (text : List ℕ) × CarriesOn from to (Ok closing) text
+        × FailedWithin prints misprints old new text))
+        ⊎ ((why ≡ fault.Read) × ((text : List ℕ)
+        × HaveRun runs false from (replicate most_reads line) true text to
+        × WentOut prints misprints old new text)))

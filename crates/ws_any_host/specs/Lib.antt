@@ -1,0 +1,6 @@
+pub mod AnyLeads
+pub mod AnyLines
+pub mod AnyOptions
+pub mod AnySide
+pub mod AnyText
+pub mod CarryingOn

@@ -1,0 +1,150 @@
+//! The lines of a script, carried out at a host that takes any record.
+ghost use Rattle.std.specs.Prelude.{◌≡◌, false, Bool, List, ℕ, IfOk};
+ghost use Rattle.ws_text.specs.Printing.{Prints};
+ghost use Rattle.ws_live.specs.LiveText.{stops};
+ghost use Rattle.ws_live.specs.ServeText.{given_outcome, given_text, unheard_outcome, unheard_text};
+ghost use Rattle.ws_any_host.specs.AnyText as Spec;
+
+use crate::any_text::put_any_event;
+use crate::{AnyHost, AnyLine};
+use ws_code::{Fault, Sink, Source};
+use ws_live::{Carried, Closing, LiveMove, Paint, Watch, put_event};
+use ws_record::Record;
+use ws_session::{Attached, Event, SendFault};
+use ws_text::Output;
+
+impl<S: Source, K: Sink> LiveMove<AnyHost, S, K> for AnyLine {
+    ghost runs = { λ tells paint. Spec.AnyRuns K.takes K.failures S.gives S.failures tells };
+
+    ghost waits = { Spec.any_waits };
+
+    fn carry_out<W: Watch<S>, O: Sink>(
+        &self,
+        attached: &mut Attached<AnyHost, S, K>,
+        watch: &mut W,
+        _paint: Paint,
+        out: &mut O,
+        output: Output,
+    ) -> Carried {
+        match self {
+            AnyLine::Nothing => Carried {
+                output,
+                outcome: Ok(Closing::Nothing),
+            },
+            AnyLine::Send(record) => put_given(out, output, give(attached, record)),
+            AnyLine::Await => {
+                watch.begin(attached.source());
+                hear_event(attached, watch, out, output)
+            }
+        }
+    }
+}
+
+// Sends a record.
+fn give<S: Source, K: Sink>(
+    attached: &mut Attached<AnyHost, S, K>,
+    record_: &Record<u8>,
+) -> Result<Option<SendFault>, Fault>
+    requires works { attached.old.broken ≡ false }
+    ensures given { Spec.IsGiven K.takes K.failures S.gives S.failures record_.now
+        attached.old result attached.new }
+    ensures works { IfOk result (λ refused. attached.new.broken ≡ false) }
+{
+    match attached.act(record_) {
+        Ok(refused) => Ok(refused),
+        Err(fault) => Err(fault),
+    }
+}
+
+fn put_given<O: Sink>(
+    out: &mut O,
+    output: Output,
+    given: Result<Option<SendFault>, Fault>,
+) -> Carried
+    ensures outcome { result.outcome ≡ given_outcome given }
+    ensures text { Prints O.takes O.failures out.old out.new output result.output
+        (given_text given) }
+{
+    match given {
+        Ok(None) => Carried {
+            output,
+            outcome: Ok(Closing::Done),
+        },
+        Ok(Some(fault)) => Carried {
+            output: put_event(out, output, &Event::SendRefused(fault)),
+            outcome: Ok(Closing::Declined),
+        },
+        Err(fault) => Carried {
+            output,
+            outcome: Err(fault),
+        },
+    }
+}
+
+// Takes what the station sends up to the first thing that the host tells, and prints it.
+fn hear_event<S: Source, K: Sink, W: Watch<S>, O: Sink>(
+    attached: &mut Attached<AnyHost, S, K>,
+    watch: &W,
+    out: &mut O,
+    output: Output,
+) -> Carried
+    requires works { attached.old.broken ≡ false }
+    ensures heard { (text : List ℕ) × Spec.HearsOne K.takes K.failures S.gives S.failures
+        W.tells attached.old result.outcome text attached.new
+        × Prints O.takes O.failures out.old out.new output result.output text }
+    ensures works { IfOk result.outcome (λ closing.
+        stops closing ≡ false → attached.new.broken ≡ false) }
+{
+    match attached.hear() {
+        Ok(Some(event)) => Carried {
+            output: put_any_event(out, output, &event),
+            outcome: Ok(Closing::Done),
+        },
+        Ok(None) => Carried {
+            output,
+            outcome: Ok(Closing::Ended),
+        },
+        Err(fault) => put_unheard(watch, attached.source(), out, output, fault),
+    }
+}
+
+// How a wait closes that a fault ended.
+fn put_unheard<S, W: Watch<S>, O: Sink>(
+    watch: &W,
+    source: &S,
+    out: &mut O,
+    output: Output,
+    fault: Fault,
+) -> Carried
+    ensures { (late : Bool) × (fault ≡ Fault.Read → W.tells source.now late)
+        × (result.outcome ≡ unheard_outcome late fault)
+        × Prints O.takes O.failures out.old out.new output result.output
+        (unheard_text fault) }
+{
+    match fault {
+        Fault::Refused { place, reason } => Carried {
+            output: put_event(out, output, &Event::HostRefused { place, reason }),
+            outcome: Ok(Closing::Stopped),
+        },
+        Fault::Read => Carried {
+            output,
+            outcome: unread(watch, source),
+        },
+        _ => Carried {
+            output,
+            outcome: Err(fault),
+        },
+    }
+}
+
+// How a wait closes at which a read failed.
+fn unread<S, W: Watch<S>>(watch: &W, source: &S) -> Result<Closing, Fault>
+    ensures { (late : Bool) × W.tells source.now late
+        × (result ≡ unheard_outcome late Fault.Read) }
+{
+    if watch.is_late(source) {
+        Ok(Closing::Late)
+    } else {
+        Err(Fault::Read)
+    }
+}

@@ -1,0 +1,55 @@
+//! A host that takes any record, as an end of a session.
+ghost use Rattle.std.specs.Prelude.{IsSome};
+ghost use Rattle.ws_record.specs.RawBody.{raw_rules};
+ghost use Rattle.ws_session.specs.ActLaws.{goes_none, goes_on};
+ghost use Rattle.ws_any_host.specs.AnyLeads.{AnyGoes, AnyLeads, AnyRefuses, IsAnyShut, IsAnySendRefusal, IsAnySendTaken};
+ghost use Rattle.ws_any_host.specs.AnySide.{any_manner};
+
+use crate::{AnyEvent, AnyHost};
+use ws_nego::Reply;
+use ws_record::Record;
+use ws_session::{Acting, End, EndStep, Refusal, SendFault};
+
+impl End for AnyHost {
+    type Deed = Record<u8>;
+
+    type Event = AnyEvent;
+
+    type Reply = Reply;
+
+    ghost goes = { AnyGoes };
+
+    ghost refuses = { AnyRefuses };
+
+    ghost over = { λ host. IsSome host.ended };
+
+    ghost written = { λ host reply. reply };
+
+    fn take(&mut self, byte: u8) -> Result<EndStep<AnyEvent>, Refusal> {
+        match self.push(byte) {
+            Ok(step) => Ok(step),
+            Err(refusal) => Err(refusal),
+        }
+    }
+
+    fn bytes<'a>(&'a self, reply: &'a Reply) -> &'a [u8] {
+        reply.as_slice()
+    }
+
+    ghost stays = { goes_none raw_rules raw_rules any_manner AnyLeads IsAnyShut };
+
+    ghost follows = { goes_on raw_rules raw_rules any_manner AnyLeads IsAnyShut };
+}
+
+impl Acting for AnyHost {
+    ghost refrains = { IsAnySendRefusal };
+
+    ghost acts = { IsAnySendTaken };
+
+    fn act(&mut self, deed: &Record<u8>) -> Result<Vec<u8>, SendFault> {
+        match self.send(deed) {
+            Ok(bytes) => Ok(bytes),
+            Err(fault) => Err(fault),
+        }
+    }
+}

@@ -1,0 +1,85 @@
+ghost use Rattle.std.specs.Prelude.{◌≡◌, [], false, IfOk, IfErr};
+ghost use Rattle.ws_live.specs.LiveText.{stops};
+ghost use Rattle.ws_live.specs.ServeText as Told;
+ghost use Rattle.ws_live.specs.Waits.{InTime};
+ghost use Rattle.ws_any_host.specs.CarryingOn as Spec;
+
+use ws_code::{Fault, Sink};
+use ws_live::{BufferedSink, Closing, LiveMove, Paint, Watch, hand_on};
+use ws_session::Attached;
+use ws_text::Output;
+
+/// Carries a line out again and again, and prints what it tells, for as long as it closes with something that was told:
+/// true where it then closes otherwise, and false where a byte is refused. With `AnyLine::Await` it answers a station
+/// on, behind a script.
+///
+/// `Write` where the sink or the connection failed, `Read` where a read failed, though not for want of time, or
+/// 4,294,967,296 things were told; `Memory` where a growth was refused.
+pub fn carry_on<E, S, K, L: LiveMove<E, S, K>, W: Watch<S>, O: Sink>(
+    attached: &mut Attached<E, S, K>,
+    watch: &mut W,
+    line: &L,
+    out: &mut BufferedSink<O>,
+) -> Result<bool, Fault>
+    requires works { attached.old.broken ≡ false }
+    requires empty { out.old.held ≡ [] }
+    ensures carried { IfOk result (Spec.HasCarriedOn
+        (InTime (L.runs W.tells Paint.Plain) L.waits W.begins W.begun) line.now
+        O.takes O.failures
+        (attached.old, watch.old) (attached.new, watch.new) out.old.sink out.new.sink) }
+    ensures fault { IfErr result (Spec.IsCarryOnFault
+        (InTime (L.runs W.tells Paint.Plain) L.waits W.begins W.begun) line.now
+        O.takes O.failures
+        (attached.old, watch.old) (attached.new, watch.new) out.old.sink out.new.sink) }
+{
+    for _ in 0..4_294_967_296u64 {
+        match carry_once(attached, watch, line, out) {
+            Ok(closing) => {
+                if !is_told(closing) {
+                    return Ok(!closing.ran().is_over);
+                }
+            }
+            Err(fault) => return Err(fault),
+        }
+    }
+    Err(Fault::Read)
+}
+
+// Carries a line out, and prints what it tells: how it closed.
+fn carry_once<E, S, K, L: LiveMove<E, S, K>, W: Watch<S>, O: Sink>(
+    attached: &mut Attached<E, S, K>,
+    watch: &mut W,
+    line: &L,
+    out: &mut BufferedSink<O>,
+) -> Result<Closing, Fault>
+    requires works { attached.old.broken ≡ false }
+    requires empty { out.old.held ≡ [] }
+    ensures carried { IfOk result (Spec.HasCarriedOnce
+        (InTime (L.runs W.tells Paint.Plain) L.waits W.begins W.begun) line.now
+        O.takes O.failures
+        (attached.old, watch.old) (attached.new, watch.new) out.old.sink out.new.sink) }
+    ensures fault { IfErr result (Spec.IsOnceFault
+        (InTime (L.runs W.tells Paint.Plain) L.waits W.begins W.begun) line.now
+        O.takes O.failures
+        (attached.old, watch.old) (attached.new, watch.new) out.old.sink out.new.sink) }
+    ensures works { IfOk result (λ closing.
+        stops closing ≡ false → attached.new.broken ≡ false) }
+    ensures held { out.new.held ≡ [] }
+{
+    let carried = line.carry_out(attached, watch, Paint::Plain, out, Output::Open);
+    let output = hand_on(out, carried.output);
+    match carried.outcome {
+        Ok(closing) => match output {
+            Output::Open => Ok(closing),
+            Output::Failed => Err(Fault::Write),
+        },
+        Err(fault) => Err(fault),
+    }
+}
+
+// Whether a line closed with something that was told.
+fn is_told(closing: Closing) -> bool
+    ensures { result ≡ Told.is_told closing }
+{
+    matches!(closing, Closing::Done)
+}

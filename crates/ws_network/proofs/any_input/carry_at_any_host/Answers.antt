@@ -1,0 +1,78 @@
+use Rattle.std.proofs.Common.{◌++◌, ◌&&◌, Bool, List, ℕ, sym, ap, ◌∙◌, subst, inl}
+use Rattle.std.specs.Option.{is_some}
+use Rattle.ws_code.proofs.DeviceLaws.{went_out_both}
+use Rattle.ws_any_host.specs.declared.any_line.AnyLine.TheVariants.{Await}
+use Rattle.ws_network.specs.AnySessions.{IsTextAndOn, RunsAny}
+use Rattle.ws_network.proofs.AnySessionLaws.{stopped_text, carried_text, uncarried}
+use Rattle.ws_network.proofs.any_input.carry_at_any_host.Goals as goal
+
+pub returns-in-Err-clause-fault : goal.returns-in-Err-clause-fault
+returns-in-Err-clause-fault g c = let e = c.in-Err.ensures.fault in (e.0, e.1, inl e.2)
+
+pub returns-then-ran-clause-ran : goal.returns-then-ran-clause-ran
+returns-then-ran-clause-ran g c =
+    let runs = RunsAny g.K.Sink.takes g.K.Sink.failures g.S.Source.gives g.S.Source.failures g.W.Watch.tells
+    g.W.Watch.begins g.W.Watch.begun in
+    let e = c.in-Ok.ensures.ran in (
+      e.0,
+      e.2.0,
+      e.1,
+      stopped_text runs Await c.args.ready (c.args.attached.now, c.args.watch.now)
+          (c.carry_session.new.attached, c.carry_session.new.watch) e.0 c.in-Ok.ran e.2.0 e.2.1 c.if-ran.true,
+      e.2.2,
+    )
+
+pub returns-then-ran-2-clause-ran : goal.returns-then-ran-2-clause-ran
+returns-then-ran-2-clause-ran g c =
+    let runs = RunsAny g.K.Sink.takes g.K.Sink.failures g.S.Source.gives g.S.Source.failures g.W.Watch.tells
+    g.W.Watch.begins g.W.Watch.begun in
+    let e = c.in-Ok.ensures.ran in
+    let a = c.in-Ok-carry_on.ensures.carried in
+    let well = c.in-Ok-carry_on.is_well in
+    let text : List ℕ = e.2.0 ++ a.0 in (
+      e.0,
+      text,
+      e.1,
+      subst (λ (b : Bool). IsTextAndOn runs Await c.args.ready (c.args.attached.now, c.args.watch.now) e.0 b text
+          (c.carry_on.new.attached, c.carry_on.new.watch)) (ap (λ (b : Bool). b && well) c.if-ran-2.true)
+          (carried_text runs Await c.args.ready (c.args.attached.now, c.args.watch.now)
+          (c.carry_session.new.attached, c.carry_session.new.watch) e.0 c.in-Ok.ran e.2.0 e.2.1
+          (c.carry_on.new.attached, c.carry_on.new.watch) well a.0 c.if-ran.false a.1),
+      went_out_both g.O.Sink.takes g.O.Sink.failures c.args.out.now.sink c.carry_session.new.out.sink
+          c.carry_on.new.out.sink e.2.0 a.0 e.2.2 a.2,
+    )
+
+pub returns-else-ran-2-clause-ran : goal.returns-else-ran-2-clause-ran
+returns-else-ran-2-clause-ran g c =
+    let runs = RunsAny g.K.Sink.takes g.K.Sink.failures g.S.Source.gives g.S.Source.failures g.W.Watch.tells
+    g.W.Watch.begins g.W.Watch.begun in
+    let e = c.in-Ok.ensures.ran in
+    let a = c.in-Ok-carry_on.ensures.carried in
+    let well = c.in-Ok-carry_on.is_well in
+    let text : List ℕ = e.2.0 ++ a.0 in (
+      e.0,
+      text,
+      e.1,
+      subst (λ (b : Bool). IsTextAndOn runs Await c.args.ready (c.args.attached.now, c.args.watch.now) e.0 b text
+          (c.carry_on.new.attached, c.carry_on.new.watch))
+          (ap (λ (b : Bool). b && well) c.if-ran-2.false ∙ sym c.if-ran-2.false)
+          (carried_text runs Await c.args.ready (c.args.attached.now, c.args.watch.now)
+          (c.carry_session.new.attached, c.carry_session.new.watch) e.0 c.in-Ok.ran e.2.0 e.2.1
+          (c.carry_on.new.attached, c.carry_on.new.watch) well a.0 c.if-ran.false a.1),
+      went_out_both g.O.Sink.takes g.O.Sink.failures c.args.out.now.sink c.carry_session.new.out.sink
+          c.carry_on.new.out.sink e.2.0 a.0 e.2.2 a.2,
+    )
+
+pub returns-in-Err-carry_on-clause-fault : goal.returns-in-Err-carry_on-clause-fault
+returns-in-Err-carry_on-clause-fault g c =
+    let runs = RunsAny g.K.Sink.takes g.K.Sink.failures g.S.Source.gives g.S.Source.failures g.W.Watch.tells
+    g.W.Watch.begins g.W.Watch.begun in
+    let e = c.in-Ok.ensures.ran in (
+      e.0,
+      e.1,
+      uncarried runs Await c.args.ready (c.args.attached.now, c.args.watch.now)
+          (c.carry_session.new.attached, c.carry_session.new.watch) e.0 c.in-Ok.ran e.2.0 e.2.1 g.O.Sink.takes
+          g.O.Sink.failures (c.carry_on.new.attached, c.carry_on.new.watch) c.args.out.now.sink
+          c.carry_session.new.out.sink c.carry_on.new.out.sink (is_some c.args.script) c.from.result
+          c.in-Err-carry_on.fault c.from.ensures c.if-ran.false e.2.2 c.in-Err-carry_on.ensures.fault,
+    )

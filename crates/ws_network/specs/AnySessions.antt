@@ -1,0 +1,69 @@
+-- What the sessions of `serve --any` come to: those of a host that takes any record.
+
+use Rattle.std.specs.Prelude.{◌≡◌, ℕ, List, [], ◌∷◌, ◌++◌, ◌⊎◌, Bool, false, ◌&&◌, Result, Ok}
+use Rattle.ws_code.specs.Device.{MayTake, MayGive, WentOut}
+use Rattle.ws_code.specs.declared.fault.Fault.{Fault}
+use Rattle.ws_nego.specs.Host.{opening}
+use Rattle.ws_record.specs.Encode.{plain_spelling}
+use Rattle.ws_record.specs.RawBody.{raw_rules}
+use Rattle.ws_record.specs.declared.record.Item.TheVariants.{Telnet}
+use Rattle.ws_session.specs.Attachments.{AttachedParts}
+use Rattle.ws_live.specs.LiveText.{HaveRun, IsStoppedAt}
+use Rattle.ws_live.specs.Waits.{InTime}
+use Rattle.ws_live.specs.declared.live.Closing.{Closing}
+use Rattle.ws_live.specs.declared.live.Closing.TheVariants.{Stopped}
+use Rattle.ws_any_host.specs.AnyLeads.{AnyParts, AnyLeads}
+use Rattle.ws_any_host.specs.AnyLines.{IsAnyLine, OpensAnyBlock}
+use Rattle.ws_any_host.specs.AnyOptions.{new_negotiated, once_opened}
+use Rattle.ws_any_host.specs.AnyText.{AnyRuns, any_waits}
+use Rattle.ws_any_host.specs.CarryingOn.{IsCarriedText, IsCarryOnFault}
+use Rattle.ws_any_host.specs.declared.any_line.AnyLine.{AnyLine}
+use Rattle.ws_any_host.specs.declared.any_line.AnyLine.TheVariants.{Await}
+use Rattle.ws_network.specs.LiveFaults.{IsSessionFault}
+use Rattle.ws_network.specs.Sessions.{AreFromScript, at_connection}
+use Rattle.ws_network.specs.Times.{Reads, Writes, no_writes, gives, takes, tells, begins}
+use Rattle.ws_program.specs.RunFaults.{run_fault}
+use Rattle.ws_program.specs.declared.fault.RunFault.{RunFault}
+use Rattle.ws_words.specs.declared.live_command.ServeAsked.{ServeAsked}
+
+-- lines, and behind them one that is carried out again and again
+module _ {L P : Type 0} (runs : L → P → Result Closing Fault → List ℕ → P → Type 0) (on : L) (ready : Bool) where
+  -- what they print, and whether all went well: where a line stopped the session, nothing stands behind it
+  abbrev pub IsTextAndOn : P → List L → Bool → List ℕ → P → Type 0
+  IsTextAndOn from lines all_well text to =
+      ((well : Bool) × (mid : P) × (printed : List ℕ) × (on_well : Bool) × (told : List ℕ)
+      × HaveRun runs ready from lines well printed mid × IsCarriedText runs on mid on_well told to
+      × (all_well ≡ well && on_well) × (text ≡ printed ++ told))
+      ⊎ (IsStoppedAt runs ready from lines (Ok Stopped) text to × (all_well ≡ false))
+
+  module _ {O : Type 0} (prints : MayTake O) (misprints : O → ℕ) (from to : P) (old new : O) where
+    -- why a session ended early: in its lines, or behind them, when what they print is out
+    abbrev pub IsFaultThenOrOn : Bool → List L → RunFault → Type 0
+    IsFaultThenOrOn has_script lines told =
+        IsSessionFault runs ready prints misprints from to old new has_script lines told
+        ⊎ ((well : Bool) × (printed : List ℕ) × (mid : P) × (between : O)
+        × HaveRun runs ready from lines well printed mid × WentOut prints misprints old between printed
+        × ((why : Fault) × IsCarryOnFault runs on prints misprints mid to between new why × (told ≡ run_fault why)))
+
+-- what a line does at such a host, at a watch
+module _ {S K W : Type 0} (writes : MayTake K) (failures : K → ℕ) (reads : MayGive S) (misses : S → ℕ)
+    (says : S → Bool → Type 0) (starts : W → S → W → Type 0) (begun : W → ℕ) where
+  abbrev pub RunsAny : AnyLine → (AttachedParts AnyParts S K × W) → Result Closing Fault → List ℕ
+      → (AttachedParts AnyParts S K × W) → Type 0
+  RunsAny = InTime (AnyRuns writes failures reads misses says) any_waits starts begun
+
+-- a host whose opening went out carried out the lines, and then took what came
+pub record IsAnyServed (asked : ServeAsked) (lines : List AnyLine) (all_well : Bool) (text : List ℕ) : Type 0 where
+  pub host : AnyParts
+  pub opened : AnyLeads host [] [] (once_opened new_negotiated)
+  pub sink : Writes
+  pub told : WentOut takes (λ s. s.failures) no_writes sink (plain_spelling raw_rules (Telnet opening ∷ []))
+  pub to : AttachedParts AnyParts Reads Writes × ℕ
+  pub ran : IsTextAndOn (RunsAny takes (λ s. s.failures) gives (λ s. s.failures) tells begins (λ begun. begun)) Await
+      asked.ready (at_connection host sink, 0) lines all_well text to
+
+-- its lines were carried out, and what they printed went out behind what tells the address
+abbrev pub HasAnyServed : {O : Type 0} → MayTake O → (O → ℕ) → O → O → ServeAsked → Bool → Type 0
+HasAnyServed prints misprints old new asked all_well = (lines : List AnyLine) × (first : List ℕ) × (text : List ℕ)
+    × AreFromScript IsAnyLine OpensAnyBlock asked.script lines × IsAnyServed asked lines all_well text
+    × WentOut prints misprints old new (first ++ text)

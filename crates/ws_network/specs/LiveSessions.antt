@@ -1,0 +1,20 @@
+-- What a live session comes to that doesn't end early, by the words that asked for it.
+
+use Rattle.std.specs.Prelude.{ℕ, Bool, true, false}
+use Rattle.ws_code.specs.Device.{MayTake}
+use Rattle.ws_network.specs.AnySessions.{HasAnyServed}
+use Rattle.ws_network.specs.Sessions.{HasConnected, HasServed}
+use Rattle.ws_words.specs.declared.live_command.Live.{Live}
+use Rattle.ws_words.specs.declared.live_command.Live.TheVariants.{Connect, Serve}
+use Rattle.ws_words.specs.declared.live_command.ServeAsked.{ServeAsked}
+
+module _ {O : Type 0} (prints : MayTake O) (misprints : O → ℕ) (old new : O) where
+  -- `serve` at a host that takes any record, or not
+  abbrev pub HasServedAs : Bool → ServeAsked → Bool → Type 0
+  HasServedAs false asked all_well = HasServed prints misprints old new asked all_well
+  HasServedAs true asked all_well = HasAnyServed prints misprints old new asked all_well
+
+  -- a live session came to this
+  abbrev pub HasRunLive : Live → Bool → Type 0
+  HasRunLive (Connect asked) all_well = HasConnected prints misprints old new asked all_well
+  HasRunLive (Serve asked) all_well = HasServedAs asked.any asked all_well

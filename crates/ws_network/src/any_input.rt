@@ -1,0 +1,59 @@
+//! The lines of a live session at a host that takes any record.
+ghost use Rattle.std.specs.Prelude.{◌≡◌, [], List, ℕ, false, IfOk, IfErr, MatchOption};
+ghost use Rattle.std.specs.Option.{is_some};
+ghost use Rattle.ws_code.specs.Device.{WentOut};
+ghost use Rattle.ws_any_host.specs.declared.any_line.AnyLine.{AnyLine as AnAnyLine};
+ghost use Rattle.ws_any_host.specs.declared.any_line.AnyLine.TheVariants.{Await};
+ghost use Rattle.ws_network.specs.AnySessions.{IsTextAndOn, IsFaultThenOrOn, RunsAny};
+
+use crate::live_input::carry_session;
+use std::rt::Runtime;
+use ws_any_host::{AnyHost, AnyLine, carry_on};
+use ws_code::{Sink, Source};
+use ws_live::{BufferedSink, Paint, Watch};
+use ws_program::RunFault;
+use ws_session::Attached;
+
+/// Carries out the lines of a script at a host that takes any record, or without one those of standard input, and then
+/// takes what the station sends, unless a byte was refused: true where all went well.
+///
+/// Faults as at another host; behind the lines those of `carry_on`.
+pub fn carry_at_any_host<R, S, K, W, O>(
+    rt: &R,
+    attached: &mut Attached<AnyHost, S, K>,
+    watch: &mut W,
+    script: Option<Vec<AnyLine>>,
+    ready: bool,
+    out: &mut BufferedSink<O>,
+) -> Result<bool, RunFault>
+where
+    R: Runtime + AllocGlobal,
+    S: Source,
+    K: Sink,
+    W: Watch<S>,
+    O: Sink,
+    requires works { attached.old.broken ≡ false }
+    requires empty { out.old.held ≡ [] }
+    ensures ran { IfOk result (λ all_well. (lines : List AnAnyLine) × (text : List ℕ)
+        × MatchOption script (Unit {0}) (λ asked. lines ≡ asked.items)
+        × IsTextAndOn (RunsAny K.takes K.failures S.gives S.failures W.tells W.begins W.begun)
+        Await ready (attached.old, watch.old) lines all_well text (attached.new, watch.new)
+        × WentOut O.takes O.failures out.old.sink out.new.sink text) }
+    ensures fault { IfErr result (λ fault. (lines : List AnAnyLine)
+        × MatchOption script (Unit {0}) (λ asked. lines ≡ asked.items)
+        × IsFaultThenOrOn (RunsAny K.takes K.failures S.gives S.failures W.tells W.begins W.begun)
+        Await ready O.takes O.failures (attached.old, watch.old) (attached.new, watch.new)
+        out.old.sink out.new.sink (is_some script) lines fault) }
+{
+    let ran = match carry_session(rt, attached, watch, script, ready, Paint::Plain, out) {
+        Ok(ran) => ran,
+        Err(fault) => return Err(fault),
+    };
+    if ran.is_over {
+        return Ok(ran.all_well);
+    }
+    match carry_on(attached, watch, &AnyLine::Await, out) {
+        Ok(is_well) => Ok(ran.all_well && is_well),
+        Err(fault) => Err(RunFault::from(fault)),
+    }
+}

@@ -1,0 +1,64 @@
+ghost use Rattle.std.specs.Prelude.{◌≡◌, ◌++◌, ◌∷◌, [], List, ℕ, OnOk};
+ghost use Rattle.ws_extended_station.specs.ExtendedDisplays.{standing_row as a_standing_row};
+ghost use Rattle.ws_program.specs.ExtendedView.{extended_view, IsExtendedEnd, MakesDisplay};
+ghost use Rattle.ws_live.specs.declared.paint.Paint.TheVariants.{Plain};
+
+use crate::extended_record::apply_extended_record;
+use crate::shown::Shown;
+use ws_code::{Reason, Sink};
+use ws_extended::{ExtendedCommands, ExtendedElement, ExtendedScreen};
+use ws_live::{Paint, put_error_row, put_screen};
+use ws_record::Item;
+use ws_text::{Output, put_extended_item};
+
+// A live host's records make a display, which stands behind them.
+impl Shown for ExtendedCommands {
+    type Made = ExtendedScreen;
+
+    ghost view = { extended_view Plain };
+
+    ghost Ends = { IsExtendedEnd };
+
+    ghost makes = { MakesDisplay };
+
+    fn before_any() -> ExtendedScreen {
+        ExtendedScreen::new()
+    }
+
+    fn carry_out(display: &mut ExtendedScreen, item: &Item<ExtendedElement>) -> Result<(), Reason> {
+        match item {
+            Item::Record(record) => apply_extended_record(display, record),
+            Item::Telnet(_) => Ok(()),
+        }
+    }
+
+    fn put_lines<S: Sink>(
+        sink: &mut S,
+        output: Output,
+        place: u64,
+        item: &Item<ExtendedElement>,
+    ) -> Output {
+        put_extended_item(sink, output, place, item)
+    }
+
+    fn put_end<S: Sink>(
+        sink: &mut S,
+        output: Output,
+        paint: Paint,
+        display: &ExtendedScreen,
+    ) -> Output {
+        let output = put_screen(sink, output, paint, display.screen());
+        put_error_row(sink, output, standing_row(display))
+    }
+}
+
+// The row on which an error stands, where one does.
+fn standing_row(display: &ExtendedScreen) -> Option<u8>
+    ensures { result ≡ a_standing_row display.now }
+{
+    if display.error_stands() {
+        Some(display.error_row())
+    } else {
+        None
+    }
+}
