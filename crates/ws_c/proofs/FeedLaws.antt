@@ -4,22 +4,23 @@ use Rattle.std.specs.Prelude.{min}
 use Rattle.std.proofs.Common.{◌≡◌, ℕ, ◌+◌, ◌-◌, ◌^◌, ◌<◌, ◌≤◌, inl, inr, Bool, List, [], ◌∷◌, ◌++◌, Some, None, IsSome}
 use Rattle.std.proofs.Common.{length, take, drop, refl, ap, subst, sym, ◌∙◌, arith, length-append}
 use Rattle.std.proofs.lemmas.Bool.{cases_lt}
+use Rattle.ws_code.specs.Code.{Rules}
 use Rattle.ws_record.specs.declared.record.Item.{Item}
 use Rattle.ws_stream.specs.AnswerParts.{answer_rules}
 use Rattle.ws_stream.specs.Elements.{element_rules}
 use Rattle.ws_stream.specs.declared.answer_part.AnswerPart.{AnswerPart}
-use Rattle.ws_stream.specs.declared.element.Element.{Element}
-use Rattle.ws_keys.specs.declared.key.Key.{Key}
 use Rattle.ws_session.specs.ActLaws.{bytes_came}
 use Rattle.ws_session.specs.Acts.{all_came, as_list, bytes_of}
+use Rattle.ws_session.specs.Displays.{DisplayOf, SideOn}
 use Rattle.ws_session.specs.Ends.{CountsUpTo}
 use Rattle.ws_session.specs.HostFeeds.{HasHostFed, HasHostRefused}
 use Rattle.ws_session.specs.HostLeads.{HostParts, HostLeads}
 use Rattle.ws_session.specs.HostSide.{HostSide}
-use Rattle.ws_session.specs.Manners.{host_manner, station_manner, told_by}
-use Rattle.ws_session.specs.StationFeeds.{HasFed, HasRefused}
-use Rattle.ws_session.specs.StationLeads.{StationParts, StationLeads}
-use Rattle.ws_session.specs.StationSide.{StationSide}
+use Rattle.ws_session.specs.Manners.{host_manner, told_by}
+use Rattle.ws_session.specs.PartsOn.{PartsOn}
+use Rattle.ws_session.specs.StationActs.{HasFedOn, HasRefusedOn, IsSilentOn}
+use Rattle.ws_session.specs.StationManners.{manner_on}
+use Rattle.ws_session.specs.Stations.{LeadsOn}
 use Rattle.ws_session.specs.declared.end_step.Order.{Order}
 use Rattle.ws_session.specs.declared.refusal.Refusal.{Refusal}
 use Rattle.ws_session.specs.declared.refusal.Refusal.TheVariants.{At, Failed, Memory}
@@ -27,48 +28,64 @@ use Rattle.ws_session.proofs.Counts.{counted_on}
 use Rattle.ws_session.proofs.Feedings.{none_come}
 use Rattle.ws_c.specs.declared.host.HeldHost.{HeldHost}
 use Rattle.ws_c.specs.Hosts.{HostTakes, HostRefuses}
-use Rattle.ws_c.specs.Pushes.{StationTakes, StationRefuses, StandsBehind, place_refused_at}
+use Rattle.ws_c.specs.Pushes.{BringsAtMostOn, StationTakesOn, StationRefusesOn, StandsBehind, place_refused_at}
 use Rattle.ws_c.proofs.PushLaws.{come_on}
 
--- none of the bytes was taken
-pub station_takes_none : (station : StationParts) (bytes : List ℕ) → StationTakes station bytes 0 [] station
-station_takes_none station bytes = record {
-  taken = λ before items side l fits. (
-    [],
-    none_come element_rules answer_rules station_manner (StationLeads station)
-        before items side l,
-  );
-  counted = λ fits. omega arith;
-  works = λ some e. absurd (omega (arith, some));
-  counts = λ some e. absurd (omega (arith, some));
-  none = λ e. (refl, refl);
-}
+module _ {D P U H PlaceV V K R : Type 0} (rules : Rules P U) (d : DisplayOf D U H PlaceV V K R) where
+  -- none of the bytes was taken
+  pub station_takes_none : (station : PartsOn D P) (bytes : List ℕ) → StationTakesOn rules d station bytes 0 [] station
+  station_takes_none station bytes = record {
+    taken = λ before items side l fits. (
+      [],
+      none_come rules d.out (manner_on d) (LeadsOn rules d station) before items side l,
+    );
+    counted = λ fits. omega arith;
+    works = λ some e. absurd (omega (arith, some));
+    counts = λ some e. absurd (omega (arith, some));
+    none = λ e. (refl, refl);
+  }
 
--- more of them are
-pub station_takes_on : (old now new : StationParts) (bytes : List ℕ) (n k : ℕ) (written reply : List ℕ) (ends : Bool)
-    → n ≤ length bytes → 0 < k → StationTakes old bytes n written now
-    → ((b : List ℕ) (its : List (Item Element)) (s : StationSide) → StationLeads now b its s
-    → length b + length (drop n bytes) + 1 < 2 ^ 64 → HasFed new b its s (take k (drop n bytes)) reply ends)
-    → (now.live.taken + k < 2 ^ 64 → new.live.taken ≡ now.live.taken + k)
-    → (IsSome now.ended → ⊥) → (now.live.taken + 1 ≡ 2 ^ 64 → ⊥)
-    → StationTakes old bytes (n + k) (written ++ reply) new
-station_takes_on old now new bytes n k written reply ends inside some t fed counted works counts = record {
-  counted = counted_on old.live.taken now.live.taken new.live.taken n k t.counted counted;
-  taken = λ before items side l fits. (let g = t.taken before items side l fits in (
-    g.0 ++ as_list (told_by ends),
-    come_on element_rules answer_rules station_manner (StationLeads now) (StationLeads new) bytes n k before items
-        side written reply g.0 (as_list (told_by ends)) inside fits g.1 fed,
-  ));
-  works = λ _ e. elim (cases_lt 0 n) [
-    | inl lt ↦ t.works lt e
-    | inr ge ↦ works (subst (λ (s : StationParts). IsSome s.ended) (sym (t.none (omega (arith, ge))).0) e)
-  ];
-  counts = λ _ e. elim (cases_lt 0 n) [
-    | inl lt ↦ t.counts lt e
-    | inr ge ↦ counts (subst (λ (s : StationParts). s.live.taken + 1 ≡ 2 ^ 64) (sym (t.none (omega (arith, ge))).0) e)
-  ];
-  none = λ z. absurd (omega (arith, z, some));
-}
+  -- more of them are
+  pub station_takes_on : (old now new : PartsOn D P) (bytes : List ℕ) (n k : ℕ) (written reply : List ℕ) (ends : Bool)
+      → n ≤ length bytes → 0 < k → StationTakesOn rules d old bytes n written now
+      → ((b : List ℕ) (its : List (Item U)) (s : SideOn H) → LeadsOn rules d now b its s
+      → length b + length (drop n bytes) + 1 < 2 ^ 64
+      → HasFedOn rules d new b its s (take k (drop n bytes)) reply ends)
+      → (now.live.taken + k < 2 ^ 64 → new.live.taken ≡ now.live.taken + k)
+      → (IsSome now.ended → ⊥) → (now.live.taken + 1 ≡ 2 ^ 64 → ⊥)
+      → StationTakesOn rules d old bytes (n + k) (written ++ reply) new
+  station_takes_on old now new bytes n k written reply ends inside some t fed counted works counts = record {
+    counted = counted_on old.live.taken now.live.taken new.live.taken n k t.counted counted;
+    taken = λ before items side l fits. (let g = t.taken before items side l fits in (
+      g.0 ++ as_list (told_by ends),
+      come_on rules d.out (manner_on d) (LeadsOn rules d now) (LeadsOn rules d new) bytes n k before items
+          side written reply g.0 (as_list (told_by ends)) inside fits g.1 fed,
+    ));
+    works = λ _ e. elim (cases_lt 0 n) [
+      | inl lt ↦ t.works lt e
+      | inr ge ↦ works (subst (λ (s : PartsOn D P). IsSome s.ended) (sym (t.none (omega (arith, ge))).0) e)
+    ];
+    counts = λ _ e. elim (cases_lt 0 n) [
+      | inl lt ↦ t.counts lt e
+      | inr ge ↦ counts (subst (λ (s : PartsOn D P). s.live.taken + 1 ≡ 2 ^ 64) (sym (t.none (omega (arith, ge))).0) e)
+    ];
+    none = λ z. absurd (omega (arith, z, some));
+  }
+
+  -- what bytes bring behind these that bring nothing
+  pub station_brings : (old now : PartsOn D P) (bytes : List ℕ) (n j : ℕ) (written : List ℕ) (most : ℕ)
+      → n ≤ length bytes → StationTakesOn rules d old bytes n written now
+      → ((b : List ℕ) (its : List (Item U)) (s : SideOn H) → LeadsOn rules d now b its s
+      → length b + length (drop n bytes) + 1 < 2 ^ 64 → IsSilentOn rules d b its s (take j (drop n bytes)))
+      → length written ≤ most → BringsAtMostOn rules d old bytes (n + j) most
+  station_brings old now bytes n j written most inside t silent few = λ before items side l fits.
+      (let g = t.taken before items side l fits in (
+        written ++ [],
+        g.0 ++ [],
+        come_on rules d.out (manner_on d) (LeadsOn rules d now) (λ b its s. Unit {0}) bytes n j before items side
+            written [] g.0 [] inside fits g.1 silent,
+        omega (arith, few, length-append written []),
+      ))
 
 -- how many stand before the byte at which an end failed, by what it has taken
 stands_behind : (refusal : Refusal) (n before after length : ℕ)
@@ -79,16 +96,17 @@ stands_behind (At place reason) n before after length is up =
 stands_behind Memory n before after length is up = (omega (arith, is, up), omega (arith, is, up))
 stands_behind Failed n before after length is up = omega (arith, is)
 
-module _ (old new : StationParts) (bytes : List ℕ) (after : ℕ) where
+module _ {D P U H PlaceV V K R : Type 0} (rules : Rules P U) (d : DisplayOf D U H PlaceV V K R) (old new : PartsOn D P)
+    (bytes : List ℕ) (after : ℕ) where
   -- how many bytes stand before a refused one
-  station_front : (refusal : Refusal) (b : List ℕ) (its : List (Item Element)) (s : StationSide)
-      → StationLeads old b its s → (r : HasRefused old new b its s bytes refusal)
+  station_front : (refusal : Refusal) (b : List ℕ) (its : List (Item U)) (s : SideOn H)
+      → LeadsOn rules d old b its s → (r : HasRefusedOn rules d old new b its s bytes refusal)
       → min (place_refused_at refusal old.live.taken after - old.live.taken) (length bytes) ≡ length r.front
   station_front (At place reason) b its s l r =
-      let here : place ≡ length (b ++ bytes_of (all_came {Deed = Key} r.front)) = r.refused.leads.0 in
-      let size : length (b ++ bytes_of (all_came {Deed = Key} r.front)) ≡ length b + length r.front =
-      length-append b (bytes_of (all_came {Deed = Key} r.front))
-      ∙ ap (λ (x : List ℕ). length b + length x) (bytes_came Key r.front) in
+      let here : place ≡ length (b ++ bytes_of (all_came {Deed = K} r.front)) = r.refused.leads.0 in
+      let size : length (b ++ bytes_of (all_came {Deed = K} r.front)) ≡ length b + length r.front =
+      length-append b (bytes_of (all_came {Deed = K} r.front))
+      ∙ ap (λ (x : List ℕ). length b + length x) (bytes_came K r.front) in
       let all : length bytes ≡ length r.front + length (r.byte ∷ r.rest) =
       ap length r.split ∙ length-append r.front (r.byte ∷ r.rest) in
       omega (arith, here, size, all, l.leads.1.count)
@@ -97,13 +115,13 @@ module _ (old new : StationParts) (bytes : List ℕ) (after : ℕ) where
 
   pub station_refuses : (refusal : Refusal) (n : ℕ)
       → n ≡ min (place_refused_at refusal old.live.taken after - old.live.taken) (length bytes)
-      → ((b : List ℕ) (its : List (Item Element)) (s : StationSide) → StationLeads old b its s
-      → length b + length bytes + 1 < 2 ^ 64 → HasRefused old new b its s bytes refusal)
+      → ((b : List ℕ) (its : List (Item U)) (s : SideOn H) → LeadsOn rules d old b its s
+      → length b + length bytes + 1 < 2 ^ 64 → HasRefusedOn rules d old new b its s bytes refusal)
       → (old.live.taken + 1 ≡ 2 ^ 64 → refusal ≡ Failed)
       → (IsSome old.ended → (refusal ≡ Failed) × (new ≡ old))
       → (old.ended ≡ None → new.ended ≡ Some refusal) → new.screen ≡ old.screen → after ≡ new.live.taken
       → (old.live.taken + length bytes < 2 ^ 64 → CountsUpTo refusal old.live.taken new.live.taken (length bytes))
-      → StationRefuses old bytes n refusal new
+      → StationRefusesOn rules d old bytes n refusal new
   station_refuses refusal n is refused full failed after_it seen now up = record {
     counted = λ fits. stands_behind refusal n old.live.taken new.live.taken (length bytes)
         (subst (λ (z : ℕ). n ≡ min (place_refused_at refusal old.live.taken z - old.live.taken) (length bytes)) now is)

@@ -1,4 +1,7 @@
-mod Values
-mod PushLaws
-mod FieldIndex
 mod FeedLaws
+mod FieldIndex
+mod FieldsWithin
+mod HeldLaws
+mod PushLaws
+mod StrokeLaws
+mod Values

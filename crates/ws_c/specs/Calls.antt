@@ -1,30 +1,34 @@
 -- What calls come to, as C sees it
 
 use Rattle.std.specs.Prelude.{◌≡◌, ℕ, ◌+◌, ◌^◌, ◌<◌, ◌≤◌, ◌/◌, ◌%◌, false, List, [], ◌∷◌, ◌++◌, length, drop}
+use Rattle.std.specs.Prelude.{Bool}
 use Rattle.std.specs.Prelude.{Option, Some, None, IsSome, Result, Ok, Err, OnErr, if◌then◌else◌}
 use Rattle.std.specs.Str.{encode_utf8_all}
+use Rattle.ws_code.specs.Code.{Rules}
 use Rattle.ws_code.specs.Reason.{number_of as reason_number}
 use Rattle.ws_code.specs.declared.reason.Reason.{Reason}
 use Rattle.ws_nego.specs.Station.{station_allows_records}
 use Rattle.ws_nego.specs.Terminal.{terminal_named}
 use Rattle.ws_nego.specs.declared.terminal.TerminalType.{TerminalType}
 use Rattle.ws_record.specs.declared.record.Item.{Item}
-use Rattle.ws_stream.specs.declared.element.Element.{Element}
+use Rattle.ws_stream.specs.Elements.{element_rules}
 use Rattle.ws_screen.specs.Lines.{row_chars}
 use Rattle.ws_screen.specs.ScreenParts.{ScreenParts, holds}
 use Rattle.ws_screen.specs.declared.field.Field.{Field}
 use Rattle.ws_screen.specs.declared.read_kind.ReadKind.{ReadKind}
 use Rattle.ws_screen.specs.declared.read_kind.ReadKind.TheVariants.{Input, Mdt, MdtAlternate}
 use Rattle.ws_session.specs.AnswerSpelling.{answer_spelling}
+use Rattle.ws_session.specs.Displays.{DisplayOf, SideOn}
 use Rattle.ws_session.specs.Ends.{refused_byte}
-use Rattle.ws_session.specs.StationLeads.{StationParts, StationLeads, IsKeyed}
-use Rattle.ws_session.specs.StationSide.{StationSide, new_station_side}
+use Rattle.ws_session.specs.PartsOn.{PartsOn}
+use Rattle.ws_session.specs.StationLeads.{StationParts, StationLeads}
+use Rattle.ws_session.specs.StationSide.{new_station_side, profile}
+use Rattle.ws_session.specs.Stations.{LeadsOn, IsKeyedOn}
 use Rattle.ws_session.specs.declared.key_fault.KeyFault.{KeyFault}
 use Rattle.ws_session.specs.declared.key_fault.KeyFault.TheVariants.{Failed as KeyFailed, NotReady as KeyNotReady}
 use Rattle.ws_session.specs.declared.key_fault.KeyFault.TheVariants.{Key as Refuses}
 use Rattle.ws_keys.specs.declared.answer.Answer.{Answer}
 use Rattle.ws_keys.specs.declared.key.Key.{Key}
-use Rattle.ws_c.specs.Held.{OnStation}
 use Rattle.ws_c.specs.Keys.{refusal_number}
 use Rattle.ws_c.specs.declared.field_told.FieldTold.{FieldTold}
 use Rattle.ws_c.specs.declared.machine.Machine.{Machine}
@@ -73,13 +77,18 @@ IsStationNew name None now BadArgument = (terminal_named name ≡ None) × (now 
 IsStationNew name None now NoMemory = (terminal : TerminalType) × (terminal_named name ≡ Some terminal) × (now ≡ None)
 IsStationNew name None now status = ⊥
 
--- a station at a key
-pub record StationKeyed (old new : StationParts) (key : Key) (result : Result (Option Answer) KeyFault) : Type 0 where
-  pub keyed : (bytes : List ℕ) (items : List (Item Element)) (side : StationSide) → StationLeads old bytes items side
-      → length bytes + 1 < 2 ^ 64 → IsKeyed old new bytes items side key result
+-- a station on any display at a key
+pub record StationKeyedOn {D P U H PlaceV V K R : Type 0} (rules : Rules P U) (d : DisplayOf D U H PlaceV V K R)
+    (old new : PartsOn D P) (key : K) (result : Result (Option Answer) KeyFault) : Type 0 where
+  pub keyed : (bytes : List ℕ) (items : List (Item U)) (side : SideOn H) → LeadsOn rules d old bytes items side
+      → length bytes + 1 < 2 ^ 64 → IsKeyedOn rules d old new bytes items side key result
   pub full : old.live.taken + 1 ≡ 2 ^ 64 → result ≡ Err KeyFailed
   pub failed : IsSome old.ended → result ≡ Err KeyFailed
   pub same : OnErr result (new ≡ old)
+
+-- one of the profile
+abbrev pub StationKeyed : StationParts → StationParts → Key → Result (Option Answer) KeyFault → Type 0
+StationKeyed = StationKeyedOn element_rules profile
 
 -- what a key's fault crosses as
 abbrev pub IsKeyFaultTold : KeyFault → Status → Told → Type 0
@@ -99,13 +108,6 @@ IsKeyTold (Err fault) status told old new = IsKeyFaultTold fault status told × 
 abbrev pub IsPress : Key → List ℕ → List ℕ → Status → Told → StationParts → StationParts → Type 0
 IsPress key buffer after status told old new = (result : Result (Option Answer) KeyFault)
     × StationKeyed old new key result × IsKeyTold result status told buffer after
-
--- a key, where there is one, at what the handle holds
-abbrev pub IsPressFrom : Option Key → Option Machine → Option Machine → List ℕ → List ℕ → Told → Status → Type 0
-IsPressFrom None held now buffer after told status = (status ≡ BadArgument) × (now ≡ held) × (after ≡ buffer)
-    × (told ≡ told_length 0)
-IsPressFrom (Some key) held now buffer after told status = OnStation held now status
-    (IsPress key buffer after status told) ((told ≡ told_length 0) × (after ≡ buffer))
 
 -- the number of a pending read; 0 where there is none
 abbrev pub read_number : Option ReadKind → ℕ
@@ -133,22 +135,33 @@ abbrev pub reason_refused : Option (ℕ × Reason) → ℕ
 reason_refused None = 0
 reason_refused (Some refused) = reason_number refused.1
 
+-- the number of a row, and 0 for none
+abbrev pub row_number : Option ℕ → ℕ
+row_number None = 0
+row_number (Some row) = row
+
+-- what is told of a screen, the records that were carried out, a refused byte, whether records are allowed, and the row
+-- of an error
+abbrev pub state_of_screen : ScreenParts → ℕ → Option (ℕ × Reason) → Bool → ℕ → StateTold
+state_of_screen screen records refused is_ready error_row = record {
+  records = records;
+  refused_place = place_refused refused;
+  field_count = length screen.fields;
+  cursor_field = field_index screen.fields screen.cursor;
+  cursor_row = screen.cursor / 80 + 1;
+  cursor_column = screen.cursor % 80 + 1;
+  pending_read = read_number screen.pending;
+  refused_reason = reason_refused refused;
+  is_ready = is_ready;
+  is_locked = screen.locked;
+  is_message_lit = screen.message;
+  is_blinking = screen.blink;
+  error_row = error_row;
+}
+
 -- what of a station is no cell and no field
 abbrev pub state_told : StationParts → StateTold
-state_told s = record {
-  records = s.records;
-  refused_place = place_refused (refused_byte s.ended);
-  field_count = length s.screen.fields;
-  cursor_field = field_index s.screen.fields s.screen.cursor;
-  cursor_row = s.screen.cursor / 80 + 1;
-  cursor_column = s.screen.cursor % 80 + 1;
-  pending_read = read_number s.screen.pending;
-  refused_reason = reason_refused (refused_byte s.ended);
-  is_ready = station_allows_records s.options;
-  is_locked = s.screen.locked;
-  is_message_lit = s.screen.message;
-  is_blinking = s.screen.blink;
-}
+state_told s = state_of_screen s.screen s.records (refused_byte s.ended) (station_allows_records s.options) 0
 
 -- nothing of a station
 abbrev pub no_state : StateTold
@@ -165,6 +178,7 @@ no_state = record {
   is_locked = false;
   is_message_lit = false;
   is_blinking = false;
+  error_row = 0;
 }
 
 -- what a row shows, in UTF-8

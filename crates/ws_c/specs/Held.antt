@@ -2,36 +2,58 @@
 
 use Rattle.std.specs.Prelude.{◌≡◌, Option, Some, None}
 use Rattle.ws_record.specs.Live.{Watching}
+use Rattle.ws_screen.specs.ScreenParts.{ScreenParts}
 use Rattle.ws_session.specs.StationLeads.{StationParts}
 use Rattle.ws_stream.specs.declared.place.Place.{Place}
+use Rattle.ws_extended.specs.declared.extended_place.ExtendedPlace.{ExtendedPlace}
+use Rattle.ws_c.specs.declared.held_station.HeldStation.{HeldStation}
 use Rattle.ws_c.specs.declared.host.HeldHost.{HeldHost}
 use Rattle.ws_c.specs.declared.machine.Machine.{Machine}
-use Rattle.ws_c.specs.declared.machine.Machine.TheVariants.{Decoder, Host, Station}
+use Rattle.ws_c.specs.declared.machine.Machine.TheVariants.{Decoder, ExtendedDecoder, ExtendedStation, Host}
+use Rattle.ws_c.specs.declared.machine.Machine.TheVariants.{Station}
 use Rattle.ws_c.specs.declared.status.Status.{Status}
 use Rattle.ws_c.specs.declared.status.Status.TheVariants.{NothingHeld}
 
--- A call does this with the station that a handle holds. Where it holds none, the call says so, the handle stays as it
--- was, and this is said of the outputs.
-abbrev pub OnStation : Option Machine → Option Machine → Status → (StationParts → StationParts → Type 0) → Type 0
-    → Type 0
-OnStation (Some (Station old)) now status does untold = (new : StationParts) × (now ≡ Some (Station new)) × does old new
-OnStation held now status does untold = (status ≡ NothingHeld) × (now ≡ held) × untold
+-- A call does this with the station that a handle holds, if it is one of the profile, and that if it is one as live
+-- hosts use it. Where it holds none, the call says so, the handle stays as it was, and this is said of the outputs.
+abbrev pub OnStations : Option Machine → Option Machine → Status → (StationParts → StationParts → Type 0)
+    → (HeldStation → HeldStation → Type 0) → Type 0 → Type 0
+OnStations (Some (Station old)) now status does also untold = (new : StationParts) × (now ≡ Some (Station new))
+    × does old new
+OnStations (Some (ExtendedStation old)) now status does also untold = (new : HeldStation)
+    × (now ≡ Some (ExtendedStation new)) × also old new
+OnStations held now status does also untold = (status ≡ NothingHeld) × (now ≡ held) × untold
+
+-- A call tells this of the screen of a station of either kind, which stays as it was.
+abbrev pub OnScreen : Option Machine → Option Machine → Status → (ScreenParts → Type 0) → Type 0 → Type 0
+OnScreen held now status tells untold = OnStations held now status (λ old new. (new ≡ old) × tells old.screen)
+    (λ old new. (new ≡ old) × tells old.station.screen.display.screen) untold
+
+-- the same of a station as live hosts use it alone; where a handle holds none, the call answers this
+abbrev pub OnExtended : Option Machine → Option Machine → Status → (HeldStation → HeldStation → Type 0) → Status
+    → Type 0 → Type 0
+OnExtended (Some (ExtendedStation old)) now status does otherwise untold = (new : HeldStation)
+    × (now ≡ Some (ExtendedStation new)) × does old new
+OnExtended held now status does otherwise untold = (status ≡ otherwise) × (now ≡ held) × untold
 
 -- the same of a host's end
 abbrev pub OnHost : Option Machine → Option Machine → Status → (HeldHost → HeldHost → Type 0) → Type 0 → Type 0
 OnHost (Some (Host old)) now status does untold = (new : HeldHost) × (now ≡ Some (Host new)) × does old new
 OnHost held now status does untold = (status ≡ NothingHeld) × (now ≡ held) × untold
 
--- the same of a decoder
-abbrev pub OnDecoder : Option Machine → Option Machine → Status → (Watching Place → Watching Place → Type 0) → Type 0
-    → Type 0
-OnDecoder (Some (Decoder old)) now status does untold = (new : Watching Place) × (now ≡ Some (Decoder new))
+-- The same of a decoder of either kind: this of one of the profile's streams, that of one of live hosts' streams.
+abbrev pub OnDecoders : Option Machine → Option Machine → Status → (Watching Place → Watching Place → Type 0)
+    → (Watching ExtendedPlace → Watching ExtendedPlace → Type 0) → Type 0 → Type 0
+OnDecoders (Some (Decoder old)) now status does also untold = (new : Watching Place) × (now ≡ Some (Decoder new))
     × does old new
-OnDecoder held now status does untold = (status ≡ NothingHeld) × (now ≡ held) × untold
+OnDecoders (Some (ExtendedDecoder old)) now status does also untold = (new : Watching ExtendedPlace)
+    × (now ≡ Some (ExtendedDecoder new)) × also old new
+OnDecoders held now status does also untold = (status ≡ NothingHeld) × (now ≡ held) × untold
 
 -- the handle is freed where it holds a station, and stays as it was where it holds none
 abbrev pub IsStationFreed : Option Machine → Option Machine → Type 0
 IsStationFreed (Some (Station old)) now = now ≡ None
+IsStationFreed (Some (ExtendedStation old)) now = now ≡ None
 IsStationFreed held now = now ≡ held
 
 -- the same of a host's end
@@ -42,4 +64,5 @@ IsHostFreed held now = now ≡ held
 -- the same of a decoder
 abbrev pub IsDecoderFreed : Option Machine → Option Machine → Type 0
 IsDecoderFreed (Some (Decoder old)) now = now ≡ None
+IsDecoderFreed (Some (ExtendedDecoder old)) now = now ≡ None
 IsDecoderFreed held now = now ≡ held

@@ -2,12 +2,16 @@
 
 use Rattle.std.specs.Prelude.{◌≡◌, ℕ, ◌+◌, ◌-◌, ◌^◌, ◌<◌, ◌≤◌, List, [], ◌∷◌, ◌++◌, length, take, drop, Some, None}
 use Rattle.std.specs.Prelude.{IsSome}
+use Rattle.ws_code.specs.Code.{Rules}
 use Rattle.ws_code.specs.Reason.{number_of as reason_number}
 use Rattle.ws_record.specs.declared.record.Item.{Item}
-use Rattle.ws_stream.specs.declared.element.Element.{Element}
-use Rattle.ws_session.specs.StationFeeds.{HasTakenAll, HasRefused}
-use Rattle.ws_session.specs.StationLeads.{StationParts, StationLeads}
-use Rattle.ws_session.specs.StationSide.{StationSide}
+use Rattle.ws_stream.specs.Elements.{element_rules}
+use Rattle.ws_session.specs.Displays.{DisplayOf, SideOn}
+use Rattle.ws_session.specs.PartsOn.{PartsOn}
+use Rattle.ws_session.specs.StationActs.{HasTakenAllOn, HasRefusedOn}
+use Rattle.ws_session.specs.StationLeads.{StationParts}
+use Rattle.ws_session.specs.StationSide.{profile}
+use Rattle.ws_session.specs.Stations.{LeadsOn}
 use Rattle.ws_session.specs.declared.end_step.Applied.{Applied}
 use Rattle.ws_session.specs.declared.refusal.Refusal.{Refusal}
 use Rattle.ws_session.specs.declared.refusal.Refusal.TheVariants.{At, Failed as HasFailed, Memory}
@@ -52,41 +56,61 @@ StandsBehind (At place reason) n before after length = (place ≡ before + n) ×
 StandsBehind Memory n before after length = (after ≡ before + n + 1) × (n < length)
 StandsBehind HasFailed n before after length = n ≡ 0
 
--- The first n of these bytes are taken one after another to come from the one station to the other: none of their
--- items is refused, this is written, and the station counts them. A station that has ended takes none.
-pub record StationTakes (old : StationParts) (bytes : List ℕ) (n : ℕ) (written : List ℕ) (new : StationParts)
-    : Type 0 where
-  pub taken : (before : List ℕ) (items : List (Item Element)) (side : StationSide)
-      → StationLeads old before items side → length before + length bytes + 1 < 2 ^ 64
-      → (told : List Applied) × HasTakenAll (StationLeads new) before items side (take n bytes) written told
-  pub counted : old.live.taken + n < 2 ^ 64 → new.live.taken ≡ old.live.taken + n
-  pub works : 0 < n → IsSome old.ended → ⊥
-  pub counts : 0 < n → old.live.taken + 1 ≡ 2 ^ 64 → ⊥
-  pub none : n ≡ 0 → (new ≡ old) × (written ≡ [])
+module _ {D P U H PlaceV V K R : Type 0} (rules : Rules P U) (d : DisplayOf D U H PlaceV V K R) where
+  -- The first n of these bytes are taken one after another to come from the one station to the other: none of their
+  -- items is refused, this is written, and the station counts them. A station that has ended takes none.
+  pub record StationTakesOn (old : PartsOn D P) (bytes : List ℕ) (n : ℕ) (written : List ℕ) (new : PartsOn D P)
+      : Type 0 where
+    pub taken : (before : List ℕ) (items : List (Item U)) (side : SideOn H) → LeadsOn rules d old before items side
+        → length before + length bytes + 1 < 2 ^ 64
+        → (told : List Applied) × HasTakenAllOn rules d (LeadsOn rules d new) before items side (take n bytes) written
+        told
+    pub counted : old.live.taken + n < 2 ^ 64 → new.live.taken ≡ old.live.taken + n
+    pub works : 0 < n → IsSome old.ended → ⊥
+    pub counts : 0 < n → old.live.taken + 1 ≡ 2 ^ 64 → ⊥
+    pub none : n ≡ 0 → (new ≡ old) × (written ≡ [])
 
--- The station refuses one of these bytes, of which so many stand before it and bring nothing: so it counts them, and so
--- they are in all bytes that it has taken.
-pub record StationRefuses (old : StationParts) (bytes : List ℕ) (n : ℕ) (refusal : Refusal) (new : StationParts)
-    : Type 0 where
-  pub refused : (before : List ℕ) (items : List (Item Element)) (side : StationSide)
-      → StationLeads old before items side → length before + length bytes + 1 < 2 ^ 64
-      → (r : HasRefused old new before items side bytes refusal) × (n ≡ length r.front)
-  pub counted : old.live.taken + length bytes < 2 ^ 64
-      → StandsBehind refusal n old.live.taken new.live.taken (length bytes)
-  pub full : old.live.taken + 1 ≡ 2 ^ 64 → refusal ≡ HasFailed
-  pub failed : IsSome old.ended → (refusal ≡ HasFailed) × (new ≡ old)
-  pub none : refusal ≡ HasFailed → n ≡ 0
-  pub after : old.ended ≡ None → new.ended ≡ Some refusal
-  pub seen : new.screen ≡ old.screen
+  -- The station refuses one of these bytes, of which so many stand before it and bring nothing: so it counts them, and
+  -- so they are in all bytes that it has taken.
+  pub record StationRefusesOn (old : PartsOn D P) (bytes : List ℕ) (n : ℕ) (refusal : Refusal) (new : PartsOn D P)
+      : Type 0 where
+    pub refused : (before : List ℕ) (items : List (Item U)) (side : SideOn H) → LeadsOn rules d old before items side
+        → length before + length bytes + 1 < 2 ^ 64
+        → (r : HasRefusedOn rules d old new before items side bytes refusal) × (n ≡ length r.front)
+    pub counted : old.live.taken + length bytes < 2 ^ 64
+        → StandsBehind refusal n old.live.taken new.live.taken (length bytes)
+    pub full : old.live.taken + 1 ≡ 2 ^ 64 → refusal ≡ HasFailed
+    pub failed : IsSome old.ended → (refusal ≡ HasFailed) × (new ≡ old)
+    pub none : refusal ≡ HasFailed → n ≡ 0
+    pub after : old.ended ≡ None → new.ended ≡ Some refusal
+    pub seen : new.screen ≡ old.screen
 
--- where a push of bytes ends, of which these are left behind so many: with the last, before one without room for what
--- it may bring, or at a refused one
+  -- What the first n of these bytes bring is at most so long.
+  abbrev pub BringsAtMostOn : PartsOn D P → List ℕ → ℕ → ℕ → Type 0
+  BringsAtMostOn old bytes n most = (before : List ℕ) (items : List (Item U)) (side : SideOn H)
+      → LeadsOn rules d old before items side → length before + length bytes + 1 < 2 ^ 64
+      → (written : List ℕ) × (told : List Applied)
+      × HasTakenAllOn rules d (λ before' items' side'. Unit {0}) before items side (take n bytes) written told
+      × (length written ≤ most)
+
+  -- where a push of bytes ends, of which these are left behind so many: with the last, before one without room for what
+  -- it may bring, or at a refused one
+  abbrev pub IsEndOn : List ℕ → ℕ → ℕ → Status → PushedTold → PartsOn D P → PartsOn D P → Type 0
+  IsEndOn [] fed room status told old new = (status ≡ Done) × (told ≡ pushed_told fed told.replied) × (new ≡ old)
+  IsEndOn (byte ∷ left) fed room status told old new =
+      (room < REPLY_ROOM → (status ≡ NoRoom) × (told ≡ pushed_told fed told.replied) × (new ≡ old))
+      × (REPLY_ROOM ≤ room → (refusal : Refusal) × (n : ℕ) × StationRefusesOn old (byte ∷ left) n refusal new
+      × (told.taken ≡ fed + n) × IsPushRefused refusal told.taken told.replied status told)
+
+-- the same of a station of the profile
+abbrev pub StationTakes : StationParts → List ℕ → ℕ → List ℕ → StationParts → Type 0
+StationTakes = StationTakesOn element_rules profile
+
+abbrev pub StationRefuses : StationParts → List ℕ → ℕ → Refusal → StationParts → Type 0
+StationRefuses = StationRefusesOn element_rules profile
+
 abbrev pub IsStationEnd : List ℕ → ℕ → ℕ → Status → PushedTold → StationParts → StationParts → Type 0
-IsStationEnd [] fed room status told old new = (status ≡ Done) × (told ≡ pushed_told fed told.replied) × (new ≡ old)
-IsStationEnd (byte ∷ left) fed room status told old new =
-    (room < REPLY_ROOM → (status ≡ NoRoom) × (told ≡ pushed_told fed told.replied) × (new ≡ old))
-    × (REPLY_ROOM ≤ room → (refusal : Refusal) × (n : ℕ) × StationRefuses old (byte ∷ left) n refusal new
-    × (told.taken ≡ fed + n) × IsPushRefused refusal told.taken told.replied status told)
+IsStationEnd = IsEndOn element_rules profile
 
 -- a station at a push of bytes: what it writes is put at the buffer's front
 pub record IsStationPush (bytes buffer after : List ℕ) (status : Status) (told : PushedTold) (old new : StationParts)

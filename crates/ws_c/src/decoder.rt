@@ -5,17 +5,16 @@ ghost use Rattle.ws_record.specs.Grammar.{opcode_byte};
 ghost use Rattle.ws_record.specs.declared.live.Step.{Step as AStep};
 ghost use Rattle.ws_c.specs.declared.status.Status.{Status as AStatus};
 ghost use Rattle.ws_c.specs.Calls.{status_number};
-ghost use Rattle.ws_c.specs.Held.{IsDecoderFreed, OnDecoder};
-ghost use Rattle.ws_c.specs.Decoding.{DecoderFinished, IsDecode, IsDecoderNew, IsEnd, IsEndTold, IsStepTold, plain_step};
+ghost use Rattle.ws_c.specs.Held.{IsDecoderFreed, OnDecoders};
+ghost use Rattle.ws_c.specs.Decoding.{DecoderFinishedOn, IsDecode, IsDecodeOn, IsDecoderNew, IsEnd, IsEndTold, IsExtendedDecode, IsExtendedDecoderNew, IsExtendedEnd, IsStepToldOn, plain_step};
 
-use crate::held::{on_decoder, on_held};
+use crate::held::{on_decoders, on_two};
 use crate::station::put_front;
 use crate::{Handle, Machine, Status};
 use arrayvec::ArrayVec;
 use std::alloc::Global;
 use ws_code::{Body, Fault};
 use ws_record::{Head, Live, Step};
-use ws_stream::{Commands, Element};
 use ws_telnet::{Telnet, Token, spell};
 
 /// What bytes complete.
@@ -106,6 +105,34 @@ pub extern "C" fn ws_c_decoder_new(alloc: Global, handle: &mut Handle) -> u32
     make_decoder(alloc, handle).number()
 }
 
+// Makes a decoder of live hosts' streams, unless the handle holds something.
+fn make_extended_decoder(alloc: Global, handle: &mut Handle) -> Status
+    ensures { IsExtendedDecoderNew handle.old.owned.value handle.new.owned.value result }
+{
+    if let Some(held) = handle.take(alloc) {
+        handle.put(held);
+        return Status::InUse;
+    }
+    match Box::new(alloc, Machine::ExtendedDecoder(Live::new())) {
+        Ok(held) => {
+            handle.put(held);
+            Status::Done
+        }
+        Err(_) => Status::NoMemory,
+    }
+}
+
+/// Makes a decoder of live hosts' streams that has taken no byte.
+///
+/// `InUse` where the handle holds something, and `NoMemory`. The handle then stays as it is.
+#[unsafe(no_mangle)]
+pub extern "C" fn ws_c_decoder_new_extended(alloc: Global, handle: &mut Handle) -> u32
+    ensures made { (status : AStatus) × (result ≡ status_number status)
+        × IsExtendedDecoderNew handle.old.owned.value handle.new.owned.value status }
+{
+    make_extended_decoder(alloc, handle).number()
+}
+
 /// Frees the decoder that the handle holds. It then holds nothing. Another handle stays as it is.
 #[unsafe(no_mangle)]
 pub extern "C" fn ws_c_decoder_free(alloc: Global, handle: &mut Handle)
@@ -113,30 +140,44 @@ pub extern "C" fn ws_c_decoder_free(alloc: Global, handle: &mut Handle)
 {
     if let Some(owned) = handle.take(alloc) {
         match &*owned {
-            Machine::Decoder(_) => drop(owned),
-            Machine::Station(_) | Machine::Host(_) => handle.put(owned),
+            Machine::Decoder(_) | Machine::ExtendedDecoder(_) => drop(owned),
+            Machine::Station(_) | Machine::ExtendedStation(_) | Machine::Host(_) => {
+                handle.put(owned)
+            }
         }
     }
 }
 
 // Puts an element's spelling into the buffer, and tells it.
-fn tell_element(element: &Element, before: usize, buffer: &mut [u8], told: &mut StepTold) -> Status
+fn tell_unit<C: Body>(
+    unit: &C::Unit,
+    before: usize,
+    buffer: &mut [u8],
+    told: &mut StepTold,
+) -> Status
     requires room { 133 ≤ length buffer.old }
     requires count { before < usize.MAX }
-    ensures { IsStepTold (AStep.Unit element.now) before result told.new buffer.old buffer.new }
+    ensures { IsStepToldOn C.rules (AStep.Unit unit.now) before result told.new buffer.old
+        buffer.new }
 {
     let mut spelling = ArrayVec::new();
-    Commands::spell(element, &mut spelling);
+    C::spell(unit, &mut spelling);
     *told = StepTold::plain(before + 1, 2);
     told.length = put_front(buffer, spelling.as_slice());
     Status::Done
 }
 
 // Puts a command's spelling into the buffer, and tells it.
-fn tell_telnet(telnet: Telnet, before: usize, buffer: &mut [u8], told: &mut StepTold) -> Status
+fn tell_telnet<C: Body>(
+    telnet: Telnet,
+    before: usize,
+    buffer: &mut [u8],
+    told: &mut StepTold,
+) -> Status
     requires room { 133 ≤ length buffer.old }
     requires count { before < usize.MAX }
-    ensures { IsStepTold (AStep.Telnet telnet) before result told.new buffer.old buffer.new }
+    ensures { IsStepToldOn C.rules (AStep.Telnet telnet) before result told.new buffer.old
+        buffer.new }
 {
     let mut spelling = ArrayVec::new();
     spell(&Token::Telnet(telnet), &mut spelling);
@@ -146,10 +187,15 @@ fn tell_telnet(telnet: Telnet, before: usize, buffer: &mut [u8], told: &mut Step
 }
 
 // What a step crosses as.
-fn tell_step(step: Step<Element>, before: usize, buffer: &mut [u8], told: &mut StepTold) -> Status
+fn tell_step<C: Body>(
+    step: Step<C::Unit>,
+    before: usize,
+    buffer: &mut [u8],
+    told: &mut StepTold,
+) -> Status
     requires room { 133 ≤ length buffer.old }
     requires count { before < usize.MAX }
-    ensures { IsStepTold step before result told.new buffer.old buffer.new }
+    ensures { IsStepToldOn C.rules step before result told.new buffer.old buffer.new }
 {
     match step {
         Step::More => {
@@ -160,12 +206,12 @@ fn tell_step(step: Step<Element>, before: usize, buffer: &mut [u8], told: &mut S
             *told = StepTold::header(before + 1, head);
             Status::Done
         }
-        Step::Unit(element) => tell_element(&element, before, buffer, told),
+        Step::Unit(unit) => tell_unit::<C>(&unit, before, buffer, told),
         Step::Close => {
             *told = StepTold::plain(before + 1, 3);
             Status::Done
         }
-        Step::Telnet(telnet) => tell_telnet(telnet, before, buffer, told),
+        Step::Telnet(telnet) => tell_telnet::<C>(telnet, before, buffer, told),
         Step::Refused { place, reason } => {
             *told = StepTold::plain(before, 0);
             told.place = place;
@@ -180,19 +226,20 @@ fn tell_step(step: Step<Element>, before: usize, buffer: &mut [u8], told: &mut S
 }
 
 // Pushes bytes into a decoder, up to the first with which something is complete.
-fn push_all(
-    decoder: &mut Live<Commands>,
+fn push_all<C: Body>(
+    decoder: &mut Live<C>,
     bytes: &[u8],
     buffer: &mut [u8],
     told: &mut StepTold,
 ) -> Status
     requires { 133 ≤ length buffer.old }
-    ensures { IsDecode bytes.now buffer.old buffer.new result told.new decoder.old decoder.new }
+    ensures { IsDecodeOn C.rules bytes.now buffer.old buffer.new result told.new decoder.old
+        decoder.new }
 {
     for (at, byte) in bytes.iter().enumerate() {
         match decoder.push(*byte) {
             Step::More => {}
-            step => return tell_step(step, at, buffer, told),
+            step => return tell_step::<C>(step, at, buffer, told),
         }
     }
     *told = StepTold::plain(bytes.len(), 0);
@@ -209,11 +256,12 @@ fn push(
 ) -> Status
     requires room { 133 ≤ length buffer.old }
     requires untold { told.old ≡ plain_step 0 0 }
-    ensures { OnDecoder handle.old.owned.value handle.new.owned.value result
+    ensures { OnDecoders handle.old.owned.value handle.new.owned.value result
         (IsDecode bytes.now buffer.old buffer.new result told.new)
+        (IsExtendedDecode bytes.now buffer.old buffer.new result told.new)
         ((told.new ≡ plain_step 0 0) × (buffer.new ≡ buffer.old)) }
 {
-    on_decoder!(
+    on_decoders!(
         alloc,
         handle,
         |decoder| push_all(decoder, bytes, buffer, told)
@@ -238,8 +286,9 @@ pub extern "C" fn ws_c_decoder_push(
         × (handle.new ≡ handle.old) × (buffer.new ≡ buffer.old) × (told.new ≡ plain_step 0 0) }
     ensures pushed { 133 ≤ length buffer.old → (status : AStatus)
         × (result ≡ status_number status)
-        × OnDecoder handle.old.owned.value handle.new.owned.value status
+        × OnDecoders handle.old.owned.value handle.new.owned.value status
         (IsDecode bytes.now buffer.old buffer.new status told.new)
+        (IsExtendedDecode bytes.now buffer.old buffer.new status told.new)
         ((told.new ≡ plain_step 0 0) × (buffer.new ≡ buffer.old)) }
 {
     *told = StepTold::plain(0, 0);
@@ -265,9 +314,9 @@ fn tell_end(ended: Result<(), Fault>, place: &mut u64) -> Status
 }
 
 // Ends a decoder's stream.
-fn finish_decoder(decoder: &mut Live<Commands>, place: &mut u64) -> Status
-    ensures { (ended : Result (Unit {0}) AFault) × DecoderFinished decoder.old decoder.new ended
-        × IsEndTold ended result place.new }
+fn finish_decoder<C: Body>(decoder: &mut Live<C>, place: &mut u64) -> Status
+    ensures { (ended : Result (Unit {0}) AFault)
+        × DecoderFinishedOn C.rules decoder.old decoder.new ended × IsEndTold ended result place.new }
 {
     let ended = decoder.finish();
     tell_end(ended, place)
@@ -275,11 +324,11 @@ fn finish_decoder(decoder: &mut Live<Commands>, place: &mut u64) -> Status
 
 // Ends the stream of the decoder that a handle holds.
 fn finish(alloc: Global, handle: &mut Handle, place: &mut u64) -> Status
-    ensures { OnDecoder handle.old.owned.value handle.new.owned.value result
-        (IsEnd result place.new) (place.new ≡ 0) }
+    ensures { OnDecoders handle.old.owned.value handle.new.owned.value result
+        (IsEnd result place.new) (IsExtendedEnd result place.new) (place.new ≡ 0) }
 {
     *place = 0;
-    on_decoder!(alloc, handle, |decoder| finish_decoder(decoder, place))
+    on_decoders!(alloc, handle, |decoder| finish_decoder(decoder, place))
 }
 
 /// Asks a decoder whether its stream may end here: `Truncated` where it ends inside a token or a record, with the number
@@ -289,8 +338,8 @@ fn finish(alloc: Global, handle: &mut Handle, place: &mut u64) -> Status
 #[unsafe(no_mangle)]
 pub extern "C" fn ws_c_decoder_finish(alloc: Global, handle: &mut Handle, place: &mut u64) -> u32
     ensures { (status : AStatus) × (result ≡ status_number status)
-        × OnDecoder handle.old.owned.value handle.new.owned.value status (IsEnd status place.new)
-        (place.new ≡ 0) }
+        × OnDecoders handle.old.owned.value handle.new.owned.value status (IsEnd status place.new)
+        (IsExtendedEnd status place.new) (place.new ≡ 0) }
 {
     finish(alloc, handle, place).number()
 }

@@ -1,8 +1,8 @@
 //! What a handle holds is taken out, used and put back: once for all calls.
 
-// Does this with what a handle holds, where it is of the kind.
+// Does this with what a handle holds, where it is of the kind. Else this is the status.
 macro_rules! on_held {
-    ($alloc:expr, $handle:expr, $kind:ident($held:ident), $other:ident, $third:ident, $does:expr) => {
+    ($alloc:expr, $handle:expr, $kind:ident($held:ident), $second:ident, $third:ident, $fourth:ident, $fifth:ident, $none:ident, $does:expr) => {
         match $handle.take($alloc) {
             Some(mut owned) => match &mut *owned {
                 Machine::$kind($held) => {
@@ -10,7 +10,35 @@ macro_rules! on_held {
                     $handle.put(owned);
                     status
                 }
-                Machine::$other(_) | Machine::$third(_) => {
+                Machine::$second(_)
+                | Machine::$third(_)
+                | Machine::$fourth(_)
+                | Machine::$fifth(_) => {
+                    $handle.put(owned);
+                    Status::$none
+                }
+            },
+            None => Status::$none,
+        }
+    };
+}
+
+// Does this with what a handle holds, where it is of either kind.
+macro_rules! on_two {
+    ($alloc:expr, $handle:expr, $kind:ident($held:ident), $does:expr, $other:ident($too:ident), $also:expr, $third:ident, $fourth:ident, $fifth:ident) => {
+        match $handle.take($alloc) {
+            Some(mut owned) => match &mut *owned {
+                Machine::$kind($held) => {
+                    let status = $does;
+                    $handle.put(owned);
+                    status
+                }
+                Machine::$other($too) => {
+                    let status = $also;
+                    $handle.put(owned);
+                    status
+                }
+                Machine::$third(_) | Machine::$fourth(_) | Machine::$fifth(_) => {
                     $handle.put(owned);
                     Status::NothingHeld
                 }
@@ -20,25 +48,77 @@ macro_rules! on_held {
     };
 }
 
-macro_rules! on_station {
-    ($alloc:expr, $handle:expr, |$station:ident| $does:expr) => {
-        on_held!($alloc, $handle, Station($station), Decoder, Host, $does)
+// A station of either kind: the one thing with one of the profile, the other with one that live hosts use.
+macro_rules! on_stations {
+    ($alloc:expr, $handle:expr, |$station:ident| $does:expr, |$held:ident| $also:expr) => {
+        on_two!(
+            $alloc,
+            $handle,
+            Station($station),
+            $does,
+            ExtendedStation($held),
+            $also,
+            Decoder,
+            ExtendedDecoder,
+            Host
+        )
+    };
+}
+
+// The screen of a station of either kind.
+macro_rules! on_screen {
+    ($alloc:expr, $handle:expr, |$screen:ident| $does:expr) => {
+        on_stations!(
+            $alloc,
+            $handle,
+            |station| {
+                let $screen = station.screen();
+                $does
+            },
+            |held| {
+                let $screen = held.station.screen();
+                $does
+            }
+        )
     };
 }
 
 macro_rules! on_host {
     ($alloc:expr, $handle:expr, |$host:ident| $does:expr) => {
-        on_held!($alloc, $handle, Host($host), Station, Decoder, $does)
+        on_held!(
+            $alloc,
+            $handle,
+            Host($host),
+            Station,
+            ExtendedStation,
+            Decoder,
+            ExtendedDecoder,
+            NothingHeld,
+            $does
+        )
     };
 }
 
-macro_rules! on_decoder {
+// A decoder of either kind.
+macro_rules! on_decoders {
     ($alloc:expr, $handle:expr, |$decoder:ident| $does:expr) => {
-        on_held!($alloc, $handle, Decoder($decoder), Station, Host, $does)
+        on_two!(
+            $alloc,
+            $handle,
+            Decoder($decoder),
+            $does,
+            ExtendedDecoder($decoder),
+            $does,
+            Station,
+            ExtendedStation,
+            Host
+        )
     };
 }
 
-pub(crate) use on_decoder;
+pub(crate) use on_decoders;
 pub(crate) use on_held;
 pub(crate) use on_host;
-pub(crate) use on_station;
+pub(crate) use on_screen;
+pub(crate) use on_stations;
+pub(crate) use on_two;

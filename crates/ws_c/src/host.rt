@@ -106,7 +106,10 @@ pub extern "C" fn ws_c_host_free(alloc: Global, handle: &mut Handle)
     if let Some(owned) = handle.take(alloc) {
         match &*owned {
             Machine::Host(_) => drop(owned),
-            Machine::Station(_) | Machine::Decoder(_) => handle.put(owned),
+            Machine::Station(_)
+            | Machine::ExtendedStation(_)
+            | Machine::Decoder(_)
+            | Machine::ExtendedDecoder(_) => handle.put(owned),
         }
     }
 }

@@ -6,6 +6,9 @@ ghost use Rattle.ws_c.specs.Keys.{IsKeyOf, kind_number, refusal_number as status
 use ws_code::Aid;
 use ws_keys::{Key, KeyRefusal};
 
+/// The number of Reset, behind those of the profile's keys.
+pub const RESET_KIND: u32 = 18;
+
 /// A key without its character or its attention identification.
 #[derive(Clone, Copy)]
 pub enum KeyKind {

@@ -2,14 +2,18 @@
 //! exports.
 #![tactic(auto)]
 
+mod attribute_look;
 mod cell_fields;
 mod code_page;
 mod decoder;
+mod field_text;
 mod field_told;
 mod handle;
 mod held;
+mod held_station;
 mod host;
 mod host_answer;
+mod host_screen;
 mod host_send;
 mod key_kind;
 mod loose;
@@ -18,19 +22,26 @@ mod owned;
 mod state_told;
 mod station;
 mod station_cells;
+mod station_extended;
 mod station_keys;
 mod station_screen;
+mod station_strokes;
 mod status;
+mod stroke;
+mod takes_keys;
 mod told;
 mod wire;
 
+pub use attribute_look::LookTold;
 pub use decoder::StepTold;
 pub use field_told::FieldTold;
 pub use handle::Handle;
+pub use held_station::HeldStation;
 pub use host::{EventTold, HeldHost};
 pub use host_answer::{AnswerTold, ReadFieldTold};
 pub use machine::Machine;
 pub use state_told::{NO_FIELD, StateTold};
 pub use station_cells::CellTold;
 pub use status::Status;
+pub use stroke::Stroke;
 pub use told::{PushedTold, REPLY_ROOM, Told};

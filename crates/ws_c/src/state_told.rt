@@ -29,6 +29,8 @@ pub struct StateTold {
     pub is_locked: bool,
     pub is_message_lit: bool,
     pub is_blinking: bool,
+    /// The row on which an error of the host's stands, 1 to 24; 0 where none does.
+    pub error_row: u8,
 }
 
 impl StateTold {
@@ -49,6 +51,7 @@ impl StateTold {
             is_locked: false,
             is_message_lit: false,
             is_blinking: false,
+            error_row: 0,
         }
     }
 }

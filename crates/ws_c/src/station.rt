@@ -5,10 +5,12 @@ ghost use Rattle.ws_session.specs.StationLeads.{StationParts, StationLeads};
 ghost use Rattle.ws_session.specs.StationSide.{new_station_side};
 ghost use Rattle.ws_c.specs.declared.status.Status.{Status as AStatus};
 ghost use Rattle.ws_c.specs.Calls.{IsStationNew, holds_front, status_number};
-ghost use Rattle.ws_c.specs.Held.{IsStationFreed, OnStation};
+ghost use Rattle.ws_c.specs.Held.{IsStationFreed, OnStations};
+ghost use Rattle.ws_c.specs.HeldStations.{IsHeldPush};
 ghost use Rattle.ws_c.specs.Pushes.{IsPushRefused, IsStationPush, nothing_pushed, place_refused_at, pushed_told};
 
-use crate::held::{on_held, on_station};
+use crate::held::{on_stations, on_two};
+use crate::station_extended::push_all as push_extended;
 use crate::{Handle, Machine, PushedTold, REPLY_ROOM, Status, Told};
 use std::alloc::Global;
 use ws_nego::TerminalType;
@@ -53,8 +55,10 @@ pub extern "C" fn ws_c_station_free(alloc: Global, handle: &mut Handle)
 {
     if let Some(owned) = handle.take(alloc) {
         match &*owned {
-            Machine::Station(_) => drop(owned),
-            Machine::Decoder(_) | Machine::Host(_) => handle.put(owned),
+            Machine::Station(_) | Machine::ExtendedStation(_) => drop(owned),
+            Machine::Decoder(_) | Machine::ExtendedDecoder(_) | Machine::Host(_) => {
+                handle.put(owned)
+            }
         }
     }
 }
@@ -152,15 +156,17 @@ fn push(
     buffer: &mut [u8],
     told: &mut PushedTold,
 ) -> Status
-    ensures { OnStation handle.old.owned.value handle.new.owned.value result
+    ensures { OnStations handle.old.owned.value handle.new.owned.value result
         (IsStationPush bytes.now buffer.old buffer.new result told.new)
+        (IsHeldPush bytes.now buffer.old buffer.new result told.new)
         ((told.new ≡ nothing_pushed) × (buffer.new ≡ buffer.old)) }
 {
     *told = PushedTold::nothing();
-    on_station!(
+    on_stations!(
         alloc,
         handle,
-        |station| push_all(station, bytes, buffer, told)
+        |station| push_all(station, bytes, buffer, told),
+        |held| push_extended(held, bytes, buffer, told)
     )
 }
 
@@ -168,7 +174,9 @@ fn push(
 /// taken and written, and why one is refused.
 ///
 /// `Refused` at a byte that the station refuses, `Failed` from then on; `NothingHeld` where the handle holds no
-/// station; `NoRoom` where fewer than 17 bytes of the buffer are left before a byte: what was taken was taken.
+/// station; `NoRoom` where fewer than 17 bytes of the buffer are left before a byte: what was taken was taken. A station
+/// as live hosts use it answers `NoRoom` also where the buffer has no room for all that it writes at a record. The rest
+/// waits: the next call begins with it, and takes no byte before all of it has gone out.
 #[unsafe(no_mangle)]
 pub extern "C" fn ws_c_station_push(
     alloc: Global,
@@ -178,8 +186,9 @@ pub extern "C" fn ws_c_station_push(
     told: &mut PushedTold,
 ) -> u32
     ensures { (status : AStatus) × (result ≡ status_number status)
-        × OnStation handle.old.owned.value handle.new.owned.value status
+        × OnStations handle.old.owned.value handle.new.owned.value status
         (IsStationPush bytes.now buffer.old buffer.new status told.new)
+        (IsHeldPush bytes.now buffer.old buffer.new status told.new)
         ((told.new ≡ nothing_pushed) × (buffer.new ≡ buffer.old)) }
 {
     push(alloc, handle, bytes, buffer, told).number()

@@ -5,15 +5,14 @@ ghost use Rattle.ws_code.specs.declared.address.TheConstants.{CELLS as ALL_CELLS
 ghost use Rattle.ws_c.specs.declared.status.Status.{Status as AStatus};
 ghost use Rattle.ws_c.specs.Calls.{status_number};
 ghost use Rattle.ws_c.specs.Cells.{AreRows, cell_told as told_of, cells_in, rows_told};
-ghost use Rattle.ws_c.specs.Held.{OnStation};
+ghost use Rattle.ws_c.specs.Held.{OnScreen};
 
 use crate::cell_fields::{fields_behind, index_at, passed};
-use crate::held::{on_held, on_station};
+use crate::held::{on_screen, on_stations, on_two};
 use crate::{Handle, Machine, Status};
 use std::alloc::Global;
 use ws_code::{Address, COLUMNS};
 use ws_screen::{Screen, Shown};
-use ws_session::Station;
 
 /// A cell of a screen.
 #[repr(C)]
@@ -80,17 +79,22 @@ fn tell_cells(screen: &Screen, first: usize, cells: &mut [CellTold])
     }
 }
 
-// Tells the cells of rows.
-fn tell_rows(station: &Station, first_row: u8, last_row: u8, cells: &mut [CellTold]) -> Status
+/// Tells the cells of rows.
+pub(crate) fn tell_rows(
+    screen: &Screen,
+    first_row: u8,
+    last_row: u8,
+    cells: &mut [CellTold],
+) -> Status
     requires rows { AreRows first_row last_row }
     requires room { cells_in first_row last_row ≤ length cells.old }
     ensures status { result ≡ Status.Done }
-    ensures cells { cells.new ≡ rows_told station.now.screen first_row last_row
+    ensures cells { cells.new ≡ rows_told screen.now first_row last_row
         ++ drop (cells_in first_row last_row) cells.old }
 {
     let count = (last_row as usize + 1 - first_row as usize) * COLUMNS as usize;
     let first = (first_row as usize - 1) * COLUMNS as usize;
-    tell_cells(station.screen(), first, &mut cells[..count]);
+    tell_cells(screen, first, &mut cells[..count]);
     Status::Done
 }
 
@@ -103,16 +107,16 @@ fn look_at_cells(
 ) -> Status
     requires rows { AreRows first_row last_row }
     requires room { cells_in first_row last_row ≤ length cells.old }
-    ensures { OnStation handle.old.owned.value handle.new.owned.value result
-        (λ old new. (new ≡ old) × (result ≡ Status.Done)
-        × (cells.new ≡ rows_told old.screen first_row last_row
+    ensures { OnScreen handle.old.owned.value handle.new.owned.value result
+        (λ screen. (result ≡ Status.Done)
+        × (cells.new ≡ rows_told screen first_row last_row
         ++ drop (cells_in first_row last_row) cells.old))
         (cells.new ≡ cells.old) }
 {
-    on_station!(
+    on_screen!(
         alloc,
         handle,
-        |station| tell_rows(station, first_row, last_row, cells)
+        |screen| tell_rows(screen, first_row, last_row, cells)
     )
 }
 
@@ -131,9 +135,9 @@ pub extern "C" fn ws_c_station_cells(
 ) -> u32
     ensures cells { AreRows first_row last_row → cells_in first_row last_row ≤ length cells.old
         → (status : AStatus) × (result ≡ status_number status)
-        × OnStation handle.old.owned.value handle.new.owned.value status
-        (λ old new. (new ≡ old) × (status ≡ Status.Done)
-        × (cells.new ≡ rows_told old.screen first_row last_row
+        × OnScreen handle.old.owned.value handle.new.owned.value status
+        (λ screen. (status ≡ Status.Done)
+        × (cells.new ≡ rows_told screen first_row last_row
         ++ drop (cells_in first_row last_row) cells.old))
         (cells.new ≡ cells.old) }
     ensures off { ¬ AreRows first_row last_row → (result ≡ status_number Status.BadArgument)

@@ -1,24 +1,26 @@
 //! Keys of a station.
 ghost use Rattle.std.specs.Prelude.{◌≡◌, ◌≤◌, ◌<◌, Option, Result, length};
 ghost use Rattle.ws_keys.specs.declared.answer.Answer.{Answer as AnAnswer};
-ghost use Rattle.ws_keys.specs.declared.key.Key.{Key as AKey};
+ghost use Rattle.ws_extended_station.specs.declared.extended_key.ExtendedKey.{ExtendedKey as AnyKey};
 ghost use Rattle.ws_session.specs.declared.key_fault.KeyFault.{KeyFault as AFault};
 ghost use Rattle.ws_c.specs.declared.status.Status.{Status as AStatus};
-ghost use Rattle.ws_c.specs.Calls.{IsKeyFaultTold, IsKeyTold, IsPress, IsPressFrom, StationKeyed, status_number, told_length};
-ghost use Rattle.ws_c.specs.Held.{OnStation};
+ghost use Rattle.ws_c.specs.Calls.{IsKeyFaultTold, IsKeyTold, IsPress, StationKeyed, status_number, told_length};
+ghost use Rattle.ws_c.specs.Held.{OnExtended, OnStations};
+ghost use Rattle.ws_c.specs.HeldStations.{IsAnyKeyFrom, IsAnyPressFrom, IsHeldPress};
 ghost use Rattle.ws_c.specs.Keys.{IsKeyFrom, IsKeyOfKind};
 
-use crate::held::{on_held, on_station};
-use crate::key_kind::{KeyKind, refusal_number};
+use crate::held::{on_held, on_stations, on_two};
+use crate::key_kind::{KeyKind, RESET_KIND, refusal_number};
 use crate::station::put_front;
 use crate::wire::answer_bytes;
-use crate::{Handle, Machine, Status, Told};
+use crate::{Handle, HeldStation, Machine, Status, Told};
 use std::alloc::Global;
+use ws_extended_station::ExtendedKey;
 use ws_keys::{Answer, Key};
 use ws_session::{KeyFault, Station};
 
-// The status of a key's fault, and what is told of it.
-fn tell_fault(fault: KeyFault, told: &mut Told) -> Status
+/// The status of a key's fault, and what is told of it.
+pub(crate) fn tell_fault(fault: KeyFault, told: &mut Told) -> Status
     ensures { IsKeyFaultTold fault result told.new }
 {
     *told = Told::length(0);
@@ -32,8 +34,13 @@ fn tell_fault(fault: KeyFault, told: &mut Told) -> Status
     }
 }
 
-// What a key crosses as.
-fn tell_key(keyed: Result<Option<Answer>, KeyFault>, buffer: &mut [u8], told: &mut Told) -> Status
+/// What a key crosses as.
+#[inline(always)]
+pub(crate) fn tell_key(
+    keyed: Result<Option<Answer>, KeyFault>,
+    buffer: &mut [u8],
+    told: &mut Told,
+) -> Status
     requires { 5404 ≤ length buffer.old }
     ensures { IsKeyTold keyed result told.new buffer.old buffer.new }
 {
@@ -80,18 +87,82 @@ fn key_from(kind: u32, value: u32) -> Option<Key>
     key_of(named, value)
 }
 
-// Presses a key of the station that a handle holds.
+// The same of all keys. Stations of the profile have no Reset.
+fn any_key_from(kind: u32, value: u32) -> Option<ExtendedKey>
+    ensures { IsAnyKeyFrom kind value result }
+{
+    if kind == RESET_KIND {
+        return Some(ExtendedKey::Reset);
+    }
+    match key_from(kind, value) {
+        Some(key) => Some(ExtendedKey::Profile(key)),
+        None => None,
+    }
+}
+
+// Presses a key of the profile at a station as live hosts use it, unless something waits. It has a
+// frame of its own, for the stack's sake.
+#[inline(never)]
+fn press_held(held: &mut HeldStation, key: Key, buffer: &mut [u8], told: &mut Told) -> Status
+    requires room { 5404 ≤ length buffer.old }
+    requires untold { told.old ≡ told_length 0 }
+    ensures { IsHeldPress (AnyKey.Profile key) buffer.old buffer.new result told.new held.old
+        held.new }
+{
+    if !held.rest().is_empty() {
+        return Status::NoRoom;
+    }
+    held.press(Some(key), buffer, told)
+}
+
+// Presses Reset at one, unless something waits.
+#[inline(never)]
+fn reset_held(held: &mut HeldStation, buffer: &mut [u8], told: &mut Told) -> Status
+    requires room { 5404 ≤ length buffer.old }
+    requires untold { told.old ≡ told_length 0 }
+    ensures { IsHeldPress AnyKey.Reset buffer.old buffer.new result told.new held.old held.new }
+{
+    if held.rest().is_empty() {
+        return held.press(None, buffer, told);
+    }
+    Status::NoRoom
+}
+
+// Presses a key of the profile at the station that a handle holds.
 fn press(alloc: Global, handle: &mut Handle, key: Key, buffer: &mut [u8], told: &mut Told) -> Status
     requires room { 5404 ≤ length buffer.old }
     requires untold { told.old ≡ told_length 0 }
-    ensures { OnStation handle.old.owned.value handle.new.owned.value result
+    ensures { OnStations handle.old.owned.value handle.new.owned.value result
         (IsPress key buffer.old buffer.new result told.new)
+        (IsHeldPress (AnyKey.Profile key) buffer.old buffer.new result told.new)
         ((told.new ≡ told_length 0) × (buffer.new ≡ buffer.old)) }
 {
-    on_station!(
+    on_stations!(
         alloc,
         handle,
-        |station| press_station(station, key, buffer, told)
+        |station| press_station(station, key, buffer, told),
+        |held| press_held(held, key, buffer, told)
+    )
+}
+
+// Presses Reset.
+fn press_reset(alloc: Global, handle: &mut Handle, buffer: &mut [u8], told: &mut Told) -> Status
+    requires room { 5404 ≤ length buffer.old }
+    requires untold { told.old ≡ told_length 0 }
+    ensures { OnExtended handle.old.owned.value handle.new.owned.value result
+        (IsHeldPress AnyKey.Reset buffer.old buffer.new result told.new) Status.BadArgument
+        ((told.new ≡ told_length 0) × (buffer.new ≡ buffer.old)) }
+{
+    on_held!(
+        alloc,
+        handle,
+        ExtendedStation(held),
+        Station,
+        Decoder,
+        ExtendedDecoder,
+        Host,
+        BadArgument,
+        reset_held(held, buffer, told)
     )
 }
 
@@ -99,17 +170,18 @@ fn press(alloc: Global, handle: &mut Handle, key: Key, buffer: &mut [u8], told: 
 fn press_from(
     alloc: Global,
     handle: &mut Handle,
-    key: Option<Key>,
+    key: Option<ExtendedKey>,
     buffer: &mut [u8],
     told: &mut Told,
 ) -> Status
     requires room { 5404 ≤ length buffer.old }
     requires untold { told.old ≡ told_length 0 }
-    ensures { IsPressFrom key handle.old.owned.value handle.new.owned.value buffer.old buffer.new
+    ensures { IsAnyPressFrom key handle.old.owned.value handle.new.owned.value buffer.old buffer.new
         told.new result }
 {
     match key {
-        Some(key) => press(alloc, handle, key, buffer, told),
+        Some(ExtendedKey::Profile(key)) => press(alloc, handle, key, buffer, told),
+        Some(ExtendedKey::Reset) => press_reset(alloc, handle, buffer, told),
         None => Status::BadArgument,
     }
 }
@@ -119,8 +191,9 @@ fn press_from(
 ///
 /// `KeyRefused` where the keyboard or the field refuses the key, `NotReady` at a key that sends while records aren't
 /// allowed, `Failed` after a refused byte; the station is then unchanged. `NothingHeld` where the handle holds no
-/// station. `NoRoom` where the buffer has fewer than 5,404 bytes, and `BadArgument` where no key has the kind and the
-/// value. Where nothing is told, `told` is zero.
+/// station. `NoRoom` where the buffer has fewer than 5,404 bytes, and where something waits that a station as live hosts
+/// use it wrote; `BadArgument` where no key has the kind and the value, as Reset where the handle holds no such station.
+/// Where nothing is told, `told` is zero.
 #[unsafe(no_mangle)]
 pub extern "C" fn ws_c_station_key(
     alloc: Global,
@@ -132,15 +205,15 @@ pub extern "C" fn ws_c_station_key(
 ) -> u32
     ensures room { length buffer.old < 5404 → (result ≡ status_number Status.NoRoom)
         × (handle.new ≡ handle.old) × (buffer.new ≡ buffer.old) × (told.new ≡ told_length 0) }
-    ensures pressed { 5404 ≤ length buffer.old → (key : Option AKey) × IsKeyFrom kind value key
+    ensures pressed { 5404 ≤ length buffer.old → (key : Option AnyKey) × IsAnyKeyFrom kind value key
         × (status : AStatus) × (result ≡ status_number status)
-        × IsPressFrom key handle.old.owned.value handle.new.owned.value buffer.old buffer.new
+        × IsAnyPressFrom key handle.old.owned.value handle.new.owned.value buffer.old buffer.new
         told.new status }
 {
     *told = Told::length(0);
     if buffer.len() < 5404 {
         return Status::NoRoom.number();
     }
-    let key = key_from(kind, value);
+    let key = any_key_from(kind, value);
     press_from(alloc, handle, key, buffer, told).number()
 }

@@ -3,14 +3,16 @@ ghost use Rattle.std.specs.Prelude.{◌≡◌, ◌≤◌, ◌<◌, length, slice
 ghost use Rattle.ws_code.specs.Address.{IsRowAndColumn, place_of};
 ghost use Rattle.ws_screen.specs.ScreenParts.{holds as holds_cell};
 ghost use Rattle.ws_c.specs.declared.status.Status.{Status as AStatus};
-ghost use Rattle.ws_c.specs.Calls.{IsFieldTold, IsRow, field_index as index_of, holds_front, no_field, no_state, status_number, place_refused, read_number as pending_number, reason_refused, row_text, state_told, told_length};
-ghost use Rattle.ws_c.specs.Held.{OnStation};
+ghost use Rattle.ws_c.specs.Calls.{IsFieldTold, IsRow, field_index as index_of, holds_front, no_field, no_state, status_number, place_refused, read_number as pending_number, reason_refused, row_number as number_of_row, row_text, state_of_screen, state_told, told_length};
+ghost use Rattle.ws_c.specs.HeldStations.{extended_state_told};
+ghost use Rattle.ws_c.specs.Held.{OnScreen, OnStations};
 
-use crate::held::{on_held, on_station};
+use crate::held::{on_screen, on_stations, on_two};
 use crate::station::put_front;
 use crate::{FieldTold, Handle, Machine, NO_FIELD, StateTold, Status, Told};
 use std::alloc::Global;
 use ws_code::{Address, Reason};
+use ws_extended_station::ExtendedStation;
 use ws_screen::{Field, ReadKind, Screen};
 use ws_session::Station;
 
@@ -47,7 +49,7 @@ fn holds(field: &Field, at: Address) -> bool
 }
 
 // The index of the field that holds a cell.
-pub(crate) fn field_index(fields: &[Field], at: Address) -> u16
+fn field_index(fields: &[Field], at: Address) -> u16
     requires { length fields.now ≤ 256 }
     ensures { result ≡ index_of fields.now at }
 {
@@ -59,17 +61,22 @@ pub(crate) fn field_index(fields: &[Field], at: Address) -> u16
     NO_FIELD
 }
 
-// What of a station is no cell and no field.
-fn state_of(station: &Station) -> StateTold
-    ensures { result ≡ state_told station.now }
+/// What is told of a screen and of what stands beside it.
+pub(crate) fn state_with(
+    screen: &Screen,
+    records: u64,
+    refused: Option<(u64, Reason)>,
+    is_ready: bool,
+    error_row: u8,
+) -> StateTold
+    ensures { result ≡ state_of_screen screen.now records refused is_ready error_row }
 {
-    let screen = station.screen();
     screen.known();
     let cursor = screen.cursor();
     let fields = screen.fields();
-    let (refused_place, refused_reason) = refused_at(station.refused());
+    let (refused_place, refused_reason) = refused_at(refused);
     StateTold {
-        records: station.records(),
+        records,
         refused_place,
         field_count: fields.len() as u16,
         cursor_field: field_index(fields.as_slice(), cursor),
@@ -77,10 +84,11 @@ fn state_of(station: &Station) -> StateTold
         cursor_column: cursor.col(),
         pending_read: read_number(screen.pending()),
         refused_reason,
-        is_ready: station.is_ready(),
+        is_ready,
         is_locked: screen.locked(),
         is_message_lit: screen.message(),
         is_blinking: screen.blink(),
+        error_row,
     }
 }
 
@@ -88,21 +96,58 @@ fn tell_state(station: &Station, state: &mut StateTold) -> Status
     ensures status { result ≡ Status.Done }
     ensures state { state.new ≡ state_told station.now }
 {
-    *state = state_of(station);
+    *state = state_with(
+        station.screen(),
+        station.records(),
+        station.refused(),
+        station.is_ready(),
+        0,
+    );
+    Status::Done
+}
+
+// The number of a row, where there is one.
+fn row_number(row: Option<u8>) -> u8
+    ensures { result ≡ number_of_row row }
+{
+    match row {
+        Some(row) => row,
+        None => 0,
+    }
+}
+
+fn tell_extended_state(station: &ExtendedStation, state: &mut StateTold) -> Status
+    ensures status { result ≡ Status.Done }
+    ensures state { state.new ≡ extended_state_told station.now }
+{
+    *state = state_with(
+        station.screen(),
+        station.records(),
+        station.refused(),
+        station.is_ready(),
+        row_number(station.display().error_row()),
+    );
     Status::Done
 }
 
 fn look_at_state(alloc: Global, handle: &mut Handle, state: &mut StateTold) -> Status
-    ensures { OnStation handle.old.owned.value handle.new.owned.value result
+    ensures { OnStations handle.old.owned.value handle.new.owned.value result
         (λ old new. (new ≡ old) × (result ≡ Status.Done) × (state.new ≡ state_told old))
+        (λ old new. (new ≡ old) × (result ≡ Status.Done)
+        × (state.new ≡ extended_state_told old.station))
         (state.new ≡ no_state) }
 {
     *state = StateTold::nothing();
-    on_station!(alloc, handle, |station| tell_state(station, state))
+    on_stations!(
+        alloc,
+        handle,
+        |station| tell_state(station, state),
+        |held| tell_extended_state(&held.station, state)
+    )
 }
 
 /// Tells whether records are allowed, a refused byte, the records that were carried out, the cursor and its field, the
-/// keyboard's lock, the lights, the pending read and the number of fields.
+/// keyboard's lock, the lights, the pending read, the number of fields and the row of an error.
 ///
 /// `NothingHeld` where the handle holds no station; `state` is then zero.
 #[unsafe(no_mangle)]
@@ -112,29 +157,30 @@ pub extern "C" fn ws_c_station_state(
     state: &mut StateTold,
 ) -> u32
     ensures { (status : AStatus) × (result ≡ status_number status)
-        × OnStation handle.old.owned.value handle.new.owned.value status
+        × OnStations handle.old.owned.value handle.new.owned.value status
         (λ old new. (new ≡ old) × (status ≡ Status.Done) × (state.new ≡ state_told old))
+        (λ old new. (new ≡ old) × (status ≡ Status.Done)
+        × (state.new ≡ extended_state_told old.station))
         (state.new ≡ no_state) }
 {
     look_at_state(alloc, handle, state).number()
 }
 
-fn tell_cell(station: &Station, at: Address, byte: &mut u8) -> Status
+fn tell_cell(screen: &Screen, at: Address, byte: &mut u8) -> Status
     ensures status { result ≡ Status.Done }
-    ensures byte { byte.new ≡ slice_index station.now.screen.cells at }
+    ensures byte { byte.new ≡ slice_index screen.now.cells at }
 {
-    *byte = station.screen().cell(at);
+    *byte = screen.cell(at);
     Status::Done
 }
 
 fn look_at_cell(alloc: Global, handle: &mut Handle, at: Address, byte: &mut u8) -> Status
     requires { byte.old ≡ 0 }
-    ensures { OnStation handle.old.owned.value handle.new.owned.value result
-        (λ old new. (new ≡ old) × (result ≡ Status.Done)
-        × (byte.new ≡ slice_index old.screen.cells at))
+    ensures { OnScreen handle.old.owned.value handle.new.owned.value result
+        (λ screen. (result ≡ Status.Done) × (byte.new ≡ slice_index screen.cells at))
         (byte.new ≡ 0) }
 {
-    on_station!(alloc, handle, |station| tell_cell(station, at, byte))
+    on_screen!(alloc, handle, |screen| tell_cell(screen, at, byte))
 }
 
 /// Tells a cell's byte, in code page 037 or an attribute; rows and columns count from 1.
@@ -150,9 +196,9 @@ pub extern "C" fn ws_c_station_cell(
 ) -> u32
     ensures cell { IsRowAndColumn row column
         → (status : AStatus) × (result ≡ status_number status)
-        × OnStation handle.old.owned.value handle.new.owned.value status
-        (λ old new. (new ≡ old) × (status ≡ Status.Done)
-        × (byte.new ≡ slice_index old.screen.cells (place_of row column)))
+        × OnScreen handle.old.owned.value handle.new.owned.value status
+        (λ screen. (status ≡ Status.Done)
+        × (byte.new ≡ slice_index screen.cells (place_of row column)))
         (byte.new ≡ 0) }
     ensures off { ¬ IsRowAndColumn row column → (result ≡ status_number Status.BadArgument)
         × (handle.new ≡ handle.old) × (byte.new ≡ 0) }
@@ -174,14 +220,14 @@ fn put_row(screen: &Screen, row: u8, text: &mut [u8]) -> usize
     put_front(text, line.as_str().as_bytes())
 }
 
-fn tell_row(station: &Station, row: u8, text: &mut [u8], told: &mut Told) -> Status
+fn tell_row(screen: &Screen, row: u8, text: &mut [u8], told: &mut Told) -> Status
     requires row { IsRow row }
     requires room { 160 ≤ length text.old }
     ensures status { result ≡ Status.Done }
-    ensures told { told.new ≡ told_length (length (row_text station.now.screen row)) }
-    ensures text { text.new ≡ holds_front (row_text station.now.screen row) text.old }
+    ensures told { told.new ≡ told_length (length (row_text screen.now row)) }
+    ensures text { text.new ≡ holds_front (row_text screen.now row) text.old }
 {
-    *told = Told::length(put_row(station.screen(), row, text));
+    *told = Told::length(put_row(screen, row, text));
     Status::Done
 }
 
@@ -195,13 +241,13 @@ fn look_at_row(
     requires row { IsRow row }
     requires room { 160 ≤ length text.old }
     requires untold { told.old ≡ told_length 0 }
-    ensures { OnStation handle.old.owned.value handle.new.owned.value result
-        (λ old new. (new ≡ old) × (result ≡ Status.Done)
-        × (text.new ≡ holds_front (row_text old.screen row) text.old)
-        × (told.new ≡ told_length (length (row_text old.screen row))))
+    ensures { OnScreen handle.old.owned.value handle.new.owned.value result
+        (λ screen. (result ≡ Status.Done)
+        × (text.new ≡ holds_front (row_text screen row) text.old)
+        × (told.new ≡ told_length (length (row_text screen row))))
         ((text.new ≡ text.old) × (told.new ≡ told_length 0)) }
 {
-    on_station!(alloc, handle, |station| tell_row(station, row, text, told))
+    on_screen!(alloc, handle, |screen| tell_row(screen, row, text, told))
 }
 
 /// Puts a row, 1 to 24, into a buffer as UTF-8: 80 characters, at most 160 bytes. `told` says how many bytes.
@@ -218,10 +264,10 @@ pub extern "C" fn ws_c_station_row(
 ) -> u32
     ensures row { IsRow row → 160 ≤ length text.old
         → (status : AStatus) × (result ≡ status_number status)
-        × OnStation handle.old.owned.value handle.new.owned.value status
-        (λ old new. (new ≡ old) × (status ≡ Status.Done)
-        × (text.new ≡ holds_front (row_text old.screen row) text.old)
-        × (told.new ≡ told_length (length (row_text old.screen row))))
+        × OnScreen handle.old.owned.value handle.new.owned.value status
+        (λ screen. (status ≡ Status.Done)
+        × (text.new ≡ holds_front (row_text screen row) text.old)
+        × (told.new ≡ told_length (length (row_text screen row))))
         ((text.new ≡ text.old) × (told.new ≡ told_length 0)) }
     ensures off { ¬ IsRow row → (result ≡ status_number Status.BadArgument)
         × (handle.new ≡ handle.old) × (text.new ≡ text.old) × (told.new ≡ told_length 0) }
@@ -238,11 +284,12 @@ pub extern "C" fn ws_c_station_row(
     look_at_row(alloc, handle, row, text, told).number()
 }
 
-fn tell_field(station: &Station, index: usize, field: &mut FieldTold) -> Status
+/// Tells a field by its index.
+pub(crate) fn tell_field(screen: &Screen, index: usize, field: &mut FieldTold) -> Status
     requires { field.old ≡ no_field }
-    ensures { IsFieldTold (slice_get station.now.screen.fields index) result field.new }
+    ensures { IsFieldTold (slice_get screen.now.fields index) result field.new }
 {
-    let fields = station.screen().fields();
+    let fields = screen.fields();
     if index >= fields.len() {
         return Status::BadArgument;
     }
@@ -251,12 +298,12 @@ fn tell_field(station: &Station, index: usize, field: &mut FieldTold) -> Status
 }
 
 fn look_at_field(alloc: Global, handle: &mut Handle, index: usize, field: &mut FieldTold) -> Status
-    ensures { OnStation handle.old.owned.value handle.new.owned.value result
-        (λ old new. (new ≡ old) × IsFieldTold (slice_get old.screen.fields index) result field.new)
+    ensures { OnScreen handle.old.owned.value handle.new.owned.value result
+        (λ screen. IsFieldTold (slice_get screen.fields index) result field.new)
         (field.new ≡ no_field) }
 {
     *field = FieldTold::nothing();
-    on_station!(alloc, handle, |station| tell_field(station, index, field))
+    on_screen!(alloc, handle, |screen| tell_field(screen, index, field))
 }
 
 /// Tells a field, by its index in the order of the fields' starts, from 0.
@@ -270,8 +317,8 @@ pub extern "C" fn ws_c_station_field(
     field: &mut FieldTold,
 ) -> u32
     ensures { (status : AStatus) × (result ≡ status_number status)
-        × OnStation handle.old.owned.value handle.new.owned.value status
-        (λ old new. (new ≡ old) × IsFieldTold (slice_get old.screen.fields index) status field.new)
+        × OnScreen handle.old.owned.value handle.new.owned.value status
+        (λ screen. IsFieldTold (slice_get screen.fields index) status field.new)
         (field.new ≡ no_field) }
 {
     look_at_field(alloc, handle, index, field).number()

@@ -4,14 +4,13 @@ use Rattle.std.proofs.lemmas.List.{take_more}
 use Rattle.ws_record.specs.declared.live.Step.{Step}
 use Rattle.ws_record.specs.declared.live.Step.TheVariants.{More, Open, Unit as Whole, Close, Telnet as Command}
 use Rattle.ws_record.specs.declared.live.Step.TheVariants.{Refused as StepRefused, Failed as StepFailed}
-use Rattle.ws_stream.specs.declared.element.Element.{Element}
 use Rattle.ws_c.specs.declared.status.Status.TheVariants.{Done}
-use Rattle.ws_c.specs.Decoding.{DecoderPushed, DecoderTakes, IsDecoderEnd, IsStepTold, plain_step, tells}
+use Rattle.ws_c.specs.Decoding.{DecoderPushedOn, DecoderTakesOn, IsDecoderEndOn, IsStepToldOn, plain_step, tells}
 use Rattle.ws_c.specs.Pushes.{TakesAll}
 use Rattle.ws_c.proofs.PushLaws.{takes_more, none_left, one_left}
 use Rattle.ws_c.proofs.decoder.push_all.Goals as goal
 
-tells_else : (step : Step Element) → (step ≡ More → ⊥) → tells step ≡ true
+tells_else : {U : Type 0} (step : Step U) → (step ≡ More → ⊥) → tells step ≡ true
 tells_else More not = absurd (not refl)
 tells_else (Open head) not = refl
 tells_else (Whole unit) not = refl
@@ -21,10 +20,11 @@ tells_else (StepRefused place reason) not = refl
 tells_else StepFailed not = refl
 
 pub loop-at-preserved : goal.loop-at-preserved
-loop-at-preserved c =
+loop-at-preserved g c =
+    let rules = g.C.Code.rules in
     let now = c.loop-at in
     let bytes = c.args.bytes.now in
-    let one : DecoderPushed now.decoder c.push.new.self (get_or bytes now.at 0) More =
+    let one : DecoderPushedOn rules now.decoder c.push.new.self (get_or bytes now.at 0) More =
     record {
       pushed = c.in-More.ensures.step;
       full = c.in-More.ensures.full;
@@ -33,15 +33,16 @@ loop-at-preserved c =
           = c.in-More.ensures.after;
     } in
     record {
-      takes = subst (λ (l : List ℕ). TakesAll DecoderTakes c.args.decoder.now l [] c.push.new.self)
+      takes = subst (λ (l : List ℕ). TakesAll (DecoderTakesOn rules) c.args.decoder.now l [] c.push.new.self)
           (sym (take_more bytes now.at 0 c.loop-at-test.true))
-          (takes_more DecoderTakes c.args.decoder.now now.decoder c.push.new.self (take now.at bytes) []
+          (takes_more (DecoderTakesOn rules) c.args.decoder.now now.decoder c.push.new.self (take now.at bytes) []
           (get_or bytes now.at 0) [] now.invariant.takes (one, refl));
       same = now.invariant.same;
     }
 
 pub returns : goal.returns
-returns c =
+returns g c =
+    let rules = g.C.Code.rules in
     let now = c.loop-at in
     let bytes = c.args.bytes.now in
     let all : length bytes ≡ now.at = omega arith in
@@ -51,16 +52,17 @@ returns c =
       counted = omega arith;
       before = now.decoder;
       takes = now.invariant.takes;
-      ends = subst (λ (l : List ℕ). IsDecoderEnd l now.at Done c.plain.result c.args.buffer.now now.buffer now.decoder
+      ends = subst (λ (l : List ℕ). IsDecoderEndOn rules l now.at Done c.plain.result c.args.buffer.now now.buffer now.decoder
           now.decoder)
           (sym (none_left bytes now.at now.at c.loop-at-test.false refl)) (refl, told, now.invariant.same, refl);
     }
 
 pub returns-in_default : goal.returns-in_default
-returns-in_default c =
+returns-in_default g c =
+    let rules = g.C.Code.rules in
     let now = c.loop-at in
     let bytes = c.args.bytes.now in
-    let one : DecoderPushed now.decoder c.push.new.self (get_or bytes now.at 0) c.push.result =
+    let one : DecoderPushedOn rules now.decoder c.push.new.self (get_or bytes now.at 0) c.push.result =
     record {
       pushed = c.push.ensures.step;
       full = c.push.ensures.full;
@@ -73,13 +75,13 @@ returns-in_default c =
       counted = omega arith;
       before = now.decoder;
       takes = now.invariant.takes;
-      ends = subst (λ (l : List ℕ). IsDecoderEnd l now.at c.tell_step.result c.tell_step.new.told c.args.buffer.now
+      ends = subst (λ (l : List ℕ). IsDecoderEndOn rules l now.at c.tell_step.result c.tell_step.new.told c.args.buffer.now
           c.tell_step.new.buffer now.decoder c.push.new.self)
           (sym (one_left bytes now.at now.at c.loop-at-test.true refl)) (
             c.push.result,
             one,
             tells_else c.push.result c.in_default.not-More,
-            subst (λ (b : List ℕ). IsStepTold c.push.result now.at c.tell_step.result c.tell_step.new.told b
+            subst (λ (b : List ℕ). IsStepToldOn rules c.push.result now.at c.tell_step.result c.tell_step.new.told b
                 c.tell_step.new.buffer) now.invariant.same c.tell_step.ensures,
           );
     }

@@ -4,6 +4,8 @@ use Rattle.std.proofs.Common.{◌∙◌, arith}
 use Rattle.std.proofs.lemmas.List.{length-drop}
 use Rattle.ws_session.specs.Ends.{CountsUpTo}
 use Rattle.ws_session.specs.StationFeeds.{HasFed, HasRefused}
+use Rattle.ws_session.specs.StationSide.{profile}
+use Rattle.ws_stream.specs.Elements.{element_rules}
 use Rattle.ws_c.specs.declared.status.Status.TheVariants.{Done, NoRoom}
 use Rattle.ws_c.specs.declared.told.PushedTold.{PushedTold}
 use Rattle.ws_c.specs.Pushes.{StationTakes, StationRefuses, IsStationEnd, place_refused_at}
@@ -21,7 +23,7 @@ loop-told-init c =
         inside = omega (arith, ap (λ (t : PushedTold). t.taken) c.requires);
         written = [];
         takes = subst (λ (n : ℕ). StationTakes station bytes n [] station)
-            (sym (ap (λ (t : PushedTold). t.taken) c.requires)) (station_takes_none station bytes);
+            (sym (ap (λ (t : PushedTold). t.taken) c.requires)) (station_takes_none element_rules profile station bytes);
         put = refl;
         fits = omega (arith, ap (λ (t : PushedTold). t.replied) c.requires);
         replied_is = ap (λ (t : PushedTold). t.replied) c.requires;
@@ -50,7 +52,7 @@ loop-told-preserved c =
           (omega (arith, c.as_slice-text.ensures.fits, ap length same)) f
           (subst (λ (r : List ℕ). StationTakes c.args.station.now bytes (n + k) (f.written ++ r) c.feed.new.self)
           (sym same)
-          (station_takes_on c.args.station.now now.station c.feed.new.self bytes n k f.written fed.reply
+          (station_takes_on element_rules profile c.args.station.now now.station c.feed.new.self bytes n k f.written fed.reply
           fed.ends_record f.inside some f.takes
           (λ b its s l fits. subst
           (λ (x : List ℕ). HasFed c.feed.new.self b its s (take k x) fed.reply fed.ends_record) is
@@ -119,7 +121,7 @@ returns-in-Err c =
     (subst (λ (x : List ℕ). m ≡ min (place_refused_at refusal c.taken-before.result last - c.taken-before.result)
     (length x)) is c.front_length.ensures) in
     let refuses : StationRefuses now.station (drop n bytes) m refusal new =
-    station_refuses now.station new (drop n bytes) last refusal m few
+    station_refuses element_rules profile now.station new (drop n bytes) last refusal m few
     (λ b its s l fits. subst (λ (x : List ℕ). HasRefused now.station new b its s x refusal) is
     (e.refused b its s l (subst (λ (x : List ℕ). length b + length x + 1 < 2 ^ 64) (sym is) fits)))
     (λ h. (let x = e.full h in cc)) (λ h. ((let x = (e.failed h).0 in cc), (e.failed h).1)) e.after e.seen

@@ -1,0 +1,194 @@
+-- A station as live hosts use it at a push of bytes: what has gone out, and what waits
+
+use Rattle.std.proofs.Common.{◌≡◌, ◌≢◌, ℕ, ◌+◌, ◌-◌, ◌^◌, ◌<◌, ◌≤◌, inl, inr, List, [], ◌++◌, length, take, drop}
+use Rattle.std.specs.Prelude.{◌==◌, true, false, min}
+use borrow.Author.Tests.{eqb-true, eqb-false}
+use Rattle.std.proofs.Common.{refl, sym, ap, ◌∙◌, subst, arith, length-append, append_assoc}
+use Rattle.std.proofs.lemmas.Bool.{cases_lt}
+use Rattle.std.proofs.lemmas.List.{append-nil, drop_all, length-drop, nil_from_length}
+use Rattle.ws_record.specs.declared.record.Item.{Item}
+use Rattle.ws_extended.specs.ExtendedElements.{extended_rules}
+use Rattle.ws_extended.specs.declared.extended_element.ExtendedElement.{ExtendedElement}
+use Rattle.ws_extended.specs.declared.extended_place.ExtendedPlace.{ExtendedPlace}
+use Rattle.ws_extended_station.specs.ExtendedDisplays.{DisplayParts, ExtendedSide, extended}
+use Rattle.ws_session.specs.PartsOn.{PartsOn}
+use Rattle.ws_session.specs.StationActs.{IsSilentOn}
+use Rattle.ws_session.specs.Stations.{LeadsOn}
+use Rattle.ws_c.specs.declared.held_station.HeldStation.{HeldStation}
+use Rattle.ws_c.specs.declared.told.PushedTold.{PushedTold}
+use Rattle.ws_c.specs.Calls.{holds_front}
+use Rattle.ws_c.specs.HeldStations.{HandsOut, IsHeldPush, waiting}
+use Rattle.ws_c.specs.Pushes.{BringsAtMostOn, IsEndOn, StationTakesOn, nothing_pushed, pushed_told}
+use Rattle.ws_c.specs.declared.status.Status.{Status}
+use Rattle.ws_c.specs.declared.status.Status.TheVariants.{NoRoom}
+use Rattle.ws_c.proofs.FeedLaws.{station_brings, station_takes_none}
+
+-- whether something waits, by the length of what does
+pub nothing_waits : (rest l : List ℕ) → rest ≡ l → (length rest == 0) ≡ true → l ≡ []
+nothing_waits rest l is e = sym is ∙ nil_from_length rest (eqb-true (length rest) 0 e)
+
+pub something_waits : (rest l : List ℕ) → rest ≡ l → (length rest == 0) ≡ false → l ≢ []
+something_waits rest l is e none = eqb-false (length rest) 0 e (ap (λ (xs : List ℕ). length xs) (is ∙ none))
+
+-- where not all of it has gone out there was no room for more
+pub all_room : (rest : List ℕ) (count room : ℕ) → count ≡ min (length rest) room → drop count rest ≢ [] → count ≡ room
+all_room rest count room e some = elim (cases_lt room (length rest)) [
+  | inl lt ↦ omega (arith, e, lt)
+  | inr ge ↦ absurd (some (drop_all count rest (omega (arith, e, ge))))
+]
+
+-- so far
+pub record HeldFeeding (old now : HeldStation) (bytes buffer after : List ℕ) (told : PushedTold) : Type 0 where
+  pub inside : told.taken ≤ length bytes
+  pub written : List ℕ
+  pub out : List ℕ
+  pub takes : StationTakesOn extended_rules extended old.station bytes told.taken written now.station
+  pub whole : waiting old ++ written ≡ out ++ waiting now
+  pub first : length out < length (waiting old) → told.taken ≡ 0
+  pub in_time : (n : ℕ) → n < told.taken
+      → BringsAtMostOn extended_rules extended old.station bytes n (length out - length (waiting old))
+  pub replied : told.replied ≡ length out
+  pub fits : told.replied ≤ length buffer
+  pub put : after ≡ holds_front out buffer
+  pub filled : waiting now ≢ [] → told.replied ≡ length buffer
+  pub plain : told ≡ pushed_told told.taken told.replied
+
+-- at first what waited is handed out
+pub feeding_start : (old new : HeldStation) (bytes buffer after : List ℕ) (told counts : PushedTold)
+    → told ≡ nothing_pushed → HandsOut old new told counts buffer after → HeldFeeding old new bytes buffer after counts
+feeding_start old new bytes buffer after told counts fresh h =
+    let none_more : 0 + length h.out ≡ length h.out = omega arith in
+    let counts_is : counts ≡ pushed_told 0 (length h.out) =
+    h.counted ∙ ap (λ (t : PushedTold). record t { replied = t.replied + length h.out }) fresh
+    ∙ ap (λ (n : ℕ). pushed_told 0 n) none_more in
+    let taken_is : counts.taken ≡ 0 = ap (λ (t : PushedTold). t.taken) counts_is in
+    record {
+      inside = omega (arith, taken_is);
+      written = [];
+      out = h.out;
+      takes = subst (λ (n : ℕ). StationTakesOn extended_rules extended old.station bytes n [] new.station) (sym taken_is)
+          (subst (λ s. StationTakesOn extended_rules extended old.station bytes 0 [] s) (sym h.station)
+          (station_takes_none extended_rules extended old.station bytes));
+      whole = append-nil (waiting old) ∙ h.whole;
+      first = λ few. taken_is;
+      in_time = λ n lt. absurd (omega (arith, lt, taken_is));
+      replied = ap (λ (t : PushedTold). t.replied) counts_is;
+      fits = h.fits;
+      put = h.put [] buffer (sym (ap (λ (t : PushedTold). t.replied) fresh)) refl;
+      filled = h.filled;
+      plain = subst (λ (t : PushedTold). t ≡ pushed_told t.taken t.replied) (sym counts_is) refl;
+    }
+
+-- where nothing waits all that was written is out
+all_out : (old now : HeldStation) (bytes buffer after : List ℕ) (told : PushedTold)
+    (f : HeldFeeding old now bytes buffer after told) → waiting now ≡ [] → waiting old ++ f.written ≡ f.out
+all_out old now bytes buffer after told f none =
+    f.whole ∙ ap (λ (l : List ℕ). f.out ++ l) none ∙ append-nil f.out
+
+-- what is at most so long is at most longer
+brings_more : (old : PartsOn DisplayParts ExtendedPlace) (bytes : List ℕ) (n few most : ℕ) → few ≤ most
+    → BringsAtMostOn extended_rules extended old bytes n few → BringsAtMostOn extended_rules extended old bytes n most
+brings_more old bytes n few most le b = λ before items side l fits.
+    (let g = b before items side l fits in (g.0, g.1, g.2, omega (arith, le, g.3)))
+
+-- more was written, and handed out as far as there was room
+pub feeding_on : (old now fed new : HeldStation) (bytes buffer after last : List ℕ) (told plus counts : PushedTold)
+    (used : ℕ) (f : HeldFeeding old now bytes buffer after told) → waiting now ≡ []
+    → plus ≡ record told { taken = told.taken + used } → told.taken + used ≤ length bytes
+    → StationTakesOn extended_rules extended old.station bytes (told.taken + used) (f.written ++ waiting fed) fed.station
+    → ((j : ℕ) → j < used → (b : List ℕ) (its : List (Item ExtendedElement)) (s : ExtendedSide)
+    → LeadsOn extended_rules extended now.station b its s
+    → length b + length (drop told.taken bytes) + 1 < 2 ^ 64
+    → IsSilentOn extended_rules extended b its s (take j (drop told.taken bytes)))
+    → HandsOut fed new plus counts after last
+    → HeldFeeding old new bytes buffer last counts
+feeding_on old now fed new bytes buffer after last told plus counts used f none plus_is within takes silent h =
+    let size : length after ≡ length buffer = omega (
+      arith,
+      ap (λ (l : List ℕ). length l) f.put,
+      length-append f.out (drop (length f.out) buffer),
+      length-drop (length f.out) buffer,
+      f.replied,
+      f.fits,
+    ) in
+    let all = all_out old now bytes buffer after told f none in
+    let counts_is : counts ≡ pushed_told (told.taken + used) (told.replied + length h.out) =
+    h.counted ∙ ap (λ (t : PushedTold). record t { replied = t.replied + length h.out }) plus_is
+    ∙ ap (λ (t : PushedTold). record t { taken = told.taken + used; replied = told.replied + length h.out }) f.plain in
+    let out_is : length (waiting old) + length f.written ≡ length f.out =
+    sym (length-append (waiting old) f.written) ∙ ap (λ (l : List ℕ). length l) all in
+    let taken_is : counts.taken ≡ told.taken + used = ap (λ (t : PushedTold). t.taken) counts_is in
+    let replied_is : counts.replied ≡ told.replied + length h.out = ap (λ (t : PushedTold). t.replied) counts_is in
+    record {
+      inside = omega (arith, taken_is, within);
+      written = f.written ++ waiting fed;
+      out = f.out ++ h.out;
+      takes = subst (λ (n : ℕ). StationTakesOn extended_rules extended old.station bytes n (f.written ++ waiting fed)
+          new.station) (sym taken_is)
+          (subst (λ s. StationTakesOn extended_rules extended old.station bytes (told.taken + used)
+          (f.written ++ waiting fed) s) (sym h.station) takes);
+      whole = sym (append_assoc (waiting old) f.written (waiting fed)) ∙ ap (λ (l : List ℕ). l ++ waiting fed) all
+          ∙ ap (λ (l : List ℕ). f.out ++ l) h.whole ∙ sym (append_assoc f.out h.out (waiting new));
+      first = λ few. absurd (omega (arith, few, length-append f.out h.out, out_is));
+      in_time = λ n lt. elim (cases_lt n told.taken) [
+        | inl less ↦ brings_more old.station bytes n _ _
+            (omega (arith, length-append f.out h.out)) (f.in_time n less)
+        | inr ge ↦ subst (λ (z : ℕ). BringsAtMostOn extended_rules extended old.station bytes z
+            (length (f.out ++ h.out) - length (waiting old))) (omega (arith, ge))
+            (station_brings extended_rules extended old.station now.station bytes told.taken (n - told.taken) f.written _
+            f.inside f.takes (silent (n - told.taken) (omega (arith, ge, lt, taken_is)))
+            (omega (arith, out_is, length-append f.out h.out)))
+      ];
+      replied = omega (arith, replied_is, f.replied, length-append f.out h.out);
+      fits = omega (arith, h.fits, size);
+      put = h.put f.out buffer (sym f.replied ∙ sym (ap (λ (t : PushedTold). t.replied) plus_is)) f.put;
+      filled = λ some. h.filled some ∙ size;
+      plain = subst (λ (t : PushedTold). t ≡ pushed_told t.taken t.replied) (sym counts_is) refl;
+    }
+
+module _ (old now : HeldStation) (bytes buffer after : List ℕ) (told : PushedTold)
+    (f : HeldFeeding old now bytes buffer after told) where
+  -- it ends where something waits
+  pub ends_waiting : waiting now ≢ [] → IsHeldPush bytes buffer after NoRoom told old now
+  ends_waiting some = record {
+    counted = f.inside;
+    fed = told.taken;
+    written = f.written;
+    out = f.out;
+    before = now;
+    takes = f.takes;
+    whole = f.whole;
+    first = f.first;
+    in_time = f.in_time;
+    replied = f.replied;
+    fits = f.fits;
+    put = f.put;
+    waits = λ _. (
+      refl,
+      f.plain ∙ ap (λ (n : ℕ). pushed_told told.taken n) (f.filled some),
+      refl,
+    );
+    ends = λ none. absurd (some none);
+  }
+
+  -- or where nothing does
+  pub ends_plainly : (new : HeldStation) (status : Status) (last : PushedTold) → waiting now ≡ [] → waiting new ≡ []
+      → last.taken ≤ length bytes → last.replied ≡ told.replied
+      → IsEndOn extended_rules extended (drop told.taken bytes) told.taken (length buffer - last.replied) status last
+      now.station new.station → IsHeldPush bytes buffer after status last old new
+  ends_plainly new status last none still inside same ends = record {
+    counted = inside;
+    fed = told.taken;
+    written = f.written;
+    out = f.out;
+    before = now;
+    takes = f.takes;
+    whole = f.whole;
+    first = f.first;
+    in_time = f.in_time;
+    replied = same ∙ f.replied;
+    fits = omega (arith, same, f.fits);
+    put = f.put;
+    waits = λ some. absurd (some none);
+    ends = λ _. (still, ends);
+  }

@@ -1,0 +1,38 @@
+use Rattle.std.proofs.Common.{◌≡◌, ◌+◌, ◌<◌, ◌≤◌, [], ◌∷◌, ◌++◌, length, map, take, arith, lit<, sym, ◌∙◌, ap}
+use Rattle.std.proofs.Common.{get_or, length-append}
+use Rattle.std.specs.Prelude.{encode_utf8}
+use Rattle.std.specs.Str.{encode_utf8_all}
+use Rattle.std.proofs.lemmas.List.{map_more}
+use Rattle.ws_screen.specs.Lines.{shown_char}
+use Rattle.ws_screen.proofs.LineLemmas.{text-more, two_bytes}
+use Rattle.ws_c.proofs.field_text.characters.Goals as goal
+
+pub push-requires : goal.push-requires
+push-requires c =
+    let short : _ = two_bytes c.character_of.result c.character_of.ensures.latin in
+    let fits : length c.loop-byte.text.bytes + length (encode_utf8 c.character_of.result) ≤ 3840 =
+    omega (arith, c.loop-byte.invariant.short, c.requires, short) in
+    (lit< tt, fits)
+
+pub loop-byte-preserved : goal.loop-byte-preserved
+loop-byte-preserved c =
+    let cells = c.args.cells.now in
+    let index = c.loop-byte.byte-index in
+    let item = get_or cells index 0 in
+    let front = map shown_char (take index cells) in
+    let small : index < length cells = omega arith in
+    let short : _ = two_bytes c.character_of.result c.character_of.ensures.latin in
+    let more : map shown_char (take (index + 1) cells) ≡ front ++ shown_char item ∷ [] =
+    map_more shown_char cells index 0 small in
+    record {
+      so_far = c.push.ensures.bytes ∙ ap (λ text. text ++ encode_utf8 c.character_of.result) c.loop-byte.invariant.so_far
+          ∙ ap (λ k. encode_utf8_all front ++ encode_utf8 k) c.character_of.ensures.value
+          ∙ sym (text-more front (shown_char item)) ∙ ap encode_utf8_all (sym more);
+      short = omega (
+        arith,
+        c.loop-byte.invariant.short,
+        ap length c.push.ensures.bytes,
+        length-append c.loop-byte.text.bytes (encode_utf8 c.character_of.result),
+        short,
+      );
+    }

@@ -1,0 +1,10 @@
+use Rattle.std.proofs.Common.{◌≡◌, replicate}
+use Rattle.std.specs.Prelude.{Ok}
+use Rattle.ws_c.specs.Strokes.{AreKeyed}
+use Rattle.ws_c.proofs.station_strokes.press_run.Given as goal
+
+abbrev pub invariant-loop : goal.invariant-loop
+invariant-loop g l = record {
+  end : l.end ≡ l.run.times;
+  so_far : AreKeyed g.S.TakesKeys.takes (replicate l.counter l.run.key) l.fn.station l.station (Ok tt);
+}

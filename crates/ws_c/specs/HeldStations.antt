@@ -1,0 +1,123 @@
+-- A station as live hosts use it, as C sees it: what it writes goes out in pieces where a buffer has no room for all
+
+use Rattle.std.specs.Prelude.{◌≡◌, ◌≢◌, ℕ, ◌+◌, ◌-◌, ◌<◌, ◌≤◌, List, [], ◌++◌, length, drop, Option, Some, None, Result}
+use Rattle.ws_nego.specs.Station.{station_allows_records}
+use Rattle.ws_nego.specs.Terminal.{terminal_named}
+use Rattle.ws_nego.specs.declared.terminal.TerminalType.{TerminalType}
+use Rattle.ws_keys.specs.declared.answer.Answer.{Answer}
+use Rattle.ws_keys.specs.declared.key.Key.{Key}
+use Rattle.ws_extended.specs.ExtendedElements.{extended_rules}
+use Rattle.ws_extended.specs.declared.extended_place.ExtendedPlace.{ExtendedPlace}
+use Rattle.ws_extended_station.specs.ExtendedDisplays.{DisplayParts, extended, extended_written, standing_row}
+use Rattle.ws_extended_station.specs.declared.extended_key.ExtendedKey.{ExtendedKey}
+use Rattle.ws_extended_station.specs.declared.extended_key.ExtendedKey.TheVariants.{Profile, Reset}
+use Rattle.ws_session.specs.Ends.{refused_byte}
+use Rattle.ws_session.specs.PartsOn.{PartsOn}
+use Rattle.ws_session.specs.StationManners.{new_side_on}
+use Rattle.ws_session.specs.Stations.{LeadsOn}
+use Rattle.ws_session.specs.declared.key_fault.KeyFault.{KeyFault}
+use Rattle.ws_c.specs.Calls.{IsKeyTold, IsPress, StationKeyedOn, holds_front, row_number, state_of_screen, told_length}
+use Rattle.ws_c.specs.Held.{OnExtended, OnStations}
+use Rattle.ws_c.specs.Keys.{IsKeyFrom}
+use Rattle.ws_c.specs.Pushes.{BringsAtMostOn, IsEndOn, StationTakesOn, pushed_told}
+use Rattle.ws_c.specs.declared.held_station.HeldStation.{HeldStation}
+use Rattle.ws_c.specs.declared.key_kind.TheConstants.{RESET_KIND}
+use Rattle.ws_c.specs.declared.machine.Machine.{Machine}
+use Rattle.ws_c.specs.declared.machine.Machine.TheVariants.{ExtendedStation}
+use Rattle.ws_c.specs.declared.state_told.StateTold.{StateTold}
+use Rattle.ws_c.specs.declared.status.Status.{Status}
+use Rattle.ws_c.specs.declared.status.Status.TheVariants.{Done, NoMemory, InUse, NoRoom, BadArgument}
+use Rattle.ws_c.specs.declared.told.PushedTold.{PushedTold}
+use Rattle.ws_c.specs.declared.told.Told.{Told}
+
+-- what of its last answer has not gone out yet
+abbrev pub waiting : HeldStation → List ℕ
+waiting h = drop h.sent (extended_written h.station.screen h.reply)
+
+-- a station is made for the terminal of the name, or the handle stays as it is
+abbrev pub IsExtendedNew : List ℕ → Option Machine → Option Machine → Status → Type 0
+IsExtendedNew name (Some held) now status = (status ≡ InUse) × (now ≡ Some held)
+IsExtendedNew name None now Done = (terminal : TerminalType) × (held : HeldStation)
+    × (terminal_named name ≡ Some terminal) × (now ≡ Some (ExtendedStation held))
+    × LeadsOn extended_rules extended held.station [] [] (new_side_on extended terminal) × (waiting held ≡ [])
+IsExtendedNew name None now BadArgument = (terminal_named name ≡ None) × (now ≡ None)
+IsExtendedNew name None now NoMemory = (terminal : TerminalType) × (terminal_named name ≡ Some terminal)
+    × (now ≡ None)
+IsExtendedNew name None now status = ⊥
+
+-- Of what waits a front is put behind what stands at the buffer's front, and counted: all, or as much as there is room.
+pub record HandsOut (old new : HeldStation) (told counts : PushedTold) (buffer after : List ℕ) : Type 0 where
+  pub out : List ℕ
+  pub whole : waiting old ≡ out ++ waiting new
+  pub station : new.station ≡ old.station
+  pub counted : counts ≡ record told { replied = told.replied + length out }
+  pub fits : counts.replied ≤ length buffer
+  pub filled : waiting new ≢ [] → counts.replied ≡ length buffer
+  pub put : (front before : List ℕ) → length front ≡ told.replied → buffer ≡ holds_front front before
+      → after ≡ holds_front (front ++ out) before
+
+-- A push of bytes: what waited and what the station writes goes out in order, and the rest of it waits. No byte is taken
+-- before all that waited, and all that the bytes before it brought, has gone out. Where something waits at the end the
+-- buffer is full, and the call says so.
+pub record IsHeldPush (bytes buffer after : List ℕ) (status : Status) (told : PushedTold) (old new : HeldStation)
+    : Type 0 where
+  pub counted : told.taken ≤ length bytes
+  pub fed : ℕ
+  pub written : List ℕ
+  pub out : List ℕ
+  pub before : HeldStation
+  pub takes : StationTakesOn extended_rules extended old.station bytes fed written before.station
+  pub whole : waiting old ++ written ≡ out ++ waiting before
+  pub first : length out < length (waiting old) → fed ≡ 0
+  pub in_time : (n : ℕ) → n < fed
+      → BringsAtMostOn extended_rules extended old.station bytes n (length out - length (waiting old))
+  pub replied : told.replied ≡ length out
+  pub fits : told.replied ≤ length buffer
+  pub put : after ≡ holds_front out buffer
+  pub waits : waiting before ≢ [] → (status ≡ NoRoom) × (told ≡ pushed_told fed (length buffer)) × (new ≡ before)
+  pub ends : waiting before ≡ [] → (waiting new ≡ [])
+      × IsEndOn extended_rules extended (drop fed bytes) fed (length buffer - told.replied) status told
+      before.station new.station
+
+-- a key of the profile, or Reset where there is none
+abbrev pub key_or_reset : Option Key → ExtendedKey
+key_or_reset (Some key) = Profile key
+key_or_reset None = Reset
+
+-- a key that is pressed; nothing waits then
+abbrev pub IsHeldKeyed : ExtendedKey → List ℕ → List ℕ → Status → Told → HeldStation → HeldStation → Type 0
+IsHeldKeyed key buffer after status told old new = (result : Result (Option Answer) KeyFault)
+    × StationKeyedOn extended_rules extended old.station new.station key result
+    × IsKeyTold result status told buffer after × (waiting new ≡ [])
+
+-- A key: where something waits it is not pressed, since its record could get between the bytes of another.
+pub record IsHeldPress (key : ExtendedKey) (buffer after : List ℕ) (status : Status) (told : Told)
+    (old new : HeldStation) : Type 0 where
+  pub waits : waiting old ≢ [] → (status ≡ NoRoom) × (new ≡ old) × (told ≡ told_length 0) × (after ≡ buffer)
+  pub pressed : waiting old ≡ [] → IsHeldKeyed key buffer after status told old new
+
+-- a key of the profile, where there is one, as a key of all
+abbrev pub among_all : Option Key → Option ExtendedKey
+among_all None = None
+among_all (Some key) = Some (Profile key)
+
+-- the key of a kind's number and a value, where there is one: Reset has a number behind those of the profile
+pub record IsAnyKeyFrom (kind value : ℕ) (key : Option ExtendedKey) : Type 0 where
+  pub reset : kind ≡ RESET_KIND → key ≡ Some Reset
+  pub other : kind ≢ RESET_KIND → (k : Option Key) × IsKeyFrom kind value k × (key ≡ among_all k)
+
+-- A key, where there is one, at what the handle holds. Only a station as live hosts use it has Reset.
+abbrev pub IsAnyPressFrom : Option ExtendedKey → Option Machine → Option Machine → List ℕ → List ℕ → Told → Status
+    → Type 0
+IsAnyPressFrom None held now buffer after told status = (status ≡ BadArgument) × (now ≡ held) × (after ≡ buffer)
+    × (told ≡ told_length 0)
+IsAnyPressFrom (Some Reset) held now buffer after told status = OnExtended held now status
+    (IsHeldPress Reset buffer after status told) BadArgument ((told ≡ told_length 0) × (after ≡ buffer))
+IsAnyPressFrom (Some (Profile key)) held now buffer after told status = OnStations held now status
+    (IsPress key buffer after status told) (IsHeldPress (Profile key) buffer after status told)
+    ((told ≡ told_length 0) × (after ≡ buffer))
+
+-- what of a station is no cell and no field, with the row on which an error stands
+abbrev pub extended_state_told : PartsOn DisplayParts ExtendedPlace → StateTold
+extended_state_told s = state_of_screen s.screen.display.screen s.records (refused_byte s.ended)
+    (station_allows_records s.options) (row_number (standing_row s.screen.display))

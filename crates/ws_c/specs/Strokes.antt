@@ -1,0 +1,68 @@
+-- Strokes at a station: the keys of one, one after another, up to the first that is refused
+
+use Rattle.std.specs.Prelude.{◌≡◌, ◌≢◌, List, [], ◌∷◌, Option, Result, Ok, Err}
+use Rattle.ws_extended.specs.ExtendedElements.{extended_rules}
+use Rattle.ws_extended.specs.declared.extended_place.ExtendedPlace.{ExtendedPlace}
+use Rattle.ws_extended_station.specs.ExtendedDisplays.{DisplayParts, extended}
+use Rattle.ws_extended_station.specs.declared.extended_key.ExtendedKey.TheVariants.{Profile}
+use Rattle.ws_keys.specs.Strokes.{erase_eof_runs, keys_of, new_line_cell, runs_to}
+use Rattle.ws_keys.specs.declared.answer.Answer.{Answer}
+use Rattle.ws_keys.specs.declared.key.Key.{Key}
+use Rattle.ws_keys.specs.declared.key_run.KeyRun.{KeyRun}
+use Rattle.ws_screen.specs.ScreenParts.{ScreenParts}
+use Rattle.ws_session.specs.PartsOn.{PartsOn}
+use Rattle.ws_session.specs.StationLeads.{StationParts}
+use Rattle.ws_session.specs.declared.key_fault.KeyFault.{KeyFault}
+use Rattle.ws_c.specs.declared.held_station.HeldStation.{HeldStation}
+use Rattle.ws_c.specs.declared.status.Status.{Status}
+use Rattle.ws_c.specs.declared.status.Status.TheVariants.{Done, NoRoom}
+use Rattle.ws_c.specs.declared.stroke.Stroke.{Stroke}
+use Rattle.ws_c.specs.declared.stroke.Stroke.TheVariants.{MoveTo, NewLine, EraseEof}
+use Rattle.ws_c.specs.declared.told.Told.{Told}
+use Rattle.ws_c.specs.Calls.{IsKeyFaultTold, StationKeyed, StationKeyedOn, told_length}
+use Rattle.ws_c.specs.HeldStations.{waiting}
+
+-- the keys of a stroke at a screen
+abbrev pub stroke_runs : Stroke → ScreenParts → List KeyRun
+stroke_runs (MoveTo cell) s = runs_to s.cursor cell
+stroke_runs NewLine s = runs_to s.cursor (new_line_cell s)
+stroke_runs EraseEof s = erase_eof_runs s
+
+-- what that crosses as
+abbrev pub IsStrokeTold : Result (Unit {0}) KeyFault → Status → Told → Type 0
+IsStrokeTold (Ok done) status told = (status ≡ Done) × (told ≡ told_length 0)
+IsStrokeTold (Err fault) status told = IsKeyFaultTold fault status told
+
+-- a station of any kind, by what one key of the profile does at it
+module _ {S : Type 0} (takes : S → S → Key → Result (Option Answer) KeyFault → Type 0) where
+  -- where a key is taken this is said of the keys behind it; where it is refused they aren't pressed
+  abbrev pub GoesOn : Result (Option Answer) KeyFault → Type 0 → S → S → Result (Unit {0}) KeyFault → Type 0
+  GoesOn (Ok answer) behind next new result = behind
+  GoesOn (Err fault) behind next new result = (result ≡ Err fault) × (new ≡ next)
+
+  -- it at keys, one after another, up to the first that is refused
+  abbrev pub AreKeyed : List Key → S → S → Result (Unit {0}) KeyFault → Type 0
+  AreKeyed [] old new result = (result ≡ Ok tt) × (new ≡ old)
+  AreKeyed (key ∷ keys) old new result = (next : S) × (pressed : Result (Option Answer) KeyFault)
+      × takes old next key pressed × GoesOn pressed (AreKeyed keys next new result) next new result
+
+  -- it at a stroke, with the screen before
+  abbrev pub IsStruck : Stroke → ScreenParts → Status → Told → S → S → Type 0
+  IsStruck stroke screen status told old new = (result : Result (Unit {0}) KeyFault)
+      × AreKeyed (keys_of (stroke_runs stroke screen)) old new result × IsStrokeTold result status told
+
+-- a stroke at a station of the profile
+abbrev pub IsStroke : Stroke → Status → Told → StationParts → StationParts → Type 0
+IsStroke stroke status told old new = IsStruck StationKeyed stroke old.screen status told old new
+
+-- a key of the profile at a station as live hosts use it
+abbrev pub ExtendedKeyed : PartsOn DisplayParts ExtendedPlace → PartsOn DisplayParts ExtendedPlace → Key
+    → Result (Option Answer) KeyFault → Type 0
+ExtendedKeyed old new key result = StationKeyedOn extended_rules extended old new (Profile key) result
+
+-- a stroke at one, of which something waits or nothing: where something does no key is pressed
+pub record IsHeldStroke (stroke : Stroke) (status : Status) (told : Told) (old new : HeldStation) : Type 0 where
+  pub waits : waiting old ≢ [] → (status ≡ NoRoom) × (new ≡ old) × (told ≡ told_length 0)
+  pub pressed : waiting old ≡ []
+      → IsStruck ExtendedKeyed stroke old.station.screen.display.screen status told old.station new.station
+      × (waiting new ≡ [])

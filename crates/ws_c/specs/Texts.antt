@@ -1,0 +1,29 @@
+-- The text of a field, as C sees it
+
+use Rattle.std.specs.Prelude.{◌≡◌, ℕ, ◌<◌, ◌≤◌, List, length, map, Option, Some, None}
+use Rattle.std.specs.Str.{encode_utf8_all}
+use Rattle.ws_screen.specs.Keyed.{cells_of}
+use Rattle.ws_screen.specs.Lines.{shown_char}
+use Rattle.ws_screen.specs.ScreenParts.{ScreenParts}
+use Rattle.ws_screen.specs.declared.field.Field.{Field}
+use Rattle.ws_keys.specs.Contents.{without_trailing_nulls}
+use Rattle.ws_c.specs.declared.status.Status.{Status}
+use Rattle.ws_c.specs.declared.status.Status.TheVariants.{Done, NoRoom, BadArgument}
+use Rattle.ws_c.specs.declared.told.Told.{Told}
+use Rattle.ws_c.specs.Calls.{holds_front, told_length}
+
+-- The characters of a field's cells up to the last that isn't 00, in UTF-8: those that they show, whether or not an
+-- attribute hides them.
+abbrev pub field_text : ScreenParts → Field → List ℕ
+field_text s f = encode_utf8_all (map shown_char (without_trailing_nulls (cells_of s f)))
+
+-- how long the text is; a buffer with room for it gets it
+pub record IsTextTold (text : List ℕ) (status : Status) (told : Told) (buffer after : List ℕ) : Type 0 where
+  pub state : told ≡ told_length (length text)
+  pub room : length buffer < length text → (status ≡ NoRoom) × (after ≡ buffer)
+  pub put : length text ≤ length buffer → (status ≡ Done) × (after ≡ holds_front text buffer)
+
+-- the text of a field, where there is one
+abbrev pub IsFieldText : Option Field → ScreenParts → Status → Told → List ℕ → List ℕ → Type 0
+IsFieldText None s status told buffer after = (status ≡ BadArgument) × (told ≡ told_length 0) × (after ≡ buffer)
+IsFieldText (Some field) s status told buffer after = IsTextTold (field_text s field) status told buffer after

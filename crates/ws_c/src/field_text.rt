@@ -1,0 +1,150 @@
+//! The text of a field.
+ghost use Rattle.std.specs.Prelude.{◌≡◌, ◌≤◌, ◌<◌, ◌+◌, ◌^◌, length, map, slice_get, take, if◌then◌else◌};
+ghost use Rattle.std.specs.Str.{encode_utf8_all};
+ghost use Rattle.ws_code.specs.declared.address.TheConstants.{CELLS as ALL_CELLS};
+ghost use Rattle.ws_screen.specs.Lines.{shown_char};
+ghost use Rattle.ws_keys.specs.Contents.{is_null, without_trailing_nulls};
+ghost use Rattle.ws_c.specs.declared.status.Status.{Status as AStatus};
+ghost use Rattle.ws_c.specs.Calls.{status_number, told_length};
+ghost use Rattle.ws_c.specs.Held.{OnScreen};
+ghost use Rattle.ws_c.specs.Texts.{IsFieldText, IsTextTold, field_text};
+
+use crate::held::{on_screen, on_stations, on_two};
+use crate::station::put_front;
+use crate::{Handle, Machine, Status, Told};
+use arrayvec::ArrayString;
+use std::alloc::Global;
+use ws_screen::{Attribute, Field, Screen};
+
+// The end of what isn't 00, one cell later.
+fn end_after(end: usize, at: usize, byte: u8) -> usize
+    requires { at + 1 < 2 ^ 64 }
+    ensures { result ≡ (if is_null byte then end else at + 1) }
+{
+    if byte == 0 { end } else { at + 1 }
+}
+
+// How many cells stand before the 00s at their end.
+fn text_end(cells: &[u8]) -> usize
+    ensures within { result ≤ length cells.now }
+    ensures value { without_trailing_nulls cells.now ≡ take result cells.now }
+{
+    let mut end = 0;
+    for (at, byte) in cells.iter().enumerate() {
+        end = end_after(end, at, *byte);
+    }
+    end
+}
+
+// The character that a byte shows.
+fn character_of(byte: u8) -> char
+    ensures value { result ≡ shown_char byte }
+    ensures latin { result < 256 }
+{
+    Attribute::default().show(byte).0.character
+}
+
+// The characters that the cells of a field show.
+fn characters(cells: &[u8]) -> ArrayString<3840>
+    requires { length cells.now ≤ ALL_CELLS }
+    ensures { result.bytes ≡ encode_utf8_all (map shown_char cells.now) }
+{
+    let mut text = ArrayString::new();
+    for byte in cells {
+        text.push(character_of(*byte));
+    }
+    text
+}
+
+// The text of a field.
+fn text_of(screen: &Screen, field: &Field) -> ArrayString<3840>
+    requires { field.now.start + field.now.length ≤ ALL_CELLS }
+    ensures { result.bytes ≡ field_text screen.now field.now }
+{
+    let cells = screen.field_cells(field);
+    characters(&cells[..text_end(cells)])
+}
+
+// Puts a text into a buffer that has room for it.
+fn put_text(text: &[u8], buffer: &mut [u8], told: &mut Told) -> Status
+    ensures { IsTextTold text.now result told.new buffer.old buffer.new }
+{
+    *told = Told::length(text.len());
+    if buffer.len() < text.len() {
+        return Status::NoRoom;
+    }
+    put_front(buffer, text);
+    Status::Done
+}
+
+// Puts the text of a field into a buffer that has room for it.
+fn put_field(screen: &Screen, field: &Field, buffer: &mut [u8], told: &mut Told) -> Status
+    requires { field.now.start + field.now.length ≤ ALL_CELLS }
+    ensures { IsTextTold (field_text screen.now field.now) result told.new buffer.old buffer.new }
+{
+    let text = text_of(screen, field);
+    put_text(text.as_str().as_bytes(), buffer, told)
+}
+
+// The field of an index.
+fn field_at(screen: &Screen, index: usize) -> Option<Field>
+    ensures { result ≡ slice_get screen.now.fields index }
+{
+    let fields = screen.fields();
+    fields.as_slice().get(index).copied()
+}
+
+// Tells the text of a field by its index.
+fn tell_text(screen: &Screen, index: usize, buffer: &mut [u8], told: &mut Told) -> Status
+    requires { told.old ≡ told_length 0 }
+    ensures { IsFieldText (slice_get screen.now.fields index) screen.now result told.new buffer.old
+        buffer.new }
+{
+    screen.known();
+    match field_at(screen, index) {
+        Some(field) => put_field(screen, &field, buffer, told),
+        None => Status::BadArgument,
+    }
+}
+
+fn look_at_station(
+    alloc: Global,
+    handle: &mut Handle,
+    index: usize,
+    buffer: &mut [u8],
+    told: &mut Told,
+) -> Status
+    ensures { OnScreen handle.old.owned.value handle.new.owned.value result
+        (λ screen. IsFieldText (slice_get screen.fields index) screen result told.new buffer.old
+        buffer.new)
+        ((told.new ≡ told_length 0) × (buffer.new ≡ buffer.old)) }
+{
+    *told = Told::length(0);
+    on_screen!(
+        alloc,
+        handle,
+        |screen| tell_text(screen, index, buffer, told)
+    )
+}
+
+/// Puts the text of a station's field into a buffer as UTF-8, by its index in the order of the fields' starts, from 0:
+/// what its cells show up to the last that isn't 00, whether or not an attribute hides it. `told` says how many bytes.
+///
+/// `NoRoom` where the buffer has fewer bytes than that: `told` says so all the same, and no byte is put.
+/// `BadArgument` where there is no such field, `NothingHeld` where the handle holds no station; `told` is then zero.
+#[unsafe(no_mangle)]
+pub extern "C" fn ws_c_station_field_text(
+    alloc: Global,
+    handle: &mut Handle,
+    index: usize,
+    buffer: &mut [u8],
+    told: &mut Told,
+) -> u32
+    ensures { (status : AStatus) × (result ≡ status_number status)
+        × OnScreen handle.old.owned.value handle.new.owned.value status
+        (λ screen. IsFieldText (slice_get screen.fields index) screen status told.new buffer.old
+        buffer.new)
+        ((told.new ≡ told_length 0) × (buffer.new ≡ buffer.old)) }
+{
+    look_at_station(alloc, handle, index, buffer, told).number()
+}

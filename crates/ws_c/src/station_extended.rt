@@ -1,0 +1,84 @@
+//! Display stations as live hosts use them.
+ghost use Rattle.std.specs.Prelude.{◌≡◌};
+ghost use Rattle.ws_c.specs.declared.status.Status.{Status as AStatus};
+ghost use Rattle.ws_c.specs.Calls.{status_number};
+ghost use Rattle.ws_c.specs.HeldStations.{IsExtendedNew, IsHeldPush};
+ghost use Rattle.ws_c.specs.Pushes.{nothing_pushed};
+
+use crate::station::{front_length, tell_push_refusal};
+use crate::{Handle, HeldStation, Machine, PushedTold, REPLY_ROOM, Status};
+use std::alloc::Global;
+use ws_nego::TerminalType;
+
+// Makes a station of the terminal, unless the handle holds something.
+fn make_station(alloc: Global, handle: &mut Handle, name: &[u8]) -> Status
+    ensures { IsExtendedNew name.now handle.old.owned.value handle.new.owned.value result }
+{
+    if let Some(held) = handle.take(alloc) {
+        handle.put(held);
+        return Status::InUse;
+    }
+    let Some(terminal) = TerminalType::from_name(name) else {
+        return Status::BadArgument;
+    };
+    match Box::new(alloc, Machine::ExtendedStation(HeldStation::new(terminal))) {
+        Ok(held) => {
+            handle.put(held);
+            Status::Done
+        }
+        Err(_) => Status::NoMemory,
+    }
+}
+
+/// Makes a station as live hosts use it, of the terminal's name (RFC 1091, letters in either case).
+///
+/// `InUse` where the handle holds something, `BadArgument` where no terminal has the name, and `NoMemory`. The handle
+/// then stays as it is.
+#[unsafe(no_mangle)]
+pub extern "C" fn ws_c_station_new_extended(alloc: Global, handle: &mut Handle, name: &[u8]) -> u32
+    ensures made { (status : AStatus) × (result ≡ status_number status)
+        × IsExtendedNew name.now handle.old.owned.value handle.new.owned.value status }
+{
+    make_station(alloc, handle, name).number()
+}
+
+/// Feeds bytes to a station as live hosts use it. What it writes goes out first: while some of it waits no byte is
+/// taken. At a Telnet command there is room for all of it, as at a station of the profile.
+#[inline(never)]
+pub(crate) fn push_all(
+    held: &mut HeldStation,
+    bytes: &[u8],
+    buffer: &mut [u8],
+    told: &mut PushedTold,
+) -> Status
+    requires { told.old ≡ nothing_pushed }
+    ensures { IsHeldPush bytes.now buffer.old buffer.new result told.new held.old held.new }
+{
+    held.hand_out(buffer, told);
+    while told.taken < bytes.len() {
+        if !held.rest().is_empty() {
+            return Status::NoRoom;
+        }
+        if buffer.len() - told.replied < REPLY_ROOM {
+            return Status::NoRoom;
+        }
+        let rest = &bytes[told.taken..];
+        let before = held.station.taken();
+        match held.station.feed(rest) {
+            Ok(fed) => {
+                told.taken += fed.used;
+                held.reply = fed.reply;
+                held.sent = 0;
+                held.hand_out(buffer, told);
+            }
+            Err(refusal) => {
+                told.taken += front_length(refusal, before, held.station.taken(), rest.len());
+                return tell_push_refusal(refusal, told);
+            }
+        }
+    }
+    if held.rest().is_empty() {
+        return Status::Done;
+    }
+    Status::NoRoom
+}

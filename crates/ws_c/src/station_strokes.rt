@@ -1,0 +1,160 @@
+//! Strokes at a station: several keys by one call.
+ghost use Rattle.std.specs.Prelude.{◌≡◌, ◌∷◌, [], replicate};
+ghost use Rattle.ws_code.specs.Address.{IsRowAndColumn, place_of};
+ghost use Rattle.ws_keys.specs.Strokes.{keys_of};
+ghost use Rattle.ws_c.specs.declared.status.Status.{Status as AStatus};
+ghost use Rattle.ws_c.specs.declared.stroke.Stroke.TheVariants as Struck;
+ghost use Rattle.ws_c.specs.Calls.{status_number, told_length};
+ghost use Rattle.ws_c.specs.Held.{OnStations};
+ghost use Rattle.ws_c.specs.Strokes.{AreKeyed, IsHeldStroke, IsStroke, IsStrokeTold, IsStruck};
+
+use crate::held::{on_stations, on_two};
+use crate::station_keys::tell_fault;
+use crate::stroke::Stroke;
+use crate::takes_keys::TakesKeys;
+use crate::{Handle, HeldStation, Machine, Status, Told};
+use std::alloc::Global;
+use ws_code::Address;
+use ws_keys::{Key, KeyRun};
+use ws_session::KeyFault;
+
+// Presses a key of a station, and forgets what it sends: the keys of a stroke send nothing.
+fn press_once<S: TakesKeys>(station: &mut S, key: Key) -> Result<(), KeyFault>
+    ensures { AreKeyed S.takes (key ∷ []) station.old station.new result }
+{
+    match station.press(key) {
+        Ok(_) => Ok(()),
+        Err(fault) => Err(fault),
+    }
+}
+
+// Presses a key so often, up to the first time that it is refused.
+fn press_run<S: TakesKeys>(station: &mut S, run: &KeyRun) -> Result<(), KeyFault>
+    ensures { AreKeyed S.takes (replicate run.now.times run.now.key) station.old station.new
+        result }
+{
+    for _ in 0..run.times {
+        press_once(station, run.key)?;
+    }
+    Ok(())
+}
+
+// Presses keys one after another, up to the first that is refused.
+fn press_all<S: TakesKeys>(station: &mut S, runs: &[KeyRun]) -> Result<(), KeyFault>
+    ensures { AreKeyed S.takes (keys_of runs.now) station.old station.new result }
+{
+    for run in runs {
+        press_run(station, run)?;
+    }
+    Ok(())
+}
+
+// What a stroke crosses as.
+fn tell_stroke(pressed: Result<(), KeyFault>, told: &mut Told) -> Status
+    ensures { IsStrokeTold pressed result told.new }
+{
+    match pressed {
+        Ok(()) => {
+            *told = Told::length(0);
+            Status::Done
+        }
+        Err(fault) => tell_fault(fault, told),
+    }
+}
+
+/// Presses the keys of a stroke at a station.
+pub(crate) fn press_stroke<S: TakesKeys>(station: &mut S, stroke: Stroke, told: &mut Told) -> Status
+    ensures { IsStruck S.takes stroke (S.shows station.old) result told.new station.old
+        station.new }
+{
+    let keys = stroke.keys(station.shown());
+    let pressed = press_all(station, keys.as_slice());
+    tell_stroke(pressed, told)
+}
+
+// Presses them at a station as live hosts use it, unless something waits.
+fn press_held(held: &mut HeldStation, stroke: Stroke, told: &mut Told) -> Status
+    requires { told.old ≡ told_length 0 }
+    ensures { IsHeldStroke stroke result told.new held.old held.new }
+{
+    if held.rest().is_empty() {
+        return held.strike(stroke, told);
+    }
+    Status::NoRoom
+}
+
+// Presses the keys of a stroke at the station that a handle holds.
+fn press(alloc: Global, handle: &mut Handle, stroke: Stroke, told: &mut Told) -> Status
+    requires { told.old ≡ told_length 0 }
+    ensures { OnStations handle.old.owned.value handle.new.owned.value result
+        (IsStroke stroke result told.new) (IsHeldStroke stroke result told.new)
+        (told.new ≡ told_length 0) }
+{
+    on_stations!(
+        alloc,
+        handle,
+        |station| press_stroke(station, stroke, told),
+        |held| press_held(held, stroke, told)
+    )
+}
+
+/// Brings the cursor of a station to a cell by its keys, Up or Down and then Left or Right; rows and columns count
+/// from 1.
+///
+/// Where a key is refused, those behind it aren't pressed, and it is told as that of `ws_c_station_key`: `KeyRefused`
+/// with the number of the refusal, `Failed` after a refused byte. `BadArgument` at a cell off the screen,
+/// `NothingHeld` where the handle holds no station, `NoRoom` where something waits that a station as live hosts use it
+/// wrote: no key is then pressed. But for a refusal `told` is zero.
+#[unsafe(no_mangle)]
+pub extern "C" fn ws_c_station_move_cursor(
+    alloc: Global,
+    handle: &mut Handle,
+    row: u8,
+    column: u8,
+    told: &mut Told,
+) -> u32
+    ensures moved { IsRowAndColumn row column
+        → (status : AStatus) × (result ≡ status_number status)
+        × OnStations handle.old.owned.value handle.new.owned.value status
+        (IsStroke (Struck.MoveTo (place_of row column)) status told.new)
+        (IsHeldStroke (Struck.MoveTo (place_of row column)) status told.new)
+        (told.new ≡ told_length 0) }
+    ensures off { ¬ IsRowAndColumn row column → (result ≡ status_number Status.BadArgument)
+        × (handle.new ≡ handle.old) × (told.new ≡ told_length 0) }
+{
+    *told = Told::length(0);
+    match Address::new(row, column) {
+        Some(cell) => press(alloc, handle, Stroke::MoveTo(cell), told).number(),
+        None => Status::BadArgument.number(),
+    }
+}
+
+/// New Line at a station: the keys that bring the cursor to the first cell of the first field that keys enter and that
+/// begins in a row below, from the top again where none does; where keys enter no field, to column 1 of the row below.
+///
+/// Told as `ws_c_station_move_cursor` tells it.
+#[unsafe(no_mangle)]
+pub extern "C" fn ws_c_station_new_line(alloc: Global, handle: &mut Handle, told: &mut Told) -> u32
+    ensures { (status : AStatus) × (result ≡ status_number status)
+        × OnStations handle.old.owned.value handle.new.owned.value status
+        (IsStroke Struck.NewLine status told.new) (IsHeldStroke Struck.NewLine status told.new)
+        (told.new ≡ told_length 0) }
+{
+    *told = Told::length(0);
+    press(alloc, handle, Stroke::NewLine, told).number()
+}
+
+/// Erase EOF at a station: the keys that make the open field's cells from the cursor on 00, of a signed numeric field
+/// the sign too, and leave the cursor; where the cursor stands in no field that keys enter, a Delete that is refused.
+///
+/// Told as `ws_c_station_move_cursor` tells it.
+#[unsafe(no_mangle)]
+pub extern "C" fn ws_c_station_erase_eof(alloc: Global, handle: &mut Handle, told: &mut Told) -> u32
+    ensures { (status : AStatus) × (result ≡ status_number status)
+        × OnStations handle.old.owned.value handle.new.owned.value status
+        (IsStroke Struck.EraseEof status told.new) (IsHeldStroke Struck.EraseEof status told.new)
+        (told.new ≡ told_length 0) }
+{
+    *told = Told::length(0);
+    press(alloc, handle, Stroke::EraseEof, told).number()
+}
