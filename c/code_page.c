@@ -1,8 +1,9 @@
 /* Code page 037: the proved functions give a character for a byte and a byte for a character; here texts are made of
- * them, in UTF-8. Its characters lie below U+0100, so each has one byte in UTF-8 or two. */
+ * them, in UTF-8. Its characters lie below U+0100. */
 #include "ribbonscarp.h"
 
 #include "exports.h"
+#include "utf8.h"
 
 ribbon_status ribbon_from_037(uint8_t byte, uint32_t *character)
 {
@@ -16,32 +17,6 @@ ribbon_status ribbon_to_037(uint32_t character, uint8_t *byte)
     if (byte == NULL)
         return RIBBON_NULL;
     return ws_c_to_037(character, byte);
-}
-
-/* Puts a character below U+0100 into a text, and tells of how many bytes. */
-static size_t put_utf8(uint32_t character, char *text)
-{
-    if (character < 0x80) {
-        text[0] = (char)character;
-        return 1;
-    }
-    text[0] = (char)(0xc0 | character >> 6);
-    text[1] = (char)(0x80 | (character & 0x3f));
-    return 2;
-}
-
-/* Takes a character below U+0100 off the front of a text, and tells of how many bytes; 0 where another stands there. */
-static size_t take_utf8(const char *text, size_t size, uint32_t *character)
-{
-    uint8_t first = (uint8_t)text[0];
-    if (first < 0x80) {
-        *character = first;
-        return 1;
-    }
-    if ((first != 0xc2 && first != 0xc3) || size < 2 || ((uint8_t)text[1] & 0xc0) != 0x80)
-        return 0;
-    *character = (uint32_t)(first & 0x03) << 6 | ((uint8_t)text[1] & 0x3f);
-    return 2;
 }
 
 ribbon_status ribbon_text_from_037(const uint8_t *bytes, size_t count, char *text, size_t room, ribbon_told *told)

@@ -5,17 +5,23 @@
 #include "ribbonscarp.h"
 
 ribbon_status ws_c_station_new(ribbon_handle *handle, const uint8_t *name, size_t size);
+ribbon_status ws_c_station_new_extended(ribbon_handle *handle, const uint8_t *name, size_t size);
 void ws_c_station_free(ribbon_handle *handle);
 ribbon_status ws_c_station_push(ribbon_handle *handle, const uint8_t *bytes, size_t count, uint8_t *reply, size_t room,
                                 ribbon_pushed *pushed);
 ribbon_status ws_c_station_key(ribbon_handle *handle, uint32_t kind, uint32_t value, uint8_t *answer, size_t room,
                                ribbon_told *told);
+ribbon_status ws_c_station_move_cursor(ribbon_handle *handle, uint8_t row, uint8_t column, ribbon_told *told);
+ribbon_status ws_c_station_new_line(ribbon_handle *handle, ribbon_told *told);
+ribbon_status ws_c_station_erase_eof(ribbon_handle *handle, ribbon_told *told);
 ribbon_status ws_c_station_state(ribbon_handle *handle, ribbon_state *state);
 ribbon_status ws_c_station_cell(ribbon_handle *handle, uint8_t row, uint8_t column, uint8_t *byte);
 ribbon_status ws_c_station_cells(ribbon_handle *handle, uint8_t first_row, uint8_t last_row, ribbon_cell *cells,
                                  size_t room);
 ribbon_status ws_c_station_row(ribbon_handle *handle, uint8_t row, uint8_t *text, size_t room, ribbon_told *told);
 ribbon_status ws_c_station_field(ribbon_handle *handle, size_t index, ribbon_field *field);
+ribbon_status ws_c_station_field_text(ribbon_handle *handle, size_t index, uint8_t *text, size_t room,
+                                      ribbon_told *told);
 ribbon_status ws_c_host_new(ribbon_handle *handle, uint8_t *opening, size_t room, ribbon_told *told);
 void ws_c_host_free(ribbon_handle *handle);
 ribbon_status ws_c_host_push(ribbon_handle *handle, const uint8_t *bytes, size_t count, uint8_t *reply, size_t room,
@@ -27,11 +33,17 @@ ribbon_status ws_c_host_cancel(ribbon_handle *handle, uint8_t *record, size_t ro
 ribbon_status ws_c_host_answer(ribbon_handle *handle, ribbon_answer *answer);
 ribbon_status ws_c_host_answer_field(ribbon_handle *handle, size_t index, uint8_t *content, size_t room,
                                      ribbon_read_field *field);
+ribbon_status ws_c_host_state(ribbon_handle *handle, ribbon_state *state);
+ribbon_status ws_c_host_cells(ribbon_handle *handle, uint8_t first_row, uint8_t last_row, ribbon_cell *cells,
+                              size_t room);
+ribbon_status ws_c_host_field(ribbon_handle *handle, size_t index, ribbon_field *field);
 ribbon_status ws_c_decoder_new(ribbon_handle *handle);
+ribbon_status ws_c_decoder_new_extended(ribbon_handle *handle);
 void ws_c_decoder_free(ribbon_handle *handle);
 ribbon_status ws_c_decoder_push(ribbon_handle *handle, const uint8_t *bytes, size_t count, uint8_t *unit, size_t room,
                                 ribbon_step *step);
 ribbon_status ws_c_decoder_finish(ribbon_handle *handle, uint64_t *place);
+ribbon_status ws_c_attribute_look(uint8_t attribute, bool is_color, ribbon_look *look);
 ribbon_status ws_c_from_037(uint8_t byte, uint32_t *character);
 ribbon_status ws_c_to_037(uint32_t character, uint8_t *byte);
 

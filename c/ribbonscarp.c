@@ -29,6 +29,16 @@ ribbon_status ribbon_station_new(ribbon_station *station, const char *terminal)
     return status;
 }
 
+ribbon_status ribbon_station_new_extended(ribbon_station *station, const char *terminal)
+{
+    if (station == NULL || terminal == NULL)
+        return RIBBON_NULL;
+    ribbon_status status = ws_c_station_new_extended(&station->handle, (const uint8_t *)terminal, strlen(terminal));
+    if (status == RIBBON_DONE)
+        memset(station->seen, 0, sizeof station->seen);
+    return status;
+}
+
 void ribbon_station_free(ribbon_station *station)
 {
     if (station != NULL)
@@ -51,6 +61,30 @@ ribbon_status ribbon_station_key(ribbon_station *station, uint32_t kind, uint32_
     if (station == NULL || answer == NULL || told == NULL)
         return RIBBON_NULL;
     return ws_c_station_key(&station->handle, kind, value, answer, room, told);
+}
+
+ribbon_status ribbon_station_move_cursor(ribbon_station *station, uint8_t row, uint8_t column, ribbon_told *told)
+{
+    CLEAR(told);
+    if (station == NULL || told == NULL)
+        return RIBBON_NULL;
+    return ws_c_station_move_cursor(&station->handle, row, column, told);
+}
+
+ribbon_status ribbon_station_new_line(ribbon_station *station, ribbon_told *told)
+{
+    CLEAR(told);
+    if (station == NULL || told == NULL)
+        return RIBBON_NULL;
+    return ws_c_station_new_line(&station->handle, told);
+}
+
+ribbon_status ribbon_station_erase_eof(ribbon_station *station, ribbon_told *told)
+{
+    CLEAR(told);
+    if (station == NULL || told == NULL)
+        return RIBBON_NULL;
+    return ws_c_station_erase_eof(&station->handle, told);
 }
 
 ribbon_status ribbon_station_state(ribbon_station *station, ribbon_state *state)
@@ -126,6 +160,15 @@ ribbon_status ribbon_station_field(ribbon_station *station, size_t index, ribbon
     return ws_c_station_field(&station->handle, index, field);
 }
 
+ribbon_status ribbon_station_field_text(ribbon_station *station, size_t index, char *text, size_t room,
+                                        ribbon_told *told)
+{
+    CLEAR(told);
+    if (station == NULL || text == NULL || told == NULL)
+        return RIBBON_NULL;
+    return ws_c_station_field_text(&station->handle, index, (uint8_t *)text, room, told);
+}
+
 ribbon_status ribbon_host_new(ribbon_host *host, uint8_t *opening, size_t room, ribbon_told *told)
 {
     CLEAR(told);
@@ -191,11 +234,41 @@ ribbon_status ribbon_host_answer_field(ribbon_host *host, size_t index, uint8_t 
     return ws_c_host_answer_field(&host->handle, index, content, room, field);
 }
 
+ribbon_status ribbon_host_state(ribbon_host *host, ribbon_state *state)
+{
+    CLEAR(state);
+    if (host == NULL || state == NULL)
+        return RIBBON_NULL;
+    return ws_c_host_state(&host->handle, state);
+}
+
+ribbon_status ribbon_host_cells(ribbon_host *host, uint8_t first_row, uint8_t last_row, ribbon_cell *cells, size_t room)
+{
+    if (host == NULL || cells == NULL)
+        return RIBBON_NULL;
+    return ws_c_host_cells(&host->handle, first_row, last_row, cells, room);
+}
+
+ribbon_status ribbon_host_field(ribbon_host *host, size_t index, ribbon_field *field)
+{
+    CLEAR(field);
+    if (host == NULL || field == NULL)
+        return RIBBON_NULL;
+    return ws_c_host_field(&host->handle, index, field);
+}
+
 ribbon_status ribbon_decoder_new(ribbon_decoder *decoder)
 {
     if (decoder == NULL)
         return RIBBON_NULL;
     return ws_c_decoder_new(&decoder->handle);
+}
+
+ribbon_status ribbon_decoder_new_extended(ribbon_decoder *decoder)
+{
+    if (decoder == NULL)
+        return RIBBON_NULL;
+    return ws_c_decoder_new_extended(&decoder->handle);
 }
 
 void ribbon_decoder_free(ribbon_decoder *decoder)
@@ -219,6 +292,13 @@ ribbon_status ribbon_decoder_finish(ribbon_decoder *decoder, uint64_t *place)
     if (decoder == NULL || place == NULL)
         return RIBBON_NULL;
     return ws_c_decoder_finish(&decoder->handle, place);
+}
+
+ribbon_status ribbon_attribute_look(uint8_t attribute, bool is_color, ribbon_look *look)
+{
+    if (look == NULL)
+        return RIBBON_NULL;
+    return ws_c_attribute_look(attribute, is_color, look);
 }
 
 /* A byte brings at most RIBBON_REPLY_ROOM bytes, and so many are to be left before each. A command of 3 bytes or more

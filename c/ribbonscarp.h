@@ -2,6 +2,11 @@
  * answer bytes out. A host's end: records out; bytes of a station in, its answers out. And a decoder of host streams,
  * which only tells what they hold.
  *
+ * Stations and decoders come in two kinds. Take the extended kind, by ribbon_station_new_extended and
+ * ribbon_decoder_new_extended, for a live host, which also saves and restores screens, asks what a screen shows and
+ * sends error lines; take the profile's, by ribbon_station_new and ribbon_decoder_new, where all that docs/PROFILE.md
+ * leaves out is to be refused. Every other call serves both kinds.
+ *
  * A station at a host:
  *
  *     ribbon_station station = RIBBON_STATION_NONE;
@@ -37,6 +42,7 @@
  * A host, to a station:
  *
  *     ribbon_host host = RIBBON_HOST_NONE;
+ *     ribbon_body body;
  *     ribbon_event event;
  *     ribbon_answer came;
  *
@@ -51,7 +57,13 @@
  *             if (status != RIBBON_DONE && status != RIBBON_NO_ROOM)
  *                 return 1;
  *             if (event.kind == RIBBON_EVENT_READY) {
- *                 ribbon_host_send(&host, RIBBON_OPCODE_PUT_GET, body, sizeof body, &told);   // told.length bytes
+ *                 ribbon_body_begin(&body, elements, sizeof elements);
+ *                 ribbon_body_clear_unit(&body);
+ *                 ribbon_body_write(&body, 0x00, 0x08);          // the keyboard is unlocked
+ *                 ribbon_body_address(&body, 6, 52);
+ *                 ribbon_body_field(&body, 0x4000, 0x24, 10);    // ten cells from row 6 and column 53, underscored
+ *                 ribbon_body_read(&body, RIBBON_READ_MDT, 0x00, 0x00);
+ *                 ribbon_host_send(&host, RIBBON_OPCODE_PUT_GET, elements, body.size, &told);   // told.length bytes
  *                 ribbon_host_sent(&host, record, sizeof record, &told);
  *                 write_all(station, record, told.length);
  *             }
@@ -62,7 +74,8 @@
  *
  * Behind each function named here stands one that is proved to do what is said of it, for arguments that are what C
  * asks for. What is C alone is small: it turns a null pointer into RIBBON_NULL, compares rows for
- * ribbon_station_changed, puts texts of code page 037 together character by character, and gives sentences and sizes.
+ * ribbon_station_changed, puts texts of code page 037 together character by character and bodies element by element,
+ * and gives sentences and sizes.
  *
  * Outputs. Every call sets every structure that it is given to, in every outcome: where nothing is told, all of it is
  * zero. A buffer is written at its front alone, so many bytes as the structure says; the rest stays as it was. A call
@@ -80,13 +93,15 @@
  *  - malloc, realloc and free come from one allocator, and align as C asks. No call is made in a signal handler, or in
  *    a forked child of a process with threads.
  *
- * Memory. ribbon_station_new, ribbon_host_new and ribbon_decoder_new ask for 72,736 bytes each; a station and a decoder
- * ask for no more. A host does in ribbon_host_push for what an answer holds, and in ribbon_host_send for the elements
- * that it reads and the record that it keeps.
+ * Memory. ribbon_station_new, ribbon_host_new and ribbon_decoder_new, of either kind, ask for 81,536 bytes each; a
+ * station and a decoder ask for no more. A host does in ribbon_host_push for what an answer holds, and in
+ * ribbon_host_send for the elements that it reads and the record that it keeps.
  *
- * Stack, in bytes, as measured on x86-64 (`make bench`): ribbon_station_new 20,300, _push 1,600, _key 29,600, _cells
- * and _field 3,200, _changed 8,400, _state 6,300; ribbon_host_new 12,500, _push 8,000, _send 15,500;
- * ribbon_decoder_new 3,800; all others less than 1,500. */
+ * Stack, in bytes, as measured on x86-64 (`make bench`): of the profile ribbon_station_new 27,300, _push 1,600 and _key
+ * 27,800; of the extended kind ribbon_station_new_extended 58,400, _push 40,700 and _key 44,100; of both _move_cursor,
+ * _new_line and _erase_eof 14,500, _cells and _field 3,200, _field_text 7,100, _changed 8,400, _state 6,400;
+ * ribbon_host_new 12,500, _push 8,000, _send 15,500, _state 6,400, _cells and _field 3,200; ribbon_decoder_new 3,800;
+ * all others less than 1,500. */
 #ifndef RIBBONSCARP_H
 #define RIBBONSCARP_H
 
@@ -134,9 +149,10 @@ enum {
 
 /* How much room a buffer needs. */
 enum {
-    RIBBON_REPLY_ROOM = 17,    /* bytes: what a station or a host writes at one byte, or a host at first */
+    RIBBON_REPLY_ROOM = 17,    /* bytes: to be left of a reply before each byte; what a host writes at first */
     RIBBON_ANSWER_ROOM = 5404, /* bytes: what a key sends */
     RIBBON_ROW_ROOM = 160,     /* bytes: a row of 80 characters in UTF-8 */
+    RIBBON_FIELD_ROOM = 3838,  /* bytes: the longest field's characters in UTF-8 */
     RIBBON_CHARACTER_ROOM = 2, /* bytes: a character of code page 037 in UTF-8 */
     RIBBON_UNIT_ROOM = 133,    /* bytes: what a decoder gives at one byte */
     RIBBON_CANCEL_ROOM = 12,   /* bytes: what a cancel sends */
@@ -163,7 +179,8 @@ enum {
     RIBBON_KEY_ERASE_INPUT = 14,
     RIBBON_KEY_AID = 15, /* its byte: RIBBON_AID_... */
     RIBBON_KEY_ATTENTION = 16,
-    RIBBON_KEY_SYSTEM_REQUEST = 17
+    RIBBON_KEY_SYSTEM_REQUEST = 17,
+    RIBBON_KEY_RESET = 18 /* at a station of the extended kind: an error's row comes back, and keys are taken again */
 };
 
 /* Attention identification (SC30-3533, AID codes): the keys that answer a read. */
@@ -366,12 +383,13 @@ typedef struct {
     uint16_t cursor_field;  /* index of the field that holds the cursor, or RIBBON_NO_FIELD */
     uint8_t cursor_row;     /* 1 to 24 */
     uint8_t cursor_column;  /* 1 to 80 */
-    uint8_t pending_read;   /* 1 Read Input Fields, 2 Read MDT Fields, 3 Read MDT Fields Alternate; 0 none */
+    uint8_t pending_read;   /* RIBBON_READ_... */
     uint8_t refused_reason; /* RIBBON_REASON_...; RIBBON_REASON_NONE where no byte was refused */
     bool is_ready;          /* records are allowed */
     bool is_locked;         /* the keyboard */
     bool is_message_lit;    /* the message light */
     bool is_blinking;       /* the cursor */
+    uint8_t error_row;      /* on which an error of the host's stands, 1 to 24; 0 where none does, and of a host */
 } ribbon_state;
 
 /* A cell of a screen. It holds a character of code page 037 (40 to FE), an attribute (20 to 3F), nothing (00), Dup (1C),
@@ -417,6 +435,46 @@ enum {
     RIBBON_ADJUST_BLANKS = 0x0006,        /* right adjust, blanks before */
     RIBBON_ADJUST_MANDATORY_FILL = 0x0007 /* has no effect */
 };
+
+/* Reads: what a station's or a host's state has as its pending read, and what ribbon_body_read asks for. */
+enum {
+    RIBBON_READ_NONE = 0,
+    RIBBON_READ_INPUT = 1,        /* Read Input Fields: all fields, as one */
+    RIBBON_READ_MDT = 2,          /* Read MDT Fields: those that were changed */
+    RIBBON_READ_MDT_ALTERNATE = 3 /* Read MDT Fields Alternate: the same, with nulls as they are */
+};
+
+/* Colours of a colour display. */
+enum {
+    RIBBON_COLOR_NONE = 0,
+    RIBBON_COLOR_GREEN = 1,
+    RIBBON_COLOR_WHITE = 2,
+    RIBBON_COLOR_RED = 3,
+    RIBBON_COLOR_TURQUOISE = 4,
+    RIBBON_COLOR_YELLOW = 5,
+    RIBBON_COLOR_PINK = 6,
+    RIBBON_COLOR_BLUE = 7
+};
+
+/* What an attribute looks like (SC30-3533, screen attributes; IBM 3179-2, colour attributes). Of one that hides nothing
+ * else is set, but for the colour green on a colour display. */
+typedef struct {
+    uint8_t color;       /* RIBBON_COLOR_...; none on a display without colours */
+    bool is_hidden;      /* nothing displays */
+    bool is_reversed;    /* character and ground change places */
+    bool is_intense;     /* high intensity; on a display without colours alone */
+    bool is_underscored;
+    bool is_blinking;
+    bool has_separators; /* lines stand between the columns */
+} ribbon_look;
+
+/* The body of a record in the making, in a buffer of the program's. */
+typedef struct {
+    uint8_t *bytes;
+    size_t room;          /* how many bytes the buffer has */
+    size_t size;          /* how many of them stand there */
+    ribbon_status status; /* RIBBON_DONE, or what the first call came to that appended nothing */
+} ribbon_body;
 
 /* Handles. Their fields are no business of a program. */
 typedef struct {
@@ -487,9 +545,15 @@ RIBBON_API size_t ribbon_read_field_size(void);
 RIBBON_API size_t ribbon_state_size(void);
 RIBBON_API size_t ribbon_cell_size(void);
 RIBBON_API size_t ribbon_field_size(void);
+RIBBON_API size_t ribbon_look_size(void);
+RIBBON_API size_t ribbon_body_size(void);
 
-/* The most that `count` bytes can bring in answer, at a station or a host, with the room that a call asks for before a
- * byte: a reply buffer of so many bytes never ends in RIBBON_NO_ROOM. SIZE_MAX where that is no size. */
+/* Tells what an attribute looks like: on a colour display, or on one without colours. RIBBON_BAD_ARGUMENT unless it is
+ * 20 to 3F. */
+RIBBON_API ribbon_status ribbon_attribute_look(uint8_t attribute, bool is_color, ribbon_look *look);
+
+/* The most that `count` bytes can bring in answer at a station of the profile or a host, with the room that a call asks
+ * for before a byte: there a reply buffer of so many bytes never ends in RIBBON_NO_ROOM. SIZE_MAX where it is no size. */
 RIBBON_API size_t ribbon_reply_room(size_t count);
 
 /* Makes a station with the terminal type of a name (RFC 1091; letters in either case): IBM-5251-11, IBM-5291-1,
@@ -498,6 +562,11 @@ RIBBON_API size_t ribbon_reply_room(size_t count);
  * RIBBON_IN_USE where the handle holds something, RIBBON_BAD_ARGUMENT where no terminal type has the name,
  * RIBBON_NO_MEMORY. The handle then stays as it was. */
 RIBBON_API ribbon_status ribbon_station_new(ribbon_station *station, const char *terminal);
+
+/* Makes a station of the extended kind, as ribbon_station_new makes one of the profile, with the same outcomes. It
+ * carries out what live hosts send beside the profile (SC30-3533, commands): 5250 Query, Save and Restore Screen, Write
+ * Error Code, Read Screen and two immediate reads. */
+RIBBON_API ribbon_status ribbon_station_new_extended(ribbon_station *station, const char *terminal);
 
 /* Frees a station. Its handle then holds nothing. A null pointer, a handle that holds nothing and one of another kind
  * are left alone. */
@@ -510,7 +579,12 @@ RIBBON_API void ribbon_station_free(ribbon_station *station);
  * before records are allowed (reason 60) or that the screen refuses (50 to 55): `taken` counts the bytes before it. The
  * screen is then as it was, can still be looked at, and each further byte or key is answered by RIBBON_FAILED.
  * RIBBON_NO_ROOM where fewer than RIBBON_REPLY_ROOM bytes of `reply` are left before a byte: what was taken was taken,
- * and the rest can be pushed with an empty buffer. RIBBON_NOTHING_HELD where the handle holds no station. */
+ * and the rest can be pushed with an empty buffer. RIBBON_NOTHING_HELD where the handle holds no station.
+ *
+ * What a station of the extended kind writes at a record may be as long as 9,000 bytes, and is written in pieces where
+ * `reply` has no room for all: RIBBON_NO_ROOM then comes with a full buffer, also where all bytes were taken. The next
+ * call begins with the rest, also one of no bytes, and takes no byte before all of the rest has gone out. So the bytes
+ * that the calls give, one after another, are what the station writes. */
 RIBBON_API ribbon_status ribbon_station_push(ribbon_station *station, const uint8_t *bytes, size_t count,
                                              uint8_t *reply, size_t room, ribbon_pushed *pushed);
 
@@ -519,14 +593,34 @@ RIBBON_API ribbon_status ribbon_station_push(ribbon_station *station, const uint
  *
  * RIBBON_KEY_REFUSED with one of the refusals in `told->reason`; RIBBON_NOT_READY at a key that sends while records
  * aren't allowed; RIBBON_FAILED after a refused byte: the station is then as it was. RIBBON_NO_ROOM where `answer` has
- * fewer than RIBBON_ANSWER_ROOM bytes, RIBBON_BAD_ARGUMENT where there is no such key, RIBBON_NOTHING_HELD where the
- * handle holds no station. */
+ * fewer than RIBBON_ANSWER_ROOM bytes, and where a rest of what the station wrote waits for ribbon_station_push: the
+ * key's record could get into another; RIBBON_BAD_ARGUMENT where there is no such key, as Reset where the handle holds no
+ * station of the extended kind; RIBBON_NOTHING_HELD where the handle holds no station. */
 RIBBON_API ribbon_status ribbon_station_key(ribbon_station *station, uint32_t kind, uint32_t value, uint8_t *answer,
                                             size_t room, ribbon_told *told);
 
+/* Strokes: each presses several keys of those above, one after another, up to the first that is refused, and sends
+ * nothing. That one is told as ribbon_station_key tells it, by RIBBON_KEY_REFUSED and `told->reason` or by RIBBON_FAILED;
+ * `told` is else zero. RIBBON_NO_ROOM where a rest of what the station wrote waits for ribbon_station_push: no key is then
+ * pressed. RIBBON_NOTHING_HELD where the handle holds no station.
+ *
+ * The cursor goes to a cell, by Up or Down and then by Left or Right. Rows count from 1 to 24, columns from 1 to 80;
+ * RIBBON_BAD_ARGUMENT at another cell. */
+RIBBON_API ribbon_status ribbon_station_move_cursor(ribbon_station *station, uint8_t row, uint8_t column,
+                                                    ribbon_told *told);
+
+/* New Line: the cursor goes to the first cell of the first field that keys enter and that begins in a row below, of the
+ * first of all where none does, and where keys enter no field to column 1 of the row below, from the last row of the
+ * first. */
+RIBBON_API ribbon_status ribbon_station_new_line(ribbon_station *station, ribbon_told *told);
+
+/* Erase EOF: the cells from the cursor to the end of its field become 00, and the cursor stays; in a signed numeric field
+ * the sign goes too. RIBBON_KEY_REFUSED where the cursor stands in no field that keys enter. */
+RIBBON_API ribbon_status ribbon_station_erase_eof(ribbon_station *station, ribbon_told *told);
+
 /* Tells whether records are allowed, what was refused, how many records were carried out, the cursor and its field, the
- * keyboard's lock, the lights, the read that waits for a key, and the number of fields. RIBBON_NOTHING_HELD where the
- * handle holds no station. */
+ * keyboard's lock, the lights, the read that waits for a key, the number of fields, and the row of an error.
+ * RIBBON_NOTHING_HELD where the handle holds no station. */
 RIBBON_API ribbon_status ribbon_station_state(ribbon_station *station, ribbon_state *state);
 
 /* Tells the byte that a cell holds; ribbon_cell says which there are. Rows count from 1 to 24, columns from 1 to 80.
@@ -556,6 +650,15 @@ RIBBON_API ribbon_status ribbon_station_row(ribbon_station *station, uint8_t row
 /* Tells a field by its index, from 0, in the order of the fields' starts. RIBBON_BAD_ARGUMENT where there is none of
  * the index, RIBBON_NOTHING_HELD where the handle holds no station. */
 RIBBON_API ribbon_status ribbon_station_field(ribbon_station *station, size_t index, ribbon_field *field);
+
+/* Puts the text of a field into `text` as UTF-8, `told->length` bytes and no final 0, by its index from 0: what its cells
+ * show up to the last that isn't 00, as ribbon_station_row shows it, but also where it isn't displayed.
+ *
+ * RIBBON_NO_ROOM where `text` has fewer bytes than that: `told->length` says how many they are, and no byte is put; that
+ * doesn't come at RIBBON_FIELD_ROOM bytes. RIBBON_BAD_ARGUMENT where there is no field of the index,
+ * RIBBON_NOTHING_HELD where the handle holds no station. */
+RIBBON_API ribbon_status ribbon_station_field_text(ribbon_station *station, size_t index, char *text, size_t room,
+                                                   ribbon_told *told);
 
 /* Makes a host's end and opens its session: the bytes that ask the station for its terminal type are put into
  * `opening`, `told->length` of them, and are to be sent first.
@@ -605,6 +708,14 @@ RIBBON_API ribbon_status ribbon_host_sent(ribbon_host *host, uint8_t *record, si
  * RIBBON_NOTHING_HELD where the handle holds no host. The host is then as it was. */
 RIBBON_API ribbon_status ribbon_host_cancel(ribbon_host *host, uint8_t *record, size_t room, ribbon_told *told);
 
+/* The screen that the host keeps: what a station's is that has carried out what was sent, without the keys that were
+ * pressed there. Each call tells what its like tells of a station; of the state no record is counted, and the pending read
+ * is the one that is asked. */
+RIBBON_API ribbon_status ribbon_host_state(ribbon_host *host, ribbon_state *state);
+RIBBON_API ribbon_status ribbon_host_cells(ribbon_host *host, uint8_t first_row, uint8_t last_row, ribbon_cell *cells,
+                                           size_t room);
+RIBBON_API ribbon_status ribbon_host_field(ribbon_host *host, size_t index, ribbon_field *field);
+
 /* Tells the answer that came last: its cursor, key and number of fields. RIBBON_NO_ANSWER where none has come yet,
  * RIBBON_NOTHING_HELD where the handle holds no host. */
 RIBBON_API ribbon_status ribbon_host_answer(ribbon_host *host, ribbon_answer *answer);
@@ -618,9 +729,52 @@ RIBBON_API ribbon_status ribbon_host_answer(ribbon_host *host, ribbon_answer *an
 RIBBON_API ribbon_status ribbon_host_answer_field(ribbon_host *host, size_t index, uint8_t *content, size_t room,
                                                   ribbon_read_field *field);
 
+/* Bodies for ribbon_host_send (SC30-3533, commands and orders). `ribbon_body_begin` makes an empty one over a buffer, and
+ * each of the others appends an element or a text: the body's first `size` bytes are then what is to be sent.
+ *
+ * RIBBON_NO_ROOM where the buffer's room is too small, RIBBON_BAD_ARGUMENT at a cell off the screen, an attribute other
+ * than 20 to 3F, a format word that isn't one, an order code as a byte, or a character that code page 037 lacks,
+ * RIBBON_NULL. Nothing is then appended, and each further call answers the same: so a program can look at `status` once,
+ * at the end. That an element may stand where it does is checked by ribbon_host_send. */
+RIBBON_API void ribbon_body_begin(ribbon_body *body, uint8_t *bytes, size_t room);
+
+/* Commands: Clear Unit, Clear Format Table, Write to Display and a read, RIBBON_READ_..., with their control
+ * characters. Of a write's second one 08 unlocks the keyboard; docs/PROFILE.md has all. */
+RIBBON_API ribbon_status ribbon_body_clear_unit(ribbon_body *body);
+RIBBON_API ribbon_status ribbon_body_clear_format(ribbon_body *body);
+RIBBON_API ribbon_status ribbon_body_write(ribbon_body *body, uint8_t cc1, uint8_t cc2);
+RIBBON_API ribbon_status ribbon_body_read(ribbon_body *body, uint8_t read, uint8_t cc1, uint8_t cc2);
+
+/* Start of Header, with at most 7 bytes, of which the third is 00. */
+RIBBON_API ribbon_status ribbon_body_header(ribbon_body *body, const uint8_t *header, size_t count);
+
+/* Set Buffer Address, Insert Cursor, Move Cursor. */
+RIBBON_API ribbon_status ribbon_body_address(ribbon_body *body, uint8_t row, uint8_t column);
+RIBBON_API ribbon_status ribbon_body_insert_cursor(ribbon_body *body, uint8_t row, uint8_t column);
+RIBBON_API ribbon_status ribbon_body_move_cursor(ribbon_body *body, uint8_t row, uint8_t column);
+
+/* Repeat to Address: the cells up to this one get the byte. Erase to Address: they become empty. */
+RIBBON_API ribbon_status ribbon_body_repeat(ribbon_body *body, uint8_t row, uint8_t column, uint8_t byte);
+RIBBON_API ribbon_status ribbon_body_erase(ribbon_body *body, uint8_t row, uint8_t column);
+
+/* Start of Field at the address, whose cell gets the attribute: an input field of a format word, RIBBON_FORMAT_... with
+ * 0x4000, or an output field. Its cells are the `length` behind that one. */
+RIBBON_API ribbon_status ribbon_body_field(ribbon_body *body, uint16_t format, uint8_t attribute, uint16_t length);
+RIBBON_API ribbon_status ribbon_body_output_field(ribbon_body *body, uint8_t attribute, uint16_t length);
+
+/* Cells from the address on: an attribute; the characters of a text of `size` bytes in UTF-8; bytes as they are, which may
+ * spell elements too. */
+RIBBON_API ribbon_status ribbon_body_attribute(ribbon_body *body, uint8_t attribute);
+RIBBON_API ribbon_status ribbon_body_text(ribbon_body *body, const char *text, size_t size);
+RIBBON_API ribbon_status ribbon_body_bytes(ribbon_body *body, const uint8_t *bytes, size_t count);
+
 /* Makes a decoder of a host's stream, which has taken no byte. RIBBON_IN_USE where the handle holds something,
  * RIBBON_NO_MEMORY; the handle then stays as it was. */
 RIBBON_API ribbon_status ribbon_decoder_new(ribbon_decoder *decoder);
+
+/* Makes a decoder of the extended kind, which also tells the elements that live hosts send beside the profile, with the
+ * outcomes of ribbon_decoder_new. */
+RIBBON_API ribbon_status ribbon_decoder_new_extended(ribbon_decoder *decoder);
 
 /* Frees a decoder. Its handle then holds nothing. A null pointer, a handle that holds nothing and one of another kind
  * are left alone. */

@@ -60,3 +60,13 @@ size_t ribbon_field_size(void)
 {
     return sizeof(ribbon_field);
 }
+
+size_t ribbon_look_size(void)
+{
+    return sizeof(ribbon_look);
+}
+
+size_t ribbon_body_size(void)
+{
+    return sizeof(ribbon_body);
+}

@@ -9,6 +9,8 @@ for name in stack cost; do
 done
 echo "stack, in bytes"
 "$folder/stack" || echo "(more than 32,768)"
+echo "stack of the extended kind, in bytes"
+"$folder/stack" extended || echo "(more than 32,768)"
 command -v valgrind >/dev/null || { echo "left out: instructions, since valgrind isn't here"; exit 0; }
 
 # Instructions of so many times, without those of none.

@@ -47,6 +47,7 @@ static ribbon_step step;
 static ribbon_state state;
 static ribbon_cell cells[RIBBON_CELLS];
 static ribbon_field field;
+static ribbon_look look;
 static ribbon_answer came;
 static ribbon_read_field read_field;
 static char row[RIBBON_ROW_ROOM];
@@ -54,7 +55,12 @@ static uint32_t rows;
 static uint64_t place;
 static ribbon_status status;
 
-static void station_new(void) { status = ribbon_station_new(&station, "IBM-5251-11"); }
+static bool is_extended;
+static void station_new(void)
+{
+    status = is_extended ? ribbon_station_new_extended(&station, "IBM-5251-11")
+                         : ribbon_station_new(&station, "IBM-5251-11");
+}
 static void station_push(void) { status = ribbon_station_push(&station, bytes, count, reply, sizeof reply, &pushed); }
 static void station_char(void) { status = ribbon_station_key(&station, RIBBON_KEY_CHAR, 'A', answer, sizeof answer, &told); }
 static void station_enter(void)
@@ -67,6 +73,10 @@ static void station_cells(void) { status = ribbon_station_cells(&station, 1, 24,
 static void station_changed(void) { status = ribbon_station_changed(&station, &rows); }
 static void station_row(void) { status = ribbon_station_row(&station, 1, row, sizeof row, &told); }
 static void station_field(void) { status = ribbon_station_field(&station, 0, &field); }
+static void station_text(void) { status = ribbon_station_field_text(&station, 0, (char *)reply, sizeof reply, &told); }
+static void station_move(void) { status = ribbon_station_move_cursor(&station, 24, 80, &told); }
+static void station_line(void) { status = ribbon_station_new_line(&station, &told); }
+static void station_erase(void) { status = ribbon_station_erase_eof(&station, &told); }
 static void station_free(void) { ribbon_station_free(&station); }
 static void host_new(void) { status = ribbon_host_new(&host, reply, sizeof reply, &told); }
 static void host_push(void) { status = ribbon_host_push(&host, bytes, count, reply, sizeof reply, &pushed, &event); }
@@ -76,8 +86,15 @@ static void host_sent(void) { status = ribbon_host_sent(&host, bytes, sizeof byt
 static void host_cancel(void) { status = ribbon_host_cancel(&host, reply, sizeof reply, &told); }
 static void host_answer(void) { status = ribbon_host_answer(&host, &came); }
 static void host_field(void) { status = ribbon_host_answer_field(&host, 0, reply, sizeof reply, &read_field); }
+static void host_state(void) { status = ribbon_host_state(&host, &state); }
+static void host_cells(void) { status = ribbon_host_cells(&host, 1, 24, cells, RIBBON_CELLS); }
+static void host_screen_field(void) { status = ribbon_host_field(&host, 0, &field); }
+static void attribute_look(void) { status = ribbon_attribute_look(0x2b, true, &look); }
 static void host_free(void) { ribbon_host_free(&host); }
-static void decoder_new(void) { status = ribbon_decoder_new(&decoder); }
+static void decoder_new(void)
+{
+    status = is_extended ? ribbon_decoder_new_extended(&decoder) : ribbon_decoder_new(&decoder);
+}
 static void decoder_push(void) { status = ribbon_decoder_push(&decoder, bytes, count, reply, sizeof reply, &step); }
 static void decoder_finish(void) { status = ribbon_decoder_finish(&decoder, &place); }
 static void decoder_free(void) { ribbon_decoder_free(&decoder); }
@@ -99,8 +116,9 @@ static void carry(const uint8_t *from, size_t size)
     count = size;
 }
 
-int main(void)
+int main(int count_of_words, char **words)
 {
+    is_extended = count_of_words > 1 && strcmp(words[1], "extended") == 0;
     tell("station_new", station_new);
     tell("host_new", host_new);
     tell("decoder_new", decoder_new);
@@ -133,16 +151,30 @@ int main(void)
     host_sent();
     carry(bytes, told.length);
     tell("station_push, a record", station_push);
+    if (is_extended) {
+        carry((const uint8_t *)"\0\x0c\x12\xa0\0\0\x04\0\0\x03\x04\x02\xff\xef", 14);
+        tell("station_push, Save", station_push);
+        carry((const uint8_t *)"\0\x11\x12\xa0\0\0\x04\0\0\x03\x04\xf3\0\x05\xd9\x70\0\xff\xef", 19);
+        tell("station_push, Query", station_push);
+    }
     tell("station_state", station_state);
     tell("station_cell", station_cell);
     tell("station_cells", station_cells);
     tell("station_changed", station_changed);
     tell("station_row", station_row);
     tell("station_field", station_field);
+    tell("station_field_text", station_text);
     tell("station_key, a letter", station_char);
+    tell("station_move_cursor", station_move);
+    tell("station_new_line", station_line);
+    tell("station_erase_eof", station_erase);
     tell("station_key, Enter", station_enter);
     carry(answer, told.length);
     tell("host_push, an answer", host_push);
+    tell("host_state", host_state);
+    tell("host_cells", host_cells);
+    tell("host_field", host_screen_field);
+    tell("attribute_look", attribute_look);
     tell("host_answer", host_answer);
     tell("host_answer_field", host_field);
     host_send();
