@@ -13,7 +13,8 @@ names its options. It builds the plain decoder by `rustc -O` into a temporary fo
 - with `--keep` prints instead what `decode_all`, which keeps all items to its end, costs on the four streams beside
   the plain decoder that keeps all of its own,
 - with `--feed` prints instead what `Receiver::feed` costs beside the plain decoder, each over the whole stream, and
-  `Station::feed`, in pieces of 4,096 bytes and with the screen, beside `Receiver::feed`.
+  `Station::feed`, in pieces of 4,096 bytes and with the screen, beside `Receiver::feed`, and `ExtendedStation::feed`
+  beside that.
 
 For the last two it makes a crate of keep_all.rattle or feed.rattle in a temporary folder, over copies of the crates
 that it needs, with the work that checks kept in them (some gigabytes), and builds it by `rt`, which proves first what
@@ -373,7 +374,7 @@ def cost_by_size(programs, folder, largest, runs, counts):
 
 
 DECODER = ["ws_code", "ws_telnet", "ws_record", "ws_stream"]
-STATION = [*DECODER, "ws_nego", "ws_screen", "ws_keys", "ws_session"]
+STATION = [*DECODER, "ws_nego", "ws_screen", "ws_keys", "ws_extended", "ws_session", "ws_extended_station"]
 
 
 def build(folder, name, below):
@@ -409,10 +410,11 @@ OPENING = "FFFD18FFFA1801FFF0FFFD19FFFB19FFFD00FFFB00\n"
 
 
 def compare_fed(feeder, plain, folder, size, runs, counts):
-    """What `Receiver::feed` costs beside the plain decoder, and `Station::feed` beside `Receiver::feed`."""
-    receiver, station = [feeder], [feeder, "station"]
+    """What `Receiver::feed` costs beside the plain decoder, `Station::feed` beside that, and an extended station's."""
+    receiver, station, extended = [feeder], [feeder, "station"], [feeder, "extended", "station"]
     for title, programs, begin in (("Receiver::feed", [receiver, [plain]], ""),
-                                   ("Station::feed", [station, receiver], OPENING)):
+                                   ("Station::feed", [station, receiver], OPENING),
+                                   ("ExtendedStation::feed", [extended, station], OPENING)):
         print_columns(title, counts)
         for name, parts_of in FED.items():
             stream = Stream(folder, parts_of(random.Random(1205)), size, begin)
@@ -431,7 +433,7 @@ def main():
     parser.add_argument("--runs", type=int, default=5, help="how many runs the lowest time is taken of, 5")
     parser.add_argument("--changed", type=int, default=500, help="how many randomly changed streams, 500")
     parser.add_argument("--keep", action="store_true", help="measure decode_all, which keeps all items, in its place")
-    parser.add_argument("--feed", action="store_true", help="measure Receiver::feed and Station::feed in its place")
+    parser.add_argument("--feed", action="store_true", help="measure Receiver::feed and two stations in its place")
     asked = parser.parse_args()
     with tempfile.TemporaryDirectory() as folder:
         plain = os.path.join(folder, "plain_decoder")

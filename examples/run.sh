@@ -51,5 +51,11 @@ for hex in *-answers.hex; do
     compare "$name.show" show --answers "$hex"
     compare_made "$name" --answers
 done
+
+# What a live host sends, beside the profile too.
+compare live-host.check check --extended live-host.hex
+compare live-host.check check --extended --cut 1 live-host.hex
+compare live-host.show show --extended live-host.hex
+compare_made live-host --extended
 echo "$passed passed, $failed failed"
 [ $failed -eq 0 ]

@@ -51,16 +51,18 @@ static const char *turn_words(const session *s, const ribbon_state *state)
         return "the session is over";
     if (!state->is_ready)
         return "connected, the session hasn't begun";
+    if (state->error_row != 0)
+        return "an error of the host's";
     return state->is_locked ? "waiting for the host" : "";
 }
 
 /* The key that goes on from here: Reset's, as it is bound, or the menu's. */
-static const char *way_words(session *s)
+static const char *way_words(session *s, bool has_error)
 {
     char keys[40];
     if (s->phase == PHASE_OVER)
         return "^] leaves";
-    if (!s->is_held)
+    if (!s->is_held && !has_error)
         return "^] menu";
     bindings_keys(&s->keys, (action){ACTION_RESET, 0}, keys, sizeof keys);
     keys[strcspn(keys, ",")] = 0; /* the first of them */
@@ -73,8 +75,8 @@ status_parts draw_parts(session *s, const ribbon_state *state)
     ribbon_field field;
     status_parts parts = {.turn = turn_words(s, state), .where = s->asked->where};
     parts.note = s->note[0] != 0 ? s->note : s->standing;
-    parts.way = way_words(s);
-    parts.is_way_out = s->is_held || s->phase == PHASE_OVER;
+    parts.way = way_words(s, state->error_row != 0);
+    parts.is_way_out = s->is_held || s->phase == PHASE_OVER || state->error_row != 0;
     parts.is_message_lit = state->is_message_lit;
     parts.is_inserting = s->is_inserting;
     parts.is_recording = s->recording.file != NULL;
@@ -103,6 +105,12 @@ static void draw_too_small(void)
     (void)mvprintw(2, 0, "No key goes out. ^] opens the menu.");
 }
 
+/* Whether a sentence lies over the last row of a window without a status line; the host's error is never covered. */
+static bool covers_row(const session *s, const ribbon_state *state)
+{
+    return is_note(s) && state->error_row != SCREEN_ROWS;
+}
+
 static void draw_screen(session *s, window *w, const ribbon_state *state, const status_parts *parts)
 {
     if (s->draws_all)
@@ -110,7 +118,7 @@ static void draw_screen(session *s, window *w, const ribbon_state *state, const 
     draw_rows(s, w);
     if (window_has_status())
         draw_status(parts, SCREEN_ROWS);
-    else if (is_note(s))
+    else if (covers_row(s, state))
         draw_status(parts, SCREEN_ROWS - 1);
     (void)move(state->cursor_row - 1, state->cursor_column - 1);
 }
@@ -134,7 +142,7 @@ void draw(session *s, window *w)
     if (s->is_of_screen && s->note_records != state.records)
         s->note[0] = 0;
     status_parts parts = draw_parts(s, &state);
-    bool covers = !window_has_status() && is_note(s);
+    bool covers = !window_has_status() && covers_row(s, &state);
     s->draws_all = s->draws_all || covers != w->is_covered;
     if (s->is_menu_open)
         menu_draw(s, &parts);

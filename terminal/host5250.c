@@ -3,7 +3,7 @@
  *
  *     host5250 [--bad] [PORT]        port 0, which is the default, takes a free one; `listening PORT` is printed first
  *
- * With --bad the form is followed by a command that isn't taken (reason 30). */
+ * With --bad the form is followed by a command that isn't taken (Roll, reason 33). */
 #define _GNU_SOURCE
 #include "ribbonscarp.h"
 
@@ -163,8 +163,8 @@ static uint8_t take_answer(ribbon_host *host, char *came, size_t room)
 /* What an event asks for; false where the session is over. */
 static bool react(ribbon_host *host, int line, const ribbon_event *event, unsigned *round, bool is_bad)
 {
-    static const uint8_t query[] = {0x00, 0x11, 0x12, 0xa0, 0x00, 0x00, 0x04, 0x00, 0x00, 0x03,
-                                    0x04, 0xf3, 0x00, 0x05, 0xd9, 0x70, 0x00, 0xff, 0xef};
+    static const uint8_t roll[] = {0x00, 0x0f, 0x12, 0xa0, 0x00, 0x00, 0x04, 0x00, 0x00, 0x03,
+                                   0x04, 0x23, 0x00, 0x01, 0x18, 0xff, 0xef};
     char came[400];
     switch (event->kind) {
     case RIBBON_EVENT_READY:
@@ -176,7 +176,7 @@ static bool react(ribbon_host *host, int line, const ribbon_event *event, unsign
         if (take_answer(host, came, sizeof came) == RIBBON_AID_F3)
             return false;
         *round += 1;
-        return is_bad ? send_all(line, query, sizeof query) : form(host, line, *round, came);
+        return is_bad ? send_all(line, roll, sizeof roll) : form(host, line, *round, came);
     default: return true;
     }
 }

@@ -9,7 +9,7 @@
 ribbon_status moves_to(ribbon_station *station, uint8_t row, uint8_t column, uint8_t *refusal);
 
 /* New Line: the cursor goes to the first cell of the first open field that begins in a row below, from the top again;
- * it stays where there is no open field. */
+ * to column 1 of the row below where there is no open field. */
 ribbon_status moves_new_line(ribbon_station *station, uint8_t *refusal);
 
 /* Erase EOF: the cells from the cursor to its field's end become empty, and the cursor stays. */

@@ -11,6 +11,7 @@ static const char usage[] =
     "  --record FILE          records what both ends send; FILE-1, FILE-2 .. where FILE is there already\n"
     "  --keys FILE            a keys file in place of ~/.config/term5250/keys\n"
     "  --no-hold              a refused key rings, and doesn't hold the keyboard until Reset\n"
+    "  --strict               a station of the profile: it refuses what live hosts send beside that, as a 5250 Query\n"
     "  --mono                 no colours, as with NO_COLOR in the environment\n"
     "  --background WHICH     black, or own: the window's; without it black unless the window says that it is dark\n"
     "  --separators HOW       dim, which is the default, or off\n"
@@ -46,6 +47,8 @@ static bool read_switch(options *o, const char *word)
 {
     if (strcmp(word, "--no-hold") == 0)
         o->holds = false;
+    else if (strcmp(word, "--strict") == 0)
+        o->is_strict = true;
     else if (strcmp(word, "--mono") == 0)
         o->is_mono = true;
     else if (strcmp(word, "--no-mouse") == 0)

@@ -12,6 +12,7 @@ typedef struct {
     address to;
     bool holds;       /* a refused key holds the keyboard until Reset */
     bool has_mouse;
+    bool is_strict;   /* the station keeps to the profile */
     bool is_mono;     /* no colours */
     bool separators;  /* are drawn */
     enum { BACKGROUND_BY_WINDOW, BACKGROUND_BLACK, BACKGROUND_OWN } background;

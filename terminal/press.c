@@ -37,18 +37,20 @@ static uint32_t station_key_of(action_kind kind, bool is_inserting)
     return 0;
 }
 
-/* Whether a key's answer has room; where there is no line yet, the station tells by itself that nothing can be sent. */
+/* Whether a key's answer has room, and comes behind all that the station has written; where there is no line yet, the
+ * station tells by itself that nothing can be sent. */
 static bool can_send(const session *s)
 {
-    return s->phase != PHASE_OPEN || line_left(&s->line) >= RIBBON_ANSWER_ROOM;
+    return s->phase != PHASE_OPEN || (!s->has_part && line_left(&s->line) >= RIBBON_ANSWER_ROOM);
 }
 
 turn press_turn(session *s)
 {
     ribbon_state state;
-    /* The station knows no errors of the host's: has_error stays off. */
     turn now = {.is_over = s->phase == PHASE_OVER, .is_held = s->is_held, .waits = s->ahead.count > 0};
-    now.is_locked = ribbon_station_state(&s->station, &state) != RIBBON_DONE || state.is_locked || !can_send(s);
+    bool is_known = ribbon_station_state(&s->station, &state) == RIBBON_DONE;
+    now.has_error = is_known && state.error_row != 0;
+    now.is_locked = !is_known || state.is_locked || !can_send(s);
     return now;
 }
 
@@ -151,6 +153,18 @@ static void let_wait(session *s, action key)
     paste_stop(&s->paste);
 }
 
+/* The station's Reset, which takes the host's error away and sends nothing. */
+static void end_error(session *s)
+{
+    uint8_t answer[RIBBON_ANSWER_ROOM];
+    ribbon_told told;
+    ribbon_status status = ribbon_station_key(&s->station, RIBBON_KEY_RESET, 0, answer, sizeof answer, &told);
+    if (status == RIBBON_DONE)
+        return;
+    s->rings = true;
+    session_tell(s, "The host's error stays: %s.", ribbon_status_text(status));
+}
+
 /* What Reset ends of what stands. */
 static void reset(session *s, verdict what)
 {
@@ -163,6 +177,7 @@ static void reset(session *s, verdict what)
         s->is_held = false;
         s->standing[0] = 0;
         break;
+    case VERDICT_END_ERROR: end_error(s); break;
     default: s->is_inserting = false; break;
     }
     paste_stop(&s->paste);
@@ -221,7 +236,7 @@ void press_ahead(session *s)
 {
     turn now = press_turn(s);
     action key;
-    while (!now.is_over && !now.is_held && !now.is_locked && ahead_take(&s->ahead, &key)) {
+    while (!now.is_over && !now.is_held && !now.has_error && !now.is_locked && ahead_take(&s->ahead, &key)) {
         if (!press_does(s, key))
             return;
         now = press_turn(s);

@@ -97,27 +97,46 @@ static void tell_refused(session *s, const ribbon_pushed *pushed)
                      (unsigned long long)pushed->place, ribbon_reason_text(pushed->reason));
 }
 
-/* Gives the station what the host sent, and the host what the station answers. */
-static void take(session *s, const uint8_t *bytes, size_t count)
+/* Whether the line has room for what the station writes at a Telnet command, and for a key's answer behind it. */
+static bool has_room(const session *s)
+{
+    return line_left(&s->line) >= RIBBON_REPLY_ROOM + RIBBON_ANSWER_ROOM;
+}
+
+/* Gives the station more of what the host sent, and the host what the station answers, as much as the line takes. */
+static ribbon_status push_more(session *s, ribbon_pushed *pushed)
 {
     uint8_t reply[PIECE];
+    size_t left = line_left(&s->line) - RIBBON_ANSWER_ROOM, room = left < sizeof reply ? left : sizeof reply;
+    ribbon_status status = ribbon_station_push(&s->station, s->heard + s->taken, s->heard_count - s->taken, reply, room,
+                                               pushed);
+    s->taken += pushed->taken;
+    s->has_part = status == RIBBON_NO_ROOM && pushed->replied == room;
+    if (!session_send(s, reply, pushed->replied))
+        session_over(s, 1, "The host doesn't take the station's replies.");
+    return status;
+}
+
+/* The same with all of it; false where the line has no room for the answers, and what is left waits. */
+static bool take(session *s)
+{
     ribbon_pushed pushed;
     ribbon_status status = RIBBON_NO_ROOM;
-    keep(s, true, bytes, count);
-    scan(s, bytes, count);
-    for (size_t at = 0; status == RIBBON_NO_ROOM && s->phase == PHASE_OPEN; at += pushed.taken) {
-        status = ribbon_station_push(&s->station, bytes + at, count - at, reply, sizeof reply, &pushed);
-        if (!session_send(s, reply, pushed.replied))
-            session_over(s, 1, "The host doesn't take the station's replies.");
+    while (status == RIBBON_NO_ROOM && s->phase == PHASE_OPEN) {
+        if (!has_room(s))
+            return false;
+        status = push_more(s, &pushed);
     }
     if (s->phase != PHASE_OPEN)
-        return;
+        return true;
     if (status == RIBBON_REFUSED) {
         (void)line_flush(&s->line); /* what was answered before; the session is over either way */
         tell_refused(s, &pushed);
     } else if (status != RIBBON_DONE) {
         session_over(s, 1, "The station has failed: %s.", ribbon_status_text(status));
     }
+    s->has_rest = false;
+    return true;
 }
 
 static void tell_closed(session *s)
@@ -128,21 +147,28 @@ static void tell_closed(session *s)
                  is_ready ? "" : " before a session began");
 }
 
-/* Takes what has come: no more than the station's replies have room for, and so little that keys are looked at soon. */
+/* Takes what has come: no more than the line has room for the answers to, and so little that keys are looked at soon. */
 static void hear(session *s)
 {
-    uint8_t bytes[PIECE];
-    size_t count;
     for (unsigned piece = 0; piece < PIECES_AT_ONCE && s->phase == PHASE_OPEN; piece++) {
-        if (line_left(&s->line) < ribbon_reply_room(PIECE) + RIBBON_ANSWER_ROOM)
+        if (s->has_rest && !take(s))
             return;
-        switch (line_hear(&s->line, bytes, sizeof bytes, &count)) {
-        case LINE_CAME: take(s, bytes, count); break;
+        if (s->phase != PHASE_OPEN || !has_room(s))
+            return;
+        s->taken = 0;
+        switch (line_hear(&s->line, s->heard, sizeof s->heard, &s->heard_count)) {
+        case LINE_CAME:
+            keep(s, true, s->heard, s->heard_count);
+            scan(s, s->heard, s->heard_count);
+            s->has_rest = true;
+            break;
         case LINE_NOTHING: return;
         case LINE_CLOSED: tell_closed(s); return;
         case LINE_LOST: session_over(s, 1, "The line is lost: %s.", strerror(errno)); return;
         }
     }
+    if (s->phase == PHASE_OPEN && s->has_rest)
+        (void)take(s);
 }
 
 /* ---- The session ---- */
@@ -192,9 +218,9 @@ struct pollfd session_wait(const session *s)
     if (s->phase == PHASE_OVER)
         return wait;
     wait.fd = s->line.socket;
-    if (s->line.count > 0)
+    if (s->line.count > 0 || s->has_rest)
         wait.events |= POLLOUT;
-    if (line_left(&s->line) >= ribbon_reply_room(PIECE) + RIBBON_ANSWER_ROOM)
+    if (has_room(s))
         wait.events |= POLLIN;
     return wait;
 }
@@ -207,7 +233,7 @@ void session_step(session *s, short ready)
         go_on(s, dial_step(&s->dial));
         return;
     }
-    if (s->phase == PHASE_OPEN && (ready & ~POLLOUT) != 0)
+    if (s->phase == PHASE_OPEN && ((ready & ~POLLOUT) != 0 || s->has_rest))
         hear(s);
     if (s->phase == PHASE_OPEN && !line_flush(&s->line))
         session_over(s, 1, "The line is lost: %s.", strerror(errno));

@@ -21,6 +21,11 @@ typedef struct {
     enum { PHASE_DIALLING, PHASE_OPEN, PHASE_OVER } phase;
     dial dial;
     line line;
+    uint8_t heard[KEPT_PIECE]; /* what came last, up to `heard_count`; the station has taken the first `taken` */
+    size_t heard_count;
+    size_t taken;
+    bool has_rest; /* of that, or of its answers */
+    bool has_part; /* of an answer went out, and perhaps not all of it */
     uint64_t begun; /* milliseconds of the system's clock */
     kept kept;
     telnet scanned;          /* of what the host sends */

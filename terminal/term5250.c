@@ -181,7 +181,8 @@ static bool read_keys(session *s, const options *asked)
 static int prepare(session *s, const options *asked)
 {
     char why[400];
-    ribbon_status status = ribbon_station_new(&s->station, asked->terminal);
+    ribbon_status status = asked->is_strict ? ribbon_station_new(&s->station, asked->terminal)
+                                            : ribbon_station_new_extended(&s->station, asked->terminal);
     if (status != RIBBON_DONE)
         return complain(asked->terminal, status == RIBBON_BAD_ARGUMENT ? "no such terminal type"
                                                                        : ribbon_status_text(status));

@@ -37,11 +37,13 @@ part() {
     echo "== $name took $((SECONDS - begun)) seconds"
 }
 
-# Two checks at a time, each by one process: one that is shared out among copies of the prover takes a quarter more
-# processor time, and more than two slow each other down. The prover's allocator keeps the pages that it has: to give them
-# back and to ask for them again takes a twentieth of a check.
+# Each check by one process: one that is shared out among copies of the prover takes a quarter more processor time. Two at
+# a time on two or three cores, and on more all but one: more slow each other down. The prover's allocator keeps the pages that it
+# has: to give them back and to ask for them again takes a twentieth of a check.
+cores=$(nproc)
+jobs=$((cores > 3 ? cores - 1 : 2))
 export MIMALLOC_PURGE_DELAY=-1
-[ "${1:-}" != --prove ] || part "rt ci" 168 env RT_JOBS=2 rt ci
+[ "${1:-}" != --prove ] || part "rt ci" 168 env RT_JOBS=$jobs rt ci
 # The C library comes first: a live session of the program is compared with one of C programs over it.
 if command -v cc >/dev/null && command -v make >/dev/null; then
     part "C library" 60 tests/build_c_library.sh

@@ -320,6 +320,16 @@ def examples_go_together():
 
 
 @test
+def a_live_host_s_session():
+    """What live hosts send beside the profile: a query, a screen that is saved and restored, an error and Reset."""
+    serve = Run(["serve", "--any", "--wait", "10", "127.0.0.1:0", os.path.join(EXAMPLES, "live-host.serve")])
+    address = serve.line().split()[1]
+    connect = Run(["connect", "--extended", "--wait", "10", address, os.path.join(EXAMPLES, "live-host.connect")])
+    connect.end(0, read_example("live-host.connected"))
+    serve.end(0, read_example("live-host.served"))
+
+
+@test
 def both_line_by_line():
     serve = Run(["serve", "--ready", "--wait", "10", "127.0.0.1:0"])
     address = serve.line().split()[1]

@@ -305,10 +305,14 @@ def filled_runs(runs, folder):
     pipes = {"stdin": subprocess.PIPE, "stdout": subprocess.PIPE, "stderr": subprocess.PIPE}
     for closed in CLOSED:
         process = subprocess.Popen([PROGRAM, "check", path], preexec_fn=closing(closed), **pipes)
-        # It has opened the pipe, and waits for what it reads.
+        # It opens the pipe, and waits for what it reads; its descriptor may come a moment after the pipe's other side.
         with open(path, "w") as file:
-            found = standing(process, closed)
             others = standing(process, range(3, 10))
+            end = time.monotonic() + 10
+            while path not in others and time.monotonic() < end:
+                time.sleep(0.01)
+                others = standing(process, range(3, 10))
+            found = standing(process, closed)
             file.write(INVITE)
         process.communicate(timeout=60)
         right = found == ["/dev/null"] * len(closed) and path in others

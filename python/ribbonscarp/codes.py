@@ -135,6 +135,7 @@ class Key(Enum):
     ERASE_INPUT = (14, 0)
     ATTENTION = (16, 0)
     SYSTEM_REQUEST = (17, 0)
+    RESET = (18, 0)
     F1 = (AID, 0x31)
     F2 = (AID, 0x32)
     F3 = (AID, 0x33)

@@ -51,12 +51,13 @@ Step: TypeAlias = Header | Element | RecordEnd | Command
 
 
 class Decoder(Held):
-    """A decoder of a host's stream, in any pieces."""
+    """A decoder of a host's stream, in any pieces. It takes what live hosts send; `strict` keeps to the profile."""
 
-    def __init__(self) -> None:
+    def __init__(self, *, strict: bool = False) -> None:
         self._library = library()
         super().__init__(Handle(), self._library.ribbon_decoder_free)
-        check(self._library.ribbon_decoder_new(self._held()))
+        make = self._library.ribbon_decoder_new if strict else self._library.ribbon_decoder_new_extended
+        check(make(self._held()))
         self._unit = ctypes.create_string_buffer(UNIT_ROOM)
         self._taken = 0
 

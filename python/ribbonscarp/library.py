@@ -26,6 +26,9 @@ CELLS = ROWS * COLUMNS
 # How many bytes a buffer needs (`RIBBON_.._ROOM`).
 REPLY_ROOM, ANSWER_ROOM, UNIT_ROOM, CANCEL_ROOM = 17, 5404, 133, 12
 
+PUSH_ROOM = 16384
+"""How many bytes of what a station writes are taken at a time; any number from `REPLY_ROOM` on does."""
+
 NO_FIELD = 0xFFFF
 
 
@@ -102,6 +105,7 @@ class StateTold(Structure):
         ("is_locked", c_bool),
         ("is_message_lit", c_bool),
         ("is_blinking", c_bool),
+        ("error_row", c_uint8),
     ]
 
 
@@ -139,6 +143,7 @@ _HANDLE = POINTER(Handle)
 # What each call that answers a status takes. Buffers are passed as they are, by their address.
 _ARGUMENTS: dict[str, list[Any]] = {
     "station_new": [_STATION, c_char_p],
+    "station_new_extended": [_STATION, c_char_p],
     "station_push": [_STATION, c_void_p, c_size_t, c_void_p, c_size_t, POINTER(Pushed)],
     "station_key": [_STATION, c_uint32, c_uint32, c_void_p, c_size_t, POINTER(Told)],
     "station_state": [_STATION, POINTER(StateTold)],
@@ -153,6 +158,7 @@ _ARGUMENTS: dict[str, list[Any]] = {
     "host_answer": [_HANDLE, POINTER(AnswerTold)],
     "host_answer_field": [_HANDLE, c_size_t, c_void_p, c_size_t, POINTER(ReadFieldTold)],
     "decoder_new": [_HANDLE],
+    "decoder_new_extended": [_HANDLE],
     "decoder_push": [_HANDLE, c_void_p, c_size_t, c_void_p, c_size_t, POINTER(StepTold)],
     "decoder_finish": [_HANDLE, POINTER(c_uint64)],
 }

@@ -165,6 +165,8 @@ class State:
     pending_read: Read
     records: int
     field_count: int
+    error_row: int | None = None
+    """The row on which an error of the host's stands, until Reset."""
 
 
 class Screen:

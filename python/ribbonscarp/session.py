@@ -12,13 +12,17 @@ from .screen import Field, Screen, Which
 from .station import Station
 
 
-def connect(host: str, port: int = 23, *, terminal: str = "IBM-3179-2", wait: float = 30.0) -> Session:
-    """A session at a host. `wait` is how many seconds connecting may take, over all addresses of a name together, and
-    then each wait and each write. Looking the name up has no limit.
+def connect(
+    host: str, port: int = 23, *, terminal: str = "IBM-3179-2", wait: float = 30.0, strict: bool = False
+) -> Session:
+    """A session at a host, of a station that takes what live hosts send; a `strict` one keeps to the profile.
+
+    `wait` is how many seconds connecting may take, over all addresses of a name together, and then each wait and each
+    write. Looking the name up has no limit.
 
     `OSError` where the host can't be reached in time; `ValueError` where there is no such terminal type.
     """
-    station = Station(terminal)
+    station = Station(terminal, strict=strict)
     try:
         line = open_line(host, port, wait)
     except BaseException:
@@ -77,8 +81,14 @@ class Session:
         return self._connection.has_ended
 
     def wait_unlocked(self, wait: float | None = None) -> Screen:
-        """Takes what comes until the keyboard is unlocked; nothing where it is."""
-        return self._wait("an unlocked keyboard", lambda: not self.station.state.is_locked, wait)
+        """Takes what comes until the keyboard is unlocked, or an error of the host's stands, which waits for Reset;
+        nothing where it is so."""
+
+        def is_turn() -> bool:
+            state = self.station.state
+            return not state.is_locked or state.error_row is not None
+
+        return self._wait("an unlocked keyboard", is_turn, wait)
 
     def wait_record(self, wait: float | None = None) -> Screen:
         """Takes what comes until one record more was carried out."""

@@ -11,6 +11,7 @@ from .handle import Held, bytes_of, check, front, refused
 from .library import (
     ANSWER_ROOM,
     CELLS,
+    PUSH_ROOM,
     ROWS,
     CellTold,
     FieldTold,
@@ -25,17 +26,22 @@ from .screen import Screen, State, Which
 
 
 class Station(Held):
-    """A display station of a terminal type, one of `TERMINALS`. `ValueError` where it is none."""
+    """A display station of a terminal type, one of `TERMINALS`. `ValueError` where it is none.
 
-    def __init__(self, terminal: str = "IBM-3179-2") -> None:
+    It takes what live hosts send, and answers what they ask; one that is `strict` keeps to the profile.
+    """
+
+    def __init__(self, terminal: str = "IBM-3179-2", *, strict: bool = False) -> None:
         self._library = library()
         super().__init__(StationHandle(), self._library.ribbon_station_free)
-        status = self._library.ribbon_station_new(self._held(), terminal.encode("ascii", "replace"))
+        make = self._library.ribbon_station_new if strict else self._library.ribbon_station_new_extended
+        status = make(self._held(), terminal.encode("ascii", "replace"))
         if status == Status.BAD_ARGUMENT:
             self.close()
             raise ValueError(f"no terminal type is {terminal!r}; there are {', '.join(TERMINALS)}")
         check(status)
         self._answer = ctypes.create_string_buffer(ANSWER_ROOM)
+        self._reply = ctypes.create_string_buffer(PUSH_ROOM)
 
     def push(self, data: bytes) -> bytes:
         """Takes bytes of the host, and gives what the station writes in answer.
@@ -43,18 +49,20 @@ class Station(Held):
         `Refused` at a byte that can't stand there, or at the end of a record that the screen can't take: its `reply` is
         what was written before. The screen is then as it was, and can still be looked at.
         """
-        room = int(self._library.ribbon_reply_room(len(data)))
-        reply, pushed = ctypes.create_string_buffer(max(room, 1)), Pushed()
-        status = self._library.ribbon_station_push(
-            self._held(), bytes_of(data), len(data), reply, room, ctypes.byref(pushed)
-        )
-        written = front(reply, pushed.replied)
+        given, at, written = bytes_of(data), 0, bytearray()
+        pushed, status = Pushed(), int(Status.NO_ROOM)
+        while status == Status.NO_ROOM:
+            status = self._library.ribbon_station_push(
+                self._held(), ctypes.byref(given, at), len(data) - at, self._reply, PUSH_ROOM, ctypes.byref(pushed)
+            )
+            at += pushed.taken
+            written += front(self._reply, pushed.replied)
         if status == Status.REFUSED:
             error = refused(pushed.reason, pushed.place)
-            error.reply = written
+            error.reply = bytes(written)
             raise error
         check(status)
-        return written
+        return bytes(written)
 
     def press(self, key: Key) -> bytes:
         """Presses a key, and gives what it sends to the host; most keys send nothing.
@@ -89,7 +97,7 @@ class Station(Held):
 
     @property
     def state(self) -> State:
-        """The cursor, the keyboard's lock, the lights, and whether records are allowed."""
+        """The cursor, the keyboard's lock, the lights, whether records are allowed, and the row of a host's error."""
         told = self._told_state()
         return State(
             (told.cursor_row, told.cursor_column),
@@ -100,6 +108,7 @@ class Station(Held):
             Read(told.pending_read),
             told.records,
             told.field_count,
+            told.error_row or None,
         )
 
     @property

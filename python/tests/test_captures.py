@@ -30,7 +30,7 @@ def screen_of(stream: bytes) -> Screen:
 
 
 def check_line(stream: bytes) -> str:
-    """The line that `t5250 check` prints of a stream, without a reason's name."""
+    """The line that `t5250 check --extended` prints of a stream, without a reason's name."""
     records = commands = 0
     with Decoder() as decoder:
         try:
@@ -51,7 +51,7 @@ class CapturesTest(unittest.TestCase):
         for capture in CAPTURES:
             text = capture.read_text(encoding="ascii")
             screen = screen_of(bytes.fromhex(text))
-            shown = printed("show", hex_text=text).partition("screen\n")[2].splitlines()
+            shown = printed("show", "--extended", hex_text=text).partition("screen\n")[2].splitlines()
             self.assertEqual(str(screen).splitlines(), shown[:-1], capture.name)
             locked = "locked" if screen.is_locked else "unlocked"
             self.assertTrue(shown[-1].startswith(f"cursor {screen.cursor[0]} {screen.cursor[1]}, {locked},"))
@@ -65,7 +65,7 @@ class CapturesTest(unittest.TestCase):
             for place in range(0, len(stream), max(1, len(stream) // 6)):
                 spoiled.append(stream[:place] + bytes([stream[place] ^ 0x15]) + stream[place + 1 :])
             for given in spoiled:
-                wanted = re.sub(r"(reason \d+).*", r"\1", printed("check", hex_text=given.hex())).strip()
+                wanted = re.sub(r"(reason \d+).*", r"\1", printed("check", "--extended", hex_text=given.hex())).strip()
                 self.assertEqual(check_line(given), wanted, given.hex())
 
     def test_colors(self) -> None:

@@ -49,9 +49,13 @@ class DecoderTest(unittest.TestCase):
             )
 
     def test_refused(self) -> None:
-        """5250 Query, which is refused at its code (30)."""
+        """5250 Query, which the profile refuses at its code (30)."""
         query = bytes.fromhex("0011 12A0 0000 04 0000 03 04F3 0005 D97000 FFEF")
         with Decoder() as decoder:
+            self.assertEqual(
+                decoder.push(query), [Header(9, 0, 17, Opcode.PUT_GET), Element(16, query[10:17]), RecordEnd(18)]
+            )
+        with Decoder(strict=True) as decoder:
             decoder.push(OPENING)
             with self.assertRaises(Refused) as caught:
                 decoder.push(query)

@@ -49,7 +49,7 @@ class HeaderTest(unittest.TestCase):
         of_aid = {key.name: key.value[1] for key in ribbonscarp.Key if key.value[0] == codes.AID}
         self.assertEqual(of_aid, aids)
         self.assertEqual(of_kind, {name: kinds[name] for name in of_kind})
-        self.assertEqual(len(of_kind), 14)
+        self.assertEqual(len(of_kind), 15)
         self.assertEqual((kinds["CHAR"], kinds["INSERT"], kinds["AID"]), (1, 2, codes.AID))
 
     def test_terminals(self) -> None:

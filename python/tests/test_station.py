@@ -23,6 +23,36 @@ class StationTest(unittest.TestCase):
             self.assertEqual(b"".join(station.push(bytes([byte])) for byte in OPENING), wanted)
             self.assertEqual(station.push(b""), b"")
 
+    def test_live_host(self) -> None:
+        """A query, a saved screen that comes back, and an error that Reset takes away."""
+        query = record(bytes.fromhex("04F30005D97000"))
+        reply = bytes.fromhex(
+            "000088003AD97080 0600010100" + "00" * 16 + "01F3F1F7F9F0F0F2 020000 00615000 0100 000000 23110000" + "00" * 8
+        )
+        with ready_station(FORM) as station:
+            self.assertEqual(station.push(query), record(reply, opcode=0))
+            station.type("BO")
+            saved = station.push(record(bytes.fromhex("0402"), opcode=4))
+            self.assertEqual(saved[9:14], bytes.fromhex("04 0412 0440"))
+            before = station.screen
+            self.assertEqual(station.push(record(bytes.fromhex("0440"), opcode=2)), b"")
+            self.assertEqual(station.push(saved[:9] + b"\x05" + saved[10:]), b"")
+            self.assertEqual((station.screen.rows, station.state.cursor), (before.rows, before.cursor))
+            self.assertIsNone(station.state.error_row)
+            station.push(record(bytes.fromhex("0421 130635 22C5D9D9")))
+            self.assertEqual((station.state.error_row, station.screen.rows[23][:4]), (24, " ERR"))
+            with self.assertRaises(KeyRefused) as caught:
+                station.type("B")
+            self.assertIs(caught.exception.refusal, KeyRefusal.LOCKED)
+            self.assertEqual(station.press(Key.RESET), b"")
+            self.assertEqual((station.state.error_row, station.screen.rows[23].strip()), (None, ""))
+            self.assertEqual(station.press(Key.ENTER), record(bytes.fromhex("0635F1 110635 C2D6")))
+        with Station(strict=True) as station:
+            station.push(OPENING)
+            with self.assertRaises(Refused) as refused:
+                station.push(query)
+            self.assertIs(refused.exception.reason, Reason.STRUCTURED_FIELD)
+
     def test_terminal(self) -> None:
         with self.assertRaisesRegex(ValueError, "no terminal type is 'IBM-3477-FC'; there are IBM-5251-11, "):
             Station("IBM-3477-FC")

@@ -13,7 +13,8 @@ from hosts import Host, Host5250, READ, field, inputs, plain, text, write
 from window import Terminal, check
 from work import FORM, at_form, cut, shown_of
 
-QUERY = b"\x04\xf3\x00\x05\xd9\x70\x00"
+# A Roll, which no station here takes.
+ROLL = b"\x04\x23\x00\x01\x18"
 
 
 def refused():
@@ -22,9 +23,9 @@ def refused():
         host, t = at_form(folder=folder)
         t.type("42")
         t.until(lambda: "42" in t.window.text(2), "typed")
-        t.rings("a refused record", lambda: host.send(QUERY))
+        t.rings("a refused record", lambda: host.send(ROLL))
         t.tells("Refused at the host's byte")
-        t.tells("reason 30")
+        t.tells("reason 33")
         check("Order" in t.window.text(0) and "42" in t.window.text(2), "the screen stays")
         t.rings("a key then", lambda: t.type("7\r"))
         t.idles("when the session is over")
@@ -32,11 +33,11 @@ def refused():
         t.tells("Saved in term5250.rec. It holds passwords.")
         t.type("\x1dp")
         t.tells("The screen is in term5250.txt.")
-        t.leave(1, "reason 30")
+        t.leave(1, "reason 33")
         name = os.path.join(folder, "term5250.rec")
         check(os.stat(name).st_mode & 0o777 == 0o600, "others can't read it")
         shown = shown_of(name)
-        check("PUT D799898385" in shown and "reason 30" in shown, "t5250 show tells the refusal", shown[-300:])
+        check("PUT D799898385" in shown and "reason 33" in shown, "t5250 show tells the refusal", shown[-300:])
         answers = subprocess.run([Terminal.t5250, "check", "--answers"], input=cut(name, "station"), text=True,
                                  capture_output=True)
         check(answers.stdout.startswith("accepted"), "the station's side is whole", answers.stdout)
@@ -48,9 +49,9 @@ def refused_by_name():
     t = Terminal(f"127.0.0.1:{host.port}")
     t.shows(0, "Sign On")
     t.type("\r")
-    t.tells("reason 30")
+    t.tells("reason 33")
     t.shows(0, "Sign On", "the screen stays")
-    t.leave(1, "reason 30")
+    t.leave(1, "reason 33")
     host.stop()
 
 
@@ -65,7 +66,7 @@ def recordings():
         host.answer()
         t.type("\x1dr")
         t.tells("Recorded in mine-1.")
-        check("REC" not in t.status(), "and no longer")
+        t.until(lambda: "REC" not in t.status(), "and no longer")
         t.type("\x1dr")
         t.tells("Recording in mine-2.")
         host.send(FORM)

@@ -1,0 +1,67 @@
+"""What live hosts send beside the profile: a query, a screen that is saved and restored, an error, and Reset."""
+from hosts import Host
+from window import Terminal, check
+from work import at_form
+
+QUERY, SAVE, CLEAR = b"\x04\xf3\x00\x05\xd9\x70\x00", b"\x04\x02", b"\x04\x40"
+# Write Error Code, Insert Cursor 3 20, an attribute and a text, and a read.
+ERROR = b"\x04\x21\x13\x03\x14\x22" + "No such item".encode("cp037") + b"\x04\x52\x00\x00"
+
+
+def asked():
+    """The reply to a query, and a screen that comes back as it was saved."""
+    host, t = at_form()
+    host.send(QUERY)
+    opcode, _, reply = host.answer()
+    check((opcode, len(reply), reply[:8]) == (0, 61, bytes.fromhex("000088003ad97080")), "the reply to a query", reply)
+    t.type("42")
+    t.until(lambda: "42" in t.window.text(2), "typed")
+    before = [t.window.text(row) for row in range(24)]
+    host.send(SAVE, 4)
+    opcode, _, image = host.answer()
+    check((opcode, image[:4]) == (4, bytes.fromhex("04120440")), "a saved screen", image[:8])
+    host.send(CLEAR, 2)
+    t.until(lambda: "42" not in t.window.text(2), "cleared")
+    host.send(image, 5)
+    t.until(lambda: [t.window.text(row) for row in range(24)] == before, "it comes back as it was")
+    host.send(SAVE, 4)
+    check(host.answer() == (4, 0, image), "and would be saved alike")
+    t.leave()
+    host.close()
+
+
+def an_error():
+    """Keys ring while an error of the host's stands; Reset takes it away."""
+    host, t = at_form()
+    host.send(ERROR)
+    t.shows(23, "No such item")
+    t.tells("an error of the host's")
+    t.rings("a key then", lambda: t.type("7"))
+    check("7" not in t.window.text(2), "it isn't typed")
+    t.type("\x12")
+    t.until(lambda: "No such item" not in t.window.text(23), "Reset takes the error away")
+    t.type("7")
+    t.until(lambda: "7" in t.window.text(2), "then keys are taken")
+    t.leave()
+    host.close()
+
+
+def many_saves():
+    """More answers than the line takes at once: none is lost."""
+    host, t = at_form()
+    host.send_raw(b"".join(bytes.fromhex("000C12A00000040000040402FFEF") for _ in range(100)))
+    answers = [host.answer() for _ in range(100)]
+    check(all(answer == answers[0] and answer[0] == 4 for answer in answers), "each is answered")
+    t.leave()
+    host.close()
+
+
+def strict():
+    """Kept to the profile, it refuses a query."""
+    host = Host()
+    t = Terminal("--strict", f"127.0.0.1:{host.port}")
+    check(host.ready(), "the session begins")
+    host.send(QUERY)
+    t.tells("reason 30")
+    t.leave(1, "reason 30")
+    host.close()

@@ -1,0 +1,48 @@
+"""A TCP connection as the packets that a capture would have of it, and their file."""
+import socket
+import struct
+
+SYN, ACK, PUSH = 0x02, 0x10, 0x18
+RAW_IP = 101
+
+
+class Session:
+    """A TCP connection between a station and a host, as the packets that a capture would have of it."""
+
+    def __init__(self, port=23, station=("10.0.0.2", 50000), host="10.0.0.1"):
+        self.ends = {"host": (host, port), "station": station}
+        self.next = {"host": 4_294_967_290, "station": 1000}
+        self.packets = []
+
+    def packet(self, side, flags, data=b"", captured=True):
+        other = "station" if side == "host" else "host"
+        (source, source_port), (target, target_port) = self.ends[side], self.ends[other]
+        ports = struct.pack(">HH", source_port, target_port)
+        counts = struct.pack(">II", self.next[side], self.next[other] if flags & ACK else 0)
+        segment = ports + counts + struct.pack(">BBHHH", 0x50, flags, 65535, 0, 0) + data
+        if ":" in source:
+            addresses = socket.inet_pton(socket.AF_INET6, source) + socket.inet_pton(socket.AF_INET6, target)
+            whole = struct.pack(">IHBB", 6 << 28, len(segment), 6, 64) + addresses + segment
+        else:
+            addresses = socket.inet_aton(source) + socket.inet_aton(target)
+            whole = struct.pack(">BBHHHBBH", 0x45, 0, 20 + len(segment), 1, 0, 64, 6, 0) + addresses + segment
+        self.next[side] = (self.next[side] + len(data) + bool(flags & SYN)) % (1 << 32)
+        if captured:
+            self.packets.append(whole)
+        return self
+
+    def open(self):
+        return self.packet("station", SYN).packet("host", SYN | ACK).packet("station", ACK)
+
+    def host(self, data, captured=True):
+        return self.packet("host", PUSH, data, captured)
+
+    def station(self, data, captured=True):
+        return self.packet("station", PUSH, data, captured)
+
+
+def write_capture(path, packets):
+    with open(path, "wb") as file:
+        file.write(struct.pack("<IHHiIII", 0xA1B2C3D4, 2, 4, 0, 0, 65535, RAW_IP))
+        for second, packet in enumerate(packets):
+            file.write(struct.pack("<IIII", second, 0, len(packet), len(packet)) + packet)

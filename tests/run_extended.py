@@ -1,0 +1,255 @@
+#!/usr/bin/env python3
+"""Runs `t5250 connect --extended` at a host that sends what live hosts send, and has Wireshark read the session.
+
+The host, in Python, asks what the station is, saves the screen before a help and restores it, and tells an error. Each
+record of the station is compared with the bytes that docs/PROFILE.md's chapter 'Extended' says. Then the session is
+written as a packet capture, and what `tshark` reads in it is compared field by field: the reply to the query, the
+commands and orders of the saved screen and of the one that is restored, the error. It needs tshark for that, and says so
+where there is none.
+
+Build the program first (`cd crates/t5250 && rt run -- check < stdin`), then call `python3 tests/run_extended.py` from
+anywhere; another program may be named behind it. The last line tells how many passed and how many failed, and the status
+is 1 where one failed.
+"""
+import os
+import shutil
+import socket
+import struct
+import subprocess
+import sys
+import tempfile
+import xml.etree.ElementTree
+
+from packets import Session, write_capture
+
+HERE = os.path.dirname(os.path.abspath(__file__))
+BUILT = os.path.join(HERE, "..", "crates", "t5250", "out", "t5250")
+PROGRAM = os.path.abspath(sys.argv[1] if len(sys.argv) > 1 else BUILT)
+
+EOR = b"\xff\xef"
+ASKED = bytes.fromhex("FFFD18"), bytes.fromhex("FFFA1801FFF0"), bytes.fromhex("FFFD19FFFB19FFFD00FFFB00")
+NAME = bytes.fromhex("FFFA1800") + b"IBM-3179-2" + bytes.fromhex("FFF0")
+GRANTED = bytes.fromhex("FFFB18"), NAME, bytes.fromhex("FFFB19FFFD19FFFB00FFFD00")
+
+NO_OPERATION, OUTPUT, PUT_GET, SAVE, RESTORE = 0, 2, 3, 4, 5
+QUERY = "04F30005D97000"
+SAVE_SCREEN = "0402"
+# A field of ten cells at 6, 53, and a text.
+FORM = "0440 04110008 110101 C9A38594 110634 1D400020000A 04520000"
+HELP = "0440 04110008 110101 C8859397 04520000"
+GO_ON = "04110048 04520000"
+ERROR = "0421 130635 22C5D9D9 04520000"
+
+SCRIPT = """await text Item
+type BO
+key Help
+await text Help
+key Enter
+await text Item
+await
+key Enter
+await record
+await
+show
+key F3
+key Reset
+show
+key F3
+"""
+ROW_6 = " 6 " + " " * 52 + "BO\n"
+PRINTED = (
+    "screen\n 1 Item\n" + ROW_6 + "24  ERR\ncursor 6 53, locked, message off, blink off, fields 1\nerror row 24\n"
+    "key refused Locked\n"
+    "screen\n 1 Item\n" + ROW_6 + "cursor 6 53, unlocked, message off, blink off, fields 1\n"
+)
+
+REPLY = bytes.fromhex(
+    "000088003AD97080 0600010100" + "00" * 16 + "01F3F1F7F9F0F0F2 020000 00615000 0100 000000 23110000" + "00" * 8
+)
+
+
+def cells():
+    """The cells of the form, with BO in its field."""
+    held = bytearray(1920)
+    held[0:4] = bytes.fromhex("C9A38594")
+    # Start of Field at 6, 52: an attribute before the field, and one behind it.
+    first = 5 * 80 + 51
+    held[first], held[first + 11] = 0x20, 0x20
+    held[first + 1:first + 3] = bytes.fromhex("C2D6")
+    return bytes(held)
+
+
+# The form as it stands behind the Help key, which has answered the read: locked, the field modified.
+IMAGE = bytes.fromhex("0412 0440 04110022 010700000018000000 110634 1D480020000A 110101") + cells() + bytes.fromhex("140637")
+
+ANSWERS = [
+    (NO_OPERATION, REPLY),
+    (PUT_GET, bytes.fromhex("0637F3")),
+    (SAVE, IMAGE),
+    (PUT_GET, bytes.fromhex("0101F1")),
+    (PUT_GET, bytes.fromhex("0637F1 110635 C2D6")),
+    (PUT_GET, bytes.fromhex("063533 110635 C2D6")),
+]
+
+# What tshark calls the fields of the reply, from its first byte on.
+REPLY_FIELDS = [
+    ("buffer_x", "0"), ("buffer_y", "0"), ("aid", "0x88"), ("sf_length", "58"), ("class", "0xd9"), ("type", "0x70"),
+    ("qr_flag", "0x80"), ("qr_flag_0", "1"), ("qr_chc", "0x0600"), ("qr_ccl", "0x010100"), ("qr_dt", "0x01"),
+    ("qr_dtc", "3179"), ("qr_dm", "002"), ("qr_ki", "0x02"), ("qr_eki", "0x00"), ("qr_dsn", "6377472"), ("qr_mni", "256"),
+    ("qr_flag1", "0x23"), ("qr_flag1_2", "1"), ("qr_flag1_6", "1"), ("qr_flag1_7", "1"), ("qr_flag2", "0x11"),
+    ("qr_flag2_6to7", "0x01"), ("qr_flag3", "0x00"), ("qr_flag4", "0x00"),
+]
+REPLY_NAMES = {name for name, _ in REPLY_FIELDS}
+# The saved screen, in either record.
+IMAGE_FIELDS = [
+    ("command_code", "0x12"), ("command_code", "0x40"), ("command_code", "0x11"), ("wtd_ccc2", "0x22"),
+    ("order_code", "0x01"), ("soh_err", "24"), ("order_code", "0x11"), ("buffer_x", "6"), ("buffer_y", "52"),
+    ("order_code", "0x1d"), ("order_code", "0x11"), ("buffer_x", "1"), ("buffer_y", "1"), ("order_code", "0x14"),
+    ("buffer_x", "6"), ("buffer_y", "55"),
+]
+IMAGE_NAMES = {name for name, _ in IMAGE_FIELDS}
+# The error; tshark takes the read behind its text for text.
+ERROR_FIELDS = [("command_code", "0x21"), ("order_code", "0x13"), ("buffer_x", "6"), ("buffer_y", "53")]
+ERROR_NAMES = {name for name, _ in ERROR_FIELDS}
+
+# What the host sends, record by record, each up to the record that answers it.
+STEPS = [
+    [(PUT_GET, QUERY)],
+    [(PUT_GET, FORM)],
+    [(SAVE, SAVE_SCREEN)],
+    [(PUT_GET, HELP)],
+    [(RESTORE, None), (PUT_GET, GO_ON)],
+    [(PUT_GET, ERROR)],
+]
+
+
+class Failure(Exception):
+    pass
+
+
+def expect(got, wanted, what):
+    if got != wanted:
+        raise Failure(f"{what}: got {got!r}, and not {wanted!r}")
+
+
+def record(opcode, body):
+    """A record as it goes over the line (RFC 1205, section 3; RFC 885)."""
+    head = struct.pack(">HHHBHB", 10 + len(body), 0x12A0, 0, 4, 0, opcode)
+    return (head + body).replace(b"\xff", b"\xff\xff") + EOR
+
+
+class Line:
+    """The host's side of a connection, which keeps what goes over it as the packets of a capture."""
+
+    def __init__(self, stream):
+        self.stream = stream
+        self.stream.settimeout(30)
+        self.rest = b""
+        self.seen = Session().open()
+
+    def send(self, data):
+        self.seen.host(data)
+        self.stream.sendall(data)
+
+    def take(self, wanted, what):
+        while len(self.rest) < len(wanted):
+            piece = self.stream.recv(4096)
+            if not piece:
+                break
+            self.rest += piece
+        got, self.rest = self.rest[:len(wanted)], self.rest[len(wanted):]
+        self.seen.station(got)
+        expect(got.hex(), wanted.hex(), what)
+
+
+def play_host(line):
+    """Negotiates, and sends what live hosts send; each answer is compared."""
+    for asked, granted in zip(ASKED, GRANTED):
+        line.send(asked)
+        line.take(granted, "negotiation")
+    answers = iter(ANSWERS)
+    for step in STEPS:
+        for opcode, body in step:
+            line.send(record(opcode, IMAGE if body is None else bytes.fromhex(body)))
+        opcode, body = next(answers)
+        line.take(record(opcode, body), f"answer behind {step[-1][1]}")
+
+
+def run_session(folder):
+    """The session, as the packets of a capture."""
+    script = os.path.join(folder, "live-host.connect")
+    with open(script, "w") as file:
+        file.write(SCRIPT)
+    with socket.create_server(("127.0.0.1", 0)) as listener:
+        listener.settimeout(30)
+        words = ["connect", "--extended", "--wait", "20", f"127.0.0.1:{listener.getsockname()[1]}", script]
+        station = subprocess.Popen([PROGRAM, *words], stdout=subprocess.PIPE, stderr=subprocess.PIPE, text=True)
+        try:
+            line = Line(listener.accept()[0])
+            play_host(line)
+            line.stream.close()
+            printed, error = station.communicate(timeout=30)
+        finally:
+            station.kill()
+    expect((station.returncode, printed, error), (1, PRINTED, ""), "what connect printed")
+    return line.seen.packets
+
+
+def fields_of(capture):
+    """Of each packet with a record what tshark names and shows in it, in order."""
+    read = subprocess.run(["tshark", "-r", capture, "-Y", "tn5250", "-T", "pdml"], capture_output=True, timeout=120)
+    packets = []
+    for packet in xml.etree.ElementTree.fromstring(read.stdout).iter("packet"):
+        found = [field for proto in packet.iter("proto") if proto.get("name") == "tn5250" for field in proto.iter("field")]
+        packets.append([(field.get("name")[len("tn5250."):], field.get("show")) for field in found])
+    return packets
+
+
+def named(fields, names):
+    return [field for field in fields if field[0] in names]
+
+
+def compare_with_wireshark(folder, packets):
+    capture = os.path.join(folder, "live-host.pcap")
+    write_capture(capture, packets)
+    records = fields_of(capture)
+    opcodes = [int(show, 16) for fields in records for name, show in fields if name == "operation_code"]
+    expect(sorted(opcodes), sorted([opcode for step in STEPS for opcode, _ in step] + [opcode for opcode, _ in ANSWERS]),
+           "opcodes")
+
+    def with_command(code, names):
+        return [named(fields, names) for fields in records if ("command_code", code) in fields]
+
+    asked = [("sf_length", "5"), ("class", "0xd9"), ("type", "0x70")]
+    expect(with_command("0xf3", {name for name, _ in asked}), [asked], "the query")
+    replies = [named(fields, REPLY_NAMES) for fields in records if ("aid", "0x88") in fields]
+    expect(replies, [REPLY_FIELDS], "its reply")
+    expect(len(with_command("0x02", set())), 1, "saves")
+    expect(with_command("0x12", IMAGE_NAMES), [IMAGE_FIELDS, IMAGE_FIELDS], "what was saved and restored")
+    expect(with_command("0x21", ERROR_NAMES), [ERROR_FIELDS], "the error")
+
+
+def main():
+    passed = failed = 0
+    with tempfile.TemporaryDirectory() as folder:
+        packets = None
+        try:
+            packets = run_session(folder)
+            passed += 1
+        except (Failure, OSError, subprocess.TimeoutExpired) as failure:
+            failed += 1
+            print(f"session: {failure}")
+        if shutil.which("tshark") is None:
+            print("left out: a live host's session as tshark reads it, since tshark isn't there")
+        elif packets is not None:
+            try:
+                compare_with_wireshark(folder, packets)
+                passed += 1
+            except (Failure, xml.etree.ElementTree.ParseError, subprocess.TimeoutExpired) as failure:
+                failed += 1
+                print(f"tshark: {failure}")
+    print(f"{passed} passed, {failed} failed")
+    sys.exit(failed != 0)
+
+
+main()
