@@ -37,6 +37,7 @@ pub record SecondGives (h : SecondHappened) (d : SecondParts) : Type 0 where
 abbrev pub profile_side : SideOn SecondHappened → StationSide
 profile_side s = record { options = s.options; happened = s.happened.shown }
 
+-- the side of the profile's station in one on this display
 abbrev pub second_side : SideOn SecondHappened → StationSide → SideOn SecondHappened
 second_side s t = record { options = t.options; happened = record s.happened { shown = t.happened } }
 
@@ -65,6 +66,7 @@ abbrev pub second_presses : SideOn SecondHappened → Option Key → KeyReaction
 second_presses s (Some key) = second_key s (profile.presses (profile_side s) key)
 second_presses s None = Silent (record s { happened = record s.happened { rings = false } })
 
+-- the key sends a record
 abbrev pub second_sends : Option Key → Bool
 second_sends (Some key) = profile.sends key
 second_sends None = false
@@ -74,6 +76,7 @@ abbrev pub second_written : SecondParts → Option (List ℕ) → List ℕ
 second_written d (Some reply) = reply
 second_written d None = d.told
 
+-- this display, as a station that stands on it sees it
 abbrev pub second : DisplayOf SecondParts ℕ SecondHappened AnswerPlace AnswerPart (Option Key) (Option (List ℕ))
 second = record {
   out = answer_rules;

@@ -42,7 +42,7 @@ pub record AnyLeads (host : AnyParts) (bytes : List ℕ) (items : List (Item ℕ
   pub stands : host.options ≡ side
   pub works : host.ended ≡ None
 
--- it takes no more
+-- the host takes no more
 abbrev pub IsAnyShut : AnyParts → Type 0
 IsAnyShut host = IsShut host.ended host.receiver.live.taken
 
@@ -53,7 +53,7 @@ pub record AnyStaysInside (new : AnyParts) (bytes : List ℕ) (items : List (Ite
   pub untold : step.event ≡ None
   pub leads : AnyLeads new bytes items side
 
--- it completes an item, at which the host goes on
+-- the last of these bytes completes an item, at which the host goes on
 pub record AnyTakesItem (new : AnyParts) (bytes : List ℕ) (items : List (Item ℕ)) (side : Negotiated)
     (step : AnyStep) : Type 0 where
   pub item : Item ℕ
@@ -64,7 +64,7 @@ pub record AnyTakesItem (new : AnyParts) (bytes : List ℕ) (items : List (Item 
   pub event : step.event ≡ told.event
   pub leads : AnyLeads new bytes (items ++ item ∷ []) next
 
--- it completes an item that the host refuses
+-- the last of these bytes completes an item that the host refuses
 pub record AnyRefusesItem (bytes : List ℕ) (items : List (Item ℕ)) (side : Negotiated) (reason : Reason) : Type 0 where
   pub item : Item ℕ
   pub so_far : List ℕ
@@ -84,7 +84,7 @@ IsAnyPushed old new bytes items side byte (Err Memory) = CompletesUnit raw_rules
     × (new.options ≡ side)
 IsAnyPushed old new bytes items side byte (Err Failed) = ⊥
 
--- what it does by a reaction to an item whose last byte stands at the place
+-- what the host has done by its reaction to an item whose last byte stands at the place
 abbrev pub IsReacted : AnyParts → AnyParts → Reaction Negotiated AnyOutput → ℕ → Result AnyStep Refusal → Type 0
 IsReacted old new reaction place (Ok step) = (next : Negotiated) × (told : AnyOutput) × (reaction ≡ GoesOn next told)
     × (step.reply ≡ plain_spelling raw_rules told.items) × (step.event ≡ told.event)
@@ -105,7 +105,7 @@ IsSendFault n r SendMemory = send_fault n r ≡ None
 IsSendFault n r SendFailed = ⊥
 IsSendFault n r why = send_fault n r ≡ Some why
 
--- these acts lead from one host to another; this goes out, and this is told
+-- the acts lead from one host to another, which wrote and told this in them
 abbrev pub AnyGoes : AnyParts → List (Act (Record ℕ)) → List ℕ → List AnyEvent → AnyParts → Type 0
 AnyGoes = Goes raw_rules raw_rules any_manner AnyLeads IsAnyShut
 
@@ -121,7 +121,7 @@ pub record IsAnySendRefusal (host : AnyParts) (r : Record ℕ) (why : SendFault)
       → length bytes + 1 < 2 ^ 64 → send_fault side r ≡ Some why
   pub shut : IsAnyShut host → why ≡ SendFailed
 
--- it has no reason to refuse
+-- the host has no reason to refuse to send the record, and isn't shut
 pub record IsAnySendTaken (host : AnyParts) (r : Record ℕ) : Type 0 where
   pub led : (bytes : List ℕ) (items : List (Item ℕ)) (side : Negotiated) → AnyLeads host bytes items side
       → length bytes + 1 < 2 ^ 64 → send_fault side r ≡ None

@@ -17,11 +17,11 @@ pub record Negotiated : Type 0 where
   pub host : HostState
   pub name : List ℕ
 
--- before it has opened the session, and after
+-- the options of such a host that hasn't opened the session, and no name
 abbrev pub new_negotiated : Negotiated
 new_negotiated = record { host = new_host; name = [] }
 
--- it has asked for the terminal type
+-- the options of such a host that has asked for the terminal type
 abbrev pub once_opened : Negotiated → Negotiated
 once_opened n = record { host = after_open n.host; name = n.name }
 
@@ -40,12 +40,12 @@ known_token (Command code) = Command code
 known_token (Negotiate verb option) = Negotiate verb option
 known_token (Subnegotiate sub) = known_sub sub (name_in sub)
 
--- the name afterwards: the first that is told behind SEND, and no other (RFC 1091, section 2)
+-- the name behind a subnegotiation: the first that is told behind SEND, and no other (RFC 1091, section 2)
 abbrev pub name_behind : TerminalName → List ℕ → Option (List ℕ) → List ℕ
 name_behind Requested old (Some name) = name
 name_behind state old told = old
 
--- the name after a token
+-- the name behind a token
 abbrev pub name_after : Negotiated → Telnet → List ℕ
 name_after n (Command code) = n.name
 name_after n (Negotiate verb option) = n.name
@@ -59,11 +59,11 @@ answer_with name (Some answer) = Some (record {
   reply = answer.reply;
 })
 
--- it answers a token as the host end does, to which any name is a known one
+-- what such a host answers to a token: as a host end does, to which any name is a known one
 abbrev pub any_answer : Negotiated → Telnet → Option (Answer Negotiated)
 any_answer n token = answer_with (name_after n token) (host_answer n.host (known_token token))
 
--- the answer is there: the same reply, and the same modes
+-- such a host answers as a host end does: with the same reply, and the same modes
 abbrev pub AnswersAlike : Option (Answer Negotiated) → Answer HostState → Type 0
 AnswersAlike None answer = ⊥
 AnswersAlike (Some any) answer = (any.reply ≡ answer.reply) × (any.after.host.modes ≡ answer.after.modes)

@@ -19,7 +19,7 @@ use Rattle.ws_any_host.specs.AnyOptions.{Negotiated, any_answer}
 use Rattle.ws_any_host.specs.declared.any_event.AnyEvent.{AnyEvent}
 use Rattle.ws_any_host.specs.declared.any_event.AnyEvent.TheVariants.{Ready, Record as Came}
 
--- what it writes, and tells its caller
+-- what such a host writes at an item, and tells its caller
 pub record AnyOutput : Type 0 where
   pub items : List (Item ℕ)
   pub event : Option AnyEvent
@@ -28,7 +28,8 @@ pub record AnyOutput : Type 0 where
 abbrev pub any_ready : Bool → Negotiated → Option AnyEvent
 any_ready was_allowed now = if not was_allowed && host_allows_records now.host then Some (Ready now.name) else None
 
--- what it makes of the answer to a Telnet command: it is sent, or no terminal type is told
+-- what such a host makes of its answer to a Telnet command: it is written; where there is none, no terminal type is
+-- told
 abbrev pub any_negotiates : Negotiated → Option (Answer Negotiated) → Reaction Negotiated AnyOutput
 any_negotiates n None = Refuses UnsupportedTerminal
 any_negotiates n (Some answer) = GoesOn answer.after (record {
@@ -36,38 +37,38 @@ any_negotiates n (Some answer) = GoesOn answer.after (record {
   event = any_ready (host_allows_records n.host) answer.after;
 })
 
--- it answers Telnet commands, and tells any record, once records are allowed
+-- what such a host does at an item: it answers a Telnet command, and tells any record, once records are allowed
 abbrev pub any_takes : Negotiated → Item ℕ → Reaction Negotiated AnyOutput
 any_takes n (TelnetItem token) = any_negotiates n (any_answer n token)
 any_takes n (RecordItem r) =
     if host_allows_records n.host then GoesOn n (record { items = []; event = Some (Came r) })
     else Refuses RecordBeforeNegotiation
 
--- more bytes than a record's header can declare
+-- the record has more bytes than its header can declare
 abbrev pub is_too_big : Record ℕ → Bool
 is_too_big r = not (nat_lt (length (record_bytes raw_rules r)) (2 ^ 16))
 
--- why it doesn't send a record: the first that applies
+-- why such a host doesn't send a record: the first that applies
 abbrev pub send_fault : Negotiated → Record ℕ → Option SendFault
 send_fault n r =
     if not (host_allows_records n.host) then Some NotAllowed
     else (if is_too_big r then Some TooBig else None)
 
--- what it does at an item: it goes on as it reacts, and a refused one does nothing
+-- what such a host has done behind an item: it has gone on as it reacts; at a refused one nothing
 abbrev pub any_at_item : Negotiated → Reaction Negotiated AnyOutput → Doing Negotiated ℕ AnyEvent
 any_at_item n (Refuses reason) = idle n
 any_at_item n (GoesOn next output) = record { side = next; written = output.items; told = as_list output.event }
 
--- a send that is refused has no effect
+-- what such a host has done behind a send: the record is written; at a refused one nothing
 abbrev pub any_at_send : Negotiated → Record ℕ → Option SendFault → Doing Negotiated ℕ AnyEvent
 any_at_send n r (Some fault) = idle n
 any_at_send n r None = record { side = n; written = RecordItem r ∷ []; told = [] }
 
--- what it does at each thing that happens; its caller sends records
+-- what such a host has done behind each thing that happens; its caller sends records
 abbrev pub any_at : Negotiated → Happening ℕ (Record ℕ) → Doing Negotiated ℕ AnyEvent
 any_at n (Arrives item) = any_at_item n (any_takes n item)
 any_at n (Does r) = any_at_send n r (send_fault n r)
 
--- its manner: what it does at items and sends, and which items it takes
+-- the manner of such a host: what it does at items and sends, and which items it takes
 abbrev pub any_manner : Manner Negotiated ℕ ℕ (Record ℕ) AnyEvent
 any_manner = record { at = any_at; takes = λ n item. goes_on (any_takes n item) }

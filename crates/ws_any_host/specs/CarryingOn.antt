@@ -12,7 +12,7 @@ use Rattle.ws_live.specs.declared.live.Closing.{Closing}
 
 -- what the line does
 module _ {L P : Type 0} (runs : L → P → Result Closing Fault → List ℕ → P → Type 0) (line : L) where
-  -- it was carried out so many times, and went well and printed this, and then came to this
+  -- the line was carried out so many times, went well and printed this, and then came to this
   pub record CarriesOn (from to : P) (outcome : Result Closing Fault) (text : List ℕ) : Type 0 where
     pub count : ℕ
     pub printed : List ℕ
@@ -22,7 +22,8 @@ module _ {L P : Type 0} (runs : L → P → Result Closing Fault → List ℕ �
     pub came : runs line mid outcome last to
     pub all : text ≡ printed ++ last
 
-  -- up to the first time that nothing is told; all is well where that stops nothing
+  -- what is printed by a line that is carried out up to the first time that nothing is told; all is well where that
+  -- stops nothing
   abbrev pub IsCarriedText : P → Bool → List ℕ → P → Type 0
   IsCarriedText from all_well text to = (closing : Closing) × CarriesOn from to (Ok closing) text
       × (is_told closing ≡ false) × (all_well ≡ not (stops closing))
@@ -40,12 +41,13 @@ module _ {L P : Type 0} (runs : L → P → Result Closing Fault → List ℕ �
         ⊎ ((why ≡ fault.Write) × ((closing : Closing) × (text : List ℕ) × runs line from (Ok closing) text to
         × FailedWithin prints misprints old new text))
 
-    -- what was told is printed
+    -- a line was carried out again and again, up to one that closes otherwise than with what was told, and all was
+    -- printed
     abbrev pub HasCarriedOn : Bool → Type 0
     HasCarriedOn all_well = (text : List ℕ) × IsCarriedText from all_well text to
         × WentOut prints misprints old new text
 
-    -- a device or memory failed, or what was told didn't go out, or too much was told
+    -- why that ended early: a device failed, memory was wanting, what was told didn't go out, or too much was told
     abbrev pub IsCarryOnFault : Fault → Type 0
     IsCarryOnFault why = ((text : List ℕ) × (output : Output) × CarriesOn from to (Err why) text
         × IsOut prints misprints old new output text)

@@ -9,7 +9,7 @@ use Rattle.ws_c.specs.declared.status.Status.{Status}
 use Rattle.ws_c.specs.declared.status.Status.TheVariants.{Done, NoRoom, BadArgument, NoAnswer}
 use Rattle.ws_c.specs.Calls.{holds_front}
 
--- what of an answer is no field
+-- what of an answer is no field: its cursor, its AID, and how many fields it has
 abbrev pub answer_told : HostAnswer → AnswerTold
 answer_told a = record {
   field_count = length a.fields;
@@ -18,7 +18,7 @@ answer_told a = record {
   aid = a.aid;
 }
 
--- nothing of an answer
+-- what is told of an answer where there is none
 abbrev pub no_answer : AnswerTold
 no_answer = record { field_count = 0; cursor_row = 0; cursor_column = 0; aid = 0 }
 
@@ -27,22 +27,22 @@ abbrev pub IsAnswerTold : Option HostAnswer → Status → AnswerTold → Type 0
 IsAnswerTold None status told = (status ≡ NoAnswer) × (told ≡ no_answer)
 IsAnswerTold (Some answer) status told = (status ≡ Done) × (told ≡ answer_told answer)
 
--- a field without its content
+-- what is told of a field of an answer, but for its content
 abbrev pub read_field_told : ReadField → ReadFieldTold
 read_field_told f = record { length = length f.content; row = f.address / 80 + 1; column = f.address % 80 + 1 }
 
--- nothing of a field
+-- what is told of a field of an answer where there is none
 abbrev pub no_read_field : ReadFieldTold
 no_read_field = record { length = 0; row = 0; column = 0 }
 
--- what is told of a field; a buffer with room for its content gets it
+-- what is told of a field of an answer; a buffer with room for its content gets it
 pub record IsContentTold (field : ReadField) (status : Status) (told : ReadFieldTold)
     (buffer after : List ℕ) : Type 0 where
   pub state : told ≡ read_field_told field
   pub room : length buffer < length field.content → (status ≡ NoRoom) × (after ≡ buffer)
   pub put : length field.content ≤ length buffer → (status ≡ Done) × (after ≡ holds_front field.content buffer)
 
--- what is told of a field, where there is one
+-- what is told of a field of an answer, where there is one
 abbrev pub IsReadFieldTold : Option ReadField → Status → ReadFieldTold → List ℕ → List ℕ → Type 0
 IsReadFieldTold None status told buffer after = (status ≡ BadArgument) × (told ≡ no_read_field) × (after ≡ buffer)
 IsReadFieldTold (Some field) status told buffer after = IsContentTold field status told buffer after

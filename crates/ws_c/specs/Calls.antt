@@ -59,15 +59,15 @@ status_number NoReadToCancel = 12
 status_number TooBig = 13
 status_number NoAnswer = 14
 
--- a buffer whose front these bytes were put into
+-- a buffer at whose front these bytes were put
 abbrev pub holds_front : List ℕ → List ℕ → List ℕ
 holds_front bytes buffer = bytes ++ drop (length bytes) buffer
 
--- nothing is told but that so many bytes were put
+-- what a call tells that put so many bytes, and nothing else
 abbrev pub told_length : ℕ → Told
 told_length n = record { length = n; place = 0; reason = 0 }
 
--- a station is made for the terminal of the name, or the handle stays as it is
+-- what a new station crosses as: it is made for the terminal of the name, or the handle stays as it is
 abbrev pub IsStationNew : List ℕ → Option Machine → Option Machine → Status → Type 0
 IsStationNew name (Some held) now status = (status ≡ InUse) × (now ≡ Some held)
 IsStationNew name None now Done = (terminal : TerminalType) × (station : StationParts)
@@ -86,7 +86,7 @@ pub record StationKeyedOn {D P U H PlaceV V K R : Type 0} (rules : Rules P U) (d
   pub failed : IsSome old.ended → result ≡ Err KeyFailed
   pub same : OnErr result (new ≡ old)
 
--- one of the profile
+-- a station of the profile at a key
 abbrev pub StationKeyed : StationParts → StationParts → Key → Result (Option Answer) KeyFault → Type 0
 StationKeyed = StationKeyedOn element_rules profile
 
@@ -104,7 +104,7 @@ IsKeyTold (Ok (Some answer)) status told old new = (status ≡ Done)
     × (told ≡ told_length (length (answer_spelling answer))) × (new ≡ holds_front (answer_spelling answer) old)
 IsKeyTold (Err fault) status told old new = IsKeyFaultTold fault status told × (new ≡ old)
 
--- a key at a station
+-- what a key crosses as that is pressed at a station
 abbrev pub IsPress : Key → List ℕ → List ℕ → Status → Told → StationParts → StationParts → Type 0
 IsPress key buffer after status told old new = (result : Result (Option Answer) KeyFault)
     × StationKeyed old new key result × IsKeyTold result status told buffer after
@@ -159,11 +159,11 @@ state_of_screen screen records refused is_ready error_row = record {
   error_row = error_row;
 }
 
--- what of a station is no cell and no field
+-- what is told of a station but for its cells and fields
 abbrev pub state_told : StationParts → StateTold
 state_told s = state_of_screen s.screen s.records (refused_byte s.ended) (station_allows_records s.options) 0
 
--- nothing of a station
+-- what is told of a station where there is none
 abbrev pub no_state : StateTold
 no_state = record {
   records = 0;
@@ -185,15 +185,15 @@ no_state = record {
 abbrev pub row_text : ScreenParts → ℕ → List ℕ
 row_text screen row = encode_utf8_all (row_chars screen.cells row)
 
--- a field
+-- what is told of a field: its start, its length and its format word
 abbrev pub field_told : Field → FieldTold
 field_told f = record { row = f.start / 80 + 1; column = f.start % 80 + 1; length = f.length; format = f.format }
 
--- a row of the screen
+-- a row of the screen: 1 to 24
 abbrev pub IsRow : ℕ → Type 0
 IsRow row = (1 ≤ row) × (row ≤ 24)
 
--- nothing of a field
+-- what is told of a field where there is none
 abbrev pub no_field : FieldTold
 no_field = record { row = 0; column = 0; length = 0; format = 0 }
 

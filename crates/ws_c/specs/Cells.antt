@@ -17,15 +17,15 @@ cell_told s c = record {
   attribute = (shown_at s.cells c).attribute;
 }
 
--- rows of the screen, in order
+-- rows of the screen, in order: from the first to the last, each of 1 to 24
 abbrev pub AreRows : ℕ → ℕ → Type 0
 AreRows first last = (1 ≤ first) × (first ≤ last) × (last ≤ 24)
 
--- how many cells they have
+-- how many cells these rows have
 abbrev pub cells_in : ℕ → ℕ → ℕ
 cells_in first last = (last + 1 - first) * 80
 
--- what is told of them, in screen order
+-- what is told of the cells of these rows, in screen order
 abbrev pub rows_told : ScreenParts → ℕ → ℕ → List CellTold
 rows_told s first last = map (cell_told s) (range_with_len ((first - 1) * 80) (cells_in first last))
 

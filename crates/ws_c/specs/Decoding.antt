@@ -28,7 +28,7 @@ use Rattle.ws_c.specs.declared.decoder.StepTold.{StepTold}
 use Rattle.ws_c.specs.Calls.{holds_front}
 use Rattle.ws_c.specs.Pushes.{TakesAll}
 
--- a decoder is made, or the handle stays as it is
+-- what a new decoder of the profile's streams crosses as: it is made, or the handle stays as it is
 abbrev pub IsDecoderNew : Option Machine → Option Machine → Status → Type 0
 IsDecoderNew (Some held) now status = (status ≡ InUse) × (now ≡ Some held)
 IsDecoderNew None now Done = (decoder : Watching Place) × (now ≡ Some (Decoder decoder))
@@ -36,7 +36,7 @@ IsDecoderNew None now Done = (decoder : Watching Place) × (now ≡ Some (Decode
 IsDecoderNew None now NoMemory = now ≡ None
 IsDecoderNew None now status = ⊥
 
--- so many bytes were taken, and this kind is complete; nothing else is told
+-- what is told of a step: so many bytes were taken, this kind is complete, and nothing else
 abbrev pub plain_step : ℕ → ℕ → StepTold
 plain_step taken kind = record {
   taken = taken;
@@ -49,7 +49,7 @@ plain_step taken kind = record {
   reason = 0;
 }
 
--- whether something is complete with a step, or its byte is refused
+-- something is complete with the step, or its byte is refused
 abbrev pub tells : {U : Type 0} → Step U → Bool
 tells More = false
 tells step = true
@@ -103,7 +103,8 @@ module _ {P U : Type 0} (rules : Rules P U) where
   IsDecoderEndOn (byte ∷ left) before status told buffer after old new = (step : Step U)
       × DecoderPushedOn old new byte step × (tells step ≡ true) × IsStepToldOn step before status told buffer after
 
-  -- a decoder at a push of bytes: with some nothing is complete, and it ends there or with the one behind them
+  -- what a push of bytes into a decoder crosses as: with some nothing is complete, and it ends there or with the one
+  -- behind them
   pub record IsDecodeOn (bytes buffer after : List ℕ) (status : Status) (told : StepTold) (old new : Watching P)
       : Type 0 where
     pub quiet : ℕ
@@ -128,22 +129,24 @@ module _ {P U : Type 0} (rules : Rules P U) where
   IsEndOfOn status place old new = (result : Result (Unit {0}) Fault) × DecoderFinishedOn old new result
       × IsEndTold result status place
 
--- the same of a decoder of the profile's streams
+-- what a push of bytes into a decoder of the profile's streams crosses as
 abbrev pub IsDecode : List ℕ → List ℕ → List ℕ → Status → StepTold → Watching Place → Watching Place → Type 0
 IsDecode = IsDecodeOn element_rules
 
+-- what the end of a stream of the profile crosses as
 abbrev pub IsEnd : Status → ℕ → Watching Place → Watching Place → Type 0
 IsEnd = IsEndOfOn element_rules
 
--- and of live hosts' streams
+-- what a push of bytes into a decoder of live hosts' streams crosses as
 abbrev pub IsExtendedDecode : List ℕ → List ℕ → List ℕ → Status → StepTold → Watching ExtendedPlace
     → Watching ExtendedPlace → Type 0
 IsExtendedDecode = IsDecodeOn extended_rules
 
+-- what the end of a live host's stream crosses as
 abbrev pub IsExtendedEnd : Status → ℕ → Watching ExtendedPlace → Watching ExtendedPlace → Type 0
 IsExtendedEnd = IsEndOfOn extended_rules
 
--- a decoder of live hosts' streams is made, or the handle stays as it is
+-- what a new decoder of live hosts' streams crosses as: it is made, or the handle stays as it is
 abbrev pub IsExtendedDecoderNew : Option Machine → Option Machine → Status → Type 0
 IsExtendedDecoderNew (Some held) now status = (status ≡ InUse) × (now ≡ Some held)
 IsExtendedDecoderNew None now Done = (decoder : Watching ExtendedPlace) × (now ≡ Some (ExtendedDecoder decoder))

@@ -14,8 +14,8 @@ use Rattle.ws_c.specs.declared.machine.Machine.TheVariants.{Station}
 use Rattle.ws_c.specs.declared.status.Status.{Status}
 use Rattle.ws_c.specs.declared.status.Status.TheVariants.{NothingHeld}
 
--- A call does this with the station that a handle holds, if it is one of the profile, and that if it is one as live
--- hosts use it. Where it holds none, the call says so, the handle stays as it was, and this is said of the outputs.
+-- What a call does with the station that a handle holds: this with one of the profile, that with one as live hosts use
+-- it. Where it holds none, the call says so, the handle stays as it was, and this is said of the outputs.
 abbrev pub OnStations : Option Machine → Option Machine → Status → (StationParts → StationParts → Type 0)
     → (HeldStation → HeldStation → Type 0) → Type 0 → Type 0
 OnStations (Some (Station old)) now status does also untold = (new : StationParts) × (now ≡ Some (Station new))
@@ -24,24 +24,27 @@ OnStations (Some (ExtendedStation old)) now status does also untold = (new : Hel
     × (now ≡ Some (ExtendedStation new)) × also old new
 OnStations held now status does also untold = (status ≡ NothingHeld) × (now ≡ held) × untold
 
--- A call tells this of the screen of a station of either kind, which stays as it was.
+-- What a call tells of the screen of a station of either kind, which stays as it was.
 abbrev pub OnScreen : Option Machine → Option Machine → Status → (ScreenParts → Type 0) → Type 0 → Type 0
 OnScreen held now status tells untold = OnStations held now status (λ old new. (new ≡ old) × tells old.screen)
     (λ old new. (new ≡ old) × tells old.station.screen.display.screen) untold
 
--- the same of a station as live hosts use it alone; where a handle holds none, the call answers this
+-- What a call does with the station as live hosts use it that a handle holds. Where it holds none, the call answers
+-- this, the handle stays as it was, and this is said of the outputs.
 abbrev pub OnExtended : Option Machine → Option Machine → Status → (HeldStation → HeldStation → Type 0) → Status
     → Type 0 → Type 0
 OnExtended (Some (ExtendedStation old)) now status does otherwise untold = (new : HeldStation)
     × (now ≡ Some (ExtendedStation new)) × does old new
 OnExtended held now status does otherwise untold = (status ≡ otherwise) × (now ≡ held) × untold
 
--- the same of a host's end
+-- What a call does with the host's end that a handle holds. Where it holds none, the call says so, the handle stays as
+-- it was, and this is said of the outputs.
 abbrev pub OnHost : Option Machine → Option Machine → Status → (HeldHost → HeldHost → Type 0) → Type 0 → Type 0
 OnHost (Some (Host old)) now status does untold = (new : HeldHost) × (now ≡ Some (Host new)) × does old new
 OnHost held now status does untold = (status ≡ NothingHeld) × (now ≡ held) × untold
 
--- The same of a decoder of either kind: this of one of the profile's streams, that of one of live hosts' streams.
+-- What a call does with the decoder that a handle holds: this with one of the profile's streams, that with one of live
+-- hosts' streams. Where it holds none, the call says so, the handle stays as it was, and this is said of the outputs.
 abbrev pub OnDecoders : Option Machine → Option Machine → Status → (Watching Place → Watching Place → Type 0)
     → (Watching ExtendedPlace → Watching ExtendedPlace → Type 0) → Type 0 → Type 0
 OnDecoders (Some (Decoder old)) now status does also untold = (new : Watching Place) × (now ≡ Some (Decoder new))
@@ -50,18 +53,18 @@ OnDecoders (Some (ExtendedDecoder old)) now status does also untold = (new : Wat
     × (now ≡ Some (ExtendedDecoder new)) × also old new
 OnDecoders held now status does also untold = (status ≡ NothingHeld) × (now ≡ held) × untold
 
--- the handle is freed where it holds a station, and stays as it was where it holds none
+-- a handle that held a station of either kind holds nothing, and another stays as it was
 abbrev pub IsStationFreed : Option Machine → Option Machine → Type 0
 IsStationFreed (Some (Station old)) now = now ≡ None
 IsStationFreed (Some (ExtendedStation old)) now = now ≡ None
 IsStationFreed held now = now ≡ held
 
--- the same of a host's end
+-- a handle that held a host's end holds nothing, and another stays as it was
 abbrev pub IsHostFreed : Option Machine → Option Machine → Type 0
 IsHostFreed (Some (Host old)) now = now ≡ None
 IsHostFreed held now = now ≡ held
 
--- the same of a decoder
+-- a handle that held a decoder of either kind holds nothing, and another stays as it was
 abbrev pub IsDecoderFreed : Option Machine → Option Machine → Type 0
 IsDecoderFreed (Some (Decoder old)) now = now ≡ None
 IsDecoderFreed (Some (ExtendedDecoder old)) now = now ≡ None

@@ -30,11 +30,12 @@ use Rattle.ws_c.specs.declared.status.Status.TheVariants.{Done, NoMemory, InUse,
 use Rattle.ws_c.specs.declared.told.PushedTold.{PushedTold}
 use Rattle.ws_c.specs.declared.told.Told.{Told}
 
--- what of its last answer has not gone out yet
+-- what of a station's last answer hasn't gone out yet
 abbrev pub waiting : HeldStation → List ℕ
 waiting h = drop h.sent (extended_written h.station.screen h.reply)
 
--- a station is made for the terminal of the name, or the handle stays as it is
+-- what a new station as live hosts use it crosses as: it is made for the terminal of the name, or the handle stays as
+-- it is
 abbrev pub IsExtendedNew : List ℕ → Option Machine → Option Machine → Status → Type 0
 IsExtendedNew name (Some held) now status = (status ≡ InUse) × (now ≡ Some held)
 IsExtendedNew name None now Done = (terminal : TerminalType) × (held : HeldStation)
@@ -45,7 +46,8 @@ IsExtendedNew name None now NoMemory = (terminal : TerminalType) × (terminal_na
     × (now ≡ None)
 IsExtendedNew name None now status = ⊥
 
--- Of what waits a front is put behind what stands at the buffer's front, and counted: all, or as much as there is room.
+-- Of what waits a front goes out: it is put behind what stands at the buffer's front, and counted. That is all of it,
+-- or as much as there is room for.
 pub record HandsOut (old new : HeldStation) (told counts : PushedTold) (buffer after : List ℕ) : Type 0 where
   pub out : List ℕ
   pub whole : waiting old ≡ out ++ waiting new
@@ -84,19 +86,20 @@ abbrev pub key_or_reset : Option Key → ExtendedKey
 key_or_reset (Some key) = Profile key
 key_or_reset None = Reset
 
--- a key that is pressed; nothing waits then
+-- what a key crosses as that is pressed at a station as live hosts use it; nothing waits then
 abbrev pub IsHeldKeyed : ExtendedKey → List ℕ → List ℕ → Status → Told → HeldStation → HeldStation → Type 0
 IsHeldKeyed key buffer after status told old new = (result : Result (Option Answer) KeyFault)
     × StationKeyedOn extended_rules extended old.station new.station key result
     × IsKeyTold result status told buffer after × (waiting new ≡ [])
 
--- A key: where something waits it is not pressed, since its record could get between the bytes of another.
+-- What a key crosses as at a station as live hosts use it: where something waits it isn't pressed, since its record
+-- could get between the bytes of another.
 pub record IsHeldPress (key : ExtendedKey) (buffer after : List ℕ) (status : Status) (told : Told)
     (old new : HeldStation) : Type 0 where
   pub waits : waiting old ≢ [] → (status ≡ NoRoom) × (new ≡ old) × (told ≡ told_length 0) × (after ≡ buffer)
   pub pressed : waiting old ≡ [] → IsHeldKeyed key buffer after status told old new
 
--- a key of the profile, where there is one, as a key of all
+-- a key of the profile, where there is one, as a key of a station as live hosts use it
 abbrev pub among_all : Option Key → Option ExtendedKey
 among_all None = None
 among_all (Some key) = Some (Profile key)
@@ -106,7 +109,8 @@ pub record IsAnyKeyFrom (kind value : ℕ) (key : Option ExtendedKey) : Type 0 w
   pub reset : kind ≡ RESET_KIND → key ≡ Some Reset
   pub other : kind ≢ RESET_KIND → (k : Option Key) × IsKeyFrom kind value k × (key ≡ among_all k)
 
--- A key, where there is one, at what the handle holds. Only a station as live hosts use it has Reset.
+-- What a key crosses as, where there is one, at the station of either kind that a handle holds; only one as live hosts
+-- use it has Reset.
 abbrev pub IsAnyPressFrom : Option ExtendedKey → Option Machine → Option Machine → List ℕ → List ℕ → Told → Status
     → Type 0
 IsAnyPressFrom None held now buffer after told status = (status ≡ BadArgument) × (now ≡ held) × (after ≡ buffer)
@@ -117,7 +121,7 @@ IsAnyPressFrom (Some (Profile key)) held now buffer after told status = OnStatio
     (IsPress key buffer after status told) (IsHeldPress (Profile key) buffer after status told)
     ((told ≡ told_length 0) × (after ≡ buffer))
 
--- what of a station is no cell and no field, with the row on which an error stands
+-- what is told of a station as live hosts use it but for its cells and fields, with the row on which an error stands
 abbrev pub extended_state_told : PartsOn DisplayParts ExtendedPlace → StateTold
 extended_state_told s = state_of_screen s.screen.display.screen s.records (refused_byte s.ended)
     (station_allows_records s.options) (row_number (standing_row s.screen.display))

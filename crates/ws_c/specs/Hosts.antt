@@ -36,13 +36,14 @@ use Rattle.ws_c.specs.Pushes.{IsPushRefused, StandsBehind, pushed_told}
 abbrev pub opening_bytes : List ℕ
 opening_bytes = plain_spelling element_rules (TelnetItem opening ∷ [])
 
--- a host's end that has written them and taken no byte
+-- a host's end that has written its opening and has taken no byte
 pub record IsNewHost (host : HeldHost) : Type 0 where
   pub leads : HostLeads host.end [] [] new_host_side
   pub unsent : host.sent ≡ []
   pub unanswered : host.answer ≡ None
 
--- a host's end is made, and the bytes are given, or the handle and the buffer stay as they are, and nothing is told
+-- what a new host's end crosses as: it is made, and its opening's bytes are given; or the handle and the buffer stay as
+-- they are, and nothing is told
 abbrev pub IsHostNew : List ℕ → List ℕ → Told → Option Machine → Option Machine → Status → Type 0
 IsHostNew buffer after told (Some held) now status = (status ≡ InUse) × (now ≡ Some held) × (after ≡ buffer)
     × (told ≡ told_length 0)
@@ -62,7 +63,8 @@ pub record HostTakes (old : HostParts) (bytes : List ℕ) (n : ℕ) (written : L
   pub counts : 0 < n → old.receiver.live.taken + 1 ≡ 2 ^ 64 → ⊥
   pub none : n ≡ 0 → (new ≡ old) × (written ≡ [])
 
--- The first n of these are taken, it writes this and tells this at the last of them, and nothing before.
+-- The first n of these bytes are taken, the host end writes this and tells this at the last of them, and nothing
+-- before.
 pub record HostTells (old : HostParts) (bytes : List ℕ) (n : ℕ) (written : List ℕ) (event : HostEvent)
     (new : HostParts) : Type 0 where
   pub some : 0 < n
@@ -108,12 +110,12 @@ event_told (Some Attention) = record { kind = 3; terminal = 0 }
 event_told (Some SystemRequest) = record { kind = 4; terminal = 0 }
 event_told (Some Cancelled) = record { kind = 5; terminal = 0 }
 
--- the last answer, after an event
+-- the last answer, behind an event
 abbrev pub answer_after : Option HostEvent → Option HostAnswer → Option HostAnswer
 answer_after (Some (Answer answer)) last = Some answer
 answer_after event last = last
 
--- what bytes cross as at the last of which it tells something, behind so many that told nothing
+-- what a push of bytes crosses as at the last of which the host end tells something, behind so many that told nothing
 pub record IsHostTold (left : List ℕ) (quiet : ℕ) (status : Status) (told : PushedTold) (event : EventTold)
     (last : List ℕ) (old new : HeldHost) : Type 0 where
   pub length_is : ℕ
@@ -125,7 +127,7 @@ pub record IsHostTold (left : List ℕ) (quiet : ℕ) (status : Status) (told : 
   pub sent_is : new.sent ≡ old.sent
   pub answer_is : new.answer ≡ answer_after (Some tells) old.answer
 
--- what bytes cross as at one of which it fails
+-- what a push of bytes crosses as at one of which the host end fails
 pub record IsHostFailed (left : List ℕ) (quiet : ℕ) (status : Status) (told : PushedTold) (event : EventTold)
     (last : List ℕ) (old new : HeldHost) : Type 0 where
   pub length_is : ℕ
@@ -138,7 +140,7 @@ pub record IsHostFailed (left : List ℕ) (quiet : ℕ) (status : Status) (told 
   pub sent_is : new.sent ≡ old.sent
   pub answer_is : new.answer ≡ old.answer
 
--- that nothing is told but the counts
+-- nothing is told but the counts
 abbrev pub IsHostSilent : ℕ → PushedTold → EventTold → List ℕ → HeldHost → HeldHost → Type 0
 IsHostSilent quiet told event last old new = (told ≡ pushed_told quiet told.replied) × (event ≡ event_told None)
     × (last ≡ []) × (new ≡ old)
@@ -152,7 +154,7 @@ IsHostEnd (byte ∷ left) quiet room status told event last old new =
     × (REPLY_ROOM ≤ room → IsHostTold (byte ∷ left) quiet status told event last old new
     ⊎ IsHostFailed (byte ∷ left) quiet status told event last old new)
 
--- a host's end at a push of bytes: some tell nothing, and it ends there or with one behind them
+-- what a push of bytes into a host's end crosses as: some tell nothing, and it ends there or with one behind them
 pub record IsHostPush (bytes buffer after : List ℕ) (status : Status) (told : PushedTold) (event : EventTold)
     (old new : HeldHost) : Type 0 where
   pub counted : told.taken ≤ length bytes

@@ -17,7 +17,7 @@ color_number Yellow = 5
 color_number Pink = 6
 color_number Blue = 7
 
--- nothing of a look
+-- what is told of a look where there is none
 abbrev pub no_look : LookTold
 no_look = record {
   color = 0;
@@ -29,7 +29,7 @@ no_look = record {
   has_separators = false;
 }
 
--- on a colour display: its style, and whether it hides; nothing is intense there
+-- what an attribute looks like on a colour display: its style, and whether it hides; nothing is intense there
 abbrev pub color_look : ℕ → LookTold
 color_look a = record {
   color = color_number (style_of a).color;
@@ -41,7 +41,7 @@ color_look a = record {
   has_separators = (style_of a).has_separators;
 }
 
--- on a monochrome display, which has no colour: its bits, but where it hides nothing else
+-- what an attribute looks like on a monochrome display, which has no colour: its bits, but where it hides nothing else
 abbrev pub monochrome_look : ℕ → LookTold
 monochrome_look a =
     if is_hidden a then record no_look { is_hidden = true }
@@ -55,6 +55,6 @@ monochrome_look a =
       has_separators = has_separators a;
     }
 
--- on a display that is or isn't in colour
+-- what an attribute looks like, on a display that is or isn't in colour
 abbrev pub look_told : Bool → ℕ → LookTold
 look_told is_color a = if is_color then color_look a else monochrome_look a

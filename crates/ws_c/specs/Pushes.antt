@@ -21,15 +21,15 @@ use Rattle.ws_c.specs.declared.told.PushedTold.{PushedTold}
 use Rattle.ws_c.specs.declared.told.TheConstants.{REPLY_ROOM}
 use Rattle.ws_c.specs.Calls.{holds_front}
 
--- nothing was done
+-- what a push tells where nothing was done
 abbrev pub nothing_pushed : PushedTold
 nothing_pushed = record { taken = 0; replied = 0; place = 0; reason = 0 }
 
--- so many bytes were taken, so many written, and none is refused
+-- what a push tells where so many bytes were taken, so many written, and none was refused
 abbrev pub pushed_told : ℕ → ℕ → PushedTold
 pushed_told taken replied = record { taken = taken; replied = replied; place = 0; reason = 0 }
 
--- the status of a refusal, and its place and reason beside the counts
+-- what a push tells of a refusal: its status, and its place and reason beside the counts
 abbrev pub IsPushRefused : Refusal → ℕ → ℕ → Status → PushedTold → Type 0
 IsPushRefused (At place reason) taken replied status told = (status ≡ Refused)
     × (told ≡ record { taken = taken; replied = replied; place = place; reason = reason_number reason })
@@ -102,17 +102,19 @@ module _ {D P U H PlaceV V K R : Type 0} (rules : Rules P U) (d : DisplayOf D U 
       × (REPLY_ROOM ≤ room → (refusal : Refusal) × (n : ℕ) × StationRefusesOn old (byte ∷ left) n refusal new
       × (told.taken ≡ fed + n) × IsPushRefused refusal told.taken told.replied status told)
 
--- the same of a station of the profile
+-- the first n of these bytes lead a station of the profile to another, which wrote this and counts them
 abbrev pub StationTakes : StationParts → List ℕ → ℕ → List ℕ → StationParts → Type 0
 StationTakes = StationTakesOn element_rules profile
 
+-- a station of the profile refuses one of these bytes, of which so many stand before it and bring nothing
 abbrev pub StationRefuses : StationParts → List ℕ → ℕ → Refusal → StationParts → Type 0
 StationRefuses = StationRefusesOn element_rules profile
 
+-- where a push of bytes into a station of the profile ends
 abbrev pub IsStationEnd : List ℕ → ℕ → ℕ → Status → PushedTold → StationParts → StationParts → Type 0
 IsStationEnd = IsEndOn element_rules profile
 
--- a station at a push of bytes: what it writes is put at the buffer's front
+-- what a push of bytes into a station of the profile crosses as: what it writes is put at the buffer's front
 pub record IsStationPush (bytes buffer after : List ℕ) (status : Status) (told : PushedTold) (old new : StationParts)
     : Type 0 where
   pub counted : told.taken ≤ length bytes

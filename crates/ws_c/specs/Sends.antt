@@ -43,7 +43,7 @@ IsReadFrom rules bytes (Ok body) = IsBody rules bytes body
 IsReadFrom rules bytes (Err Bad) = IsBodyFault (IsBody rules bytes) Bad
 IsReadFrom rules bytes (Err BodyMemory) = HasUnitSoFar rules bytes
 
--- a host's end at a send
+-- what a send at a host's end gives
 pub record HostSent (old new : HostParts) (opcode : Opcode) (body : List Element)
     (result : Result (List ℕ) SendFault) : Type 0 where
   pub sent : (bytes : List ℕ) (items : List (Item AnswerPart)) (side : HostSide) → HostLeads old bytes items side
@@ -54,7 +54,7 @@ pub record HostSent (old new : HostParts) (opcode : Opcode) (body : List Element
   pub full : old.receiver.live.taken + 1 ≡ 2 ^ 64 → result ≡ Err SendFailed
   pub failed : IsSome old.ended → result ≡ Err SendFailed
 
--- a host's end at a cancel
+-- what a cancel at a host's end gives
 pub record HostCancelled (old new : HostParts) (result : Result (List ℕ) SendFault) : Type 0 where
   pub sent : (bytes : List ℕ) (items : List (Item AnswerPart)) (side : HostSide) → HostLeads old bytes items side
       → length bytes + 1 < 2 ^ 64 → MatchResult result (λ spelled. IsSent new bytes items (host_cancel side) spelled)
@@ -63,7 +63,7 @@ pub record HostCancelled (old new : HostParts) (result : Result (List ℕ) SendF
   pub full : old.receiver.live.taken + 1 ≡ 2 ^ 64 → result ≡ Err SendFailed
   pub failed : IsSome old.ended → result ≡ Err SendFailed
 
--- the status of a fault
+-- the status of a send's fault
 abbrev pub send_status : SendFault → Status
 send_status SendFailed = Failed
 send_status NotAllowed = NotReady
@@ -74,12 +74,12 @@ send_status (RefusedByScreen reason) = Refused
 send_status IsTooBig = TooBig
 send_status SendMemory = NoMemory
 
--- the number of the screen's reason, 0 where there is none
+-- the reason of a send's fault that is the screen's, as a number; 0 where there is none
 abbrev pub send_reason : SendFault → ℕ
 send_reason (RefusedByScreen reason) = reason_number reason
 send_reason fault = 0
 
--- what a fault crosses as
+-- what a send's fault crosses as
 abbrev pub IsSendFaultTold : SendFault → Status → Told → Type 0
 IsSendFaultTold fault status told = (status ≡ send_status fault)
     × (told ≡ record { length = 0; place = 0; reason = send_reason fault })
@@ -90,13 +90,13 @@ IsSentTold (Ok spelled) status told last sent = (status ≡ Done) × (told ≡ t
     × (sent ≡ spelled)
 IsSentTold (Err fault) status told last sent = IsSendFaultTold fault status told × (sent ≡ last)
 
--- a send of a host's end
+-- what a send of a host's end crosses as
 abbrev pub IsSend : Opcode → List Element → Status → Told → HeldHost → HeldHost → Type 0
 IsSend opcode body status told old new = (result : Result (List ℕ) SendFault)
     × HostSent old.end new.end opcode body result
     × IsSentTold result status told old.sent new.sent × (new.answer ≡ old.answer)
 
--- a send of the body that was read, where one was
+-- what a send of the body that was read crosses as, where one was
 abbrev pub IsSendFrom : Opcode → Result (List Element) BodyFault → Option Machine → Option Machine → Told → Status
     → Type 0
 IsSendFrom opcode (Ok body) held now told status = OnHost held now status (IsSend opcode body status told)
@@ -104,7 +104,7 @@ IsSendFrom opcode (Ok body) held now told status = OnHost held now status (IsSen
 IsSendFrom opcode (Err Bad) held now told status = (status ≡ BadArgument) × (now ≡ held) × (told ≡ told_length 0)
 IsSendFrom opcode (Err BodyMemory) held now told status = (status ≡ NoMemory) × (now ≡ held) × (told ≡ told_length 0)
 
--- a send by an opcode, where there is one
+-- what a send crosses as, by its opcode, where there is one
 abbrev pub IsSendGiven : Option Opcode → Result (List Element) BodyFault → Option Machine → Option Machine → Told
     → Status → Type 0
 IsSendGiven None body held now told status = (status ≡ BadArgument) × (now ≡ held) × (told ≡ told_length 0)
@@ -116,13 +116,13 @@ IsCancelTold (Ok spelled) status told buffer after = (status ≡ Done) × (told 
     × (after ≡ holds_front spelled buffer)
 IsCancelTold (Err fault) status told buffer after = IsSendFaultTold fault status told × (after ≡ buffer)
 
--- a cancel of a host's end
+-- what a cancel of a host's end crosses as
 abbrev pub IsCancel : List ℕ → List ℕ → Status → Told → HeldHost → HeldHost → Type 0
 IsCancel buffer after status told old new = (result : Result (List ℕ) SendFault)
     × HostCancelled old.end new.end result × IsCancelTold result status told buffer after
     × (new.sent ≡ old.sent) × (new.answer ≡ old.answer)
 
--- bytes are put into a buffer that has room for them
+-- what is told where bytes are put into a buffer, if it has room for them
 pub record IsFetched (bytes : List ℕ) (status : Status) (told : Told) (buffer after : List ℕ) : Type 0 where
   pub room : length buffer < length bytes → (status ≡ NoRoom) × (told ≡ told_length 0) × (after ≡ buffer)
   pub fetched : length bytes ≤ length buffer → (status ≡ Done) × (told ≡ told_length (length bytes))

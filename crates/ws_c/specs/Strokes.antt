@@ -28,7 +28,7 @@ stroke_runs (MoveTo cell) s = runs_to s.cursor cell
 stroke_runs NewLine s = runs_to s.cursor (new_line_cell s)
 stroke_runs EraseEof s = erase_eof_runs s
 
--- what that crosses as
+-- what the keys of a stroke cross as
 abbrev pub IsStrokeTold : Result (Unit {0}) KeyFault → Status → Told → Type 0
 IsStrokeTold (Ok done) status told = (status ≡ Done) × (told ≡ told_length 0)
 IsStrokeTold (Err fault) status told = IsKeyFaultTold fault status told
@@ -40,18 +40,19 @@ module _ {S : Type 0} (takes : S → S → Key → Result (Option Answer) KeyFau
   GoesOn (Ok answer) behind next new result = behind
   GoesOn (Err fault) behind next new result = (result ≡ Err fault) × (new ≡ next)
 
-  -- it at keys, one after another, up to the first that is refused
+  -- keys at a station, one after another, up to the first that is refused
   abbrev pub AreKeyed : List Key → S → S → Result (Unit {0}) KeyFault → Type 0
   AreKeyed [] old new result = (result ≡ Ok tt) × (new ≡ old)
   AreKeyed (key ∷ keys) old new result = (next : S) × (pressed : Result (Option Answer) KeyFault)
       × takes old next key pressed × GoesOn pressed (AreKeyed keys next new result) next new result
 
-  -- it at a stroke, with the screen before
+  -- a stroke at a station, whose screen was this: its keys are pressed one after another, up to the first that is
+  -- refused
   abbrev pub IsStruck : Stroke → ScreenParts → Status → Told → S → S → Type 0
   IsStruck stroke screen status told old new = (result : Result (Unit {0}) KeyFault)
       × AreKeyed (keys_of (stroke_runs stroke screen)) old new result × IsStrokeTold result status told
 
--- a stroke at a station of the profile
+-- what a stroke at a station of the profile crosses as
 abbrev pub IsStroke : Stroke → Status → Told → StationParts → StationParts → Type 0
 IsStroke stroke status told old new = IsStruck StationKeyed stroke old.screen status told old new
 
@@ -60,7 +61,7 @@ abbrev pub ExtendedKeyed : PartsOn DisplayParts ExtendedPlace → PartsOn Displa
     → Result (Option Answer) KeyFault → Type 0
 ExtendedKeyed old new key result = StationKeyedOn extended_rules extended old new (Profile key) result
 
--- a stroke at one, of which something waits or nothing: where something does no key is pressed
+-- what a stroke at a station as live hosts use it crosses as; where something waits no key is pressed
 pub record IsHeldStroke (stroke : Stroke) (status : Status) (told : Told) (old new : HeldStation) : Type 0 where
   pub waits : waiting old ≢ [] → (status ≡ NoRoom) × (new ≡ old) × (told ≡ told_length 0)
   pub pressed : waiting old ≡ []

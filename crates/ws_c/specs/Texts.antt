@@ -17,13 +17,13 @@ use Rattle.ws_c.specs.Calls.{holds_front, told_length}
 abbrev pub field_text : ScreenParts → Field → List ℕ
 field_text s f = encode_utf8_all (map shown_char (without_trailing_nulls (cells_of s f)))
 
--- how long the text is; a buffer with room for it gets it
+-- what is told of a text: how long it is; a buffer with room for it gets it
 pub record IsTextTold (text : List ℕ) (status : Status) (told : Told) (buffer after : List ℕ) : Type 0 where
   pub state : told ≡ told_length (length text)
   pub room : length buffer < length text → (status ≡ NoRoom) × (after ≡ buffer)
   pub put : length text ≤ length buffer → (status ≡ Done) × (after ≡ holds_front text buffer)
 
--- the text of a field, where there is one
+-- what is told of the text of a field, where there is one
 abbrev pub IsFieldText : Option Field → ScreenParts → Status → Told → List ℕ → List ℕ → Type 0
 IsFieldText None s status told buffer after = (status ≡ BadArgument) × (told ≡ told_length 0) × (after ≡ buffer)
 IsFieldText (Some field) s status told buffer after = IsTextTold (field_text s field) status told buffer after

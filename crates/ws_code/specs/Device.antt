@@ -21,7 +21,7 @@ MayTake S = S → List ℕ → Option ℕ → S → Type 0
 abbrev pub MayGive : Type 0 → Type 1
 MayGive S = S → ℕ → Option (List ℕ) → S → Type 0
 
--- a count after one failure more
+-- a count after one failure more, up to the greatest value of 64 bits
 abbrev pub one_more : ℕ → ℕ
 one_more count = min (count + 1) (2 ^ 64 - 1)
 
@@ -43,7 +43,7 @@ pub record Given : Type 0 where
 abbrev pub bytes_given : List Given → List ℕ
 bytes_given reads = flat_map (λ r. r.given) reads
 
--- the most reads that one call makes of its source
+-- 4,294,967,296, the most reads that one call makes of its source
 abbrev pub most_reads : ℕ
 most_reads = 4294967296
 

@@ -9,7 +9,8 @@ module _ {U K : Type 0} where
   abbrev pub Keeps : (K → List U → List ℕ → Type 0) → K → K → List U → Type 0
   Keeps holds old new more = (units : List U) (told : List ℕ) → holds old units told → holds new (units ++ more) told
 
-  -- what is kept of a unit, by the answer to it
+  -- what is kept of a unit, by the answer to it: the keep holds it behind what it held, or where memory is wanting only
+  -- that
   abbrev pub KeepsOne : (K → List U → List ℕ → Type 0) → K → K → U → Kept → Type 0
   KeepsOne holds old new unit GoOn = Keeps holds old new (unit ∷ [])
   KeepsOne holds old new unit Enough = Keeps holds old new (unit ∷ [])

@@ -15,7 +15,7 @@ pub record Reading (Place : Type 0) : Type 0 where
   pub begun : List ℕ
 
 module _ {Place U : Type 0} where
-  -- the standing tells where the unit stands, and whether some of it was read
+  -- the standing tells where the unit stands that is read, and whether some of it was read
   pub record IsAt (rules : Rules Place U) (reading : Reading Place) (standing : Standing Place) : Type 0 where
     pub unfinished : IsUnfinished rules reading.place reading.begun
     pub at_place : standing.place ≡ reading.place
@@ -30,7 +30,7 @@ module _ {Place U : Type 0} where
     pub unfinished : IsUnfinished rules to.place to.begun
     pub spelled : spelling_of rules units ++ to.begun ≡ from.begun ++ values
 
-  -- They do, and each unit is kept; the keep goes on with each.
+  -- from the one reading the values lead to the other, and each unit is kept; the keep goes on with each
   pub record RunsOn {K : Type 0} (rules : Rules Place U) (holds : K → List U → List ℕ → Type 0)
       (may_answer : Kept → Type 0) (from : Reading Place) (old : K) (values : List ℕ) (to : Reading Place)
       (new : K) : Type 0 where
@@ -38,7 +38,7 @@ module _ {Place U : Type 0} where
     pub kept : Keeps holds old new run.units
     pub on : (run.units ≡ []) ⊎ may_answer answer.GoOn
 
-  -- So do the values before the last one, where the run stops.
+  -- the run stops at the last of the values; those before it lead on, and their units are kept
   pub record StopsAtLast {K : Type 0} (rules : Rules Place U) (holds : K → List U → List ℕ → Type 0)
       (may_answer : Kept → Type 0) (from : Reading Place) (old : K) (values : List ℕ) : Type 0 where
     pub front : List ℕ

@@ -9,7 +9,7 @@ use Rattle.ws_extended.specs.declared.extended_element.ExtendedElement.{Extended
 use Rattle.ws_extended.specs.declared.extended_element.ExtendedElement.TheVariants.{Profile, Text, RestoreScreen}
 use Rattle.ws_extended.specs.declared.extended_element.ExtendedElement.TheVariants.{WriteError, Asks}
 
--- what an element asks
+-- what an element asks at once, if it asks
 abbrev pub ask_in : ExtendedElement → List Ask
 ask_in (Profile e) = []
 ask_in (Text e) = []
@@ -21,17 +21,17 @@ ask_in (Asks ask) = ask ∷ []
 abbrev pub asks_in : List ExtendedElement → List Ask
 asks_in units = flat_map ask_in units
 
--- the first of these
+-- the first command that asks, if one does
 abbrev pub first_ask : List Ask → Option Ask
 first_ask [] = None
 first_ask (ask ∷ asks) = Some ask
 
--- why the record is refused, if it is
+-- why a record is refused that asks a second time: the reason of the second command that asks
 abbrev pub second_reason : List Ask → Option Reason
 second_reason [] = None
 second_reason (ask ∷ []) = None
 second_reason (ask ∷ again ∷ asks) = Some (ask_reason again)
 
--- these are the first command that asks, and the reason of the second
+-- of what a record asks this is the first command, and this the reason of the second
 abbrev pub HasAsked : List Ask → Option Ask → Option Reason → Type 0
 HasAsked asks ask refused = (ask ≡ first_ask asks) × (refused ≡ second_reason asks)

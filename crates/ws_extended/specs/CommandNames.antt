@@ -8,7 +8,7 @@ use Rattle.ws_extended.specs.declared.extended_element.ExtendedElement.{Extended
 use Rattle.ws_extended.specs.declared.extended_element.ExtendedElement.TheVariants.{Profile, Text, RestoreScreen}
 use Rattle.ws_extended.specs.declared.extended_element.ExtendedElement.TheVariants.{WriteError, Asks}
 
--- a command's name; the elements of the profile, and those of an error's text, are printed by their own
+-- a command's name, if the element is one of the seven commands beside the profile
 abbrev pub command_name : ExtendedElement → Option (List ℕ)
 command_name (Profile e) = None
 command_name (Text e) = None
@@ -20,14 +20,14 @@ command_name (Asks ReadScreen) = Some (codes "READ-SCREEN")
 command_name (Asks ReadImmediate) = Some (codes "READ-IMMEDIATE")
 command_name (Asks ReadImmediateAlternate) = Some (codes "READ-IMMEDIATE-ALTERNATE")
 
--- the seven
+-- the table of the seven commands and their names
 abbrev pub command_names : List (List ℕ × ExtendedElement)
 command_names = (codes "QUERY", Asks Query) ∷ (codes "SAVE-SCREEN", Asks SaveScreen)
     ∷ (codes "RESTORE-SCREEN", RestoreScreen) ∷ (codes "WRITE-ERROR", WriteError)
     ∷ (codes "READ-SCREEN", Asks ReadScreen) ∷ (codes "READ-IMMEDIATE", Asks ReadImmediate)
     ∷ (codes "READ-IMMEDIATE-ALTERNATE", Asks ReadImmediateAlternate) ∷ []
 
--- what a table has for a name
+-- what a table has for a name, if it has the name
 abbrev pub look_up : List ℕ → List (List ℕ × ExtendedElement) → Option ExtendedElement
 look_up name [] = None
 look_up name ((known, e) ∷ rest) = if bytes_eq name known then Some e else look_up name rest

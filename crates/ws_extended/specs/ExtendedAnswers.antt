@@ -26,11 +26,12 @@ use Rattle.ws_extended.specs.declared.extended_element.ExtendedElement.TheVarian
 abbrev pub LATER_REPLY_BYTES : ℕ
 LATER_REPLY_BYTES = 52
 
--- what was saved comes back behind a Restore Screen, and an image begins with Clear Unit
+-- the bytes that a saved screen begins with: what was saved comes back behind a Restore Screen, and an image begins
+-- with Clear Unit
 abbrev pub saved_front : List ℕ
 saved_front = ESCAPE ∷ RESTORE_SCREEN ∷ ESCAPE ∷ CLEAR_UNIT ∷ []
 
--- a part's bytes
+-- the bytes of a part of an answer
 abbrev pub answer_spelling : ExtendedAnswerPart → List ℕ
 answer_spelling (Profile p) = part_spelling p
 answer_spelling QueryReply = reply_head
@@ -39,7 +40,7 @@ answer_spelling Saved = saved_front
 answer_spelling (Of e) = extended_spelling e
 answer_spelling (AtOnce cursor) = row_and_column cursor ++ NO_KEY ∷ []
 
--- what the type of a part allows
+-- what a part of an answer may be: the ranges of its numbers and lists
 abbrev pub IsAnswerPart : ExtendedAnswerPart → Type 0
 IsAnswerPart (Profile p) = IsPart p
 IsAnswerPart QueryReply = Unit {0}
@@ -48,7 +49,8 @@ IsAnswerPart Saved = Unit {0}
 IsAnswerPart (Of e) = IsExtended e
 IsAnswerPart (AtOnce cursor) = cursor < CELLS
 
--- A body begins as an answer of the profile or with one of the three, and goes on as it began.
+-- which parts of an answer may stand where: a body begins as an answer of the profile or with one of the three, and
+-- goes on as it began
 abbrev pub answer_follows : ExtendedAnswerPlace → ExtendedAnswerPart → Bool
 answer_follows Beginning (Profile p) = may_follow answers.Beginning p
 answer_follows Beginning QueryReply = true
@@ -65,12 +67,12 @@ answer_follows Replied part = false
 answer_follows (InSaved at) (Of e) = extended_follows at e
 answer_follows (InSaved at) part = false
 
--- the place behind a byte of a reply
+-- the place behind a byte of a reply, by how many bytes follow
 abbrev pub behind_reply : ℕ → ExtendedAnswerPlace
 behind_reply zero = Replied
 behind_reply (suc n) = InReply n
 
--- the place behind a part
+-- the place behind a part of an answer
 abbrev pub behind_part : ExtendedAnswerPart → ExtendedAnswerPlace
 behind_part (Profile p) = Fields
 behind_part QueryReply = InReply LATER_REPLY_BYTES
@@ -79,7 +81,7 @@ behind_part Saved = InSaved (place_behind (elements.Profile ClearUnit))
 behind_part (Of e) = InSaved (place_behind e)
 behind_part (AtOnce cursor) = Fields
 
--- a reply is whole
+-- an answer may end everywhere but inside a reply
 abbrev pub answer_may_end : ExtendedAnswerPlace → Bool
 answer_may_end (InReply n) = false
 answer_may_end place = true
@@ -104,7 +106,7 @@ answer_reason (InReply n) begun b = StructuredField
 answer_reason Replied begun b = StructuredField
 answer_reason (InSaved at) begun b = extended_reason at begun b
 
--- the grammar of what a live host's station sends
+-- the code of what a live host's station sends: the answers of the profile, and what is told at once
 abbrev pub extended_answer_rules : Rules ExtendedAnswerPlace ExtendedAnswerPart
 extended_answer_rules = record {
   first = Beginning;

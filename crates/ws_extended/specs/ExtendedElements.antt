@@ -83,7 +83,7 @@ place_behind RestoreScreen = InProfile CommandsOnly
 place_behind WriteError = ErrorText
 place_behind (Asks ask) = Asked ask
 
--- the grammar of a live host's bodies, which may end everywhere
+-- the code of a live host's elements; a body may end everywhere
 abbrev pub extended_rules : Rules ExtendedPlace ExtendedElement
 extended_rules = record {
   first = InProfile CommandsOnly;

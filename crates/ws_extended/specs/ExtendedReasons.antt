@@ -16,7 +16,7 @@ use Rattle.ws_extended.specs.declared.ask.Ask.TheVariants.{ReadImmediateAlternat
 use Rattle.ws_extended.specs.declared.extended_place.ExtendedPlace.{ExtendedPlace}
 use Rattle.ws_extended.specs.declared.extended_place.ExtendedPlace.TheVariants.{InProfile, ErrorText, Asked}
 
--- why nothing but what asks stands behind what asked
+-- the reason of a command that asks behind one that has asked already, and of all else that stands there
 abbrev pub ask_reason : Ask → Reason
 ask_reason Query = StructuredField
 ask_reason SaveScreen = SaveRestore
@@ -24,25 +24,25 @@ ask_reason ReadScreen = reasons.ReadScreen
 ask_reason ReadImmediate = reasons.ReadImmediate
 ask_reason ReadImmediateAlternate = reasons.ReadImmediate
 
--- the profile's commands
+-- the codes of the profile's commands
 abbrev pub own_commands : List ℕ
 own_commands =
     commands.CLEAR_UNIT ∷ commands.CLEAR_FORMAT_TABLE ∷ commands.WRITE_TO_DISPLAY ∷ commands.READ_INPUT_FIELDS
     ∷ commands.READ_MDT_FIELDS ∷ commands.READ_MDT_FIELDS_ALTERNATE ∷ []
 
--- the seven commands beside it
+-- the codes of the seven commands beside the profile
 abbrev pub other_commands : List ℕ
 other_commands =
     commands.WRITE_STRUCTURED_FIELD ∷ commands.SAVE_SCREEN ∷ commands.RESTORE_SCREEN ∷ commands.WRITE_ERROR_CODE
     ∷ commands.READ_SCREEN ∷ commands.READ_IMMEDIATE ∷ commands.READ_MDT_IMMEDIATE_ALTERNATE ∷ []
 
--- only an element of the profile can begin so, behind an escape
+-- only an element of the profile can begin with an escape and this code
 abbrev pub takes_command : ExtendedPlace → ℕ → Bool
 takes_command (InProfile place) code = not (is_one_of code other_commands)
 takes_command ErrorText code = not (is_one_of code other_commands)
 takes_command (Asked ask) code = false
 
--- and with another byte
+-- only an element of the profile can begin with this byte, which is no escape
 abbrev pub takes_first : ExtendedPlace → ℕ → Bool
 takes_first (InProfile place) b = true
 takes_first ErrorText b = (b == INSERT_CURSOR) || not (is_order b)
@@ -54,18 +54,19 @@ is_inner place [] = false
 is_inner place (b ∷ []) = if b == ESCAPE then false else takes_first place b
 is_inner place (b ∷ code ∷ more) = if b == ESCAPE then takes_command place code else takes_first place b
 
--- why no element begins with the byte, and why none does with it behind an escape
+-- why no element begins with the byte
 abbrev pub begin_reason : ExtendedPlace → ℕ → Reason
 begin_reason (InProfile place) b = first_reason place b
 begin_reason ErrorText b = ErrorCode
 begin_reason (Asked ask) b = ask_reason ask
 
+-- why no element begins with an escape and the byte
 abbrev pub escaped_reason : ExtendedPlace → ℕ → Reason
 escaped_reason (InProfile place) b = command_reason b
 escaped_reason ErrorText b = command_reason b
 escaped_reason (Asked ask) b = ask_reason ask
 
--- what is neither of the profile nor so short begins a query
+-- why no element beside the profile goes on with the byte: what is neither of the profile nor so short begins a query
 abbrev pub other_reason : ExtendedPlace → List ℕ → ℕ → Reason
 other_reason place [] b = begin_reason place b
 other_reason place (escape ∷ []) b = escaped_reason place b

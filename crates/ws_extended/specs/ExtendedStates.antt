@@ -29,20 +29,20 @@ pub record ExtendedState : Type 0 where
   pub kept : Option Kept
   pub text : ℕ
 
--- what gives the row back, where an error stands
+-- the elements that give a covered row back, where an error stands
 abbrev pub gives_back : ℕ → Option Kept → List Element
 gives_back cc2 None = []
 gives_back cc2 (Some kept) = given_back cc2 kept.row kept.cells
 
--- the row is given back, with a CC2 for the end of the write, and no error stands
+-- the display with the row given back, with a CC2 for the end of the write, and no error
 abbrev pub uncovered : ℕ → ExtendedState → ExtendedState
 uncovered cc2 state = record state { history = after_elements state.history (gives_back cc2 state.kept); kept = None }
 
--- a CC1 that nulls fields
+-- the CC1 sets fields to nulls
 abbrev pub nulls_fields : ℕ → Bool
 nulls_fields cc1 = nat_le 4 (cc1_code cc1)
 
--- an element of the profile before which the row comes back: it writes or clears, or it nulls fields
+-- the row comes back before this element of the profile: it writes or clears, or it sets fields to nulls
 abbrev pub uncovers : Element → Bool
 uncovers ClearUnit = true
 uncovers ClearFormat = true
@@ -52,15 +52,15 @@ uncovers (ReadMdt cc1 cc2) = nulls_fields cc1
 uncovers (ReadMdtAlternate cc1 cc2) = nulls_fields cc1
 uncovers e = false
 
--- as an element of the profile finds it
+-- the display as an element of the profile finds it
 abbrev pub state_before : ExtendedState → Element → ExtendedState
 state_before state e = if uncovers e then uncovered 0 state else state
 
--- the write ends
+-- the display behind the end of the open write
 abbrev pub state_after_end : ExtendedState → ExtendedState
 state_after_end state = record state { history = after_end state.history }
 
--- an error begins: the cells of the error line are kept, and the row is blank
+-- the display behind the beginning of an error: the cells of the error line are kept, and the row is blank
 abbrev pub covered : ExtendedState → ExtendedState
 covered state = record {
   history = after_elements state.history (error_begins (error_row state.history));
@@ -71,7 +71,7 @@ covered state = record {
   text = 0;
 }
 
--- one byte more
+-- a count of a text's bytes behind an element of it
 abbrev pub bytes_behind : ℕ → Element → ℕ
 bytes_behind n (Put byte) = n + 1
 bytes_behind n e = n
@@ -90,12 +90,12 @@ state_after state RestoreScreen = state_after_end (uncovered 0 state)
 state_after state WriteError = covered (uncovered 0 state)
 state_after state (Asks ask) = state_after_end state
 
--- behind several
+-- the display behind several elements
 abbrev pub state_after_all : ExtendedState → List ExtendedElement → ExtendedState
 state_after_all state [] = state
 state_after_all state (u ∷ us) = state_after_all (state_after state u) us
 
--- why an element is refused: as in the profile, and with more text than its row has cells
+-- why the display refuses an element, if it does: as in the profile, or with more text than its row has cells
 abbrev pub state_fault : ExtendedState → ExtendedElement → Option Reason
 state_fault state (Profile e) = element_fault (state_before state e).history e
 state_fault state (Text (Put byte)) =
@@ -110,7 +110,7 @@ abbrev pub reset_history : History → Option Kept → History
 reset_history h None = h
 reset_history h (Some kept) = after_end (after_elements h (given_back RESETS kept.row kept.cells))
 
--- the key Reset, which does nothing where no error stands
+-- the display behind the key Reset, which does nothing where no error stands
 abbrev pub state_after_reset : ExtendedState → ExtendedState
 state_after_reset state = record state { history = reset_history state.history state.kept; kept = None }
 
@@ -118,6 +118,6 @@ state_after_reset state = record state { history = reset_history state.history s
 abbrev pub told_screen : ExtendedState → ScreenParts
 told_screen state = screen_of (state_after_reset state).history
 
--- what is sent at Save Screen, and comes back later
+-- what is sent at Save Screen and comes back later: a Restore Screen, and the screen's image
 abbrev pub saved_screen : ℕ → ScreenParts → List ExtendedElement
 saved_screen row s = RestoreScreen ∷ map Profile (image row s)

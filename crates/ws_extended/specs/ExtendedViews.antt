@@ -20,12 +20,12 @@ pub record ExtendedParts : Type 0 where
   pub kept : Option Kept
   pub text : ℕ
 
--- the row that is kept
+-- the row that an error covers, as contracts see it
 abbrev pub kept_of : Option KeptRow → Option Kept
 kept_of None = None
 kept_of (Some k) = Some (record { row = k.row; cells = k.cells })
 
--- the events leave the display so
+-- the events leave the display so: its screen, its error line, the row that an error covers, and its text's length
 pub record Shows (state : ExtendedState) (display : ExtendedParts) : Type 0 where
   pub gives : Gives state.history display.screen
   pub row_is : display.error_row ≡ error_row state.history
@@ -40,7 +40,7 @@ leaves_write_open RestoreScreen = false
 leaves_write_open WriteError = true
 leaves_write_open (Asks ask) = false
 
--- what an element needs: an order an open write, and a text that it is text in one
+-- what an element needs of the screen: an order an open write, and a text's element that it is text in one
 abbrev pub NeedsOpenWrite : ExtendedElement → ScreenParts → Type 0
 NeedsOpenWrite (Profile e) s = NeedsWrite e → IsSome s.writing
 NeedsOpenWrite (Text e) s = IsSome s.writing × (is_text e ≡ true)

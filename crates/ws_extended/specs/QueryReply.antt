@@ -46,6 +46,6 @@ equipment = 0x02 ∷ 0x00 ∷ 0x00 ∷ 0x00 ∷ 0x61 ∷ 0x50 ∷ 0x00 ∷ 0x01 
 abbrev pub capabilities : TerminalType → List ℕ
 capabilities terminal = 0x23 ∷ (if shows_colors terminal then 0x11 else 0x10) ∷ 0x00 ∷ 0x00 ∷ replicate 8 0
 
--- the reply's 61 bytes
+-- the 61 bytes that answer a 5250 Query, for a terminal
 abbrev pub query_reply : TerminalType → List ℕ
 query_reply terminal = reply_head ++ (controller ++ (device terminal ++ (equipment ++ capabilities terminal)))

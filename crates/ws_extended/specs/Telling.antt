@@ -15,11 +15,11 @@ use Rattle.ws_extended.specs.declared.ask.Ask.{Ask}
 use Rattle.ws_extended.specs.declared.ask.Ask.TheVariants.{Query, SaveScreen, ReadScreen, ReadImmediate}
 use Rattle.ws_extended.specs.declared.ask.Ask.TheVariants.{ReadImmediateAlternate}
 
--- what stands in the place of an AID, where no key was pressed
+-- 00, which stands in the place of an AID where no key was pressed
 abbrev pub NO_KEY : ℕ
 NO_KEY = 0
 
--- row and column of the cursor, and no key
+-- what is told first of a screen: row and column of its cursor, and no key
 abbrev pub told_head : ScreenParts → List ℕ
 told_head s = row_and_column s.cursor ++ NO_KEY ∷ []
 

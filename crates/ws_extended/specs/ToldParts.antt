@@ -19,12 +19,12 @@ use Rattle.ws_extended.specs.declared.extended_answer_part.ExtendedAnswerPart.Th
 use Rattle.ws_extended.specs.declared.extended_answer_place.ExtendedAnswerPlace.{ExtendedAnswerPlace}
 use Rattle.ws_extended.specs.declared.extended_answer_place.ExtendedAnswerPlace.TheVariants.{Beginning, Fields}
 
--- the bytes of a reply behind its front, each with how many follow
+-- the parts that the bytes of a reply are, each with how many follow
 abbrev pub reply_parts : List ℕ → List ExtendedAnswerPart
 reply_parts [] = []
 reply_parts (byte ∷ bytes) = Reply (length bytes) byte ∷ reply_parts bytes
 
--- what a reply has behind its front
+-- the bytes of a reply behind its front
 abbrev pub reply_tail : TerminalType → List ℕ
 reply_tail terminal = controller ++ (device terminal ++ (equipment ++ capabilities terminal))
 
@@ -36,13 +36,13 @@ told_parts ReadScreen terminal row s = AtOnce s.cursor ∷ map Profile (map Byte
 told_parts ReadImmediate terminal row s = AtOnce s.cursor ∷ map Profile (data_parts Input s)
 told_parts ReadImmediateAlternate terminal row s = AtOnce s.cursor ∷ map Profile (data_parts MdtAlternate s)
 
--- a place of the profile's answers
+-- a place in the profile's answers as one in those of live hosts' stations
 abbrev pub answer_place : AnswerPlace → ExtendedAnswerPlace
 answer_place answers.Beginning = Beginning
 answer_place answers.Fields = Fields
 
--- with the byte, behind these, one of the three begins: a reply with a 00, what is told at once with one behind a
--- cursor, a saved screen with an escape behind a Restore Screen
+-- Behind these bytes one of three begins with the byte: a reply with a 00, what is told at once with one behind a
+-- cursor, a saved screen with an escape behind a Restore Screen.
 abbrev pub BeginsTold : AnswerPlace → List ℕ → ℕ → Type 0
 BeginsTold place bytes b = (place ≡ answers.Beginning)
     × (((bytes ≡ []) × (b ≡ 0)) ⊎ (((length bytes ≡ 2) × (b ≡ 0))

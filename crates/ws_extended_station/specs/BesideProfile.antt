@@ -17,29 +17,31 @@ use Rattle.ws_extended_station.specs.ExtendedDisplays.{ExtendedSide, with_profil
 use Rattle.ws_extended_station.specs.declared.extended_key.ExtendedKey.{ExtendedKey}
 use Rattle.ws_extended_station.specs.declared.extended_key.ExtendedKey.TheVariants.{Profile as ProfileKey}
 
--- a record of the profile, an item of its streams, and an act at its station
+-- a record of the profile as a record of live hosts
 abbrev pub record_there : Record Element → Record ExtendedElement
 record_there r = record { flags = r.flags; opcode = r.opcode; body = map Profile r.body }
 
+-- an item of the profile's streams as one of live hosts' streams
 abbrev pub item_there : Item Element → Item ExtendedElement
 item_there (RecordItem r) = RecordItem (record_there r)
 item_there (TelnetItem t) = TelnetItem t
 
+-- an act at a station of the profile as one at a station that live hosts use
 abbrev pub act_there : Act Key → Act ExtendedKey
 act_there (Came byte) = Came byte
 act_there (Did key) = Did (ProfileKey key)
 
--- no error stands
+-- no error stands on the station's display
 abbrev pub NoErrorStands : ExtendedSide → Type 0
 NoErrorStands s = s.happened.state.kept ≡ None
 
--- what a station of the profile does, there: it refuses for the same reason, or goes on with the same events, and
--- writes the same, told by its bytes
+-- what a station of the profile does, at a station that live hosts use: it refuses for the same reason, or goes on with
+-- the same events, and writes the same, told by its bytes
 abbrev pub as_reacted : ExtendedSide → Reaction StationSide (List (Item AnswerPart))
     → Reaction ExtendedSide (List (Item ℕ))
 as_reacted s (Refuses reason) = Refuses reason
 as_reacted s (GoesOn next items) = GoesOn (with_profile s next) (map by_bytes items)
 
--- these items have arrived, and it stands on this side
+-- just these items have arrived, and the end stands on this side
 abbrev pub HasCome : {U H : Type 0} → List (Item U) → SideOn H → List ℕ → List (Item U) → SideOn H → Type 0
 HasCome arrived next bytes items side = (items ≡ arrived) × (side ≡ next)

@@ -10,7 +10,7 @@ use Rattle.ws_record.specs.declared.record.Item.TheVariants.{Record as RecordIte
 use Rattle.ws_stream.specs.AnswerParts.{answer_rules}
 use Rattle.ws_stream.specs.declared.answer_part.AnswerPart.{AnswerPart}
 
--- an item of a station, its body by its bytes
+-- an item of a station with its body by its bytes
 abbrev pub by_bytes : Item AnswerPart → Item ℕ
 by_bytes (RecordItem r) =
     RecordItem (record { flags = r.flags; opcode = r.opcode; body = spelling_of answer_rules r.body })

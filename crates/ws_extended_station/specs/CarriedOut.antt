@@ -10,19 +10,21 @@ use Rattle.ws_extended.specs.declared.asked.Asked.{Asked}
 use Rattle.ws_extended.specs.declared.extended_element.ExtendedElement.{ExtendedElement}
 use Rattle.ws_extended_station.specs.ExtendedRecords.{elements_fault, record_fault, state_after_opcode}
 
--- all are carried out, and this is what they ask; or the first that is refused is so for this reason
+-- what becomes of a display by the elements of a body: all are carried out, and this is what they ask; or the first
+-- that is refused is so for this reason
 abbrev pub AreCarriedOut : ExtendedState → List ExtendedElement → ExtendedParts → Result Asked Reason → Type 0
 AreCarriedOut state body new (Ok asked) = (elements_fault state body ≡ None)
     × HasAsked (asks_in body) asked.ask asked.refused × Shows (state_after_all state body) new
 AreCarriedOut state body new (Err reason) = elements_fault state body ≡ Some reason
 
--- the record is carried out, but for the end of its write and its opcode, and this is what it asks; or it is refused
+-- what becomes of a display by the elements of a record: it is carried out, but for the end of its write and its
+-- opcode, and this is what it asks; or it is refused
 abbrev pub IsJudged : ExtendedState → List ExtendedElement → ExtendedParts → Result (Option Ask) Reason → Type 0
 IsJudged state body new (Ok ask) = (record_fault state body ≡ None) × (ask ≡ first_ask (asks_in body))
     × Shows (state_after_all state body) new
 IsJudged state body new (Err reason) = record_fault state body ≡ Some reason
 
--- the record of this opcode is carried out, and this is what it asks; or it is refused
+-- what becomes of a display by a whole record: it is carried out, and this is what it asks; or it is refused
 abbrev pub IsAppliedTo : ExtendedState → Opcode → List ExtendedElement → ExtendedParts → Result (Option Ask) Reason
     → Type 0
 IsAppliedTo state opcode body new (Ok ask) = (record_fault state body ≡ None) × (ask ≡ first_ask (asks_in body))

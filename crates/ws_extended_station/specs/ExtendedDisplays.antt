@@ -30,12 +30,12 @@ pub record DisplayParts : Type 0 where
   pub terminal : TerminalType
   pub told : List ℕ
 
--- what has happened to it, and its terminal
+-- what has happened to a display that live hosts use, and its terminal
 pub record ExtendedHappened : Type 0 where
   pub state : ExtendedState
   pub terminal : TerminalType
 
--- which displays that gives
+-- what happened gives this display
 pub record ExtendedGives (h : ExtendedHappened) (d : DisplayParts) : Type 0 where
   pub shows : Shows h.state d.display
   pub terminal_is : d.terminal ≡ h.terminal
@@ -48,24 +48,26 @@ standing_row d = if is_some d.kept then Some d.error_row else None
 abbrev pub new_happened : TerminalType → ExtendedHappened
 new_happened terminal = record { state = record { history = []; kept = None; text = 0 }; terminal = terminal }
 
+-- what a station on such a display has become: its options, and what has happened to the display
 abbrev pub ExtendedSide : Type 0
 ExtendedSide = SideOn ExtendedHappened
 
--- a side that has come to another state
+-- a side whose display has come to another state
 abbrev pub with_state : ExtendedSide → ExtendedState → ExtendedSide
 with_state s state = record s { happened = record s.happened { state = state } }
 
--- the side of the profile in one of this display, and one of this display with what happened to such a side
+-- the side of a station of the profile in one on this display
 abbrev pub profile_side : ExtendedSide → StationSide
 profile_side s = record { options = s.options; happened = s.happened.state.history }
 
+-- the side of a station on this display, with what happened to a station of the profile
 abbrev pub with_profile : ExtendedSide → StationSide → ExtendedSide
 with_profile s t = record {
   options = t.options;
   happened = record s.happened { state = record s.happened.state { history = t.happened } };
 }
 
--- a record, by the reason for which it is refused, if it is
+-- what the station does at a record, by the reason for which its display refuses it, if it does
 abbrev pub extended_applies : ExtendedSide → Record ExtendedElement → Option Reason
     → Reaction ExtendedSide (List (Item ℕ))
 extended_applies s r (Some reason) = Refuses reason
@@ -73,21 +75,21 @@ extended_applies s r None =
     let after = state_after_record s.happened.state r in
     GoesOn (with_state s after) (record_writes s.happened.terminal after r)
 
--- what a key of the profile does there, it does here
+-- what a station of the profile does at a key, as what a station on this display does
 abbrev pub as_profile : ExtendedSide → KeyReactionOn History → KeyReactionOn ExtendedHappened
 as_profile s (RefusesKey fault) = RefusesKey fault
 as_profile s (Silent next) = Silent (with_profile s next)
 as_profile s (Answers next kind aid) = Answers (with_profile s next) kind aid
 as_profile s (Signals opcode flags) = Signals opcode flags
 
--- but where an error stands, keys wait for Reset
+-- what the station makes of a key: as the profile, but where an error stands keys wait for Reset
 abbrev pub extended_presses : ExtendedSide → ExtendedKey → KeyReactionOn ExtendedHappened
 extended_presses s Reset = Silent (with_state s (state_after_reset s.happened.state))
 extended_presses s (Profile key) =
     if is_some s.happened.state.kept && waits_for_reset key then RefusesKey (Refused Locked)
     else as_profile s (profile.presses (profile_side s) key)
 
--- Reset sends nothing
+-- the key sends a record; Reset sends nothing
 abbrev pub extended_sends : ExtendedKey → Bool
 extended_sends Reset = false
 extended_sends (Profile key) = profile.sends key

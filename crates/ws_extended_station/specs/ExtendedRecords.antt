@@ -20,7 +20,7 @@ use Rattle.ws_session.specs.StationSide.{opcode_answer, opcode_events}
 use Rattle.ws_extended_station.specs.Bytewise.{by_bytes}
 use Rattle.ws_extended.specs.Telling.{told_bytes}
 
--- the first reason for which an element is refused
+-- the first reason for which an element of the body is refused, if one is
 abbrev pub elements_fault : ExtendedState → List ExtendedElement → Option Reason
 elements_fault state [] = None
 elements_fault state (u ∷ us) = option_or (state_fault state u) (elements_fault (state_after state u) us)
@@ -29,11 +29,11 @@ elements_fault state (u ∷ us) = option_or (state_fault state u) (elements_faul
 abbrev pub record_fault : ExtendedState → List ExtendedElement → Option Reason
 record_fault state body = option_or (second_reason (asks_in body)) (elements_fault state body)
 
--- what its opcode does at its end, as in the profile; an error stands as before
+-- the display behind a record's opcode, which acts as in the profile; an error stands as before
 abbrev pub state_after_opcode : Opcode → ExtendedState → ExtendedState
 state_after_opcode opcode state = record state { history = opcode_events opcode ++ state.history }
 
--- all that it does, at the moment of its EOR: its elements, the end of its write, its opcode
+-- the display behind a record, which acts at the moment of its EOR: its elements, the end of its write, its opcode
 abbrev pub state_after_record : ExtendedState → Record ExtendedElement → ExtendedState
 state_after_record state r = state_after_opcode r.opcode (state_after_end (state_after_all state r.body))
 
@@ -45,7 +45,7 @@ told_opcode ReadScreen = PutGet
 told_opcode ReadImmediate = PutGet
 told_opcode ReadImmediateAlternate = PutGet
 
--- what is told of a display that is asked, by its bytes
+-- the record that tells a display what was asked, if something was
 abbrev pub told_items : TerminalType → ExtendedState → Option Ask → List (Item ℕ)
 told_items terminal state None = []
 told_items terminal state (Some ask) = RecordItem (record {
@@ -54,7 +54,7 @@ told_items terminal state (Some ask) = RecordItem (record {
   body = told_bytes ask terminal state;
 }) ∷ []
 
--- what is written at a record: what it asks, told of the display that it leaves, and what its opcode is answered by
+-- what is written at a record: what it asks, told of the display that it leaves, and the answer to its opcode
 abbrev pub record_writes : TerminalType → ExtendedState → Record ExtendedElement → List (Item ℕ)
 record_writes terminal after r = told_items terminal after (first_ask (asks_in r.body))
     ++ map by_bytes (opcode_answer r.opcode)

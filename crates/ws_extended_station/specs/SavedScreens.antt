@@ -23,13 +23,13 @@ pub record IsSaved (state : ExtendedState) (screen : ScreenParts) : Type 0 where
   pub typed : IsTyped screen
   pub closed : screen.writing ≡ None
 
--- the record's body is what was told of it, and its opcode does nothing
+-- the body of the record is what was told at Save Screen, and its opcode does nothing
 pub record BringsBack (terminal : TerminalType) (state : ExtendedState) (r : Record ExtendedElement) : Type 0 where
   pub chain : IsChain extended_rules extended_rules.first r.body
   pub spelled : spelling_of extended_rules r.body ≡ told_bytes SaveScreen terminal state
   pub idle : opcode_events r.opcode ≡ []
 
--- on a display of this state the record isn't refused, and leaves the screen and the error line that were saved; no
+-- the record, on a display of this state, isn't refused and leaves the screen and the error line that were saved; no
 -- error stands
 pub record ComesBack (saved : ExtendedState) (screen : ScreenParts) (state : ExtendedState) (r : Record ExtendedElement)
     : Type 0 where

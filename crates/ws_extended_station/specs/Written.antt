@@ -15,7 +15,7 @@ use Rattle.ws_session.specs.StationSide.{answer_record}
 use Rattle.ws_extended_station.specs.Bytewise.{by_bytes}
 use Rattle.ws_extended_station.specs.ExtendedRecords.{told_opcode}
 
--- a Telnet command, an answer to a read, an empty record, or what was asked at once
+-- the item is a Telnet command, an answer to a read, an empty record, or what was asked at once
 abbrev pub MayBeWritten : Item ℕ → Type 0
 MayBeWritten item = ((t : Telnet) × (item ≡ TelnetItem t))
     ⊎ (((screen : ScreenParts) × (kind : ReadKind) × (aid : ℕ) × (item ≡ by_bytes (answer_record screen kind aid)))

@@ -38,7 +38,7 @@ LeadTo (key ∷ keys) s new = (key_refusal s key ≡ None) × (answer_to s key �
 abbrev pub run_between : Key → Key → ℕ → ℕ → KeyRun
 run_between back on from to = if nat_lt from to then run_of on (to - from) else run_of back (from - to)
 
--- from one cell to another: to its row, and then along the row
+-- the keys from one cell to another: to its row, and then along the row
 abbrev pub runs_to : ℕ → ℕ → List KeyRun
 runs_to from to = run_between Up Down (from / COLUMNS) (to / COLUMNS)
     ∷ run_between Left Right (from % COLUMNS) (to % COLUMNS) ∷ []
@@ -61,19 +61,21 @@ new_line_cell s = option_map_or (λ f. f.start)
 
 -- ERASING
 
--- The last n cells of the open field become 00, with the cursor in the first of them. Of a signed numeric field Delete
--- moves digits alone: the cursor goes to the sign, which is deleted too, and comes back.
+-- The keys by which the last n cells of the open field become 00, with the cursor in the first of them. Of a signed
+-- numeric field Delete moves digits alone: the cursor goes to the sign, which is deleted too, and comes back.
 abbrev pub erasing_runs : Field → ℕ → List KeyRun
 erasing_runs f n =
     if is_signed f then run_of Delete (n - 1) ∷ run_of Right (n - 1) ∷ run_of Delete 1 ∷ run_of Left (n - 1) ∷ []
     else run_of Delete n ∷ []
 
--- Erase EOF; where the cursor stands in no open field one Delete, which is refused
+-- the keys of Erase EOF: from the cursor's cell on the cells of the open field become 00; where there is none one
+-- Delete, which is refused
 abbrev pub erase_eof_runs : ScreenParts → List KeyRun
 erase_eof_runs s =
     option_map_or (λ f. erasing_runs f (f.start + f.length - s.cursor)) (open_field s) (run_of Delete 1 ∷ [])
 
--- the cells of a field from a cell on become 00, its MDT is turned on, and the cursor stands in that cell
+-- the edit by which the cells of a field from a cell on become 00, its MDT is turned on, and the cursor stands in that
+-- cell
 abbrev pub erasing_edit : Field → ℕ → Edit
 erasing_edit f from = record {
   written = λ c. if spans from (f.start + f.length) c then Some 0 else None;
@@ -84,10 +86,10 @@ erasing_edit f from = record {
 
 -- FIELDS BY NUMBER
 
--- the field of a number, counted from 1 in the order of their starts
+-- the field of a number, which counts the fields from 1 by their starts
 abbrev pub numbered_field : ScreenParts → ℕ → Option Field
 numbered_field s number = if number == 0 then None else slice_get s.fields (number - 1)
 
--- the cursor goes to a field's first cell, and all its cells become 00
+-- the keys by which the cursor goes to a field's first cell, and all its cells become 00
 abbrev pub emptying_runs : ℕ → Field → List KeyRun
 emptying_runs from f = runs_to from f.start ++ erasing_runs f f.length

@@ -45,12 +45,12 @@ pub record ShowsText (cells text : List ℕ) : Type 0 where
   pub back : List ℕ
   pub is : encode_utf8_all (row_chars cells row) ≡ front ++ text ++ back
 
--- the lines that wait
+-- the line waits
 abbrev pub station_waits : {Q : Type 0} → StationLine Q → Bool
 station_waits (Await awaited) = true
 station_waits line = false
 
--- what becomes of a line that waits, and what it prints
+-- how a line that waits closes
 abbrev pub waited_outcome : Waited → Result Closing Fault
 waited_outcome Met = Ok Done
 waited_outcome WasLate = Ok Late
@@ -102,7 +102,7 @@ module _ {D P U H PlaceV V Q R : Type 0} (rules : Rules P U) (d : DisplayOf D U 
     abbrev pub Hears : Parts → Option Applied → Parts → Type 0
     Hears from heard to = HasHeard (GoesOnDisplay rules d) (RefusesOn rules d) takes failures gives misses from to heard
 
-    -- it failed for this
+    -- one call of `hear` failed for this
     abbrev pub HearsFault : Parts → Fault → Parts → Type 0
     HearsFault from why to =
         IsHearFault (GoesOnDisplay rules d) (RefusesOn rules d) takes failures gives misses from to why
@@ -117,7 +117,7 @@ module _ {D P U H PlaceV V Q R : Type 0} (rules : Rules P U) (d : DisplayOf D U 
       pub waiting : to.waiting ≡ from.waiting
       pub unread : to.source ≡ from.source
 
-    -- it was pressed, and what it sends didn't go out
+    -- a key was pressed, and what it sends didn't go out
     abbrev pub IsUnwritten : Q → Parts → Parts → Type 0
     IsUnwritten key from to =
         HaveLedUnwritten (GoesOnDisplay rules d) (RefusesOn rules d) takes failures gives misses from to (Did key ∷ [])
@@ -135,7 +135,7 @@ module _ {D P U H PlaceV V Q R : Type 0} (rules : Rules P U) (d : DisplayOf D U 
         × (rest : List ℕ) × IsPressed key from refused mid × ArePressed mid keys rest_well rest to
         × (well ≡ is_none refused && rest_well) × (text ≡ refused_text refused ++ rest)
 
-    -- all were pressed, or up to one that wasn't written
+    -- keys at a station, how their line closes, and what it prints: all were pressed, or up to one that wasn't written
     abbrev pub KeysRun : List Q → Parts → Result Closing Fault → List ℕ → Parts → Type 0
     KeysRun keys from outcome text to =
         ((well : Bool) × ArePressed from keys well text to × (outcome ≡ Ok (pressed well)))
@@ -192,8 +192,8 @@ module _ {D P U H PlaceV V Q R : Type 0} (rules : Rules P U) (d : DisplayOf D U 
         StationRuns paint Show from outcome text to = (to ≡ from) × (outcome ≡ Ok Done)
             × IsDisplayText paint (d.shown from.end.screen) (operated.behind from.end.screen) text
 
-        -- what the lines of a script at a station print, and whether all went well
         module _ {W : Type 0} (begins : W → S → W → Type 0) (begun : W → ℕ) where
+          -- what the lines of a script at a station print, and whether all went well
           abbrev pub IsConnectText : Paint → Bool → (Parts × W) → List (StationLine Q) → Bool → List ℕ → (Parts × W)
               → Type 0
           IsConnectText paint ready from lines all_well text to = (ran : Ran)

@@ -7,18 +7,18 @@ use Rattle.std.specs.Str.Lines.{lines}
 use Rattle.ws_live.specs.declared.script.ScriptFault.{ScriptFault}
 use Rattle.ws_live.specs.declared.script.ScriptFault.TheVariants.{Line, Memory}
 
--- a line begins with two blanks
+-- the line begins with two blanks
 abbrev pub is_indented : List ℕ → Bool
 is_indented [] = false
 is_indented (one ∷ []) = false
 is_indented (one ∷ two ∷ text) = (one == 32) && (two == 32)
 
--- all of the lines do
+-- all of the lines begin with two blanks
 abbrev pub AreIndented : List (List ℕ) → Type 0
 AreIndented [] = Unit {0}
 AreIndented (line ∷ more) = (is_indented line ≡ true) × AreIndented more
 
--- the first of the lines doesn't, or there is none
+-- the first of the lines doesn't begin with two blanks, or there is none
 abbrev pub BeginsFlush : List (List ℕ) → Type 0
 BeginsFlush [] = Unit {0}
 BeginsFlush (line ∷ more) = is_indented line ≡ false
@@ -57,7 +57,7 @@ module _ {L : Type 0} (means : List ℕ → List (List ℕ) → L → Type 0) (o
       × (all ≡ line ∷ (inside ++ after)) × IsBlock opener line inside after × means line inside first
       × MeanThese after read rest
 
-  -- the lines of a text mean these
+  -- the lines of a text mean these, in order, each with those behind two blanks that belong to it
   abbrev pub AreLiveLines : List ℕ → List L → Type 0
   AreLiveLines text read = MeanThese (lines text) read []
 
@@ -84,8 +84,8 @@ module _ {L : Type 0} (means : List ℕ → List (List ℕ) → L → Type 0) (b
   abbrev pub IsGoodSoFar : List ℕ → List (List ℕ) → Type 0
   IsGoodSoFar line inside = ((read : L) × means line inside read) ⊎ ((inside ≡ []) × begins line)
 
-  -- why a line isn't read: with those that belong to it it means nothing, and this one is bad, counted from 1; or a
-  -- growth was refused
+  -- why a line isn't read: with those that belong to it it means nothing, and this one is bad, counted from 1; or it is
+  -- good as far as it was read, and a growth was refused
   abbrev pub IsBlockFault : (List ℕ → List (List ℕ) → ℕ → Type 0) → List ℕ → List (List ℕ) → ScriptFault → Type 0
   IsBlockFault bad_at line inside (Line at) = ((read : L) → means line inside read → ⊥) × bad_at line inside at
   IsBlockFault bad_at line inside Memory = IsGoodSoFar line inside
@@ -103,7 +103,7 @@ module _ {L : Type 0} (means : List ℕ → List (List ℕ) → L → Type 0) (b
       pub so_far : IsGoodSoFar line inside
 
 module _ {L : Type 0} (means : List ℕ → List (List ℕ) → L → Type 0) (opener begins : List ℕ → Type 0) where
-  -- why a script isn't read
+  -- why a script isn't read: its first bad line, or it is good as far as it was read, and a growth was refused
   abbrev pub IsReadingFault : (List ℕ → List (List ℕ) → ℕ → Type 0) → List ℕ → ScriptFault → Type 0
   IsReadingFault bad_at text (Line number) = IsFirstBad means opener bad_at text number
   IsReadingFault bad_at text Memory = IsReadSoFar means begins opener text

@@ -30,26 +30,26 @@ ready_word true closing = codes "ok\n"
 abbrev pub closing_text : Bool → Closing → List ℕ
 closing_text ready closing = closing_word closing ++ ready_word ready closing
 
--- whether a line went well: it was in time, and nothing was refused
+-- the line went well: it was in time, and nothing was refused
 abbrev pub is_well : Closing → Bool
 is_well Nothing = true
 is_well Done = true
 is_well closing = false
 
--- whether a line stops the session
+-- the line stops the session
 abbrev pub stops : Closing → Bool
 stops Stopped = true
 stops closing = false
 
--- what stands before the first line has run
+-- what a run has come to before its first line: all well, and not over
 abbrev pub ran_none : Ran
 ran_none = record { all_well = true; is_over = false }
 
--- what a line that closes in this way makes of a run
+-- what a run has come to by one line that closes in this way
 abbrev pub ran_by : Closing → Ran
 ran_by closing = record { all_well = is_well closing; is_over = stops closing }
 
--- two runs, one behind the other
+-- what two runs have come to, one behind the other
 abbrev pub ran_and : Ran → Ran → Ran
 ran_and a b = record { all_well = a.all_well && b.all_well; is_over = b.is_over }
 
@@ -89,8 +89,8 @@ module _ {L P : Type 0} (runs : L → P → Result Closing Fault → List ℕ �
     HasCarried line closing = (text : List ℕ) × runs line from (Ok closing) text to
         × WentOut takes failures old new (text ++ closing_text ready closing)
 
-    -- a line's text didn't go out whole, or an end's device failed, or memory: the text so far went out then, or a
-    -- prefix of it
+    -- why a line wasn't carried out: its text didn't go out whole, an end's device failed, or memory was wanting; the
+    -- text so far went out then, or a prefix of it
     abbrev pub IsCarryFault : L → Fault → Type 0
     IsCarryFault line fault = ((fault ≡ Write)
         × ((closing : Closing) × (text : List ℕ) × runs line from (Ok closing) text to
@@ -98,7 +98,8 @@ module _ {L P : Type 0} (runs : L → P → Result Closing Fault → List ℕ �
         ⊎ ((text : List ℕ) × (output : Output) × runs line from (Err fault) text to
         × IsOut takes failures old new output text)
 
-    -- the lines were carried out, and what they printed went out
+    -- the lines were carried out one after another, up to the first at which the end refused a byte, and what they
+    -- printed went out
     abbrev pub HasRun : List L → Ran → Type 0
     HasRun lines ran = (text : List ℕ) × IsLiveText from lines ran text to × WentOut takes failures old new text
 
@@ -116,6 +117,6 @@ module _ {L P : Type 0} (runs : L → P → Result Closing Fault → List ℕ �
       pub output : Output
       pub out : IsOut takes failures old new output text
 
-    -- why not all lines were carried out
+    -- why not all lines were carried out: a line's text didn't go out, an end's device failed, or memory was wanting
     abbrev pub IsLiveFault : List L → Fault → Type 0
     IsLiveFault lines fault = ((fault ≡ Write) × IsUnprinted lines) ⊎ IsBroken lines fault

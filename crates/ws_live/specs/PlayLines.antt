@@ -43,7 +43,7 @@ host_event_text Attention = codes "attention\n"
 host_event_text SystemRequest = codes "system request\n"
 host_event_text Cancelled = codes "cancelled\n"
 
--- the names of why a key has no effect, and of why a host end doesn't send
+-- the name of why a key is refused
 abbrev pub refusal_name : KeyRefusal → List ℕ
 refusal_name Locked = codes "Locked"
 refusal_name Protected = codes "Protected"
@@ -70,11 +70,11 @@ send_fault_name (Screen reason) = codes "Screen " ++ decimal (number_of reason)
 send_fault_name TooBig = codes "TooBig"
 send_fault_name Memory = codes "Memory"
 
--- an end refuses a byte
+-- the rest of the line of a byte that an end refuses
 abbrev pub refused_text : ℕ → Reason → List ℕ
 refused_text place reason = codes " refused at " ++ place_and_reason place reason
 
--- an event
+-- the lines of an event
 abbrev pub event_text : Event → List ℕ
 event_text (Host event) = host_event_text event
 event_text (KeyRefused fault) = codes "key refused " ++ key_fault_name fault ++ codes "\n"
@@ -91,18 +91,19 @@ abbrev pub AreScreenLines : Paint → Bool → ScreenParts → List ℕ → Type
 AreScreenLines paint true screen lines = IsScreenText paint screen lines
 AreScreenLines paint false screen lines = lines ≡ []
 
--- the events, and behind them the station's screen in a paint where it is asked for
+-- the whole text of a session's report: the lines of its events, and behind them the station's screen in a paint, where
+-- it is asked for
 pub record IsPaintedPlayText (paint : Paint) (events : List Event) (station : ScreenParts) (screen : Bool)
     (text : List ℕ) : Type 0 where
   pub lines : List ℕ
   pub are : AreScreenLines paint screen station lines
   pub all : text ≡ events_text events ++ lines
 
--- the same in plain text
+-- the whole text of a session's report, with its screen in plain text
 abbrev pub IsPlayText : List Event → ScreenParts → Bool → List ℕ → Type 0
 IsPlayText = IsPaintedPlayText Plain
 
--- an end refuses a byte in it
+-- the event is that an end has refused a byte
 abbrev pub is_refusal : Event → Bool
 is_refusal (Host event) = false
 is_refusal (KeyRefused fault) = false
@@ -110,6 +111,6 @@ is_refusal (SendRefused fault) = false
 is_refusal (StationRefused place reason) = true
 is_refusal (HostRefused place reason) = true
 
--- no end refuses one
+-- no end has refused a byte
 abbrev pub no_end_refuses : List Event → Bool
 no_end_refuses events = list_all (λ event. not (is_refusal event)) events

@@ -27,7 +27,7 @@ IsRow Color cells row shown = IsColoredRow (shown_row cells row) shown
 abbrev pub indent : ℕ → List ℕ
 indent row = if nat_lt row 10 then codes " " else []
 
--- a row's line: its number right in two places, a blank, and what it shows; a row that is all blank has none
+-- the line of a row: its number right in two places, a blank, and what it shows; a row that is all blank has none
 abbrev pub row_line : ℕ → List ℕ → List ℕ
 row_line row [] = []
 row_line row (b ∷ shown) = indent row ++ decimal row ++ codes " " ++ b ∷ shown ++ 10 ∷ []
@@ -38,26 +38,27 @@ AreRows paint cells [] text = text ≡ []
 AreRows paint cells (row ∷ rows) text = (shown : List ℕ) × (rest : List ℕ)
     × IsRow paint cells row shown × (text ≡ row_line row shown ++ rest) × AreRows paint cells rows rest
 
--- how the keyboard is
+-- the word for the keyboard's lock
 abbrev pub lock_name : Bool → List ℕ
 lock_name locked = if locked then codes "locked" else codes "unlocked"
 
--- how a light is
+-- the word for a light
 abbrev pub on_or_off : Bool → List ℕ
 on_or_off on = if on then codes "on" else codes "off"
 
--- the cursor, the keyboard's lock, the message light, the blinking cursor, the number of fields
+-- the line of a screen's state: the cursor, the keyboard's lock, the message light, the blinking cursor, the number of
+-- fields
 abbrev pub state_line : ScreenParts → List ℕ
 state_line s = codes "cursor " ++ cell_text s.cursor ++ codes ", " ++ lock_name s.locked ++ codes ", message "
     ++ on_or_off s.message ++ codes ", blink " ++ on_or_off s.blink ++ codes ", fields " ++ decimal (length s.fields)
     ++ 10 ∷ []
 
--- the lines of a whole screen, whose rows count from 1
+-- the lines of a whole screen, in a paint: its rows, counted from 1, and its state
 abbrev pub IsScreenText : Paint → ScreenParts → List ℕ → Type 0
 IsScreenText paint s text = (rows : List ℕ) × AreRows paint s.cells (range_with_len 1 ROWS) rows
     × (text ≡ codes "screen\n" ++ rows ++ state_line s)
 
--- the lines of a screen, and what is printed behind them, if anything is
+-- the lines of a display, in a paint: its screen's, and those behind them, if there are any
 abbrev pub IsDisplayText : Paint → ScreenParts → List ℕ → List ℕ → Type 0
 IsDisplayText paint s [] text = IsScreenText paint s text
 IsDisplayText paint s (b ∷ behind) text = (lines : List ℕ) × IsScreenText paint s lines × (text ≡ lines ++ b ∷ behind)

@@ -38,7 +38,7 @@ abbrev pub given_text : Result (Option SendFault) Fault → List ℕ
 given_text (Ok (Some why)) = event_text (SendRefused why)
 given_text given = []
 
--- whether a wait closed with something that was told
+-- the wait closed with something that was told
 abbrev pub is_told : Closing → Bool
 is_told Done = true
 is_told closing = false
@@ -49,7 +49,7 @@ unheard_outcome late (fault.Refused place reason) = Ok Stopped
 unheard_outcome true fault.Read = Ok Late
 unheard_outcome late why = Err why
 
--- the lines that wait
+-- the line waits
 abbrev pub host_waits : HostLine → Bool
 host_waits Await = true
 host_waits line = false
@@ -109,8 +109,8 @@ module _ {S K : Type 0} (takes : MayTake K) (failures : K → ℕ) (gives : MayG
         × (outcome ≡ given_outcome given) × (text ≡ given_text given)
     HostRuns Await from outcome text to = HearsOne from outcome text to
 
-    -- the same at a watch
     module _ {W : Type 0} (begins : W → S → W → Type 0) (begun : W → ℕ) where
+      -- a line at a host and a watch, how it closed, and what it printed
       abbrev pub Runs : HostLine → (Parts × W) → Result Closing Fault → List ℕ → (Parts × W) → Type 0
       Runs = InTime HostRuns host_waits begins begun
 
@@ -143,24 +143,25 @@ module _ {S K : Type 0} (takes : MayTake K) (failures : K → ℕ) (gives : MayG
           ⊎ (IsStoppedAt Runs ready from lines (Ok Stopped) text to × (all_well ≡ false))
 
       module _ {O : Type 0} (prints : MayTake O) (misprints : O → ℕ) (from to : Parts × W) (old new : O) where
-        -- the next thing that is told is printed, or none came
+        -- the next thing that the host end tells is printed, or none came
         abbrev pub HasAnsweredOnce : Closing → Type 0
         HasAnsweredOnce closing = (text : List ℕ) × Hears from (Ok closing) text to
             × WentOut prints misprints old new text
 
-        -- a device or memory failed, or what was told didn't go out
+        -- why the next thing wasn't printed: a device failed, memory was wanting, or it didn't go out
         abbrev pub IsAnswerFault : Fault → Type 0
         IsAnswerFault why = ((text : List ℕ) × (output : Output) × Hears from (Err why) text to
             × IsOut prints misprints old new output text)
             ⊎ ((why ≡ fault.Write) × ((closing : Closing) × (text : List ℕ) × Hears from (Ok closing) text to
             × FailedWithin prints misprints old new text))
 
-        -- what was told is printed
+        -- what the host end tells behind a script is printed, up to the first thing that isn't told
         abbrev pub HasAnsweredOn : Bool → Type 0
         HasAnsweredOn all_well = (text : List ℕ) × IsAnsweringText from all_well text to
             × WentOut prints misprints old new text
 
-        -- a device or memory failed, or what was told didn't go out, or too much was told
+        -- why not all that the host end tells was printed: a device failed, memory was wanting, it didn't go out, or
+        -- too much was told
         abbrev pub IsAnswerOnFault : Fault → Type 0
         IsAnswerOnFault why = ((text : List ℕ) × (output : Output) × AnswersOn from to (Err why) text
             × IsOut prints misprints old new output text)

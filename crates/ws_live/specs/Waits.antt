@@ -21,7 +21,8 @@ module _ {W S : Type 0} (begins : W → S → W → Type 0) (begun : W → ℕ) 
 -- what a line does at an end, and whether it waits
 module _ {L E S K W : Type 0} (runs : L → AttachedParts E S K → Result Closing Fault → List ℕ → AttachedParts E S K
     → Type 0) (waits : L → Bool) (begins : W → S → W → Type 0) (begun : W → ℕ) where
-  -- what it does at an end and a watch
+  -- what a line does at an end and a watch: one that waits begins one wait, where it finds the source, and no other
+  -- does
   abbrev pub InTime : L → (AttachedParts E S K × W) → Result Closing Fault → List ℕ → (AttachedParts E S K × W)
       → Type 0
   InTime line from outcome text to = runs line from.0 outcome text to.0

@@ -18,7 +18,7 @@ pub record Dialogue : Type 0 where
   pub at_host : ℕ
   pub refused : Bool  -- the host end has refused a token
 
--- it begins with the host end's first token
+-- a dialogue at its start: the host end has written its first token
 abbrev pub new_dialogue : TerminalType → Dialogue
 new_dialogue terminal = record {
   station = new_station terminal;
@@ -64,18 +64,18 @@ abbrev pub after_host_gets : Dialogue → List Telnet → Dialogue
 after_host_gets dialogue [] = dialogue
 after_host_gets dialogue (token ∷ later) = after_host_writes dialogue (host_answer dialogue.host token)
 
--- the first token that is on its way to one end arrives there
+-- the dialogue behind a move: the first token that is on its way to that end arrives there
 abbrev pub after_arrival : Move → Dialogue → Dialogue
 after_arrival ToStation dialogue =
     after_station_gets dialogue (drop dialogue.at_station dialogue.to_station)
 after_arrival ToHost dialogue = after_host_gets dialogue (drop dialogue.at_host dialogue.to_host)
 
--- one arrival after another
+-- the dialogue behind moves, in order
 abbrev pub after_arrivals : List Move → Dialogue → Dialogue
 after_arrivals [] dialogue = dialogue
 after_arrivals (move ∷ moves) dialogue = after_arrivals moves (after_arrival move dialogue)
 
--- all that was written has arrived
+-- all that was written has arrived, at both ends
 pub record IsAllArrived (dialogue : Dialogue) : Type 0 where
   pub at_station : dialogue.at_station ≡ length dialogue.to_station
   pub at_host : dialogue.at_host ≡ length dialogue.to_host

@@ -20,7 +20,7 @@ pub record Exchange : Type 0 where
   pub count : ℕ  -- how many tokens were ever written
   pub refused : Bool  -- the host end has refused a token
 
--- it begins with the host end's first token
+-- an exchange at its start: the host end's first token is on its way to the station
 abbrev pub new_exchange : TerminalType → Exchange
 new_exchange terminal = record {
   station = new_station terminal;
@@ -68,43 +68,43 @@ pub data Move : Type 0 where
   ToStation : Move
   ToHost : Move
 
--- the first token that is on its way to one end comes to it
+-- the exchange behind a move: the first token that is on its way to that end comes to it, and its reply is on its way
 abbrev pub after_move : Move → Exchange → Exchange
 after_move ToStation exchange = after_station_takes exchange exchange.to_station
 after_move ToHost exchange = after_host_takes exchange exchange.to_host
 
--- one move after another
+-- the exchange behind moves, in order
 abbrev pub after_moves : List Move → Exchange → Exchange
 after_moves [] exchange = exchange
 after_moves (move ∷ moves) exchange = after_moves moves (after_move move exchange)
 
--- nothing is in flight
+-- no token is on its way to either end
 pub record IsQuiet (exchange : Exchange) : Type 0 where
   pub to_station : exchange.to_station ≡ []
   pub to_host : exchange.to_host ≡ []
 
--- the mode of a direction that is on, or off, at the station: asked is neither
+-- the mode at the host end of a direction that is on, or off, at the station
 abbrev pub mode_of : Bool → Mode
 mode_of true = On
 mode_of false = Off
 
--- every direction is on at both ends or off at both
+-- the option tables agree: every direction is on at both ends, or off at both
 abbrev pub TablesAgree : StationState → HostState → Type 0
 TablesAgree station host =
     (direction : Direction) → entry host.modes direction ≡ mode_of (entry station.on direction)
 
--- a full delivery: all that is in flight to the station, and then all that is in flight to the host end
+-- the exchange once all that is on its way to the station has come there
 abbrev pub after_all_to_station : Exchange → Exchange
 after_all_to_station exchange = after_moves (replicate (length exchange.to_station) ToStation) exchange
 
--- as many moves to the host end as tokens are on their way to it
+-- the exchange once all that is on its way to the host end has come there
 abbrev pub after_all_to_host : Exchange → Exchange
 after_all_to_host exchange = after_moves (replicate (length exchange.to_host) ToHost) exchange
 
--- all that is on its way comes to the station, and then all to the host end
+-- the exchange behind a full delivery: all that is on its way comes to the station, and then all to the host end
 abbrev pub after_delivery : Exchange → Exchange
 after_delivery exchange = after_all_to_host (after_all_to_station exchange)
 
--- three deliveries one after another
+-- the exchange behind three full deliveries, one after another
 abbrev pub after_three_deliveries : Exchange → Exchange
 after_three_deliveries exchange = after_delivery (after_delivery (after_delivery exchange))

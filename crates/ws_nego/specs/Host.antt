@@ -22,20 +22,20 @@ use Rattle.ws_nego.specs.Options.{entry, with_entry, uniform_table}
 use Rattle.ws_nego.specs.Options.{direction_at_host, refusal_of, option_tokens, Answer, no_effect}
 use Rattle.ws_nego.specs.Station.{name_request}
 
--- each direction's mode, and what is known of the terminal's name
+-- what a contract sees of a host end's options: each direction's mode, and what is known of the terminal's name
 pub record HostState : Type 0 where
   pub modes : OptionTable Mode
   pub name : TerminalName
 
--- a host end before it has opened the session
+-- a host end's options before it has opened the session: all off, and no name asked for
 abbrev pub new_host : HostState
 new_host = record { modes = uniform_table Off; name = Unknown }
 
--- the first token of a session, and the host end after it
+-- the first token of a session, by which the host end asks for the terminal type: DO TERMINAL-TYPE
 abbrev pub opening : Telnet
 opening = Negotiate Do TERMINAL_TYPE
 
--- it has asked for the terminal type
+-- the host end's options once it has written the opening
 abbrev pub after_open : HostState → HostState
 after_open host = record { modes = with_entry host.modes StationTerminalType Asked; name = host.name }
 
@@ -55,46 +55,46 @@ host_row Dont Off = (Off, None)
 host_row Dont Asked = (Off, None)
 host_row Dont On = (Off, Some Wont)
 
--- the option is on in that direction
+-- the mode is that of a direction that is on
 abbrev pub is_on : Mode → Bool
 is_on On = true
 is_on Off = false
 is_on Asked = false
 
--- it was asked for, and no answer has come
+-- the mode is that of a direction that was asked for, with no answer yet
 abbrev pub is_asked : Mode → Bool
 is_asked Asked = true
 is_asked Off = false
 is_asked On = false
 
--- no name was asked for
+-- no name was asked for yet
 abbrev pub is_unknown : TerminalName → Bool
 is_unknown Unknown = true
 is_unknown Requested = false
 is_unknown (Accepted terminal) = false
 
--- the terminal whose name was accepted
+-- the terminal whose name was accepted, if one was
 abbrev pub accepted_terminal : TerminalName → Option TerminalType
 accepted_terminal Unknown = None
 accepted_terminal Requested = None
 accepted_terminal (Accepted terminal) = Some terminal
 
--- WONT TERMINAL-TYPE before a name was accepted
+-- the verb is WONT TERMINAL-TYPE, and no name was accepted
 abbrev pub is_name_withheld : HostState → Verb → Direction → Bool
 is_name_withheld host Wont StationTerminalType = is_none (accepted_terminal host.name)
 is_name_withheld host verb direction = false
 
--- WILL TERMINAL-TYPE that turns the asked option on, before SEND was written
+-- the verb is WILL TERMINAL-TYPE, which turns the asked option on, and no name was asked for yet
 abbrev pub is_name_offered : HostState → Verb → Direction → Bool
 is_name_offered host Will StationTerminalType =
     is_asked host.modes.station_terminal_type && is_unknown host.name
 is_name_offered host verb direction = false
 
--- the terminal type is on, and its name is asked for
+-- the host end's options once the terminal type is on and its name is asked for
 abbrev pub after_name_request : HostState → HostState
 after_name_request host = record { modes = with_entry host.modes StationTerminalType On; name = Requested }
 
--- what the table says of a verb in a direction
+-- what the host end does at a verb in a direction, by its table
 abbrev pub host_table_answer : HostState → Verb → ℕ → Direction → Answer HostState
 host_table_answer host verb option direction =
     let row = host_row verb (entry host.modes direction) in
@@ -113,20 +113,20 @@ host_option_answer host verb option (Some direction) =
     then Some (record { after = after_name_request host; reply = name_request ∷ [] })
     else Some (host_table_answer host verb option direction))
 
--- what asks for a direction, where it isn't on, and its mode then
+-- the token that asks for a direction, where it isn't on
 abbrev pub request : Mode → Verb → ℕ → List Telnet
 request On verb option = []
 request Off verb option = Negotiate verb option ∷ []
 request Asked verb option = Negotiate verb option ∷ []
 
--- a direction once it was asked for: on stays on
+-- the mode of a direction once it was asked for: one that is on stays on
 abbrev pub mode_once_requested : Mode → Mode
 mode_once_requested On = On
 mode_once_requested Off = Asked
 mode_once_requested Asked = Asked
 
--- an accepted name is answered by asking for all that isn't on: END-OF-RECORD, then BINARY, each from
--- the station first
+-- the tokens that ask for all that isn't on once a name is accepted: END-OF-RECORD, then BINARY, each from the station
+-- first (RFC 1205, section 2)
 abbrev pub requests : OptionTable Mode → List Telnet
 requests modes =
     request modes.station_end_of_record Do END_OF_RECORD
@@ -134,7 +134,7 @@ requests modes =
     ++ request modes.station_binary Do BINARY
     ++ request modes.host_binary Will BINARY
 
--- the directions that records need are asked for, where they are not on (RFC 1205, section 2)
+-- the modes once the directions that records need were asked for (RFC 1205, section 2)
 abbrev pub modes_once_requested : OptionTable Mode → OptionTable Mode
 modes_once_requested modes = record {
   station_binary = mode_once_requested modes.station_binary;
@@ -144,16 +144,17 @@ modes_once_requested modes = record {
   host_end_of_record = mode_once_requested modes.host_end_of_record;
 }
 
--- the name in a subnegotiation that is IS of TERMINAL-TYPE (RFC 1091, section 2)
+-- the name in the content of a subnegotiation that is IS (RFC 1091, section 2)
 abbrev pub name_after_is : List ℕ → Option (List ℕ)
 name_after_is [] = None
 name_after_is (code ∷ name) = if code == IS then Some name else None
 
--- the name that a subnegotiation of the terminal type tells (RFC 1091)
+-- the name that a subnegotiation brings, if it is IS of TERMINAL-TYPE (RFC 1091, section 2)
 abbrev pub name_in : Sub → Option (List ℕ)
 name_in sub = if sub.option == TERMINAL_TYPE then name_after_is sub.data_ else None
 
--- a name is judged by the terminal type that has it: one without any is refused
+-- what the host end does at a name that it judges, by the terminal type that has it: it accepts the terminal, or
+-- refuses where there is none
 abbrev pub host_judgement : HostState → Option TerminalType → Option (Answer HostState)
 host_judgement host None = None
 host_judgement host (Some terminal) = Some (record {
@@ -161,25 +162,26 @@ host_judgement host (Some terminal) = Some (record {
   reply = requests host.modes;
 })
 
--- what the host end does at a name: the first after SEND is judged, and no other
+-- what the host end does at a name: the first one behind SEND is judged, and no other
 abbrev pub host_name_answer : HostState → TerminalName → List ℕ → Option (Answer HostState)
 host_name_answer host Requested name = host_judgement host (terminal_named name)
 host_name_answer host Unknown name = Some (no_effect host)
 host_name_answer host (Accepted terminal) name = Some (no_effect host)
 
--- what a subnegotiation does to the host end: it may tell a name
+-- what the host end does at a subnegotiation, by the name that it brings, if it brings one
 abbrev pub host_sub_answer : HostState → Option (List ℕ) → Option (Answer HostState)
 host_sub_answer host None = Some (no_effect host)
 host_sub_answer host (Some name) = host_name_answer host host.name name
 
--- what the host end does at a token, where it doesn't refuse it as UnsupportedTerminal
+-- what the host end does at a token: its options afterwards, and its reply; nothing where it refuses the token for
+-- `UnsupportedTerminal`
 abbrev pub host_answer : HostState → Telnet → Option (Answer HostState)
 host_answer host (Command code) = Some (no_effect host)
 host_answer host (Negotiate verb option) =
     host_option_answer host verb option (direction_at_host verb option)
 host_answer host (Subnegotiate sub) = host_sub_answer host (name_in sub)
 
--- records are allowed at the host end
+-- records are allowed at the host end: a terminal was accepted, and END-OF-RECORD and BINARY are on in both directions
 abbrev pub host_allows_records : HostState → Bool
 host_allows_records host =
     is_some (accepted_terminal host.name)

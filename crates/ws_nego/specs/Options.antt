@@ -13,7 +13,7 @@ use Rattle.ws_nego.specs.declared.options.Direction.TheVariants.{StationBinary, 
 use Rattle.ws_nego.specs.declared.options.Direction.TheVariants.{HostBinary, HostEndOfRecord}
 use Rattle.ws_nego.specs.declared.options.OptionTable.{OptionTable}
 
--- the entry of a direction
+-- a table's entry of a direction
 abbrev pub entry : {T : Type 0} → OptionTable T → Direction → T
 entry table StationBinary = table.station_binary
 entry table StationTerminalType = table.station_terminal_type
@@ -21,7 +21,7 @@ entry table StationEndOfRecord = table.station_end_of_record
 entry table HostBinary = table.host_binary
 entry table HostEndOfRecord = table.host_end_of_record
 
--- the table with this entry of the direction
+-- the table with this entry of the direction, and each other as it was
 abbrev pub with_entry : {T : Type 0} → OptionTable T → Direction → T → OptionTable T
 with_entry table StationBinary value = record table { station_binary = value }
 with_entry table StationTerminalType value = record table { station_terminal_type = value }
@@ -29,7 +29,7 @@ with_entry table StationEndOfRecord value = record table { station_end_of_record
 with_entry table HostBinary value = record table { host_binary = value }
 with_entry table HostEndOfRecord value = record table { host_end_of_record = value }
 
--- the table whose entries are all the same
+-- the table whose entries are all this one
 abbrev pub uniform_table : {T : Type 0} → T → OptionTable T
 uniform_table value = record {
   station_binary = value;
@@ -39,7 +39,7 @@ uniform_table value = record {
   host_end_of_record = value;
 }
 
--- the direction in which the station performs an option, and that in which the host end does
+-- the direction in which the station performs an option, where there is one
 abbrev pub station_direction : ℕ → Option Direction
 station_direction option =
     if option == BINARY then Some StationBinary
@@ -47,36 +47,38 @@ station_direction option =
     else (if option == END_OF_RECORD then Some StationEndOfRecord
     else None))
 
--- the direction that the host end uses the option in
+-- the direction in which the host end performs an option, where there is one
 abbrev pub host_direction : ℕ → Option Direction
 host_direction option =
     if option == BINARY then Some HostBinary
     else (if option == END_OF_RECORD then Some HostEndOfRecord
     else None)
 
--- DO and DONT speak of what the end that gets them performs, WILL and WONT of what the end that wrote
--- them performs (RFC 854, "TELNET COMMAND STRUCTURE")
+-- of which direction a verb speaks to the station: DO and DONT of what the station performs, WILL and WONT of what the
+-- host end performs (RFC 854, "TELNET COMMAND STRUCTURE")
 abbrev pub direction_at_station : Verb → ℕ → Option Direction
 direction_at_station Do option = station_direction option
 direction_at_station Dont option = station_direction option
 direction_at_station Will option = host_direction option
 direction_at_station Wont option = host_direction option
 
--- the direction that a verb is about when it comes to the host end
+-- of which direction a verb speaks to the host end: DO and DONT of what the host end performs, WILL and WONT of what
+-- the station performs (RFC 854, "TELNET COMMAND STRUCTURE")
 abbrev pub direction_at_host : Verb → ℕ → Option Direction
 direction_at_host Do option = host_direction option
 direction_at_host Dont option = host_direction option
 direction_at_host Will option = station_direction option
 direction_at_host Wont option = station_direction option
 
--- an option whose direction isn't in the table is refused (RFC 854, "GENERAL CONSIDERATIONS")
+-- how an option whose direction isn't in the table is answered: DO by WONT, WILL by DONT, the others not (RFC 854,
+-- "GENERAL CONSIDERATIONS")
 abbrev pub refusal_of : Verb → Option Verb
 refusal_of Do = Some Wont
 refusal_of Will = Some Dont
 refusal_of Dont = None
 refusal_of Wont = None
 
--- the token that answers for an option, where there is an answer
+-- the token that answers a verb of an option, where there is an answer
 abbrev pub option_tokens : Option Verb → ℕ → List Telnet
 option_tokens None option = []
 option_tokens (Some verb) option = Negotiate verb option ∷ []
@@ -85,7 +87,7 @@ option_tokens (Some verb) option = Negotiate verb option ∷ []
 abbrev pub terminal_type_token : ℕ → List ℕ → Telnet
 terminal_type_token code name = Subnegotiate (record { option = TERMINAL_TYPE; data_ = code ∷ name })
 
--- the bytes of tokens
+-- the bytes of a list of tokens
 abbrev pub bytes_of : List Telnet → List ℕ
 bytes_of tokens = flat_map telnet_spelling tokens
 
@@ -94,7 +96,7 @@ pub record Answer (State : Type 0) : Type 0 where
   pub after : State
   pub reply : List Telnet
 
--- a token without effect
+-- what an end does at a token without effect: nothing
 abbrev pub no_effect : {State : Type 0} → State → Answer State
 no_effect state = record { after = state; reply = [] }
 

@@ -16,17 +16,17 @@ use Rattle.ws_nego.specs.Terminal.{name_of}
 use Rattle.ws_nego.specs.Options.{entry, with_entry, uniform_table, direction_at_station, refusal_of}
 use Rattle.ws_nego.specs.Options.{option_tokens, terminal_type_token, Answer, no_effect}
 
--- its terminal, and which directions are on
+-- what a contract sees of a station's options: its terminal, and which directions are on
 pub record StationState : Type 0 where
   pub terminal : TerminalType
   pub on : OptionTable Bool
 
--- a station of the terminal, with no option on
+-- a station's options at the start: its terminal, and no direction on
 abbrev pub new_station : TerminalType → StationState
 new_station terminal = record { terminal = terminal; on = uniform_table false }
 
--- The station's table: whether the direction is on afterwards, and the answer. What is asked and stands
--- already isn't acknowledged (RFC 854, "GENERAL CONSIDERATIONS").
+-- The station's table: whether the direction is on afterwards, and the answer. What is asked and stands already isn't
+-- acknowledged (RFC 854, "GENERAL CONSIDERATIONS").
 abbrev pub station_row : Verb → Bool → Bool × Option Verb
 station_row Do false = (true, Some Will)
 station_row Do true = (true, None)
@@ -37,15 +37,15 @@ station_row Dont true = (false, Some Wont)
 station_row Wont false = (false, None)
 station_row Wont true = (false, Some Dont)
 
--- SEND asks for the terminal's name, and IS brings it (RFC 1091, section 2)
+-- SEND, which asks for the terminal's name (RFC 1091, section 2)
 abbrev pub name_request : Telnet
 name_request = terminal_type_token SEND []
 
--- what tells the name of the terminal (RFC 1091)
+-- IS with the name of the terminal (RFC 1091, section 2)
 abbrev pub name_answer : TerminalType → Telnet
 name_answer terminal = terminal_type_token IS (name_of terminal)
 
--- a subnegotiation that asks for the name (RFC 1091)
+-- the subnegotiation is SEND, which asks for the terminal's name (RFC 1091, section 2)
 abbrev pub is_name_request : Sub → Bool
 is_name_request sub = (sub.option == TERMINAL_TYPE) && bytes_eq sub.data_ (SEND ∷ [])
 
@@ -60,7 +60,7 @@ station_option_answer station verb option (Some direction) =
       reply = option_tokens row.1 option;
     }
 
--- what the station does at a token
+-- what the station does at a token: its options afterwards, and its reply
 abbrev pub station_answer : StationState → Telnet → Answer StationState
 station_answer station (Command code) = no_effect station
 station_answer station (Negotiate verb option) =
@@ -73,7 +73,7 @@ station_answer station (Subnegotiate sub) = record {
       else [];
 }
 
--- records are allowed at the station
+-- records are allowed at the station: END-OF-RECORD and BINARY are on in both directions
 abbrev pub station_allows_records : StationState → Bool
 station_allows_records station =
     station.on.station_binary && station.on.station_end_of_record

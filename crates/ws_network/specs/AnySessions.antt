@@ -28,7 +28,7 @@ use Rattle.ws_words.specs.declared.live_command.ServeAsked.{ServeAsked}
 
 -- lines, and behind them one that is carried out again and again
 module _ {L P : Type 0} (runs : L → P → Result Closing Fault → List ℕ → P → Type 0) (on : L) (ready : Bool) where
-  -- what they print, and whether all went well: where a line stopped the session, nothing stands behind it
+  -- what such lines print, and whether all went well: where a line stopped the session, nothing stands behind it
   abbrev pub IsTextAndOn : P → List L → Bool → List ℕ → P → Type 0
   IsTextAndOn from lines all_well text to =
       ((well : Bool) × (mid : P) × (printed : List ℕ) × (on_well : Bool) × (told : List ℕ)
@@ -45,9 +45,9 @@ module _ {L P : Type 0} (runs : L → P → Result Closing Fault → List ℕ �
         × HaveRun runs ready from lines well printed mid × WentOut prints misprints old between printed
         × ((why : Fault) × IsCarryOnFault runs on prints misprints mid to between new why × (told ≡ run_fault why)))
 
--- what a line does at such a host, at a watch
 module _ {S K W : Type 0} (writes : MayTake K) (failures : K → ℕ) (reads : MayGive S) (misses : S → ℕ)
     (says : S → Bool → Type 0) (starts : W → S → W → Type 0) (begun : W → ℕ) where
+  -- what a line does at a host that takes any record, and a watch
   abbrev pub RunsAny : AnyLine → (AttachedParts AnyParts S K × W) → Result Closing Fault → List ℕ
       → (AttachedParts AnyParts S K × W) → Type 0
   RunsAny = InTime (AnyRuns writes failures reads misses says) any_waits starts begun
@@ -62,7 +62,8 @@ pub record IsAnyServed (asked : ServeAsked) (lines : List AnyLine) (all_well : B
   pub ran : IsTextAndOn (RunsAny takes (λ s. s.failures) gives (λ s. s.failures) tells begins (λ begun. begun)) Await
       asked.ready (at_connection host sink, 0) lines all_well text to
 
--- its lines were carried out, and what they printed went out behind what tells the address
+-- what a session of a host that takes any record came to: its lines were carried out, and what they printed went out
+-- behind what tells the address
 abbrev pub HasAnyServed : {O : Type 0} → MayTake O → (O → ℕ) → O → O → ServeAsked → Bool → Type 0
 HasAnyServed prints misprints old new asked all_well = (lines : List AnyLine) × (first : List ℕ) × (text : List ℕ)
     × AreFromScript IsAnyLine OpensAnyBlock asked.script lines × IsAnyServed asked lines all_well text

@@ -9,12 +9,12 @@ use Rattle.ws_words.specs.declared.live_command.Live.TheVariants.{Connect, Serve
 use Rattle.ws_words.specs.declared.live_command.ServeAsked.{ServeAsked}
 
 module _ {O : Type 0} (prints : MayTake O) (misprints : O → ℕ) (old new : O) where
-  -- `serve` at a host that takes any record, or not
+  -- what a session of `serve` came to, at a host that takes any record or at one that doesn't
   abbrev pub HasServedAs : Bool → ServeAsked → Bool → Type 0
   HasServedAs false asked all_well = HasServed prints misprints old new asked all_well
   HasServedAs true asked all_well = HasAnyServed prints misprints old new asked all_well
 
-  -- a live session came to this
+  -- what a live session came to that didn't end early, by the words that asked for it
   abbrev pub HasRunLive : Live → Bool → Type 0
   HasRunLive (Connect asked) all_well = HasConnected prints misprints old new asked all_well
   HasRunLive (Serve asked) all_well = HasServedAs asked.any asked all_well

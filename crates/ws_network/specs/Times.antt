@@ -14,7 +14,7 @@ pub record Reads : Type 0 where
 abbrev pub no_reads : Reads
 no_reads = record { failures = 0; failure = None }
 
--- what is known of the writes: how many failed
+-- what is known of the writes to a connection: how many failed
 pub record Writes : Type 0 where
   pub failures : ℕ
 
@@ -36,11 +36,12 @@ is_want_of_time WouldBlock = true
 is_want_of_time TimedOut = true
 is_want_of_time kind = false
 
+-- the error is that a call took longer than its time
 abbrev is_late : Option ErrorKind → Bool
 is_late None = false
 is_late (Some kind) = is_want_of_time kind
 
--- whether the last read that failed did so for want of time
+-- the last read that failed did so for want of time
 abbrev pub was_late : Reads → Bool
 was_late reads = is_late reads.failure
 

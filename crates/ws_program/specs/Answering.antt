@@ -87,7 +87,7 @@ module _ {S : Type 0} (takes : MayTake S) (failures : S → ℕ) (from to : S) w
       × HasChecked extended_rules bytes accepted
   HasCheckedHex Station input accepted = (bytes : List ℕ) × IsHexOf bytes input × HasChecked answer_rules bytes accepted
 
-  -- what is shown of them went out; a station's answers have no screen
+  -- what is shown of the bytes that a hex text tells went out; a station's answers have no screen
   abbrev pub HasShownHex : Paint → Sender → List ℕ → Bool → Type 0
   HasShownHex paint Host input accepted = (bytes : List ℕ) × IsHexOf bytes input
       × HasShown element_rules (painted_host_view paint) bytes accepted
@@ -114,7 +114,7 @@ module _ {S : Type 0} (takes : MayTake S) (failures : S → ℕ) (from to : S) w
   HasAnswered (Play file screen true paint) input accepted = HasPlayedByTcp paint screen input accepted
   HasAnswered (Make file sender) input accepted = HasMadeBy sender input accepted
 
-  -- what is answered of a hex text where a command answers such faults of its bytes
+  -- what is answered of a hex text by a command that answers so of its bytes
   abbrev pub IsHexFault : (List ℕ → Fault → Type 0) → List ℕ → RunFault → Type 0
   IsHexFault IsFault input NotHex = (to ≡ from) × IsErr (decode_of (without_blanks input))
   IsHexFault IsFault input Memory = (bytes : List ℕ) × IsHexOf bytes input
@@ -122,13 +122,13 @@ module _ {S : Type 0} (takes : MayTake S) (failures : S → ℕ) (from to : S) w
   IsHexFault IsFault input Write = (bytes : List ℕ) × IsHexOf bytes input × IsFault bytes device.Write
   IsHexFault IsFault input fault = ⊥
 
-  -- what is answered of one where the line of its check doesn't go out
+  -- what is answered of a hex text where the line of its check doesn't go out
   abbrev pub IsCheckHexFault : Sender → List ℕ → RunFault → Type 0
   IsCheckHexFault Host input fault = IsHexFault (IsCheckFault element_rules takes failures from to) input fault
   IsCheckHexFault ExtendedHost input fault = IsHexFault (IsCheckFault extended_rules takes failures from to) input fault
   IsCheckHexFault Station input fault = IsHexFault (IsCheckFault answer_rules takes failures from to) input fault
 
-  -- what is answered of one where what is shown of it doesn't go out
+  -- what is answered of a hex text where what is shown of it doesn't go out
   abbrev pub IsShowHexFault : Paint → Sender → List ℕ → RunFault → Type 0
   IsShowHexFault paint Host input fault = IsHexFault
       (IsShowFault takes failures from to element_rules (painted_host_view paint)) input fault
@@ -155,7 +155,8 @@ module _ {S : Type 0} (takes : MayTake S) (failures : S → ℕ) (from to : S) w
       × FailedWithin takes failures from to text
   IsPlayFault paint screen script fault = ⊥
 
-  -- the same over a connection: it may fail where the script is good, and then nothing was written
+  -- what is answered of a script that isn't played over a connection, or whose lines don't go out; the connection may
+  -- fail where the script is good, and then nothing was written
   abbrev pub IsTcpPlayFault : Paint → Bool → List ℕ → RunFault → Type 0
   IsTcpPlayFault paint screen script (Line number) = (to ≡ from) × IsFirstBad script number
   IsTcpPlayFault paint screen script Memory = (to ≡ from) × IsGoodScript script

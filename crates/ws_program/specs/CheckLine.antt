@@ -13,32 +13,32 @@ use Rattle.ws_live.specs.PlaceAndReason.{place_and_reason}
 use Rattle.ws_program.specs.declared.verdict.Verdict.{Verdict}
 use Rattle.ws_program.specs.declared.verdict.Verdict.TheVariants.{Accepted, Refused, Truncated}
 
--- how many of the items are records, and how many Telnet commands
+-- how many of the items are records
 abbrev pub record_count : {U : Type 0} → List (Item U) → ℕ
 record_count [] = 0
 record_count (Record r ∷ items) = record_count items + 1
 record_count (Telnet t ∷ items) = record_count items
 
--- how many Telnet commands the items have
+-- how many of the items are Telnet commands
 abbrev pub command_count : {U : Type 0} → List (Item U) → ℕ
 command_count [] = 0
 command_count (Record r ∷ items) = command_count items
 command_count (Telnet t ∷ items) = command_count items + 1
 
--- what holds of the bytes
+-- what holds of the bytes: they are accepted, refused at a place, or end too early
 abbrev pub IsVerdict : {Place U : Type 0} → Rules Place U → List ℕ → Verdict → Type 0
 IsVerdict {Place} {U} rules bytes (Accepted records commands) = (items : List (Item U)) × IsInGrammar rules bytes items
     × (records ≡ record_count items) × (commands ≡ command_count items)
 IsVerdict rules bytes (Refused place reason) = IsRefused rules bytes place reason
 IsVerdict rules bytes (Truncated n) = (n ≡ length bytes) × IsTruncated rules bytes
 
--- the whole stream was accepted
+-- the verdict is that the whole stream was accepted
 abbrev pub is_accepted : Verdict → Bool
 is_accepted (Accepted records commands) = true
 is_accepted (Refused place reason) = false
 is_accepted (Truncated n) = false
 
--- the line that says it, of so many bytes
+-- the line that `check` prints: the verdict, of so many bytes
 abbrev pub line_of : Verdict → ℕ → List ℕ
 line_of (Accepted records commands) size = codes "accepted: " ++ decimal records ++ codes " records, "
     ++ decimal commands ++ codes " commands, " ++ decimal size ++ (codes " bytes" ++ 10 ∷ [])

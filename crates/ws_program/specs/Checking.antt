@@ -14,11 +14,11 @@ use Rattle.ws_program.specs.declared.verdict.Verdict.{Verdict}
 use Rattle.ws_program.specs.CheckLine.{IsVerdict, line_of, record_count, command_count}
 use Rattle.ws_text.specs.Printing.{IsTextFault}
 
--- the tally after one record more, and after one Telnet command more
+-- the tally with one record more; a count stays at the highest number that it can hold
 abbrev pub one_record : Tally → Tally
 one_record tally = record tally { records = min (tally.records + 1) (2 ^ 64 - 1) }
 
--- a tally with one more Telnet command in it; the count stays at the highest number that it can hold
+-- the tally with one Telnet command more; a count stays at the highest number that it can hold
 abbrev pub one_command : Tally → Tally
 one_command tally = record tally { commands = min (tally.commands + 1) (2 ^ 64 - 1) }
 

@@ -19,18 +19,17 @@ use Rattle.ws_program.specs.StreamText.{View}
 abbrev pub new_state : ExtendedState
 new_state = record { history = []; kept = None; text = 0 }
 
--- the state so far and that behind an item: a record is carried out as a station does on this display, a Telnet command
--- has no effect
+-- the display behind an item: a record is carried out as a station does on it, a Telnet command has no effect
 abbrev pub state_after_item : ExtendedState → Item ExtendedElement → ExtendedState
 state_after_item state (RecordItem r) = state_after_record state r
 state_after_item state (TelnetItem telnet) = state
 
--- why the display refuses an item
+-- why the display refuses an item, if it does
 abbrev pub extended_item_fault : ExtendedState → Item ExtendedElement → Option Reason
 extended_item_fault state (RecordItem r) = record_fault state r.body
 extended_item_fault state (TelnetItem telnet) = None
 
--- the state behind the items
+-- the display behind the items
 abbrev pub state_after_items : ExtendedState → List (Item ExtendedElement) → ExtendedState
 state_after_items state [] = state
 state_after_items state (x ∷ xs) = state_after_items (state_after_item state x) xs
@@ -44,7 +43,7 @@ abbrev pub IsExtendedEnd : Paint → List (Item ExtendedElement) → List ℕ �
 IsExtendedEnd paint items text = (d : ExtendedParts) × Shows (state_after_items new_state items) d
     × IsDisplayText paint d.screen (error_line (standing_row d)) text
 
--- a live host's items, and the display behind them in a paint
+-- how a live host's items are shown, and behind them the display's screen in a paint and the row of an error
 abbrev pub extended_view : Paint → View ExtendedElement
 extended_view paint = record {
   lines = extended_item_text;

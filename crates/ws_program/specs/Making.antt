@@ -18,7 +18,7 @@ module _ {Place U : Type 0} (rules : Rules Place U) where
   abbrev pub made_line : Item U → List ℕ
   made_line item = encode_upper (plain_spelling rules (item ∷ [])) ++ 10 ∷ []
 
-  -- the lines of items
+  -- the lines of items in hex, one for each item
   abbrev pub made_text : List (Item U) → List ℕ
   made_text items = flat_map made_line items
 
@@ -34,13 +34,13 @@ module _ {Place U : Type 0} (rules : Rules Place U) (w : Wording U) (IsShowing :
       × ((shown : List (Item U)) → ¬ IsShowing text shown)
 
   module _ {S : Type 0} (takes : MayTake S) (failures : S → ℕ) (from to : S) where
-    -- the stream of the items that a text spells went out
+    -- the stream of the items that a text spells went out in hex
     abbrev pub HasMade : List ℕ → Bool → Type 0
     HasMade text accepted = (items : List (Item U)) × AreTold text items
         × WentOut takes failures from to (made_text rules items) × (accepted ≡ true)
 
-    -- What is answered where it didn't: a bad line, or want of memory for a text that spells items, before anything was
-    -- written; or the sink failed.
+    -- Why it didn't: a bad line, or want of memory for a text that spells items, before anything was written; or the
+    -- sink failed.
     abbrev pub IsMakeFault : List ℕ → RunFault → Type 0
     IsMakeFault text (Line number) = (to ≡ from) × IsBadLine text number
     IsMakeFault text Memory = (to ≡ from) × ((items : List (Item U)) × AreItems rules w text items)

@@ -63,29 +63,29 @@ module _ {Place U : Type 0} where
   IsWholeItem rules (RecordItem r) = IsChain rules rules.first r.body
   IsWholeItem rules (TelnetItem telnet) = Unit {0}
 
-  -- each of the items is, one after another, and each is carried out
+  -- the items are complete one after another, and each is carried out
   abbrev pub AreShown : Rules Place U → View U → List ℕ → List (Item U) → List (Placed U) → Type 0
   AreShown rules view bytes before [] = Unit {0}
   AreShown rules view bytes before (x ∷ xs) = IsComplete rules bytes before x × (view.fault before x.1 ≡ None)
       × AreShown rules view bytes (before ++ x.1 ∷ []) xs
 
-  -- The ends. The bytes are accepted, and what stands behind all items is shown.
+  -- the bytes are accepted, and what stands behind all items is shown
   abbrev pub IsAcceptedEnd : Rules Place U → View U → List ℕ → List (Placed U) → List ℕ → Type 0
   IsAcceptedEnd rules view bytes placed text = IsInGrammar rules bytes (items_of placed)
       × view.Ends (items_of placed) text
 
-  -- A byte is refused behind the items.
+  -- a byte is refused behind the items, and its line is shown
   abbrev pub IsRefusedEnd : Rules Place U → List ℕ → List (Placed U) → List ℕ → Type 0
   IsRefusedEnd rules bytes placed text = (place : ℕ) × (reason : Reason) × IsRefused rules bytes place reason
       × HoldsItems rules (take place bytes) (items_of placed)
       × (text ≡ line_of (Refused place reason) (length bytes))
 
-  -- The bytes end too early behind them.
+  -- the bytes end too early behind the items, and the line of that is shown
   abbrev pub IsTruncatedEnd : Rules Place U → List ℕ → List (Placed U) → List ℕ → Type 0
   IsTruncatedEnd rules bytes placed text = IsTruncated rules bytes × HoldsItems rules bytes (items_of placed)
       × (text ≡ line_of (Truncated (length bytes)) (length bytes))
 
-  -- The next item isn't carried out, and is shown too.
+  -- the next item isn't carried out, and is shown too, with the line of its reason
   abbrev pub IsUnappliedEnd : Rules Place U → View U → List ℕ → List (Placed U) → List ℕ → Type 0
   IsUnappliedEnd rules view bytes placed text = (x : Placed U) × (reason : Reason)
       × IsComplete rules bytes (items_of placed) x × (view.fault (items_of placed) x.1 ≡ Some reason)
@@ -97,7 +97,7 @@ module _ {Place U : Type 0} where
   IsEnd rules view bytes placed false text = IsRefusedEnd rules bytes placed text
       ⊎ (IsTruncatedEnd rules bytes placed text ⊎ IsUnappliedEnd rules view bytes placed text)
 
-  -- the whole text
+  -- the whole text that is shown of a stream: the lines of its items, and what comes behind them
   pub record IsShown (rules : Rules Place U) (view : View U) (bytes : List ℕ) (accepted : Bool) (text : List ℕ)
       : Type 0 where
     pub placed : List (Placed U)
@@ -106,7 +106,7 @@ module _ {Place U : Type 0} where
     pub ends : IsEnd rules view bytes placed accepted end
     pub lines : text ≡ lines_of view placed ++ end
 
-  -- the lines of the first items, perhaps with one more that is complete
+  -- the lines of a stream's first items, perhaps with those of one more that is complete and isn't carried out
   pub record AreFirstLines (rules : Rules Place U) (view : View U) (bytes : List ℕ) (text : List ℕ) : Type 0 where
     pub placed : List (Placed U)
     pub shown : AreShown rules view bytes [] placed
@@ -150,8 +150,8 @@ module _ {Place U : Type 0} where
 
   module _ {S : Type 0} (takes : MayTake S) (failures : S → ℕ) (from to : S) (rules : Rules Place U)
       (view : View U) where
-    -- What is answered where not all is shown. The lines of the first items went out, and the growth for a unit behind
-    -- them was refused; or a part of the lines went out.
+    -- Why not all of a stream is shown: the lines of the first items went out, and the growth for a unit behind them
+    -- was refused; or only a part of the lines went out.
     abbrev pub IsShowFault : List ℕ → Fault → Type 0
     IsShowFault bytes Memory = (placed : List (Placed U)) × AreShown rules view bytes [] placed
         × GrowsBehind rules bytes (items_of placed) × WentOut takes failures from to (lines_of view placed)

@@ -9,7 +9,7 @@ use Rattle.ws_program.specs.declared.fault.RunFault.{RunFault}
 use Rattle.ws_program.specs.declared.fault.RunFault.TheVariants.{Read, Write}
 use Rattle.ws_program.specs.declared.open_streams.OpenStreams.{OpenStreams}
 
--- what a command lacks: standard input, where it reads that; or standard output
+-- what a command lacks where standard streams were closed: standard input, where it reads that; or standard output
 abbrev pub missing : OpenStreams → Bool → Option RunFault
 missing open_ reads_input = if reads_input && not open_.input then Some Read
     else (if open_.output then None else Some Write)
@@ -26,8 +26,8 @@ module _ {S : Type 0} (takes : MayTake S) (failures : S → ℕ) (from to : S) (
   abbrev pub HasAnsweredOpenly : Asked → List ℕ → Bool → Type 0
   HasAnsweredOpenly asked input accepted = (has_output ≡ true) × HasAnswered takes failures from to asked input accepted
 
-  -- Why it didn't. Where standard output is closed it opens no connection, and what is found in the input and in
-  -- running comes first.
+  -- Why the program didn't do what it was asked for. Where standard output is closed it opens no connection, and what
+  -- is found in the input and in running comes first.
   abbrev pub IsOpenFault : Asked → List ℕ → RunFault → Type 0
   IsOpenFault asked input fault = ((has_output ≡ true) × IsAnswerFault takes failures from to asked input fault)
       ⊎ ((has_output ≡ false) × (IsAnswerFault takes failures from to (in_one_place asked) input fault

@@ -18,17 +18,17 @@ use Rattle.ws_live.specs.declared.paint.Paint.{Paint}
 use Rattle.ws_live.specs.declared.paint.Paint.TheVariants.{Plain}
 use Rattle.ws_program.specs.StreamText.{View}
 
--- the events so far and those of an item: a record is applied as a station does, a Telnet command has no effect
+-- the events so far, and those of an item: a record is applied as a station does, a Telnet command has no effect
 abbrev pub after_item : History → Item Element → History
 after_item h (RecordItem r) = after_record h r
 after_item h (TelnetItem telnet) = h
 
--- why the screen refuses an item
+-- why the screen refuses an item, if it does
 abbrev pub item_fault : History → Item Element → Option Reason
 item_fault h (RecordItem r) = body_fault h r.body
 item_fault h (TelnetItem telnet) = None
 
--- the events so far and those of the items
+-- the events so far, and those of the items
 abbrev pub after_items : History → List (Item Element) → History
 after_items h [] = h
 after_items h (x ∷ xs) = after_items (after_item h x) xs
@@ -41,7 +41,7 @@ MakesScreen items screen = Gives (after_items [] items) screen × (screen.writin
 abbrev pub IsScreenEnd : Paint → List (Item Element) → List ℕ → Type 0
 IsScreenEnd paint items text = (s : ScreenParts) × Gives (after_items [] items) s × IsScreenText paint s text
 
--- a host's items, and the screen behind them in a paint
+-- how a host's items are shown, and the screen behind them in a paint
 abbrev pub painted_host_view : Paint → View Element
 painted_host_view paint = record {
   lines = item_text;
@@ -49,7 +49,7 @@ painted_host_view paint = record {
   Ends = IsScreenEnd paint;
 }
 
--- the same in plain text
+-- how a host's items are shown, and the screen behind them in plain text
 abbrev pub host_view : View Element
 host_view = painted_host_view Plain
 
@@ -57,10 +57,10 @@ host_view = painted_host_view Plain
 abbrev pub IsNoEnd : List (Item AnswerPart) → List ℕ → Type 0
 IsNoEnd items text = text ≡ []
 
--- a station's answers
+-- how a station's answers are shown; nothing stands behind them
 abbrev pub answer_view : View AnswerPart
 answer_view = record { lines = answer_text; fault = λ _ _. None; Ends = IsNoEnd }
 
--- the same items, with what stands behind them in a paint
+-- a way to show items, with what stands behind them in a paint
 abbrev pub in_paint : {U : Type 0} → View U → (Paint → List (Item U) → List ℕ → Type 0) → Paint → View U
 in_paint view Ends paint = record { lines = view.lines; fault = view.fault; Ends = Ends paint }

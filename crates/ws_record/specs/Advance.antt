@@ -28,7 +28,8 @@ module _ {Place U : Type 0} where
   module _ {K : Type 0} (rules : Rules Place U) (holds : K → List U → List ℕ → Type 0) (may_answer : Kept → Type 0)
       (bytes : List ℕ) (items : List (Item U)) (so_far : RecordSoFar U) (old : K) (front : List ℕ)
       (live : Watching Place) (new : K) where
-    -- What a front behind these bytes makes of the decoder: what is complete with its last byte, and of the keep.
+    -- What a front of a piece, behind these bytes, makes of the decoder and of its keep, by what is complete with the
+    -- front's last byte.
     abbrev pub IsAdvance : News → Type 0
     IsAdvance More =
         (more : List U) × (told : List ℕ) × Onward rules live (bytes ++ front) items so_far so_far.head more told
@@ -59,14 +60,14 @@ module _ {Place U : Type 0} where
         EndIn front (λ before last. CompletesUnit rules (bytes ++ before) items last) × may_answer answer.NoMemory
     IsAdvance Failed = ⊥
 
--- no item is complete, and more may follow
+-- the news is such that no item is complete with it, and more may follow
 abbrev pub goes_on : News → Bool
 goes_on More = true
 goes_on Whole = true
 goes_on (Open head) = true
 goes_on news = false
 
--- a fact where nothing follows the news
+-- a fact where the news is such that nothing follows it
 abbrev pub OnLastNews : News → Type 0 → Type 0
 OnLastNews (Refused reason) P = P
 OnLastNews NoMemory P = P

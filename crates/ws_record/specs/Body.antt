@@ -5,7 +5,7 @@ use Rattle.ws_code.specs.Code.{Rules, IsWhole, IsCut, spelling_of}
 use Rattle.ws_record.specs.declared.body_reader.BodyFault.{BodyFault}
 use Rattle.ws_record.specs.declared.body_reader.BodyFault.TheVariants.{Bad, Memory}
 
--- a body of these bytes: they are its spelling
+-- the bytes are the spelling of these units, which are a whole body
 pub record IsBody {Place U : Type 0} (rules : Rules Place U) (bytes : List ℕ) (body : List U) : Type 0 where
   pub whole : IsWhole rules body
   pub spelled : spelling_of rules body ≡ bytes
@@ -19,7 +19,7 @@ pub record HasUnitSoFar {Place U : Type 0} (rules : Rules Place U) (bytes : List
   pub unit : U
   pub cut : IsCut rules front (before ++ unit ∷ []) []
 
--- nothing is what should be read, want of memory aside
+-- the bytes are the spelling of no body, or memory is wanting
 abbrev pub IsBodyFault : {X : Type 0} → (X → Type 0) → BodyFault → Type 0
 IsBodyFault {X} IsRead Bad = (x : X) → IsRead x → ⊥
 IsBodyFault IsRead Memory = Unit {0}

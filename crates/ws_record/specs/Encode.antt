@@ -21,7 +21,7 @@ module _ {Place U : Type 0} where
   item_spelling rules (RecordItem r) = record_spelling (record_bytes rules r)
   item_spelling rules (TelnetItem t) = telnet_spelling t
 
-  -- the items one after another, no command inside a record
+  -- the spelling of items one after another, with no command inside a record
   abbrev pub plain_spelling : Rules Place U → List (Item U) → List ℕ
   plain_spelling rules items = flat_map (item_spelling rules) items
 
@@ -35,17 +35,17 @@ module _ {Place U : Type 0} where
   abbrev pub CanAllBeEncoded : Rules Place U → List (Item U) → Type 0
   CanAllBeEncoded rules items = AllByRecursion (CanBeEncoded rules) items
 
-  -- a record's list is no body
+  -- the item is a record whose units are no body
   abbrev pub IsBadSequence : Rules Place U → Item U → Type 0
   IsBadSequence rules (RecordItem r) = ¬ IsWhole rules r.body
   IsBadSequence rules (TelnetItem t) = ⊥
 
-  -- it is one, and the record's bytes are more than a header can declare
+  -- the item is a record whose units are a body, and whose bytes are more than a header can declare
   abbrev pub IsTooBig : Rules Place U → Item U → Type 0
   IsTooBig rules (RecordItem r) = IsWhole rules r.body × (2 ^ 16 ≤ length (record_bytes rules r))
   IsTooBig rules (TelnetItem t) = ⊥
 
-  -- the item at the index is so, and each before it can be encoded
+  -- the item at the index has the property, and each item before it can be encoded
   pub record IsFirst (Q : Item U → Type 0) (rules : Rules Place U) (items : List (Item U)) (index : ℕ) : Type 0 where
     pub before : List (Item U)
     pub item : Item U
@@ -55,20 +55,21 @@ module _ {Place U : Type 0} where
     pub each : CanAllBeEncoded rules before
     pub is : Q item
 
-  -- the list's own fault: its first item that can't be encoded, and why
+  -- the list's own fault: it names the first item that can't be encoded, and why that can't
   abbrev pub IsListFault : Rules Place U → List (Item U) → EncodeFault → Type 0
   IsListFault rules items (TooBig index) = IsFirst (IsTooBig rules) rules items index
   IsListFault rules items (BadSequence index) = IsFirst (IsBadSequence rules) rules items index
   IsListFault rules items fault = ⊥
 
-  -- An encoder into memory has the list's own fault, or, where the list has none and isn't empty, a growth was refused.
+  -- What an encoder into memory may answer: the list's own fault, or, where the list has none and isn't empty, that a
+  -- growth was refused.
   abbrev pub IsEncodeFault : Rules Place U → List (Item U) → EncodeFault → Type 0
   IsEncodeFault rules items Memory = CanAllBeEncoded rules items × (items ≢ [])
   IsEncodeFault rules items Write = ⊥
   IsEncodeFault rules items fault = IsListFault rules items fault
 
-  -- An encoder into a sink has the list's own fault, and the sink was left alone;
-  -- or, where the list has none, a write failed after a front of the spelling.
+  -- What an encoder into a sink may answer: the list's own fault, with the sink left alone; or, where the list has
+  -- none, that a write failed after a proper front of the spelling.
   abbrev pub IsWriteFault : {S : Type 0} → Rules Place U → List (Item U) → MayTake S → (S → ℕ) → S → S → EncodeFault
       → Type 0
   IsWriteFault rules items takes failures from to Write = CanAllBeEncoded rules items

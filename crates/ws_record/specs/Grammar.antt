@@ -33,7 +33,7 @@ opcode_byte MessageLightOff = 0x0c
 abbrev pub header : ℕ → ℕ → Opcode → List ℕ
 header len flags opcode = two_bytes len ++ 0x12 ∷ 0xa0 ∷ 0 ∷ 0 ∷ 4 ∷ [] ++ two_bytes flags ++ opcode_byte opcode ∷ []
 
--- the header is right, and declares the length of the whole
+-- the bytes begin with a right header, which declares the length of them all
 pub record IsFramed (bytes : List ℕ) : Type 0 where
   pub flags : ℕ
   pub opcode : Opcode
@@ -43,13 +43,13 @@ pub record IsFramed (bytes : List ℕ) : Type 0 where
   pub spelled : bytes ≡ header (length bytes) flags opcode ++ rest
 
 module _ {Place U : Type 0} where
-  -- what stands behind the header is the spelling of a body
+  -- the bytes behind a header are the spelling of a body
   pub record IsBodyBytes (rules : Rules Place U) (bytes : List ℕ) : Type 0 where
     pub units : List U
     pub whole : IsWhole rules units
     pub spelled : bytes ≡ spelling_of rules units
 
-  -- the bytes of a record, before an FF is doubled
+  -- the bytes of a record, its header and its body, before an FF is doubled
   abbrev pub record_bytes : Rules Place U → Record U → List ℕ
   record_bytes rules r = header (10 + length (spelling_of rules r.body)) r.flags r.opcode ++ spelling_of rules r.body
 
@@ -66,7 +66,7 @@ abbrev pub commands : {U : Type 0} → List Token → List (Item U)
 commands tokens = map TelnetItem (flat_map command_of tokens)
 
 module _ {Place U : Type 0} where
-  -- tokens before an Eor, and the record whose bytes they carry
+  -- tokens up to an EOR, without it, and the record whose bytes they carry
   pub record IsStretch (rules : Rules Place U) (stretch : List Token × Record U) : Type 0 where
     pub no_eor : HasNoEor stretch.0
     pub is_record : IsRecord rules stretch.1
@@ -84,10 +84,10 @@ module _ {Place U : Type 0} where
     pub are_items : items ≡ flat_map (λ s. commands s.0 ++ RecordItem s.1 ∷ []) stretches ++ commands rest
     pub is_open : record_so_far ≡ carried rest
 
-  -- the bytes spell the items
+  -- the bytes spell the items, perhaps with whole tokens of an open record behind them
   abbrev pub Spells : Rules Place U → List ℕ → List (Item U) → Type 0
   Spells rules bytes items = (record_so_far : List ℕ) × Holds rules bytes items record_so_far []
 
-  -- they are in the grammar, and spell them
+  -- the bytes are in the grammar and spell the items: no record is left open in them, and no token unfinished
   abbrev pub IsInGrammar : Rules Place U → List ℕ → List (Item U) → Type 0
   IsInGrammar rules bytes items = Holds rules bytes items [] []

@@ -84,7 +84,7 @@ module _ {Place U : Type 0} where
       × IsRefused rules (bytes ++ byte ∷ []) place reason
   IsLiveStep rules new bytes items so_far byte step = IsFrontStep rules new (bytes ++ byte ∷ []) items so_far step
 
--- a fact where the step says that nothing follows
+-- a fact where the step is such that nothing follows it
 abbrev pub OnEnd : {U : Type 0} → Step U → Type 0 → Type 0
 OnEnd (Refused place reason) P = P
 OnEnd Failed P = P

@@ -16,7 +16,7 @@ pub record RecordSoFar (U : Type 0) : Type 0 where
   pub head : Option Head
   pub units : List U
 
--- no byte of a next record has come
+-- the open record of which no byte has come
 abbrev pub no_record : {U : Type 0} → RecordSoFar U
 no_record = record { bytes = []; head = None; units = [] }
 
@@ -41,7 +41,7 @@ pub record Keeping (Place : Type 0) : Type 0 where
   pub begun : List ℕ
 
 module _ {Place U : Type 0} where
-  -- the record so far leads to the reader
+  -- the record so far leads to the reader: what the reader keeps is told of it
   pub record HasRead (rules : Rules Place U) (reader : Keeping Place) (so_far : RecordSoFar U) : Type 0 where
     pub bytes : AreBytes so_far.bytes
     pub framed : CanBeFramed so_far.bytes

@@ -16,7 +16,7 @@ pub record Receiving (Place U : Type 0) : Type 0 where
   pub live : Watching Place
   pub units : List U
 
--- an item, where there is one
+-- an item as a list, where there is one
 abbrev pub given : {U : Type 0} → Option (Item U) → List (Item U)
 given None = []
 given (Some item) = item ∷ []

@@ -12,7 +12,8 @@ use Rattle.ws_telnet.specs.declared.token.Token.TheVariants.{Data}
 use Rattle.ws_record.specs.declared.record.Item.{Item}
 use Rattle.ws_record.specs.Grammar.{IsFramed, IsBodyBytes, IsInGrammar}
 
--- A layer knows less of a record than the next: to the lowest all bytes are a record.
+-- The layers of a stream: tokens, headers, bodies. Each knows less of a record than the next: to the lowest all bytes
+-- are a record.
 pub data Layer : Type 0 where
   Tokens : Layer
   Header : Layer
@@ -41,13 +42,14 @@ module _ {Place U : Type 0} where
     pub more : List ℕ
     pub stream : IsStream (IsRight rules layer) (bytes ++ more)
 
-  -- the first layer to which the bytes aren't open
+  -- the layer is the first to which the bytes aren't open
   abbrev pub IsFirstClosed : Rules Place U → Layer → List ℕ → Type 0
   IsFirstClosed rules Tokens bytes = ¬ IsOpen rules Tokens bytes
   IsFirstClosed rules Header bytes = IsOpen rules Tokens bytes × ¬ IsOpen rules Header bytes
   IsFirstClosed rules Body bytes = IsOpen rules Header bytes × ¬ IsOpen rules Body bytes
 
-  -- the reason of a byte after these, by the table of unfinished units
+  -- the reason of a byte behind these of a body, by the table of the body; of an EOR it is that the record ends inside
+  -- a unit
   abbrev pub IsBodyReason : Rules Place U → List ℕ → Token → Reason → Type 0
   IsBodyReason rules bytes (Data b) reason = (units : List U) × (begun : List ℕ) × IsCut rules bytes units begun
       × (reason ≡ rules.reason (place_after rules rules.first units) begun b)

@@ -17,7 +17,7 @@ use Rattle.ws_record.specs.DataStep.{record_of}
 use Rattle.ws_record.specs.Live.{Watching}
 use Rattle.ws_record.specs.Receiver.{Receiving}
 
--- the decoder, where these are all bytes that it took
+-- a decoder that has taken just these bytes
 abbrev pub counted : {Place : Type 0} → Watching Place → List ℕ → Watching Place
 counted live bytes = record live { taken = length bytes; failed = false }
 

@@ -4,16 +4,15 @@ use Rattle.std.specs.Prelude.{ℕ, List, [], ◌∷◌, Bool, Option, None, if�
 use Rattle.std.specs.Option.{option_or}
 use Rattle.ws_stream.specs.declared.element.Element.{Element}
 
--- what a key sets: bytes of cells, MDTs by the start of their field, the cursor, and whether it
--- answered a read
+-- what a key sets: bytes of cells, MDTs by the start of their field, the cursor, and whether it answered a read
 pub record Edit : Type 0 where
   pub written : ℕ → Option ℕ
   pub modified : ℕ → Option Bool
   pub cursor : ℕ
   pub answered : Bool
 
--- an element that wasn't refused, the end of a write, the message light turned on or off, a pending
--- read cancelled, a key
+-- what happens to a screen: an element that wasn't refused, the end of a write, the message light turned on or off, a
+-- pending read cancelled, a key
 pub data Event : Type 0 where
   did : Element → Event
   ended : Event
@@ -21,17 +20,16 @@ pub data Event : Type 0 where
   cancelled : Event
   keyed : Edit → Event
 
--- events, the newest first
+-- the events of a screen, the newest first
 abbrev pub History : Type 0
 History = List Event
 
--- what the latest event that sets a part gave, else what a new screen has; an event is judged by
--- those before it
+-- what the latest event that sets a part gave, else what a new screen has; an event is judged by those before it
 abbrev pub latest : {X : Type 0} → (History → Event → Option X) → X → History → X
 latest sets new [] = new
 latest sets new (e ∷ h) = unwrap_or (sets h e) (latest sets new h)
 
--- the events since the first that stops, without it
+-- the events since the latest that passes the test, without that one
 abbrev pub until : (Event → Bool) → History → History
 until stop [] = []
 until stop (e ∷ h) = if stop e then [] else e ∷ until stop h

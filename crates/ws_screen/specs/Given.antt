@@ -12,7 +12,7 @@ use Rattle.ws_screen.specs.ScreenParts.{ScreenParts}
 use Rattle.ws_screen.specs.States.{switches, home_set, cursor, is_locked, message, blink, pending_read}
 use Rattle.ws_screen.specs.Writes.{open_write}
 
--- these events leave a screen so: each part of it is what the events say of it
+-- these events leave the screen so: each part of it is what the events say of it
 pub record Gives (h : History) (s : ScreenParts) : Type 0 where
   pub cells : (c : ℕ) → c < CELLS → slice_index s.cells c ≡ cell c h
   pub fields_are : s.fields ≡ fields h
@@ -25,22 +25,22 @@ pub record Gives (h : History) (s : ScreenParts) : Type 0 where
   pub pending_is : s.pending ≡ pending_read h
   pub writing_is : s.writing ≡ open_write h
 
--- one event leads from the one screen to the other, whatever events gave the one
+-- the event leads from the one screen to the other, whatever events gave the one
 pub record Follows (e : Event) (old new : ScreenParts) : Type 0 where
   pub after : (h : History) → Gives h old → Gives (e ∷ h) new
 
--- so do several events, the newest first
+-- the events, the newest first, lead from the one screen to the other, whatever events gave the one
 pub record FollowsAll (es : List Event) (old new : ScreenParts) : Type 0 where
   pub after : (h : History) → Gives h old → Gives (es ++ h) new
 
--- an order or a byte stands only within a write
+-- the element is an order or a byte, which stands only within a write
 abbrev pub NeedsWrite : Element → Type 0
 NeedsWrite e = is_command e ≡ false
 
--- the end of the open write, if one is open
+-- the end of the open write as an event, if one is open
 abbrev pub ends_of : Option OpenWrite → List Event
 ends_of writing = if is_some writing then ended ∷ [] else []
 
--- what an element brings: a command first ends an open write
+-- the events that an element brings: a command first ends an open write
 abbrev pub events_of : Option OpenWrite → Element → List Event
 events_of writing e = if is_command e && is_some writing then did e ∷ ended ∷ [] else did e ∷ []

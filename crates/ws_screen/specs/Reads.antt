@@ -13,7 +13,7 @@ pub record Read : Type 0 where
   pub cc1 : ℕ
   pub cc2 : ℕ
 
--- the read that an element is
+-- the read that an element is, if it is one
 abbrev pub read_in : Element → Option Read
 read_in (ReadInput cc1 cc2) = Some (record { kind = Input; cc1 = cc1; cc2 = cc2 })
 read_in (ReadMdt cc1 cc2) = Some (record { kind = Mdt; cc1 = cc1; cc2 = cc2 })

@@ -8,7 +8,7 @@ use Rattle.ws_code.specs.Device.{MayTake, MayGive, WentOut, FailedWithin, Gave, 
 
 module _ {S R : Type 0} (takes : MayTake S) (failures : S → ℕ) (sink sink' : S) (gives : MayGive R) (misses : R
     → ℕ) (source source' : R) where
-  -- all the bytes went out, and these are as many that the source gave next
+  -- a piece was carried: all its bytes went out, and these are as many that the source gave next
   pub record IsCarried (bytes given : List ℕ) : Type 0 where
     pub wrote : WentOut takes failures sink sink' bytes
     pub as_many : length given ≡ length bytes
@@ -43,7 +43,8 @@ module _ {S R : Type 0} (takes : MayTake S) (failures : S → ℕ) (sink sink' :
     pub failed : ReadFailed gives misses source source' given
     pub few : failed.count ≤ at
 
-  -- why a piece isn't carried; the slice is what was read into
+  -- why a piece isn't carried: a write failed, a read failed, or the source ended early; the slice is what was read
+  -- into
   abbrev pub IsCarryFault : List ℕ → List ℕ → Fault → Type 0
   IsCarryFault bytes slice Write = IsUnwritten bytes
   IsCarryFault bytes slice Read = IsUnread bytes slice

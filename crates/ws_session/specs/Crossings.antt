@@ -13,7 +13,7 @@ pub record Crossing : Type 0 where
   pub sent : List ℕ
   pub read : List ℕ
 
--- the source gave what the sink had taken
+-- what came out of the line is what went into it, piece by piece
 abbrev pub AreFaithful : List Crossing → Type 0
 AreFaithful crossings = AllByRecursion (λ (c : Crossing). c.read ≡ c.sent) crossings
 

@@ -26,16 +26,17 @@ pub record SideOn (H : Type 0) : Type 0 where
   pub options : StationState
   pub happened : H
 
--- what a station does at a key: it refuses it, or goes on and sends something or nothing
+-- what a station does at a key: it refuses it, or goes on and sends nothing, a read's answer, or a record without a
+-- body
 pub data KeyReactionOn (H : Type 0) : Type 0 where
   RefusesKey : KeyFault → KeyReactionOn H
   Silent : SideOn H → KeyReactionOn H
   Answers : SideOn H → ReadKind → ℕ → KeyReactionOn H
   Signals : Opcode → ℕ → KeyReactionOn H
 
--- A display: the rules of what it writes, what has happened to a new one, which displays what happened gives, the
--- screen by what happened and that of a display, what a record does, which keys send a record, what a key does that may
--- be pressed, the record that answers a read, and the bytes of a reply.
+-- A display, by what it does: the rules of what it writes, what has happened to a new one, which displays what happened
+-- gives, the screen by what happened and that of a display, what a record does, which keys send a record, what a key
+-- does that may be pressed, the record that answers a read, and the bytes of a reply.
 pub record DisplayOf (D U H PlaceV V K R : Type 0) : Type 1 where
   pub out : Rules PlaceV V
   pub fresh : TerminalType → H
@@ -49,19 +50,21 @@ pub record DisplayOf (D U H PlaceV V K R : Type 0) : Type 1 where
   pub written : D → R → List ℕ
 
 module _ {D U H PlaceV V K R : Type 0} (d : DisplayOf D U H PlaceV V K R) where
-  -- what a record gives
+  -- what a record gives a display: the display that it comes to and what is written; or the reason for which the record
+  -- is refused
   abbrev pub IsApplied : D → SideOn H → Record U → Result R Reason → Type 0
   IsApplied new side r (Ok reply) = (next : SideOn H) × (writes : List (Item V))
       × (d.applies side r ≡ GoesOn next writes) × (d.written new reply ≡ plain_spelling d.out writes)
       × (next.options ≡ side.options) × d.gives next.happened new
   IsApplied new side r (Err reason) = d.applies side r ≡ Refuses reason
 
-  -- the side that it comes to gives the display
+  -- the display is one that the side gives that the station comes to
   pub record ComesTo (new : D) (side next : SideOn H) : Type 0 where
     pub options : next.options ≡ side.options
     pub given : d.gives next.happened new
 
-  -- what a key gives
+  -- what a key gives a display: its refusal, with the display as it was; or the display that it comes to, and what it
+  -- sends
   abbrev pub HasPressed : D → D → SideOn H → K → Result (Option Answer) KeyRefusal → Type 0
   HasPressed old new side key (Err refusal) = (d.presses side key ≡ RefusesKey (Refused refusal)) × (new ≡ old)
   HasPressed old new side key (Ok None) = (next : SideOn H) × (d.presses side key ≡ Silent next)

@@ -5,7 +5,7 @@ use Rattle.ws_code.specs.declared.reason.Reason.{Reason}
 use Rattle.ws_session.specs.declared.refusal.Refusal.{Refusal}
 use Rattle.ws_session.specs.declared.refusal.Refusal.TheVariants.{At, Failed, Memory}
 
--- the byte by which it has ended, and the reason; none where it goes on, where it has taken as many bytes as can be
+-- the byte by which an end has ended, and the reason; none where it goes on, where it has taken as many bytes as can be
 -- counted, or where a growth was refused
 abbrev pub refused_byte : Option Refusal → Option (ℕ × Reason)
 refused_byte (Some (At place reason)) = Some (place, reason)

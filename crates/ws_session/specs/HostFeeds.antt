@@ -20,22 +20,23 @@ abbrev pub HasHostTakenAll : (List ℕ → List (Item AnswerPart) → HostSide �
 HasHostTakenAll Then bytes items side came = HasGone answer_rules element_rules host_manner Then bytes items side
     (all_came {Deed = Order} came)
 
--- it takes them to come to this host end
+-- bytes of a piece come to a host end one after another: they lead it to this one, which wrote and told this
 abbrev pub HasHostFed : HostParts → List ℕ → List (Item AnswerPart) → HostSide → List ℕ → List ℕ → Option HostEvent
     → Type 0
 HasHostFed new bytes items side came reply event =
     HasHostTakenAll (HostLeads new) bytes items side came reply (as_list event)
 
--- it writes and tells nothing at them
+-- at these bytes of a piece a host end writes and tells nothing
 abbrev pub IsHostSilent : List ℕ → List (Item AnswerPart) → HostSide → List ℕ → Type 0
 IsHostSilent bytes items side came = HasHostTakenAll (λ bytes' items' side'. Unit {0}) bytes items side came [] []
 
--- it takes no byte behind this one, for which it fails as it does for that byte alone
+-- the host end takes no byte behind this one, for which it fails as it does for that byte alone
 abbrev pub EndsAt : HostParts → HostParts → ℕ → Refusal → List ℕ → List (Item AnswerPart) → HostSide → Type 0
 EndsAt old new byte refusal bytes items side = IsHostPushed old new bytes items side byte (Err refusal)
     × (new.receiver.live.taken ≡ length bytes + 1)
 
--- it fails at a byte of the piece, and writes and tells nothing at those before it
+-- a host end fails at a byte of the piece, as it does for that byte alone, and writes and tells nothing at those before
+-- it
 pub record HasHostRefused (old new : HostParts) (bytes : List ℕ) (items : List (Item AnswerPart)) (side : HostSide)
     (piece : List ℕ) (refusal : Refusal) : Type 0 where
   pub front : List ℕ

@@ -28,16 +28,17 @@ module _ {D P U H PlaceV V K R : Type 0} (rules : Rules P U) (d : DisplayOf D U 
   HasTakenAllOn Then bytes items side came = HasGone rules d.out (manner_on d) Then bytes items side
       (all_came {Deed = K} came)
 
-  -- it takes them to come to this station
+  -- bytes of a piece come to a station one after another: they lead it to this one, which wrote and told this
   abbrev pub HasFedOn : PartsOn D P → List ℕ → List (Item U) → SideOn H → List ℕ → List ℕ → Bool → Type 0
   HasFedOn new bytes items side came reply ends_record =
       HasTakenAllOn (LeadsOn rules d new) bytes items side came reply (as_list (told_by ends_record))
 
-  -- it writes and tells nothing at them
+  -- at these bytes of a piece a station writes and tells nothing
   abbrev pub IsSilentOn : List ℕ → List (Item U) → SideOn H → List ℕ → Type 0
   IsSilentOn bytes items side came = HasTakenAllOn (λ bytes' items' side'. Unit {0}) bytes items side came [] []
 
-  -- it refuses a byte of the piece, as it refuses that byte alone, and writes and tells nothing at those before it
+  -- a station refuses a byte of the piece, as it refuses that byte alone, and writes and tells nothing at those before
+  -- it
   pub record HasRefusedOn (old new : PartsOn D P) (bytes : List ℕ) (items : List (Item U)) (side : SideOn H)
       (piece : List ℕ) (refusal : Refusal) : Type 0 where
     pub front : List ℕ
@@ -47,7 +48,7 @@ module _ {D P U H PlaceV V K R : Type 0} (rules : Rules P U) (d : DisplayOf D U 
     pub refused : HasTakenAllOn (λ bytes' items' side'. IsPushedOn rules d old new bytes' items' side' byte
         (Err refusal)) bytes items side front [] []
 
-  -- these acts lead from one station to another; this goes out, and this is told
+  -- the acts lead from one station to another, which wrote and told this in them
   abbrev pub GoesOnDisplay : PartsOn D P → List (Act K) → List ℕ → List Applied → PartsOn D P → Type 0
   GoesOnDisplay = Goes rules d.out (manner_on d) (LeadsOn rules d) IsShutOn
 
@@ -58,14 +59,14 @@ module _ {D P U H PlaceV V K R : Type 0} (rules : Rules P U) (d : DisplayOf D U 
         → IsPushedOn rules d old new bytes items side byte (Err refusal)
     pub shut : IsShutOn old → (refusal ≡ Failed) × (new.screen ≡ old.screen)
 
-  -- it refuses the key, for this reason, by all that came and was pressed before, or since it is shut
+  -- the station refuses the key, for this reason, by all that came and was pressed before, or since it is shut
   pub record IsKeyRefusalOn (station : PartsOn D P) (key : K) (fault : KeyFault) : Type 0 where
     pub led : (bytes : List ℕ) (items : List (Item U)) (side : SideOn H)
         → LeadsOn rules d station bytes items side → length bytes + 1 < 2 ^ 64
         → key_on d side key ≡ RefusesKey fault
     pub shut : IsShutOn station → fault ≡ KeyFailed
 
-  -- it has no reason to refuse it
+  -- the station has no reason to refuse the key, and isn't shut
   pub record IsKeyTakenOn (station : PartsOn D P) (key : K) : Type 0 where
     pub led : (bytes : List ℕ) (items : List (Item U)) (side : SideOn H)
         → LeadsOn rules d station bytes items side → length bytes + 1 < 2 ^ 64

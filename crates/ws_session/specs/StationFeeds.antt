@@ -19,15 +19,16 @@ abbrev pub HasTakenAll : (List ℕ → List (Item Element) → StationSide → T
     → List ℕ → List ℕ → List Applied → Type 0
 HasTakenAll = HasTakenAllOn element_rules profile
 
--- it takes them to come to this station
+-- bytes of a piece come to the station one after another: they lead it to this one, which wrote and told this
 abbrev pub HasFed : StationParts → List ℕ → List (Item Element) → StationSide → List ℕ → List ℕ → Bool → Type 0
 HasFed = HasFedOn element_rules profile
 
--- it writes and tells nothing at them
+-- at these bytes of a piece the station writes and tells nothing
 abbrev pub IsSilent : List ℕ → List (Item Element) → StationSide → List ℕ → Type 0
 IsSilent = IsSilentOn element_rules profile
 
--- it refuses a byte of the piece, as it refuses that byte alone, and writes and tells nothing at those before it
+-- the station refuses a byte of the piece, as it refuses that byte alone, and writes and tells nothing at those before
+-- it
 abbrev pub HasRefused : StationParts → StationParts → List ℕ → List (Item Element) → StationSide → List ℕ → Refusal
     → Type 0
 HasRefused = HasRefusedOn element_rules profile

@@ -28,11 +28,11 @@ module _ (terminal : TerminalType) (keys : List (ℕ × Key)) where
   abbrev pub behind : List (Item Element) → Outcome
   behind items = outcome (new_station_side terminal) (moments keys items)
 
-  -- what it has written
+  -- what a new station has written behind these items and the keys that were due
   abbrev pub run_text : List (Item Element) → List ℕ
   run_text items = plain_spelling answer_rules (behind items).written
 
-  -- the bytes hold these items, none of them is refused, and the station has come there
+  -- the bytes hold these items, none of them is refused, and the station is one behind them and the keys that were due
   pub record IsBehind (bytes : List ℕ) (items : List (Item Element)) (station : StationParts) : Type 0 where
     pub leads : StationLeads station bytes items (behind items).side
     pub taken : AreTaken (new_station_side terminal) (moments keys items)
@@ -73,7 +73,7 @@ module _ (terminal : TerminalType) (keys : List (ℕ × Key)) where
 
   module _ {R S : Type 0} (gives : MayGive R) (misses : R → ℕ) (source source' : R) (takes : MayTake S) (failures : S
       → ℕ) (sink sink' : S) where
-    -- the source gave its end
+    -- the source gave its end, and the station took all
     pub record IsPlayed (played : Played) : Type 0 where
       pub bytes : List ℕ
       pub items : List (Item Element)
@@ -83,7 +83,7 @@ module _ (terminal : TerminalType) (keys : List (ℕ × Key)) where
       pub refused : played.keys_refused ≡ refusal_count (behind items).refused
       pub wrote : WentOut takes failures sink sink' (run_text items)
 
-    -- it gave its end inside a token or a record
+    -- the source gave its end inside a token or a record
     pub record IsRunTruncated (n : ℕ) : Type 0 where
       pub bytes : List ℕ
       pub items : List (Item Element)
@@ -94,7 +94,7 @@ module _ (terminal : TerminalType) (keys : List (ℕ × Key)) where
       pub is_behind : IsBehind bytes items station
       pub wrote : WentOut takes failures sink sink' (run_text items)
 
-    -- a read failed, or there were too many
+    -- a read of the source failed, or there were too many
     pub record IsRunUnread : Type 0 where
       pub bytes : List ℕ
       pub items : List (Item Element)
@@ -103,7 +103,7 @@ module _ (terminal : TerminalType) (keys : List (ℕ × Key)) where
       pub is_behind : IsBehind bytes items station
       pub wrote : WentOut takes failures sink sink' (run_text items)
 
-    -- a byte of the last read is refused
+    -- a byte of the last read is refused, and all that was to be written before it went out
     pub record IsRunRefused (place : ℕ) (reason : Reason) : Type 0 where
       pub first : List ℕ
       pub last : List ℕ
@@ -123,7 +123,8 @@ module _ (terminal : TerminalType) (keys : List (ℕ × Key)) where
       pub gave : Gave gives misses source source' reads bytes
       pub unwritten : RunUnwritten takes failures sink sink' bytes
 
-    -- what a run comes to
+    -- what a run comes to: played, refused, truncated, a failed read or a failed write, each with what was read and
+    -- what went out
     abbrev pub IsRun : Result Played Fault → Type 0
     IsRun (Ok played) = IsPlayed played
     IsRun (Err (Refused place reason)) = IsRunRefused place reason

@@ -30,8 +30,8 @@ use Rattle.ws_session.specs.PartsOn.{PartsOn}
 use Rattle.ws_session.specs.StationManners.{goes_on, new_side_on, takes_on, key_on}
 
 module _ {D P U H PlaceV V K R : Type 0} (rules : Rules P U) (d : DisplayOf D U H PlaceV V K R) where
-  -- The bytes lead to the station: they hold these items, none of them is refused, and what it did at them and at the
-  -- keys between them left it on this side.
+  -- The bytes lead to the station: they hold these items, none of them is refused, and what the station did at them and
+  -- at the keys between them left it on this side.
   pub record LeadsOn (station : PartsOn D P) (bytes : List ℕ) (items : List (Item U)) (side : SideOn H) : Type 0 where
     pub head : Option Head
     pub units : List U
@@ -42,7 +42,7 @@ module _ {D P U H PlaceV V K R : Type 0} (rules : Rules P U) (d : DisplayOf D U 
     pub counted : station.records ≡ records_in items
     pub works : station.ended ≡ None
 
-  -- it has taken no byte and no key
+  -- the station has taken no byte and no key
   pub record FreshOn (station : PartsOn D P) : Type 0 where
     pub terminal : TerminalType
     pub leads : LeadsOn station [] [] (new_side_on d terminal)
@@ -54,7 +54,7 @@ module _ {D P U H PlaceV V K R : Type 0} (rules : Rules P U) (d : DisplayOf D U 
     pub same : new.screen ≡ old.screen
     pub leads : LeadsOn new bytes items side
 
-  -- it completes an item, at which the station goes on
+  -- the last of these bytes completes an item, at which the station goes on with this reply
   pub record TakesItemOn (new : PartsOn D P) (bytes : List ℕ) (items : List (Item U)) (side : SideOn H) (reply : R)
       : Type 0 where
     pub item : Item U
@@ -64,14 +64,15 @@ module _ {D P U H PlaceV V K R : Type 0} (rules : Rules P U) (d : DisplayOf D U 
     pub spelled : d.written new.screen reply ≡ plain_spelling d.out writes
     pub leads : LeadsOn new bytes (items ++ item ∷ []) next
 
-  -- it has taken so many bytes, and stands where these items left it
+  -- behind a refused byte: the station has taken so many bytes, that one too, and its options, its screen and its count
+  -- are those that the items left
   pub record HasStoppedOn (station : PartsOn D P) (count : ℕ) (items : List (Item U)) (side : SideOn H) : Type 0 where
     pub taken : station.live.taken ≡ count
     pub options : station.options ≡ side.options
     pub given : d.gives side.happened station.screen
     pub counted : station.records ≡ records_in items
 
-  -- it completes an item that the station refuses
+  -- the last of these bytes completes an item that the station refuses for this reason
   pub record RefusesItemOn (bytes : List ℕ) (items : List (Item U)) (side : SideOn H) (reason : Reason) : Type 0 where
     pub item : Item U
     pub so_far : List ℕ
@@ -79,19 +80,19 @@ module _ {D P U H PlaceV V K R : Type 0} (rules : Rules P U) (d : DisplayOf D U 
     pub holds : Holds rules bytes (items ++ item ∷ []) so_far begun
     pub refuses : takes_on d side item ≡ Refuses reason
 
-  -- a byte behind these completes no item
+  -- the byte behind these completes no item: nothing is written, and the screen is as it was
   abbrev pub IsInsideOn : PartsOn D P → PartsOn D P → List ℕ → List (Item U) → SideOn H → ℕ → R → Type 0
   IsInsideOn old new bytes items side byte reply = StaysInsideOn old new (bytes ++ byte ∷ []) items side reply
 
-  -- the byte completes an item that the station takes, with this reply
+  -- the byte behind these completes an item that the station takes, with this reply
   abbrev pub IsTakenOn : PartsOn D P → List ℕ → List (Item U) → SideOn H → ℕ → R → Type 0
   IsTakenOn new bytes items side byte reply = TakesItemOn new (bytes ++ byte ∷ []) items side reply
 
-  -- the byte completes an item that the station refuses, for this reason
+  -- the byte behind these completes an item that the station refuses, for this reason
   abbrev pub IsItemRefusedOn : List ℕ → List (Item U) → SideOn H → ℕ → Reason → Type 0
   IsItemRefusedOn bytes items side byte reason = RefusesItemOn (bytes ++ byte ∷ []) items side reason
 
-  -- what the end of a record gives, whose elements are these
+  -- what the end of a record gives, whose elements are these: the reply, or the refusal of the record
   abbrev pub IsClosedOn : PartsOn D P → PartsOn D P → SideOn H → Record U → ℕ → Result (StationStep R) Refusal → Type 0
   IsClosedOn old new side r place (Ok step) = (next : SideOn H) × (writes : List (Item V))
       × (takes_on d side (RecordItem r) ≡ GoesOn next writes)
@@ -104,7 +105,8 @@ module _ {D P U H PlaceV V K R : Type 0} (rules : Rules P U) (d : DisplayOf D U 
   IsClosedOn old new side r place (Err Failed) = ⊥
   IsClosedOn old new side r place (Err Memory) = ⊥
 
-  -- what a byte gives
+  -- what a byte gives: nothing, the reply to the item that it completes, or a refusal at this byte, of the byte or of
+  -- its item
   abbrev pub IsPushedOn : PartsOn D P → PartsOn D P → List ℕ → List (Item U) → SideOn H → ℕ → Result R Refusal → Type 0
   IsPushedOn old new bytes items side byte (Ok reply) = IsInsideOn old new bytes items side byte reply
       ⊎ IsTakenOn new bytes items side byte reply
@@ -123,7 +125,8 @@ module _ {D P U H PlaceV V K R : Type 0} (rules : Rules P U) (d : DisplayOf D U 
       ⊎ ((taken : IsTakenOn new bytes items side byte step.reply) × (step.ends_record ≡ is_record taken.item))
   IsSteppedOn old new bytes items side byte (Err refusal) = IsPushedOn old new bytes items side byte (Err refusal)
 
-  -- what a key gives
+  -- what a key gives: its refusal, with the station as it was; or what it sends: nothing, a read's answer, Attention or
+  -- System Request
   abbrev pub IsKeyedOn : PartsOn D P → PartsOn D P → List ℕ → List (Item U) → SideOn H → K
       → Result (Option Answer) KeyFault → Type 0
   IsKeyedOn old new bytes items side key (Err fault) = (key_on d side key ≡ RefusesKey fault) × (new ≡ old)

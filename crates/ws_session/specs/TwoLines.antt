@@ -47,7 +47,7 @@ pub record TwoEnds : Type 0 where
   pub to_host : List ℕ
   pub events : List Event
 
--- the same of what a running session keeps
+-- where a running session stands
 abbrev pub ends_of : WorldParts → TwoEnds
 ends_of w = record {
   station = w.station;
@@ -97,12 +97,12 @@ abbrev pub HostHears : ℕ → List Crossing → List ℕ → List ℕ → HostP
 HostHears = HaveCome HostGoes HostRefuses (λ (h : HostParts). IsSome h.ended)
     (λ (e : HostEvent). Host e ∷ []) (λ place reason. HostRefused place reason)
 
--- what is told of a key, and of a send or a cancel: that it was refused, and why
+-- what is told of a key: that it was refused, and why; or nothing
 abbrev pub key_told : KeyReaction → List Event
 key_told (RefusesKey fault) = KeyRefused fault ∷ []
 key_told reaction = []
 
--- the event that a send tells: why it was refused, or none
+-- what is told of a send or a cancel: that it was refused, and why; or nothing
 abbrev pub send_told : SendReaction → List Event
 send_told (RefusesSend fault) = SendRefused fault ∷ []
 send_told reaction = []
@@ -117,7 +117,7 @@ abbrev pub order_of : Opcode → List Element → Order
 order_of CancelInvite body = Cancelling
 order_of opcode body = Sending opcode body
 
--- A key at the station. One that is shut stays as it is.
+-- A key at the station: what it writes and what is told. A station that is shut stays as it is.
 pub record HasPressed (old : StationParts) (key : Key) (new : StationParts) (written : List ℕ)
     (told : List Event) : Type 0 where
   pub led : StationGoes old (Did key ∷ []) written [] new
@@ -125,7 +125,7 @@ pub record HasPressed (old : StationParts) (key : Key) (new : StationParts) (wri
       → length bytes + 1 < 2 ^ 64 → told ≡ key_told (station_key side key)
   pub stays : IsShutOn old → (new ≡ old) × (written ≡ []) × (told ≡ KeyRefused KeyFailed ∷ [])
 
--- the same of a send or a cancel at the host end
+-- A send or a cancel at the host end: what it writes and what is told. A host end that is shut stays as it is.
 pub record HasOrdered (old : HostParts) (order : Order) (new : HostParts) (written : List ℕ)
     (told : List Event) : Type 0 where
   pub led : HostGoes old (Did order ∷ []) written [] new
@@ -177,7 +177,7 @@ ComesUp old count crossings new = (written : List ℕ) × (told : List Event)
       events = old.events ++ told;
     })
 
--- A move, and the pieces that cross the line down and the line up in it
+-- a move of a session over two lines, and the pieces that cross the line down and the line up in it
 abbrev pub HasMoved : TwoEnds → Move → List Crossing → List Crossing → TwoEnds → Type 0
 HasMoved old (Send opcode body) downs ups new = (downs ≡ []) × (ups ≡ []) × Orders old (order_of opcode body) new
 HasMoved old Cancel downs ups new = (downs ≡ []) × (ups ≡ []) × Orders old Cancelling new
@@ -185,7 +185,7 @@ HasMoved old (ToStation count) downs ups new = (ups ≡ []) × ComesDown old cou
 HasMoved old (ToHost count) downs ups new = (downs ≡ []) × ComesUp old count ups new
 HasMoved old (Press key) downs ups new = (downs ≡ []) × (ups ≡ []) × Presses old key new
 
--- one move after another
+-- moves, one after another, and the pieces that cross the lines in them
 abbrev pub HaveMoved : TwoEnds → List Move → List Crossing → List Crossing → TwoEnds → Type 0
 HaveMoved old [] downs ups new = (downs ≡ []) × (ups ≡ []) × (new ≡ old)
 HaveMoved old (move ∷ moves) downs ups new = (first_downs : List Crossing) × (first_ups : List Crossing)
@@ -193,7 +193,7 @@ HaveMoved old (move ∷ moves) downs ups new = (first_downs : List Crossing) × 
     × HasMoved old move first_downs first_ups next × HaveMoved next moves later_downs later_ups new
     × (downs ≡ first_downs ++ later_downs) × (ups ≡ first_ups ++ later_ups)
 
--- a session of new ends: the moves led here, and these pieces crossed the lines in them
+-- a session of new ends: the moves led to where it stands, and these pieces crossed the lines in them
 abbrev pub HasRun : TerminalType → List Move → List Crossing → List Crossing → TwoEnds → Type 0
 HasRun terminal moves downs ups now = (begun : TwoEnds) × IsBegun terminal begun
     × HaveMoved begun moves downs ups now

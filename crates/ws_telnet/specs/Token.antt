@@ -36,7 +36,7 @@ verb_byte Wont = 0xfc
 verb_byte Do = 0xfd
 verb_byte Dont = 0xfe
 
--- a data byte, with FF doubled
+-- a data byte as it is written, with FF doubled (RFC 854)
 abbrev pub doubled : ℕ → List ℕ
 doubled b = if b == IAC then IAC ∷ IAC ∷ [] else b ∷ []
 
@@ -52,7 +52,7 @@ token_spelling (Data b) = doubled b
 token_spelling Eor = IAC ∷ EOR ∷ []
 token_spelling (TelnetToken t) = telnet_spelling t
 
--- what a token's bytes and lists may be
+-- what may be a Telnet command: an option's number is a byte, and a subnegotiation has at most 64 bytes
 abbrev pub IsTelnet : Telnet → Type 0
 IsTelnet (Command code) = Unit {0}
 IsTelnet (Negotiate verb option) = option < 256
@@ -70,7 +70,7 @@ ends_in_iac [] = false
 ends_in_iac (b ∷ []) = b == IAC
 ends_in_iac (b ∷ c ∷ content) = if b == IAC then ends_in_iac content else ends_in_iac (c ∷ content)
 
--- the reason of a byte that can't follow
+-- the reason of a byte that can't follow the bytes of a token so far
 abbrev pub token_reason : List ℕ → ℕ → Reason
 token_reason (iac ∷ sb ∷ option ∷ content) b = if ends_in_iac content && not (b == IAC) then BadSub else SubTooLong
 token_reason begun b = if b == SE then StraySe else BadCommand

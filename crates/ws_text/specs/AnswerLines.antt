@@ -11,7 +11,7 @@ use Rattle.ws_text.specs.ItemLines.{cell_text, fill_text, head_text, telnet_text
 use Rattle.ws_text.specs.Wording.{Run}
 use Rattle.ws_text.specs.Wording.Run.{Bytes, Other}
 
--- a part of an answer
+-- the text of a part of an answer: its name, and the words behind it
 abbrev pub part_text : AnswerPart → List ℕ
 part_text (Head cursor aid) = codes "HEAD " ++ fill_text cursor (aid ∷ [])
 part_text (At place) = codes "AT " ++ cell_text place
@@ -47,7 +47,7 @@ abbrev pub part_line : Bool → AnswerPart → List ℕ
 part_line true (Byte byte) = encode_upper (byte ∷ [])
 part_line is_behind_byte part = 10 ∷ codes "  " ++ part_text part
 
--- an item of a station whose last byte is at the place
+-- the lines of a station's item, with the place of its last byte
 abbrev pub answer_text : ℕ → Item AnswerPart → List ℕ
 answer_text place (RecordItem r) = head_text place r ++ part_lines r.body ++ 10 ∷ []
 answer_text place (TelnetItem telnet) = telnet_text place telnet

@@ -27,11 +27,12 @@ pub data ToldRun : Type 0 where
   Cells : List ℕ → ToldRun
   Other : ExtendedAnswerPart → ToldRun
 
--- runs with a byte before them: it joins the run of such bytes that it stands before
+-- runs with a byte of a field before them: it joins the run of such bytes that it stands before
 abbrev pub with_field : ℕ → List ToldRun → List ToldRun
 with_field byte (Fields bytes ∷ runs) = Fields (byte ∷ bytes) ∷ runs
 with_field byte runs = Fields (byte ∷ []) ∷ runs
 
+-- runs with a byte for a cell before them: it joins the run of such bytes that it stands before
 abbrev pub with_cell : ℕ → List ToldRun → List ToldRun
 with_cell byte (Cells bytes ∷ runs) = Cells (byte ∷ bytes) ∷ runs
 with_cell byte runs = Cells (byte ∷ []) ∷ runs
@@ -67,12 +68,12 @@ told_run_line (Other part) = told_text part
 abbrev pub told_part_lines : List ExtendedAnswerPart → List ℕ
 told_part_lines parts = flat_map told_run_line (told_runs parts)
 
--- a byte behind a cursor, of a field or of the screen
+-- the part is a byte behind a cursor, of a field or of the screen
 abbrev pub is_field_byte : ExtendedAnswerPart → Bool
 is_field_byte (Profile part) = is_byte part
 is_field_byte part = false
 
--- a byte for each cell, which a Read Screen tells
+-- the parts are a byte for each cell, which a Read Screen tells
 abbrev pub is_whole_screen : List ExtendedAnswerPart → Bool
 is_whole_screen parts = length parts == CELLS && list_all is_field_byte parts
 
@@ -80,7 +81,7 @@ is_whole_screen parts = length parts == CELLS && list_all is_field_byte parts
 abbrev pub at_once_name : List ExtendedAnswerPart → List ℕ
 at_once_name parts = if is_whole_screen parts then codes "SCREEN " else codes "IMMEDIATE "
 
--- the lines of a body
+-- the lines of a body of a live host's station
 abbrev pub told_lines : List ExtendedAnswerPart → List ℕ
 told_lines (AtOnce cursor ∷ parts) = (10 ∷ codes "  " ++ at_once_name parts ++ cell_text cursor)
     ++ told_part_lines parts
@@ -92,10 +93,12 @@ kind_of (Profile part) = if is_byte part then Field else Neither
 kind_of (Of element) = if is_extended_byte element then Cell else Neither
 kind_of part = Neither
 
+-- a byte of a field may go on with the run before it
 abbrev pub is_field : ByteKind → Bool
 is_field Field = true
 is_field before = false
 
+-- a byte for a cell may go on with the run before it
 abbrev pub is_cell : ByteKind → Bool
 is_cell Cell = true
 is_cell before = false
@@ -106,7 +109,7 @@ told_line before (Profile part) = part_line (is_field before) part
 told_line before (Of element) = extended_line (is_cell before) element
 told_line before part = told_text part
 
--- an item of a live host's station whose last byte is at the place
+-- the lines of a live host's station's item, with the place of its last byte
 abbrev pub told_item_text : ℕ → Item ExtendedAnswerPart → List ℕ
 told_item_text place (RecordItem r) = head_text place r ++ told_lines r.body ++ 10 ∷ []
 told_item_text place (TelnetItem telnet) = telnet_text place telnet

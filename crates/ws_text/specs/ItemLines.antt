@@ -28,15 +28,15 @@ abbrev pub hex_behind_blank : List ℕ → List ℕ
 hex_behind_blank [] = []
 hex_behind_blank (b ∷ bytes) = codes " " ++ encode_upper (b ∷ bytes)
 
--- row and column of a cell, by its place from 0
+-- the text of a cell: its row and its column, each counted from 1
 abbrev pub cell_text : ℕ → List ℕ
 cell_text place = decimal (place / COLUMNS + 1) ++ codes " " ++ decimal (place % COLUMNS + 1)
 
--- the cell that an order goes to, and its bytes
+-- the cell that an order goes to, and its bytes in hex
 abbrev pub fill_text : ℕ → List ℕ → List ℕ
 fill_text to bytes = cell_text to ++ codes " " ++ encode_upper bytes
 
--- two bytes, the control characters of a command
+-- the control characters of a command in hex
 abbrev pub controls_text : ℕ → ℕ → List ℕ
 controls_text cc1 cc2 = encode_upper (cc1 ∷ []) ++ codes " " ++ encode_upper (cc2 ∷ [])
 
@@ -54,7 +54,7 @@ abbrev pub field_text : FieldOrder → List ℕ
 field_text f = format_text f.format ++ words_text f.controls ++ encode_upper (f.attribute ∷ []) ++ codes " "
     ++ decimal f.length
 
--- an element
+-- the text of an element: its name, and the words behind it
 abbrev pub element_text : Element → List ℕ
 element_text ClearUnit = codes "CLEAR-UNIT"
 element_text ClearFormat = codes "CLEAR-FORMAT"
@@ -101,16 +101,16 @@ abbrev pub element_line : Bool → Element → List ℕ
 element_line true (Put byte) = encode_upper (byte ∷ [])
 element_line is_behind_put e = 10 ∷ codes "  " ++ element_text e
 
--- the header of a record whose last byte is at the place
+-- the line of a record's header, with the place of the record's last byte
 abbrev pub head_text : {U : Type 0} → ℕ → Record U → List ℕ
 head_text place r = codes "at " ++ decimal place ++ codes " record flags " ++ encode_upper (two_bytes r.flags)
     ++ codes " opcode " ++ decimal (opcode_byte r.opcode)
 
--- a record: a line for its header, and those of its elements
+-- the lines of a record: one of its header, and those of its elements
 abbrev pub record_text : ℕ → Record Element → List ℕ
 record_text place r = head_text place r ++ element_lines r.body ++ 10 ∷ []
 
--- the name of a command (RFC 854)
+-- the name of a Telnet command (RFC 854)
 abbrev pub command_name : CommandCode → List ℕ
 command_name Nop = codes "NOP"
 command_name DataMark = codes "DM"
@@ -135,11 +135,11 @@ telnet_name (Command code) = command_name code
 telnet_name (Negotiate verb option) = verb_name verb ++ codes " " ++ decimal option
 telnet_name (Sub sub) = codes "SB " ++ decimal sub.option ++ hex_behind_blank sub.data_
 
--- a Telnet command whose last byte is at the place
+-- the line of a Telnet command, with the place of its last byte
 abbrev pub telnet_text : ℕ → Telnet → List ℕ
 telnet_text place telnet = codes "at " ++ decimal place ++ codes " telnet " ++ telnet_name telnet ++ 10 ∷ []
 
--- an item whose last byte is at the place
+-- the lines of a host's item, with the place of its last byte
 abbrev pub item_text : ℕ → Item Element → List ℕ
 item_text place (RecordItem r) = record_text place r
 item_text place (TelnetItem telnet) = telnet_text place telnet

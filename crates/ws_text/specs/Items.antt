@@ -68,7 +68,8 @@ module _ {Place U : Type 0} (rules : Rules Place U) (w : Wording U) where
     pub split : lines text ≡ before ++ behind
     pub leads : Leads before [] items
 
-  -- The first bad line, counted from 1. Or the whole text spells items, and a growth was refused.
+  -- Why a text gives no items: its first bad line, counted from 1; or the whole text spells items, and a growth was
+  -- refused.
   abbrev pub IsTextFault : List ℕ → TextFault → Type 0
   IsTextFault text (Line number) = (before : List (List ℕ)) × (line : List ℕ) × (after : List (List ℕ))
       × (items : List (Item U)) × IsReadTo text before (line ∷ after) items × ¬ IsScreen line

@@ -12,7 +12,7 @@ abbrev pub IsOut : {S : Type 0} → MayTake S → (S → ℕ) → S → S → Ou
 IsOut takes failures from to Open text = WentOut takes failures from to text
 IsOut takes failures from to Failed text = FailedWithin takes failures from to text
 
--- a text that was out so far goes on by this part
+-- a text that is out so far goes on by this part; after a failure nothing more goes out
 pub record Prints {S : Type 0} (takes : MayTake S) (failures : S
     → ℕ) (old new : S) (before after : Output) (part : List ℕ) : Type 0 where
   pub on : (from : S) (text : List ℕ) → IsOut takes failures from old before text

@@ -34,14 +34,14 @@ pub record ShowsItems {Place U : Type 0} (rules : Rules Place U) (text_of : ℕ 
   pub in_range : AllByRecursion IsInRange items
   pub ends : EndsHere (lines rest)
 
--- a text that shows a host's items
+-- a text that shows a host's items, as `show` prints them
 abbrev pub Shows : List ℕ → List (Item Element) → Type 0
 Shows text items = ShowsItems element_rules item_text text items
 
--- a text that shows a station's items
+-- a text that shows a station's items, as `show` prints them
 abbrev pub ShowsAnswers : List ℕ → List (Item AnswerPart) → Type 0
 ShowsAnswers text items = ShowsItems answer_rules answer_text text items
 
--- a text that shows a live host's items
+-- a text that shows a live host's items, as `show` prints them
 abbrev pub ShowsExtended : List ℕ → List (Item ExtendedElement) → Type 0
 ShowsExtended text items = ShowsItems extended_rules extended_item_text text items

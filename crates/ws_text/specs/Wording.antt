@@ -31,7 +31,7 @@ pub record AreOneByOne {U : Type 0} (w : Wording U) : Type 0 where
 abbrev pub HasFewWords : {U : Type 0} → Wording U → Type 0
 HasFewWords {U} w = (name : List ℕ) (words : List (List ℕ)) (u : U) → w.IsOne name words u → length words ≤ 11
 
--- a body that may end behind any unit, so that each line of it is right or wrong by itself
+-- a body may end behind any unit, so that each line of it is right or wrong by itself
 abbrev pub EndsEverywhere : {Place U : Type 0} → Rules Place U → Type 0
 EndsEverywhere {Place} rules = (place : Place) → rules.may_end place ≡ true
 

@@ -5,7 +5,7 @@ use Rattle.std.specs.Prelude.{◌≡◌, ◌≢◌, ℕ, ◌<◌, ◌^◌, List,
 use Rattle.std.specs.Net.Grammar.{IsIpv6Text, IsNumber}
 use Rattle.std.specs.declared.net.ipv6_addr.Ipv6Addr.{Ipv6Addr}
 
--- an address of IPv6
+-- the text is an address of IPv6
 abbrev pub IsV6 : List ℕ → Type 0
 IsV6 text = (address : Ipv6Addr) × IsIpv6Text text address
 
@@ -43,15 +43,15 @@ pub data IsHostText (text host : List ℕ) (port : Option (List ℕ)) : Type 0 w
   named : (IsV6 text → ⊥) → (behind : List ℕ) → IsNamed text host behind → IsBehind behind port
       → IsHostText text host port
 
--- a port to connect to: that of Telnet where none stands there (RFC 854)
+-- a port to connect to, by its text: where there is none, that of Telnet (RFC 854)
 abbrev pub IsPortOr : Option (List ℕ) → ℕ → Type 0
 IsPortOr None port = port ≡ 23
 IsPortOr (Some digits) port = IsPort digits port
 
--- a host, and the port to connect to there
+-- the host and the port that a word names, to connect to
 abbrev pub IsHostPort : List ℕ → List ℕ → ℕ → Type 0
 IsHostPort text host port = (digits : Option (List ℕ)) × IsHostText text host digits × IsPortOr digits port
 
--- a host and a port to listen at, which has to stand there
+-- the host and the port that a word names, to listen at; the port has to stand there
 abbrev pub IsListening : List ℕ → List ℕ → ℕ → Type 0
 IsListening text host port = (digits : List ℕ) × IsHostText text host (Some digits) × IsPort digits port
