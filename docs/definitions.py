@@ -1,35 +1,28 @@
 #!/usr/bin/env python3
-"""Checks that docs/DEFINITIONS.md lists each definition that a public contract cites, and names each where it stands.
+"""Prints docs/DEFINITIONS.md from the comments of the specs, and checks that it stands so.
 
-Run it from anywhere. It prints what is missing, what is named and stands nowhere, and what stands in another file than
-its row says. Its last line counts the citations and the rows, and its status is 1 where one is wrong.
+With `--write` it writes the page. Without, it prints what is wrong: the page isn't what would be printed, a definition
+that a public contract cites isn't listed, one is listed where it isn't declared or has no comment, a name is nowhere.
+Its last line counts what it looked at, and its status is 1 where something is wrong.
+
+What stands by hand is docs/definitions.head.md. There `<!-- reading: FILE FUNCTION; NAMES -->` is where a reading goes:
+the definitions that the function's contract cites, and these names, and all on which they rest, but for those of the
+readings before. `<!-- others -->` is where the others go that public contracts cite.
 """
-import pathlib
 import re
 import sys
 
-ROOT = pathlib.Path(__file__).resolve().parent.parent
-USE = re.compile(r"ghost use Rattle\.((?:ws_|t5250)\w*)\.specs\.([\w.]+?)(?:\.\{([^}]*)\}| as (\w+))?;")
-WORD = re.compile(r"[A-Za-z_][A-Za-z_0-9]*")
+from specs import ROOT, WORD, Index
 
-
-def imported(text):
-    """The names of definitions that a file's clauses may cite: as they are written there, and as they are defined."""
-    names, modules = {}, set()
-    for _crate, module, listed, alias in USE.findall(text):
-        if "declared" in module:
-            continue
-        if alias:
-            modules.add(alias)
-        for entry in filter(None, (part.strip() for part in (listed or "").split(","))):
-            defined, _, used = entry.partition(" as ")
-            names[(used or defined).strip()] = defined.strip()
-    return names, modules
+PAGE = ROOT / "docs/DEFINITIONS.md"
+HEAD = ROOT / "docs/definitions.head.md"
+MARK = re.compile(r"^<!-- (reading|others)(?:: (\S+) (\w+)(?:; ([\w, ]+))?)? -->$", re.M)
+FUNCTION = re.compile(r"(pub )?(const )?(unsafe )?(extern \"C\" )?fn (\w+)")
 
 
 def exported(crate):
     """The names that a crate hands out; None for a program, each of whose public functions counts."""
-    root = crate / "src/lib.rt"
+    root = ROOT / "crates" / crate / "src/lib.rt"
     if not root.exists():
         return None
     text = root.read_text()
@@ -39,33 +32,131 @@ def exported(crate):
     return names
 
 
-def public_clauses(text, handed_out):
-    """The clauses of a file's public functions, of its public types' methods, and of its traits."""
-    lines = text.splitlines()
-    in_trait, holder, clauses, at = False, None, [], 0
-    while at < len(lines):
-        line = lines[at].strip()
-        if re.match(r"pub (unsafe )?trait ", lines[at]):
-            in_trait = True
-        of_type = re.match(r"impl(?:<.*?>)? (?:.* for )?(\w+)", lines[at])
-        if of_type:
-            holder = of_type.group(1)
-        if lines[at].rstrip() == "}":
-            in_trait, holder = False, None
-        head = re.match(r"(pub )?(const )?(unsafe )?fn (\w+)", line)
-        shown = head and (handed_out is None or in_trait or (holder or head.group(4)) in handed_out)
-        if shown and (head.group(1) or in_trait):
-            body = []
-            while at < len(lines) and lines[at].strip() not in ("{", "{}") and not lines[at].rstrip().endswith(";"):
-                body.append(lines[at])
+def functions(source):
+    """The functions of a source, each with the type or trait that it is of, its `pub`, and its head with the contract."""
+    holder, at = None, 0
+    while at < len(source.lines):
+        line = source.lines[at]
+        of_type = re.match(r"impl(?:<.*?>)? (?:.* for )?(\w+)", line) or re.match(r"pub (?:unsafe )?trait (\w+)", line)
+        holder = of_type[1] if of_type else None if line.rstrip() == "}" else holder
+        found = FUNCTION.match(line.strip())
+        if found:
+            head = re.sub(r"//.*", "", line)
+            while head.split("\n")[-1].strip() not in ("{", "{}") and not re.search(r";$|\{\}$", head) and (
+                    not head.endswith("{") or re.search(r"\b(?:requires|ensures)\b", head)):
                 at += 1
-            body.append(lines[at] if at < len(lines) and lines[at].rstrip().endswith(";") else "")
-            whole = "\n".join(body)
-            found = re.search(r"\b(requires|ensures)\b", whole)
-            if found:
-                clauses.append((head.group(4), whole[found.start():]))
+                head += "\n" + re.sub(r" *//.*", "", source.lines[at]).rstrip()
+            yield found, holder, head
         at += 1
-    return clauses
+
+
+def public_contracts(source):
+    """The name and the contract of each public function of a source, and of each that a trait asks for."""
+    handed_out = exported(source.crate)
+    if handed_out is not None and source.path.stem in handed_out:
+        handed_out = None
+    traits = set(re.findall(r"^pub (?:unsafe )?trait (\w+)", source.text, re.M))
+    for found, holder, head in functions(source):
+        name = found[5]
+        shown = handed_out is None or found[4] or holder in traits or (holder or name) in handed_out
+        contract = re.search(r"\b(?:requires|ensures)\b.*", head, re.S)
+        if shown and (found[1] or holder in traits) and contract:
+            yield name, contract[0]
+
+
+def libraries(index):
+    """The sources of the libraries and the program, without their tests."""
+    return [source for source in index.sources.values()
+            if source.path.suffix == ".rt" and not source.path.stem.endswith(("tests", "rows"))]
+
+
+def sentence(definition):
+    """What a definition says: its comment; of a constant its value too."""
+    value = re.match(r"(?:pub )?const \w+: .*? = (.*);$", definition.text, re.S)
+    parts = ([value[1]] if value else []) + ([definition.comment] if definition.comment else [])
+    text = ": ".join(parts)
+    return text if text.endswith(".") or not text else f"{text}."
+
+
+def listed(definitions, heading, number=0):
+    """Definitions by their files, each file under the heading that is made of its number and its place."""
+    crates = list(dict.fromkeys(definition.source.crate for definition in definitions))
+    files = {}
+    for definition in sorted(definitions, key=lambda one: (one.source.path.suffix, crates.index(one.source.crate))):
+        if definition.is_public:
+            files.setdefault(definition.source, []).append(definition)
+    for source, held in files.items():
+        number += 1
+        yield "\n" + heading(number, held[0].place) + "\n"
+        if source.head:
+            yield source.head.rstrip(".") + ".\n"
+        yield from (f"- `{definition.name}`: {sentence(definition)}" for definition in held)
+
+
+def in_words(definitions):
+    """The names of definitions as a list in a sentence."""
+    names = [f"`{definition.name}`" for definition in definitions if definition.source.path.suffix == ".antt"]
+    return " and ".join(filter(None, [", ".join(names[:-1]), names[-1]]))
+
+
+def reading(index, met, place, function, names):
+    """The lines of a reading: what the contract names with what that rests on, then what stands behind `;`."""
+    source = index.sources[ROOT / "crates" / place]
+    holder, head = next((holder, head) for found, holder, head in functions(source) if found[5] == function)
+    cited = sorted(index.named(source, f"{holder or ''} {head}"), key=lambda definition: definition.source.path.suffix)
+    behind = [index.only(name.strip()) for name in (names or "").split(",") if name.strip()]
+    walks = [index.walk(cited, met), index.walk(behind, met)]
+    files = [len({definition.source for definition in walk}) for walk in walks]
+    then = f", then read {in_words(behind)}" if behind else ""
+    count = sum(map(len, walks))
+    yield (f"The contract stands in `{place}`. Begin from {in_words(cited)}{then}. With what they rest on, and no reading "
+           f"before this has, these are {count} definitions.")
+    yield from listed(walks[0], lambda number, path: f"### {number}. `{path}`")
+    yield from listed(walks[1], lambda number, path: f"### {number}. `{path}`", files[0])
+
+
+def others(index, met):
+    """The lines of the definitions that public contracts cite and no reading has, by crate."""
+    cited = {}
+    for source in libraries(index):
+        for _name, contract in public_contracts(source):
+            cited.update((found, None) for found in index.named(source, contract) if found not in met)
+    for crate in re.findall(r"^(\w+)(?: \w+)?:", (ROOT / "crates.txt").read_text(), re.M):
+        held = [found for found in index.in_order() if found in cited and found.source.crate == crate]
+        if held:
+            yield f"\n### `{crate}`"
+            yield from listed(held, lambda _number, path: f"#### `{path}`")
+
+
+def page(index):
+    """The page as it should stand."""
+    met, lines, at = set(), [], 0
+    text = HEAD.read_text()
+    for mark in MARK.finditer(text):
+        lines.append(text[at:mark.start()].strip("\n") + "\n")
+        lines += reading(index, met, *mark.groups()[1:]) if mark[1] == "reading" else others(index, met)
+        lines.append("")
+        at = mark.end()
+    whole = "\n".join([*lines, text[at:].strip("\n")])
+    return re.sub(r"\n{3,}", "\n\n", whole).strip("\n") + "\n"
+
+
+def cited_by_name(index):
+    """The names of definitions that public contracts cite, and for each a place where one does."""
+    places, count = {}, 0
+    for source in libraries(index):
+        names = {used: named for used, named in source.names.items() if "declared" not in named[1]}
+        for function, contract in public_contracts(source):
+            cited = {names[word] for word in re.findall(r"\w+", contract) if word in names}
+            for alias, (crate, module) in source.modules.items():
+                words = re.findall(rf"\b{alias}\.([A-Za-z_]\w*)", contract) if "declared" not in module else []
+                cited.update((crate, module, word) for word in words)
+            count += len(cited)
+            for named in cited:
+                definition = index.at(*named)
+                name = definition.name if definition else named[2]
+                places.setdefault(name, f"{source.path.relative_to(ROOT)}: {function}")
+    return places, count
 
 
 def declared_in(path, name):
@@ -77,84 +168,42 @@ def declared_in(path, name):
     return any(re.match(rf"\s*(?:[a-z]+ )*{name}\b[^=]* ?:(?: |$)", line) for line in lines)
 
 
-def files_named(cell, crates):
-    """The files that a row names, as `specs/Code.antt`, `Controls` or `ws_code/specs/Aid`; None for one that isn't there."""
-    for part in filter(None, re.split(r",\s*", cell.strip())):
-        crate, _, rest = part.partition("/")
-        homes, rest = ([crate], rest) if (ROOT / "crates" / crate).is_dir() else (crates, part)
-        rest = rest if "/" in rest else f"specs/{rest}"
-        rest = rest if "." in rest else f"{rest}.antt"
-        found = [path for home in homes if (path := ROOT / "crates" / home / rest).exists()]
-        yield found[0] if found else None
-
-
-def rows(text):
-    """Each row of a table of definitions: its names but for those in brackets, and the files where it says they stand."""
-    crates, of_heading, has_files = [], "", False
-    for line in text.splitlines():
-        if line.startswith("#"):
-            crates = re.findall(r"`((?:ws_|t5250)\w*)`", line) or (crates if line.startswith("###") else [])
-            of_heading = "".join(re.findall(r"\((specs/\w+\.antt)\)", line))
-        cells = [cell.strip() for cell in line.strip().strip("|").split("|")]
-        if not line.startswith("|") or set(line) <= set("|-"):
-            continue
-        if cells[0] in ("Definition", "Name"):
-            has_files = cells[1] == "File"
-            continue
-        cell = cells[1] if has_files else of_heading
-        names = re.findall(r"`([A-Za-z_0-9]+)`", re.sub(r"\([^)]*\)", "", cells[0]))
-        if names and cell:
-            yield names, cell, list(files_named(cell, crates))
-
-
 def misplaced(text):
-    """How many rows there are, and what is wrong with their files."""
-    count, wrong = 0, []
-    for names, cell, files in rows(text):
-        count += 1
-        if None in files:
-            wrong.append(f"DEFINITIONS.md names a file that isn't there: {cell} ({names[0]})")
-            continue
-        for name in names:
-            if not any(declared_in(path, name) for path in files):
-                wrong.append(f"DEFINITIONS.md puts {name} into {cell}, where it isn't declared")
+    """How many definitions a page lists, and what is wrong with their places."""
+    count, wrong, path = 0, [], None
+    for line in text.splitlines():
+        heading = re.match(r"#+ (?:\d+\. )?`(\w+/[\w/.]+)`$", line)
+        row = re.match(r"- `(\w+)`: (.*)", line)
+        if heading:
+            path = ROOT / "crates" / heading[1]
+        elif row and path:
+            count += 1
+            if not path.exists() or not declared_in(path, row[1]):
+                wrong.append(f"DEFINITIONS.md puts {row[1]} into {path.relative_to(ROOT)}, where it isn't declared")
+            if not row[2]:
+                wrong.append(f"{path.relative_to(ROOT)}: {row[1]} has no comment")
     return count, wrong
 
 
 def main():
-    text = (ROOT / "docs/DEFINITIONS.md").read_text()
-    listed = set(re.findall(r"`([A-Za-z_0-9]+)`", text))
-    defined = set()
-    for path in ROOT.glob("crates/*/specs/**/*.antt"):
-        defined.update(WORD.findall(path.read_text()))
-    for path in ROOT.glob("crates/*/src/**/*.rt"):
-        defined.update(WORD.findall(path.read_text()))
-    missing, count = {}, 0
-    for path in sorted(ROOT.glob("crates/*/src/**/*.rt")):
-        crate = ROOT / "crates" / path.relative_to(ROOT / "crates").parts[0]
-        if crate.name.startswith("rows_") or path.stem.endswith(("tests", "rows")):
-            continue
-        source = path.read_text()
-        names, modules = imported(source)
-        handed_out = exported(crate)
-        if handed_out is not None and path.stem in handed_out:
-            handed_out = None
-        for function, clause in public_clauses(source, handed_out):
-            cited = {names[word] for word in WORD.findall(clause) if word in names}
-            for module in modules:
-                cited.update(re.findall(rf"\b{module}\.([A-Za-z_]\w*)", clause))
-            count += len(cited)
-            for name in cited - listed:
-                missing.setdefault(name, []).append(f"{path.relative_to(ROOT)}: {function}")
-    wrong = [f"not in DEFINITIONS.md: {name} ({places[0]})" for name, places in sorted(missing.items())]
-    wrong += [f"DEFINITIONS.md names what is nowhere: {name}" for name in sorted(listed - defined)]
-    of_rows, of_files = misplaced(text)
-    wrong += of_files
+    index = Index()
+    printed = page(index)
+    if "--write" in sys.argv[1:]:
+        PAGE.write_text(printed)
+    text = PAGE.read_text()
+    named = set(re.findall(r"`([A-Za-z_0-9]+)`", text))
+    defined = set(re.findall(r"\w+", "\n".join(source.text for source in index.sources.values())))
+    places, citations = cited_by_name(index)
+    of_rows, wrong = misplaced(text)
+    wrong += [f"not in DEFINITIONS.md: {name} ({place})" for name, place in sorted(places.items()) if name not in named]
+    wrong += [f"DEFINITIONS.md names what is nowhere: {name}" for name in sorted(named - defined)]
+    if text != printed:
+        wrong.append("DEFINITIONS.md isn't what docs/definitions.py prints: run it with --write")
     for line in wrong:
         print(line)
-    print(f"{count} citations, {of_rows} rows")
-    print(f"{max(count + of_rows - len(wrong), 0)} passed, {len(wrong)} failed")
-    return 1 if wrong or not count or not of_rows else 0
+    print(f"{citations} citations, {of_rows} rows")
+    print(f"{max(citations + of_rows - len(wrong), 0)} passed, {len(wrong)} failed")
+    return 1 if wrong or not citations or not of_rows else 0
 
 
 if __name__ == "__main__":
