@@ -32,22 +32,27 @@ def exported(crate):
     return names
 
 
+def head_at(lines, at):
+    """A function's head with its contract: up to the brace of its body, or to the semicolon where it has none."""
+    head = []
+    for line in lines[at:]:
+        head.append(re.sub(r" *//.*", "", line).rstrip())
+        bare = not re.search(r"\b(?:requires|ensures)\b", "\n".join(head))
+        if head[-1].strip() == "{" or head[-1].endswith((";", "{}")) or bare and head[-1].endswith("{"):
+            break
+    return "\n".join(head)
+
+
 def functions(source):
-    """The functions of a source, each with the type or trait that it is of, its `pub`, and its head with the contract."""
-    holder, at = None, 0
-    while at < len(source.lines):
-        line = source.lines[at]
+    """The functions of a source: what `FUNCTION` finds, the type or the trait that it is of, and its head."""
+    holder = None
+    for at, line in enumerate(source.lines):
         of_type = re.match(r"impl(?:<.*?>)? (?:.* for )?(\w+)", line) or re.match(r"pub (?:unsafe )?trait (\w+)", line)
-        holder = of_type[1] if of_type else None if line.rstrip() == "}" else holder
+        if of_type or line.rstrip() == "}":
+            holder = of_type[1] if of_type else None
         found = FUNCTION.match(line.strip())
         if found:
-            head = re.sub(r"//.*", "", line)
-            while head.split("\n")[-1].strip() not in ("{", "{}") and not re.search(r";$|\{\}$", head) and (
-                    not head.endswith("{") or re.search(r"\b(?:requires|ensures)\b", head)):
-                at += 1
-                head += "\n" + re.sub(r" *//.*", "", source.lines[at]).rstrip()
-            yield found, holder, head
-        at += 1
+            yield found, holder, head_at(source.lines, at)
 
 
 def public_contracts(source):
@@ -108,9 +113,8 @@ def reading(index, met, place, function, names):
     walks = [index.walk(cited, met), index.walk(behind, met)]
     files = [len({definition.source for definition in walk}) for walk in walks]
     then = f", then read {in_words(behind)}" if behind else ""
-    count = sum(map(len, walks))
-    yield (f"The contract stands in `{place}`. Begin from {in_words(cited)}{then}. With what they rest on, and no reading "
-           f"before this has, these are {count} definitions.")
+    yield (f"The contract stands in `{place}`. Begin from {in_words(cited)}{then}. With what they rest on, and no "
+           f"reading before this has, these are {sum(map(len, walks))} definitions.")
     yield from listed(walks[0], lambda number, path: f"### {number}. `{path}`")
     yield from listed(walks[1], lambda number, path: f"### {number}. `{path}`", files[0])
 

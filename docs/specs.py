@@ -118,8 +118,9 @@ class Index:
     """All specs and sources of the libraries, and what a name in one of them means."""
 
     def __init__(self):
-        paths = [*ROOT.glob("crates/[!r]*/specs/**/*.antt"), *ROOT.glob("crates/[!r]*/src/**/*.rt")]
-        self.sources = {path: Source(path) for path in sorted(paths)}
+        found = sorted([*ROOT.glob("crates/*/specs/**/*.antt"), *ROOT.glob("crates/*/src/**/*.rt")])
+        paths = (path for path in found if not path.relative_to(ROOT / "crates").parts[0].startswith("rows_"))
+        self.sources = {path: Source(path) for path in paths}
         self.types, self.makers = {}, {}
         for source in self.sources.values():
             for definition in source.definitions.values():
