@@ -61,7 +61,7 @@ module _ {S K : Type 0} (takes : MayTake K) (failures : K → ℕ) (gives : MayG
     pub waiting : to.waiting ≡ from.waiting
     pub unread : to.source ≡ from.source
 
-  -- what it was told to send is sent or refused, or a write failed, or for want of memory nothing is done
+  -- what the host was told to send is sent or refused, or a write failed, or for want of memory nothing is done
   abbrev pub IsGiven : Record ℕ → Parts → Result (Option SendFault) Fault → Parts → Type 0
   IsGiven r from (Ok refused) to = IsDone r from refused to
   IsGiven r from (Err why) to =

@@ -93,7 +93,7 @@ head_reason [] = BadAddress
 head_reason (column ∷ []) = BadAid
 head_reason (column ∷ escape ∷ more) = SaveRestore
 
--- at the beginning; with 00 a reply begins
+-- the reason of a byte at the beginning of an answer; with 00 a reply begins
 abbrev pub beginning_reason : List ℕ → Reason
 beginning_reason [] = BadAddress
 beginning_reason (row ∷ begun) = if row == 0 then StructuredField else head_reason begun

@@ -29,12 +29,12 @@ ask_code ReadScreen = commands.READ_SCREEN
 ask_code ReadImmediate = commands.READ_IMMEDIATE
 ask_code ReadImmediateAlternate = commands.READ_MDT_IMMEDIATE_ALTERNATE
 
--- and what follows it
+-- what stands behind the code of a command that asks: the field of a query, else nothing
 abbrev pub ask_field : Ask → List ℕ
 ask_field Query = query_field
 ask_field _ = []
 
--- an element's bytes
+-- the bytes of a live host's element
 abbrev pub extended_spelling : ExtendedElement → List ℕ
 extended_spelling (Profile e) = spelling e
 extended_spelling (Text e) = spelling e

@@ -30,7 +30,7 @@ header row switches =
 abbrev pub field_order : Field → FieldOrder
 field_order f = record { format = Some f.format; controls = []; attribute = 0x20; length = f.length }
 
--- a field
+-- the image of a field: its order, with the attribute in the cell before it
 abbrev pub field_image : Field → List Element
 field_image f = Sba (f.start - 1) ∷ Sf (field_order f) ∷ []
 

@@ -19,7 +19,7 @@ type_and_model Ibm3179Model2 = codes "3179002"
 abbrev pub in_ebcdic : List ℕ → List ℕ
 in_ebcdic text = map (λ c. unwrap_or (byte_of c) 0) text
 
--- a colour display
+-- the terminal has a colour display
 abbrev pub shows_colors : TerminalType → Bool
 shows_colors Ibm5292Model2 = true
 shows_colors Ibm3179Model2 = true

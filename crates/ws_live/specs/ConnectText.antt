@@ -45,7 +45,7 @@ pub record ShowsText (cells text : List ℕ) : Type 0 where
   pub back : List ℕ
   pub is : encode_utf8_all (row_chars cells row) ≡ front ++ text ++ back
 
--- the line waits
+-- the line is one that waits
 abbrev pub station_waits : {Q : Type 0} → StationLine Q → Bool
 station_waits (Await awaited) = true
 station_waits line = false

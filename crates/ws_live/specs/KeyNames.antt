@@ -7,7 +7,7 @@ use Rattle.ws_keys.specs.declared.key.Key.{Key}
 use Rattle.ws_keys.specs.declared.key.Key.TheVariants.{Left, Right, Up, Down, Home, Tab, BackTab, FieldExit, FieldMinus}
 use Rattle.ws_keys.specs.declared.key.Key.TheVariants.{Dup, Delete, EraseInput, Aid, Attention, SystemRequest}
 
--- a function key
+-- the key that is function key n, 1 to 24
 abbrev pub function_key : ℕ → Key
 function_key n = Aid (function_aid n)
 
@@ -25,7 +25,7 @@ answering_keys = (codes "Enter", Aid 0xf1) ∷ (codes "Clear", Aid 0xbd) ∷ (co
     ∷ (codes "RollDown", Aid 0xf4) ∷ (codes "RollUp", Aid 0xf5) ∷ (codes "Print", Aid 0xf6)
     ∷ (codes "RecordBackspace", Aid 0xf8) ∷ []
 
--- the function keys
+-- the names of the function keys, and their keys
 abbrev pub function_keys : List (List ℕ × Key)
 function_keys = (codes "F1", function_key 1) ∷ (codes "F2", function_key 2) ∷ (codes "F3", function_key 3)
     ∷ (codes "F4", function_key 4) ∷ (codes "F5", function_key 5) ∷ (codes "F6", function_key 6)

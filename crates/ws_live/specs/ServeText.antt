@@ -49,7 +49,7 @@ unheard_outcome late (fault.Refused place reason) = Ok Stopped
 unheard_outcome true fault.Read = Ok Late
 unheard_outcome late why = Err why
 
--- the line waits
+-- the line is one that waits
 abbrev pub host_waits : HostLine → Bool
 host_waits Await = true
 host_waits line = false
@@ -59,7 +59,7 @@ abbrev pub unheard_text : Fault → List ℕ
 unheard_text (fault.Refused place reason) = event_text (HostRefused place reason)
 unheard_text why = []
 
--- what it does: a send of Cancel Invite is a cancel
+-- what the host end does at an order: a send of Cancel Invite is a cancel
 abbrev pub deed_of : Order → Order
 deed_of (Send CancelInvite body) = Cancel
 deed_of order = order
@@ -83,7 +83,7 @@ module _ {S K : Type 0} (takes : MayTake K) (failures : K → ℕ) (gives : MayG
     pub waiting : to.waiting ≡ from.waiting
     pub unread : to.source ≡ from.source
 
-  -- what it was told to do is done, or a write failed, or for want of memory nothing is
+  -- what the host end was told to do is done, or a write failed, or for want of memory nothing is
   abbrev pub IsGiven : Order → Parts → Result (Option SendFault) Fault → Parts → Type 0
   IsGiven order from (Ok refused) to = IsDone (deed_of order) from refused to
   IsGiven order from (Err why) to = IsSendFailure HostGoes HostRefuses takes failures gives misses from to
@@ -118,7 +118,7 @@ module _ {S K : Type 0} (takes : MayTake K) (failures : K → ℕ) (gives : MayG
       abbrev pub Hears : (Parts × W) → Result Closing Fault → List ℕ → (Parts × W) → Type 0
       Hears from outcome text to = Runs Await from outcome text to
 
-      -- behind a script: things were told and printed, and then this came
+      -- what the host end tells behind a script: things were told and printed, and then this came
       pub record AnswersOn (from to : Parts × W) (outcome : Result Closing Fault) (text : List ℕ) : Type 0 where
         pub count : ℕ
         pub printed : List ℕ
@@ -128,7 +128,8 @@ module _ {S K : Type 0} (takes : MayTake K) (failures : K → ℕ) (gives : MayG
         pub came : Hears mid outcome last to
         pub all : text ≡ printed ++ last
 
-      -- up to the first thing that isn't told: the station closed, the wait was over, or a byte was refused
+      -- what is printed behind a script, up to the first thing that isn't told: the station closed, the wait was over,
+      -- or a byte was refused
       abbrev pub IsAnsweringText : (Parts × W) → Bool → List ℕ → (Parts × W) → Type 0
       IsAnsweringText from all_well text to = (closing : Closing) × AnswersOn from to (Ok closing) text
           × (is_told closing ≡ false) × (all_well ≡ not (stops closing))

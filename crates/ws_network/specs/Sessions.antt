@@ -79,18 +79,19 @@ module _ {O : Type 0} (prints : MayTake O) (misprints : O → ℕ) (old new : O)
         × IsConnected rules d operated asked lines all_well text
         × WentOut prints misprints old new text
 
-  -- the same at the profile's display, or at one that also takes what live hosts send beside the profile
+  -- what a session of `connect` came to, at the profile's display or at one that also takes what live hosts send beside
+  -- the profile
   abbrev pub HasConnectedAs : Bool → ConnectAsked → Bool → Type 0
   HasConnectedAs false asked all_well =
       HasConnectedOn element_rules profile operated_profile profile_words asked all_well
   HasConnectedAs true asked all_well =
       HasConnectedOn extended_rules extended operated_extended extended_words asked all_well
 
-  -- the same at the display that was asked for
+  -- what a session of `connect` came to, at the display that was asked for
   abbrev pub HasConnected : ConnectAsked → Bool → Type 0
   HasConnected asked all_well = HasConnectedAs asked.extended asked all_well
 
-  -- the same of `serve`, behind what tells the address at which it listens
+  -- what a session of `serve` came to, behind what tells the address at which it listens
   abbrev pub HasServed : ServeAsked → Bool → Type 0
   HasServed asked all_well = (lines : List HostLine) × (first : List ℕ) × (text : List ℕ)
       × AreFromScript IsHostLine OpensHostBlock asked.script lines × IsServed asked lines all_well text

@@ -39,8 +39,8 @@ module _ {Place U : Type 0} (rules : Rules Place U) (w : Wording U) (IsShowing :
     HasMade text accepted = (items : List (Item U)) × AreTold text items
         × WentOut takes failures from to (made_text rules items) × (accepted ≡ true)
 
-    -- Why it didn't: a bad line, or want of memory for a text that spells items, before anything was written; or the
-    -- sink failed.
+    -- Why no stream went out: a bad line, or want of memory for a text that spells items, before anything was written;
+    -- or the sink failed.
     abbrev pub IsMakeFault : List ℕ → RunFault → Type 0
     IsMakeFault text (Line number) = (to ≡ from) × IsBadLine text number
     IsMakeFault text Memory = (to ≡ from) × ((items : List (Item U)) × AreItems rules w text items)

@@ -12,7 +12,7 @@ abbrev pub record_of : {U : Type 0} → Head → List U → Record U
 record_of head units = record { flags = head.flags; opcode = head.opcode; body = units }
 
 module _ {Place U : Type 0} where
-  -- it is a record, as its header says
+  -- the open record is whole, and a record as its header says
   pub record IsWholeRecord (rules : Rules Place U) (so_far : RecordSoFar U) (head : Head) : Type 0 where
     pub is_head : so_far.head ≡ Some head
     pub is_record : IsRecord rules (record_of head so_far.units)

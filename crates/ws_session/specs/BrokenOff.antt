@@ -37,7 +37,7 @@ module _ {S R : Type 0} (takes : MayTake S) (failures : S → ℕ) (gives : MayG
     pub came : ComesDown old fewer crossings ends
     pub cut : IsCut (take (count - fewer) ends.to_station) last to fault
 
-  -- the same of one to the host end
+  -- a delivery to the host end: fewer of its bytes came, and the next of the others were cut
   pub record CutsUp (old : TwoEnds) (count : ℕ) (from to : Line S R) (fault : Fault) : Type 0 where
     pub fewer : ℕ
     pub crossings : List Crossing

@@ -24,16 +24,17 @@ use Rattle.ws_session.specs.HostSide.{HostSide, host_takes}
 abbrev pub quiet : HostStep
 quiet = record { reply = []; event = None }
 
--- it does what this item asks for, which came with the last byte taken
+-- the host end does what this item asks for, which came with the last byte taken
 abbrev pub DoesItem : HostParts → Item AnswerPart → HostParts → Result HostStep Refusal → Type 0
 DoesItem old item new result = (side : HostSide) → HostStands old side
     → IsReacted old new (host_takes side item) (old.receiver.live.taken - 1) result
 
--- it takes no more bytes
+-- the host end takes no more bytes
 abbrev pub HasEnded : HostParts → Refusal → HostParts → Result HostStep Refusal → Type 0
 HasEnded old why new result = (result ≡ Err why) × (new ≡ record old { ended = Some why })
 
--- what it makes of news that came with the last byte taken; a subnegotiation and a record's units are taken out
+-- what the host end makes of news that came with the last byte taken; a subnegotiation and a record's units are taken
+-- out
 abbrev pub IsHostNewsTaken : HostParts → News → HostParts → Result HostStep Refusal → Type 0
 IsHostNewsTaken old news.More new result = (result ≡ Ok quiet) × (new ≡ old)
 IsHostNewsTaken old news.Unit new result = (result ≡ Ok quiet) × (new ≡ old)

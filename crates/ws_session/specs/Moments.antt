@@ -34,7 +34,7 @@ abbrev pub at_item : StationSide → Reaction StationSide (List (Item AnswerPart
 at_item s (Refuses reason) = idle_outcome s
 at_item s (GoesOn next items) = record { side = next; written = items; refused = 0 }
 
--- at a key
+-- what comes of a key, by what the station makes of it
 abbrev pub at_key : StationSide → KeyReaction → Outcome
 at_key s (RefusesKey fault) = record { side = s; written = []; refused = 1 }
 at_key s (Silent next) = idle_outcome next
@@ -52,7 +52,7 @@ abbrev pub outcome : StationSide → List Moment → Outcome
 outcome s [] = idle_outcome s
 outcome s (m ∷ ms) = outcome_of_both (at_moment s m) (outcome (at_moment s m).side ms)
 
--- and none of the items is refused
+-- the station doesn't refuse the item
 abbrev pub goes_on : Reaction StationSide (List (Item AnswerPart)) → Bool
 goes_on (Refuses reason) = false
 goes_on (GoesOn next items) = true

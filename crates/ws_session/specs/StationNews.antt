@@ -22,17 +22,17 @@ use Rattle.ws_session.specs.PartsOn.{PartsOn}
 use Rattle.ws_session.specs.Stations.{StaysInsideOn, TakesItemOn, RefusesItemOn, IsClosedOn, HasStoppedOn}
 
 module _ {D P U H PlaceV V K R : Type 0} (rules : Rules P U) (d : DisplayOf D U H PlaceV V K R) where
-  -- these bytes are written, and no record ends
+  -- what a station answers where these bytes are written, and no record ends
   abbrev pub IsMid : PartsOn D P → Result (StationStep R) Refusal → List ℕ → Type 0
   IsMid new result bytes = (step : StationStep R) × (result ≡ Ok step) × (d.written new.screen step.reply ≡ bytes)
       × (step.ends_record ≡ false)
 
-  -- it answers a Telnet command
+  -- what a station makes of a Telnet command: it answers it
   abbrev pub IsAnsweredOn : PartsOn D P → Telnet → PartsOn D P → Result (StationStep R) Refusal → Type 0
   IsAnsweredOn old token new result = IsMid new result (bytes_of (station_answer old.options token).reply)
       × (new ≡ record old { options = (station_answer old.options token).after })
 
-  -- what it makes of news that came with the last byte taken; a subnegotiation is taken out
+  -- what a station makes of news that came with the last byte taken; a subnegotiation is taken out
   abbrev pub IsNewsTakenOn : PartsOn D P → News → PartsOn D P → Result (StationStep R) Refusal → Type 0
   IsNewsTakenOn old news.More new result = IsMid new result [] × (new ≡ old)
   IsNewsTakenOn old news.Unit new result = IsMid new result [] × (new ≡ old)

@@ -18,7 +18,7 @@ module _ {E Deed Told : Type 0} (goes : E → List (Act Deed) → List ℕ → L
     pub refused : refuses last byte why new
     pub is_over : over new
 
-  -- what it has written and told in them, and why it goes on no more
+  -- an end behind acts: what it has written and told in them, and why it goes on no more, if it doesn't
   abbrev pub Through : E → List (Act Deed) → List ℕ → List Told → Option Refusal → E → Type 0
   Through old acts written told None new = goes old acts written told new
   Through old acts written told (Some why) new = HasRefusedIn old acts written told why new

@@ -57,7 +57,7 @@ ends_of w = record {
   events = w.events;
 }
 
--- at the start both ends are new, and what opens the session is in flight to the station
+-- a session over two lines at its start: both ends are new, and what opens the session is in flight to the station
 pub record IsBegun (terminal : TerminalType) (now : TwoEnds) : Type 0 where
   pub station : StationLeads now.station [] [] (new_station_side terminal)
   pub host : HostLeads now.host [] [] new_host_side
@@ -217,7 +217,7 @@ down_wire w = record { bytes = w.down; at = w.at_station }
 abbrev pub up_wire : WorldParts → WireParts
 up_wire w = record { bytes = w.up; at = w.at_host }
 
--- so many of the bytes in flight, as they stand there, have come to the station, and to the host end
+-- so many of the bytes in flight, as they stand there, have come to the station
 abbrev pub IsDeliveredDown : WorldParts → ℕ → WorldParts → Type 0
 IsDeliveredDown old count new =
     AreDelivered StationGoes StationRefuses (λ (s : StationParts). IsSome s.ended)
@@ -225,7 +225,7 @@ IsDeliveredDown old count new =
     old.station new.station (down_wire old) (down_wire new) (up_wire old) (up_wire new) old.events new.events count
     × (new.host ≡ old.host)
 
--- so many bytes are delivered to the host end
+-- so many of the bytes in flight, as they stand there, have come to the host end
 abbrev pub IsDeliveredUp : WorldParts → ℕ → WorldParts → Type 0
 IsDeliveredUp old count new =
     AreDelivered HostGoes HostRefuses (λ (h : HostParts). IsSome h.ended)

@@ -13,7 +13,7 @@ pub record WireParts : Type 0 where
   pub bytes : List ℕ
   pub at : ℕ
 
--- it doesn't stop for want of memory
+-- the end hasn't stopped for want of memory
 abbrev pub HasMemory : Option Refusal → Type 0
 HasMemory (Some Memory) = ⊥
 HasMemory why = Unit {0}
@@ -49,7 +49,7 @@ module _ {E Deed Told : Type 0} (goes : E → List (Act Deed) → List ℕ → L
     pub to_is : to' ≡ record to { bytes = to.bytes ++ written }
     pub told_is : told' ≡ told ++ events
 
-  -- so many of the bytes in flight came to it, or all where there were fewer
+  -- so many of the bytes in flight have come to an end, or all where there were fewer
   pub record AreDelivered (old new : E) (from from' to to' : WireParts) (told told' : List Event)
       (count : ℕ) : Type 0 where
     pub bytes : List ℕ

@@ -10,13 +10,13 @@ use Rattle.ws_session.specs.Attachments.{fault_of}
 
 module _ {E K Deed Event : Type 0} (goes : E → List (Act Deed) → List ℕ → List Event → E → Type 0) (takes : MayTake K)
     (failures : K → ℕ) (old new : E) (from to : K) where
-  -- these acts led on, and what the end wrote in them went out
+  -- at an end and a sink: the acts led on, and what the end wrote in them went out
   pub record HasWritten (acts : List (Act Deed)) (told : List Event) : Type 0 where
     pub written : List ℕ
     pub led : goes old acts written told new
     pub wrote : WentOut takes failures from to written
 
-  -- these acts led on, and of what the end wrote in them only the front went out
+  -- at an end and a sink: the acts led on, and only a proper front of what the end wrote in them went out
   pub record HasWrittenFront (acts : List (Act Deed)) : Type 0 where
     pub written : List ℕ
     pub told : List Event

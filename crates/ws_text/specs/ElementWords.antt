@@ -13,7 +13,7 @@ use Rattle.ws_text.specs.Names.{look_up, kinds}
 use Rattle.ws_text.specs.Wording.{Wording}
 use Rattle.ws_text.specs.Words.{IsHex, IsHexByte, IsHexPair, IsNumber, IsCell}
 
--- two control characters
+-- the words are two control characters
 abbrev pub AreControls : List (List ℕ) → ℕ × ℕ → Type 0
 AreControls words (cc1, cc2) = (first : List ℕ) × (second : List ℕ) × (words ≡ first ∷ second ∷ [])
     × IsHexByte first cc1 × IsHexByte second cc2
@@ -22,7 +22,7 @@ AreControls words (cc1, cc2) = (first : List ℕ) × (second : List ℕ) × (wor
 abbrev pub AreBytes : List (List ℕ) → List ℕ → Type 0
 AreBytes words bytes = ((words ≡ []) × (bytes ≡ [])) ⊎ ((hex : List ℕ) × (words ≡ hex ∷ []) × IsHex hex bytes)
 
--- a cell
+-- the words are a cell
 abbrev pub ArePlace : List (List ℕ) → ℕ → Type 0
 ArePlace words place = (row : List ℕ) × (column : List ℕ) × (words ≡ row ∷ column ∷ []) × IsCell row column place
 

@@ -58,7 +58,7 @@ told_text Saved = 10 ∷ codes "  SAVED"
 told_text (Of element) = 10 ∷ codes "  " ++ extended_text element
 told_text (AtOnce cursor) = 10 ∷ codes "  IMMEDIATE " ++ cell_text cursor
 
--- a run's line
+-- the line of a run
 abbrev pub told_run_line : ToldRun → List ℕ
 told_run_line (Fields bytes) = 10 ∷ codes "  BYTES " ++ encode_upper bytes
 told_run_line (Cells bytes) = 10 ∷ codes "  PUT " ++ encode_upper bytes
