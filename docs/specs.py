@@ -26,7 +26,11 @@ class Definition:
 
 
 class Source:
-    """A file: what it defines, and which names it takes from elsewhere."""
+    """A file: what it defines, and which names it takes from elsewhere.
+
+    `names` has for a word of the file the crate, the module and the name there; `modules` for an alias the crate and the
+    module; `rust` for a word of a source the crate that it is used from.
+    """
 
     def __init__(self, path):
         self.path, self.text = path, path.read_text()
@@ -135,6 +139,7 @@ class Index:
         return [definition for source in self.sources.values() for definition in source.definitions.values()]
 
     def type_named(self, name, crate):
+        """A type or a constant of a crate, or the only one of that name, which the crate hands on."""
         homes = self.types.get(name, {})
         return homes.get(crate) or (next(iter(homes.values())) if len(homes) == 1 else None)
 
@@ -186,6 +191,7 @@ class Index:
         return list(found)
 
     def rests_on(self, definition):
+        """The other definitions that a definition names."""
         return [other for other in self.named(definition.source, definition.text) if other is not definition]
 
     def walk(self, roots, met):
