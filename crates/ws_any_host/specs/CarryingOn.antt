@@ -47,7 +47,8 @@ module _ {L P : Type 0} (runs : L → P → Result Closing Fault → List ℕ �
     HasCarriedOn all_well = (text : List ℕ) × IsCarriedText from all_well text to
         × WentOut prints misprints old new text
 
-    -- why that ended early: a device failed, memory was wanting, what was told didn't go out, or too much was told
+    -- why a line wasn't carried on: a device failed, memory was wanting, what was told didn't go out, or too much was
+    -- told
     abbrev pub IsCarryOnFault : Fault → Type 0
     IsCarryOnFault why = ((text : List ℕ) × (output : Output) × CarriesOn from to (Err why) text
         × IsOut prints misprints old new output text)

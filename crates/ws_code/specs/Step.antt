@@ -5,7 +5,8 @@ use Rattle.ws_code.specs.Code.{Rules, IsSpelled, IsPrefix, IsUnfinished}
 use Rattle.ws_code.specs.declared.code.Push.{Push}
 use Rattle.ws_code.specs.declared.code.Push.TheVariants.{More, Unit as Whole, Bad}
 
--- the answer to the byte, by the place and the bytes before it, and by those that the machine then holds
+-- what a byte makes of a machine: its unfinished unit grows by it, or ends with it, or no unit goes on with it, for the
+-- table's reason
 abbrev pub IsStep : {Place U : Type 0} → Rules Place U → Place → List ℕ → ℕ → Place → List ℕ → Push U → Type 0
 IsStep rules place begun b place' begun' More =
     (place' ≡ place) × (begun' ≡ begun ++ b ∷ []) × IsUnfinished rules place (begun ++ b ∷ [])

@@ -32,6 +32,6 @@ second_reason [] = None
 second_reason (ask ∷ []) = None
 second_reason (ask ∷ again ∷ asks) = Some (ask_reason again)
 
--- of what a record asks this is the first command, and this the reason of the second
+-- what a record asks: this is the first command that asks, and this the reason of the second
 abbrev pub HasAsked : List Ask → Option Ask → Option Reason → Type 0
 HasAsked asks ask refused = (ask ≡ first_ask asks) × (refused ≡ second_reason asks)
