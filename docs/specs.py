@@ -58,9 +58,10 @@ class Source:
 
     @property
     def head(self):
-        """The comment that a spec begins with."""
-        last = next((at for at, line in enumerate(self.lines) if not line.startswith("--")), 0)
-        return self.comment_above(last, "--")
+        """The comment that the file begins with."""
+        mark = "--" if self.path.suffix == ".antt" else "//!"
+        last = next((at for at, line in enumerate(self.lines) if not line.startswith(mark)), 0)
+        return self.comment_above(last, mark)
 
     def parameters(self, at):
         """The parameters of the modules that a line of a spec stands in."""
