@@ -28,8 +28,8 @@ class Definition:
 class Source:
     """A file: what it defines, and which names it takes from elsewhere.
 
-    `names` has for a word of the file the crate, the module and the name there; `modules` for an alias the crate and the
-    module; `rust` for a word of a source the crate that it is used from.
+    `names` has for a word of the file the crate, the module and the name there; `modules` for an alias the crate and
+    the module; `rust` for a word of a source the crate that it is used from.
     """
 
     def __init__(self, path):
