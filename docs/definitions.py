@@ -83,66 +83,71 @@ def sentence(definition):
     return text if text.endswith(".") or not text else f"{text}."
 
 
-def listed(definitions, heading, number=0):
-    """Definitions by their files, each file under the heading that is made of its number and its place."""
-    crates = list(dict.fromkeys(definition.source.crate for definition in definitions))
-    files = {}
-    for definition in sorted(definitions, key=lambda one: (one.source.path.suffix, crates.index(one.source.crate))):
-        if definition.is_public:
-            files.setdefault(definition.source, []).append(definition)
-    for source, held in files.items():
-        number += 1
-        yield "\n" + heading(number, held[0].place) + "\n"
-        if source.head:
-            yield source.head.rstrip(".") + ".\n"
-        yield from (f"- `{definition.name}`: {sentence(definition)}" for definition in held)
-
-
 def in_words(definitions):
     """The names of definitions as a list in a sentence."""
     names = [f"`{definition.name}`" for definition in definitions if definition.source.path.suffix == ".antt"]
     return " and ".join(filter(None, [", ".join(names[:-1]), names[-1]]))
 
 
-def reading(index, met, place, function, names):
-    """The lines of a reading: what the contract names with what that rests on, then what stands behind `;`."""
-    source = index.sources[ROOT / "crates" / place]
-    holder, head = next((holder, head) for found, holder, head in functions(source) if found[5] == function)
-    cited = sorted(index.named(source, f"{holder or ''} {head}"), key=lambda definition: definition.source.path.suffix)
-    behind = [index.only(name.strip()) for name in (names or "").split(",") if name.strip()]
-    walks = [index.walk(cited, met), index.walk(behind, met)]
-    files = [len({definition.source for definition in walk}) for walk in walks]
-    then = f", then read {in_words(behind)}" if behind else ""
-    yield (f"The contract stands in `{place}`. Begin from {in_words(cited)}{then}. With what they rest on, and no "
-           f"reading before this has, these are {sum(map(len, walks))} definitions.")
-    yield from listed(walks[0], lambda number, path: f"### {number}. `{path}`")
-    yield from listed(walks[1], lambda number, path: f"### {number}. `{path}`", files[0])
+class Page:
+    """The page as it should stand: `met` are the definitions that it lists, `told` the files whose sentence it has."""
 
+    def __init__(self, index):
+        self.index, self.met, self.told = index, set(), set()
 
-def others(index, met):
-    """The lines of the definitions that public contracts cite and no reading has, by crate."""
-    cited = {}
-    for source in libraries(index):
-        for _name, contract in public_contracts(source):
-            cited.update((found, None) for found in index.named(source, contract) if found not in met)
-    for crate in re.findall(r"^(\w+)(?: \w+)?:", (ROOT / "crates.txt").read_text(), re.M):
-        held = [found for found in index.in_order() if found in cited and found.source.crate == crate]
-        if held:
-            yield f"\n### `{crate}`"
-            yield from listed(held, lambda _number, path: f"#### `{path}`")
+    def listed(self, definitions, heading, number=0):
+        """Definitions by their files, each file under the heading that is made of its number and its place."""
+        crates = list(dict.fromkeys(definition.source.crate for definition in definitions))
+        files = {}
+        for definition in sorted(definitions, key=lambda one: (one.source.path.suffix, crates.index(one.source.crate))):
+            if definition.is_public:
+                files.setdefault(definition.source, []).append(definition)
+        for source, held in files.items():
+            number += 1
+            yield "\n" + heading(number, held[0].place) + "\n"
+            if source.head and source not in self.told:
+                yield source.head.rstrip(".") + ".\n"
+            self.told.add(source)
+            yield from (f"- `{definition.name}`: {sentence(definition)}" for definition in held)
 
+    def reading(self, place, function, names):
+        """The lines of a reading: what the contract names with what that rests on, then what stands behind `;`."""
+        source = self.index.sources[ROOT / "crates" / place]
+        holder, head = next((holder, head) for found, holder, head in functions(source) if found[5] == function)
+        cited = self.index.named(source, f"{holder or ''} {head}")
+        cited.sort(key=lambda definition: definition.source.path.suffix)
+        behind = [self.index.only(name.strip()) for name in (names or "").split(",") if name.strip()]
+        walks = [self.index.walk(cited, self.met), self.index.walk(behind, self.met)]
+        files = [len({definition.source for definition in walk}) for walk in walks]
+        then = f", then read {in_words(behind)}" if behind else ""
+        yield (f"The contract stands in `{place}`. Begin from {in_words(cited)}{then}. With what they rest on, and no "
+               f"reading before this has, these are {sum(map(len, walks))} definitions.")
+        yield from self.listed(walks[0], lambda number, path: f"### {number}. `{path}`")
+        yield from self.listed(walks[1], lambda number, path: f"### {number}. `{path}`", files[0])
 
-def page(index):
-    """The page as it should stand."""
-    met, lines, at = set(), [], 0
-    text = HEAD.read_text()
-    for mark in MARK.finditer(text):
-        lines.append(text[at:mark.start()].strip("\n") + "\n")
-        lines += reading(index, met, *mark.groups()[1:]) if mark[1] == "reading" else others(index, met)
-        lines.append("")
-        at = mark.end()
-    whole = "\n".join([*lines, text[at:].strip("\n")])
-    return re.sub(r"\n{3,}", "\n\n", whole).strip("\n") + "\n"
+    def others(self):
+        """The lines of the definitions that public contracts cite and no reading has, by crate."""
+        cited = set()
+        for source in libraries(self.index):
+            for _name, contract in public_contracts(source):
+                cited.update(self.index.named(source, contract))
+        further = [found for found in self.index.in_order() if found in cited and found not in self.met]
+        for crate in re.findall(r"^(\w+)(?: \w+)?:", (ROOT / "crates.txt").read_text(), re.M):
+            held = [found for found in further if found.source.crate == crate]
+            if held:
+                yield f"\n### `{crate}`"
+                yield from self.listed(held, lambda _number, path: f"#### `{path}`")
+
+    def text(self):
+        """The whole page: what is written by hand, with what is printed at its marks."""
+        by_hand, lines, at = HEAD.read_text(), [], 0
+        for mark in MARK.finditer(by_hand):
+            lines.append(by_hand[at:mark.start()].strip("\n") + "\n")
+            lines += self.reading(*mark.groups()[1:]) if mark[1] == "reading" else self.others()
+            lines.append("")
+            at = mark.end()
+        whole = "\n".join([*lines, by_hand[at:].strip("\n")])
+        return re.sub(r"\n{3,}", "\n\n", whole).strip("\n") + "\n"
 
 
 def cited_by_name(index):
@@ -191,7 +196,7 @@ def misplaced(text):
 
 def main():
     index = Index()
-    printed = page(index)
+    printed = Page(index).text()
     if "--write" in sys.argv[1:]:
         PAGE.write_text(printed)
     text = PAGE.read_text()
