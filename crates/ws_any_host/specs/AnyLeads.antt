@@ -110,10 +110,14 @@ abbrev pub AnyGoes : AnyParts → List (Act (Record ℕ)) → List ℕ → List 
 AnyGoes = Goes raw_rules raw_rules any_manner AnyLeads IsAnyShut
 
 -- the host refuses this byte behind all that came before it; where it is shut, for that alone
-pub record AnyRefuses (old : AnyParts) (byte : ℕ) (refusal : Refusal) (new : AnyParts) : Type 0 where
+pub record AnyRefusesByte (old : AnyParts) (byte : ℕ) (refusal : Refusal) (new : AnyParts) : Type 0 where
   pub led : (bytes : List ℕ) (items : List (Item ℕ)) (side : Negotiated) → AnyLeads old bytes items side
       → length bytes + 1 < 2 ^ 64 → IsAnyPushed old new bytes items side byte (Err refusal)
   pub shut : IsAnyShut old → (refusal ≡ Failed) × (new.options ≡ old.options)
+
+-- it takes bytes one by one, so no byte stands before one that it refuses
+abbrev pub AnyRefuses : AnyParts → List ℕ → ℕ → Refusal → AnyParts → Type 0
+AnyRefuses old front byte refusal new = (front ≡ []) × AnyRefusesByte old byte refusal new
 
 -- the host refuses to send a record, for this reason, by all that came before; or since it is shut
 pub record IsAnySendRefusal (host : AnyParts) (r : Record ℕ) (why : SendFault) : Type 0 where

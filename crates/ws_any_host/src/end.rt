@@ -2,13 +2,13 @@
 ghost use Rattle.std.specs.Prelude.{IsSome};
 ghost use Rattle.ws_record.specs.RawBody.{raw_rules};
 ghost use Rattle.ws_session.specs.ActLaws.{goes_none, goes_on};
-ghost use Rattle.ws_any_host.specs.AnyLeads.{AnyGoes, AnyLeads, AnyRefuses, IsAnyShut, IsAnySendRefusal, IsAnySendTaken};
+ghost use Rattle.ws_any_host.specs.AnyLeads.{AnyGoes, AnyLeads, AnyRefuses, AnyRefusesByte, IsAnyShut, IsAnySendRefusal, IsAnySendTaken};
 ghost use Rattle.ws_any_host.specs.AnySide.{any_manner};
 
 use crate::{AnyEvent, AnyHost};
 use ws_nego::Reply;
 use ws_record::Record;
-use ws_session::{Acting, End, EndStep, Refusal, SendFault};
+use ws_session::{Acting, End, EndFed, EndStep, Refusal, SendFault};
 
 impl End for AnyHost {
     type Deed = Record<u8>;
@@ -18,6 +18,8 @@ impl End for AnyHost {
     type Reply = Reply;
 
     ghost goes = { AnyGoes };
+
+    ghost refuses_byte = { AnyRefusesByte };
 
     ghost refuses = { AnyRefuses };
 
@@ -29,6 +31,19 @@ impl End for AnyHost {
         match self.push(byte) {
             Ok(step) => Ok(step),
             Err(refusal) => Err(refusal),
+        }
+    }
+
+    fn feed(&mut self, piece: &[u8]) -> EndFed<AnyEvent> {
+        match self.push(piece[0]) {
+            Ok(step) => EndFed {
+                used: 1,
+                step: Ok(step),
+            },
+            Err(refusal) => EndFed {
+                used: 0,
+                step: Err(refusal),
+            },
         }
     }
 

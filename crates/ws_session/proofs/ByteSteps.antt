@@ -1,8 +1,8 @@
 use Rattle.ws_session.proofs.Common as C
 use C.{element_prefix_free, bytes_to_station, byte_to_station, station_at_item, plain_spelling, StationRefused, as_list}
-use C.{element_begins, StationRefuses, length-take-le, station_manner, element_bytes, station_takes, bytes_to_host, ◌^◌}
+use C.{element_begins, StationRefusesByte, length-take-le, station_manner, element_bytes, station_takes, bytes_to_host, ◌^◌}
 use C.{element_rules, if◌then◌else◌, StationParts, station_gets, host_at_item, StationLeads, answer_rules, IsHostPushed}
-use C.{AreDelivered, byte_to_host, TerminalType, host_manner, HostRefused, HostRefuses, StationGoes, events_with, false}
+use C.{AreDelivered, byte_to_host, TerminalType, host_manner, HostRefused, HostRefusesByte, StationGoes, events_with, false}
 use C.{station_did, StationSide, AreWritable, WorldParts, host_takes, false≢true, append-nil, HostOutput, AnswerPart, ℕ}
 use C.{down_bytes, ending_at, HostParts, HostLeads, nat_tests, HasMemory, host_gets, ToStation, HostEvent, WireParts}
 use C.{up_bytes, flat_map, HostSide, Reaction, host_did, IsPushed, HostGoes, reported, Refuses, Applied, Refusal, Event}
@@ -107,7 +107,7 @@ module _ {t : TerminalType} {w : World} {old : WorldParts} (r : Runs t old w) (m
 
   -- a byte that comes, as what it writes and tells
   pub station_byte : (station : StationParts) (reply : List ℕ) (events : List Event)
-      → Comes StationGoes StationRefuses (λ s. IsSome s.ended) (λ applied. [])
+      → Comes StationGoes StationRefusesByte (λ s. IsSome s.ended) (λ applied. [])
       (λ place reason. StationRefused place reason) old.station byte station reply events → Runs t (record old {
         at_station = old.at_station + 1;
         station = station;
@@ -115,8 +115,8 @@ module _ {t : TerminalType} {w : World} {old : WorldParts} (r : Runs t old w) (m
         events = old.events ++ events;
       }) (byte_to_station w)
   station_byte station reply events c = by c.why c.through c.reports where
-    by : (why : Option Refusal) → Through StationGoes StationRefuses (λ (s : StationParts). IsSome s.ended) old.station
-        (Came byte ∷ []) reply c.told why station → events ≡ reported StationGoes StationRefuses (λ (s : StationParts).
+    by : (why : Option Refusal) → Through StationGoes StationRefusesByte (λ (s : StationParts). IsSome s.ended) old.station
+        (Came byte ∷ []) reply c.told why station → events ≡ reported StationGoes StationRefusesByte (λ (s : StationParts).
         IsSome s.ended) (λ applied. []) (λ place reason. StationRefused place reason) c.told why → Runs t (record old {
           at_station = old.at_station + 1;
           station = station;
@@ -128,7 +128,7 @@ module _ {t : TerminalType} {w : World} {old : WorldParts} (r : Runs t old w) (m
     by (Some why) p e =
         let at = take w.at_station (down_bytes w) in
         let done = arrived element_rules w.down w.at_station in
-        let q = refused_at_once StationGoes StationRefuses
+        let q = refused_at_once StationGoes StationRefusesByte
         (λ (s : StationParts). IsSome s.ended) old.station station byte reply c.told why p in
         let l = gone_none (q.1.led at done w.station r.station (omega (arith, few_in))) in
         absurd (station_never r more_in byte is_in q.0 station why
@@ -154,7 +154,7 @@ none_comes {w = w} r all =
 -- so many of the bytes in flight, or all that are
 pub station_delivered : {t : TerminalType} {w : World} {old : WorldParts}
     → Runs t old w → {station : StationParts} {from to : WireParts} {events : List Event} {count : ℕ} → AreDelivered
-    StationGoes StationRefuses (λ (e : StationParts). IsSome e.ended) (λ (a : Applied). let z : List Event = [] in z)
+    StationGoes StationRefusesByte (λ (e : StationParts). IsSome e.ended) (λ (a : Applied). let z : List Event = [] in z)
     (λ place reason. StationRefused place reason) old.station station (record { bytes = old.down; at = old.at_station })
     from (record { bytes = old.up; at = old.at_host }) to old.events events count → Runs t (record old {
       station = station;
@@ -168,7 +168,7 @@ station_delivered {t} {w} {old} r {station} {from} {to} {events} {count} d =
     let Now : StationParts → ℕ → List ℕ → List Event → World
     → Type 0 = λ s n up told w'. Runs t (record old { station = s; at_station = n; up = up; events = told }) w' in
     rw (d.from_is, d.to_is, d.told_is) (delivered byte_to_station bytes_to_station
-    (λ w. refl) (λ n w. refl) StationGoes StationRefuses (λ (e : StationParts). IsSome e.ended)
+    (λ w. refl) (λ n w. refl) StationGoes StationRefusesByte (λ (e : StationParts). IsSome e.ended)
     (λ (a : Applied). let z : List Event = [] in z) (λ place reason. StationRefused place reason) old.down Now
     (λ s n up told w' h more x is. station_byte h more d.few x is) (λ s n up told w' h all. none_comes h all)
     old.station old.at_station old.up old.events w r station from to old.at_host events count d)
@@ -275,13 +275,13 @@ module _ {t : TerminalType} {w : World} {old : WorldParts} (r : Runs t old w) (m
 
   -- a byte that comes, as what it writes and tells
   pub host_byte : (host : HostParts) (reply : List ℕ) (events : List Event)
-      → Comes HostGoes HostRefuses (λ (h : HostParts). IsSome h.ended) host_tells
+      → Comes HostGoes HostRefusesByte (λ (h : HostParts). IsSome h.ended) host_tells
       (λ place reason. HostRefused place reason) old.host byte host reply events → Runs t
       (record old { at_host = old.at_host + 1; host = host; down = old.down ++ reply; events = old.events ++ events })
       (byte_to_host w)
   host_byte host reply events c = by c.why c.through c.reports c.has_memory where
-    by : (why : Option Refusal) → Through HostGoes HostRefuses (λ (h : HostParts). IsSome h.ended) old.host
-        (Came byte ∷ []) reply c.told why host → events ≡ reported HostGoes HostRefuses (λ (h : HostParts).
+    by : (why : Option Refusal) → Through HostGoes HostRefusesByte (λ (h : HostParts). IsSome h.ended) old.host
+        (Came byte ∷ []) reply c.told why host → events ≡ reported HostGoes HostRefusesByte (λ (h : HostParts).
         IsSome h.ended) host_tells (λ place reason. HostRefused place reason) c.told why → HasMemory why → Runs t
         (record old { at_host = old.at_host + 1; host = host; down = old.down ++ reply; events = old.events ++ events })
         (byte_to_host w)
@@ -290,7 +290,7 @@ module _ {t : TerminalType} {w : World} {old : WorldParts} (r : Runs t old w) (m
     by (Some why) p e m =
         let at = take w.at_host (up_bytes w) in
         let done_up = arrived answer_rules w.up w.at_host in
-        let q = refused_at_once HostGoes HostRefuses
+        let q = refused_at_once HostGoes HostRefusesByte
         (λ (h : HostParts). IsSome h.ended) old.host host byte reply c.told why p in
         let l = gone_none (q.1.led at done_up w.host r.host (omega (arith, few_up))) in
         absurd (host_never r more_up byte is_up q.0 host why (q.2.led at done_up w.host l (omega (arith, few_up))) m)
@@ -312,7 +312,7 @@ none_comes_up {w = w} r all =
 -- so many of the bytes in flight, or all that are
 pub host_delivered : {t : TerminalType} {w : World} {old : WorldParts}
     → Runs t old w → {host : HostParts} {from to : WireParts} {events : List Event} {count : ℕ}
-    → AreDelivered HostGoes HostRefuses (λ (e : HostParts). IsSome e.ended) host_tells
+    → AreDelivered HostGoes HostRefusesByte (λ (e : HostParts). IsSome e.ended) host_tells
     (λ place reason. HostRefused place reason) old.host host (record { bytes = old.up; at = old.at_host }) from
     (record { bytes = old.down; at = old.at_station }) to old.events events count → Runs t (record old {
       host = host;
@@ -326,6 +326,6 @@ host_delivered {t} {w} {old} r {host} {from} {to} {events} {count} d =
     let Now : HostParts → ℕ → List ℕ → List Event → World
     → Type 0 = λ h n down told w'. Runs t (record old { host = h; at_host = n; down = down; events = told }) w' in
     rw (d.from_is, d.to_is, d.told_is) (delivered byte_to_host bytes_to_host (λ w. refl) (λ n w. refl) HostGoes
-    HostRefuses (λ (e : HostParts). IsSome e.ended) host_tells (λ place reason. HostRefused place reason) old.up Now
+    HostRefusesByte (λ (e : HostParts). IsSome e.ended) host_tells (λ place reason. HostRefused place reason) old.up Now
     (λ h n down told w' k more x is. host_byte k more d.few x is) (λ h n down told w' k all. none_comes_up k all)
     old.host old.at_host old.down old.events w r host from to old.at_station events count d)

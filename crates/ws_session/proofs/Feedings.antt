@@ -69,7 +69,7 @@ value_at (x ∷ xs) (suc k) lt =
     (p.0, p.1, ap (λ z. x ∷ z) p.2, ap (λ z. x ∷ z) p.3)
 
 -- a piece by a value behind a front of it
-split_on : (piece : List ℕ) (i m b : ℕ) (rest : List ℕ) → left_of piece i ≡ take m (left_of piece i) ++ b ∷ rest
+pub split_on : (piece : List ℕ) (i m b : ℕ) (rest : List ℕ) → left_of piece i ≡ take m (left_of piece i) ++ b ∷ rest
     → piece ≡ take (i + m) piece ++ b ∷ rest
 split_on piece i m b rest at = sym (left_joined piece i) ∙ ap (λ z. take i piece ++ z) at ∙ sym (append_assoc
     (take i piece) (take m (left_of piece i)) (b ∷ rest)) ∙ ap (λ z. z ++ b ∷ rest) (bytes_on [] piece i m)
@@ -150,7 +150,7 @@ module _ {Place PlaceV Side U V Deed Event : Type 0} (rules : Rules Place U) (ou
       -- a front more comes
       pub front_on : (Then : List ℕ → List (Item U) → Side → Type 0) (k : ℕ) (reply : List ℕ) (told : List Event)
           → ((b : List ℕ) (its : List (Item U)) (s : Side) → Now b its s → length b + length (left_of piece i) < 2 ^ 64
-          → AllCome Then b its s (take k (left_of piece i)) reply told) → length bytes + length piece + 1 < 2 ^ 64
+          → AllCome Then b its s (take k (left_of piece i)) reply told) → length bytes + length piece < 2 ^ 64
           → i ≤ length piece → AllCome Then bytes items side (take (i + k) piece) reply told
       front_on Then k reply told next fits inside = then_taken Then k reply told (λ b its s l size. next b its s l
           (omega (arith, size, fits, inside, length_rest piece i, length-take-le i piece inside)))
@@ -178,14 +178,15 @@ module _ {Place PlaceV Side U V Deed Event : Type 0} (rules : Rules Place U) (ou
       ]
 
       -- the end fails at its last byte
-      pub fails_on : (AtLast : ℕ → List ℕ → List (Item U) → Side → Type 0) (k : ℕ) → k ≤ length (left_of piece i)
+      pub fails_on : (AtLast : List ℕ → List (Item U) → Side → Type 0) (k byte : ℕ) → k ≤ length (left_of piece i)
+          → take (suc (k - 1)) (left_of piece i) ≡ take (k - 1) (left_of piece i) ++ byte ∷ []
           → ((b : List ℕ) (its : List (Item U)) (s : Side) → Now b its s → length b + length (left_of piece i) < 2 ^ 64
-          → 0 < k) → ((b : List ℕ) (its : List (Item U)) (s : Side) (front : List ℕ) (byte : ℕ) → Now b its s → length b
-          + length (left_of piece i) < 2 ^ 64 → take k (left_of piece i) ≡ front ++ byte ∷ [] → AtLast byte (b ++ front)
+          → 0 < k) → ((b : List ℕ) (its : List (Item U)) (s : Side) (front : List ℕ) → Now b its s → length b
+          + length (left_of piece i) < 2 ^ 64 → take k (left_of piece i) ≡ front ++ byte ∷ [] → AtLast (b ++ front)
           its s) → ((b : List ℕ) (its : List (Item U)) (s : Side) → Now b its s → AreHeld rules Deed b its (left_of
-          piece i) k) → length bytes + length piece + 1 < 2 ^ 64 → i ≤ length piece → (front : List ℕ) × (byte : ℕ)
-          × (rest : List ℕ) × (piece ≡ front ++ byte ∷ rest) × AllCome (AtLast byte) bytes items side front [] []
-      fails_on AtLast k within when at_last held fits inside =
+          piece i) k) → length bytes + length piece < 2 ^ 64 → i ≤ length piece
+          → AllCome AtLast bytes items side (take (i + (k - 1)) piece) [] []
+      fails_on AtLast k byte within upto when at_last held fits inside =
           let left = left_of piece i in
           let acts : List (Act Deed) = all_came (take i piece) in
           let size : length (bytes ++ bytes_of acts) ≡ length bytes + length (take i piece) = length-append bytes
@@ -195,13 +196,7 @@ module _ {Place PlaceV Side U V Deed Event : Type 0} (rules : Rules Place U) (ou
           (omega (arith, size, fits, inside, length_rest piece i, length-take-le i piece inside)) in
           let m : ℕ = k - 1 in
           let last : suc m ≡ k = omega (arith, some) in
-          let at = value_at left m (omega (arith, within, some)) in
-          let upto : take k left ≡ take m left ++ at.0 ∷ [] = sym (ap (λ (n : ℕ). take n left) last) ∙ at.3 in (
-            take (i + m) piece,
-            at.0,
-            at.1,
-            split_on piece i m at.0 at.1 at.2,
-            then_taken _ m [] [] (λ b its s l from. silent_then _ b its s left k m (omega (arith, within, some))
-                (held b its s l) (omega (arith, some)) (at_last b its s (take m left) at.0 l
-                (omega (arith, from, fits, inside, length_rest piece i, length-take-le i piece inside)) upto)),
-          )
+          then_taken _ m [] [] (λ b its s l from. silent_then _ b its s left k m (omega (arith, within, some))
+          (held b its s l) (omega (arith, some)) (at_last b its s (take m left) l
+          (omega (arith, from, fits, inside, length_rest piece i, length-take-le i piece inside))
+          (sym (ap (λ (n : ℕ). take n left) last) ∙ upto)))

@@ -1,7 +1,7 @@
 use Rattle.ws_session.proofs.Common as C
-use C.{new_station_side, flat_map-append, StationRefuses, StationRefused, station_manner, element_rules, new_host_side}
+use C.{new_station_side, flat_map-append, StationRefusesByte, StationRefused, station_manner, element_rules, new_host_side}
 use C.{length-append, StationLeads, answer_rules, StationIsLed, StationParts, TerminalType, append_assoc, HostRefused}
-use C.{host_manner, HostRefuses, append-nil, HostLeads, HostEvent, HaveMoved, HostParts, ToStation, HostIsLed, HasMoved}
+use C.{host_manner, HostRefusesByte, append-nil, HostLeads, HostEvent, HaveMoved, HostParts, ToStation, HostIsLed, HasMoved}
 use C.{order_of, items_of, Crossing, all_read, TwoEnds, Through, Applied, Refusal, AllCome, HasRun, Reason, Cancel, ◌^◌}
 use C.{Option, ToHost, length, IsSome, Manner, Rules, subst, Press, doing, Comes, arith, Event, Host, Some, Move, refl}
 use C.{Goes, Came, List, None, ◌++◌, Item, ◌∷◌, sym, ◌∙◌, ◌+◌, Did, ◌≡◌, inl, inr, ◌⊎◌, ◌<◌, [], ap, ℕ}
@@ -68,11 +68,11 @@ station_moved a b Cancel ds us front p few l = stays StationIsLed a.station b.st
 station_moved a b (ToHost n) ds us front p few l = stays StationIsLed a.station b.station ds front p.0
     (ap (λ (z : TwoEnds). z.station) p.1.3) l
 station_moved a b (ToStation n) ds us front p few l = bytes_led element_rules answer_rules station_manner StationLeads
-    StationRefuses (λ (s : StationParts). IsSome s.ended) (λ (t : Applied). let none : List Event = [] in none)
+    StationRefusesByte (λ (s : StationParts). IsSome s.ended) (λ (t : Applied). let none : List Event = [] in none)
     (λ place reason. StationRefused place reason) IsShutOn a.station b.station (all_read ds) p.1.0 p.1.1 front
     p.1.2.come few l
 station_moved a b (Press key) ds us front p few l = stays StationIsLed b.station b.station ds front p.0 refl
-    (act_led element_rules answer_rules station_manner StationLeads StationRefuses (λ (s : StationParts).
+    (act_led element_rules answer_rules station_manner StationLeads StationRefusesByte (λ (s : StationParts).
     IsSome s.ended) (λ (t : Applied). let none : List Event = [] in none) (λ place reason. StationRefused place reason)
     IsShutOn a.station b.station key p.2.0 [] front p.2.2.led (λ o. (p.2.2.stays (inl o)).0) (omega (arith, few)) l)
 
@@ -82,15 +82,15 @@ host_moved a b (Press key) ds us front p few l = stays HostIsLed a.host b.host u
     (ap (λ (z : TwoEnds). z.host) p.2.3) l
 host_moved a b (ToStation n) ds us front p few l = stays HostIsLed a.host b.host us front p.0
     (ap (λ (z : TwoEnds). z.host) p.1.3) l
-host_moved a b (ToHost n) ds us front p few l = bytes_led answer_rules element_rules host_manner HostLeads HostRefuses
+host_moved a b (ToHost n) ds us front p few l = bytes_led answer_rules element_rules host_manner HostLeads HostRefusesByte
     (λ (h : HostParts). IsSome h.ended) (λ (e : HostEvent). Host e ∷ [])
     (λ place reason. HostRefused place reason) IsHostShut a.host b.host (all_read us) p.1.0 p.1.1 front p.1.2.come few l
 host_moved a b (Send opcode body) ds us front p few l = stays HostIsLed b.host b.host us front p.1 refl
-    (act_led answer_rules element_rules host_manner HostLeads HostRefuses (λ (h : HostParts). IsSome h.ended)
+    (act_led answer_rules element_rules host_manner HostLeads HostRefusesByte (λ (h : HostParts). IsSome h.ended)
     (λ (e : HostEvent). Host e ∷ []) (λ place reason. HostRefused place reason) IsHostShut a.host
     b.host (order_of opcode body) p.2.0 [] front p.2.2.led (λ o. (p.2.2.stays (inl o)).0) (omega (arith, few)) l)
 host_moved a b Cancel ds us front p few l = stays HostIsLed b.host b.host us front p.1 refl
-    (act_led answer_rules element_rules host_manner HostLeads HostRefuses (λ (h : HostParts). IsSome h.ended)
+    (act_led answer_rules element_rules host_manner HostLeads HostRefusesByte (λ (h : HostParts). IsSome h.ended)
     (λ (e : HostEvent). Host e ∷ []) (λ place reason. HostRefused place reason) IsHostShut a.host
     b.host _ p.2.0 [] front p.2.2.led (λ o. (p.2.2.stays (inl o)).0) (omega (arith, few)) l)
 

@@ -1,5 +1,5 @@
 use Rattle.ws_session.proofs.Common as C
-use C.{failed_within_both, take-append-drop, new_station_side, outcome_of_both, keys_left_from, StationRefuses, Outcome}
+use C.{failed_within_both, take-append-drop, new_station_side, outcome_of_both, keys_left_from, StationRefusesByte, Outcome}
 use C.{went_out_both, went_out_none, length-append, refusal_count, RunUnwritten, TerminalType, take_more}
 use C.{StationLeads, records_from, append_assoc, moments_from, FailedWithin, idle_outcome, StationParts, StationGoes, ℕ}
 use C.{StationSide, applied_by, IsRunFault, one_record, TelnetItem, append-nil, RecordItem, AtStation, Fault}
@@ -258,7 +258,7 @@ module _ {S : Type 0} (takes : MayTake S) (failures : S → ℕ) (t : TerminalTy
         ]
 
     -- the byte is refused, or its item
-    refused_as : (to : S) → to ≡ now → (refusal : Refusal) → StationRefuses before byte refusal old.station
+    refused_as : (to : S) → to ≡ now → (refusal : Refusal) → StationRefusesByte before byte refusal old.station
         → IsRunFault t keys takes failures start to (length bytes) longer (fault_of refusal)
     refused_as to unwritten (At place reason) refuses =
         let is = refuses.led bytes items so_far.side c.is_behind.leads (omega (arith, few)) in
@@ -278,7 +278,7 @@ module _ {S : Type 0} (takes : MayTake S) (failures : S → ℕ) (t : TerminalTy
     refused_as to unwritten why refuses = refuses.led bytes items so_far.side c.is_behind.leads (omega (arith, few))
 
     -- it doesn't come through
-    pub byte_fails : (to : S) (fault : Fault) → IsUntaken StationGoes StationRefuses takes failures
+    pub byte_fails : (to : S) (fault : Fault) → IsUntaken StationGoes StationRefusesByte takes failures
         before old.station now to byte fault → IsRunFault t keys takes failures start to (length bytes) longer fault
     byte_fails to fault (inl h) = rw h.0 (reply_fails h.1.written h.1.told h.1.led to h.1.failed)
     byte_fails to fault (inr h) = rw h.is (refused_as to h.unwritten _ h.refused)

@@ -1,5 +1,5 @@
 use Rattle.ws_session.proofs.Common as C
-use C.{HasHostRefused, length-append, element_rules, CompletesUnit, IsHostFronted, host_at_item, arith}
+use C.{length-append, element_rules, CompletesUnit, IsHostFronted, host_at_item, arith}
 use C.{answer_rules, StationLeads, IsHostPushed, append_assoc, StationParts, StationStep, StationSide, AnswerPart, true}
 use C.{bytes_came, HasHostFed, HostLeads, nat_tests, HostEvent, HostParts, AtStation, HostSide, IsPushed, At}
 use C.{HostStep, Element, as_list, left_of, Refusal, told_by, goes_on, Failed, HasFed, length, GoesOn, AtHost, Option}
@@ -9,7 +9,9 @@ use C.{Rules, HoldsItems, RecordItem, TelnetItem, applied_by, is_record}
 use Rattle.ws_session.specs.Displays.{DisplayOf, SideOn}
 use Rattle.ws_session.specs.PartsOn.{PartsOn}
 use Rattle.ws_session.specs.Stations.{LeadsOn, IsPushedOn}
-use Rattle.ws_session.specs.StationActs.{HasFedOn, HasRefusedOn}
+use Rattle.ws_session.specs.StationActs.{HasFedOn, HasTakenAllOn}
+use Rattle.ws_session.specs.HostFeeds.{HasHostTakenAll}
+use Rattle.ws_session.proofs.Common.{suc, ◌-◌}
 use Rattle.ws_session.specs.StationNews.{IsFrontedOn}
 use Rattle.ws_session.specs.StationManners.{at_item_on}
 use Rattle.ws_session.proofs.EndSteps.{host_holds, none_went, one_went, told_of, on_holds}
@@ -52,7 +54,7 @@ module _ {D P U H PlaceV V K R : Type 0} (rules : Rules P U) (d : DisplayOf D U 
     pub fed_on : (new : PartsOn D P) (k : ℕ) (step : StationStep R)
         → k ≤ length (left_of piece i) → 0 < k → AtOn now (λ b its s. length b + length (left_of piece i) < 2 ^ 64
         → IsFrontedOn rules d now new (b ++ take k (left_of piece i)) its s (Ok step)) → AtOn now
-        (λ b its s. AreHeld rules K b its (left_of piece i) k) → length bytes + length piece + 1 < 2 ^ 64
+        (λ b its s. AreHeld rules K b its (left_of piece i) k) → length bytes + length piece < 2 ^ 64
         → i ≤ length piece
         → HasFedOn rules d new bytes items side (take (i + k) piece) (d.written new.screen step.reply) step.ends_record
     fed_on new k step within some fronted held fits inside = front_on _ _ _ bytes items side piece i
@@ -60,21 +62,23 @@ module _ {D P U H PlaceV V K R : Type 0} (rules : Rules P U) (d : DisplayOf D U 
         (held b its s l) step (fronted b its s l room)) fits inside
 
     -- it is refused at its last byte
-    pub refused_on : (old new : PartsOn D P) (k : ℕ) (refusal : Refusal) → now.screen ≡ old.screen
-        → k ≤ length (left_of piece i) → ((refusal ≡ Failed → ⊥) → 0 < k) → AtOn now (λ b its s. length b + length
+    pub refused_on : (old new : PartsOn D P) (k byte : ℕ) (refusal : Refusal) → now.screen ≡ old.screen
+        → k ≤ length (left_of piece i)
+        → take (suc (k - 1)) (left_of piece i) ≡ take (k - 1) (left_of piece i) ++ byte ∷ []
+        → ((refusal ≡ Failed → ⊥) → 0 < k) → AtOn now (λ b its s. length b + length
         (left_of piece i) < 2 ^ 64 → IsFrontedOn rules d now new (b ++ take k (left_of piece i)) its s (Err refusal))
         → AtOn now (λ b its s. AreHeld rules K b its (left_of piece i) k)
-        → length bytes + length piece + 1 < 2 ^ 64 → i ≤ length piece
-        → HasRefusedOn rules d old new bytes items side piece refusal
-    refused_on old new k refusal same within when fronted held fits inside =
+        → length bytes + length piece < 2 ^ 64 → i ≤ length piece
+        → HasTakenAllOn rules d (λ b its s. IsPushedOn rules d old new b its s byte (Err refusal)) bytes items side
+        (take (i + (k - 1)) piece) [] []
+    refused_on old new k byte refusal same within upto when fronted held fits inside =
         let left = left_of piece i in
-        let f = fails_on _ _ _ bytes items side piece i _ before (λ byte b its s. IsPushedOn rules d old new b its s
-        byte (Err refusal)) k within (λ b its s l room. when (λ e. subst (λ (r : Refusal). IsFrontedOn rules d now new
-        (b ++ take k left) its s (Err r)) e (fronted b its s l room))) (λ b its s front byte l room upto.
+        fails_on _ _ _ bytes items side piece i _ before (λ b its s. IsPushedOn rules d old new b its s
+        byte (Err refusal)) k byte within upto (λ b its s l room. when (λ e. subst (λ (r : Refusal). IsFrontedOn rules
+        d now new (b ++ take k left) its s (Err r)) e (fronted b its s l room))) (λ b its s front l room upto.
         pushed_at_last old now new _ its s byte _ same (subst (λ (x : List ℕ). IsFrontedOn rules d now new x its s
         (Err refusal))
-        (ap (λ z. b ++ z) upto ∙ sym (append_assoc b front (byte ∷ []))) (fronted b its s l room))) held fits inside in
-        record { front = f.0; byte = f.1; rest = f.2; split = f.3; refused = f.4 }
+        (ap (λ z. b ++ z) upto ∙ sym (append_assoc b front (byte ∷ []))) (fronted b its s l room))) held fits inside
 
 -- a reply that is empty
 no_bytes : (xs : List ℕ) → length xs ≡ 0 → xs ≡ []
@@ -153,23 +157,25 @@ module _ (bytes : List ℕ) (items : List (Item AnswerPart)) (side : HostSide)
   pub host_fed_on : (new : HostParts) (k : ℕ) (step : HostStep)
       → k ≤ length (left_of piece i) → 0 < k → AtHost now (λ b its s. length b + length (left_of piece i) < 2 ^ 64
       → IsHostFronted now new (b ++ take k (left_of piece i)) its s (Ok step)) → AtHost now
-      (λ b its s. AreHeld answer_rules Order b its (left_of piece i) k) → length bytes + length piece + 1 < 2 ^ 64
+      (λ b its s. AreHeld answer_rules Order b its (left_of piece i) k) → length bytes + length piece < 2 ^ 64
       → i ≤ length piece → HasHostFed new bytes items side (take (i + k) piece) step.reply step.event
   host_fed_on new k step within some fronted held fits inside = front_on _ _ _ bytes items side piece i
       (HostLeads now) before _ k _ _ (λ b its s l room. host_front_fed now new b its s _ k within some
       (held b its s l) step (fronted b its s l room)) fits inside
 
   -- it fails at its last byte
-  pub host_refused_on : (old new : HostParts) (k : ℕ) (refusal : Refusal) → now.screen ≡ old.screen
-      → k ≤ length (left_of piece i) → ((refusal ≡ Failed → ⊥) → 0 < k) → AtHost now (λ b its s. length b + length
+  pub host_refused_on : (old new : HostParts) (k byte : ℕ) (refusal : Refusal) → now.screen ≡ old.screen
+      → k ≤ length (left_of piece i)
+      → take (suc (k - 1)) (left_of piece i) ≡ take (k - 1) (left_of piece i) ++ byte ∷ []
+      → ((refusal ≡ Failed → ⊥) → 0 < k) → AtHost now (λ b its s. length b + length
       (left_of piece i) < 2 ^ 64 → IsHostFronted now new (b ++ take k (left_of piece i)) its s (Err refusal))
       → AtHost now (λ b its s. AreHeld answer_rules Order b its (left_of piece i) k) → length
-      bytes + length piece + 1 < 2 ^ 64 → i ≤ length piece → HasHostRefused old new bytes items side piece refusal
-  host_refused_on old new k refusal same within when fronted held fits inside =
+      bytes + length piece < 2 ^ 64 → i ≤ length piece
+      → HasHostTakenAll (EndsAt old new byte refusal) bytes items side (take (i + (k - 1)) piece) [] []
+  host_refused_on old new k byte refusal same within upto when fronted held fits inside =
       let left = left_of piece i in
-      let f = fails_on _ _ _ bytes items side piece i _ before (λ byte b its s. EndsAt old new byte refusal b its s)
-      k within (λ b its s l room. when (λ e. subst (λ (r : Refusal). IsHostFronted now new
-      (b ++ take k left) its s (Err r)) e (fronted b its s l room))) (λ b its s front byte l room upto.
+      fails_on _ _ _ bytes items side piece i _ before (λ b its s. EndsAt old new byte refusal b its s)
+      k byte within upto (λ b its s l room. when (λ e. subst (λ (r : Refusal). IsHostFronted now new
+      (b ++ take k left) its s (Err r)) e (fronted b its s l room))) (λ b its s front l room upto.
       host_at_last old now new _ its s byte _ same (subst (λ (x : List ℕ). IsHostFronted now new x its s (Err refusal))
-      (ap (λ z. b ++ z) upto ∙ sym (append_assoc b front (byte ∷ []))) (fronted b its s l room))) held fits inside in
-      record { front = f.0; byte = f.1; rest = f.2; split = f.3; refused = f.4 }
+      (ap (λ z. b ++ z) upto ∙ sym (append_assoc b front (byte ∷ []))) (fronted b its s l room))) held fits inside

@@ -1,6 +1,6 @@
 -- What a host end makes of a piece of bytes: it takes them one after another, up to the first that brings something.
 
-use Rattle.std.specs.Prelude.{◌≡◌, ℕ, ◌+◌, List, [], ◌∷◌, ◌++◌, Option, Err, length}
+use Rattle.std.specs.Prelude.{◌≡◌, ℕ, ◌+◌, ◌^◌, ◌<◌, List, [], ◌∷◌, ◌++◌, Option, Err, length, take}
 use Rattle.ws_record.specs.declared.record.Item.{Item}
 use Rattle.ws_stream.specs.AnswerParts.{answer_rules}
 use Rattle.ws_stream.specs.Elements.{element_rules}
@@ -44,3 +44,13 @@ pub record HasHostRefused (old new : HostParts) (bytes : List ℕ) (items : List
   pub rest : List ℕ
   pub split : piece ≡ front ++ byte ∷ rest
   pub refused : HasHostTakenAll (EndsAt old new byte refusal) bytes items side front [] []
+
+-- the byte behind so many of the piece is refused, as the host end refuses that byte alone; at those nothing is written
+-- or told
+pub record HostStopsWithin (old new : HostParts) (piece : List ℕ) (used : ℕ) (why : Refusal) : Type 0 where
+  pub byte : ℕ
+  pub rest : List ℕ
+  pub split : piece ≡ take used piece ++ byte ∷ rest
+  pub refused : (bytes : List ℕ) (items : List (Item AnswerPart)) (side : HostSide) → HostLeads old bytes items side
+      → length bytes + length piece < 2 ^ 64
+      → HasHostTakenAll (EndsAt old new byte why) bytes items side (take used piece) [] []

@@ -53,11 +53,21 @@ module _ {D P U H PlaceV V K R : Type 0} (rules : Rules P U) (d : DisplayOf D U 
   GoesOnDisplay = Goes rules d.out (manner_on d) (LeadsOn rules d) IsShutOn
 
   -- the station refuses this byte behind all that came before it; where it is shut, for that alone
-  pub record RefusesOn (old : PartsOn D P) (byte : ℕ) (refusal : Refusal) (new : PartsOn D P) : Type 0 where
+  pub record RefusesByteOn (old : PartsOn D P) (byte : ℕ) (refusal : Refusal) (new : PartsOn D P) : Type 0 where
     pub led : (bytes : List ℕ) (items : List (Item U)) (side : SideOn H)
         → LeadsOn rules d old bytes items side → length bytes + 1 < 2 ^ 64
         → IsPushedOn rules d old new bytes items side byte (Err refusal)
     pub shut : IsShutOn old → (refusal ≡ Failed) × (new.screen ≡ old.screen)
+
+  -- The station takes these bytes, writes and tells nothing at them, and refuses the one behind them, as it refuses
+  -- that byte alone. Where it is shut, it refuses the first, for that alone.
+  pub record RefusesOn (old : PartsOn D P) (front : List ℕ) (byte : ℕ) (refusal : Refusal) (new : PartsOn D P)
+      : Type 0 where
+    pub led : (bytes : List ℕ) (items : List (Item U)) (side : SideOn H)
+        → LeadsOn rules d old bytes items side → length bytes + length front + 1 < 2 ^ 64
+        → HasTakenAllOn (λ bytes' items' side'. IsPushedOn rules d old new bytes' items' side' byte (Err refusal))
+        bytes items side front [] []
+    pub shut : IsShutOn old → (front ≡ []) × (refusal ≡ Failed) × (new.screen ≡ old.screen)
 
   -- the station refuses the key, for this reason, by all that came and was pressed before, or since it is shut
   pub record IsKeyRefusalOn (station : PartsOn D P) (key : K) (fault : KeyFault) : Type 0 where

@@ -1,6 +1,6 @@
 -- A station on any display: what it makes of news, and of a front of a piece (RFC 1205, 4777)
 
-use Rattle.std.specs.Prelude.{◌≡◌, ℕ, ◌+◌, ◌-◌, false, List}
+use Rattle.std.specs.Prelude.{◌≡◌, ℕ, ◌+◌, ◌-◌, ◌^◌, ◌<◌, ◌++◌, ◌∷◌, false, List, take}
 use Rattle.std.specs.Prelude.{[], ◌⊎◌, Some, length, Result, Ok, Err}
 use Rattle.ws_code.specs.Code.{Rules, IsChain, spelling_of}
 use Rattle.ws_telnet.specs.declared.token.Sub.{Sub as ASub}
@@ -19,7 +19,9 @@ use Rattle.ws_session.specs.declared.station.StationStep.{StationStep}
 use Rattle.ws_session.specs.Displays.{DisplayOf, SideOn}
 use Rattle.ws_session.specs.StationCounts.{is_record}
 use Rattle.ws_session.specs.PartsOn.{PartsOn}
-use Rattle.ws_session.specs.Stations.{StaysInsideOn, TakesItemOn, RefusesItemOn, IsClosedOn, HasStoppedOn}
+use Rattle.ws_session.specs.Stations.{StaysInsideOn, TakesItemOn, RefusesItemOn, IsClosedOn, HasStoppedOn, LeadsOn}
+use Rattle.ws_session.specs.Stations.{IsPushedOn}
+use Rattle.ws_session.specs.StationActs.{HasTakenAllOn}
 
 module _ {D P U H PlaceV V K R : Type 0} (rules : Rules P U) (d : DisplayOf D U H PlaceV V K R) where
   -- what a station answers where these bytes are written, and no record ends
@@ -49,6 +51,17 @@ module _ {D P U H PlaceV V K R : Type 0} (rules : Rules P U) (d : DisplayOf D U 
       × (new ≡ record old { ended = Some (At (old.live.taken - 1) reason) })
   IsNewsTakenOn old news.NoMemory new result = (result ≡ Err Failed) × (new ≡ record old { ended = Some Failed })
   IsNewsTakenOn old news.Failed new result = (result ≡ Err Failed) × (new ≡ record old { ended = Some Failed })
+
+  -- the station refuses the byte behind so many of the piece, as it refuses that byte alone; at those it writes and
+  -- tells nothing
+  pub record StopsWithinOn (old new : PartsOn D P) (piece : List ℕ) (used : ℕ) (why : Refusal) : Type 0 where
+    pub byte : ℕ
+    pub rest : List ℕ
+    pub split : piece ≡ take used piece ++ byte ∷ rest
+    pub refused : (bytes : List ℕ) (items : List (Item U)) (side : SideOn H) → LeadsOn rules d old bytes items side
+        → length bytes + length piece < 2 ^ 64
+        → HasTakenAllOn rules d (λ bytes' items' side'. IsPushedOn rules d old new bytes' items' side' byte (Err why))
+        bytes items side (take used piece) [] []
 
   -- what the last of these bytes gives, where no item is complete before it
   abbrev pub IsFrontedOn : PartsOn D P → PartsOn D P → List ℕ → List (Item U) → SideOn H

@@ -32,7 +32,7 @@ use Rattle.ws_session.specs.Crossings.{Crossing}
 use Rattle.ws_session.specs.HostLeads.{HostParts, HostLeads}
 use Rattle.ws_session.specs.HostSide.{HostSide, new_host_side, host_cancel, SendReaction, RefusesSend}
 use Rattle.ws_session.specs.StationActs.{IsShutOn}
-use Rattle.ws_session.specs.Manners.{StationGoes, StationRefuses, HostGoes, HostRefuses, IsHostShut}
+use Rattle.ws_session.specs.Manners.{StationGoes, StationRefusesByte, HostGoes, HostRefusesByte, IsHostShut}
 use Rattle.ws_session.specs.Runs.{WorldParts}
 use Rattle.ws_session.specs.StationLeads.{StationParts, StationLeads}
 use Rattle.ws_session.specs.StationSide.{StationSide, new_station_side, station_key, KeyReaction, RefusesKey}
@@ -89,12 +89,12 @@ module _ {E Deed Told : Type 0} (goes : E → List (Act Deed) → List ℕ → L
 -- bytes come to the station: it tells a refusal alone
 abbrev pub StationHears : ℕ → List Crossing → List ℕ → List ℕ → StationParts → StationParts → List ℕ → List Event
     → Type 0
-StationHears = HaveCome StationGoes StationRefuses (λ (s : StationParts). IsSome s.ended)
+StationHears = HaveCome StationGoes StationRefusesByte (λ (s : StationParts). IsSome s.ended)
     (λ (a : Applied). let none : List Event = [] in none) (λ place reason. StationRefused place reason)
 
 -- bytes come to the host end: its events are told, and a refusal
 abbrev pub HostHears : ℕ → List Crossing → List ℕ → List ℕ → HostParts → HostParts → List ℕ → List Event → Type 0
-HostHears = HaveCome HostGoes HostRefuses (λ (h : HostParts). IsSome h.ended)
+HostHears = HaveCome HostGoes HostRefusesByte (λ (h : HostParts). IsSome h.ended)
     (λ (e : HostEvent). Host e ∷ []) (λ place reason. HostRefused place reason)
 
 -- what is told of a key: that it was refused, and why; or nothing
@@ -220,7 +220,7 @@ up_wire w = record { bytes = w.up; at = w.at_host }
 -- so many of the bytes in flight, as they stand there, have come to the station
 abbrev pub IsDeliveredDown : WorldParts → ℕ → WorldParts → Type 0
 IsDeliveredDown old count new =
-    AreDelivered StationGoes StationRefuses (λ (s : StationParts). IsSome s.ended)
+    AreDelivered StationGoes StationRefusesByte (λ (s : StationParts). IsSome s.ended)
     (λ (a : Applied). let none : List Event = [] in none) (λ place reason. StationRefused place reason)
     old.station new.station (down_wire old) (down_wire new) (up_wire old) (up_wire new) old.events new.events count
     × (new.host ≡ old.host)
@@ -228,7 +228,7 @@ IsDeliveredDown old count new =
 -- so many of the bytes in flight, as they stand there, have come to the host end
 abbrev pub IsDeliveredUp : WorldParts → ℕ → WorldParts → Type 0
 IsDeliveredUp old count new =
-    AreDelivered HostGoes HostRefuses (λ (h : HostParts). IsSome h.ended)
+    AreDelivered HostGoes HostRefusesByte (λ (h : HostParts). IsSome h.ended)
     (λ (e : HostEvent). Host e ∷ []) (λ place reason. HostRefused place reason)
     old.host new.host (up_wire old) (up_wire new) (down_wire old) (down_wire new) old.events new.events count
     × (new.station ≡ old.station)

@@ -1,11 +1,11 @@
 -- What an end wrote into a sink
 
-use Rattle.std.specs.Prelude.{◌≡◌, ◌⊎◌, ℕ, List, [], ◌∷◌}
+use Rattle.std.specs.Prelude.{◌≡◌, ◌⊎◌, ℕ, List, [], ◌∷◌, ◌++◌}
 use Rattle.ws_code.specs.declared.fault.Fault.{Fault}
 use Rattle.ws_code.specs.declared.fault.Fault.TheVariants.{Write}
 use Rattle.ws_code.specs.Device.{MayTake, WentOut, FailedWithin}
 use Rattle.ws_session.specs.declared.refusal.Refusal.{Refusal}
-use Rattle.ws_session.specs.Acts.{Act, Came}
+use Rattle.ws_session.specs.Acts.{Act, Came, all_came}
 use Rattle.ws_session.specs.Attachments.{fault_of}
 
 module _ {E K Deed Event : Type 0} (goes : E → List (Act Deed) → List ℕ → List Event → E → Type 0) (takes : MayTake K)
@@ -30,6 +30,23 @@ pub record RefusesByte {E K : Type 0} (refuses : E → ℕ → Refusal → E →
   pub refused : refuses old byte refusal new
   pub is : why ≡ fault_of refusal
   pub unwritten : to ≡ from
+
+-- the end took these bytes and refused the one behind them, and nothing was written
+pub record RefusesBehind {E K : Type 0} (refuses : E → List ℕ → ℕ → Refusal → E → Type 0) (old new : E) (from to : K)
+    (front : List ℕ) (byte : ℕ) (why : Fault) : Type 0 where
+  pub refusal : Refusal
+  pub refused : refuses old front byte refusal new
+  pub is : why ≡ fault_of refusal
+  pub unwritten : to ≡ from
+
+-- bytes don't come through: a write failed behind the last of them, or the end refused the last
+abbrev pub IsUnheard : {E K Deed Event : Type 0} (goes : E → List (Act Deed) → List ℕ → List Event → E → Type 0)
+    (refuses : E → List ℕ → ℕ → Refusal → E → Type 0) (takes : MayTake K) (failures : K → ℕ) (old new : E)
+    (from to : K) (bytes : List ℕ) → Fault → Type 0
+IsUnheard goes refuses takes failures old new from to bytes why = (front : List ℕ) × (byte : ℕ)
+    × (bytes ≡ front ++ byte ∷ [])
+    × (((why ≡ Write) × HasWrittenFront goes takes failures old new from to (all_came bytes))
+    ⊎ RefusesBehind refuses old new from to front byte why)
 
 -- a byte doesn't come through: a write failed, or the end refused the byte
 abbrev pub IsUntaken : {E K Deed Event : Type 0} (goes : E → List (Act Deed) → List ℕ → List Event → E → Type 0)

@@ -1,13 +1,14 @@
 // What an end does at a byte or a key, and writes at once into a sink: the steps of `Attached` and of `run_station`.
 
-ghost use Rattle.std.specs.Prelude.{◌≡◌, ◌∷◌, [], true, IfOk, IfErr, IfSome, IfNone};
-ghost use Rattle.ws_session.specs.Acts.{Came, Did, as_list};
+ghost use Rattle.std.specs.Prelude.{◌≡◌, ◌<◌, ◌≤◌, ◌∷◌, [], true, length, take, IfOk, IfErr, IfSome, IfNone};
+ghost use Rattle.ws_session.specs.Acts.{Came, Did, all_came, as_list};
 ghost use Rattle.ws_session.specs.Attachments as spec;
 ghost use Rattle.ws_session.specs.Attachments.{breaks};
 ghost use Rattle.ws_session.specs.StationActs.{GoesOnDisplay, IsKeyRefusalOn, IsKeyTakenOn};
-ghost use Rattle.ws_session.specs.Written.{HasWritten, HasWrittenFront, IsUntaken};
+ghost use Rattle.ws_session.specs.Written.{HasWritten, HasWrittenFront, IsUnheard, IsUntaken};
 
 use crate::end::End;
+use crate::end_step::EndFed;
 use crate::{KeyFault, Refusal, StationDisplay, StationOn, write_answer};
 use ws_code::{Fault, Sink, write_whole};
 
@@ -19,7 +20,7 @@ pub(crate) fn take_byte<E: End, K: Sink>(
 ) -> Result<Option<E::Event>, Fault>
     ensures taken { IfOk result (λ told. HasWritten E.goes K.takes K.failures
         end.old end.new sink.old sink.new (Came byte ∷ []) (as_list told)) }
-    ensures fault { IfErr result (IsUntaken E.goes E.refuses K.takes K.failures
+    ensures fault { IfErr result (IsUntaken E.goes E.refuses_byte K.takes K.failures
         end.old end.new sink.old sink.new byte) }
     ensures breaks { IfErr result (λ fault. breaks fault ≡ true) }
 {
@@ -29,6 +30,47 @@ pub(crate) fn take_byte<E: End, K: Sink>(
             Ok(step.event)
         }
         Err(refusal) => Err(fault_of(refusal)),
+    }
+}
+
+// What a piece led to: how many bytes of it are gone, and what the end told, or why it stopped.
+#[derive(Drop)]
+pub(crate) struct Heard<T> {
+    pub(crate) used: usize,
+    pub(crate) told: Result<Option<T>, Fault>,
+}
+
+// Takes bytes of the piece as `End::feed` does, and writes what the end answers. One that is refused is gone too.
+pub(crate) fn hear_piece<E: End, K: Sink>(
+    end: &mut E,
+    sink: &mut K,
+    piece: &[u8],
+) -> Heard<E::Event>
+    requires { 0 < length piece.now }
+    ensures within { result.used ≤ length piece.now }
+    ensures some { 0 < result.used }
+    ensures heard { IfOk result.told (λ told. HasWritten E.goes K.takes K.failures
+        end.old end.new sink.old sink.new (all_came (take result.used piece.now)) (as_list told)) }
+    ensures fault { IfErr result.told (IsUnheard E.goes E.refuses K.takes K.failures
+        end.old end.new sink.old sink.new (take result.used piece.now)) }
+    ensures breaks { IfErr result.told (λ fault. breaks fault ≡ true) }
+{
+    let EndFed { used, step } = end.feed(piece);
+    match step {
+        Ok(step) => match write_whole(sink, end.bytes(&step.reply)) {
+            Ok(()) => Heard {
+                used,
+                told: Ok(step.event),
+            },
+            Err(fault) => Heard {
+                used,
+                told: Err(fault),
+            },
+        },
+        Err(refusal) => Heard {
+            used: used + 1,
+            told: Err(fault_of(refusal)),
+        },
     }
 }
 

@@ -72,7 +72,7 @@ pub(crate) fn deliver<E: Reported>(
     events: &mut Vec<Event>,
     count: usize,
 ) -> Result<(), Fault>
-    ensures come { OnOk result (AreDelivered E.goes E.refuses E.over E.tells E.refusal
+    ensures come { OnOk result (AreDelivered E.goes E.refuses_byte E.over E.tells E.refusal
         end.old end.new from.old from.new to.old to.new events.old.items events.new.items count) }
     ensures fault { IfErr result (λ fault. fault ≡ Fault.Memory) }
 {
@@ -91,7 +91,7 @@ fn come<E: Reported>(
     to: &mut Wire,
     events: &mut Vec<Event>,
 ) -> Result<(), Fault>
-    ensures come { OnOk result (HasCome E.goes E.refuses E.over E.tells E.refusal
+    ensures come { OnOk result (HasCome E.goes E.refuses_byte E.over E.tells E.refusal
         end.old byte end.new to.old to.new events.old.items events.new.items) }
     ensures fault { IfErr result (λ fault. fault ≡ Fault.Memory) }
 {

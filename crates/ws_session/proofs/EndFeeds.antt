@@ -1,0 +1,180 @@
+use Rattle.ws_session.proofs.Common as C
+use C.{StationLeads, HostParts, HostLeads, HostSide, AnswerPart, HostRefuses, EndsAt, HasGone, Goes, Manner, Rules, Item}
+use C.{all_came, bytes_came, append_assoc, length-append, length-take-le, answer_rules, element_rules, host_manner}
+use C.{◌≡◌, ◌+◌, ◌≤◌, ◌<◌, ◌^◌, ◌++◌, ◌∷◌, [], List, ℕ, None, Some, Option, IsSome, inl, inr, refl, sym, ap, ◌∙◌, take}
+use C.{length, arith, Refusal, Failed, Order, take-append-le, IsHostPushed, Err, Ok, Result, IfOk, IfErr, is_some, true}
+use C.{false, ◌-◌, suc, subst}
+use Rattle.ws_session.specs.Acts.{bytes_of}
+use Rattle.ws_session.specs.Displays.{DisplayOf, SideOn}
+use Rattle.ws_session.specs.Ends.{IsShut}
+use Rattle.ws_session.specs.HostFeeds.{HostStopsWithin}
+use Rattle.ws_session.specs.Manners.{IsHostShut}
+use Rattle.ws_session.specs.PartsOn.{PartsOn}
+use Rattle.ws_session.specs.StationActs.{IsShutOn, RefusesOn}
+use Rattle.ws_session.specs.StationManners.{manner_on}
+use Rattle.ws_session.specs.StationNews.{StopsWithinOn}
+use Rattle.ws_session.specs.Stations.{LeadsOn}
+use Rattle.ws_session.proofs.StationSteps.{is_led}
+use Rattle.ws_session.proofs.Feedings.{come_weaker, value_at}
+use Rattle.std.proofs.Math.Seq.{take-append-add}
+
+-- A piece at an end, as acts: so many of its bytes came.
+
+-- a piece that isn't empty has a first byte
+first_of : (piece : List ℕ) → 0 < length piece → (byte : ℕ) × (rest : List ℕ) × (piece ≡ byte ∷ rest)
+first_of [] some = absurd (omega (arith, some))
+first_of (byte ∷ rest) some = (byte, rest, refl)
+
+-- bytes that are some have a last one
+pub last_of : (piece : List ℕ) (used : ℕ) → used ≤ length piece → 0 < used
+    → (front : List ℕ) × (byte : ℕ) × (take used piece ≡ front ++ byte ∷ [])
+last_of piece used within some =
+    let m : ℕ = used - 1 in
+    let last : suc m ≡ used = omega (arith, some) in
+    let at = value_at piece m (omega (arith, within, some)) in
+    (take m piece, at.0, ap (λ (n : ℕ). take n piece) (sym last) ∙ at.3)
+
+-- so many bytes of a piece with the next one
+pub with_next : (piece : List ℕ) (used : ℕ) → used ≤ length piece → (byte : ℕ) (rest : List ℕ)
+    → piece ≡ take used piece ++ byte ∷ rest → take (used + 1) piece ≡ take used piece ++ byte ∷ []
+with_next piece used within byte rest split =
+    let size : length (take used piece) ≡ used = length-take-le used piece within in
+    subst (λ (z : List ℕ). take (used + 1) z ≡ take used piece ++ byte ∷ []) (sym split)
+    (subst (λ (n : ℕ). take (n + 1) (take used piece ++ byte ∷ rest) ≡ take used piece ++ byte ∷ []) size
+    (take-append-add (take used piece) (byte ∷ rest) 1))
+
+-- where a front of a piece is split, so is the piece
+front_split : (piece part more : List ℕ) → piece ≡ part ++ more → (used byte : ℕ) (rest : List ℕ)
+    → used ≤ length part → part ≡ take used part ++ byte ∷ rest → piece ≡ take used piece ++ byte ∷ (rest ++ more)
+front_split piece part more whole used byte rest within split =
+    rw whole (rw (take-append-le used part more within)
+    (ap (λ z. z ++ more) split ∙ append_assoc (take used part) (byte ∷ rest) more))
+
+module _ {Place PlaceV Side U V Deed Event E : Type 0} (rules : Rules Place U) (out : Rules PlaceV V)
+    (manner : Manner Side U V Deed Event) (leads : E → List ℕ → List (Item U) → Side → Type 0)
+    (is_shut : E → Type 0) (taken : E → ℕ)
+    (count : (e : E) (bytes : List ℕ) (items : List (Item U)) (side : Side) → leads e bytes items side
+    → taken e ≡ length bytes) (old : E) (piece part more : List ℕ) (whole : piece ≡ part ++ more) (used : ℕ)
+    (within : used ≤ length part) (fits : taken old + length part < 2 ^ 64) where
+  -- what a front of the piece led to, where it fits into the count
+  abbrev Led : (List ℕ → List (Item U) → Side → Type 0) → List ℕ → List Event → Type 0
+  Led Then reply told = (bytes : List ℕ) (items : List (Item U)) (side : Side) → leads old bytes items side
+      → length bytes + length part < 2 ^ 64
+      → HasGone rules out manner Then bytes items side (all_came {Deed = Deed} (take used part)) reply told
+
+  gone_by : (Then : List ℕ → List (Item U) → Side → Type 0) (reply : List ℕ) (told : List Event) → Led Then reply told
+      → (bytes : List ℕ) (items : List (Item U)) (side : Side) → leads old bytes items side
+      → HasGone rules out manner Then bytes items side (all_came {Deed = Deed} (take used piece)) reply told
+  gone_by Then reply told led bytes items side l = rw whole (rw (take-append-le used part more within)
+      (led bytes items side l (omega (arith, fits, count old bytes items side l))))
+
+  pub goes_by : (new : E) (reply : List ℕ) (told : List Event) → (is_shut old → ⊥) → Led (leads new) reply told
+      → Goes rules out manner leads is_shut old (all_came {Deed = Deed} (take used piece)) reply told new
+  goes_by new reply told works led = record {
+    led = λ bytes items side l few. gone_by (leads new) reply told led bytes items side l;
+    shut = λ shut. absurd (works shut);
+  }
+
+  pub stops_by : (AtLast : List ℕ → List (Item U) → Side → Type 0) → Led AtLast [] []
+      → (bytes : List ℕ) (items : List (Item U)) (side : Side) → leads old bytes items side
+      → length bytes + length (take used piece) + 1 < 2 ^ 64
+      → HasGone rules out manner AtLast bytes items side (all_came {Deed = Deed} (take used piece)) [] []
+  stops_by AtLast led bytes items side l few = gone_by AtLast [] [] led bytes items side l
+
+-- what holds of an answer, and what follows from it
+pub if_ok_on : {A Why : Type 0} (P Q : A → Type 0) (result : Result A Why) → ((x : A) → P x → Q x) → IfOk result P
+    → IfOk result Q
+if_ok_on P Q (Ok x) on p = on x p
+if_ok_on P Q (Err why) on p = p
+
+pub if_err_on : {A Why : Type 0} (P Q : Why → Type 0) (result : Result A Why) → ((x : Why) → P x → Q x)
+    → IfErr result P → IfErr result Q
+if_err_on P Q (Ok x) on p = p
+if_err_on P Q (Err why) on p = on why p
+
+-- an end that hasn't ended, and for whose bytes there is room, isn't shut
+pub has_room : (ended : Option Refusal) (taken : ℕ) → false ≡ is_some ended → (2 ^ 64 - 1 - taken ≡ 0 → ⊥)
+    → IsShut ended taken → ⊥
+has_room ended taken works room (inl over) = (let e : false ≡ true = works ∙ over in cc)
+has_room ended taken works room (inr all) = room (omega (arith, all))
+
+-- nothing leads to an end that is shut, with a byte more
+none_leads : (ended : Option Refusal) (taken count : ℕ) → ended ≡ None → taken ≡ count → count + 1 < 2 ^ 64
+    → IsShut ended taken → ⊥
+none_leads ended taken count works counted few (inl over) = (let e = rw works at over in cc)
+none_leads ended taken count works counted few (inr all) = omega (arith, counted, few, all)
+
+module _ {D P U H PlaceV V K R : Type 0} (rules : Rules P U) (d : DisplayOf D U H PlaceV V K R) where
+  pub station_count : (station : PartsOn D P) (bytes : List ℕ) (items : List (Item U)) (side : SideOn H)
+      → LeadsOn rules d station bytes items side → station.live.taken ≡ length bytes
+  station_count station bytes items side l = (is_led rules d station bytes items side l).count
+
+  -- a station that is shut refuses the first byte of a piece
+  pub station_shut : (old new : PartsOn D P) (piece : List ℕ) → 0 < length piece → IsShutOn old
+      → new.screen ≡ old.screen → (byte : ℕ) × (rest : List ℕ) × (piece ≡ take 0 piece ++ byte ∷ rest)
+      × RefusesOn rules d old (take 0 piece) byte Failed new
+  station_shut old new piece some shut same =
+      let f = first_of piece some in (
+        f.0,
+        f.1,
+        f.2,
+        record {
+          led = λ bytes items side l few. absurd (none_leads old.ended old.live.taken (length bytes) l.works
+              (station_count old bytes items side l) (omega (arith, few)) shut);
+          shut = λ over. (refl, refl, same);
+        },
+      )
+
+  -- one that isn't refuses the byte at which it stops
+  pub station_stops : (old new : PartsOn D P) (piece part more : List ℕ) → piece ≡ part ++ more → (used : ℕ)
+      → used ≤ length part → old.live.taken + length part < 2 ^ 64 → (IsShutOn old → ⊥) → (why : Refusal)
+      → StopsWithinOn rules d old new part used why → (byte : ℕ) × (rest : List ℕ)
+      × (piece ≡ take used piece ++ byte ∷ rest) × RefusesOn rules d old (take used piece) byte why new
+  station_stops old new piece part more whole used within fits works why s = (
+    s.byte,
+    s.rest ++ more,
+    front_split piece part more whole used s.byte s.rest within s.split,
+    record {
+      led = stops_by rules d.out (manner_on d) (LeadsOn rules d) IsShutOn (λ (z : PartsOn D P). z.live.taken)
+          station_count old piece part more whole used within fits _ s.refused;
+      shut = λ shut. absurd (works shut);
+    },
+  )
+
+pub host_count : (host : HostParts) (bytes : List ℕ) (items : List (Item AnswerPart)) (side : HostSide)
+    → HostLeads host bytes items side → host.receiver.live.taken ≡ length bytes
+host_count host bytes items side l = l.taken.leads.1.count
+
+-- so does a host end
+pub host_shut : (old new : HostParts) (piece : List ℕ) → 0 < length piece → IsHostShut old
+    → new.screen ≡ old.screen → (byte : ℕ) × (rest : List ℕ) × (piece ≡ take 0 piece ++ byte ∷ rest)
+    × HostRefuses old (take 0 piece) byte Failed new
+host_shut old new piece some shut same =
+    let f = first_of piece some in (
+      f.0,
+      f.1,
+      f.2,
+      record {
+        led = λ bytes items side l few. absurd (none_leads old.ended old.receiver.live.taken (length bytes) l.works
+            (host_count old bytes items side l) (omega (arith, few)) shut);
+        shut = λ over. (refl, refl, same);
+      },
+    )
+
+pub host_stops : (old new : HostParts) (piece part more : List ℕ) → piece ≡ part ++ more → (used : ℕ)
+    → used ≤ length part → old.receiver.live.taken + length part < 2 ^ 64 → (IsHostShut old → ⊥) → (why : Refusal)
+    → HostStopsWithin old new part used why → (byte : ℕ) × (rest : List ℕ)
+    × (piece ≡ take used piece ++ byte ∷ rest) × HostRefuses old (take used piece) byte why new
+host_stops old new piece part more whole used within fits works why s = (
+  s.byte,
+  s.rest ++ more,
+  front_split piece part more whole used s.byte s.rest within s.split,
+  record {
+    led = stops_by answer_rules element_rules host_manner HostLeads IsHostShut
+        (λ (z : HostParts). z.receiver.live.taken) host_count old piece part more whole used within fits _
+        (λ bytes items side l room. come_weaker answer_rules element_rules host_manner
+        (EndsAt old new s.byte why) (λ b its s'. IsHostPushed old new b its s' s.byte (Err why)) bytes items side
+        (take used part) [] [] (λ b its s' e. e.0) (s.refused bytes items side l room));
+    shut = λ shut. absurd (works shut);
+  },
+)

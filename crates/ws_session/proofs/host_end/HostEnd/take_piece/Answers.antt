@@ -1,0 +1,105 @@
+use Rattle.ws_session.proofs.Common.{element_rules, answer_rules, length_rest, host_manner, length}
+use Rattle.ws_session.proofs.Common.{HasHostFed, HostLeads, HostEvent, HostStep, left_of, Refusal, is_some, Option, ◌∙◌}
+use Rattle.ws_session.proofs.Common.{arith, false, None, Some, refl, take, ◌≡◌, ◌+◌, ◌-◌, sym, []}
+use Rattle.ws_session.proofs.Counts.{counted_on, counted_up}
+use Rattle.ws_session.proofs.Feedings.{none_silent, quiet_upto, none_come, quiet_on, value_at, split_on}
+use Rattle.ws_session.proofs.StationFeedings.{host_refused_on, host_fed_on, no_reply}
+use Rattle.ws_session.proofs.host_end.HostEnd.take_piece.Goals as goal
+
+-- an event that is none
+no_event : (event : Option HostEvent) → is_some event ≡ false → event ≡ None
+no_event None h = refl
+no_event (Some e) h = cc
+
+pub loop-used-init : goal.loop-used-init
+loop-used-init c = (
+  omega arith,
+  refl,
+  λ bytes items side l fits. (none_come _ _ _ _ bytes items side l, none_silent _ _ _ bytes items side _),
+  λ fits. omega arith,
+)
+
+pub returns-in-Err-clause-refused : goal.returns-in-Err-clause-refused
+returns-in-Err-clause-refused c =
+    let now = c.loop-used.self in
+    let f = c.take_front-more in
+    let piece = c.args.piece.now in
+    let i = c.loop-used.used in
+    let left = left_of piece i in
+    let k = f.result.used in
+    let why : Refusal = c.in-Err.refusal in
+    let at = value_at left (k - 1) (omega (arith, f.ensures.within, length_rest piece i, c.loop-used-test.true)) in
+    rw c.saturating_sub.ensures (record {
+      byte = at.0;
+      rest = at.1;
+      split = split_on piece i (k - 1) at.0 at.1 at.2;
+      refused = λ bytes items side l fits. host_refused_on bytes items side piece i now
+          (c.loop-used.invariant.2 bytes items side l fits).0 c.args.self.now f.new.self k at.0 why c.loop-used.invariant.1 f.ensures.within
+          at.3 (λ other. f.ensures.used (λ e. other (cc (c.in-Err.is, e)))) (λ b its s m room. rw c.in-Err.is at
+          (f.ensures.fronted b its s m room)) f.ensures.first fits c.loop-used.invariant.0;
+    })
+
+pub returns-in-Err-clause-counted_up : goal.returns-in-Err-clause-counted_up
+returns-in-Err-clause-counted_up c =
+    let now = c.loop-used in
+    let f = c.take_front-more in
+    let why : Refusal = c.in-Err.refusal in
+    counted_up why _ now.self.receiver.live.taken _ now.used _ (length (left_of c.args.piece.now now.used))
+    _ now.invariant.0 f.ensures.within (length_rest c.args.piece.now now.used) now.invariant.3 f.ensures.counted
+    (λ other. f.ensures.used (λ e. other (cc (c.in-Err.is, e)))) (rw c.in-Err.is at f.ensures.at)
+
+pub returns-then-is_some-clause-fed : goal.returns-then-is_some-clause-fed
+returns-then-is_some-clause-fed c = λ bytes items side l fits.
+    let now = c.loop-used.self in
+    let f = c.take_front-more in
+    let piece = c.args.piece.now in
+    let i = c.loop-used.used in
+    let k = f.result.used in
+    let step : HostStep = c.in-Ok.step in
+    host_fed_on bytes items side piece i now (c.loop-used.invariant.2 bytes items side l fits).0 _
+    k step f.ensures.within (f.ensures.used (λ e. cc (c.in-Ok.is, e))) (λ b its s m room. rw c.in-Ok.is at
+    (f.ensures.fronted b its s m room)) f.ensures.first fits c.loop-used.invariant.0
+
+pub returns-then-is_some-clause-first : goal.returns-then-is_some-clause-first
+returns-then-is_some-clause-first c = λ bytes items side l fits.
+    let inv = c.loop-used.invariant.2 bytes items side l fits in
+    quiet_on
+    _ _ _ bytes items side _ _ _ inv.0 _ c.take_front-more.ensures.within c.take_front-more.ensures.first inv.1
+
+pub returns-clause-first : goal.returns-clause-first
+returns-clause-first c = λ bytes items side l fits n lt. (c.loop-used.invariant.2 bytes items side l fits).1 n
+    (omega (arith, lt))
+
+pub loop-used-preserved : goal.loop-used-preserved
+loop-used-preserved c =
+    let untold = no_event c.in-Ok.step.event (sym c.is_some.ensures ∙ c.if-is_some.false) in (
+      omega (
+        arith,
+        c.take_front-more.ensures.within,
+        length_rest c.args.piece.now c.loop-used.used,
+        c.loop-used.invariant.0,
+      ),
+      (rw c.in-Ok.is at c.take_front-more.ensures.quiet) untold ∙ c.loop-used.invariant.1,
+      λ bytes items side l fits. (let now = c.loop-used.self in
+          let f = c.take_front-more in
+          let piece = c.args.piece.now in
+          let i = c.loop-used.used in
+          let k = f.result.used in
+          let step : HostStep = c.in-Ok.step in
+          let inv = c.loop-used.invariant.2 bytes items side l fits in
+          let fed = host_fed_on bytes items side piece i now inv.0 f.new.self k step f.ensures.within
+          (f.ensures.used (λ e. cc (c.in-Ok.is, e))) (λ b its s m room. rw c.in-Ok.is at
+          (f.ensures.fronted b its s m room)) f.ensures.first fits c.loop-used.invariant.0 in
+          let still : HasHostFed f.new.self bytes items side (take (i + k) piece) [] None = rw (
+            no_reply step.reply _ c.as_slice.ensures.value c.is_empty.result c.is_empty.ensures c.if-not-is_empty.false,
+            untold,
+          ) at fed in (
+            still,
+            quiet_upto answer_rules element_rules host_manner bytes items side piece i
+                (HostLeads now) inv.0 (HostLeads f.new.self) k still
+                (quiet_on _ _ _ bytes items side piece i _ inv.0 k f.ensures.within f.ensures.first inv.1),
+          )),
+      counted_on c.args.self.now.receiver.live.taken
+          c.loop-used.self.receiver.live.taken c.take_front-more.new.self.receiver.live.taken
+          c.loop-used.used c.take_front-more.result.used c.loop-used.invariant.3 c.take_front-more.ensures.counted,
+    )

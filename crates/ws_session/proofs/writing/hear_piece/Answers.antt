@@ -1,0 +1,31 @@
+use Rattle.ws_session.proofs.Common.{inl, inr, refl, as_list, take}
+use Rattle.ws_session.proofs.EndFeeds.{last_of, with_next}
+use Rattle.ws_session.proofs.writing.hear_piece.Goals as goal
+
+pub returns-in-Err-write_whole-clause-fault : goal.returns-in-Err-write_whole-clause-fault
+returns-in-Err-write_whole-clause-fault g c =
+    let h = last_of c.args.piece.now c.feed-used.result.used c.feed-used.ensures.within
+    (rw c.in-Ok.is at c.feed-used.ensures.some) in
+    let failed = c.in-Err-write_whole.ensures.err in (
+      h.0,
+      h.1,
+      h.2,
+      inl (
+        failed.0,
+        record {
+          written = g.E.End.written c.feed-used.new.self c.in-Ok.step.reply;
+          told = as_list c.in-Ok.step.event;
+          led = rw c.in-Ok.is at c.feed-used.ensures.fed;
+          failed = rw c.bytes.ensures.value at failed.1;
+        },
+      ),
+    )
+
+pub returns-in-Err-clause-fault : goal.returns-in-Err-clause-fault
+returns-in-Err-clause-fault g c =
+    let r = rw c.in-Err.is at c.feed-used.ensures.refused in (
+      take c.feed-used.result.used c.args.piece.now,
+      r.0,
+      with_next c.args.piece.now c.feed-used.result.used c.feed-used.ensures.within r.0 r.1 r.2,
+      inr (record { refusal = c.in-Err.refusal; refused = r.3; is = c.fault_of.ensures; unwritten = refl }),
+    )
