@@ -1,0 +1,62 @@
+#!/usr/bin/env python3
+"""What a byte of a live session costs: `t5250 connect` at a host that sends screens, in instructions.
+
+Build the program first (`cd crates/t5250 && rt run -- check < stdin`), then call this script from anywhere, with another
+program's path if it is to be that one. It needs `valgrind`. Each stream is sent in a short and in a long session, and
+the difference is told, so what a start costs is taken off. Compare with `ribbon_station_push` of `make -C c bench`,
+which takes the same bytes without a connection.
+"""
+import os
+import re
+import socket
+import subprocess
+import sys
+import threading
+
+PROGRAM = os.path.join(os.path.dirname(__file__), "..", "crates", "t5250", "out", "t5250")
+# DO TERMINAL-TYPE and SEND; DO and WILL END-OF-RECORD; DO and WILL BINARY.
+OPENING = bytes.fromhex("FFFD18 FFFA1801FFF0 FFFD19 FFFB19 FFFD00 FFFB00")
+
+
+def record(body):
+    """A record of opcode 2 (Output Only) with its end, each FF doubled."""
+    whole = (10 + len(body)).to_bytes(2, "big") + bytes.fromhex("12A00000040000") + b"\x02" + body
+    return whole.replace(b"\xff", b"\xff\xff") + b"\xff\xef"
+
+
+# A form clears the screen, puts a field on it and asks for it; the rows are a whole screen of text.
+STREAMS = {
+    "small forms": (record(bytes.fromhex("0440 04110000 110634 1D400020000A 04520000")), 500, 5_500),
+    "rows of text": (record(bytes.fromhex("04110000 110101") + bytes([0xC1, 0xC2, 0x40, 0xD5]) * 437), 10, 110),
+}
+
+
+def serve(listening, stream):
+    """Sends a session, reads what comes back, and closes."""
+    line, _ = listening.accept()
+    with line:
+        line.sendall(OPENING)
+        threading.Thread(target=lambda: [None for _ in iter(lambda: line.recv(65_536), b"")], daemon=True).start()
+        line.sendall(stream)
+        line.shutdown(socket.SHUT_WR)
+
+
+def instructions(program, stream):
+    """How many `connect` takes that waits until the host has closed."""
+    with socket.create_server(("127.0.0.1", 0)) as listening:
+        threading.Thread(target=serve, args=(listening, stream), daemon=True).start()
+        counter = ["valgrind", "--tool=callgrind", "--callgrind-out-file=/dev/null", program]
+        host = f"127.0.0.1:{listening.getsockname()[1]}"
+        run = subprocess.run([*counter, "connect", "--wait", "120", host], input="await\n", capture_output=True, text=True)
+    counted = re.search(r"Collected : (\d+)", run.stderr)
+    return int(counted[1]) if counted else sys.exit(f"not counted: {run.stderr[-300:]}")
+
+
+def main():
+    program = sys.argv[1] if len(sys.argv) > 1 else PROGRAM
+    for name, (unit, few, many) in STREAMS.items():
+        spent = instructions(program, unit * many) - instructions(program, unit * few)
+        print(f"{name:<14}{spent / (len(unit) * (many - few)):8.1f} instructions a byte")
+
+
+main()
