@@ -31,9 +31,11 @@ use Rattle.ws_extended.specs.declared.extended_element.ExtendedElement.TheVarian
 use Rattle.ws_extended.specs.declared.extended_place.ExtendedPlace.{ExtendedPlace}
 use Rattle.ws_extended.specs.declared.extended_place.ExtendedPlace.TheVariants.{InProfile, ErrorText}
 use Rattle.ws_extended.specs.declared.extended_place.ExtendedPlace.TheVariants.{Asked as BehindAsk}
+use Rattle.ws_extended_station.specs.CarriedOut.{HasHeard}
 use Rattle.ws_extended_station.specs.ExtendedRecords.{elements_fault}
-use Rattle.ws_extended_station.proofs.Reading.{HasRead, IsSlotRun, RanOne, never_bad, ran_none, ran_some, read_all}
-use Rattle.ws_extended_station.proofs.Reading.{read_front, read_none, read_run}
+use Rattle.ws_extended_station.specs.declared.heard.Heard.{Heard}
+use Rattle.ws_session.proofs.Reading.{HasRead, IsSlotRun, RanOne, never_bad, ran_none, ran_some, read_all}
+use Rattle.ws_session.proofs.Reading.{read_front, read_none, read_run}
 
 -- where the element stands that a machine reads, and its bytes so far
 abbrev pub reading_by : ExtendedCommands → Reading ExtendedPlace
@@ -88,34 +90,34 @@ fault_behind state (v ∷ us) u more none =
     ap (λ (o : Option Reason). option_or o (elements_fault (state_after state v) (us ++ u ∷ more))) both.0
     ∙ fault_behind (state_after state v) us u more both.1
 
--- The elements that are whole so far are carried out, none of them was refused, and this is what they ask.
-pub record Applied (from now : ExtendedParts) (bytes : List ℕ) (asked : Asked) (reading : Reading ExtendedPlace)
+-- The elements that are whole so far are carried out, none of them was refused, and this is what they bring.
+pub record Applied (from now : ExtendedParts) (bytes : List ℕ) (heard : Heard) (reading : Reading ExtendedPlace)
     : Type 0 where
   pub units : List ExtendedElement
   pub read : HasRead extended_rules bytes units reading
   pub open_ : is_some now.screen.writing ≡ is_open_at reading.place
-  pub asks : HasAsked (asks_in units) asked.ask asked.refused
+  pub heard_is : HasHeard units heard
   pub gives : (state : ExtendedState) → Shows state from
       → (elements_fault state units ≡ None) × Shows (state_after_all state units) now
 
-pub applied_none : (from : ExtendedParts) (asked : Asked) (reading : Reading ExtendedPlace)
-    → from.screen.writing ≡ None → HasAsked [] asked.ask asked.refused → reading ≡ beginning
-    → Applied from from [] asked reading
-applied_none from asked reading closed none first = record {
+pub applied_none : (from : ExtendedParts) (heard : Heard) (reading : Reading ExtendedPlace)
+    → from.screen.writing ≡ None → HasHeard [] heard → reading ≡ beginning
+    → Applied from from [] heard reading
+applied_none from heard reading closed none first = record {
   units = [];
   read = read_none extended_rules extended_begins reading first;
   open_ = ap is_some closed ∙ ap (λ (r : Reading ExtendedPlace). is_open_at r.place) (sym first);
-  asks = none;
+  heard_is = none;
   gives = λ state shows. (refl, shows);
 }
 
-pub applied_at : (from now now' : ExtendedParts) (bytes bytes' : List ℕ) (asked asked' : Asked)
-    (reading : Reading ExtendedPlace) → now' ≡ now → bytes' ≡ bytes → asked' ≡ asked
-    → Applied from now bytes asked reading → Applied from now' bytes' asked' reading
-applied_at from now now' bytes bytes' asked asked' reading e f g a = rw (e, f, g) a
+pub applied_at : (from now now' : ExtendedParts) (bytes bytes' : List ℕ) (heard heard' : Heard)
+    (reading : Reading ExtendedPlace) → now' ≡ now → bytes' ≡ bytes → heard' ≡ heard
+    → Applied from now bytes heard reading → Applied from now' bytes' heard' reading
+applied_at from now now' bytes bytes' heard heard' reading e f g a = rw (e, f, g) a
 
-module _ (from now : ExtendedParts) (bytes : List ℕ) (asked : Asked) (reading : Reading ExtendedPlace)
-    (a : Applied from now bytes asked reading) where
+module _ (from now : ExtendedParts) (bytes : List ℕ) (heard : Heard) (reading : Reading ExtendedPlace)
+    (a : Applied from now bytes heard reading) where
   -- all of a body
   pub applied_all : (body : List ExtendedElement) → IsChain extended_rules extended_rules.first body
       → bytes ≡ spelling_of extended_rules body → a.units ≡ body
@@ -133,14 +135,14 @@ module _ (from now : ExtendedParts) (bytes : List ℕ) (asked : Asked) (reading 
   pub applied_still : (values : List ℕ) (to : Reading ExtendedPlace) (standing : Standing ExtendedPlace)
       (slot : Option ExtendedElement) (end : End) → IsSlotRun extended_rules reading values to standing slot end
       → slot ≡ None → ((reason : Reason) → end ≡ Bad reason → ⊥)
-      → Applied from now (bytes ++ values) asked to × IsAt extended_rules to standing
+      → Applied from now (bytes ++ values) heard to × IsAt extended_rules to standing
   applied_still values to standing slot end run none good =
       let on = ran_none extended_rules bytes a.units reading a.read values to standing slot end run none good in (
         record {
           units = a.units;
           read = on.0;
           open_ = a.open_ ∙ ap is_open_at (a.read.at_place ∙ sym on.0.at_place);
-          asks = a.asks;
+          heard_is = a.heard_is;
           gives = a.gives;
         },
         on.1,
@@ -152,18 +154,17 @@ module _ (from now : ExtendedParts) (bytes : List ℕ) (asked : Asked) (reading 
     one_finds_write = finds_write u reading.place now.screen one.stands.may_follow a.open_
 
     -- one more is carried out
-    pub applied_one : (new : ExtendedParts) (asked' : Asked)
+    pub applied_one : (new : ExtendedParts) (heard' : Heard)
         → ((state : ExtendedState) → Shows state now → None ≡ state_fault state u)
         → ((state : ExtendedState) → Shows state now → Shows (state_after state u) new)
         → is_some new.screen.writing ≡ leaves_write_open u
-        → ((us : List ExtendedElement) → HasAsked (asks_in us) asked.ask asked.refused
-        → HasAsked (asks_in (us ++ u ∷ [])) asked'.ask asked'.refused)
-        → Applied from new (bytes ++ values) asked' to
-    applied_one new asked' none after open_ keeps = record {
+        → ((us : List ExtendedElement) → HasHeard us heard → HasHeard (us ++ u ∷ []) heard')
+        → Applied from new (bytes ++ values) heard' to
+    applied_one new heard' none after open_ hears = record {
       units = a.units ++ u ∷ [];
       read = one.one_more;
       open_ = open_ ∙ sym (open_behind u) ∙ ap (λ (r : Reading ExtendedPlace). is_open_at r.place) (sym one.behind);
-      asks = keeps a.units a.asks;
+      heard_is = hears a.units a.heard_is;
       gives = λ state shows. (let before = a.gives state shows in (
         fault_behind state a.units u [] before.0
             ∙ ap (λ (o : Option Reason). option_or o None) (sym (none (state_after_all state a.units) before.1)),

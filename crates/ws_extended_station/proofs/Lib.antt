@@ -1,8 +1,8 @@
+pub mod AlarmLaws
 pub mod Beside
 pub mod BesideRuns
 pub mod CarryingOut
 pub mod ErrorRows
 pub mod Pressing
-pub mod Reading
 pub mod SavedLaws
 pub mod WrittenLaws

@@ -18,7 +18,7 @@ use Rattle.ws_extended.specs.ExtendedKeys.{waits_for_reset}
 use Rattle.ws_extended.specs.ExtendedViews.{ExtendedParts}
 use Rattle.ws_session.specs.Displays.{HasPressed, RefusesKey, Silent, Answers}
 use Rattle.ws_session.specs.StationSide.{KeyReaction, StationSide, answers_read, key_by_refusal, presses, profile}
-use Rattle.ws_session.specs.StationSide.{screen_at}
+use Rattle.ws_session.specs.StationSide.{ProfileParts, screen_at}
 use Rattle.ws_session.specs.declared.key_fault.KeyFault.TheVariants.{Key as Refused}
 use Rattle.ws_session.proofs.ProfileKeys.{pressed}
 use Rattle.ws_extended_station.specs.ExtendedDisplays.{DisplayParts, ExtendedGives, ExtendedSide, as_profile}
@@ -57,6 +57,10 @@ module _ (d : DisplayParts) (s : ExtendedSide) (given : ExtendedGives s.happened
   abbrev held : Bool
   held = is_some s.happened.state.kept && waits_for_reset key
 
+  -- the display as one of the profile, with a screen
+  abbrev with_screen : ScreenParts → ProfileParts
+  with_screen screen = record { screen = screen; alarms = d.alarms }
+
   stays : (r : KeyReaction) → profile.presses (profile_side s) key ≡ r → StaysInRow (profile_side s) r
   stays r e = subst (λ (x : KeyReaction). StaysInRow (profile_side s) x) e (key_stays (profile_side s) key)
 
@@ -65,25 +69,29 @@ module _ (d : DisplayParts) (s : ExtendedSide) (given : ExtendedGives s.happened
   reacts r free e = ap (λ (t : Bool). if t then RefusesKey (Refused Locked)
       else as_profile s (profile.presses (profile_side s) key)) free ∙ ap (as_profile s) e
 
-  comes : (new : ScreenParts) (next : StationSide) → profile.gives next.happened new
+  comes : (new : ScreenParts) (next : StationSide) → profile.gives next.happened (with_screen new)
       → error_row s.happened.state.history ≡ error_row next.happened
       → ExtendedGives (with_profile s next).happened (record d { display = record d.display { screen = new } })
   comes new next gives row = record {
     shows = record {
-      gives = gives;
+      gives = gives.shows;
       row_is = given.shows.row_is ∙ row;
       kept_is = given.shows.kept_is;
       text_is = given.shows.text_is;
     };
+    sounds = gives.sounds;
     terminal_is = given.terminal_is;
   }
 
   -- a key that doesn't wait does here what it does in the profile
   as_there : (new : ScreenParts) (result : Result (Option Answer) KeyRefusal) → held ≡ false
-      → HasPressed profile d.display.screen new (profile_side s) key result
+      → HasPressed profile (with_screen d.display.screen) (with_screen new) (profile_side s) key result
       → HasPressed extended d (record d { display = record d.display { screen = new } }) s (Profile key) result
-  as_there new (Err refusal) free p =
-      (reacts _ free p.0, ap (λ (w : ScreenParts). record d { display = record d.display { screen = w } }) p.1)
+  as_there new (Err refusal) free p = (
+    reacts _ free p.0,
+    ap (λ (w : ProfileParts).
+        record d { display = record d.display { screen = w.screen } }) p.1,
+  )
   as_there new (Ok None) free p = (
     with_profile s p.0,
     reacts _ free p.1,
@@ -124,7 +132,8 @@ module _ (d : DisplayParts) (s : ExtendedSide) (given : ExtendedGives s.happened
           )
       go false e =
           let is = does (now_held ∙ e) in
-          let there = pressed d.display.screen (profile_side s) given.shows.gives size key new.screen result is
+          let there = pressed (with_screen d.display.screen) (profile_side s)
+          (record { shows = given.shows.gives; sounds = given.sounds }) size key new.screen result is
           (does_follow (refusals d.display.screen key) (edit_of d.display.screen key)
           (answer_to d.display.screen key) d.display.screen new.screen result is) in
           subst (λ (p : ExtendedParts). HasPressed extended d (record d { display = p }) s (Profile key) result)

@@ -30,10 +30,12 @@ use Rattle.ws_extended.proofs.StateLaws.{saved_is_body}
 use Rattle.ws_session.specs.Displays.{KeyReactionOn, Silent}
 use Rattle.ws_session.specs.StationSide.{opcode_events}
 use Rattle.ws_extended_station.specs.BesideProfile.{NoErrorStands}
+use Rattle.ws_extended_station.specs.ExtendedAlarms.{extended_alarms_in}
 use Rattle.ws_extended_station.specs.ExtendedDisplays.{ExtendedHappened, ExtendedSide, extended, with_state}
 use Rattle.ws_extended_station.specs.ExtendedRecords.{record_fault, state_after_record}
 use Rattle.ws_extended_station.specs.SavedScreens.{BringsBack, ComesBack, IsSaved}
 use Rattle.ws_extended_station.specs.declared.extended_key.ExtendedKey.TheVariants.{Reset}
+use Rattle.ws_extended_station.proofs.AlarmLaws.{alarms_behind_record, saved_silent}
 use Rattle.ws_extended_station.proofs.Beside.{asks_nothing, elements_alike}
 use Rattle.ws_extended_station.proofs.ErrorRows.{error_row_is, row_again}
 
@@ -85,6 +87,12 @@ module _ (terminal : TerminalType) (saved : ExtendedState) (screen : ScreenParts
         row = ap (λ (k : ExtendedState). error_row k.history) after ∙ restored_row row screen state
             ∙ row_again row (error_row_is saved.history);
         none_stands = ap (λ (k : ExtendedState). k.kept) after ∙ none_stands row screen state;
+        silent = omega (
+          arith,
+          alarms_behind_record state r,
+          ap extended_alarms_in body,
+          saved_silent row screen,
+        );
       }
 
 -- RESET

@@ -13,6 +13,7 @@ use Rattle.ws_extended.specs.ExtendedKeys.{waits_for_reset}
 use Rattle.ws_extended.specs.ExtendedStates.{ExtendedState, state_after_reset}
 use Rattle.ws_extended.specs.ExtendedViews.{ExtendedParts, Shows}
 use Rattle.ws_extended.specs.declared.extended_element.ExtendedElement.{ExtendedElement}
+use Rattle.ws_session.specs.Alarms.{alarm_count, alarms_of}
 use Rattle.ws_session.specs.declared.key_fault.KeyFault.TheVariants.{Key as Refused}
 use Rattle.ws_session.specs.Displays.{DisplayOf, SideOn, KeyReactionOn, RefusesKey, Silent, Answers, Signals}
 use Rattle.ws_session.specs.Reaction.{Reaction, Refuses, GoesOn}
@@ -24,9 +25,11 @@ use Rattle.ws_extended_station.specs.declared.extended_key.ExtendedKey.TheVarian
 use Rattle.ws_extended_station.specs.declared.extended_reply.ExtendedReply.{ExtendedReply}
 use Rattle.ws_extended_station.specs.declared.extended_reply.ExtendedReply.TheVariants.{Bytes, Kept as IsKept}
 
--- a display that live hosts use, its terminal, and the bytes that its last record had it write
+-- a display that live hosts use, how many alarms have sounded, its terminal, and the bytes that its last record had it
+-- write
 pub record DisplayParts : Type 0 where
   pub display : ExtendedParts
+  pub alarms : ℕ
   pub terminal : TerminalType
   pub told : List ℕ
 
@@ -38,6 +41,7 @@ pub record ExtendedHappened : Type 0 where
 -- what happened gives this display
 pub record ExtendedGives (h : ExtendedHappened) (d : DisplayParts) : Type 0 where
   pub shows : Shows h.state d.display
+  pub sounds : d.alarms ≡ alarm_count (alarms_of h.state.history)
   pub terminal_is : d.terminal ≡ h.terminal
 
 -- the row on which an error stands, if one does
@@ -107,6 +111,8 @@ extended = record {
   gives = λ h d. ExtendedGives h d;
   shows = λ h. screen_of h.state.history;
   shown = λ d. d.display.screen;
+  sounds = λ h. alarms_of h.state.history;
+  sounded = λ d. d.alarms;
   applies = λ s r. extended_applies s r (record_fault s.happened.state r.body);
   sends = extended_sends;
   presses = extended_presses;

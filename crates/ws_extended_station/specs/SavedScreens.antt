@@ -13,6 +13,7 @@ use Rattle.ws_extended.specs.Image.{IsTyped}
 use Rattle.ws_extended.specs.Telling.{told_bytes}
 use Rattle.ws_extended.specs.declared.ask.Ask.TheVariants.{SaveScreen}
 use Rattle.ws_extended.specs.declared.extended_element.ExtendedElement.{ExtendedElement}
+use Rattle.ws_session.specs.Alarms.{alarms_of}
 use Rattle.ws_session.specs.StationSide.{opcode_events}
 use Rattle.ws_extended_station.specs.ExtendedRecords.{record_fault, state_after_record}
 
@@ -30,10 +31,11 @@ pub record BringsBack (terminal : TerminalType) (state : ExtendedState) (r : Rec
   pub idle : opcode_events r.opcode ≡ []
 
 -- the record, on a display of this state, isn't refused and leaves the screen and the error line that were saved; no
--- error stands
+-- error stands, and no alarm sounds
 pub record ComesBack (saved : ExtendedState) (screen : ScreenParts) (state : ExtendedState) (r : Record ExtendedElement)
     : Type 0 where
   pub unrefused : record_fault state r.body ≡ None
   pub same : screen ≡ screen_of (state_after_record state r).history
   pub row : error_row (state_after_record state r).history ≡ error_row saved.history
   pub none_stands : (state_after_record state r).kept ≡ None
+  pub silent : alarms_of (state_after_record state r).history ≡ alarms_of state.history

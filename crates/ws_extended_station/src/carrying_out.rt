@@ -9,12 +9,13 @@ ghost use Rattle.ws_extended.specs.declared.extended_element.ExtendedElement.{Ex
 ghost use Rattle.ws_extended_station.specs.CarriedOut.{AreCarriedOut, IsAppliedTo, IsJudged};
 ghost use Rattle.ws_extended_station.specs.ExtendedRecords.{state_after_opcode};
 
-use ws_code::{Code, End, Keep, Reason, Standing};
-use ws_extended::{Ask, Asked, ExtendedCommands, ExtendedElement, ExtendedScreen};
+use crate::heard::Heard;
+use ws_code::{Code, End, Reason, Standing};
+use ws_extended::{Asked, ExtendedCommands, ExtendedElement, ExtendedScreen};
 use ws_record::Opcode;
 
-// Carries out the elements that the bytes spell, up to the first that is refused, and tells what they ask.
-fn apply_spelled(display: &mut ExtendedScreen, bytes: &[u8]) -> Result<Asked, Reason>
+// Carries out the elements that the bytes spell, up to the first that is refused, and tells what they bring.
+fn apply_spelled(display: &mut ExtendedScreen, bytes: &[u8]) -> Result<Heard, Reason>
     requires closed { display.old.screen.writing ≡ None }
     ensures { (state : ExtendedState) (body : List AnElement)
         → IsChain extended_rules extended_rules.first body
@@ -27,7 +28,7 @@ fn apply_spelled(display: &mut ExtendedScreen, bytes: &[u8]) -> Result<Asked, Re
         place,
         is_inside: false,
     };
-    let mut asked = Asked::new();
+    let mut heard = Heard::new();
     let mut used = 0;
     while used < bytes.len() {
         let mut slot: Option<ExtendedElement> = None;
@@ -35,13 +36,13 @@ fn apply_spelled(display: &mut ExtendedScreen, bytes: &[u8]) -> Result<Asked, Re
         used += run.used;
         if let Some(element) = slot {
             display.apply(&element)?;
-            let _goes_on = asked.keep(element);
+            heard.hear(element);
         }
         if let End::Bad(reason) = run.end {
             return Err(reason);
         }
     }
-    Ok(asked)
+    Ok(heard)
 }
 
 // What the elements ask that the bytes spell.
@@ -61,8 +62,8 @@ fn asked_in(bytes: &[u8]) -> Asked
     asked
 }
 
-// Carries out the elements that the bytes spell, if the record isn't refused, and tells what they ask.
-fn carry_out(display: &mut ExtendedScreen, bytes: &[u8]) -> Result<Option<Ask>, Reason>
+// Carries out the elements that the bytes spell, if the record isn't refused, and tells what they bring.
+fn carry_out(display: &mut ExtendedScreen, bytes: &[u8]) -> Result<Heard, Reason>
     requires closed { display.old.screen.writing ≡ None }
     ensures { (state : ExtendedState) (body : List AnElement)
         → IsChain extended_rules extended_rules.first body
@@ -70,9 +71,9 @@ fn carry_out(display: &mut ExtendedScreen, bytes: &[u8]) -> Result<Option<Ask>, 
         → IsJudged state body display.new result }
 {
     match apply_spelled(display, bytes) {
-        Ok(asked) => match asked.refused {
+        Ok(heard) => match heard.asked.refused {
             Some(reason) => Err(reason),
-            None => Ok(asked.ask),
+            None => Ok(heard),
         },
         Err(reason) => Err(asked_in(bytes).refused.unwrap_or(reason)),
     }
@@ -92,14 +93,14 @@ fn act(display: &mut ExtendedScreen, opcode: Opcode)
     }
 }
 
-/// Carries out a record whose body these bytes spell, and tells what it asks at once. Where it is refused, the display
-/// comes back from `before`, which is room for that.
+/// Carries out a record whose body these bytes spell, and tells what it asks at once and how many alarms it sounds.
+/// Where it is refused, the display comes back from `before`, which is room for that.
 pub(crate) fn apply_kept(
     display: &mut ExtendedScreen,
     before: &mut ExtendedScreen,
     opcode: Opcode,
     kept: &[u8],
-) -> Result<Option<Ask>, Reason>
+) -> Result<Heard, Reason>
     requires closed { display.old.screen.writing ≡ None }
     ensures applied { (state : ExtendedState) (body : List AnElement)
         → IsChain extended_rules extended_rules.first body
@@ -111,10 +112,10 @@ pub(crate) fn apply_kept(
 {
     before.assign(display);
     match carry_out(display, kept) {
-        Ok(ask) => {
+        Ok(heard) => {
             display.end_write();
             act(display, opcode);
-            Ok(ask)
+            Ok(heard)
         }
         Err(reason) => {
             display.assign(before);

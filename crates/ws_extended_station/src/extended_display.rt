@@ -21,12 +21,14 @@ use ws_record::{Head, Opcode};
 use ws_screen::Screen;
 use ws_session::{ProfileDisplay, StationDisplay, StationOn};
 
-/// The display that live hosts use: a screen with an error line, which is asked at once for what it shows.
+/// The display that live hosts use: a screen with an error line, which is asked at once for what it shows, and the
+/// count of the host's alarms.
 ///
 /// A contract sees it as the record `DisplayParts`.
 #[derive(Drop)]
 pub struct ExtendedDisplay {
     screen: ExtendedScreen,
+    alarms: u64,
     /// Room for the display before a record, which comes back where the record is refused.
     before: ExtendedScreen,
     terminal: TerminalType,
@@ -43,7 +45,7 @@ impl Model for ExtendedDisplay {
 
     ghost Value = { DisplayParts };
 
-    ghost view = { λ d. record { display = d.screen; terminal = d.terminal; told = d.told.items } };
+    ghost view = { λ d. record { display = d.screen; alarms = d.alarms; terminal = d.terminal; told = d.told.items } };
 
     // Between records no write is open.
     ghost invariant = { λ d. d.screen.screen.writing ≡ None };
@@ -130,6 +132,7 @@ impl StationDisplay for ExtendedDisplay {
         let told = ArrayVec::new();
         ExtendedDisplay {
             screen,
+            alarms: 0,
             before,
             terminal,
             told,
@@ -149,8 +152,10 @@ impl StationDisplay for ExtendedDisplay {
 
     fn apply(&mut self, head: Head, kept: &[u8]) -> Result<ExtendedReply, Reason> {
         match apply_kept(&mut self.screen, &mut self.before, head.opcode, kept) {
-            Ok(ask) => {
+            Ok(heard) => {
+                self.alarms = self.alarms.saturating_add(heard.alarms);
                 self.told.clear();
+                let ask = heard.asked.ask;
                 put_asked(&mut self.told, &self.screen, self.terminal, ask);
                 put_opcode_answer(&mut self.told, head.opcode);
                 Ok(ExtendedReply::Kept)
@@ -181,6 +186,10 @@ impl StationDisplay for ExtendedDisplay {
 
     fn screen(&self) -> &Screen {
         self.screen.screen()
+    }
+
+    fn alarms(&self) -> u64 {
+        self.alarms
     }
 
     ghost spells = { λ screen kind aid. spelled_alike (answer_record screen kind aid ∷ []) };

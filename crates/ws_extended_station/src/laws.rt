@@ -1,6 +1,6 @@
 // What holds of the display that live hosts use by its definition. These functions do nothing: a caller gets the law
 // by the call.
-ghost use Rattle.std.specs.Prelude.{◌≡◌, ◌∷◌, [], ℕ, List, None, false, map, unwrap_or};
+ghost use Rattle.std.specs.Prelude.{◌≡◌, ◌+◌, ◌∷◌, [], ℕ, List, None, false, map, unwrap_or};
 ghost use Rattle.std.specs.List.{AllByRecursion};
 ghost use Rattle.ws_code.specs.Code.{IsWhole, spelling_of};
 ghost use Rattle.ws_nego.specs.declared.terminal.TerminalType.{TerminalType};
@@ -23,6 +23,7 @@ ghost use Rattle.ws_extended.specs.declared.ask.Ask.TheVariants.{SaveScreen};
 ghost use Rattle.ws_extended.specs.declared.extended_element.ExtendedElement.{ExtendedElement as AnElement};
 ghost use Rattle.ws_extended.specs.declared.extended_element.ExtendedElement.TheVariants.{Text, WriteError};
 ghost use Rattle.ws_session.specs.Acts.{Act, Happening, HasGone, doing};
+ghost use Rattle.ws_session.specs.Alarms.{alarms_of};
 ghost use Rattle.ws_session.specs.Displays.{Silent};
 ghost use Rattle.ws_session.specs.Reaction.{GoesOn};
 ghost use Rattle.ws_session.specs.StationManners.{key_on, manner_on, takes_on};
@@ -30,6 +31,7 @@ ghost use Rattle.ws_session.specs.StationSide.{StationSide, opcode_events, profi
 ghost use Rattle.ws_session.specs.declared.end_step.Applied.{Applied};
 ghost use Rattle.ws_extended_station.specs.BesideProfile.{HasCome, NoErrorStands, act_there, as_reacted, item_there};
 ghost use Rattle.ws_extended_station.specs.Bytewise.{by_bytes};
+ghost use Rattle.ws_extended_station.specs.ExtendedAlarms.{extended_alarms_in};
 ghost use Rattle.ws_extended_station.specs.ExtendedDisplays.{ExtendedSide, as_profile, extended, profile_side, with_profile, with_state};
 ghost use Rattle.ws_extended_station.specs.ExtendedRecords.{record_writes, state_after_record};
 ghost use Rattle.ws_extended_station.specs.SavedScreens.{BringsBack, ComesBack, IsSaved};
@@ -59,7 +61,8 @@ pub fn acts_as_profile()
 {}
 
 /// What a display tells when it is saved is a body of a live host. As a record it is refused by no display, whatever
-/// stands on it, and leaves the screen that was saved, its error line too.
+/// stands on it, and leaves the screen that was saved, its error line too. It sounds no alarm, also where the screen that
+/// was saved came by a Write that did.
 pub fn saved_screen_comes_back()
     ensures body { (terminal : TerminalType) (saved : ExtendedState) (screen : ScreenParts)
         → IsSaved saved screen → (body : List AnElement) × IsWhole extended_rules body
@@ -67,6 +70,16 @@ pub fn saved_screen_comes_back()
     ensures back { (terminal : TerminalType) (saved : ExtendedState) (screen : ScreenParts)
         → IsSaved saved screen → (state : ExtendedState) (r : Record AnElement)
         → BringsBack terminal saved r → ComesBack saved screen state r }
+{}
+
+/// The alarm sounds at each Write of a record whose second control character has the bit for it, and at nothing else: not
+/// at an error or its text, nor where a row comes back, at Reset or before another element.
+pub fn only_writes_sound()
+    ensures records { (state : ExtendedState) (r : Record AnElement)
+        → alarms_of (state_after_record state r).history
+        ≡ alarms_of state.history + extended_alarms_in r.body }
+    ensures reset { (state : ExtendedState)
+        → alarms_of (state_after_reset state).history ≡ alarms_of state.history }
 {}
 
 /// Behind a record of Write Error Code and its text, Reset leaves the screen as it was but for the lock and the

@@ -6,6 +6,7 @@ mod carrying_out;
 mod extended_display;
 mod extended_key;
 mod extended_reply;
+mod heard;
 mod laws;
 mod record_bytes;
 
@@ -13,5 +14,6 @@ pub use extended_display::{ExtendedDisplay, ExtendedStation};
 pub use extended_key::ExtendedKey;
 pub use extended_reply::ExtendedReply;
 pub use laws::{
-    acts_as_profile, reset_takes_errors_back, saved_screen_comes_back, writes_nothing_else,
+    acts_as_profile, only_writes_sound, reset_takes_errors_back, saved_screen_comes_back,
+    writes_nothing_else,
 };

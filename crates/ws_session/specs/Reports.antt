@@ -8,6 +8,7 @@ use Rattle.ws_screen.specs.Formats.{fields}
 use Rattle.ws_stream.specs.AnswerParts.{answer_rules}
 use Rattle.ws_stream.specs.Elements.{element_rules}
 use Rattle.ws_session.specs.declared.world.Event.{Event}
+use Rattle.ws_session.specs.Alarms.{alarm_count, alarms_of}
 use Rattle.ws_session.specs.HostLeads.{HostParts, HostLeads}
 use Rattle.ws_session.specs.HostSide.{asked_read}
 use Rattle.ws_session.specs.StationLeads.{StationParts, StationLeads}
@@ -19,7 +20,8 @@ use Rattle.ws_session.specs.World.{World, down_bytes, up_bytes, to_station, to_h
 pub record IsReport (told : List Event) (station : StationParts) (host : HostParts) (down up : List ℕ)
     (w : World) : Type 0 where
   pub events : told ≡ w.events
-  pub screen : station.screen ≡ screen_at w.station
+  pub screen : station.screen.screen ≡ screen_at w.station
+  pub alarms : station.screen.alarms ≡ alarm_count (alarms_of w.station.happened)
   pub station_options : station.options ≡ w.station.options
   pub host_options : host.options ≡ w.host.options
   pub fields : host.screen.fields ≡ fields w.host.kept

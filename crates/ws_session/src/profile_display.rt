@@ -14,21 +14,24 @@ use ws_record::Head;
 use ws_screen::Screen;
 use ws_stream::Commands;
 
-/// The display of the profile: a screen.
+/// The display of the profile: a screen, and the count of the host's alarms.
+///
+/// A contract sees it as the record `ProfileParts`.
 #[derive(Drop)]
 pub struct ProfileDisplay {
     screen: Screen,
+    alarms: u64,
     /// Room for the screen before a record, which comes back where the record is refused.
     before: Screen,
 }
 
 impl Model for ProfileDisplay {
     ghost use Rattle.std.specs.Prelude.{◌≡◌, None};
-    ghost use Rattle.ws_screen.specs.ScreenParts.{ScreenParts};
+    ghost use Rattle.ws_session.specs.StationSide.{ProfileParts};
 
-    ghost Value = { ScreenParts };
+    ghost Value = { ProfileParts };
 
-    ghost view = { λ d. d.screen };
+    ghost view = { λ d. record { screen = d.screen; alarms = d.alarms } };
 
     // Between records no write is open.
     ghost invariant = { λ d. d.screen.writing ≡ None };
@@ -52,7 +55,11 @@ impl StationDisplay for ProfileDisplay {
     fn new(_terminal: TerminalType) -> Self {
         let screen = Screen::new();
         let before = Screen::new();
-        ProfileDisplay { screen, before }
+        ProfileDisplay {
+            screen,
+            alarms: 0,
+            before,
+        }
     }
 
     fn reply(bytes: Reply) -> Reply {
@@ -65,7 +72,10 @@ impl StationDisplay for ProfileDisplay {
 
     fn apply(&mut self, head: Head, kept: &[u8]) -> Result<Reply, Reason> {
         match apply_kept(&mut self.screen, &mut self.before, head.opcode, kept) {
-            Ok(()) => Ok(opcode_reply(head.opcode)),
+            Ok(sounded) => {
+                self.alarms = self.alarms.saturating_add(sounded);
+                Ok(opcode_reply(head.opcode))
+            }
             Err(reason) => Err(reason),
         }
     }
@@ -81,6 +91,10 @@ impl StationDisplay for ProfileDisplay {
 
     fn screen(&self) -> &Screen {
         &self.screen
+    }
+
+    fn alarms(&self) -> u64 {
+        self.alarms
     }
 
     ghost spells = { λ screen kind aid. refl };

@@ -5,6 +5,7 @@ ghost use Rattle.ws_record.specs.Encode.{plain_spelling};
 ghost use Rattle.ws_stream.specs.AnswerParts.{answer_rules};
 ghost use Rattle.ws_screen.specs.ScreenParts.{ScreenParts};
 ghost use Rattle.ws_screen.specs.declared.read_kind.ReadKind.{ReadKind as AReadKind};
+ghost use Rattle.ws_session.specs.Alarms.{alarm_count};
 ghost use Rattle.ws_session.specs.StationSide.{answer_record};
 ghost use Rattle.ws_session.specs.Displays.{DisplayOf, SideOn, IsApplied, HasPressed};
 
@@ -75,6 +76,12 @@ pub trait StationDisplay: Drop {
     /// The screen.
     fn screen(&self) -> &Screen
         ensures screen { result.now ≡ does.shown self.now };
+
+    /// How many alarms have sounded, up to 18,446,744,073,709,551,615.
+    fn alarms(&self) -> u64
+        ensures told { result ≡ does.sounded self.now }
+        ensures sounded { (h : Happened) → does.gives h self.now
+            → result ≡ alarm_count (does.sounds h) };
 
     // The record that answers a read is spelled as the profile's.
     ghost spells: { (screen : ScreenParts) (kind : AReadKind) (aid : ℕ)

@@ -2,7 +2,8 @@
 ghost use Rattle.std.specs.Prelude.{◌≡◌, List, ℕ, length};
 ghost use Rattle.ws_nego.specs.Station.{station_allows_records};
 ghost use Rattle.ws_record.specs.declared.record.Item.{Item};
-ghost use Rattle.ws_session.specs.Stations.{LeadsOn};
+ghost use Rattle.ws_session.specs.Alarms.{alarm_count};
+ghost use Rattle.ws_session.specs.Stations.{LeadsOn, HasStoppedOn};
 ghost use Rattle.ws_session.specs.StationCounts.{records_in};
 ghost use Rattle.ws_session.specs.Ends.{refused_byte};
 ghost use Rattle.ws_session.specs.Displays.{SideOn};
@@ -42,6 +43,24 @@ impl<D: StationDisplay> StationOn<D> {
             → result ≡ records_in items }
     {
         self.records
+    }
+
+    /// How many alarms the host has sounded: the Write commands, of records that were applied, whose second control
+    /// character has the bit for it (SC30-3533, Write to Display command, control character 2). It counts over the
+    /// station's whole life, and stops at 18,446,744,073,709,551,615.
+    pub fn alarms(&self) -> u64
+        ensures count { result ≡ D.does.sounded self.now.screen }
+        ensures sounded { (bytes : List ℕ) (items : List (Item D.Commands.Unit))
+            (side : SideOn D.Happened)
+            → LeadsOn D.Commands.rules D.does self.now bytes items side
+            → result ≡ alarm_count (D.does.sounds side.happened) }
+        // So too behind a byte that it refused.
+        ensures stopped { (taken : ℕ) (items : List (Item D.Commands.Unit))
+            (side : SideOn D.Happened)
+            → HasStoppedOn D.Commands.rules D.does self.now taken items side
+            → result ≡ alarm_count (D.does.sounds side.happened) }
+    {
+        self.display.alarms()
     }
 
     /// How many bytes it has taken, one that it refused among them.

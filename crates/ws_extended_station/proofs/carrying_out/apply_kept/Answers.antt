@@ -5,7 +5,6 @@ pub returns-in-Ok-clause-applied : goal.returns-in-Ok-clause-applied
 returns-in-Ok-clause-applied c = λ state body chain same shows.
     let judged = c.in-Ok.ensures state body chain same shows in (
       judged.0,
-      judged.1,
       c.act.ensures.after (state_after_end (state_after_all state body))
-          (c.end_write.ensures.ended (state_after_all state body) judged.2),
+          (c.end_write.ensures.ended (state_after_all state body) judged.1),
     )

@@ -13,7 +13,7 @@ use Rattle.ws_extended_station.specs.ExtendedRecords.{elements_fault}
 use Rattle.ws_extended_station.proofs.CarryingOut.{Applied, applied_all, applied_at, applied_none, applied_one}
 use Rattle.ws_extended_station.proofs.CarryingOut.{applied_still, beginning, first_refused, is_one, one_finds_write}
 use Rattle.ws_extended_station.proofs.CarryingOut.{reading_by}
-use Rattle.ws_extended_station.proofs.Reading.{ran_bad, ready}
+use Rattle.ws_session.proofs.Reading.{ran_bad, ready}
 use Rattle.ws_extended_station.proofs.carrying_out.apply_spelled.Goals.{in-Some+in_ok-apply, in_default}
 use Rattle.ws_extended_station.proofs.carrying_out.apply_spelled.Goals as goal
 
@@ -31,8 +31,8 @@ loop-used-init c =
     let reading = reading_by c.start-machine.result in
     let first : reading ≡ beginning = same_reading reading.place beginning.place reading.begun []
     (c.start-machine.ensures.place ∙ c.first-place.ensures) c.start-machine.ensures.fresh in
-    let applied : Applied from from [] c.new-asked.result reading =
-    applied_none from c.new-asked.result reading c.requires.closed c.new-asked.ensures first in
+    let applied : Applied from from [] c.new-heard.result reading =
+    applied_none from c.new-heard.result reading c.requires.closed c.new-heard.ensures first in
     record {
       inside = omega arith;
       stands = record {
@@ -97,24 +97,23 @@ loop-used-preserved c =
     elim c.match-slot.branch [
       | in-Some+in_ok-apply w ↦
           let u = w.in-Some.element in
-          let one = is_one from now.display _ now.asked reading a values to run.new.at run.new.keep run.result.end
+          let one = is_one from now.display _ now.heard reading a values to run.new.at run.new.keep run.result.end
           run.ensures.run u w.in-Some.is in
-          let keeps = rw w.keep-goes_on.ensures.answer at w.keep-goes_on.ensures.kept in
           record {
             inside = inside;
             stands = one.is_at;
-            applied = applied_at from w.apply.new.self _ _ _ w.keep-goes_on.new.self _ to w.display-is front w.asked-is
-                (applied_one from now.display _ now.asked reading a values to run.new.at u one w.apply.new.self
-                w.keep-goes_on.new.self w.in_ok-apply.ensures.fault w.in_ok-apply.ensures.after
-                w.in_ok-apply.ensures.open_ (λ us asks. keeps us [] asks));
+            applied = applied_at from w.apply.new.self _ _ _ w.hear.new.self _ to w.display-is front w.heard-is
+                (applied_one from now.display _ now.heard reading a values to run.new.at u one w.apply.new.self
+                w.hear.new.self w.in_ok-apply.ensures.fault w.in_ok-apply.ensures.after
+                w.in_ok-apply.ensures.open_ w.hear.ensures);
           }
       | in_default w ↦
-          let still = applied_still from now.display _ now.asked reading a values to run.new.at run.new.keep
+          let still = applied_still from now.display _ now.heard reading a values to run.new.at run.new.keep
           run.result.end run.ensures.run (empty run.new.keep w.in_default.not-Some) c.in_default-end.not-Bad in
           record {
             inside = inside;
             stands = still.1;
-            applied = applied_at from now.display _ _ _ now.asked _ to w.display-is front w.asked-is still.0;
+            applied = applied_at from now.display _ _ _ now.heard _ to w.display-is front w.heard-is still.0;
           }
     ]
 
@@ -123,9 +122,9 @@ returns c = λ state body chain same shows.
     let now = c.loop-used in
     let a = now.invariant.applied in
     let all = take_all now.used c.args.bytes.now c.loop-used-test.false in
-    let units = applied_all _ now.display _ now.asked (reading_by now.machine) a body chain (all ∙ same) in
+    let units = applied_all _ now.display _ now.heard (reading_by now.machine) a body chain (all ∙ same) in
     let gives = a.gives state shows in (
       ap (elements_fault state) (sym units) ∙ gives.0,
-      rw (← units) a.asks,
+      rw (← units) a.heard_is,
       rw (← units) gives.1,
     )

@@ -9,7 +9,7 @@ abbrev pub invariant-loop-used : goal.invariant-loop-used
 invariant-loop-used l = record {
   inside : l.used ≤ length l.bytes;
   stands : IsAt extended_rules (reading_by l.machine) l.at;
-  applied : Applied l.fn.display l.display (take l.used l.bytes) l.asked (reading_by l.machine);
+  applied : Applied l.fn.display l.display (take l.used l.bytes) l.heard (reading_by l.machine);
 }
 
 abbrev pub decreases-loop-used : goal.decreases-loop-used

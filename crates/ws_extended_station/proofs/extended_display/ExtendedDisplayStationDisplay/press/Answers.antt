@@ -1,8 +1,10 @@
 use Rattle.std.proofs.Common.{ap, length, refl, sym, ◌∙◌}
 use Rattle.ws_screen.specs.ScreenParts.{ScreenParts}
 use Rattle.ws_extended.specs.ExtendedStates.{state_after_reset}
+use Rattle.ws_session.specs.Alarms.{alarm_count}
 use Rattle.ws_extended_station.specs.ExtendedDisplays.{with_state}
 use Rattle.ws_extended_station.specs.contracts.extended_display.ExtendedDisplay.{the_view}
+use Rattle.ws_extended_station.proofs.AlarmLaws.{alarms_behind_reset}
 use Rattle.ws_extended_station.proofs.Pressing.{key_pressed}
 use Rattle.ws_extended_station.proofs.extended_display.ExtendedDisplayStationDisplay.press.Goals as goal
 
@@ -21,6 +23,7 @@ returns-in-Reset-clause-pressed c = rw c.in-Reset.is (rw (← c.self.view_is) (�
     options = refl;
     given = record {
       shows = c.reset.ensures.reset side.happened.state given.shows;
+      sounds = given.sounds ∙ ap alarm_count (sym (alarms_behind_reset side.happened.state));
       terminal_is = given.terminal_is;
     };
   },

@@ -1,0 +1,50 @@
+ghost use Rattle.std.specs.Prelude.{◌≡◌, ◌+◌, ◌++◌, ◌∷◌, [], List, true, false};
+ghost use Rattle.ws_session.specs.Alarms.{alarm_count};
+ghost use Rattle.ws_extended.specs.declared.extended_element.ExtendedElement.{ExtendedElement as AnElement};
+ghost use Rattle.ws_extended_station.specs.CarriedOut.{HasHeard};
+ghost use Rattle.ws_extended_station.specs.ExtendedAlarms.{extended_sounds};
+
+use ws_code::Keep;
+use ws_extended::{Asked, ExtendedElement};
+
+/// What elements bring that were carried out: what they ask, and how many of them sound the alarm.
+#[derive(Clone, Copy)]
+pub(crate) struct Heard {
+    pub(crate) asked: Asked,
+    pub(crate) alarms: u64,
+}
+
+// The count of alarms behind an element that was carried out.
+fn count_alarm(alarms: u64, element: &ExtendedElement) -> u64
+    ensures sounds { extended_sounds element.now ≡ true → result ≡ alarm_count (alarms + 1) }
+    ensures silent { extended_sounds element.now ≡ false → result ≡ alarms }
+{
+    match element {
+        ExtendedElement::Profile(element) => ws_session::count_alarm(alarms, element),
+        ExtendedElement::Text(element) => ws_session::count_alarm(alarms, element),
+        ExtendedElement::RestoreScreen | ExtendedElement::WriteError | ExtendedElement::Asks(_) => {
+            alarms
+        }
+    }
+}
+
+impl Heard {
+    // Of no element.
+    pub(crate) fn new() -> Self
+        ensures { HasHeard [] result }
+    {
+        Heard {
+            asked: Asked::new(),
+            alarms: 0,
+        }
+    }
+
+    // Is told of one more.
+    pub(crate) fn hear(&mut self, element: ExtendedElement)
+        ensures { (us : List AnElement) → HasHeard us self.old
+            → HasHeard (us ++ element ∷ []) self.new }
+    {
+        self.alarms = count_alarm(self.alarms, &element);
+        let _goes_on = self.asked.keep(element);
+    }
+}
