@@ -34,10 +34,10 @@ pub data KeyReactionOn (H : Type 0) : Type 0 where
   Answers : SideOn H → ReadKind → ℕ → KeyReactionOn H
   Signals : Opcode → ℕ → KeyReactionOn H
 
--- A display, by what it does: the rules of what it writes, what has happened to a new one, which displays what happened gives, the
--- screen by what happened and that of a display, how many alarms have sounded by what happened and how many a display
--- tells, what a record does, which keys send a record, what a key does that may be pressed, the record that answers a
--- read, and the bytes of a reply.
+-- A display, by what it does: the rules of what it writes, what has happened to a new one, which displays what happened
+-- gives, the screen by what happened and that of a display, how many alarms have sounded by what happened and how many
+-- a display tells, what a record does, which keys send a record, what a key does that may be pressed, the record that
+-- answers a read, and the bytes of a reply.
 pub record DisplayOf (D U H PlaceV V K R : Type 0) : Type 1 where
   pub out : Rules PlaceV V
   pub fresh : TerminalType → H
