@@ -1,5 +1,5 @@
 use Rattle.ws_session.proofs.Common as C
-use C.{◌≡◌, ℕ, ◌+◌, List, [], ◌∷◌, ◌++◌, Option, Some, None, Bool, true, false, if◌then◌else◌, refl, sym, ap, ◌∙◌}
+use C.{◌≡◌, ℕ, ◌+◌, List, [], ◌∷◌, ◌++◌, Option, Some, None, Bool, true, false, if◌then◌else◌, refl, ap, ◌∙◌}
 use C.{arith, ◌&&◌, Element, Place, element_rules, element_begins, element_prefix_free, IsChain}
 use C.{spelling_of, History, Edit, Record, Opcode, CancelInvite, after_elements, after_end, after_record}
 use C.{events_by, opcode_events, open_write, Reason}

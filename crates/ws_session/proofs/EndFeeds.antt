@@ -1,10 +1,9 @@
 use Rattle.ws_session.proofs.Common as C
-use C.{StationLeads, HostParts, HostLeads, HostSide, AnswerPart, HostRefuses, EndsAt, HasGone, Goes, Manner, Rules, Item}
-use C.{all_came, bytes_came, append_assoc, length-append, length-take-le, answer_rules, element_rules, host_manner}
-use C.{◌≡◌, ◌+◌, ◌≤◌, ◌<◌, ◌^◌, ◌++◌, ◌∷◌, [], List, ℕ, None, Some, Option, IsSome, inl, inr, refl, sym, ap, ◌∙◌, take}
-use C.{length, arith, Refusal, Failed, Order, take-append-le, IsHostPushed, Err, Ok, Result, IfOk, IfErr, is_some, true}
+use C.{HostParts, HostLeads, HostSide, AnswerPart, HostRefuses, EndsAt, HasGone, Goes, Manner, Rules, Item}
+use C.{all_came, append_assoc, length-take-le, answer_rules, element_rules, host_manner}
+use C.{◌≡◌, ◌+◌, ◌≤◌, ◌<◌, ◌^◌, ◌++◌, ◌∷◌, [], List, ℕ, None, Option, inl, inr, refl, sym, ap, ◌∙◌, take}
+use C.{length, arith, Refusal, Failed, take-append-le, IsHostPushed, Err, Ok, Result, IfOk, IfErr, is_some, true}
 use C.{false, ◌-◌, suc, subst}
-use Rattle.ws_session.specs.Acts.{bytes_of}
 use Rattle.ws_session.specs.Displays.{DisplayOf, SideOn}
 use Rattle.ws_session.specs.Ends.{IsShut}
 use Rattle.ws_session.specs.HostFeeds.{HostStopsWithin}

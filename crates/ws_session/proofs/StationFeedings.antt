@@ -1,11 +1,11 @@
 use Rattle.ws_session.proofs.Common as C
-use C.{length-append, element_rules, CompletesUnit, IsHostFronted, host_at_item, arith}
-use C.{answer_rules, StationLeads, IsHostPushed, append_assoc, StationParts, StationStep, StationSide, AnswerPart, true}
-use C.{bytes_came, HasHostFed, HostLeads, nat_tests, HostEvent, HostParts, AtStation, HostSide, IsPushed, At}
-use C.{HostStep, Element, as_list, left_of, Refusal, told_by, goes_on, Failed, HasFed, length, GoesOn, AtHost, Option}
-use C.{Result, Memory, EndsAt, Order, false, subst, Item, List, ◌++◌, None, ◌==◌, refl, Bool, take, Key, ◌∙◌, ◌≡◌, ◌∷◌}
+use C.{length-append, CompletesUnit, IsHostFronted, host_at_item, arith}
+use C.{answer_rules, IsHostPushed, append_assoc, StationStep, AnswerPart, true}
+use C.{bytes_came, HasHostFed, HostLeads, nat_tests, HostEvent, HostParts, HostSide, At}
+use C.{HostStep, as_list, left_of, Refusal, told_by, goes_on, Failed, length, GoesOn, AtHost, Option}
+use C.{Result, Memory, EndsAt, Order, false, subst, Item, List, ◌++◌, None, ◌==◌, refl, Bool, take, ◌∙◌, ◌≡◌, ◌∷◌}
 use C.{◌^◌, ◌+◌, ◌≤◌, Err, inl, inr, sym, ◌<◌, [], Ok, ap, ℕ}
-use C.{Rules, HoldsItems, RecordItem, TelnetItem, applied_by, is_record}
+use C.{Rules}
 use Rattle.ws_session.specs.Displays.{DisplayOf, SideOn}
 use Rattle.ws_session.specs.PartsOn.{PartsOn}
 use Rattle.ws_session.specs.Stations.{LeadsOn, IsPushedOn}

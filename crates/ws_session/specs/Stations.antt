@@ -27,7 +27,7 @@ use Rattle.ws_session.specs.Reaction.{Refuses, GoesOn}
 use Rattle.ws_session.specs.Displays.{DisplayOf, SideOn, RefusesKey, Silent, Answers, Signals}
 use Rattle.ws_session.specs.StationCounts.{is_record, records_in}
 use Rattle.ws_session.specs.PartsOn.{PartsOn}
-use Rattle.ws_session.specs.StationManners.{goes_on, new_side_on, takes_on, key_on}
+use Rattle.ws_session.specs.StationManners.{new_side_on, takes_on, key_on}
 
 module _ {D P U H PlaceV V K R : Type 0} (rules : Rules P U) (d : DisplayOf D U H PlaceV V K R) where
   -- The bytes lead to the station: they hold these items, none of them is refused, and what the station did at them and

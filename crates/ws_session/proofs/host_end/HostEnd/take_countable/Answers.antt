@@ -1,4 +1,4 @@
-use Rattle.ws_session.proofs.Common.{inl, inr, refl, [], append-nil, sym, ap, ◌∙◌, as_list, told_by, take, drop}
+use Rattle.ws_session.proofs.Common.{inl, inr, refl, sym, ap, ◌∙◌, as_list, take, drop}
 use Rattle.ws_session.proofs.Common.{take-append-drop, is_some, arith, ℕ, length, ◌-◌, ◌<◌, ◌+◌, ◌^◌, ◌≡◌, ◌≤◌, length-take-le, min}
 use Rattle.ws_session.proofs.Common.{HostParts, HostLeads, answer_rules, element_rules, host_manner}
 use Rattle.ws_session.specs.Manners.{IsHostShut}
@@ -12,8 +12,13 @@ returns-then-is_some-clause-refused c = host_shut c.args.self.now _ c.args.piece
 pub returns-then-room-eq0-clause-refused : goal.returns-then-room-eq0-clause-refused
 returns-then-room-eq0-clause-refused c = rw c.end.ensures.result (host_shut c.args.self.now c.end.new.self
     c.args.piece.now c.requires
-    (inr (omega (arith, c.if-room-eq0.true, c.taken-room.ensures, c.taken-room.type_inv,
-    ap (λ (z : HostParts). z.receiver.live.taken) c.self.view_is)))
+    (inr (omega (
+      arith,
+      c.if-room-eq0.true,
+      c.taken-room.ensures,
+      c.taken-room.type_inv,
+      ap (λ (z : HostParts). z.receiver.live.taken) c.self.view_is,
+    )))
     (ap (λ (z : HostParts). z.screen) c.end.ensures.end))
 
 -- the part of a piece that can be counted
@@ -35,8 +40,12 @@ returns-clause-gone c =
     c.min-count.ensures (λ le. length-take-le room piece le)) to
     step.reply (as_list step.event) (has_room now.ended now.receiver.live.taken
     (c.if-is_some.ensures ∙ ap (λ (z : HostParts). is_some z.ended) c.self.view_is)
-    (λ e. c.if-room-eq0.false (omega (arith, e, c.taken-room.ensures,
-    ap (λ (z : HostParts). z.receiver.live.taken) c.self.view_is)))) fed) c.take_piece.ensures.fed
+    (λ e. c.if-room-eq0.false (omega (
+      arith,
+      e,
+      c.taken-room.ensures,
+      ap (λ (z : HostParts). z.receiver.live.taken) c.self.view_is,
+    )))) fed) c.take_piece.ensures.fed
 
 pub returns-clause-refused : goal.returns-clause-refused
 returns-clause-refused c =
@@ -50,6 +59,10 @@ returns-clause-refused c =
     c.min-count.ensures (λ le. length-take-le room piece le))
     (has_room now.ended now.receiver.live.taken
     (c.if-is_some.ensures ∙ ap (λ (z : HostParts). is_some z.ended) c.self.view_is)
-    (λ e. c.if-room-eq0.false (omega (arith, e, c.taken-room.ensures,
-    ap (λ (z : HostParts). z.receiver.live.taken) c.self.view_is)))) why stops)
+    (λ e. c.if-room-eq0.false (omega (
+      arith,
+      e,
+      c.taken-room.ensures,
+      ap (λ (z : HostParts). z.receiver.live.taken) c.self.view_is,
+    )))) why stops)
     c.take_piece.ensures.refused

@@ -1,6 +1,6 @@
-use Rattle.ws_session.proofs.Common.{station_allows_records, KeyFault, Option, Result, OnErr, subst, false, Bool}
+use Rattle.ws_session.proofs.Common.{station_allows_records, false, Bool}
 use Rattle.ws_session.proofs.Common.{refl, ◌&&◌}
-use Rattle.ws_session.proofs.Common.{true, not, sym, ◌∙◌, ◌+◌, Err, ◌≡◌, Ok, ap}
+use Rattle.ws_session.proofs.Common.{true, not, sym, ◌∙◌, Err, ◌≡◌, Ok, ap}
 use Rattle.ws_session.specs.contracts.station.StationOn.{the_view}
 use Rattle.ws_session.proofs.StationSteps.{pressed}
 use Rattle.ws_session.proofs.station.StationOn.key.Goals.{else-sends-via-then-sends+else-not-records_allowed, in-Err}

@@ -1,4 +1,4 @@
-use Rattle.ws_session.proofs.Common.{inl, inr, refl, [], append-nil, sym, ap, ◌∙◌, as_list, told_by, take, drop}
+use Rattle.ws_session.proofs.Common.{inl, inr, refl, sym, ap, ◌∙◌, as_list, told_by, take, drop}
 use Rattle.ws_session.proofs.Common.{take-append-drop, is_some, arith, ℕ, length, ◌-◌, ◌<◌, ◌+◌, ◌^◌, ◌≡◌, ◌≤◌, length-take-le, min}
 use Rattle.ws_session.specs.PartsOn.{PartsOn}
 use Rattle.ws_session.specs.StationActs.{IsShutOn}
@@ -14,8 +14,13 @@ returns-then-is_some-clause-refused g c = station_shut _ _ c.args.self.now _ c.a
 pub returns-then-room-eq0-clause-refused : goal.returns-then-room-eq0-clause-refused
 returns-then-room-eq0-clause-refused g c = rw c.end.ensures.result (station_shut _ _ c.args.self.now c.end.new.self
     c.args.piece.now c.requires
-    (inr (omega (arith, c.if-room-eq0.true, c.taken-room.ensures, c.taken-room.type_inv,
-    ap (λ (z : PartsOn _ _). z.live.taken) c.self.view_is)))
+    (inr (omega (
+      arith,
+      c.if-room-eq0.true,
+      c.taken-room.ensures,
+      c.taken-room.type_inv,
+      ap (λ (z : PartsOn _ _). z.live.taken) c.self.view_is,
+    )))
     (ap (λ (z : PartsOn _ _). z.screen) c.end.ensures.end))
 
 -- the part of a piece that can be counted
@@ -39,8 +44,12 @@ returns-clause-gone g c =
     c.min-count.ensures (λ le. length-take-le room piece le)) to
     (does.written to.screen step.reply) (as_list (told_by step.ends_record)) (has_room now.ended now.live.taken
     (c.if-is_some.ensures ∙ ap (λ (z : PartsOn _ _). is_some z.ended) c.self.view_is)
-    (λ e. c.if-room-eq0.false (omega (arith, e, c.taken-room.ensures,
-    ap (λ (z : PartsOn _ _). z.live.taken) c.self.view_is)))) fed) c.take_piece.ensures.fed
+    (λ e. c.if-room-eq0.false (omega (
+      arith,
+      e,
+      c.taken-room.ensures,
+      ap (λ (z : PartsOn _ _). z.live.taken) c.self.view_is,
+    )))) fed) c.take_piece.ensures.fed
 
 pub returns-clause-refused : goal.returns-clause-refused
 returns-clause-refused g c =
@@ -55,6 +64,10 @@ returns-clause-refused g c =
     c.min-count.ensures (λ le. length-take-le room piece le))
     (has_room now.ended now.live.taken
     (c.if-is_some.ensures ∙ ap (λ (z : PartsOn _ _). is_some z.ended) c.self.view_is)
-    (λ e. c.if-room-eq0.false (omega (arith, e, c.taken-room.ensures,
-    ap (λ (z : PartsOn _ _). z.live.taken) c.self.view_is)))) why stops)
+    (λ e. c.if-room-eq0.false (omega (
+      arith,
+      e,
+      c.taken-room.ensures,
+      ap (λ (z : PartsOn _ _). z.live.taken) c.self.view_is,
+    )))) why stops)
     c.take_piece.ensures.refused
