@@ -26,7 +26,7 @@ OnStations held now status does also untold = (status ≡ NothingHeld) × (now �
 
 -- A call tells this of the screen of a station of either kind, which stays as it was.
 abbrev pub OnScreen : Option Machine → Option Machine → Status → (ScreenParts → Type 0) → Type 0 → Type 0
-OnScreen held now status tells untold = OnStations held now status (λ old new. (new ≡ old) × tells old.screen)
+OnScreen held now status tells untold = OnStations held now status (λ old new. (new ≡ old) × tells old.screen.screen)
     (λ old new. (new ≡ old) × tells old.station.screen.display.screen) untold
 
 -- the same of a station as live hosts use it alone; where a handle holds none, the call answers this
