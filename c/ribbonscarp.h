@@ -379,6 +379,7 @@ typedef struct {
 typedef struct {
     uint64_t records;       /* how many records were carried out */
     uint64_t refused_place; /* of the byte that was refused; places count from the first byte that was pushed, 0 */
+    uint64_t alarms;        /* how many the host has sounded since the station was made; of a host 0 */
     uint16_t field_count;   /* at most 256 */
     uint16_t cursor_field;  /* index of the field that holds the cursor, or RIBBON_NO_FIELD */
     uint8_t cursor_row;     /* 1 to 24 */
@@ -619,8 +620,10 @@ RIBBON_API ribbon_status ribbon_station_new_line(ribbon_station *station, ribbon
 RIBBON_API ribbon_status ribbon_station_erase_eof(ribbon_station *station, ribbon_told *told);
 
 /* Tells whether records are allowed, what was refused, how many records were carried out, the cursor and its field, the
- * keyboard's lock, the lights, the read that waits for a key, the number of fields, and the row of an error.
- * RIBBON_NOTHING_HELD where the handle holds no station. */
+ * keyboard's lock, the lights, the read that waits for a key, the number of fields, the row of an error, and how many
+ * alarms the host has sounded: an alarm is a Write to Display, in a record that was carried out, whose second control
+ * character has the bit 04. A terminal rings where the number has grown. RIBBON_NOTHING_HELD where the handle holds no
+ * station. */
 RIBBON_API ribbon_status ribbon_station_state(ribbon_station *station, ribbon_state *state);
 
 /* Tells the byte that a cell holds; ribbon_cell says which there are. Rows count from 1 to 24, columns from 1 to 80.
@@ -709,7 +712,7 @@ RIBBON_API ribbon_status ribbon_host_sent(ribbon_host *host, uint8_t *record, si
 RIBBON_API ribbon_status ribbon_host_cancel(ribbon_host *host, uint8_t *record, size_t room, ribbon_told *told);
 
 /* The screen that the host keeps: what a station's is that has carried out what was sent, without the keys that were
- * pressed there. Each call tells what its like tells of a station; of the state no record is counted, and the pending read
+ * pressed there. Each call tells what its like tells of a station; of the state no record and no alarm is counted, and the pending read
  * is the one that is asked. */
 RIBBON_API ribbon_status ribbon_host_state(ribbon_host *host, ribbon_state *state);
 RIBBON_API ribbon_status ribbon_host_cells(ribbon_host *host, uint8_t first_row, uint8_t last_row, ribbon_cell *cells,

@@ -23,7 +23,8 @@ static int is_step(const ribbon_step *step, size_t taken, uint32_t kind, size_t 
 
 static int is_no_state(const ribbon_state *state)
 {
-    return state->records == 0 && state->refused_place == 0 && state->field_count == 0 && state->cursor_field == 0
+    return state->records == 0 && state->refused_place == 0 && state->alarms == 0 && state->field_count == 0
+           && state->cursor_field == 0
            && state->cursor_row == 0 && state->cursor_column == 0 && state->pending_read == 0
            && state->refused_reason == 0 && !state->is_ready && !state->is_locked && !state->is_message_lit
            && !state->is_blinking && state->error_row == 0;

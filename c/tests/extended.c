@@ -180,6 +180,37 @@ static void test_errors(void)
     ribbon_station_free(&station);
 }
 
+/* A Write whose second control character has the bit 04 is an alarm, in each record that isn't refused; no read and no key
+ * is one. */
+static void test_alarms(new_station *make)
+{
+    static const struct {
+        const char *body;
+        size_t size;
+        uint64_t alarms; /* so far */
+    } rows[] = {{BODY("\x04\x11\x00\x00"), 0},
+                {BODY("\x04\x11\x00\x04"), 1},
+                {BODY("\x04\x11\x04\x08"), 1},
+                {BODY("\x04\x11\x00\x0c\xc1\x04\x11\x20\x04"), 3},
+                {BODY("\x04\x52\x00\x04"), 3}};
+    ribbon_station station = shows_form(make);
+    uint8_t answer[RIBBON_ANSWER_ROOM];
+    ribbon_status status;
+    ribbon_state state;
+    ribbon_told told;
+    for (size_t i = 0; i < sizeof rows / sizeof rows[0]; i++) {
+        push_body(&station, rows[i].body, rows[i].size, 64, &status);
+        CHECK(status == RIBBON_DONE && ribbon_station_state(&station, &state) == RIBBON_DONE
+              && state.alarms == rows[i].alarms);
+    }
+    (void)ribbon_station_key(&station, RIBBON_KEY_HOME, 0, answer, sizeof answer, &told);
+    CHECK(ribbon_station_state(&station, &state) == RIBBON_DONE && state.alarms == 3);
+    push_body(&station, BODY("\x04\x11\x00\x04\x11\x18\x50\xc1\xc2"), 64, &status);
+    CHECK(status == RIBBON_REFUSED && ribbon_station_state(&station, &state) == RIBBON_DONE && state.alarms == 3
+          && state.refused_reason == RIBBON_REASON_PAST_END);
+    ribbon_station_free(&station);
+}
+
 /* A station of the profile refuses what it always did, and knows no Reset. */
 static void test_profile(void)
 {
@@ -276,6 +307,8 @@ int main(void)
     test_pieces(BODY(save));
     test_rest();
     test_errors();
+    test_alarms(ribbon_station_new);
+    test_alarms(ribbon_station_new_extended);
     test_profile();
     test_decoders();
     return check_end();

@@ -95,6 +95,7 @@ class StateTold(Structure):
     _fields_ = [
         ("records", c_uint64),
         ("refused_place", c_uint64),
+        ("alarms", c_uint64),
         ("field_count", c_uint16),
         ("cursor_field", c_uint16),
         ("cursor_row", c_uint8),

@@ -167,6 +167,8 @@ class State:
     field_count: int
     error_row: int | None = None
     """The row on which an error of the host's stands, until Reset."""
+    alarms: int = 0
+    """How many alarms the host has sounded since the station was made."""
 
 
 class Screen:

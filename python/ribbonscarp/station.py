@@ -97,7 +97,7 @@ class Station(Held):
 
     @property
     def state(self) -> State:
-        """The cursor, the keyboard's lock, the lights, whether records are allowed, and the row of a host's error."""
+        """The cursor, the keyboard's lock, the lights, whether records are allowed, a host's error, and its alarms."""
         told = self._told_state()
         return State(
             (told.cursor_row, told.cursor_column),
@@ -109,7 +109,16 @@ class Station(Held):
             told.records,
             told.field_count,
             told.error_row or None,
+            told.alarms,
         )
+
+    @property
+    def alarms(self) -> int:
+        """How many alarms the host has sounded since the station was made.
+
+        One is a Write to Display whose second control character has the bit for it, in a record that wasn't refused.
+        """
+        return int(self._told_state().alarms)
 
     @property
     def screen(self) -> Screen:

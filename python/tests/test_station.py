@@ -53,6 +53,20 @@ class StationTest(unittest.TestCase):
                 station.push(query)
             self.assertIs(refused.exception.reason, Reason.STRUCTURED_FIELD)
 
+    def test_alarms(self) -> None:
+        """A Write with the bit 04 counts, in each record that isn't refused; nothing else does."""
+        for strict in (False, True):
+            with Station(strict=strict) as station:
+                station.push(OPENING)
+                self.assertEqual(station.alarms, 0)
+                station.push(record(bytes.fromhex("04110000 0440 04110008 0452 0004")))
+                self.assertEqual(station.alarms, 0)
+                station.push(record(bytes.fromhex("04110004 04110004 0411200C")))
+                self.assertEqual((station.alarms, station.state.alarms), (3, 3))
+                with self.assertRaises(Refused):
+                    station.push(record(bytes.fromhex("04110004") + PAST_END))
+                self.assertEqual(station.alarms, 3)
+
     def test_terminal(self) -> None:
         with self.assertRaisesRegex(ValueError, "no terminal type is 'IBM-3477-FC'; there are IBM-5251-11, "):
             Station("IBM-3477-FC")

@@ -140,12 +140,13 @@ abbrev pub row_number : Option ℕ → ℕ
 row_number None = 0
 row_number (Some row) = row
 
--- what is told of a screen, the records that were carried out, a refused byte, whether records are allowed, and the row
--- of an error
-abbrev pub state_of_screen : ScreenParts → ℕ → Option (ℕ × Reason) → Bool → ℕ → StateTold
-state_of_screen screen records refused is_ready error_row = record {
+-- what is told of a screen, the records that were carried out, the alarms that sounded, a refused byte, whether records
+-- are allowed, and the row of an error
+abbrev pub state_of_screen : ScreenParts → ℕ → ℕ → Option (ℕ × Reason) → Bool → ℕ → StateTold
+state_of_screen screen records alarms refused is_ready error_row = record {
   records = records;
   refused_place = place_refused refused;
+  alarms = alarms;
   field_count = length screen.fields;
   cursor_field = field_index screen.fields screen.cursor;
   cursor_row = screen.cursor / 80 + 1;
@@ -161,13 +162,15 @@ state_of_screen screen records refused is_ready error_row = record {
 
 -- what is told of a station but for its cells and fields
 abbrev pub state_told : StationParts → StateTold
-state_told s = state_of_screen s.screen s.records (refused_byte s.ended) (station_allows_records s.options) 0
+state_told s = state_of_screen s.screen.screen s.records s.screen.alarms (refused_byte s.ended)
+    (station_allows_records s.options) 0
 
 -- what is told of a station where there is none
 abbrev pub no_state : StateTold
 no_state = record {
   records = 0;
   refused_place = 0;
+  alarms = 0;
   field_count = 0;
   cursor_field = 0;
   cursor_row = 0;

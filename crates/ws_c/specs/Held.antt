@@ -26,7 +26,7 @@ OnStations held now status does also untold = (status ≡ NothingHeld) × (now �
 
 -- What a call tells of the screen of a station of either kind, which stays as it was.
 abbrev pub OnScreen : Option Machine → Option Machine → Status → (ScreenParts → Type 0) → Type 0 → Type 0
-OnScreen held now status tells untold = OnStations held now status (λ old new. (new ≡ old) × tells old.screen)
+OnScreen held now status tells untold = OnStations held now status (λ old new. (new ≡ old) × tells old.screen.screen)
     (λ old new. (new ≡ old) × tells old.station.screen.display.screen) untold
 
 -- What a call does with the station as live hosts use it that a handle holds. Where it holds none, the call answers

@@ -123,5 +123,5 @@ IsAnyPressFrom (Some (Profile key)) held now buffer after told status = OnStatio
 
 -- what is told of a station as live hosts use it but for its cells and fields, with the row on which an error stands
 abbrev pub extended_state_told : PartsOn DisplayParts ExtendedPlace → StateTold
-extended_state_told s = state_of_screen s.screen.display.screen s.records (refused_byte s.ended)
+extended_state_told s = state_of_screen s.screen.display.screen s.records s.screen.alarms (refused_byte s.ended)
     (station_allows_records s.options) (row_number (standing_row s.screen.display))

@@ -54,7 +54,7 @@ module _ {S : Type 0} (takes : S → S → Key → Result (Option Answer) KeyFau
 
 -- what a stroke at a station of the profile crosses as
 abbrev pub IsStroke : Stroke → Status → Told → StationParts → StationParts → Type 0
-IsStroke stroke status told old new = IsStruck StationKeyed stroke old.screen status told old new
+IsStroke stroke status told old new = IsStruck StationKeyed stroke old.screen.screen status told old new
 
 -- a key of the profile at a station as live hosts use it
 abbrev pub ExtendedKeyed : PartsOn DisplayParts ExtendedPlace → PartsOn DisplayParts ExtendedPlace → Key

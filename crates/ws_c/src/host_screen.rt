@@ -18,7 +18,7 @@ use ws_session::HostEnd;
 fn state_of(host: &HostEnd) -> StateTold
     ensures { result ≡ host_state_told host.now }
 {
-    state_with(host.screen(), 0, host.refused(), host.is_ready(), 0)
+    state_with(host.screen(), 0, 0, host.refused(), host.is_ready(), 0)
 }
 
 fn tell_state(host: &HostEnd, state: &mut StateTold) -> Status

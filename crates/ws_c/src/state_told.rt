@@ -12,6 +12,8 @@ pub struct StateTold {
     pub records: u64,
     /// Where a byte was refused; 0 where none was.
     pub refused_place: u64,
+    /// How many alarms the host has sounded.
+    pub alarms: u64,
     /// At most 256.
     pub field_count: u16,
     /// The index of the field that holds the cursor, or `NO_FIELD`.
@@ -41,6 +43,7 @@ impl StateTold {
         StateTold {
             records: 0,
             refused_place: 0,
+            alarms: 0,
             field_count: 0,
             cursor_field: 0,
             cursor_row: 0,

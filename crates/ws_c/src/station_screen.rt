@@ -65,11 +65,12 @@ fn field_index(fields: &[Field], at: Address) -> u16
 pub(crate) fn state_with(
     screen: &Screen,
     records: u64,
+    alarms: u64,
     refused: Option<(u64, Reason)>,
     is_ready: bool,
     error_row: u8,
 ) -> StateTold
-    ensures { result ≡ state_of_screen screen.now records refused is_ready error_row }
+    ensures { result ≡ state_of_screen screen.now records alarms refused is_ready error_row }
 {
     screen.known();
     let cursor = screen.cursor();
@@ -78,6 +79,7 @@ pub(crate) fn state_with(
     StateTold {
         records,
         refused_place,
+        alarms,
         field_count: fields.len() as u16,
         cursor_field: field_index(fields.as_slice(), cursor),
         cursor_row: cursor.row(),
@@ -99,6 +101,7 @@ fn tell_state(station: &Station, state: &mut StateTold) -> Status
     *state = state_with(
         station.screen(),
         station.records(),
+        station.alarms(),
         station.refused(),
         station.is_ready(),
         0,
@@ -123,6 +126,7 @@ fn tell_extended_state(station: &ExtendedStation, state: &mut StateTold) -> Stat
     *state = state_with(
         station.screen(),
         station.records(),
+        station.alarms(),
         station.refused(),
         station.is_ready(),
         row_number(station.display().error_row()),

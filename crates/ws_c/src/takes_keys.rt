@@ -32,7 +32,7 @@ pub(crate) trait TakesKeys {
 impl TakesKeys for Station {
     ghost takes = { StationKeyed };
 
-    ghost shows = { λ station. station.screen };
+    ghost shows = { λ station. station.screen.screen };
 
     fn press(&mut self, key: Key) -> Result<Option<Answer>, KeyFault> {
         self.key(key)
