@@ -123,6 +123,8 @@ prints() {
 made_by=(BUILD="$BUILD" LIB="$LIB" GLUE="$GLUE" T5250="$T5250")
 try "make install" "$MAKE" -C "$here" install PREFIX=/usr DESTDIR="$stage" "${made_by[@]}"
 try "the program that was installed" "$stage/usr/bin/t5250" check "$top/examples/inquiry.hex"
+try "its page of the manual" grep -q '^.TH T5250 1' "$stage/usr/share/man/man1/t5250.1"
+try "its completions" grep -q '^complete .* t5250$' "$stage/usr/share/bash-completion/completions/t5250"
 if has pkg-config "programs on what was installed"; then
     export PKG_CONFIG_PATH=$stage/usr/lib/pkgconfig PKG_CONFIG_SYSROOT_DIR=$stage
     read -r -a flags <<<"$(pkg-config --define-variable=prefix=/usr --cflags --libs ribbonscarp)"
@@ -141,8 +143,7 @@ if has pkg-config "programs on what was installed"; then
             "$here/examples/station.cpp" "${flags[@]}"
         try "it prints station.out" prints "$here/examples/station.out" "$folder/theirs"
     fi
-    try "the version of pkg-config" test "$(pkg-config --modversion ribbonscarp)" = \
-        "$(sed -n 's/^#define RIBBON_VERSION "\(.*\)"/\1/p' "$here/ribbonscarp.h")"
+    try "the version of pkg-config" test "$(pkg-config --modversion ribbonscarp)" = "$(cat "$top/VERSION")"
     unset PKG_CONFIG_PATH PKG_CONFIG_SYSROOT_DIR
     if has python3 "a client in Python on what was installed"; then
         try_counted "a client in Python on what was installed" python3 "$tests/client.py" \
@@ -150,6 +151,8 @@ if has pkg-config "programs on what was installed"; then
         try "the Python package on what was installed" env -u RIBBONSCARP_LIBRARY LD_LIBRARY_PATH="$stage/usr/lib" \
             PYTHONPATH="$top/python" PYTHONDONTWRITEBYTECODE=1 \
             python3 -m unittest discover -q -s "$top/python/tests" -p test_host.py
+        try "a scraper in Python on what was installed" "$tests/scrape_python.sh" "$stage/usr"
+        grep '^left out:' "$folder/said"
     fi
 fi
 
