@@ -1,7 +1,6 @@
 pub mod Beside
 pub mod BesideRuns
 pub mod CarryingOut
-pub mod ErrorRows
 pub mod Pressing
 pub mod Reading
 pub mod SavedLaws

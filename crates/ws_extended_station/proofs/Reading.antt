@@ -1,30 +1,15 @@
 -- A body that is read from its bytes, one unit at a time, each into an empty slot.
-use Rattle.std.proofs.Common.{◌≡◌, ℕ, List, [], ◌∷◌, ◌++◌, Option, Some, None, refl, sym, ap, ◌∙◌, subst}
-use Rattle.std.proofs.Common.{append_assoc}
+use Rattle.std.proofs.Common.{◌≡◌, ℕ, List, [], ◌∷◌, ◌++◌, Option, Some, None, refl, sym, ap, ◌∙◌, subst, append_assoc}
 use Rattle.std.proofs.lemmas.List.{append-nil}
-use Rattle.ws_code.specs.Code.{Rules, Stands, IsChain, IsCut, IsPrefix, IsPrefixFree, IsSpelled, IsUnfinished}
-use Rattle.ws_code.specs.Code.{place_after, spelling_of}
-use Rattle.ws_code.specs.Keep.{holds_last}
-use Rattle.ws_code.specs.Run.{Reading, HasRun, IsAt, IsRun, RunsOn, StopsAtLast}
-use Rattle.ws_code.specs.declared.keep.Kept.{Kept}
-use Rattle.ws_code.specs.declared.keep.Kept.TheVariants as kept
+use Rattle.ws_code.specs.Code.{Rules, IsChain, spelling_of, Stands, IsCut, IsPrefix, IsPrefixFree, IsSpelled}
+use Rattle.ws_code.specs.Code.{IsUnfinished, place_after}
+use Rattle.ws_code.specs.Run.{IsAt, Reading, HasRun, RunsOn}
 use Rattle.ws_code.specs.declared.reason.Reason.{Reason}
 use Rattle.ws_code.specs.declared.run.End.{End}
 use Rattle.ws_code.specs.declared.run.End.TheVariants.{More, Enough, NoMemory, Bad}
 use Rattle.ws_code.specs.declared.run.Standing.{Standing}
-use Rattle.ws_code.proofs.CodeLaws.{Begins, cut_bad, cut_begins, cut_unit, no_end, one_cut, place_after_more}
-use Rattle.ws_code.proofs.Slots.{only_enough, slot_is}
-
--- what a slot holds, and what it answers
-abbrev pub InSlot : {U : Type 0} → Option U → List U → List ℕ → Type 0
-InSlot slot units told = holds_last slot units
-
-abbrev pub HasEnough : Kept → Type 0
-HasEnough answer = answer ≡ kept.Enough
-
-slot_none : {U : Type 0} (slot : Option U) → holds_last slot [] → slot ≡ None
-slot_none None h = refl
-slot_none (Some unit) h = absurd (no_end h.0 unit [] h.1)
+use Rattle.ws_code.proofs.CodeLaws.{Begins, cut_bad, cut_begins, cut_unit, one_cut, place_after_more}
+use Rattle.ws_extended.proofs.SlotRuns.{HasEnough, InSlot, IsSlotRun, SlotStop, is_whole, not_whole, runs_on}
 
 module _ {Place U : Type 0} (rules : Rules Place U) where
   -- these units were read, and this one is
@@ -53,21 +38,6 @@ module _ {Place U : Type 0} (rules : Rules Place U) where
     where
       behind : to.place ≡ place_after rules rules.first run.units
       behind = run.behind ∙ ap (λ (r : Reading Place). place_after rules r.place run.units) first
-
-  abbrev pub IsSlotRun : Reading Place → List ℕ → Reading Place → Standing Place → Option U → End → Type 0
-  IsSlotRun reading values to standing slot end =
-      IsRun rules InSlot HasEnough reading None values to standing slot end
-
-  -- no unit is whole with these bytes
-  runs_on : (reading : Reading Place) (values : List ℕ) (to : Reading Place) (slot : Option U)
-      → RunsOn rules InSlot HasEnough reading None values to slot
-      → (to.place ≡ reading.place) × (to.begun ≡ reading.begun ++ values) × (slot ≡ None)
-  runs_on reading values to slot on =
-      let none : on.run.units ≡ [] = only_enough on.run.units on.on in (
-        on.run.behind ∙ ap (λ (us : List U). place_after rules reading.place us) none,
-        ap (λ (us : List U). spelling_of rules us ++ to.begun) (sym none) ∙ on.run.spelled,
-        slot_none slot (rw (← none) (on.kept [] [] refl)),
-      )
 
 module _ {Place U : Type 0} (rules : Rules Place U) (bytes : List ℕ) (units : List U) (reading : Reading Place)
     (read : HasRead rules bytes units reading) where
@@ -126,18 +96,8 @@ pub record RanOne {Place U : Type 0} (rules : Rules Place U) (bytes : List ℕ) 
 module _ {Place U : Type 0} (rules : Rules Place U) (bytes : List ℕ) (units : List U) (reading : Reading Place)
     (read : HasRead rules bytes units reading) (values : List ℕ) (to : Reading Place) (standing : Standing Place)
     (slot : Option U) where
-  abbrev Stops : Type 0
-  Stops = StopsAtLast rules InSlot HasEnough reading None values
-
-  keeps_alone : (stop : Stops) (more : List U)
-      → ((us : List U) (told : List ℕ) → InSlot stop.keep us told → InSlot slot (us ++ more) told)
-      → holds_last slot more
-  keeps_alone stop more keeps =
-      let none = (runs_on rules reading stop.front stop.before stop.keep stop.on).2 in
-      keeps [] [] (rw none refl)
-
   -- the bytes up to the run's end, and those behind them
-  behind_last : (stop : Stops) (more : List ℕ)
+  behind_last : (stop : SlotStop rules reading values) (more : List ℕ)
       → (bytes ++ stop.front) ++ stop.last ∷ more ≡ (bytes ++ values) ++ more
   behind_last stop more = sym (append_assoc (bytes ++ stop.front) (stop.last ∷ []) more)
       ∙ ap (λ (z : List ℕ). z ++ more) (append_assoc bytes stop.front (stop.last ∷ [])
@@ -147,41 +107,34 @@ module _ {Place U : Type 0} (rules : Rules Place U) (bytes : List ℕ) (units : 
   pub ran_none : (end : End) → IsSlotRun rules reading values to standing slot end → slot ≡ None
       → ((reason : Reason) → end ≡ Bad reason → ⊥) → HasRead rules (bytes ++ values) units to × IsAt rules to standing
   ran_none More run none good = (read_on rules bytes units reading read values to slot run.0, run.1)
-  ran_none Enough run none good =
-      absurd (let some = slot_is slot run.1 (keeps_alone run.0 (run.1 ∷ []) run.3) in cc)
+  ran_none Enough run none good = absurd (not_whole rules reading values to standing slot none run)
   ran_none NoMemory run none good = absurd (let e = run.4 in cc)
   ran_none (Bad reason) run none good = absurd (good reason refl)
 
   -- it has the unit that is whole with the last byte
   pub ran_some : Begins rules → (end : End) → IsSlotRun rules reading values to standing slot end → (unit : U)
-      → slot ≡ Some unit
-      → RanOne rules bytes units reading values to standing unit
-  ran_some begins More run unit some = absurd (let none = (runs_on rules reading values to slot run.0).2 in cc)
-  ran_some begins Enough run unit some =
-      let stop = run.0 in
-      let found = slot_is slot run.1 (keeps_alone stop (run.1 ∷ []) run.3) in
-      let same : run.1 ≡ unit = cc in
+      → slot ≡ Some unit → RanOne rules bytes units reading values to standing unit
+  ran_some begins end run unit some =
+      let whole = is_whole rules reading values to standing slot end run unit some in
+      let stop = whole.stop in
       let front = read_on rules bytes units reading read stop.front stop.before stop.keep stop.on in
       let place = (runs_on rules reading stop.front stop.before stop.keep stop.on).0 in
-      let spelled = subst (λ (p : Place). IsSpelled rules p (stop.before.begun ++ stop.last ∷ []) run.1)
-      front.at_place run.2 in
-      let cut = cut_unit rules begins (bytes ++ stop.front) units stop.before.begun stop.last run.1 front.cut spelled in
+      let spelled = subst (λ (p : Place). IsSpelled rules p (stop.before.begun ++ stop.last ∷ []) unit)
+      front.at_place whole.spelled in
+      let cut = cut_unit rules begins (bytes ++ stop.front) units stop.before.begun stop.last unit front.cut spelled in
       let all : (bytes ++ stop.front) ++ stop.last ∷ [] ≡ bytes ++ values =
       behind_last stop [] ∙ append-nil (bytes ++ values) in
-      rw (← same) (record {
-        stands = subst (λ (p : Place). Stands rules p run.1) place run.2.stands;
+      record {
+        stands = subst (λ (p : Place). Stands rules p unit) place whole.spelled.stands;
         one_more = record {
-          cut = subst (λ (r : Reading Place). IsCut rules (bytes ++ values) (units ++ run.1 ∷ []) r.begun) (sym run.5)
-              (subst (λ (b : List ℕ). IsCut rules b (units ++ run.1 ∷ []) []) all cut);
-          at_place = ap (λ (r : Reading Place). r.place) run.5
-              ∙ sym (place_after_more rules rules.first units run.1);
+          cut = subst (λ (r : Reading Place). IsCut rules (bytes ++ values) (units ++ unit ∷ []) r.begun)
+              (sym whole.behind) (subst (λ (b : List ℕ). IsCut rules b (units ++ unit ∷ []) []) all cut);
+          at_place = ap (λ (r : Reading Place). r.place) whole.behind
+              ∙ sym (place_after_more rules rules.first units unit);
         };
-        behind = run.5;
-        is_at = run.6;
-      })
-  ran_some begins NoMemory run unit some = absurd (let e = run.4 in cc)
-  ran_some begins (Bad reason) run unit some =
-      absurd (let none = slot_none slot (keeps_alone run.0 [] run.3) in cc)
+        behind = whole.behind;
+        is_at = whole.is_at;
+      }
 
   -- bytes of a body are never refused
   pub ran_bad : IsPrefixFree rules → Begins rules → (body : List U) → IsChain rules rules.first body

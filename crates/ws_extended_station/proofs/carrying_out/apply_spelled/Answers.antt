@@ -1,19 +1,17 @@
 use Rattle.std.proofs.Common.{◌≡◌, ◌+◌, ◌≤◌, ◌++◌, List, ℕ, [], Option, Some, None, take, drop, length, refl, sym, ap}
-use Rattle.std.proofs.Common.{◌∙◌}
-use Rattle.std.proofs.Common.{arith, take-append-drop}
+use Rattle.std.proofs.Common.{◌∙◌, arith, take-append-drop}
 use Rattle.std.proofs.lemmas.List.{take_all}
 use Rattle.std.proofs.lemmas.Result.{err_from_is_err_and}
 use Rattle.ws_code.proofs.DeviceLaws.{length_rest}
 use Rattle.ws_code.proofs.Pieces.{bytes_on, left_of}
-use Rattle.ws_code.proofs.RunLaws.{same_reading}
 use Rattle.ws_extended.specs.ExtendedElements.{extended_rules}
+use Rattle.ws_extended.specs.ExtendedRuns.{reading_by}
 use Rattle.ws_extended.specs.ExtendedLaws.{extended_begins, extended_prefix_free}
 use Rattle.ws_extended.specs.declared.extended_element.ExtendedElement.{ExtendedElement}
 use Rattle.ws_extended_station.specs.ExtendedRecords.{elements_fault}
 use Rattle.ws_extended_station.proofs.CarryingOut.{Applied, applied_all, applied_at, applied_none, applied_one}
-use Rattle.ws_extended_station.proofs.CarryingOut.{applied_still, beginning, first_refused, is_one, one_finds_write}
-use Rattle.ws_extended_station.proofs.CarryingOut.{reading_by}
-use Rattle.ws_extended_station.proofs.Reading.{ran_bad, ready}
+use Rattle.ws_extended_station.proofs.CarryingOut.{applied_still, first_refused, is_one, one_finds_write, starts}
+use Rattle.ws_extended_station.proofs.Reading.{ran_bad}
 use Rattle.ws_extended_station.proofs.carrying_out.apply_spelled.Goals.{in-Some+in_ok-apply, in_default}
 use Rattle.ws_extended_station.proofs.carrying_out.apply_spelled.Goals as goal
 
@@ -27,21 +25,12 @@ cut_is bytes i k = ap (λ z. z ++ drop (i + k) bytes) (bytes_on [] bytes i k) �
 
 pub loop-used-init : goal.loop-used-init
 loop-used-init c =
-    let from = c.args.display.now in
-    let reading = reading_by c.start-machine.result in
-    let first : reading ≡ beginning = same_reading reading.place beginning.place reading.begun []
-    (c.start-machine.ensures.place ∙ c.first-place.ensures) c.start-machine.ensures.fresh in
-    let applied : Applied from from [] c.new-asked.result reading =
-    applied_none from c.new-asked.result reading c.requires.closed c.new-asked.ensures first in
+    let start = starts (reading_by c.start-machine.result) c.first-place.result c.first-place.ensures
+    c.start-machine.ensures.place c.start-machine.ensures.fresh in
     record {
       inside = omega arith;
-      stands = record {
-        unfinished = ready extended_rules [] applied.units reading applied.read;
-        at_place = sym c.start-machine.ensures.place;
-        inside = λ e. absurd (cc);
-        between = λ e. c.start-machine.ensures.fresh;
-      };
-      applied = applied;
+      stands = start.1;
+      applied = applied_none c.args.display.now c.new-asked.result _ c.requires.closed c.new-asked.ensures start.0;
     }
 
 pub apply-requires : goal.apply-requires
