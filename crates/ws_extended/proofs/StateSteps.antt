@@ -1,23 +1,25 @@
 -- What the parts of a display with an error line are behind a step.
-use Rattle.std.proofs.Common.{◌≡◌, ℕ, List, [], ◌∷◌, ◌++◌, true, Option, Some, None, map, replicate, refl}
-use Rattle.std.proofs.Common.{sym, ap, ◌∙◌, subst, unwrap_or, length}
+use Rattle.std.proofs.Common.{◌≡◌, ℕ, List, [], ◌∷◌, ◌++◌, Bool, true, false, Option, Some, None, map, replicate, refl}
+use Rattle.std.proofs.Common.{sym, ap, ◌∙◌, subst, unwrap_or, length, if◌then◌else◌}
 use Rattle.std.proofs.lemmas.Bool.{false≢true}
 use Rattle.ws_stream.specs.declared.element.Element.{Element}
 use Rattle.ws_stream.specs.declared.element.Element.TheVariants.{Write, Ra, Ea, Sba, Sf, Put}
 use Rattle.ws_screen.specs.declared.open_write.OpenWrite.{OpenWrite}
 use Rattle.ws_screen.specs.Bodies.{after_element, after_elements, after_end}
-use Rattle.ws_screen.specs.Events.{Edit, History}
+use Rattle.ws_screen.specs.Events.{Edit, History, did}
 use Rattle.ws_screen.specs.Faults.{fault}
 use Rattle.ws_screen.specs.Given.{FollowsAll, Gives, ends_of, events_of}
 use Rattle.ws_screen.specs.ScreenParts.{IsLegal, ScreenParts}
 use Rattle.ws_screen.specs.Writes.{open_write}
+use Rattle.ws_screen.proofs.Applies.{gives_next}
 use Rattle.ws_screen.proofs.ScreenLaws.{one_screen}
 use Rattle.ws_keys.specs.Keys.{events_by}
 use Rattle.ws_extended.specs.Carried.{Carries}
-use Rattle.ws_extended.specs.ErrorLine.{IsRow, error_begins, error_row, given_back, row_cells, row_start}
+use Rattle.ws_extended.specs.ErrorLine.{IsRow, error_begins, error_row, given_back, row_cells, row_start, sets_error_row}
 use Rattle.ws_extended.specs.ExtendedStates.{ExtendedState, Kept, covered, gives_back, reset_history, state_after_reset, uncovered}
-use Rattle.ws_extended.specs.ExtendedStates.{uncovers}
+use Rattle.ws_extended.specs.ExtendedStates.{state_after, uncovers}
 use Rattle.ws_extended.specs.ExtendedViews.{ExtendedParts, Shows}
+use Rattle.ws_extended.specs.declared.extended_element.ExtendedElement.TheVariants.{Profile}
 use Rattle.ws_extended.proofs.ErrorLaws.{back_unrefused, begins_unrefused}
 use Rattle.ws_extended.proofs.ImageSizes.{Quiet, both_quiet, puts_quiet, quiet_end, quiet_rows}
 
@@ -109,6 +111,22 @@ module _ (state : ExtendedState) (old new : ScreenParts) (row text : ℕ) (kept 
     kept_is = refl;
     text_is = shows.text_is;
   }
+
+  -- an element of the profile that leaves the error line and its row
+  pub own_shows : (e : Element) → uncovers e ≡ false → sets_error_row (did e) ≡ None
+      → FollowsAll (events_of old.writing e) old new → Shows (state_after state (Profile e)) (parts new row kept text)
+  own_shows e stays quiet follows = go (uncovers e) stays
+    where
+      go : (t : Bool) → t ≡ false → Shows (record (if t then uncovered 0 state else state) {
+        history = after_element (if t then uncovered 0 state else state).history e;
+      }) (parts new row kept text)
+      go true k = absurd (false≢true (sym k))
+      go false k = record {
+        gives = gives_next state.history old new e shows.gives follows;
+        row_is = shows.row_is ∙ sym (row_stays state.history (e ∷ []) (quiet, tt));
+        kept_is = shows.kept_is;
+        text_is = shows.text_is;
+      }
 
   -- Reset
   pub reset_shows : ((h : History) → Gives h old → Gives (reset_history h kept) new)

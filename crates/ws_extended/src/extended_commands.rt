@@ -94,19 +94,17 @@ impl Code for ExtendedCommands {
         values: &[u8],
         keep: &mut K,
     ) -> Run {
-        for (index, value) in values.iter().enumerate() {
-            match self.take(at, keep, *value) {
+        let mut used = 0;
+        while used < values.len() {
+            let run = self.take(at, keep, &values[used..]);
+            used += run.used;
+            match run.end {
                 End::More => {}
-                end => {
-                    return Run {
-                        used: index + 1,
-                        end,
-                    };
-                }
+                end => return Run { used, end },
             }
         }
         Run {
-            used: values.len(),
+            used,
             end: End::More,
         }
     }

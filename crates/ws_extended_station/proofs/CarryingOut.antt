@@ -12,67 +12,24 @@ use Rattle.ws_code.specs.declared.reason.Reason.{Reason}
 use Rattle.ws_code.specs.declared.run.End.{End}
 use Rattle.ws_code.specs.declared.run.End.TheVariants.{More, Enough, NoMemory, Bad}
 use Rattle.ws_code.specs.declared.run.Standing.{Standing}
-use Rattle.ws_stream.specs.Elements.{allows_orders, is_command}
-use Rattle.ws_stream.specs.UnfinishedElement.{unfinished_of}
-use Rattle.ws_screen.specs.ScreenParts.{ScreenParts}
-use Rattle.ws_screen.proofs.Applies.{allows_after}
 use Rattle.ws_screen.proofs.Within.{both_none}
 use Rattle.ws_extended.specs.Asking.{HasAsked, asks_in}
-use Rattle.ws_extended.specs.ExtendedElements.{extended_follows, extended_rules, place_behind}
+use Rattle.ws_extended.specs.ExtendedElements.{extended_rules}
 use Rattle.ws_extended.specs.ExtendedLaws.{extended_begins, extended_prefix_free}
-use Rattle.ws_extended.specs.ExtendedMachine.{begun_in}
 use Rattle.ws_extended.specs.ExtendedStates.{ExtendedState, state_after, state_after_all, state_fault}
 use Rattle.ws_extended.specs.ExtendedViews.{ExtendedParts, NeedsOpenWrite, Shows, leaves_write_open}
 use Rattle.ws_extended.specs.declared.asked.Asked.{Asked}
-use Rattle.ws_extended.specs.declared.extended_commands.ExtendedCommands.{ExtendedCommands}
 use Rattle.ws_extended.specs.declared.extended_element.ExtendedElement.{ExtendedElement}
-use Rattle.ws_extended.specs.declared.extended_element.ExtendedElement.TheVariants.{Profile, Text, RestoreScreen}
-use Rattle.ws_extended.specs.declared.extended_element.ExtendedElement.TheVariants.{WriteError, Asks}
 use Rattle.ws_extended.specs.declared.extended_place.ExtendedPlace.{ExtendedPlace}
-use Rattle.ws_extended.specs.declared.extended_place.ExtendedPlace.TheVariants.{InProfile, ErrorText}
-use Rattle.ws_extended.specs.declared.extended_place.ExtendedPlace.TheVariants.{Asked as BehindAsk}
+use Rattle.ws_extended.proofs.OpenWrites.{finds_write, is_open_at, open_behind}
 use Rattle.ws_extended_station.specs.CarriedOut.{HasHeard}
 use Rattle.ws_extended_station.specs.ExtendedRecords.{elements_fault}
 use Rattle.ws_extended_station.specs.declared.heard.Heard.{Heard}
 use Rattle.ws_session.proofs.Reading.{HasRead, IsSlotRun, RanOne, never_bad, ran_none, ran_some, read_all}
 use Rattle.ws_session.proofs.Reading.{read_front, read_none, read_run}
 
--- where the element stands that a machine reads, and its bytes so far
-abbrev pub reading_by : ExtendedCommands → Reading ExtendedPlace
-reading_by m = record { place = m.place; begun = begun_in m.phase (unfinished_of m.inner) }
-
 abbrev pub beginning : Reading ExtendedPlace
 beginning = record { place = extended_rules.first; begun = [] }
-
--- a write is open where an element stands at the place
-abbrev pub is_open_at : ExtendedPlace → Bool
-is_open_at (InProfile place) = allows_orders place
-is_open_at ErrorText = true
-is_open_at (BehindAsk ask) = false
-
-open_behind : (u : ExtendedElement) → is_open_at (place_behind u) ≡ leaves_write_open u
-open_behind (Profile e) = allows_after e
-open_behind (Text e) = refl
-open_behind RestoreScreen = refl
-open_behind WriteError = refl
-open_behind (Asks ask) = refl
-
--- an element finds the open write that it needs
-finds_write : (u : ExtendedElement) (place : ExtendedPlace) (s : ScreenParts) → extended_follows place u ≡ true
-    → is_some s.writing ≡ is_open_at place → NeedsOpenWrite u s
-finds_write (Profile e) (InProfile place) s may open_ = λ order.
-    elim (or_cases (is_command e) (allows_orders place) may) [
-      | inl it ↦ absurd (both_ways (is_command e) order it)
-      | inr can ↦ open_ ∙ can
-    ]
-finds_write (Profile e) ErrorText s may open_ = λ order. absurd (both_ways (is_command e) order may)
-finds_write (Profile e) (BehindAsk ask) s may open_ = absurd (false≢true may)
-finds_write (Text e) (InProfile place) s may open_ = absurd (false≢true may)
-finds_write (Text e) ErrorText s may open_ = (open_, may)
-finds_write (Text e) (BehindAsk ask) s may open_ = absurd (false≢true may)
-finds_write RestoreScreen place s may open_ = tt
-finds_write WriteError place s may open_ = tt
-finds_write (Asks ask) place s may open_ = tt
 
 -- an element more
 after_one_more : (state : ExtendedState) (us : List ExtendedElement) (u : ExtendedElement)

@@ -1,4 +1,4 @@
-ghost use Rattle.std.specs.Prelude.{◌≡◌, ◌≢◌, ◌<◌, ◌++◌, ◌∷◌, [], List, ℕ, true, false, Some, None, take, IfSome};
+ghost use Rattle.std.specs.Prelude.{◌≡◌, ◌≢◌, ◌<◌, ◌++◌, ◌∷◌, [], List, ℕ, true, false, Some, None, length, take, IfSome};
 ghost use Rattle.ws_code.specs.Code.{IsPrefix, IsSpelled, IsUnfinished};
 ghost use Rattle.ws_code.specs.declared.reason.Reason.{Reason as AReason};
 ghost use Rattle.ws_code.specs.declared.code.Push.{Push as APush};
@@ -8,7 +8,9 @@ ghost use Rattle.ws_stream.specs.Reasons.{element_reason};
 ghost use Rattle.ws_stream.specs.Taking.{reading_of};
 ghost use Rattle.ws_stream.specs.UnfinishedElement.{unfinished_of};
 ghost use Rattle.ws_stream.specs.declared.command_code.TheConstants.{ESCAPE, WRITE_STRUCTURED_FIELD};
+ghost use Rattle.ws_stream.specs.declared.place.Place.{Place as APlace};
 ghost use Rattle.ws_extended.specs.declared.extended_element.ExtendedElement.{ExtendedElement as AnElement};
+ghost use Rattle.ws_extended.specs.declared.extended_place.ExtendedPlace.TheVariants.{InProfile};
 ghost use Rattle.ws_extended.specs.ExtendedElements.{extended_rules, query_field};
 ghost use Rattle.ws_extended.specs.ExtendedMachine.{begun_in, inner_place, lift};
 ghost use Rattle.ws_extended.specs.ExtendedReasons.{begin_reason, extended_reason, is_inner, takes_command, takes_first};
@@ -97,6 +99,38 @@ fn hand_down(place: ExtendedPlace, inner: &mut Commands, byte: u8) -> Push<Exten
         Push::Unit(element) => Push::Unit(lifted(place, element)),
         Push::Bad(reason) => Push::Bad(reason),
     }
+}
+
+// Whether no command beside the profile has the code.
+#[inline(always)]
+fn is_own_command(code: u8) -> bool
+    ensures { result ≡ true → (place : APlace) → takes_command (InProfile place) code ≡ true }
+{
+    match code {
+        command_code::WRITE_STRUCTURED_FIELD
+        | command_code::SAVE_SCREEN
+        | command_code::RESTORE_SCREEN
+        | command_code::WRITE_ERROR_CODE
+        | command_code::READ_SCREEN
+        | command_code::READ_IMMEDIATE
+        | command_code::READ_MDT_IMMEDIATE_ALTERNATE => false,
+        _ => true,
+    }
+}
+
+// Whether only elements of the profile begin with the values, at its places. Of an escape alone nothing is known.
+#[inline(always)]
+pub(super) fn begins_profile(values: &[u8]) -> bool
+    requires { 0 < length values.now }
+    ensures { result ≡ true → (place : APlace) → is_inner (InProfile place) values.now ≡ true }
+{
+    if values[0] != ESCAPE {
+        return true;
+    }
+    if values.len() < 2 {
+        return false;
+    }
+    is_own_command(values[1])
 }
 
 // The answer to a byte behind an escape, but where the profile's machine is asked or a query begins.

@@ -61,6 +61,30 @@ fn uncovers(element: &Element) -> bool
     }
 }
 
+// Whether an element of the profile leaves the error line, and the row that an error covers, as they are.
+#[inline(always)]
+fn touches_screen_alone(element: &Element) -> bool
+    ensures { result ≡ true
+        → (uncovers element.now ≡ false) × (sets_error_row (did element.now) ≡ None) }
+{
+    match element {
+        Element::ClearUnit
+        | Element::ClearFormat
+        | Element::Write { .. }
+        | Element::ReadInput { .. }
+        | Element::ReadMdt { .. }
+        | Element::ReadMdtAlternate { .. }
+        | Element::Soh(_) => false,
+        Element::Ra { .. }
+        | Element::Ea { .. }
+        | Element::Sba(_)
+        | Element::Ic(_)
+        | Element::Mc(_)
+        | Element::Sf(_)
+        | Element::Put(_) => true,
+    }
+}
+
 impl ExtendedScreen {
     // Gives the row back, where an element of the profile asks for that.
     fn make_ready(&mut self, element: &Element)
@@ -89,7 +113,7 @@ impl ExtendedScreen {
     }
 
     // Carries out an element of the profile.
-    fn apply_own(&mut self, element: &Element) -> Result<(), Reason>
+    pub fn apply_own(&mut self, element: &Element) -> Result<(), Reason>
         requires { NeedsOpenWrite (Profile element.now) self.old.screen }
         ensures fault { (state : ExtendedState) → Shows state self.old
             → refusal result ≡ state_fault state (Profile element.now) }
@@ -99,6 +123,9 @@ impl ExtendedScreen {
             (is_some self.new.screen.writing ≡ lets_orders_follow element.now) }
         ensures unchanged { OnErr result (self.new ≡ self.old) }
     {
+        if touches_screen_alone(element) {
+            return self.screen.apply(element);
+        }
         self.make_ready(element);
         self.carry_out(element)
     }

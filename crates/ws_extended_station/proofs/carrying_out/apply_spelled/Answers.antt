@@ -12,7 +12,7 @@ use Rattle.ws_extended.specs.declared.extended_element.ExtendedElement.{Extended
 use Rattle.ws_extended_station.specs.ExtendedRecords.{elements_fault}
 use Rattle.ws_extended_station.proofs.CarryingOut.{Applied, applied_all, applied_at, applied_none, applied_one}
 use Rattle.ws_extended_station.proofs.CarryingOut.{applied_still, beginning, first_refused, is_one, one_finds_write}
-use Rattle.ws_extended_station.proofs.CarryingOut.{reading_by}
+use Rattle.ws_extended.specs.ExtendedRuns.{reading_by}
 use Rattle.ws_session.proofs.Reading.{ran_bad, ready}
 use Rattle.ws_extended_station.proofs.carrying_out.apply_spelled.Goals.{in-Some+in_ok-apply, in_default}
 use Rattle.ws_extended_station.proofs.carrying_out.apply_spelled.Goals as goal

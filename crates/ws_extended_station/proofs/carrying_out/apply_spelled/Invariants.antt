@@ -1,7 +1,8 @@
 use Rattle.std.proofs.Common.{◌≤◌, ◌-◌, length, take}
 use Rattle.ws_code.specs.Run.{IsAt}
 use Rattle.ws_extended.specs.ExtendedElements.{extended_rules}
-use Rattle.ws_extended_station.proofs.CarryingOut.{Applied, reading_by}
+use Rattle.ws_extended_station.proofs.CarryingOut.{Applied}
+use Rattle.ws_extended.specs.ExtendedRuns.{reading_by}
 use Rattle.ws_extended_station.proofs.carrying_out.apply_spelled.Given as goal
 
 -- the elements that are whole so far are carried out, and weren't refused

@@ -1,58 +1,30 @@
-use Rattle.std.proofs.Common.{ℕ, List, [], ◌∷◌, ◌++◌, false, refl, subst, sym, ◌∙◌}
-use Rattle.ws_code.specs.Code.{IsSpelled, IsUnfinished}
+use Rattle.std.proofs.Common.{ℕ, List, [], ◌∷◌, ◌++◌, subst, sym, slice_index, take}
+use Rattle.std.proofs.lemmas.List.{take_more}
+use Rattle.ws_code.specs.Code.{IsSpelled}
 use Rattle.ws_code.specs.Run.{IsRun}
 use Rattle.ws_code.specs.declared.run.End.{End}
-use Rattle.ws_code.specs.declared.run.Standing.{Standing}
-use Rattle.ws_code.proofs.RunLaws.{is_between, same_reading}
+use Rattle.ws_code.proofs.RunLaws.{same_reading}
 use Rattle.ws_extended.specs.ExtendedElements.{extended_rules}
 use Rattle.ws_extended.specs.ExtendedLaws.{extended_begins}
 use Rattle.ws_extended.specs.ExtendedRuns.{reading_by}
-use Rattle.ws_extended.specs.declared.extended_place.ExtendedPlace.{ExtendedPlace}
-use Rattle.ws_extended.proofs.Running.{run_bad, run_more, run_unit}
+use Rattle.ws_extended.proofs.Running.{run_unit}
 use Rattle.ws_extended.proofs.extended_commands.ExtendedCommands.take.Goals as goal
 
-pub returns-in-Some : goal.returns-in-Some
-returns-in-Some g c =
+pub returns-in-Some-clause-run : goal.returns-in-Some-clause-run
+returns-in-Some-clause-run g c =
     let from = reading_by c.args.self.now in
-    let b : ℕ = c.args.byte in
+    let values = c.args.values.now in
+    let b : ℕ = slice_index values 0 in
     let element = c.in-Some.element in
     let is = c.in-Some.ensures in
-    let handed = c.hand_over.ensures in
+    let handed = c.hand_over-end.ensures in
+    let at = c.requires.at in
     let spelled = subst (λ (begun : List ℕ). IsSpelled extended_rules from.place (begun ++ b ∷ []) element) (sym is.0)
     is.1 in
-    subst (λ (end : End). IsRun extended_rules g.K.Keep.holds g.K.Keep.may_answer from c.args.keep.now (b ∷ []) from
-    c.args.at.now c.hand_over.new.keep end) (sym handed.1)
-    (run_unit extended_rules extended_begins g.K.Keep.holds g.K.Keep.may_answer from from c.args.keep.now
-    c.hand_over.new.keep b c.args.at.now handed.0 element c.requires.unfinished spelled handed.2 handed.3
-    (same_reading _ _ _ _ (sym is.2) is.0) c.requires)
-
-pub returns-in-More : goal.returns-in-More
-returns-in-More g c =
-    let step = c.in-More.ensures in
-    run_more extended_rules extended_begins g.K.Keep.holds g.K.Keep.may_answer (reading_by c.args.self.now)
-    (reading_by c.push.new.self) c.args.keep.now c.args.keep.now c.args.byte _ c.requires.unfinished step.2
-    (same_reading _ _ _ _ step.0 step.1) refl (c.requires.at_place ∙ sym step.0) refl
-
-pub returns-in-Unit : goal.returns-in-Unit
-returns-in-Unit g c =
-    let from = reading_by c.args.self.now in
-    let to = reading_by c.restart.new.self in
-    let b : ℕ = c.args.byte in
-    let element = c.in-Unit.element in
-    let fresh = c.restart.ensures.fresh in
-    let handed = c.hand_over-in-Unit.ensures in
-    let unfinished = subst (λ (begun : List ℕ). IsUnfinished extended_rules to.place begun) (sym fresh)
-    (extended_begins to.place) in
-    let standing : Standing ExtendedPlace = record { place = c.after-place.result; is_inside = false } in
-    let at = is_between extended_rules to standing unfinished (sym c.restart.ensures.place) refl fresh in
-    subst (λ (end : End). IsRun extended_rules g.K.Keep.holds g.K.Keep.may_answer from c.args.keep.now (b ∷ []) to
-    standing c.hand_over-in-Unit.new.keep end) (sym handed.1)
-    (run_unit extended_rules extended_begins g.K.Keep.holds g.K.Keep.may_answer from to c.args.keep.now
-    c.hand_over-in-Unit.new.keep b standing handed.0 element c.requires.unfinished c.in-Unit.ensures handed.2 handed.3
-    (same_reading _ _ _ _ (c.restart.ensures.place ∙ c.after-place.ensures) fresh) at)
-
-pub returns-in-Bad : goal.returns-in-Bad
-returns-in-Bad g c =
-    run_bad extended_rules extended_begins g.K.Keep.holds g.K.Keep.may_answer (reading_by c.args.self.now)
-    (reading_by c.push.new.self) c.args.keep.now c.args.keep.now c.args.byte c.args.at.now c.requires.unfinished
-    c.in-Bad.reason c.in-Bad.ensures.0 c.in-Bad.ensures.1 refl
+    let one = run_unit extended_rules extended_begins g.K.Keep.holds g.K.Keep.may_answer from from c.args.keep.now
+    c.hand_over-end.new.keep b c.args.at.now handed.0 element at.unfinished spelled handed.2 handed.3
+    (same_reading _ _ _ _ (sym is.2) is.0) at in
+    subst (λ (xs : List ℕ). IsRun extended_rules g.K.Keep.holds g.K.Keep.may_answer from c.args.keep.now xs from
+    c.args.at.now c.hand_over-end.new.keep c.hand_over-end.result) (sym (take_more values 0 0 c.requires.some))
+    (subst (λ (end : End). IsRun extended_rules g.K.Keep.holds g.K.Keep.may_answer from c.args.keep.now (b ∷ []) from
+    c.args.at.now c.hand_over-end.new.keep end) (sym handed.1) one)

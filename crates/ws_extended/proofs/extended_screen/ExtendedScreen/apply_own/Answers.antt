@@ -5,8 +5,17 @@ use Rattle.ws_screen.specs.Faults.{fault, refusal}
 use Rattle.ws_screen.proofs.Applies.{same_fault}
 use Rattle.ws_extended.specs.ExtendedStates.{state_before, uncovers}
 use Rattle.ws_extended.proofs.Keeping.{on_ok}
-use Rattle.ws_extended.proofs.StateSteps.{unrefused}
+use Rattle.ws_extended.specs.ExtendedViews.{kept_of}
+use Rattle.ws_extended.proofs.StateSteps.{own_shows, unrefused}
 use Rattle.ws_extended.proofs.extended_screen.ExtendedScreen.apply_own.Goals as goal
+
+pub returns-then-touches_screen_alone-clause-after : goal.returns-then-touches_screen_alone-clause-after
+returns-then-touches_screen_alone-clause-after c =
+    let i = c.self.inside in
+    let alone = c.touches_screen_alone.ensures c.if-touches_screen_alone.true in
+    rw (← c.self.view_is) (on_ok c.apply.result
+    (λ follows state shows. own_shows state i.screen c.apply.new.self i.error_row i.text (kept_of i.kept) shows
+    c.args.element.now alone.0 alone.1 follows) c.apply.ensures.events)
 
 pub returns-clause-fault : goal.returns-clause-fault
 returns-clause-fault c = λ state shows.
