@@ -1,6 +1,7 @@
 use Rattle.ws_text.proofs.Common.{◌≡◌, ◌≤◌, ℕ, ◌+◌, true, List, [], ◌∷◌, ◌++◌, length, sym, ap, subst, ◌∙◌, arith}
-use Rattle.ws_text.proofs.Common.{length-append, append_assoc, flat_map-append, Rules, IsChain, CanBeEncoded, Record}
-use Rattle.ws_text.proofs.Common.{with_more, Follows, EndsEverywhere}
+use Rattle.ws_text.proofs.Common.{length-append, append_assoc, flat_map-append, Rules, IsChain, CanBeEncoded, Opcode}
+use Rattle.ws_text.proofs.Common.{Record}
+use Rattle.ws_text.proofs.Common.{with_more, Follows, MayStand}
 use Rattle.ws_code.specs.Code.{place_after, spelling_of, Stands}
 use Rattle.ws_code.proofs.CodeLaws.{chain_more, place_after_more}
 use Rattle.ws_record.specs.declared.record.Item.TheVariants as an_item
@@ -34,40 +35,41 @@ module _ {Place U : Type 0} (rules : Rules Place U) where
   chain_cut place [] vs c = (tt, c)
   chain_cut place (u ∷ us) vs c = let cut = chain_cut (rules.after u) us vs c.1 in ((c.0, cut.0), cut.1)
 
-  -- what follows can be encoded
-  pub can_be_encoded : EndsEverywhere rules → (r : Record U) (p : Place) (n : ℕ) → Follows rules r.body p n
+  -- what follows can be encoded where a body may end
+  pub can_be_encoded : (r : Record U) (p : Place) (n : ℕ) → Follows rules r.body p n → rules.may_end p ≡ true
       → CanBeEncoded rules (an_item.Record r)
-  can_be_encoded ends r p n f =
-      (record { chain = f.chain; ends = ends (place_after rules rules.first r.body) }, omega (arith, f.counted, f.fits))
+  can_be_encoded r p n f ends = (
+    record { chain = f.chain; ends = subst (λ (z : Place). rules.may_end z ≡ true) f.leads ends },
+    omega (arith, f.counted, f.fits),
+  )
 
-  -- and what can be encoded follows
-  pub must_follow : (r : Record U) (u : U) (p : Place) (n : ℕ) → Follows rules r.body p n
-      → CanBeEncoded rules (an_item.Record (with_more r (u ∷ [])))
+  -- and what can be encoded may stand
+  pub encoded_stands : (r : Record U) → CanBeEncoded rules (an_item.Record r) → MayStand rules r.body
+  encoded_stands r can = (can.0.chain, omega (arith, can.1))
+
+  -- behind what follows, what may stand follows too
+  pub must_follow : (us : List U) (u : U) (p : Place) (n : ℕ) → Follows rules us p n → MayStand rules (us ++ u ∷ [])
       → (rules.may_follow p u ≡ true) × (n + length (rules.spelling u) ≤ 65525)
-  must_follow r u p n f can =
-      let stands = (chain_cut rules.first r.body (u ∷ []) can.0.chain).1.0 in (
+  must_follow us u p n f may =
+      let stands = (chain_cut rules.first us (u ∷ []) may.0).1.0 in (
         subst (λ (z : Place). rules.may_follow z u ≡ true) (sym f.leads) stands.may_follow,
-        omega (arith, can.1, f.counted, spelled_more r.body u),
+        omega (arith, may.1, f.counted, spelled_more us u),
       )
 
-  -- a record can be encoded with the first of some units, if it can with all of them
-  pub front_encoded : EndsEverywhere rules → (r : Record U) (front more : List U)
-      → CanBeEncoded rules (an_item.Record (with_more r (front ++ more)))
-      → CanBeEncoded rules (an_item.Record (with_more r front))
-  front_encoded ends r front more can =
-      let cut : r.body ++ (front ++ more) ≡ (r.body ++ front) ++ more = sym (append_assoc r.body front more) in (
-        record {
-          chain = (chain_cut rules.first (r.body ++ front) more
-              (subst (λ (z : List U). IsChain rules rules.first z) cut can.0.chain)).0;
-          ends = ends (place_after rules rules.first (r.body ++ front));
-        },
-        omega (
-          arith,
-          can.1,
-          ap (λ z. length (spelling_of rules z)) cut,
-          spelled_both (r.body ++ front) more,
-        ),
-      )
+  -- the first of units that may stand do so by themselves
+  pub front_stands : (front more : List U) → MayStand rules (front ++ more) → MayStand rules front
+  front_stands front more may =
+      ((chain_cut rules.first front more may.0).0, omega (arith, may.1, spelled_both front more))
+
+  -- a record can be encoded with the first of some units, if it can with all of them, and a body may end behind those
+  pub front_encoded : (flags : ℕ) (opcode : Opcode) (front more : List U)
+      → CanBeEncoded rules (an_item.Record (record { flags = flags; opcode = opcode; body = front ++ more }))
+      → rules.may_end (place_after rules rules.first front) ≡ true
+      → CanBeEncoded rules (an_item.Record (record { flags = flags; opcode = opcode; body = front }))
+  front_encoded flags opcode front more can ends = (
+    record { chain = (chain_cut rules.first front more can.0.chain).0; ends = ends },
+    omega (arith, can.1, spelled_both front more),
+  )
 
   -- units behind units
   pub more_and_more : (r : Record U) (us vs : List U) → with_more (with_more r us) vs ≡ with_more r (us ++ vs)

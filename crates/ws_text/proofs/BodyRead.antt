@@ -1,12 +1,12 @@
 use Rattle.ws_text.proofs.Common.{◌≡◌, ◌<◌, ℕ, ◌+◌, true, false, List, [], ◌∷◌, ◌++◌, length, refl, sym, ap, subst, ◌∙◌}
 use Rattle.ws_text.proofs.Common.{Result, Ok, Err, MatchResult, IfOk, IfErr, lines, append-nil, Rules, Opcode, Record}
-use Rattle.ws_text.proofs.Common.{TextFault, Line, Memory, OpenRecord, with_more, with_line, IsOpen, Puts, IsLine, Wording}
-use Rattle.ws_text.proofs.Common.{IsClear, EndsEverywhere}
+use Rattle.ws_text.proofs.Common.{TextFault, Line, Memory, OpenRecord, with_more, with_line, IsOpen, IsLine, Wording}
+use Rattle.ws_text.proofs.Common.{IsClear, PutsLine}
 use Rattle.ws_text.specs.BodyLines.{AddUnits, CanAdd, IsAddFault, new_record}
 use Rattle.ws_text.specs.Parts.Part.{Units}
 use Rattle.ws_text.proofs.LinesRead.{SoFar, more_so_far}
 use Rattle.ws_text.proofs.OneLine.{one_line}
-use Rattle.ws_text.proofs.OpenRecords.{open_encoded, same_units}
+use Rattle.ws_text.proofs.OpenRecords.{same_units}
 
 -- A record's body that is read line by line.
 
@@ -37,15 +37,14 @@ module _ {Place U : Type 0} (rules : Rules Place U) (w : Wording U) where
     BodySoFar = SoFar (λ o units. IsOpen rules o (made_of units))
         (λ before units. AddUnits rules w before (new_record opcode) (made_of units))
 
-    pub body_goes_on : EndsEverywhere rules → {o next : OpenRecord Place U} {text rest behind line : List ℕ}
+    pub body_goes_on : {o next : OpenRecord Place U} {text rest behind line : List ℕ}
         {number : ℕ} → BodySoFar o text rest number → lines rest ≡ line ∷ lines behind → length behind < length rest
-        → Puts rules w (λ units. IsLine w line (Units units)) o next true → BodySoFar next text behind (number + 1)
-    body_goes_on ends {next = next} {line = line} so e shorter h =
-        let is = h.2 (made_of so.made) so.is in
+        → PutsLine rules w (λ units. IsLine w line (Units units)) o next true → BodySoFar next text behind (number + 1)
+    body_goes_on {line = line} so e shorter h =
+        let put = h.2 (made_of so.made) so.is in
         let more = w.behind so.made h.0 in
-        more_so_far so e shorter (so.made ++ more) is (λ before a.
-        add_more before line (new_record opcode) (made_of so.made) h.0 a
-        (h.1, open_encoded rules ends next (made_of (so.made ++ more)) is))
+        more_so_far so e shorter (so.made ++ more) put.0 (λ before a.
+        add_more before line (new_record opcode) (made_of so.made) h.0 a (h.1, put.1))
 
     -- all lines are read
     pub whole_body : {o : OpenRecord Place U} {text rest : List ℕ} {number : ℕ} → (so : BodySoFar o text rest number)
@@ -56,7 +55,7 @@ module _ {Place U : Type 0} (rules : Rules Place U) (w : Wording U) where
 
     pub bad_body : {o : OpenRecord Place U} {text rest line : List ℕ} {after : List (List ℕ)} {number : ℕ}
         (next : OpenRecord Place U) → (so : BodySoFar o text rest number) → lines rest ≡ line ∷ after
-        → Puts rules w (λ units. IsLine w line (Units units)) o next false
+        → PutsLine rules w (λ units. IsLine w line (Units units)) o next false
         → IsAddFault rules w (lines text) (new_record opcode) (Line (number + 1))
     bad_body next so e bad = (
       so.before,

@@ -39,19 +39,20 @@ pub use Rattle.ws_text.specs.Items.{AreItems, with_more, with_line, Leads, Adds,
 pub use Rattle.ws_text.specs.Names.{commands, look_up, verbs}
 pub use Rattle.ws_text.specs.Parts.{Part as part, Part}
 pub use Rattle.ws_text.specs.Printing.{Prints}
-pub use Rattle.ws_text.specs.Reading.{IsOpen, Puts, AreRead, Follows}
+pub use Rattle.ws_text.specs.Reading.{IsOpen, MayStand, Puts, PutsLine, AreRead, Follows}
 pub use Rattle.ws_text.specs.TextLines.{AreUnits, IsLine, IsWorded, AreTyped, IsItemLine, IsHeadText, IsTelnetText}
-pub use Rattle.ws_text.specs.TextLines.{Means, AreBehindPlace, AreRun, IsOpcodeText, IsRun}
+pub use Rattle.ws_text.specs.TextLines.{Means, AreBehindPlace, AreEach, AreHex, IsOpcodeText, IsRun, behind_first}
 pub use Rattle.ws_text.specs.TextLines.AreUnits.{run, one}
 pub use Rattle.ws_text.specs.TextLines.IsHeadText.{long, short}
 pub use Rattle.ws_text.specs.TextLines.IsWorded.{item, indented}
 pub use Rattle.ws_text.specs.TextLines.Means.{worded, comment, empty, typed}
 pub use Rattle.ws_text.specs.WordLaws.{head_of, tail_of, elements_clear}
-pub use Rattle.ws_text.specs.Wording.{Wording, AreOneByOne, EndsEverywhere, IsClear, Run}
+pub use Rattle.ws_text.specs.Wording.{Wording, AreOneByOne, IsClear, Run}
 pub use Rattle.ws_text.specs.Wording.Run.{Bytes, Other}
 pub use Rattle.ws_text.specs.Words.{IsHexByte, IsHexPair, words_of, IsHex, IsNumber, IsSmall, IsCell}
 pub use Rattle.ws_text.specs.declared.items.TextFault.{TextFault}
 pub use Rattle.ws_text.specs.declared.items.TextFault.TheVariants.{Line, Memory}
 pub use Rattle.ws_text.specs.declared.open_record.OpenRecord.{OpenRecord}
 pub use Rattle.ws_text.specs.declared.output.Output.{Output}
+pub use Rattle.ws_text.specs.declared.run_name.RunName.{RunName}
 pub use Rattle.ws_text.specs.declared.output.Output.TheVariants.{Failed, Open}

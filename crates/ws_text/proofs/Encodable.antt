@@ -1,6 +1,5 @@
-use Rattle.ws_text.proofs.Common.{◌≡◌, ℕ, List, [], ◌∷◌, ◌++◌, refl, sym, subst, arith, Rules, CanBeEncoded}
+use Rattle.ws_text.proofs.Common.{◌≡◌, ℕ, true, List, [], ◌∷◌, ◌++◌, refl, sym, subst, arith, Rules, CanBeEncoded}
 use Rattle.ws_text.proofs.Common.{CanAllBeEncoded, Item, Part, Adds, AreItems, Leads, with_line, Follows, Wording}
-use Rattle.ws_text.proofs.Common.{EndsEverywhere}
 use Rattle.ws_code.proofs.Lists.{AllByRecursion-append, AllByRecursion-front}
 use Rattle.ws_text.specs.Parts.Part.{Nothing, Head, Command, Units}
 use Rattle.ws_text.proofs.Bodies.{can_be_encoded}
@@ -8,7 +7,7 @@ use Rattle.ws_record.specs.declared.record.Item.TheVariants as an_item
 
 -- Items that lines spell can be encoded.
 
-module _ {Place U : Type 0} (rules : Rules Place U) (ends : EndsEverywhere rules) where
+module _ {Place U : Type 0} (rules : Rules Place U) (begins_whole : rules.may_end rules.first ≡ true) where
   none_follow : Follows rules [] rules.first 0
   none_follow = record { chain = tt; leads = refl; counted = refl; fits = omega arith }
 
@@ -23,7 +22,8 @@ module _ {Place U : Type 0} (rules : Rules Place U) (ends : EndsEverywhere rules
   adds_encoded w Nothing from to can e = subst (λ (z : List (Item U)). CanAllBeEncoded rules z) (sym e) can
   adds_encoded w (Head flags opcode) from to can e =
       with_last from to _ can
-      (can_be_encoded rules ends (record { flags = flags; opcode = opcode; body = [] }) rules.first 0 none_follow) e
+      (can_be_encoded rules (record { flags = flags; opcode = opcode; body = [] }) rules.first 0 none_follow
+      begins_whole) e
   adds_encoded w (Command telnet) from to can e = with_last from to (an_item.Telnet telnet) can tt e
   adds_encoded w (Units units) from to can h =
       let before = AllByRecursion-front (CanBeEncoded rules) h.0 (an_item.Record h.1 ∷ [])

@@ -1,13 +1,12 @@
 use Rattle.ws_text.proofs.Common.{◌≡◌, inr, ℕ, List, [], ◌∷◌, ◌++◌, true, false, refl, sym, subst, ◌∙◌, Option, Some}
 use Rattle.ws_text.proofs.Common.{None, Rules, Telnet, CanBeEncoded, Opcode, Item, Record, OpenRecord, Adds, with_line}
-use Rattle.ws_text.proofs.Common.{Part, part, AreRead, IsOpen, Puts, Wording, EndsEverywhere}
+use Rattle.ws_text.proofs.Common.{Part, part, AreRead, IsOpen, PutsLine, Wording}
 use Rattle.ws_text.specs.declared.line.LineUnits.{LineUnits}
 use Rattle.ws_text.specs.declared.reading.Reading.{Reading}
 use Rattle.ws_text.specs.Reading.{Holds, EndsIn, FoundAdds, Takes}
 use Rattle.ws_text.specs.Found.{Are}
 use Rattle.ws_text.specs.declared.gathered.Gathered.{Gathered}
 use Rattle.ws_text.proofs.OneReading.{last_same, same_record}
-use Rattle.ws_text.proofs.OpenRecords.{open_encoded}
 use Rattle.ws_record.specs.declared.record.Item.TheVariants as an_item
 use Rattle.ws_text.specs.declared.line.Found.TheVariants as found
 
@@ -33,28 +32,28 @@ module _ {Place U : Type 0} (rules : Rules Place U) where
         (to, (part.Command t, refl, refl), record { before = to; held = held; last = (refl, inr (from, t, refl)) })
 
     -- units behind those of the open record
-    pub units_read : EndsEverywhere rules → (reading : Reading Place U) (o new : OpenRecord Place U)
+    pub units_read : (reading : Reading Place U) (o new : OpenRecord Place U)
         (units : LineUnits U) (from : List (Item U)) → AreRead rules reading from → reading.last ≡ Some o
-        → Puts rules w (Are w units) o new true
+        → PutsLine rules w (Are w units) o new true
         → Takes rules (FoundAdds rules w (found.Units units) from)
         (Some (record { items = reading.items; last = Some new }))
-    units_read ends reading o new units from are e h =
+    units_read reading o new units from are e h =
         let last = subst (λ (z : Option (OpenRecord Place U)). EndsIn rules are.before z from) e are.last in
-        let is = h.2 last.0 last.1 in
+        let put = h.2 last.0 last.1 in
         let to = are.before ++ an_item.Record (with_line w last.0 h.0) ∷ [] in (
           to,
           (
             part.Units h.0,
             (h.0, h.1, refl),
-            (are.before, last.0, last.2, refl, open_encoded rules ends new (with_line w last.0 h.0) is),
+            (are.before, last.0, last.2, refl, put.1),
           ),
-          record { before = are.before; held = are.held; last = (with_line w last.0 h.0, is, refl) },
+          record { before = are.before; held = are.held; last = (with_line w last.0 h.0, put.0, refl) },
         )
 
     -- units that can't stand there
     pub no_units_read : (reading : Reading Place U) (o new : OpenRecord Place U) (units : LineUnits U)
         (from : List (Item U)) → AreRead rules reading from → reading.last ≡ Some o
-        → Puts rules w (Are w units) o new false → Takes rules (FoundAdds rules w (found.Units units) from) None
+        → PutsLine rules w (Are w units) o new false → Takes rules (FoundAdds rules w (found.Units units) from) None
     no_units_read reading o new units from are e bad = λ to h.
         let last = subst (λ (z : Option (OpenRecord Place U)). EndsIn rules are.before z from) e are.last in
         let adds = subst (λ (z : Part U). Adds rules w z from to) h.1.2 h.2 in

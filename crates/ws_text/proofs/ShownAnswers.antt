@@ -7,51 +7,52 @@ use Rattle.ws_text.specs.AnswerLines.{answer_text, part_text}
 use Rattle.ws_text.specs.Shown.{ShowsAnswers}
 use Rattle.ws_text.proofs.ShownBytes.{AreFrom, AreWords, literal}
 use Rattle.ws_text.proofs.ShownNumbers.{cell_back, row_from, column_from, hex_back, byte_back, byte_from}
-use Rattle.ws_text.proofs.ShownLines.{Printed, run_units, IsRunRight}
-use Rattle.ws_text.proofs.ShownItems.{all_shown_read}
+use Rattle.ws_text.proofs.ShownRuns.{ByRuns, shown_by_runs, run_units, IsRunRight}
+use Rattle.ws_text.specs.declared.run_name.RunName.TheVariants.{Fields}
 
 -- Printed parts of answers are read back.
 
 -- the name of a printed part, and the words behind it
-abbrev part_name : AnswerPart → List ℕ
+abbrev pub part_name : AnswerPart → List ℕ
 part_name (Head cursor aid) = codes "HEAD"
 part_name (At place) = codes "AT"
 part_name (Byte byte) = codes "BYTES"
 
-abbrev cell_words : ℕ → List (List ℕ) → List (List ℕ)
+abbrev pub cell_words : ℕ → List (List ℕ) → List (List ℕ)
 cell_words place more = decimal (place / COLUMNS + 1) ∷ decimal (place % COLUMNS + 1) ∷ more
 
-abbrev part_rest : AnswerPart → List (List ℕ)
+abbrev pub part_rest : AnswerPart → List (List ℕ)
 part_rest (Head cursor aid) = cell_words cursor (encode_upper (aid ∷ []) ∷ [])
 part_rest (At place) = cell_words place []
 part_rest (Byte byte) = encode_upper (byte ∷ []) ∷ []
 
 -- their line
-part_joined : (u : AnswerPart) → join_with_byte 32 (part_name u ∷ part_rest u) ≡ part_text u
+pub part_joined : (u : AnswerPart) → join_with_byte 32 (part_name u ∷ part_rest u) ≡ part_text u
 part_joined (Head cursor aid) = ap (λ z. codes "HEAD " ++ z) (sym (simp append_assoc))
 part_joined (At place) = ap (λ z. codes "AT " ++ z)
     (sym (append_assoc (decimal (place / COLUMNS + 1)) (32 ∷ []) (decimal (place % COLUMNS + 1))))
 part_joined (Byte byte) = refl
 
 -- each word is printed
-name_from : (u : AnswerPart) → AreFrom 33 (part_name u)
+pub name_from : (u : AnswerPart) → AreFrom 33 (part_name u)
 name_from (Head cursor aid) = literal (codes "HEAD") refl
 name_from (At place) = literal (codes "AT") refl
 name_from (Byte byte) = literal (codes "BYTES") refl
 
-rest_from : (u : AnswerPart) → IsPart u → AreWords (part_rest u)
+pub rest_from : (u : AnswerPart) → IsPart u → AreWords (part_rest u)
 rest_from (Head cursor aid) h = (row_from cursor h.0, (column_from cursor, (byte_from aid h.1.0, tt)))
 rest_from (At place) h = (row_from place h, (column_from place, tt))
 rest_from (Byte byte) h = (byte_from byte h.0, tt)
 
 -- and they say the part
-part_back : (u : AnswerPart) → IsPart u → AreUnits answer_wording (part_name u) (part_rest u) (u ∷ [])
+pub part_back : (u : AnswerPart) → IsPart u → AreUnits answer_wording (part_name u) (part_rest u) (u ∷ [])
 part_back (Head cursor aid) h =
     one (Head cursor aid)
     (refl, (encode_upper (aid ∷ []), (_, _, refl, cell_back cursor h.0), byte_back aid h.1.0, h.1)) refl
 part_back (At place) h = one (At place) (refl, (_, _, refl, cell_back place h)) refl
 part_back (Byte byte) h =
-    run (encode_upper (byte ∷ [])) refl refl (byte ∷ [], hex_back (byte ∷ []) (h.0, tt) (omega arith), ((h, tt), refl))
+    run Fields (encode_upper (byte ∷ [])) (refl, refl) refl
+    (Byte byte ∷ [], (byte ∷ [], hex_back (byte ∷ []) (h.0, tt) (omega arith), ((h, tt), refl)), refl)
 
 -- their runs
 with_back : (u : AnswerPart) (runs : List (Run AnswerPart)) → flat_map (run_units answer_rules answer_wording (λ us. us))
@@ -78,16 +79,22 @@ runs_right : (us : List AnswerPart) → AllByRecursion IsPart us → AreRight (r
 runs_right [] h = tt
 runs_right (u ∷ us) h = with_right u (runs_of us) h.0 (runs_right us h.1)
 
-answers_printed : Printed answer_rules answer_wording
+answers_printed : ByRuns answer_rules answer_wording
 answers_printed = record {
+  ends = λ _. refl;
   written = λ us. us;
-  settles = λ before us c. refl;
+  settles = λ us c. refl;
   name_of = part_name;
   rest_of = part_rest;
   name_from = name_from;
   rest_from = rest_from;
   says = part_back;
+  bytes_name = codes "BYTES";
   bytes_from = literal (codes "BYTES") refl;
+  named = (refl, refl);
+  no_front = refl;
+  no_first = refl;
+  takes = λ bytes h. h;
   runs_of = runs_of;
   runs_back = runs_back;
   runs_right = runs_right;
@@ -103,5 +110,5 @@ answers_printed = record {
 pub shown_answers_read : (text : List ℕ) (items : List (Item AnswerPart)) → ShowsAnswers text items
     → AreItems answer_rules answer_wording text items
 unfolding answers_printed
-shown_answers_read text items s = all_shown_read answer_rules (λ _. refl) answer_wording
-    (record { none = λ _. refl; more = λ _ _ _. refl }) answers_printed text items s
+shown_answers_read text items s = shown_by_runs answer_rules answer_wording answers_printed
+    (record { none = λ _. refl; more = λ _ _ _. refl }) text items s

@@ -17,8 +17,8 @@ use Rattle.ws_text.proofs.ShownBytes.{AreFrom, AreWords, literal}
 use Rattle.ws_text.proofs.ShownNumbers.{number_back, decimal_from, cell_back, row_from, column_from, hex_from, hex_back}
 use Rattle.ws_text.proofs.ShownNumbers.{byte_back, byte_from, pair_back, pair_from, hex_words, hex_words_back}
 use Rattle.ws_text.proofs.ShownNumbers.{hex_words_from}
-use Rattle.ws_text.proofs.ShownLines.{Printed, run_units, IsRunRight}
-use Rattle.ws_text.proofs.ShownItems.{all_shown_read}
+use Rattle.ws_text.proofs.ShownRuns.{ByRuns, shown_by_runs, run_units, IsRunRight}
+use Rattle.ws_text.specs.declared.run_name.RunName.TheVariants.{Cells}
 use Rattle.std.proofs.lemmas.Bool.Decides.{nat_tests}
 
 -- Printed elements are read back.
@@ -216,7 +216,8 @@ element_back (Ic to) h = one (Ic to) (kind.Ic, refl, (to, (_, _, refl, cell_back
 element_back (Mc to) h = one (Mc to) (kind.Mc, refl, (to, (_, _, refl, cell_back to h), refl)) refl
 element_back (Sf f) h = one (Sf f) (kind.Sf, refl, (f, field_back f h, refl)) refl
 element_back (Put byte) h =
-    run (byte_word byte) refl refl (byte ∷ [], hex_back (byte ∷ []) (h.0, tt) (omega arith), ((h, tt), refl))
+    run Cells (byte_word byte) (refl, refl) refl
+    (Put byte ∷ [], (byte ∷ [], hex_back (byte ∷ []) (h.0, tt) (omega arith), ((h, tt), refl)), refl)
 
 -- their runs
 with_back : (e : Element) (runs : List (Run Element)) → flat_map (run_units element_rules element_wording (λ us. us))
@@ -243,16 +244,22 @@ runs_right : (es : List Element) → AllByRecursion IsElement es → AreRight (r
 runs_right [] h = tt
 runs_right (e ∷ es) h = with_right e (runs_of es) h.0 (runs_right es h.1)
 
-elements_printed : Printed element_rules element_wording
+elements_printed : ByRuns element_rules element_wording
 elements_printed = record {
+  ends = λ _. refl;
   written = λ us. us;
-  settles = λ before us c. refl;
+  settles = λ us c. refl;
   name_of = element_name;
   rest_of = element_rest;
   name_from = name_from;
   rest_from = rest_from;
   says = element_back;
+  bytes_name = codes "PUT";
   bytes_from = literal (codes "PUT") refl;
+  named = (refl, refl);
+  no_front = refl;
+  no_first = refl;
+  takes = λ bytes h. h;
   runs_of = runs_of;
   runs_back = runs_back;
   runs_right = runs_right;
@@ -268,5 +275,5 @@ elements_printed = record {
 pub shown_read : (text : List ℕ) (items : List (Item Element)) → Shows text items
     → AreItems element_rules element_wording text items
 unfolding elements_printed
-shown_read text items s = all_shown_read element_rules (λ _. refl) element_wording
-    (record { none = λ _. refl; more = λ _ _ _. refl }) elements_printed text items s
+shown_read text items s = shown_by_runs element_rules element_wording elements_printed
+    (record { none = λ _. refl; more = λ _ _ _. refl }) text items s

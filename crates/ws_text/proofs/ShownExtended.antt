@@ -19,17 +19,16 @@ use Rattle.ws_text.specs.ExtendedWordLaws.{extended_one_by_one}
 use Rattle.ws_text.specs.Shown.{ShowsExtended}
 use Rattle.ws_text.proofs.ShownBytes.{AreFrom, AreWords, literal}
 use Rattle.ws_text.proofs.ShownElements.{element_name, element_rest, element_joined, name_from, rest_from, element_back}
-use Rattle.ws_text.proofs.ShownLines.{Printed, run_units, IsRunRight}
-use Rattle.ws_text.proofs.ShownItems.{all_shown_read}
+use Rattle.ws_text.proofs.ShownRuns.{ByRuns, shown_by_runs, run_units, IsRunRight}
 
 -- Printed elements of live hosts are read back.
 
 -- an element by its words, without what stands before it
-abbrev plain : ExtendedElement → ExtendedElement
+abbrev pub plain : ExtendedElement → ExtendedElement
 plain (Text e) = Profile e
 plain e = e
 
-abbrev all_plain : List ExtendedElement → List ExtendedElement
+abbrev pub all_plain : List ExtendedElement → List ExtendedElement
 all_plain es = map plain es
 
 -- in its place it is the element again
@@ -38,7 +37,7 @@ command_stays (Ic to) h = cc h
 command_stays (Put byte) h = cc h
 command_stays e h = refl
 
-settled_back : (place : ExtendedPlace) (e : ExtendedElement) → extended_follows place e ≡ true
+pub settled_back : (place : ExtendedPlace) (e : ExtendedElement) → extended_follows place e ≡ true
     → settled place (plain e) ≡ e
 settled_back (InProfile p) (Text e) h = cc h
 settled_back (Asked ask) (Text e) h = cc h
@@ -54,23 +53,23 @@ all_settled_back place (e ∷ es) c =
     ∙ ap (λ z. e ∷ z) (all_settled_back (place_behind e) es c.1)
 
 -- the name of a printed element, and the words behind it
-abbrev extended_name : ExtendedElement → List ℕ
+abbrev pub extended_name : ExtendedElement → List ℕ
 extended_name (Profile e) = element_name e
 extended_name (Text e) = element_name e
 extended_name command = name_text (command_name command)
 
-abbrev extended_rest : ExtendedElement → List (List ℕ)
+abbrev pub extended_rest : ExtendedElement → List (List ℕ)
 extended_rest (Profile e) = element_rest e
 extended_rest (Text e) = element_rest e
 extended_rest command = []
 
-extended_joined : (e : ExtendedElement) → join_with_byte 32 (extended_name e ∷ extended_rest e) ≡ extended_text e
+pub extended_joined : (e : ExtendedElement) → join_with_byte 32 (extended_name e ∷ extended_rest e) ≡ extended_text e
 extended_joined (Profile e) = element_joined e
 extended_joined (Text e) = element_joined e
 extended_joined command = refl
 
 -- each word is printed
-extended_name_from : (e : ExtendedElement) → AreFrom 33 (extended_name e)
+pub extended_name_from : (e : ExtendedElement) → AreFrom 33 (extended_name e)
 extended_name_from (Profile e) = name_from e
 extended_name_from (Text e) = name_from e
 extended_name_from RestoreScreen = literal (codes "RESTORE-SCREEN") refl
@@ -81,7 +80,7 @@ extended_name_from (Asks ReadScreen) = literal (codes "READ-SCREEN") refl
 extended_name_from (Asks ReadImmediate) = literal (codes "READ-IMMEDIATE") refl
 extended_name_from (Asks ReadImmediateAlternate) = literal (codes "READ-IMMEDIATE-ALTERNATE") refl
 
-extended_rest_from : (e : ExtendedElement) → IsExtended e → AreWords (extended_rest e)
+pub extended_rest_from : (e : ExtendedElement) → IsExtended e → AreWords (extended_rest e)
 extended_rest_from (Profile e) h = rest_from e h
 extended_rest_from (Text e) h = rest_from e h
 extended_rest_from command h = tt
@@ -94,11 +93,14 @@ bytes_lifted (b ∷ bytes) = ap (λ z. Profile (Put b) ∷ z) (bytes_lifted byte
 lifted : (name : List ℕ) (words : List (List ℕ)) (es : List Element) → AreUnits element_wording name words es
     → AreUnits extended_wording name words (map (λ e. Profile e) es)
 lifted name words es (one e h is) = one (Profile e) (inl (e, h, refl)) (ap (λ z. map (λ e. Profile e) z) is)
-lifted name words es (run hex named are is) =
-    run hex named are
-    (is.0, is.1, (is.2.0, ap (λ z. map (λ e. Profile e) z) is.2.1 ∙ bytes_lifted is.0))
+lifted name words es (run n hex named are (more, (bytes, word, each), is)) =
+    run n hex named are (
+      map (λ e. Profile e) more,
+      (bytes, word, (each.0, ap (λ z. map (λ e. Profile e) z) each.1 ∙ bytes_lifted bytes)),
+      ap (λ z. map (λ e. Profile e) z) is,
+    )
 
-extended_back : (e : ExtendedElement) → IsExtended e → AreUnits extended_wording (extended_name e) (extended_rest e)
+pub extended_back : (e : ExtendedElement) → IsExtended e → AreUnits extended_wording (extended_name e) (extended_rest e)
     (all_plain (e ∷ []))
 extended_back (Profile e) h = lifted (element_name e) (element_rest e) (e ∷ []) (element_back e h)
 extended_back (Text e) h = lifted (element_name e) (element_rest e) (e ∷ []) (element_back e h)
@@ -145,16 +147,22 @@ runs_right : (es : List ExtendedElement) → AllByRecursion IsExtended es → Ar
 runs_right [] h = tt
 runs_right (e ∷ es) h = with_right e (extended_runs es) h.0 (runs_right es h.1)
 
-extended_printed : Printed extended_rules extended_wording
+extended_printed : ByRuns extended_rules extended_wording
 extended_printed = record {
+  ends = λ _. refl;
   written = all_plain;
-  settles = λ before es c. all_settled_back _ es c;
+  settles = λ es c. all_settled_back _ es c;
   name_of = extended_name;
   rest_of = extended_rest;
   name_from = extended_name_from;
   rest_from = extended_rest_from;
   says = extended_back;
+  bytes_name = codes "PUT";
   bytes_from = literal (codes "PUT") refl;
+  named = (refl, refl);
+  no_front = refl;
+  no_first = refl;
+  takes = λ bytes h. h;
   runs_of = extended_runs;
   runs_back = runs_back;
   runs_right = runs_right;
@@ -170,5 +178,5 @@ extended_printed = record {
 pub shown_extended_read : (text : List ℕ) (items : List (Item ExtendedElement)) → ShowsExtended text items
     → AreItems extended_rules extended_wording text items
 unfolding extended_printed
-shown_extended_read text items s = all_shown_read extended_rules (λ _. refl) extended_wording extended_one_by_one
-    extended_printed text items s
+shown_extended_read text items s =
+    shown_by_runs extended_rules extended_wording extended_printed extended_one_by_one text items s

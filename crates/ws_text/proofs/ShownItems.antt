@@ -1,11 +1,13 @@
 use Rattle.ws_text.proofs.Common.{◌≡◌, ℕ, ◌^◌, ◌<◌, List, [], ◌∷◌, ◌++◌, get_or, map, refl, sym, ap, subst, ◌∙◌, arith}
-use Rattle.ws_text.proofs.Common.{append_assoc, codes, AllByRecursion, flat_map, decimal, lines, append-nil, Rules}
-use Rattle.ws_text.proofs.Common.{IsChain, CanBeEncoded, CanAllBeEncoded, Opcode, Item, head_text, AreItems, IsScreen}
-use Rattle.ws_text.proofs.Common.{Leads, Wording, AreOneByOne, Run, EndsEverywhere, part}
+use Rattle.ws_text.proofs.Common.{true, append_assoc, codes, AllByRecursion, flat_map, decimal, lines, append-nil}
+use Rattle.ws_text.proofs.Common.{Rules}
+use Rattle.ws_text.proofs.Common.{CanBeEncoded, CanAllBeEncoded, Opcode, Item, head_text, AreItems, IsScreen}
+use Rattle.ws_text.proofs.Common.{Leads, Wording, AreOneByOne, part}
+use Rattle.ws_code.specs.Code.{place_after}
 use Rattle.ws_record.specs.Encode.{IsInRange}
 use Rattle.ws_text.specs.Shown.{ShowsItems, shown_text}
 use Rattle.ws_text.proofs.ShownBytes.{line_of, AreFrom, ended, lines_back}
-use Rattle.ws_text.proofs.ShownLines.{Printed, run_words, run_units, IsRunRight, run_joined, run_line_from, run_says}
+use Rattle.ws_text.proofs.ShownLines.{Printed, line_words, units_line_from, line_says}
 use Rattle.ws_text.proofs.ShownLines.{head_words, head_line_from, head_says}
 use Rattle.ws_text.proofs.ShownTelnet.{telnet_words, telnet_joined, telnet_line_from, telnet_says}
 use Rattle.ws_record.specs.declared.record.Item.TheVariants as an_item
@@ -14,37 +16,32 @@ use Rattle.ws_text.proofs.ItemsRead.{leads_append}
 
 -- Items that are shown are read back.
 
-module _ {Place U : Type 0} (rules : Rules Place U) (ends : EndsEverywhere rules) (w : Wording U)
+module _ {Place U : Type 0} (rules : Rules Place U) (begins_whole : rules.may_end rules.first ≡ true) (w : Wording U)
     (by_one : AreOneByOne w) (p : Printed rules w) where
-  -- the units of a body may stand
-  are_units : (place : Place) (us : List U) → IsChain rules place us → AllByRecursion rules.is_unit us
-  are_units place [] c = tt
-  are_units place (u ∷ us) c = (c.0.is_unit, are_units (rules.after u) us c.1)
-
   -- an item's lines
-  abbrev run_lines : List (Run U) → List (List ℕ)
-  run_lines runs = map (λ r. line_of (run_words rules w p r)) runs
+  abbrev unit_lines : List p.Line → List (List ℕ)
+  unit_lines ls = map (λ l. line_of (line_words rules w p l)) ls
 
   abbrev printed_lines : ℕ → Item U → List (List ℕ)
-  printed_lines place (an_item.Record r) = line_of (head_words place r.flags r.opcode) ∷ run_lines (p.runs_of r.body)
+  printed_lines place (an_item.Record r) = line_of (head_words place r.flags r.opcode) ∷ unit_lines (p.lines_of r.body)
   printed_lines place (an_item.Telnet t) = line_of (telnet_words place t) ∷ []
 
-  runs_ended : (first : List ℕ) (runs : List (Run U)) → first ++ flat_map p.run_line runs ++ 10 ∷ []
-      ≡ ended (first ∷ run_lines runs)
-  runs_ended first [] = ap (λ z. z ++ 10 ∷ []) (append-nil first) ∙ sym (append-nil (first ++ 10 ∷ []))
-  runs_ended first (r ∷ runs) =
-      let line = line_of (run_words rules w p r) in
-      ap (λ z. first ++ (z ++ flat_map p.run_line runs) ++ 10 ∷ []) (run_joined rules w p r)
-      ∙ append_assoc first (10 ∷ (line ++ flat_map p.run_line runs)) (10 ∷ [])
-      ∙ ap (λ z. first ++ 10 ∷ z) (runs_ended line runs)
-      ∙ sym (append_assoc first (10 ∷ []) (ended (line ∷ run_lines runs)))
+  lines_ended : (first : List ℕ) (ls : List p.Line) → AllByRecursion p.IsRight ls
+      → first ++ flat_map p.line_text ls ++ 10 ∷ [] ≡ ended (first ∷ unit_lines ls)
+  lines_ended first [] h = ap (λ z. z ++ 10 ∷ []) (append-nil first) ∙ sym (append-nil (first ++ 10 ∷ []))
+  lines_ended first (l ∷ ls) h =
+      let line = line_of (line_words rules w p l) in
+      ap (λ z. first ++ (z ++ flat_map p.line_text ls) ++ 10 ∷ []) (p.joined l h.0)
+      ∙ append_assoc first (10 ∷ (line ++ flat_map p.line_text ls)) (10 ∷ [])
+      ∙ ap (λ z. first ++ 10 ∷ z) (lines_ended line ls h.1)
+      ∙ sym (append_assoc first (10 ∷ []) (ended (line ∷ unit_lines ls)))
 
-  item_ended : (place : ℕ) (x : Item U) → p.text_of place x ≡ ended (printed_lines place x)
-  item_ended place (an_item.Record r) =
+  item_ended : (place : ℕ) (x : Item U) → CanBeEncoded rules x → p.text_of place x ≡ ended (printed_lines place x)
+  item_ended place (an_item.Record r) can =
       let head : head_text place r ≡ line_of (head_words place r.flags r.opcode) = simp append_assoc in
-      p.record_is place r ∙ ap (λ z. z ++ flat_map p.run_line (p.runs_of r.body) ++ 10 ∷ []) head
-      ∙ runs_ended (line_of (head_words place r.flags r.opcode)) (p.runs_of r.body)
-  item_ended place (an_item.Telnet t) =
+      p.record_is place r can.0 ∙ ap (λ z. z ++ flat_map p.line_text (p.lines_of r.body) ++ 10 ∷ []) head
+      ∙ lines_ended (line_of (head_words place r.flags r.opcode)) (p.lines_of r.body) (p.right r.body can.0)
+  item_ended place (an_item.Telnet t) can =
       p.telnet_is place t
       ∙ ap (λ z. codes "at " ++ decimal place ++ codes " telnet " ++ z ++ 10 ∷ []) (sym (telnet_joined t))
       ∙ simp (append_assoc, append-nil)
@@ -52,13 +49,11 @@ module _ {Place U : Type 0} (rules : Rules Place U) (ends : EndsEverywhere rules
   item_from : (place : ℕ) (x : Item U) → place < 2 ^ 64 → CanBeEncoded rules x → IsInRange x
       → AllByRecursion (λ line. AreFrom 32 line) (printed_lines place x)
   item_from place (an_item.Record r) at can range =
-      let right = p.runs_right r.body (are_units rules.first r.body can.0.chain) in
-      (head_line_from place r.flags r.opcode at range, go (p.runs_of r.body) right)
+      (head_line_from place r.flags r.opcode at range, go (p.lines_of r.body) (p.right r.body can.0))
     where
-      go : (runs : List (Run U)) → AllByRecursion (IsRunRight rules w) runs → AllByRecursion (λ line. AreFrom 32 line)
-          (run_lines runs)
+      go : (ls : List p.Line) → AllByRecursion p.IsRight ls → AllByRecursion (λ line. AreFrom 32 line) (unit_lines ls)
       go [] h = tt
-      go (run ∷ runs) h = (run_line_from rules w p run h.0, go runs h.1)
+      go (l ∷ ls) h = (units_line_from rules w p l h.0, go ls h.1)
   item_from place (an_item.Telnet t) at can range = (telnet_line_from place t at range, tt)
 
   -- what its lines make of the items before it
@@ -68,54 +63,52 @@ module _ {Place U : Type 0} (rules : Rules Place U) (ends : EndsEverywhere rules
   other_first : (line : List ℕ) → (get_or line 0 0 ≡ 115 → ⊥) → IsScreen line → ⊥
   other_first line h e = h (ap (λ z. get_or z 0 0) e)
 
-  abbrev units_of : List (Run U) → List U
-  units_of runs = flat_map (run_units rules w p.written) runs
+  abbrev units_of : List p.Line → List U
+  units_of ls = flat_map p.units ls
 
-  leads_runs : (flags : ℕ) (opcode : Opcode) (before : List (Item U)) (us : List U) (runs : List (Run U))
-      → AllByRecursion (IsRunRight rules w) runs
-      → CanBeEncoded rules (made flags opcode (us ++ w.behind us (units_of runs)))
-      → Leads rules w (run_lines runs) (before ++ made flags opcode us ∷ [])
-      (before ++ made flags opcode (us ++ w.behind us (units_of runs)) ∷ [])
-  leads_runs flags opcode before us [] h can =
+  leads_lines : (flags : ℕ) (opcode : Opcode) (before : List (Item U)) (us : List U) (ls : List p.Line)
+      → AllByRecursion p.IsRight ls → rules.may_end (place_after rules rules.first us) ≡ true
+      → CanBeEncoded rules (made flags opcode (us ++ w.behind us (units_of ls)))
+      → Leads rules w (unit_lines ls) (before ++ made flags opcode us ∷ [])
+      (before ++ made flags opcode (us ++ w.behind us (units_of ls)) ∷ [])
+  leads_lines flags opcode before us [] h may can =
       ap (λ z. before ++ made flags opcode z ∷ []) (ap (λ z. us ++ z) (by_one.none us) ∙ append-nil us)
-  leads_runs flags opcode before us (run ∷ runs) h can =
-      let first = w.behind us (run_units rules w p.written run) in
-      let more = w.behind (us ++ first) (units_of runs) in
-      let same : us ++ w.behind us (units_of (run ∷ runs)) ≡ (us ++ first) ++ more =
-      ap (λ z. us ++ z) (by_one.more us (run_units rules w p.written run) (units_of runs))
-      ∙ sym (append_assoc us first more) in
-      let all = subst (λ (z : List U). CanBeEncoded rules (made flags opcode z)) same can in (
+  leads_lines flags opcode before us (l ∷ ls) h may can =
+      let first = w.behind us (p.units l) in
+      let more = w.behind (us ++ first) (units_of ls) in
+      let same : us ++ w.behind us (units_of (l ∷ ls)) ≡ (us ++ first) ++ more =
+      ap (λ z. us ++ z) (by_one.more us (p.units l) (units_of ls)) ∙ sym (append_assoc us first more) in
+      let all = subst (λ (z : List U). CanBeEncoded rules (made flags opcode z)) same can in
+      let ends = p.ends us l h.0 may in (
         before ++ made flags opcode (us ++ first) ∷ [],
-        other_first (line_of (run_words rules w p run)) (λ e. omega (arith, e)),
+        other_first (line_of (line_words rules w p l)) (λ e. omega (arith, e)),
         (
-          part.Units (run_units rules w p.written run),
-          run_says rules w p run h.0,
+          part.Units (p.units l),
+          line_says rules w p l h.0,
           (
             before,
             record { flags = flags; opcode = opcode; body = us },
             refl,
             refl,
-            front_encoded rules ends (record { flags = flags; opcode = opcode; body = [] }) (us ++ first) more all,
+            front_encoded rules flags opcode (us ++ first) more all ends,
           ),
         ),
-        subst (λ (z : List U). Leads rules w (run_lines runs) (before ++ made flags opcode (us ++ first) ∷ [])
+        subst (λ (z : List U). Leads rules w (unit_lines ls) (before ++ made flags opcode (us ++ first) ∷ [])
             (before ++ made flags opcode z ∷ [])) (sym same)
-            (leads_runs flags opcode before (us ++ first) runs h.1 all),
+            (leads_lines flags opcode before (us ++ first) ls h.1 ends all),
       )
 
   leads_item : (place : ℕ) (x : Item U) (before : List (Item U)) → place < 2 ^ 64
       → CanBeEncoded rules x → IsInRange x → Leads rules w (printed_lines place x) before (before ++ x ∷ [])
   leads_item place (an_item.Record r) before at can range =
-      let same : w.behind [] (units_of (p.runs_of r.body)) ≡ r.body =
-      ap (λ z. w.behind [] z) (p.runs_back r.body) ∙ p.settles [] r.body can.0.chain in
+      let same : w.behind [] (units_of (p.lines_of r.body)) ≡ r.body = p.back r.body can.0 in
       let all = subst (λ (z : List U). CanBeEncoded rules (made r.flags r.opcode z)) (sym same) can in (
         before ++ made r.flags r.opcode [] ∷ [],
         other_first (line_of (head_words place r.flags r.opcode)) (λ e. omega (arith, e)),
         (part.Head r.flags r.opcode, head_says w place r.flags r.opcode at range, refl),
-        subst (λ (z : List U). Leads rules w (run_lines (p.runs_of r.body)) (before ++ made r.flags r.opcode [] ∷ [])
-            (before ++ made r.flags r.opcode z ∷ [])) same
-            (leads_runs r.flags r.opcode before [] (p.runs_of r.body)
-            (p.runs_right r.body (are_units rules.first r.body can.0.chain)) all),
+        subst (λ (z : List U). Leads rules w (unit_lines (p.lines_of r.body))
+            (before ++ made r.flags r.opcode [] ∷ []) (before ++ made r.flags r.opcode z ∷ [])) same
+            (leads_lines r.flags r.opcode before [] (p.lines_of r.body) (p.right r.body can.0) begins_whole all),
       )
   leads_item place (an_item.Telnet t) before at can range = (
     before ++ an_item.Telnet t ∷ [],
@@ -158,7 +151,7 @@ module _ {Place U : Type 0} (rules : Rules Place U) (ends : EndsEverywhere rules
   all_back [] rest h = refl
   all_back (x ∷ placed) rest h =
       ap lines (append_assoc (p.text_of x.0 x.1) (shown_text p.text_of placed) rest
-      ∙ ap (λ z. z ++ (shown_text p.text_of placed ++ rest)) (item_ended x.0 x.1))
+      ∙ ap (λ z. z ++ (shown_text p.text_of placed ++ rest)) (item_ended x.0 x.1 h.encoded.0))
       ∙ lines_back (printed_lines x.0 x.1) (shown_text p.text_of placed ++ rest)
       (item_from x.0 x.1 h.places.0 h.encoded.0 h.in_range.0)
       ∙ ap (λ z. printed_lines x.0 x.1 ++ z) (all_back placed rest (others x placed h))

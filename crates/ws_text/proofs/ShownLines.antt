@@ -1,95 +1,57 @@
-use Rattle.ws_text.proofs.Common.{◌≡◌, inl, ℕ, ◌^◌, ◌<◌, List, [], ◌∷◌, ◌++◌, length, map, refl, arith, codes}
-use Rattle.ws_text.proofs.Common.{AllByRecursion, flat_map, decimal, encode_upper, Rules, IsData, two_bytes}
-use Rattle.ws_text.proofs.Common.{opcode_byte, Opcode, Item, Record, Telnet, head_text, Wording, Run, Bytes, Other}
-use Rattle.ws_text.proofs.Common.{IsLine, AreUnits, run, long, item, indented, worded, part}
-use Rattle.ws_code.specs.Code.{IsChain, place_after}
+use Rattle.ws_text.proofs.Common.{◌≡◌, inl, ℕ, ◌^◌, ◌<◌, true, List, [], ◌∷◌, ◌++◌, refl, arith, codes}
+use Rattle.ws_text.proofs.Common.{AllByRecursion, flat_map, decimal, encode_upper, Rules, two_bytes}
+use Rattle.ws_text.proofs.Common.{opcode_byte, Opcode, Item, Record, Telnet, head_text, Wording}
+use Rattle.ws_text.proofs.Common.{IsLine, AreUnits, long, item, indented, worded, part}
+use Rattle.ws_code.specs.Code.{IsWhole, place_after}
 use Rattle.ws_text.specs.ItemLines.{telnet_text}
 use Rattle.ws_record.proofs.Encodings.{opcode_fits}
 use Rattle.ws_text.proofs.ShownBytes.{line_of, AreFrom, AreWords, literal, words_back, line_from, is_text}
-use Rattle.ws_text.proofs.ShownNumbers.{small_back, place_back, decimal_from, hex_from, hex_back, pair_back, pair_from}
-use Rattle.ws_text.proofs.ShownNumbers.{data_are_bytes}
+use Rattle.ws_text.proofs.ShownNumbers.{small_back, place_back, decimal_from, pair_back, pair_from}
 use Rattle.ws_record.specs.declared.record.Item.TheVariants as an_item
 
 -- Printed lines are read back.
 
 module _ {Place U : Type 0} (rules : Rules Place U) (w : Wording U) where
-  -- the units that a run's line says, each as it is written
-  abbrev pub run_units : (List U → List U) → Run U → List U
-  run_units written (Bytes bytes) = map w.byte bytes
-  run_units written (Other u) = written (u ∷ [])
-
-  -- it can be printed
-  abbrev pub IsRunRight : Run U → Type 0
-  IsRunRight (Bytes bytes) = (0 < length bytes) × AllByRecursion IsData bytes
-  IsRunRight (Other u) = rules.is_unit u
-
-  -- How units are printed. Each is a name and words, which say it as it is written; those that are bytes go on in
-  -- runs. Units that may stand somewhere are what those that are written are there.
+  -- How bodies are printed: in lines, each a name and words, which say units. Behind each line a body may end, and
+  -- where they stand, the units of all lines are those of the body.
   pub record Printed : Type 1 where
-    pub written : List U → List U
-    pub settles : (before us : List U) → IsChain rules (place_after rules rules.first before) us
-        → w.behind before (written us) ≡ us
-    pub name_of : U → List ℕ
-    pub rest_of : U → List (List ℕ)
-    pub name_from : (u : U) → AreFrom 33 (name_of u)
-    pub rest_from : (u : U) → rules.is_unit u → AreWords (rest_of u)
-    pub says : (u : U) → rules.is_unit u → AreUnits w (name_of u) (rest_of u) (written (u ∷ []))
-    pub bytes_from : AreFrom 33 w.bytes
-    pub runs_of : List U → List (Run U)
-    pub runs_back : (us : List U) → flat_map (run_units written) (runs_of us) ≡ written us
-    pub runs_right : (us : List U) → AllByRecursion rules.is_unit us → AllByRecursion IsRunRight (runs_of us)
-    pub run_line : Run U → List ℕ
-    pub bytes_joined : (bytes : List ℕ) → run_line (Bytes bytes)
-        ≡ 10 ∷ line_of ([] ∷ [] ∷ w.bytes ∷ encode_upper bytes ∷ [])
-    pub other_joined : (u : U) → run_line (Other u) ≡ 10 ∷ line_of ([] ∷ [] ∷ name_of u ∷ rest_of u)
+    pub Line : Type 0
+    pub name_of : Line → List ℕ
+    pub rest_of : Line → List (List ℕ)
+    pub units : Line → List U
+    pub IsRight : Line → Type 0
+    pub name_from : (l : Line) → IsRight l → AreFrom 33 (name_of l)
+    pub rest_from : (l : Line) → IsRight l → AreWords (rest_of l)
+    pub says : (l : Line) → IsRight l → AreUnits w (name_of l) (rest_of l) (units l)
+    pub ends : (before : List U) (l : Line) → IsRight l
+        → rules.may_end (place_after rules rules.first before) ≡ true
+        → rules.may_end (place_after rules rules.first (before ++ w.behind before (units l))) ≡ true
+    pub lines_of : List U → List Line
+    pub back : (us : List U) → IsWhole rules us → w.behind [] (flat_map units (lines_of us)) ≡ us
+    pub right : (us : List U) → IsWhole rules us → AllByRecursion IsRight (lines_of us)
+    pub line_text : Line → List ℕ
+    pub joined : (l : Line) → IsRight l → line_text l ≡ 10 ∷ line_of ([] ∷ [] ∷ name_of l ∷ rest_of l)
     pub text_of : ℕ → Item U → List ℕ
-    pub record_is : (place : ℕ) (r : Record U) → text_of place (an_item.Record r)
-        ≡ head_text place r ++ flat_map run_line (runs_of r.body) ++ 10 ∷ []
+    pub record_is : (place : ℕ) (r : Record U) → IsWhole rules r.body → text_of place (an_item.Record r)
+        ≡ head_text place r ++ flat_map line_text (lines_of r.body) ++ 10 ∷ []
     pub telnet_is : (place : ℕ) (t : Telnet) → text_of place (an_item.Telnet t) ≡ telnet_text place t
 
 module _ {Place U : Type 0} (rules : Rules Place U) (w : Wording U) (p : Printed rules w) where
-  -- a run of units: its words, which stand behind two blanks
-  abbrev run_name : Run U → List ℕ
-  run_name (Bytes bytes) = w.bytes
-  run_name (Other u) = p.name_of u
+  -- the words of a line, which stand behind two blanks
+  abbrev pub line_words : p.Line → List (List ℕ)
+  line_words l = [] ∷ [] ∷ p.name_of l ∷ p.rest_of l
 
-  abbrev run_rest : Run U → List (List ℕ)
-  run_rest (Bytes bytes) = encode_upper bytes ∷ []
-  run_rest (Other u) = p.rest_of u
+  words_from : (l : p.Line) → p.IsRight l → AreWords ([] ∷ p.name_of l ∷ p.rest_of l)
+  words_from l h = (tt, (p.name_from l h, p.rest_from l h))
 
-  abbrev pub run_words : Run U → List (List ℕ)
-  run_words r = [] ∷ [] ∷ run_name r ∷ run_rest r
+  pub units_line_from : (l : p.Line) → p.IsRight l → AreFrom 32 (line_of (line_words l))
+  units_line_from l h = line_from [] ([] ∷ p.name_of l ∷ p.rest_of l) tt (words_from l h)
 
-  pub run_joined : (r : Run U) → p.run_line r ≡ 10 ∷ line_of (run_words r)
-  run_joined (Bytes bytes) = p.bytes_joined bytes
-  run_joined (Other u) = p.other_joined u
-
-  run_name_from : (r : Run U) → AreFrom 33 (run_name r)
-  run_name_from (Bytes bytes) = p.bytes_from
-  run_name_from (Other u) = p.name_from u
-
-  run_rest_from : (r : Run U) → IsRunRight rules w r → AreWords (run_rest r)
-  run_rest_from (Bytes bytes) h = (hex_from bytes (data_are_bytes bytes h.1), tt)
-  run_rest_from (Other u) h = p.rest_from u h
-
-  run_back : (r : Run U) → IsRunRight rules w r → AreUnits w (run_name r) (run_rest r)
-      (run_units rules w p.written r)
-  run_back (Bytes bytes) h =
-      run (encode_upper bytes) refl refl (bytes, hex_back bytes (data_are_bytes bytes h.1) h.0, (h.1, refl))
-  run_back (Other u) h = p.says u h
-
-  run_words_from : (r : Run U) → IsRunRight rules w r → AreWords ([] ∷ run_name r ∷ run_rest r)
-  run_words_from r h = (tt, (run_name_from r, run_rest_from r h))
-
-  pub run_line_from : (r : Run U) → IsRunRight rules w r → AreFrom 32 (line_of (run_words r))
-  run_line_from r h = line_from [] ([] ∷ run_name r ∷ run_rest r) tt (run_words_from r h)
-
-  pub run_says : (r : Run U) → IsRunRight rules w r → IsLine w (line_of (run_words r)) (part.Units
-      (run_units rules w p.written r))
-  run_says r h = (
-    is_text (line_of (run_words r)) (run_line_from r h),
-    worded (indented (run_name r) (run_rest r) (run_units rules w p.written r)
-        (words_back [] ([] ∷ run_name r ∷ run_rest r) tt (run_words_from r h)) (run_back r h) refl),
+  pub line_says : (l : p.Line) → p.IsRight l → IsLine w (line_of (line_words l)) (part.Units (p.units l))
+  line_says l h = (
+    is_text (line_of (line_words l)) (units_line_from l h),
+    worded (indented (p.name_of l) (p.rest_of l) (p.units l)
+        (words_back [] ([] ∷ p.name_of l ∷ p.rest_of l) tt (words_from l h)) (p.says l h) refl),
   )
 
 abbrev head_rest : ℕ → ℕ → Opcode → List (List ℕ)

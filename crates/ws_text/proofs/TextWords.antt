@@ -14,7 +14,7 @@ first_words text = refl
 pub text_is_no_unit : {U : Type 0} (w : Wording U) → IsClear w → (rest : List (List ℕ)) (us : List U)
     → AreUnits w (codes "TEXT") rest us → ⊥
 text_is_no_unit w clear rest us (one u h f) = clear.no_text rest u h
-text_is_no_unit w clear rest us (run hex f g h) = clear.apart (sym f)
+text_is_no_unit w clear rest us (run n hex f g h) = clear.apart n f
 
 pub behind_seven : (a b : List ℕ) → codes "  TEXT " ++ a ≡ codes "  TEXT " ++ b → a ≡ b
 behind_seven a b e = cc

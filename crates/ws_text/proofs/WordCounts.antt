@@ -25,7 +25,7 @@ module _ {U : Type 0} where
   few_of_units : (w : Wording U) → HasFewWords w → (name : List ℕ) (words : List (List ℕ)) (us : List U)
       → AreUnits w name words us → length words ≤ 11
   few_of_units w few name words us (one u h e) = few name words u h
-  few_of_units w few name words us (run hex is e h) = omega (arith, ap length e)
+  few_of_units w few name words us (run n hex is e h) = omega (arith, ap length e)
 
   -- what a line says has at most fourteen words
   pub few_words : (w : Wording U) → HasFewWords w → (words : List (List ℕ)) (says : Part U) → IsWorded w words says

@@ -11,6 +11,7 @@ use Rattle.ws_text.specs.declared.kind.Kind.TheVariants.{ClearUnit, ClearFormat,
 use Rattle.ws_text.specs.declared.kind.Kind.TheVariants.{ReadMdtAlternate, Soh, Ra, Ea, Sba, Ic, Mc, Sf}
 use Rattle.ws_text.specs.Names.{look_up, kinds}
 use Rattle.ws_text.specs.Wording.{Wording}
+use Rattle.ws_text.specs.declared.run_name.RunName.TheVariants.{Cells}
 use Rattle.ws_text.specs.Words.{IsHex, IsHexByte, IsHexPair, IsNumber, IsCell}
 
 -- the words are two control characters
@@ -84,8 +85,12 @@ IsOneElement name words e = (kind : Kind) × (look_up name kinds ≡ Some kind) 
 -- how a host's commands and orders are written
 abbrev pub element_wording : Wording Element
 element_wording = record {
-  bytes = codes "PUT";
-  byte = λ b. element.Put b;
+  IsNamed = λ name n. (name ≡ codes "PUT") × (n ≡ Cells);
+  typed = Cells;
+  front = λ _. [];
+  first = λ _. None;
+  IsByte = λ _ b. IsData b;
+  byte = λ _ b. element.Put b;
   IsOne = IsOneElement;
   behind = λ before units. units;
 }

@@ -37,18 +37,18 @@ kind_is_no_command name kind h =
     of_each (λ (n : List ℕ). command_of n command_names ≡ None) kinds name kind
     (refl, (refl, (refl, (refl, (refl, (refl, (refl, (refl, (refl, (refl, (refl, (refl, (refl, tt))))))))))))) h
 
-text_is_none : (words : List (List ℕ)) (u : ExtendedElement) → IsOneExtended (codes "TEXT") words u → ⊥
+pub text_is_none : (words : List (List ℕ)) (u : ExtendedElement) → IsOneExtended (codes "TEXT") words u → ⊥
 text_is_none words u (inl h) = text_is_no_kind words h.0 h.1
 text_is_none words u (inr h) = cc h.1
 
-put_is_none : (words : List (List ℕ)) (u : ExtendedElement) → IsOneExtended (codes "PUT") words u → ⊥
+pub put_is_none : (words : List (List ℕ)) (u : ExtendedElement) → IsOneExtended (codes "PUT") words u → ⊥
 put_is_none words u (inl h) = put_is_no_kind words h.0 h.1
 put_is_none words u (inr h) = cc h.1
 
-apart : {A : Type 0} (o : Option A) (a : A) → o ≡ None → o ≡ Some a → ⊥
+pub apart : {A : Type 0} (o : Option A) (a : A) → o ≡ None → o ≡ Some a → ⊥
 apart o a e f = let bad : None ≡ Some a = sym e ∙ f in cc bad
 
-one_extended : (name : List ℕ) (words : List (List ℕ)) (u v : ExtendedElement) → IsOneExtended name words u
+pub one_extended : (name : List ℕ) (words : List (List ℕ)) (u v : ExtendedElement) → IsOneExtended name words u
     → IsOneExtended name words v → u ≡ v
 one_extended name words u v (inl a) (inl b) =
     a.2 ∙ ap (λ e. Profile e) (one_same name words a.0 b.0 a.1 b.1) ∙ sym b.2
@@ -62,8 +62,10 @@ one_extended name words u v (inr a) (inr b) = some_same u v (command_of name com
 pub extended_clear : IsClear extended_wording
 extended_clear = record {
   no_text = text_is_none;
-  no_bytes = put_is_none;
-  apart = λ e. omega (arith, ap length e);
+  no_run = λ name words u n named one.
+      put_is_none words u (subst (λ (z : List ℕ). IsOneExtended z words u) named.0 one);
+  apart = λ n named. omega (arith, ap length named.0);
+  one_run = λ name m n a b. a.1 ∙ sym b.1;
   one = one_extended;
 }
 

@@ -1,8 +1,9 @@
 -- The words of a line that is one element of a live host's body. Insert Cursor and bytes for cells have the same words
 -- in an error's text as elsewhere.
 
-use Rattle.std.specs.Prelude.{◌≡◌, ◌⊎◌, ℕ, List, [], ◌∷◌, Some, codes, if◌then◌else◌}
+use Rattle.std.specs.Prelude.{◌≡◌, ◌⊎◌, ℕ, List, [], ◌∷◌, None, Some, codes, if◌then◌else◌}
 use Rattle.ws_code.specs.Code.{place_after}
+use Rattle.ws_code.specs.DataByte.{IsData}
 use Rattle.ws_stream.specs.declared.element.Element.{Element}
 use Rattle.ws_stream.specs.declared.element.Element.TheVariants.{Put}
 use Rattle.ws_extended.specs.CommandNames.{command_names, look_up}
@@ -13,6 +14,7 @@ use Rattle.ws_extended.specs.declared.extended_place.ExtendedPlace.{ExtendedPlac
 use Rattle.ws_extended.specs.declared.extended_place.ExtendedPlace.TheVariants.{ErrorText}
 use Rattle.ws_text.specs.ElementWords.{IsOneElement}
 use Rattle.ws_text.specs.Wording.{Wording}
+use Rattle.ws_text.specs.declared.run_name.RunName.TheVariants.{Cells}
 
 -- an element of the profile by its words, or one of the seven commands beside it by its name alone
 abbrev pub IsOneExtended : List ℕ → List (List ℕ) → ExtendedElement → Type 0
@@ -32,8 +34,12 @@ all_settled place (e ∷ es) = settled place e ∷ all_settled (place_behind (se
 -- how a live host's commands and orders are written
 abbrev pub extended_wording : Wording ExtendedElement
 extended_wording = record {
-  bytes = codes "PUT";
-  byte = λ b. Profile (Put b);
+  IsNamed = λ name n. (name ≡ codes "PUT") × (n ≡ Cells);
+  typed = Cells;
+  front = λ _. [];
+  first = λ _. None;
+  IsByte = λ _ b. IsData b;
+  byte = λ _ b. Profile (Put b);
   IsOne = IsOneExtended;
   behind = λ before es. all_settled (place_after extended_rules extended_rules.first before) es;
 }

@@ -13,7 +13,7 @@ use Rattle.ws_text.specs.Wording.{Wording}
 -- the units that were found
 abbrev pub Are : {U : Type 0} → Wording U → LineUnits U → List U → Type 0
 Are w (One unit) units = units ≡ unit ∷ []
-Are w (Hex hex) units = IsRun w hex.now units
+Are w (Hex n hex) units = IsRun w n hex.now units
 Are w (Typed text) units = AreTyped w text.now units
 
 -- what a line says in which this was found

@@ -2,6 +2,8 @@ pub mod AnswerLines
 pub mod AnswerWords
 pub mod ElementWords
 pub mod ExtendedAnswerLines
+pub mod ExtendedAnswerWords
+pub mod ExtendedAnswerWordLaws
 pub mod ExtendedLines
 pub mod ExtendedWords
 pub mod ExtendedWordLaws

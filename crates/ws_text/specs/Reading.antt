@@ -41,11 +41,23 @@ module _ {Place U : Type 0} (rules : Rules Place U) where
     pub body : Holds open_.body r.body
     pub follows : Follows rules r.body open_.place open_.size
 
-  -- Units that are so stand behind those of a record; or no units that are so can stand there.
+  -- units may stand one after another in a body, which has room for their bytes (RFC 1205, section 3)
+  abbrev pub MayStand : List U → Type 0
+  MayStand units = IsChain rules rules.first units × (length (spelling_of rules units) ≤ 65525)
+
+  -- Units that are so stand behind those of a record; or no units that are so may stand there.
   abbrev pub Puts : Wording U → (List U → Type 0) → OpenRecord Place U → OpenRecord Place U → Bool → Type 0
   Puts w Are old new true = (units : List U) × Are units
       × ((r : Record U) → IsOpen old r → IsOpen new (with_line w r units))
   Puts w Are old new false = (r : Record U) (units : List U) → IsOpen old r → Are units
+      → ¬ MayStand (with_line w r units).body
+
+  -- The same of a line's units, behind which the record can be encoded; or it can't with any that are so.
+  abbrev pub PutsLine : Wording U → (List U → Type 0) → OpenRecord Place U → OpenRecord Place U → Bool → Type 0
+  PutsLine w Are old new true = (units : List U) × Are units
+      × ((r : Record U) → IsOpen old r → IsOpen new (with_line w r units)
+      × CanBeEncoded rules (an_item.Record (with_line w r units)))
+  PutsLine w Are old new false = (r : Record U) (units : List U) → IsOpen old r → Are units
       → ¬ CanBeEncoded rules (an_item.Record (with_line w r units))
 
   -- the last item is the open record, or no record

@@ -10,9 +10,12 @@ use Rattle.ws_stream.specs.AnswerParts.{answer_rules}
 use Rattle.ws_stream.specs.Elements.{element_rules}
 use Rattle.ws_stream.specs.declared.answer_part.AnswerPart.{AnswerPart}
 use Rattle.ws_stream.specs.declared.element.Element.{Element}
+use Rattle.ws_extended.specs.ExtendedAnswers.{extended_answer_rules}
 use Rattle.ws_extended.specs.ExtendedElements.{extended_rules}
+use Rattle.ws_extended.specs.declared.extended_answer_part.ExtendedAnswerPart.{ExtendedAnswerPart}
 use Rattle.ws_extended.specs.declared.extended_element.ExtendedElement.{ExtendedElement}
 use Rattle.ws_text.specs.AnswerLines.{answer_text}
+use Rattle.ws_text.specs.ExtendedAnswerLines.{told_item_text}
 use Rattle.ws_text.specs.ExtendedLines.{extended_item_text}
 use Rattle.ws_text.specs.ItemLines.{item_text}
 use Rattle.ws_text.specs.Items.{EndsHere}
@@ -45,3 +48,7 @@ ShowsAnswers text items = ShowsItems answer_rules answer_text text items
 -- a text that shows a live host's items, as `show` prints them
 abbrev pub ShowsExtended : List ℕ → List (Item ExtendedElement) → Type 0
 ShowsExtended text items = ShowsItems extended_rules extended_item_text text items
+
+-- a text that shows the items of a live host's station
+abbrev pub ShowsTold : List ℕ → List (Item ExtendedAnswerPart) → Type 0
+ShowsTold text items = ShowsItems extended_answer_rules told_item_text text items

@@ -1,10 +1,10 @@
 -- Lines of items as text, and what each one says.
 
-use Rattle.std.specs.Prelude.{◌≡◌, ◌⊎◌, ℕ, ◌≤◌, ◌<◌, ◌^◌, List, [], ◌∷◌, ◌++◌, map, length, codes, Some}
+use Rattle.std.specs.Prelude.{◌≡◌, ◌⊎◌, ℕ, ◌≤◌, ◌<◌, ◌^◌, List, [], ◌∷◌, ◌++◌, map, length, codes}
+use Rattle.std.specs.Prelude.{Option, Some, None}
 use Rattle.std.specs.List.{AllByRecursion}
 use Rattle.std.specs.Str.{IsUtf8, chars}
 use Rattle.std.specs.Str.Parse.{IsNumeral, digits_value}
-use Rattle.ws_code.specs.DataByte.{IsData}
 use Rattle.ws_code.specs.Ebcdic.{byte_of}
 use Rattle.ws_telnet.specs.declared.token.Telnet.{Telnet}
 use Rattle.ws_telnet.specs.declared.token.Telnet.TheVariants.{Command, Option as Negotiate, Sub}
@@ -16,6 +16,7 @@ use Rattle.ws_text.specs.Names.{look_up, commands, verbs}
 use Rattle.ws_text.specs.Words.{words_of, IsHex, IsHexPair, IsSmall}
 use Rattle.ws_text.specs.ElementWords.{AreBytes}
 use Rattle.ws_text.specs.Wording.{Wording}
+use Rattle.ws_text.specs.declared.run_name.RunName.{RunName}
 
 -- a place in a stream, which is counted in 64 bits
 abbrev pub IsPlace : List ℕ → Type 0
@@ -54,24 +55,34 @@ AreBehindPlace words behind = ((place : List ℕ) × (words ≡ codes "at" ∷ p
     ⊎ ((behind ≡ words) × ((place : List ℕ) (rest : List (List ℕ)) → words ≡ codes "at" ∷ place ∷ rest
     → ¬ IsPlace place))
 
--- bytes as units
-abbrev pub AreRun : {U : Type 0} → Wording U → List ℕ → List U → Type 0
-AreRun w bytes units = AllByRecursion IsData bytes × (units ≡ map w.byte bytes)
+-- bytes of a run as units
+abbrev pub AreEach : {U : Type 0} → Wording U → RunName → List ℕ → List U → Type 0
+AreEach w n bytes units = AllByRecursion (w.IsByte n) bytes × (units ≡ map (w.byte n) bytes)
 
--- a run of bytes in hex
-abbrev pub IsRun : {U : Type 0} → Wording U → List ℕ → List U → Type 0
-IsRun w hex units = (bytes : List ℕ) × IsHex hex bytes × AreRun w bytes units
+-- bytes of a run in hex
+abbrev pub AreHex : {U : Type 0} → Wording U → RunName → List ℕ → List U → Type 0
+AreHex w n hex units = (bytes : List ℕ) × IsHex hex bytes × AreEach w n bytes units
+
+-- units behind a first one, where there is one
+abbrev pub behind_first : {U : Type 0} → Option U → List U → List U
+behind_first None units = units
+behind_first (Some u) units = u ∷ units
+
+-- a run of bytes: the unit of its front, where there is one, and those of the bytes in hex behind it
+abbrev pub IsRun : {U : Type 0} → Wording U → RunName → List ℕ → List U → Type 0
+IsRun {U} w n hex units = (more : List U) × AreHex w n hex more × (units ≡ behind_first (w.first n) more)
 
 -- the units of a name and the words behind it: one, or a run of bytes
 pub data AreUnits {U : Type 0} (w : Wording U) (name : List ℕ) (words : List (List ℕ)) (units : List U) : Type 0 where
   one : (u : U) → w.IsOne name words u → units ≡ u ∷ [] → AreUnits w name words units
-  run : (hex : List ℕ) → name ≡ w.bytes → words ≡ hex ∷ [] → IsRun w hex units → AreUnits w name words units
+  run : (n : RunName) (hex : List ℕ) → w.IsNamed name n → words ≡ (w.front n ++ hex) ∷ [] → IsRun w n hex units
+      → AreUnits w name words units
 
 -- characters, each of which has a byte in code page 037
 pub record AreTyped {U : Type 0} (w : Wording U) (text : List ℕ) (units : List U) : Type 0 where
   pub bytes : List ℕ
   pub typed : map byte_of (chars text) ≡ map (λ b. Some b) bytes
-  pub run : AreRun w bytes units
+  pub run : AreEach w w.typed bytes units
 
 -- what the words of a line say: an item, or units behind two blanks
 pub data IsWorded {U : Type 0} (w : Wording U) (words : List (List ℕ)) (says : Part U) : Type 0 where

@@ -145,27 +145,29 @@ put_is_no_kind words e h = cc h.1
 pub elements_clear : IsClear element_wording
 elements_clear = record {
   no_text = text_is_no_kind;
-  no_bytes = put_is_no_kind;
-  apart = λ e. omega (arith, ap length e);
+  no_run = λ name words e n named one.
+      put_is_no_kind words e (subst (λ (z : List ℕ). IsOneElement z words e) named.0 one);
+  apart = λ n named. omega (arith, ap length named.0);
+  one_run = λ name m n a b. a.1 ∙ sym b.1;
   one = one_same;
 }
 
 -- those of a station's answers
-first_byte : (a b : List ℕ) → (get_or a 0 0 ≡ get_or b 0 0 → ⊥) → a ≡ b → ⊥
+pub first_byte : (a b : List ℕ) → (get_or a 0 0 ≡ get_or b 0 0 → ⊥) → a ≡ b → ⊥
 first_byte a b h e = h (ap (λ z. get_or z 0 0) e)
 
-text_is_no_part : (words : List (List ℕ)) (u : AnswerPart) → IsOnePart (codes "TEXT") words u → ⊥
+pub text_is_no_part : (words : List (List ℕ)) (u : AnswerPart) → IsOnePart (codes "TEXT") words u → ⊥
 text_is_no_part words (Head cursor aid) h = first_byte (codes "TEXT") (codes "HEAD") (λ e. omega (arith, e)) h.0
 text_is_no_part words (At place) h = omega (arith, ap length h.0)
 text_is_no_part words (Byte byte) h = h
 
-bytes_is_no_part : (words : List (List ℕ)) (u : AnswerPart) → IsOnePart (codes "BYTES") words u → ⊥
+pub bytes_is_no_part : (words : List (List ℕ)) (u : AnswerPart) → IsOnePart (codes "BYTES") words u → ⊥
 bytes_is_no_part words (Head cursor aid) h = omega (arith, ap length h.0)
 bytes_is_no_part words (At place) h = omega (arith, ap length h.0)
 bytes_is_no_part words (Byte byte) h = h
 
-one_part : (name : List ℕ) (words : List (List ℕ)) (u v : AnswerPart) → IsOnePart name words u → IsOnePart name words v
-    → u ≡ v
+pub one_part : (name : List ℕ) (words : List (List ℕ)) (u v : AnswerPart) → IsOnePart name words u
+    → IsOnePart name words v → u ≡ v
 one_part name words (Head p x) (Head q y) a b =
     let fills = fill_same words p q a.1.0 b.1.0 a.1.1 b.1.1 in
     let key = byte_same b.1.0 x y (subst (λ (z : List ℕ). IsHexByte z x) fills.1 a.1.2) b.1.2 in
@@ -180,8 +182,10 @@ one_part name words u (Byte y) a b = absurd b
 pub answers_clear : IsClear answer_wording
 answers_clear = record {
   no_text = text_is_no_part;
-  no_bytes = bytes_is_no_part;
-  apart = λ e. omega (arith, ap length e);
+  no_run = λ name words u n named one.
+      bytes_is_no_part words u (subst (λ (z : List ℕ). IsOnePart z words u) named.0 one);
+  apart = λ n named. omega (arith, ap length named.0);
+  one_run = λ name m n a b. a.1 ∙ sym b.1;
   one = one_part;
 }
 

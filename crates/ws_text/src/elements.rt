@@ -9,7 +9,7 @@ ghost use Rattle.ws_text.specs.BodyLines.{AddUnits, IsAddFault, new_record};
 ghost use Rattle.ws_text.specs.ElementWords.{element_wording};
 ghost use Rattle.ws_text.specs.ExtendedWords.{extended_wording};
 ghost use Rattle.ws_text.specs.Items.{with_more};
-ghost use Rattle.ws_text.specs.Reading.{IsOpen, Puts};
+ghost use Rattle.ws_text.specs.Reading.{IsOpen, PutsLine};
 ghost use Rattle.ws_text.specs.Parts.{Part as part};
 ghost use Rattle.ws_text.specs.TextLines.{IsLine};
 
@@ -95,7 +95,7 @@ fn read_body<B: Worded>(
 // Puts the units that the line says behind those of the record; `false` where none that it says can stand there.
 fn put_line<B: Worded>(begun: &mut OpenRecord<B::Place, B::Unit>, line: &[u8]) -> bool
     requires { (r : ARecord B.Unit) × IsOpen B.rules begun.old r }
-    ensures { Puts B.rules B.wording (λ units. IsLine B.wording line.now (part.Units units))
+    ensures { PutsLine B.rules B.wording (λ units. IsLine B.wording line.now (part.Units units))
         begun.old begun.new result }
 {
     match read_line::<B>(line) {

@@ -5,14 +5,17 @@ ghost use Rattle.ws_stream.specs.AnswerParts.{answer_rules};
 ghost use Rattle.ws_stream.specs.Elements.{element_rules};
 ghost use Rattle.ws_stream.specs.declared.answer_part.AnswerPart.{AnswerPart as APart};
 ghost use Rattle.ws_stream.specs.declared.element.Element.{Element as AnElement};
+ghost use Rattle.ws_extended.specs.ExtendedAnswers.{extended_answer_rules};
 ghost use Rattle.ws_extended.specs.ExtendedElements.{extended_rules};
+ghost use Rattle.ws_extended.specs.declared.extended_answer_part.ExtendedAnswerPart.{ExtendedAnswerPart as ATold};
 ghost use Rattle.ws_extended.specs.declared.extended_element.ExtendedElement.{ExtendedElement as AnExtended};
 ghost use Rattle.ws_text.specs.AnswerWords.{answer_wording};
 ghost use Rattle.ws_text.specs.ElementWords.{element_wording};
+ghost use Rattle.ws_text.specs.ExtendedAnswerWords.{told_wording};
 ghost use Rattle.ws_text.specs.ExtendedWords.{extended_wording};
 ghost use Rattle.ws_text.specs.Items.{AreItems, IsTextFault, Reads};
 ghost use Rattle.ws_text.specs.Reading.{AreRead, Holds, Takes};
-ghost use Rattle.ws_text.specs.Shown.{Shows, ShowsAnswers, ShowsExtended};
+ghost use Rattle.ws_text.specs.Shown.{Shows, ShowsAnswers, ShowsExtended, ShowsTold};
 
 use crate::gathered::Gathered;
 use crate::line::read_line;
@@ -20,7 +23,7 @@ use crate::lines::first_line;
 use crate::reading::{Reading, add, finish, start};
 use crate::worded::Worded;
 use std::alloc::Global;
-use ws_extended::{ExtendedCommands, ExtendedElement};
+use ws_extended::{ExtendedAnswerPart, ExtendedAnswers, ExtendedCommands, ExtendedElement};
 use ws_record::Item;
 use ws_stream::{AnswerPart, Answers, Commands, Element};
 
@@ -93,6 +96,29 @@ pub fn read_extended_items(
         → MatchResult result (λ read. read.items ≡ items) (λ fault. fault ≡ TextFault.Memory) }
 {
     read_lines::<ExtendedCommands>(alloc, text)
+}
+
+/// The items of a live host's station that the lines of a text spell, as `put_extended_answer_item` prints them, up to
+/// a line `screen`.
+///
+/// The rest is as at `read_items`: `Line` where a line is bad, `Memory` where a growth was refused; and whatever items
+/// `encode` accepts, the text that `put_extended_answer_item` prints of them spells them. A line `QUERY-REPLY` has a
+/// whole reply, and `SCREEN` and `IMMEDIATE` say the same.
+pub fn read_extended_answer_items(
+    alloc: Global,
+    text: &[u8],
+) -> Result<Vec<Item<ExtendedAnswerPart>>, TextFault>
+    ensures ok { IfOk result (λ items.
+        AreItems extended_answer_rules told_wording text.now items.items) }
+    ensures encoded { IfOk result (λ items. CanAllBeEncoded extended_answer_rules items.items) }
+    ensures fault { IfErr result (IsTextFault extended_answer_rules told_wording text.now) }
+    ensures only { (items : Seq (AnItem ATold))
+        → AreItems extended_answer_rules told_wording text.now items
+        → MatchResult result (λ read. read.items ≡ items) (λ fault. fault ≡ TextFault.Memory) }
+    ensures shown { (items : Seq (AnItem ATold)) → ShowsTold text.now items
+        → MatchResult result (λ read. read.items ≡ items) (λ fault. fault ≡ TextFault.Memory) }
+{
+    read_lines::<ExtendedAnswers>(alloc, text)
 }
 
 // The items of a text, line by line. Where a growth was refused, the lines behind it are read all the same.

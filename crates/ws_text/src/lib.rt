@@ -7,6 +7,7 @@ mod element_text;
 mod element_words;
 mod elements;
 mod extended_answer_text;
+mod extended_answer_words;
 mod extended_text;
 mod extended_words;
 mod field_words;
@@ -21,6 +22,7 @@ mod number;
 mod open_record;
 mod output;
 mod reading;
+mod run_name;
 mod runs;
 mod telnet_words;
 mod worded;
@@ -31,7 +33,9 @@ pub use elements::{read_elements, read_extended_elements};
 pub use extended_answer_text::put_extended_answer_item;
 pub use extended_text::put_extended_item;
 pub use item_text::put_item;
-pub use items::{TextFault, read_answer_items, read_extended_items, read_items};
+pub use items::{
+    TextFault, read_answer_items, read_extended_answer_items, read_extended_items, read_items,
+};
 pub use lines::first_line;
 pub use number::read_number;
 pub use output::{Output, put, put_cell, put_hex, put_hex_behind_blank, put_number, put_text};

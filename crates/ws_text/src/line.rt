@@ -1,9 +1,11 @@
-ghost use Rattle.std.specs.Prelude.{◌≡◌, ◌∷◌, ◌↔◌, [], ℕ, List as Seq, map, true, MatchOption};
+ghost use Rattle.std.specs.Prelude.{◌≡◌, ◌∷◌, ◌++◌, ◌↔◌, [], ℕ, List as Seq, map, true, MatchOption};
 ghost use Rattle.ws_text.specs.Found.{Are, Tells};
 ghost use Rattle.ws_text.specs.TextLines as Spec;
+ghost use Rattle.ws_text.specs.TextLines.{IsRun};
 ghost use Rattle.ws_text.specs.Words.{words_of};
 
 use crate::head_words::read_head;
+use crate::run_name::RunName;
 use crate::telnet_words::read_telnet;
 use crate::worded::Worded;
 use crate::words::words_of;
@@ -28,8 +30,8 @@ pub enum Found<'a, U> {
 #[derive(Drop)]
 pub enum LineUnits<'a, U> {
     One(U),
-    /// A run of bytes in hex, which is not looked at yet.
-    Hex(&'a str),
+    /// A run of bytes, whose hex is not looked at yet.
+    Hex(RunName, &'a str),
     /// Characters, which are not looked at yet.
     Typed(&'a str),
 }
@@ -122,16 +124,48 @@ fn read_units<'a, B: Worded>(name: &str, words: &[&'a str]) -> Option<LineUnits<
         → Spec.AreUnits B.wording name.now (map (λ w. w.now) words.now) units
         ↔ Are B.wording found units) }
 {
-    if name == B::bytes_name() {
-        if words.len() != 1 {
-            return None;
-        }
-        return Some(LineUnits::Hex(words[0]));
+    match B::run_named(name) {
+        Some(named) => read_run::<B>(named, words),
+        None => read_one::<B>(name, words),
     }
+}
+
+// The unit of a name and the words behind it.
+fn read_one<'a, B: Worded>(name: &str, words: &[&str]) -> Option<LineUnits<'a, B::Unit>>
+    ensures { MatchOption result
+        ((u : B.Unit) → B.wording.IsOne name.now (map (λ w. w.now) words.now) u → ⊥)
+        (λ found. (u : B.Unit) × B.wording.IsOne name.now (map (λ w. w.now) words.now) u
+        × ((units : Seq B.Unit) → (units ≡ u ∷ []) ↔ Are B.wording found units)) }
+{
     match B::read_unit(name, words) {
         Some(unit) => Some(LineUnits::One(unit)),
         None => None,
     }
+}
+
+// The bytes of a run, which are one word.
+fn read_run<'a, B: Worded>(run: RunName, words: &[&'a str]) -> Option<LineUnits<'a, B::Unit>>
+    ensures { MatchOption result
+        ((hex : Seq ℕ) → map (λ w. w.now) words.now ≡ (B.wording.front run ++ hex) ∷ [] → ⊥)
+        (λ found. (hex : Seq ℕ) × (map (λ w. w.now) words.now ≡ (B.wording.front run ++ hex) ∷ [])
+        × ((units : Seq B.Unit) → IsRun B.wording run hex units ↔ Are B.wording found units)) }
+{
+    match behind_front(B::front(run), words) {
+        Some(hex) => Some(LineUnits::Hex(run, hex)),
+        None => None,
+    }
+}
+
+// What stands behind a front in the one word that there is.
+fn behind_front<'a>(front: &str, words: &[&'a str]) -> Option<&'a str>
+    ensures { MatchOption result
+        ((hex : Seq ℕ) → map (λ w. w.now) words.now ≡ (front.now ++ hex) ∷ [] → ⊥)
+        (λ hex. map (λ w. w.now) words.now ≡ (front.now ++ hex.now) ∷ []) }
+{
+    if words.len() != 1 {
+        return None;
+    }
+    words[0].strip_prefix(front)
 }
 
 // An item that a line begins.

@@ -9,7 +9,7 @@ loop-rest-init g c = none_so_far c.begin-begun.result c.args.text.now [] c.begin
 
 pub loop-rest-preserved : goal.loop-rest-preserved
 loop-rest-preserved g c =
-    body_goes_on g.B.Code.rules g.B.Worded.wording c.args.opcode g.met.B.Worded.ends c.loop-rest.invariant
+    body_goes_on g.B.Code.rules g.B.Worded.wording c.args.opcode c.loop-rest.invariant
     c.first_line.ensures.line c.first_line.ensures.shorter c.if-not-put_line.ensures
 
 pub returns-then-not-put_line-clause-fault : goal.returns-then-not-put_line-clause-fault

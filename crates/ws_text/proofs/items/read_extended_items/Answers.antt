@@ -15,7 +15,7 @@ returns-clause-only c =
 pub returns-clause-encoded : goal.returns-clause-encoded
 returns-clause-encoded c =
     IfOk-weaker c.read_lines.result _ _
-    (λ v. items_encoded extended_rules (λ _. refl) extended_wording c.args.text.now v.items) c.read_lines.ensures.ok
+    (λ v. items_encoded extended_rules refl extended_wording c.args.text.now v.items) c.read_lines.ensures.ok
 
 pub returns-clause-shown : goal.returns-clause-shown
 returns-clause-shown c = λ items s.

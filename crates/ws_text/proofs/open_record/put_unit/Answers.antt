@@ -1,12 +1,19 @@
 use Rattle.ws_text.proofs.Common.{◌+◌, ◌∙◌, ap, sym, refl, length, [], ◌∷◌, false≢true}
 use Rattle.ws_text.proofs.Bodies.{follows_more}
-use Rattle.ws_text.proofs.OpenRecords.{no_follow, settled_unit}
+use Rattle.ws_text.proofs.OpenRecords.{no_follow, no_room, settled_unit}
 use Rattle.ws_text.proofs.open_record.put_unit.Goals as goal
 
 pub returns-then-not-may_follow : goal.returns-then-not-may_follow
 returns-then-not-may_follow g c = λ r units is e can.
     no_follow g.B.Code.rules c.args.begun.now r c.settle-unit.result (g.B.Worded.wording.behind r.body units)
     (λ may. false≢true (sym c.if-not-may_follow.true ∙ c.may_follow.ensures ∙ may)) is
+    (ap (λ z. g.B.Worded.wording.behind r.body z) e ∙ c.settle-unit.ensures r.body is.follows.leads) can
+
+pub returns-then-size-gt-MOST_BYTES : goal.returns-then-size-gt-MOST_BYTES
+returns-then-size-gt-MOST_BYTES g c = λ r units is e can.
+    no_room g.B.Code.rules c.args.begun.now r c.settle-unit.result (g.B.Worded.wording.behind r.body units) _
+    (ap (λ n. c.args.begun.now.size + n) (c.len.ensures.value ∙ ap length c.spell.ensures))
+    c.if-size-gt-MOST_BYTES.true is
     (ap (λ z. g.B.Worded.wording.behind r.body z) e ∙ c.settle-unit.ensures r.body is.follows.leads) can
 
 pub returns : goal.returns

@@ -1,0 +1,23 @@
+use Rattle.ws_text.proofs.Common.{refl, IfOk-weaker}
+use Rattle.ws_extended.specs.ExtendedAnswers.{extended_answer_rules}
+use Rattle.ws_text.specs.ExtendedAnswerWords.{told_wording}
+use Rattle.ws_text.specs.ExtendedAnswerWordLaws.{told_clear}
+use Rattle.ws_text.proofs.Encodable.{items_encoded}
+use Rattle.ws_text.proofs.OneReading.{only_these}
+use Rattle.ws_text.proofs.ShownTold.{shown_told_read}
+use Rattle.ws_text.proofs.items.read_extended_answer_items.Goals as goal
+
+pub returns-clause-only : goal.returns-clause-only
+returns-clause-only c =
+    only_these extended_answer_rules told_wording told_clear c.args.text.now c.read_lines.result
+    c.read_lines.ensures.ok c.read_lines.ensures.fault
+
+pub returns-clause-encoded : goal.returns-clause-encoded
+returns-clause-encoded c =
+    IfOk-weaker c.read_lines.result _ _
+    (λ v. items_encoded extended_answer_rules refl told_wording c.args.text.now v.items) c.read_lines.ensures.ok
+
+pub returns-clause-shown : goal.returns-clause-shown
+returns-clause-shown c = λ items s.
+    only_these extended_answer_rules told_wording told_clear c.args.text.now c.read_lines.result
+    c.read_lines.ensures.ok c.read_lines.ensures.fault items (shown_told_read c.args.text.now items s)
