@@ -155,7 +155,7 @@ RUNS = [
     (["make", "--help"], "", 0, None, ""),
     (["play", "--help"], "", 0, None, ""),
     (["help"], "", 0, None, ""),
-    (["--version"], "", 0, "t5250 0.1.0\n", ""),
+    (["--version"], "", 0, "t5250 3.0.0\n", ""),
     # wrong command lines
     ([], INVITE, 2, "", None),
     (["other"], INVITE, 2, "", None),
@@ -285,7 +285,7 @@ def closed_runs(runs, folder):
             name = f"{[word[:20] for word in words]} without {closed}"
             runs.expect(name, done, status, "" if 1 in closed else out, "" if 2 in closed else err)
         # No input is asked for, or nothing at all.
-        for words, status, out, err in (["--help"], 0, None, ""), (["--version"], 0, "t5250 0.1.0\n", ""), (["other"], 2, "", None):
+        for words, status, out, err in (["--help"], 0, None, ""), (["--version"], 0, "t5250 3.0.0\n", ""), (["other"], 2, "", None):
             if 1 in closed and status == 0:
                 status, out, err = 2, "", "cannot write\n"
             done = run(words, preexec_fn=closing(closed))
