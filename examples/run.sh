@@ -57,5 +57,11 @@ compare live-host.check check --extended live-host.hex
 compare live-host.check check --extended --cut 1 live-host.hex
 compare live-host.show show --extended live-host.hex
 compare_made live-host --extended
+
+# What its station sends, and what that tells at once.
+compare live-station.check check --answers --extended live-station.hex
+compare live-station.check check --answers --extended --cut 1 live-station.hex
+compare live-station.show show --answers --extended live-station.hex
+compare_made live-station --answers --extended
 echo "$passed passed, $failed failed"
 [ $failed -eq 0 ]

@@ -5,7 +5,8 @@ The host, in Python, asks what the station is, saves the screen before a help an
 record of the station is compared with the bytes that docs/PROFILE.md's chapter 'Extended' says. Then the session is
 written as a packet capture, and what `tshark` reads in it is compared field by field: the reply to the query, the
 commands and orders of the saved screen and of the one that is restored, the error. It needs tshark for that, and says so
-where there is none.
+where there is none. What `check` and `show --answers --extended` print of the station's side is compared too, and
+`make` gives its bytes back.
 
 Build the program first (`cd crates/t5250 && rt run -- check < stdin`), then call `python3 tests/run_extended.py` from
 anywhere; another program may be named behind it. The last line tells how many passed and how many failed, and the status
@@ -91,6 +92,18 @@ ANSWERS = [
     (PUT_GET, bytes.fromhex("063533 110635 C2D6")),
 ]
 
+# The lines of what the station sends, without the place that stands before each item.
+TELNET_LINES = ["WILL 24", "SB 24 00" + b"IBM-3179-2".hex().upper(), "WILL 25", "DO 25", "WILL 0", "DO 0"]
+ANSWER_LINES = [
+    ["QUERY-REPLY " + REPLY.hex().upper()],
+    ["HEAD 6 55 F3"],
+    ["SAVED", "WRITE 00 22", "SOH 00000018000000", "SBA 6 52", "SF 4800 20 10", "SBA 1 1", "PUT " + cells().hex().upper(),
+     "MC 6 55"],
+    ["HEAD 1 1 F1"],
+    ["HEAD 6 55 F1", "AT 6 53", "BYTES C2D6"],
+    ["HEAD 6 53 33", "AT 6 53", "BYTES C2D6"],
+]
+
 # What tshark calls the fields of the reply, from its first byte on.
 REPLY_FIELDS = [
     ("buffer_x", "0"), ("buffer_y", "0"), ("aid", "0x88"), ("sf_length", "58"), ("class", "0xd9"), ("type", "0x70"),
@@ -144,7 +157,7 @@ class Line:
     def __init__(self, stream):
         self.stream = stream
         self.stream.settimeout(30)
-        self.rest = b""
+        self.rest = self.taken = b""
         self.seen = Session().open()
 
     def send(self, data):
@@ -159,6 +172,7 @@ class Line:
             self.rest += piece
         got, self.rest = self.rest[:len(wanted)], self.rest[len(wanted):]
         self.seen.station(got)
+        self.taken += got
         expect(got.hex(), wanted.hex(), what)
 
 
@@ -176,7 +190,7 @@ def play_host(line):
 
 
 def run_session(folder):
-    """The session, as the packets of a capture."""
+    """The session, as the packets of a capture, and the station's bytes."""
     script = os.path.join(folder, "live-host.connect")
     with open(script, "w") as file:
         file.write(SCRIPT)
@@ -192,7 +206,36 @@ def run_session(folder):
         finally:
             station.kill()
     expect((station.returncode, printed, error), (1, PRINTED, ""), "what connect printed")
-    return line.seen.packets
+    return line.seen.packets, line.taken
+
+
+def lines_of_station():
+    """What `show` prints of the station's bytes: the place of an item is that of its last byte."""
+    lengths = [3, len(NAME), 3, 3, 3, 3]
+    heads = [f"telnet {line}" for line in TELNET_LINES]
+    for opcode, body in ANSWERS:
+        lengths.append(len(record(opcode, body)))
+        heads.append(f"record flags 0000 opcode {opcode}")
+    text = ""
+    for index, (head, more) in enumerate(zip(heads, [[]] * len(TELNET_LINES) + ANSWER_LINES)):
+        text += f"at {sum(lengths[:index + 1]) - 1} {head}\n" + "".join(f"  {line}\n" for line in more)
+    return text
+
+
+def compare_lines(station):
+    """What the program prints of the station's side."""
+    told = f"accepted: {len(ANSWERS)} records, {len(TELNET_LINES)} commands, {len(station)} bytes\n"
+    for words, wanted in (["check"], told), (["check", "--cut", "1"], told), (["show"], lines_of_station()):
+        done = subprocess.run([PROGRAM, *words, "--answers", "--extended"], input=station.hex(), capture_output=True,
+                              text=True, timeout=60)
+        expect((done.returncode, done.stdout, done.stderr), (0, wanted, ""), " ".join(words))
+    done = subprocess.run([PROGRAM, "make", "--answers", "--extended"], input=lines_of_station(), capture_output=True,
+                          text=True, timeout=60)
+    expect((done.returncode, bytes.fromhex(done.stdout), done.stderr), (0, station, ""), "make")
+    # The reply to the query is no answer of the profile.
+    done = subprocess.run([PROGRAM, "check", "--answers"], input=station.hex(), capture_output=True, text=True, timeout=60)
+    place = 3 + len(NAME) + 12 + 10
+    expect((done.returncode, done.stdout), (1, f"refused at {place}: reason 24 BadAddress\n"), "check --answers")
 
 
 def fields_of(capture):
@@ -234,7 +277,9 @@ def main():
     with tempfile.TemporaryDirectory() as folder:
         packets = None
         try:
-            packets = run_session(folder)
+            packets, station = run_session(folder)
+            passed += 1
+            compare_lines(station)
             passed += 1
         except (Failure, OSError, subprocess.TimeoutExpired) as failure:
             failed += 1

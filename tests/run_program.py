@@ -40,6 +40,15 @@ ANSWER_LINES = """at 20 record flags 0000 opcode 3
   AT 6 53
   BYTES C2D6C2
 """
+# A field that was read at once: the cursor and no key.
+TOLD = "00 12 12 A0 00 00 04 00 00 03 06 37 00 11 06 35 C2 D6 FF EF\n"
+TOLD_LINE = "accepted: 1 records, 0 commands, 20 bytes\n"
+TOLD_LINES = """at 19 record flags 0000 opcode 3
+  IMMEDIATE 6 55
+  AT 6 53
+  BYTES C2D6
+"""
+TOLD_MADE = TOLD.replace(" ", "")
 # A text of more than 65,536 bytes, and a stream of more.
 MANY = INVITE * 6000
 MANY_LINE = "accepted: 6000 records, 0 commands, 72000 bytes\n"
@@ -135,6 +144,21 @@ RUNS = [
     (["make", "--answers"], ANSWER_LINES + "  SBA 1 1\n", 2, "", f"script line {ANSWER_LINES.count(chr(10)) + 1}\n"),
     (["make", "--answers"], HELLO_TEXT, 2, "", "script line 2\n"),
     (["make"], ANSWER_LINES, 2, "", "script line 2\n"),
+    # what a live host's station tells at once
+    (["check", "--answers", "--extended"], TOLD, 0, TOLD_LINE, ""),
+    (["check", "--extended", "--cut", "1", "--answers", "@" + TOLD], QUERY, 0, TOLD_LINE, ""),
+    (["check", "--answers"], TOLD, 1, "refused at 12: reason 43 BadAid\n", ""),
+    (["check", "--answers", "--extended"], ANSWER, 0, ANSWER_LINE, ""),
+    (["check", "--answers", "--extended"], HELLO, 1, "refused at 12: reason 43 BadAid\n", ""),
+    (["show", "--answers", "--extended"], TOLD, 0, TOLD_LINES, ""),
+    (["show", "--answers", "--extended", "--color", "@" + TOLD], "", 0, TOLD_LINES, ""),
+    (["show", "--answers", "--extended"], ANSWER, 0, ANSWER_LINES, ""),
+    (["show", "--answers", "--extended"], "", 0, "", ""),
+    (["make", "--answers", "--extended"], TOLD_LINES, 0, TOLD_MADE, ""),
+    (["make", "--extended", "--answers", "@" + TOLD_LINES], "nonsense", 0, TOLD_MADE, ""),
+    (["make", "--answers", "--extended"], ANSWER_LINES, 0, ANSWER_MADE, ""),
+    (["make", "--answers"], TOLD_LINES, 2, "", "script line 2\n"),
+    (["make", "--extended"], TOLD_LINES, 2, "", "script line 2\n"),
     (["show"], COLORS, 0, COLORS_PLAIN, ""),
     (["show", "--color"], COLORS, 0, COLORS_COLORED, ""),
     (["show", "--color", "@" + COLORS], "", 0, COLORS_COLORED, ""),

@@ -1,11 +1,11 @@
-use crate::{same, same_at};
+use crate::{same, same_at, same_bytes};
 use std::alloc::Global;
 use std::process::Abort;
 use ws_code::{Address, DataByte, List, VecSink};
 use ws_extended::{ExtendedAnswerPart, ExtendedAnswers};
-use ws_record::{Item, Opcode, Record, decode_all};
+use ws_record::{Item, Opcode, Record, decode_all, encode};
 use ws_stream::AnswerPart;
-use ws_text::{Output, put_extended_answer_item};
+use ws_text::{Output, TextFault, put_extended_answer_item, read_extended_answer_items};
 
 // An item's bytes, the place of the last one, and the item's lines.
 type Shown<'a> = (&'a [u8], u64, &'a str);
@@ -61,6 +61,48 @@ fn lines_of_what_is_told(rt: HostRuntime) {
     for row in SHOWN {
         expect_lines(&rt, rt.alloc(), row);
     }
+}
+
+// The stream of the items that the lines spell.
+fn expect_stream(rt: &impl Abort, alloc: Global, row: Shown) {
+    let (bytes, _, text) = row;
+    let items = read_extended_answer_items(alloc, text.as_bytes()).expect(rt, "items");
+    let stream = encode::<ExtendedAnswers>(alloc, items.as_slice()).expect(rt, "bytes");
+    same_bytes(rt, stream.as_slice(), bytes);
+}
+
+#[test]
+fn lines_of_what_is_told_are_read(rt: HostRuntime) {
+    for row in SHOWN {
+        expect_stream(&rt, rt.alloc(), row);
+    }
+}
+
+// A line of a reply is its front and 53 bytes, each with how many follow.
+#[test]
+fn a_reply_by_its_parts(rt: HostRuntime) {
+    let (_, _, text) = SHOWN[1];
+    let items = read_extended_answer_items(rt.alloc(), text.as_bytes()).expect(&rt, "items");
+    match items.as_slice() {
+        [Item::Record(record)] => {
+            let parts = record.body.as_slice();
+            same(&rt, parts.len(), 54);
+            same(&rt, parts.first(), Some(&ExtendedAnswerPart::QueryReply));
+            let second = ExtendedAnswerPart::Reply { left: 52, byte: 6 };
+            same(&rt, parts.get(1), Some(&second));
+            let last = ExtendedAnswerPart::Reply { left: 0, byte: 0 };
+            same(&rt, parts.last(), Some(&last));
+        }
+        _ => panic!(&rt; "one record"),
+    }
+}
+
+// A reply that isn't whole, and the line that would go on with it.
+#[test]
+fn a_reply_in_two_lines(rt: HostRuntime) {
+    let text = b"record opcode 0\n  QUERY-REPLY 000088003AD9708006\n  BYTES 00\n";
+    let fault = read_extended_answer_items(rt.alloc(), text).err();
+    same(&rt, fault, Some(TextFault::Line(2)));
 }
 
 // The first line of a body with so many bytes behind a cursor.

@@ -40,7 +40,7 @@ const CHECK: Asked = Asked::Check {
 
 // Words, and what they ask for.
 #[rattlefmt::skip]
-const COMMAND_LINES: [(&[&str], Asked); 16] = [
+const COMMAND_LINES: [(&[&str], Asked); 18] = [
     (&["t5250", "check"], CHECK),
     (&["t5250", "check", "a.hex"], Asked::Check { file: FILE, cut: NonZeroU16::MAX, from: Sender::Host }),
     (&["t5250", "check", "--cut", "1"], Asked::Check { file: None, cut: NonZeroU16::MIN, from: Sender::Host }),
@@ -51,6 +51,8 @@ const COMMAND_LINES: [(&[&str], Asked); 16] = [
         Asked::Check { file: Some("--answers"), cut: NonZeroU16::MAX, from: Sender::Host }),
     (&["t5250", "show"], Asked::Show { file: None, from: Sender::Host, paint: Paint::Plain }),
     (&["t5250", "show", "--answers", "a.hex"], Asked::Show { file: FILE, from: Sender::Station, paint: Paint::Plain }),
+    (&["t5250", "show", "--extended", "--answers"],
+        Asked::Show { file: None, from: Sender::ExtendedStation, paint: Paint::Plain }),
     (&["t5250", "play"], Asked::Play { file: None, screen: false, tcp: false, paint: Paint::Plain }),
     (&["t5250", "play", "a.hex"], Asked::Play { file: FILE, screen: false, tcp: false, paint: Paint::Plain }),
     (&["t5250", "play", "--screen", "a.hex"],
@@ -61,10 +63,11 @@ const COMMAND_LINES: [(&[&str], Asked); 16] = [
         Asked::Play { file: None, screen: true, tcp: false, paint: Paint::Color }),
     (&["t5250", "make"], Asked::Make { file: None, from: Sender::Host }),
     (&["t5250", "make", "--answers", "a.hex"], Asked::Make { file: FILE, from: Sender::Station }),
+    (&["t5250", "make", "--extended"], Asked::Make { file: None, from: Sender::ExtendedHost }),
 ];
 
 // Words that ask for pieces of seven bytes, and of which sender.
-const SEVENS: [(&[&str], Sender); 3] = [
+const SEVENS: [(&[&str], Sender); 4] = [
     (&["t5250", "check", "a.hex", "--cut", "7"], Sender::Host),
     (
         &["t5250", "check", "--cut", "7", "--answers", "a.hex"],
@@ -73,6 +76,18 @@ const SEVENS: [(&[&str], Sender); 3] = [
     (
         &["t5250", "check", "--extended", "--cut", "7", "a.hex"],
         Sender::ExtendedHost,
+    ),
+    (
+        &[
+            "t5250",
+            "check",
+            "--answers",
+            "--extended",
+            "--cut",
+            "7",
+            "a.hex",
+        ],
+        Sender::ExtendedStation,
     ),
 ];
 

@@ -9,11 +9,13 @@ use Rattle.ws_live.proofs.Buffers.{flushed_out, flush_fails, fails_behind}
 use Rattle.ws_record.specs.declared.record.Item.{Item}
 use Rattle.ws_stream.specs.Elements.{element_rules}
 use Rattle.ws_stream.specs.AnswerParts.{answer_rules}
+use Rattle.ws_extended.specs.ExtendedAnswers.{extended_answer_rules}
 use Rattle.ws_extended.specs.ExtendedElements.{extended_rules}
 use Rattle.ws_text.specs.AnswerWords.{answer_wording}
 use Rattle.ws_text.specs.ElementWords.{element_wording}
+use Rattle.ws_text.specs.ExtendedAnswerWords.{told_wording}
 use Rattle.ws_text.specs.ExtendedWords.{extended_wording}
-use Rattle.ws_text.specs.Shown.{Shows, ShowsAnswers, ShowsExtended}
+use Rattle.ws_text.specs.Shown.{Shows, ShowsAnswers, ShowsExtended, ShowsTold}
 use Rattle.ws_text.specs.Wording.{Wording}
 use Rattle.ws_program.specs.Answering.{HasAnswered, HasChecked, HasCheckedHex, HasShown, IsAnswerFault, IsHexFault}
 use Rattle.ws_program.specs.Answering.{IsCheckHexFault}
@@ -21,11 +23,11 @@ use Rattle.ws_program.specs.Checking.{IsCheckFault}
 use Rattle.ws_program.specs.Making.{HasMade, IsMakeFault}
 use Rattle.ws_program.specs.StreamText.{View, Placed, lines_of, AreShown, AreFirstLines, IsShowFault}
 use Rattle.ws_program.specs.ExtendedView.{extended_view}
-use Rattle.ws_program.specs.Views.{painted_host_view, answer_view}
+use Rattle.ws_program.specs.Views.{painted_host_view, answer_view, told_view}
 use Rattle.ws_words.specs.declared.command_line.Asked.{Asked}
 use Rattle.ws_words.specs.declared.command_line.Asked.TheVariants.{Check, Show, Play, Make}
 use Rattle.ws_words.specs.declared.command_line.Sender.{Sender}
-use Rattle.ws_words.specs.declared.command_line.Sender.TheVariants.{Host, ExtendedHost, Station}
+use Rattle.ws_words.specs.declared.command_line.Sender.TheVariants.{Host, ExtendedHost, Station, ExtendedStation}
 use Rattle.ws_program.specs.declared.fault.RunFault.{RunFault}
 use Rattle.ws_program.specs.declared.fault.RunFault.TheVariants.{Read, NotHex, Line, Memory}
 use Rattle.ws_program.specs.declared.fault.RunFault.TheVariants.{Write, NoConnection, Refused}
@@ -60,6 +62,8 @@ module _ {S : Type 0} (takes : MayTake S) (failures : S → ℕ) (count : Buffer
     check_hex_flushed Host input accepted h = (h.0, h.1, check_flushed element_rules h.0 accepted h.2)
     check_hex_flushed ExtendedHost input accepted h = (h.0, h.1, check_flushed extended_rules h.0 accepted h.2)
     check_hex_flushed Station input accepted h = (h.0, h.1, check_flushed answer_rules h.0 accepted h.2)
+    check_hex_flushed ExtendedStation input accepted h =
+        (h.0, h.1, check_flushed extended_answer_rules h.0 accepted h.2)
 
     -- what is shown
     show_flushed : {Place U : Type 0} (rules : Rules Place U) (view : View U) (bytes : List ℕ) (accepted : Bool)
@@ -88,6 +92,8 @@ module _ {S : Type 0} (takes : MayTake S) (failures : S → ℕ) (count : Buffer
         (h.0, h.1, show_flushed extended_rules (extended_view paint) h.0 accepted h.2)
     done_flushed (Show file Station paint) input accepted h =
         (h.0, h.1, show_flushed answer_rules answer_view h.0 accepted h.2)
+    done_flushed (Show file ExtendedStation paint) input accepted h =
+        (h.0, h.1, show_flushed extended_answer_rules told_view h.0 accepted h.2)
     done_flushed (Play file screen false paint) input accepted h =
         (h.0, h.1, h.2, h.3, flushed_out takes failures count from empty mid to h.2 h.4 out, h.5)
     done_flushed (Play file screen true paint) input accepted h =
@@ -98,6 +104,8 @@ module _ {S : Type 0} (takes : MayTake S) (failures : S → ℕ) (count : Buffer
         make_flushed extended_rules extended_wording ShowsExtended input accepted h
     done_flushed (Make file Station) input accepted h =
         make_flushed answer_rules answer_wording ShowsAnswers input accepted h
+    done_flushed (Make file ExtendedStation) input accepted h =
+        make_flushed extended_answer_rules told_wording ShowsTold input accepted h
 
     unchanged : mid ≡ from → to ≡ from.sink
     unchanged same = idle (none_held same) ∙ ap (λ (b : Buffering S). b.sink) same
@@ -130,6 +138,7 @@ module _ {S : Type 0} (takes : MayTake S) (failures : S → ℕ) (count : Buffer
     check_hex_fault_flushed Host input fault f = check_fault_flushed element_rules input fault f
     check_hex_fault_flushed ExtendedHost input fault f = check_fault_flushed extended_rules input fault f
     check_hex_fault_flushed Station input fault f = check_fault_flushed answer_rules input fault f
+    check_hex_fault_flushed ExtendedStation input fault f = check_fault_flushed extended_answer_rules input fault f
 
     -- of what is shown
     show_fault_flushed : {Place U : Type 0} (rules : Rules Place U) (view : View U) (input : List ℕ) (fault : RunFault)
@@ -173,11 +182,15 @@ module _ {S : Type 0} (takes : MayTake S) (failures : S → ℕ) (count : Buffer
     fault_flushed (Show file ExtendedHost paint) input fault f =
         show_fault_flushed extended_rules (extended_view paint) input fault f
     fault_flushed (Show file Station paint) input fault f = show_fault_flushed answer_rules answer_view input fault f
+    fault_flushed (Show file ExtendedStation paint) input fault f =
+        show_fault_flushed extended_answer_rules told_view input fault f
     fault_flushed (Make file Host) input fault f = make_fault_flushed element_rules element_wording Shows input fault f
     fault_flushed (Make file ExtendedHost) input fault f =
         make_fault_flushed extended_rules extended_wording ShowsExtended input fault f
     fault_flushed (Make file Station) input fault f =
         make_fault_flushed answer_rules answer_wording ShowsAnswers input fault f
+    fault_flushed (Make file ExtendedStation) input fault f =
+        make_fault_flushed extended_answer_rules told_wording ShowsTold input fault f
     fault_flushed (Play file screen false paint) input (Line number) f = (unchanged f.0, f.1)
     fault_flushed (Play file screen false paint) input Memory f = (unchanged f.0, f.1)
     fault_flushed (Play file screen false paint) input Write f = (f.0, f.1, f.2, f.3, fails_too f.2 f.4)
@@ -213,6 +226,8 @@ module _ {S : Type 0} (takes : MayTake S) (failures : S → ℕ) (count : Buffer
     check_hex_unflushed Host input accepted h = (h.0, h.1, check_unflushed element_rules h.0 accepted h.2)
     check_hex_unflushed ExtendedHost input accepted h = (h.0, h.1, check_unflushed extended_rules h.0 accepted h.2)
     check_hex_unflushed Station input accepted h = (h.0, h.1, check_unflushed answer_rules h.0 accepted h.2)
+    check_hex_unflushed ExtendedStation input accepted h =
+        (h.0, h.1, check_unflushed extended_answer_rules h.0 accepted h.2)
 
     show_unflushed : {Place U : Type 0} (rules : Rules Place U) (view : View U) (bytes : List ℕ) (accepted : Bool)
         → HasShown (buffered_takes takes failures) count from mid rules view bytes accepted
@@ -238,6 +253,8 @@ module _ {S : Type 0} (takes : MayTake S) (failures : S → ℕ) (count : Buffer
         (h.0, h.1, show_unflushed extended_rules (extended_view paint) h.0 accepted h.2)
     done_unflushed (Show file Station paint) input accepted h =
         (h.0, h.1, show_unflushed answer_rules answer_view h.0 accepted h.2)
+    done_unflushed (Show file ExtendedStation paint) input accepted h =
+        (h.0, h.1, show_unflushed extended_answer_rules told_view h.0 accepted h.2)
     done_unflushed (Play file screen false paint) input accepted h =
         (h.0, h.1, h.2, h.3, flush_fails takes failures count from empty mid to h.2 h.4 none)
     done_unflushed (Play file screen true paint) input accepted h =
@@ -248,6 +265,8 @@ module _ {S : Type 0} (takes : MayTake S) (failures : S → ℕ) (count : Buffer
         make_unflushed extended_rules extended_wording ShowsExtended input accepted h
     done_unflushed (Make file Station) input accepted h =
         make_unflushed answer_rules answer_wording ShowsAnswers input accepted h
+    done_unflushed (Make file ExtendedStation) input accepted h =
+        make_unflushed extended_answer_rules told_wording ShowsTold input accepted h
 
     unheld : {X : Type 0} → mid ≡ from → X
     unheld same = absurd (none_fails (none_held same) none)
@@ -277,6 +296,7 @@ module _ {S : Type 0} (takes : MayTake S) (failures : S → ℕ) (count : Buffer
     check_hex_fault_unflushed Host input fault f = check_fault_unflushed element_rules input fault f
     check_hex_fault_unflushed ExtendedHost input fault f = check_fault_unflushed extended_rules input fault f
     check_hex_fault_unflushed Station input fault f = check_fault_unflushed answer_rules input fault f
+    check_hex_fault_unflushed ExtendedStation input fault f = check_fault_unflushed extended_answer_rules input fault f
 
     show_fault_unflushed : {Place U : Type 0} (rules : Rules Place U) (view : View U)
         (input : List ℕ) (fault : RunFault)
@@ -320,12 +340,16 @@ module _ {S : Type 0} (takes : MayTake S) (failures : S → ℕ) (count : Buffer
         show_fault_unflushed extended_rules (extended_view paint) input fault f
     fault_unflushed (Show file Station paint) input fault f =
         show_fault_unflushed answer_rules answer_view input fault f
+    fault_unflushed (Show file ExtendedStation paint) input fault f =
+        show_fault_unflushed extended_answer_rules told_view input fault f
     fault_unflushed (Make file Host) input fault f =
         make_fault_unflushed element_rules element_wording Shows input fault f
     fault_unflushed (Make file ExtendedHost) input fault f =
         make_fault_unflushed extended_rules extended_wording ShowsExtended input fault f
     fault_unflushed (Make file Station) input fault f =
         make_fault_unflushed answer_rules answer_wording ShowsAnswers input fault f
+    fault_unflushed (Make file ExtendedStation) input fault f =
+        make_fault_unflushed extended_answer_rules told_wording ShowsTold input fault f
     fault_unflushed (Play file screen false paint) input (Line number) f = unheld f.0
     fault_unflushed (Play file screen false paint) input Memory f = unheld f.0
     fault_unflushed (Play file screen false paint) input Write f = unfailed f.2 f.4

@@ -6,6 +6,7 @@ use Rattle.ws_code.specs.Code.{Rules}
 use Rattle.ws_code.specs.Device.{MayTake, WentOut, FailedWithin}
 use Rattle.ws_code.specs.declared.fault.Fault.{Fault}
 use Rattle.ws_code.specs.declared.fault.Fault.TheVariants as device
+use Rattle.ws_extended.specs.ExtendedAnswers.{extended_answer_rules}
 use Rattle.ws_extended.specs.ExtendedElements.{extended_rules}
 use Rattle.ws_stream.specs.Elements.{element_rules}
 use Rattle.ws_stream.specs.AnswerParts.{answer_rules}
@@ -14,17 +15,18 @@ use Rattle.ws_program.specs.CheckLine.{IsVerdict, is_accepted, line_of}
 use Rattle.ws_program.specs.Checking.{IsCheckFault}
 use Rattle.ws_text.specs.AnswerWords.{answer_wording}
 use Rattle.ws_text.specs.ElementWords.{element_wording}
+use Rattle.ws_text.specs.ExtendedAnswerWords.{told_wording}
 use Rattle.ws_text.specs.ExtendedWords.{extended_wording}
-use Rattle.ws_text.specs.Shown.{Shows, ShowsAnswers, ShowsExtended}
+use Rattle.ws_text.specs.Shown.{Shows, ShowsAnswers, ShowsExtended, ShowsTold}
 use Rattle.ws_program.specs.Making.{HasMade, IsMakeFault}
 use Rattle.ws_program.specs.StreamText.{View, IsShown, IsShowFault}
 use Rattle.ws_program.specs.ExtendedView.{extended_view}
-use Rattle.ws_program.specs.Views.{painted_host_view, answer_view}
+use Rattle.ws_program.specs.Views.{painted_host_view, answer_view, told_view}
 use Rattle.ws_live.specs.declared.paint.Paint.{Paint}
 use Rattle.ws_words.specs.declared.command_line.Asked.{Asked}
 use Rattle.ws_words.specs.declared.command_line.Asked.TheVariants.{Check, Show, Play, Make}
 use Rattle.ws_words.specs.declared.command_line.Sender.{Sender}
-use Rattle.ws_words.specs.declared.command_line.Sender.TheVariants.{Host, ExtendedHost, Station}
+use Rattle.ws_words.specs.declared.command_line.Sender.TheVariants.{Host, ExtendedHost, Station, ExtendedStation}
 use Rattle.ws_program.specs.declared.fault.RunFault.{RunFault}
 use Rattle.ws_program.specs.declared.fault.RunFault.TheVariants.{Read, NotHex, Line, Memory, Write, NoConnection}
 use Rattle.ws_program.specs.declared.verdict.Verdict.{Verdict}
@@ -80,12 +82,14 @@ module _ {S : Type 0} (takes : MayTake S) (failures : S → ℕ) (from to : S) w
       × (text : List ℕ) × IsToldText paint moves screen all_well text × WentOut takes failures from to text
 
   -- the line of a check of the bytes that a hex text tells went out: as the commands of a host, of the profile alone or
-  -- also beside it, or as a station's answers
+  -- also beside it, or as a station's answers, alone or with what is told at once
   abbrev pub HasCheckedHex : Sender → List ℕ → Bool → Type 0
   HasCheckedHex Host input accepted = (bytes : List ℕ) × IsHexOf bytes input × HasChecked element_rules bytes accepted
   HasCheckedHex ExtendedHost input accepted = (bytes : List ℕ) × IsHexOf bytes input
       × HasChecked extended_rules bytes accepted
   HasCheckedHex Station input accepted = (bytes : List ℕ) × IsHexOf bytes input × HasChecked answer_rules bytes accepted
+  HasCheckedHex ExtendedStation input accepted = (bytes : List ℕ) × IsHexOf bytes input
+      × HasChecked extended_answer_rules bytes accepted
 
   -- what is shown of the bytes that a hex text tells went out; a station's answers have no screen
   abbrev pub HasShownHex : Paint → Sender → List ℕ → Bool → Type 0
@@ -95,6 +99,8 @@ module _ {S : Type 0} (takes : MayTake S) (failures : S → ℕ) (from to : S) w
       × HasShown extended_rules (extended_view paint) bytes accepted
   HasShownHex paint Station input accepted = (bytes : List ℕ) × IsHexOf bytes input
       × HasShown answer_rules answer_view bytes accepted
+  HasShownHex paint ExtendedStation input accepted = (bytes : List ℕ) × IsHexOf bytes input
+      × HasShown extended_answer_rules told_view bytes accepted
 
   -- the stream of the items that a text spells went out, as those of a sender
   abbrev pub HasMadeBy : Sender → List ℕ → Bool → Type 0
@@ -104,6 +110,8 @@ module _ {S : Type 0} (takes : MayTake S) (failures : S → ℕ) (from to : S) w
       HasMade extended_rules extended_wording ShowsExtended takes failures from to input accepted
   HasMadeBy Station input accepted =
       HasMade answer_rules answer_wording ShowsAnswers takes failures from to input accepted
+  HasMadeBy ExtendedStation input accepted =
+      HasMade extended_answer_rules told_wording ShowsTold takes failures from to input accepted
 
   -- the program did what it was asked for with its input: with the commands of a host, or the answers of a
   -- station, that a hex text tells, with a script, or with items as text
@@ -127,6 +135,8 @@ module _ {S : Type 0} (takes : MayTake S) (failures : S → ℕ) (from to : S) w
   IsCheckHexFault Host input fault = IsHexFault (IsCheckFault element_rules takes failures from to) input fault
   IsCheckHexFault ExtendedHost input fault = IsHexFault (IsCheckFault extended_rules takes failures from to) input fault
   IsCheckHexFault Station input fault = IsHexFault (IsCheckFault answer_rules takes failures from to) input fault
+  IsCheckHexFault ExtendedStation input fault = IsHexFault
+      (IsCheckFault extended_answer_rules takes failures from to) input fault
 
   -- what is answered of a hex text where what is shown of it doesn't go out
   abbrev pub IsShowHexFault : Paint → Sender → List ℕ → RunFault → Type 0
@@ -136,6 +146,8 @@ module _ {S : Type 0} (takes : MayTake S) (failures : S → ℕ) (from to : S) w
       (IsShowFault takes failures from to extended_rules (extended_view paint)) input fault
   IsShowHexFault paint Station input fault = IsHexFault
       (IsShowFault takes failures from to answer_rules answer_view) input fault
+  IsShowHexFault paint ExtendedStation input fault = IsHexFault
+      (IsShowFault takes failures from to extended_answer_rules told_view) input fault
 
   -- what is answered of items as text whose stream doesn't go out
   abbrev pub IsMakeFaultBy : Sender → List ℕ → RunFault → Type 0
@@ -145,6 +157,8 @@ module _ {S : Type 0} (takes : MayTake S) (failures : S → ℕ) (from to : S) w
       IsMakeFault extended_rules extended_wording ShowsExtended takes failures from to input fault
   IsMakeFaultBy Station input fault =
       IsMakeFault answer_rules answer_wording ShowsAnswers takes failures from to input fault
+  IsMakeFaultBy ExtendedStation input fault =
+      IsMakeFault extended_answer_rules told_wording ShowsTold takes failures from to input fault
 
   -- what is answered of a script that isn't played, or whose lines don't go out
   abbrev pub IsPlayFault : Paint → Bool → List ℕ → RunFault → Type 0

@@ -11,7 +11,9 @@ use Rattle.ws_screen.specs.Events.{History}
 use Rattle.ws_screen.specs.Given.{Gives}
 use Rattle.ws_screen.specs.ScreenParts.{ScreenParts}
 use Rattle.ws_session.specs.StationSide.{after_record}
+use Rattle.ws_extended.specs.declared.extended_answer_part.ExtendedAnswerPart.{ExtendedAnswerPart}
 use Rattle.ws_text.specs.AnswerLines.{answer_text}
+use Rattle.ws_text.specs.ExtendedAnswerLines.{told_item_text}
 use Rattle.ws_text.specs.ItemLines.{item_text}
 use Rattle.ws_live.specs.ScreenLines.{IsScreenText}
 use Rattle.ws_live.specs.declared.paint.Paint.{Paint}
@@ -54,12 +56,16 @@ abbrev pub host_view : View Element
 host_view = painted_host_view Plain
 
 -- nothing stands behind a station's answers
-abbrev pub IsNoEnd : List (Item AnswerPart) → List ℕ → Type 0
+abbrev pub IsNoEnd : {U : Type 0} → List (Item U) → List ℕ → Type 0
 IsNoEnd items text = text ≡ []
 
 -- how a station's answers are shown; nothing stands behind them
 abbrev pub answer_view : View AnswerPart
 answer_view = record { lines = answer_text; fault = λ _ _. None; Ends = IsNoEnd }
+
+-- how what a live host's station sends is shown; nothing stands behind it
+abbrev pub told_view : View ExtendedAnswerPart
+told_view = record { lines = told_item_text; fault = λ _ _. None; Ends = IsNoEnd }
 
 -- a way to show items, with what stands behind them in a paint
 abbrev pub in_paint : {U : Type 0} → View U → (Paint → List (Item U) → List ℕ → Type 0) → Paint → View U

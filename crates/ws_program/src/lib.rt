@@ -25,5 +25,7 @@ pub use input::{given_words, read_input};
 pub use make::make_to;
 pub use open_streams::OpenStreams;
 pub use program::{answer, answer_buffered, answer_openly, status};
-pub use show::{show_answers_to, show_extended_to, show_painted_to, show_to};
+pub use show::{
+    show_answers_to, show_extended_answers_to, show_extended_to, show_painted_to, show_to,
+};
 pub use tcp::{TcpFault, play_tcp};

@@ -8,15 +8,17 @@ ghost use Rattle.ws_program.specs.Answering.{HasPlayed, HasPlayedByTcp, IsAnswer
 ghost use Rattle.ws_program.specs.Answering.{IsTcpPlayFault, status_of};
 ghost use Rattle.ws_text.specs.AnswerWords.{answer_wording};
 ghost use Rattle.ws_text.specs.ElementWords.{element_wording};
+ghost use Rattle.ws_extended.specs.ExtendedAnswers.{extended_answer_rules};
 ghost use Rattle.ws_extended.specs.ExtendedElements.{extended_rules};
+ghost use Rattle.ws_text.specs.ExtendedAnswerWords.{told_wording};
 ghost use Rattle.ws_text.specs.ExtendedWords.{extended_wording};
-ghost use Rattle.ws_text.specs.Shown.{Shows, ShowsAnswers, ShowsExtended};
+ghost use Rattle.ws_text.specs.Shown.{Shows, ShowsAnswers, ShowsExtended, ShowsTold};
 ghost use Rattle.ws_program.specs.HexText.{IsHexOf};
 ghost use Rattle.ws_program.specs.Checking.{IsCheckFault};
 ghost use Rattle.ws_program.specs.Making.{HasMade, IsMakeFault};
 ghost use Rattle.ws_program.specs.StreamText.{IsShowFault};
 ghost use Rattle.ws_program.specs.Streams.{HasAnsweredOpenly, IsOpenFault, in_one_place as without_connection};
-ghost use Rattle.ws_program.specs.Views.{painted_host_view, answer_view};
+ghost use Rattle.ws_program.specs.Views.{painted_host_view, answer_view, told_view};
 ghost use Rattle.std.specs.Prelude.{List as Seq, ℕ};
 
 use crate::check::check_to;
@@ -24,17 +26,17 @@ use crate::fault::RunFault;
 use crate::hex_text::hex_bytes;
 use crate::make::make_to;
 use crate::open_streams::OpenStreams;
-use crate::show::{show_answers_to, show_extended_to, show_painted_to};
+use crate::show::{show_answers_to, show_extended_answers_to, show_extended_to, show_painted_to};
 use crate::tcp::play_tcp;
 use std::alloc::Global;
 use std::net::{Net, TcpListener, TcpStream};
 use ws_code::{Body, Sink};
-use ws_extended::ExtendedCommands;
+use ws_extended::{ExtendedAnswers, ExtendedCommands};
 use ws_live::{BufferedSink, Paint, play_painted_to, read_script};
 use ws_nego::TerminalType;
 use ws_session::World;
 use ws_stream::{Answers, Commands};
-use ws_text::{read_answer_items, read_extended_items, read_items};
+use ws_text::{read_answer_items, read_extended_answer_items, read_extended_items, read_items};
 use ws_words::{Asked, Sender};
 
 /// Does what the program was asked for with the whole of its input: true where all was accepted.
@@ -162,6 +164,7 @@ fn check_sent<S: Sink>(
         Sender::Host => check_text::<Commands, S>(alloc, text, cut, sink),
         Sender::ExtendedHost => check_text::<ExtendedCommands, S>(alloc, text, cut, sink),
         Sender::Station => check_text::<Answers, S>(alloc, text, cut, sink),
+        Sender::ExtendedStation => check_text::<ExtendedAnswers, S>(alloc, text, cut, sink),
     }
 }
 
@@ -199,6 +202,7 @@ fn show_sent<S: Sink>(
         Sender::Host => show_text(alloc, text, paint, sink),
         Sender::ExtendedHost => show_extended_text(alloc, text, paint, sink),
         Sender::Station => show_answers_text(alloc, text, sink),
+        Sender::ExtendedStation => show_extended_answers_text(alloc, text, sink),
     }
 }
 
@@ -247,6 +251,23 @@ fn show_answers_text<S: Sink>(alloc: Global, text: &[u8], sink: &mut S) -> Resul
 {
     let bytes = hex_bytes(alloc, text)?;
     Ok(show_answers_to(alloc, bytes.as_slice(), sink)?)
+}
+
+// The same as a live host's station's.
+fn show_extended_answers_text<S: Sink>(
+    alloc: Global,
+    text: &[u8],
+    sink: &mut S,
+) -> Result<bool, RunFault>
+    ensures done { IfOk result (λ accepted. (bytes : Seq ℕ) × IsHexOf bytes text.now
+        × HasShown S.takes S.failures sink.old sink.new
+        extended_answer_rules told_view bytes accepted) }
+    ensures fault { IfErr result (IsHexFault S.takes S.failures sink.old sink.new
+        (IsShowFault S.takes S.failures sink.old sink.new
+        extended_answer_rules told_view) text.now) }
+{
+    let bytes = hex_bytes(alloc, text)?;
+    Ok(show_extended_answers_to(alloc, bytes.as_slice(), sink)?)
 }
 
 // Plays a script, and writes what its session tells.
@@ -302,6 +323,7 @@ fn make_sent<S: Sink>(
         Sender::Host => make_stream(alloc, text, sink),
         Sender::ExtendedHost => make_extended_stream(alloc, text, sink),
         Sender::Station => make_answers_stream(alloc, text, sink),
+        Sender::ExtendedStation => make_extended_answers_stream(alloc, text, sink),
     }
 }
 
@@ -338,6 +360,22 @@ fn make_answers_stream<S: Sink>(alloc: Global, text: &[u8], sink: &mut S) -> Res
 {
     let items = read_answer_items(alloc, text)?;
     make_to::<Answers, S>(alloc, items.as_slice(), sink)?;
+    Ok(true)
+}
+
+// The same of a live host's station.
+fn make_extended_answers_stream<S: Sink>(
+    alloc: Global,
+    text: &[u8],
+    sink: &mut S,
+) -> Result<bool, RunFault>
+    ensures done { IfOk result (HasMade extended_answer_rules told_wording ShowsTold
+        S.takes S.failures sink.old sink.new text.now) }
+    ensures fault { IfErr result (IsMakeFault extended_answer_rules told_wording ShowsTold
+        S.takes S.failures sink.old sink.new text.now) }
+{
+    let items = read_extended_answer_items(alloc, text)?;
+    make_to::<ExtendedAnswers, S>(alloc, items.as_slice(), sink)?;
     Ok(true)
 }
 

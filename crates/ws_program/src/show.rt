@@ -5,19 +5,20 @@ ghost use Rattle.ws_record.specs.declared.record.Item.{Item as AnItem};
 ghost use Rattle.ws_stream.specs.AnswerParts.{answer_rules};
 ghost use Rattle.ws_stream.specs.Elements.{element_rules};
 ghost use Rattle.ws_stream.specs.declared.element.Element.{Element as AnElement};
+ghost use Rattle.ws_extended.specs.ExtendedAnswers.{extended_answer_rules};
 ghost use Rattle.ws_extended.specs.ExtendedElements.{extended_rules};
 ghost use Rattle.ws_program.specs.ExtendedView.{extended_view};
 ghost use Rattle.ws_text.specs.Shown.{Shows};
 ghost use Rattle.ws_program.specs.CheckLine.{verdict_by};
 ghost use Rattle.ws_program.specs.StreamText.{IsShown, AreFirstLines, IsShowFault, IsStop, HasBegun, IsNext, IsNextFault};
 ghost use Rattle.ws_live.specs.declared.paint.Paint.{Paint as APaint};
-ghost use Rattle.ws_program.specs.Views.{host_view, painted_host_view, answer_view, in_paint};
+ghost use Rattle.ws_program.specs.Views.{host_view, painted_host_view, answer_view, told_view, in_paint};
 
 use crate::shown::Shown;
 use crate::verdict::verdict_by_fault;
 use std::alloc::Global;
 use ws_code::{Body, Fault, Sink};
-use ws_extended::ExtendedCommands;
+use ws_extended::{ExtendedAnswers, ExtendedCommands};
 use ws_live::Paint;
 use ws_record::{Item, Receiver};
 use ws_stream::{Answers, Commands};
@@ -102,6 +103,28 @@ pub fn show_answers_to<S: Sink>(alloc: Global, bytes: &[u8], sink: &mut S) -> Re
         → (rest : List ℕ) × (whole ≡ part ++ rest) }
 {
     show_body_to::<Answers, S>(alloc, Paint::Plain, bytes, sink)
+}
+
+/// Writes the items of a live host's station's stream, what it tells at once among them: true where it is accepted. No
+/// screen stands behind them.
+///
+/// The rest is said at `show_body_to`.
+pub fn show_extended_answers_to<S: Sink>(
+    alloc: Global,
+    bytes: &[u8],
+    sink: &mut S,
+) -> Result<bool, Fault>
+    ensures printed { IfOk result (λ accepted. (text : List ℕ)
+        × IsShown extended_answer_rules told_view bytes.now accepted text
+        × WentOut S.takes S.failures sink.old sink.new text) }
+    ensures fault { IfErr result (λ fault. IsShowFault S.takes S.failures sink.old sink.new
+        extended_answer_rules told_view bytes.now fault) }
+    ensures parts_begin { (accepted : Bool) (whole part : List ℕ)
+        → IsShown extended_answer_rules told_view bytes.now accepted whole
+        → AreFirstLines extended_answer_rules told_view bytes.now part
+        → (rest : List ℕ) × (whole ≡ part ++ rest) }
+{
+    show_body_to::<ExtendedAnswers, S>(alloc, Paint::Plain, bytes, sink)
 }
 
 /// Writes the items of a stream, and in a paint what stands behind them: true where the stream is accepted.

@@ -3,16 +3,17 @@ ghost use Rattle.ws_record.specs.declared.record.Item.{Item as AnItem};
 ghost use Rattle.ws_screen.specs.Faults.{refusal};
 ghost use Rattle.ws_text.specs.Printing.{Prints};
 ghost use Rattle.ws_program.specs.StreamText.{View, IsWholeItem};
-ghost use Rattle.ws_program.specs.Views.{host_view, answer_view, IsNoEnd, IsScreenEnd, MakesScreen};
+ghost use Rattle.ws_program.specs.Views.{host_view, answer_view, told_view, IsNoEnd, IsScreenEnd, MakesScreen};
 ghost use Rattle.ws_live.specs.declared.paint.Paint.{Paint as APaint};
 
 use ws_code::{Body, Reason, Sink};
+use ws_extended::{ExtendedAnswerPart, ExtendedAnswers};
 use ws_live::{Paint, put_screen};
 use ws_record::Item;
 use ws_screen::Screen;
 use ws_session::apply_record;
 use ws_stream::{AnswerPart, Answers, Commands, Element};
-use ws_text::{Output, put_answer_item, put_item, put_text};
+use ws_text::{Output, put_answer_item, put_extended_answer_item, put_item, put_text};
 
 /// A body whose items are shown, and carried out one after another.
 pub trait Shown: Body {
@@ -116,6 +117,36 @@ impl Shown for Answers {
         item: &Item<AnswerPart>,
     ) -> Output {
         put_answer_item(sink, output, place, item)
+    }
+
+    fn put_end<S: Sink>(sink: &mut S, output: Output, _paint: Paint, _made: &()) -> Output {
+        put_text(sink, output, "")
+    }
+}
+
+// Nor does what a live host's station sends.
+impl Shown for ExtendedAnswers {
+    type Made = ();
+
+    ghost view = { told_view };
+
+    ghost Ends = { λ _. IsNoEnd };
+
+    ghost makes = { λ _ _. Unit {0} };
+
+    fn before_any() {}
+
+    fn carry_out(_made: &mut (), _item: &Item<ExtendedAnswerPart>) -> Result<(), Reason> {
+        Ok(())
+    }
+
+    fn put_lines<S: Sink>(
+        sink: &mut S,
+        output: Output,
+        place: u64,
+        item: &Item<ExtendedAnswerPart>,
+    ) -> Output {
+        put_extended_answer_item(sink, output, place, item)
     }
 
     fn put_end<S: Sink>(sink: &mut S, output: Output, _paint: Paint, _made: &()) -> Output {

@@ -1,7 +1,6 @@
 use crate::command_parts::{CommandParts, fault, flag, place};
 use crate::live_command::{
-    COLOR_HELP, EXTENDED_HELP, Live, connect_asked, connect_command, paint_asked, serve_asked,
-    serve_command,
+    COLOR_HELP, Live, connect_asked, connect_command, paint_asked, serve_asked, serve_command,
 };
 use clap::error::ErrorKind;
 use clap::{Arg, ArgAction, ArgMatches, Command, value_parser};
@@ -28,6 +27,8 @@ pub enum Sender {
     ExtendedHost,
     /// A station, its answers.
     Station,
+    /// A live host's station: its answers, and what it tells at once.
+    ExtendedStation,
 }
 
 /// What is asked for of an input.
@@ -94,20 +95,27 @@ It prints one line, as one of:
 Examples:
   t5250 check capture.hex
   t5250 check --extended live.hex
-  t5250 check --answers --cut 1 < answers.hex";
+  t5250 check --answers --cut 1 < answers.hex
+  t5250 check --answers --extended station.hex";
 
 const SHOW_EXAMPLES: &str = "\
 Each item is printed with the place of its last byte, counted from 0.
 Where the stream isn't accepted, the line of `check` is the last.
 
-A station's answers (--answers) have no screen. With --extended the last line is
-`error row R` where an error stands.
+A station's answers (--answers) have no screen. With --extended they have lines
+more for what a live host's station tells at once:
+    QUERY-REPLY HEX   the reply to a query, its 61 bytes
+    SAVED             a saved screen, whose elements follow
+    SCREEN R C        the cursor; a byte for each cell follows
+    IMMEDIATE R C     the cursor; the fields that were read at once follow
+Of a host's stream the last line is then `error row R` where an error stands.
 
 Examples:
   t5250 show capture.hex
   t5250 show --color capture.hex
   t5250 show --extended live.hex
   t5250 show --answers answers.hex
+  t5250 show --answers --extended station.hex
   echo 000A12A0000004000001FFEF | t5250 show";
 
 const PLAY_EXAMPLES: &str = "\
@@ -138,6 +146,8 @@ A station's answers (--answers) have the lines that `show --answers` prints:
     HEAD 6 53 F1    the cursor's row and column, and the key
     AT 6 53         the cell of a field, and
     BYTES C1C2      its bytes; so too TEXT AB
+With --extended they have also those of `show --answers --extended`: a line
+QUERY-REPLY with a whole reply, SAVED, SCREEN R C or IMMEDIATE R C.
 
 It prints a line of hex for each item.
 
@@ -145,10 +155,14 @@ Examples:
   t5250 make screen.text
   t5250 make --extended live.text
   t5250 make --answers answers.text
+  t5250 make --answers --extended station.text
   t5250 show capture.hex | t5250 make";
 
 // What help says of the words of a command.
 const ANSWERS_HELP: &str = "Reads what a station sends, and not what a host sends";
+
+const EXTENDED_HELP: &str =
+    "Takes also what live hosts send beside the profile, or with --answers what their stations tell";
 
 const HEX_HELP: &str = "A hex text; without it, standard input is read";
 
@@ -189,7 +203,7 @@ fn check_command<'a>(alloc: Global) -> CommandParts<'a> {
         CHECK_EXAMPLES,
     )
     .word(flag(alloc, "answers", ANSWERS_HELP))
-    .made_word(extended(alloc))
+    .word(flag(alloc, "extended", EXTENDED_HELP))
     .word(cut(alloc))
     .word(place(alloc, "FILE", HEX_HELP, false))
 }
@@ -202,7 +216,7 @@ fn show_command<'a>(alloc: Global) -> CommandParts<'a> {
         SHOW_EXAMPLES,
     )
     .word(flag(alloc, "answers", ANSWERS_HELP))
-    .made_word(extended(alloc))
+    .word(flag(alloc, "extended", EXTENDED_HELP))
     .word(flag(alloc, "color", COLOR_HELP))
     .word(place(alloc, "FILE", HEX_HELP, false))
 }
@@ -228,13 +242,8 @@ fn make_command<'a>(alloc: Global) -> CommandParts<'a> {
         MAKE_EXAMPLES,
     )
     .word(flag(alloc, "answers", ANSWERS_HELP))
-    .made_word(extended(alloc))
+    .word(flag(alloc, "extended", EXTENDED_HELP))
     .word(place(alloc, "FILE", ITEMS_HELP, false))
-}
-
-// The flag for a host's commands beside the profile. A station's answers have none.
-fn extended<'a>(alloc: Global) -> Result<Arg<'a>, AllocError> {
-    flag(alloc, "extended", EXTENDED_HELP).conflicts_with("answers")
 }
 
 fn cut<'a>(alloc: Global) -> Arg<'a> {
@@ -298,15 +307,13 @@ fn check_asked<'a>(words: &ArgMatches<'a>) -> Asked<'a> {
     }
 }
 
-// Whose stream is read. No words have both flags.
+// Whose stream is read.
 fn sender_asked(words: &ArgMatches<'_>) -> Sender {
-    if words.get_flag("answers") {
-        return Sender::Station;
-    }
-    if words.get_flag("extended") {
-        Sender::ExtendedHost
-    } else {
-        Sender::Host
+    match (words.get_flag("answers"), words.get_flag("extended")) {
+        (false, false) => Sender::Host,
+        (false, true) => Sender::ExtendedHost,
+        (true, false) => Sender::Station,
+        (true, true) => Sender::ExtendedStation,
     }
 }
 

@@ -108,7 +108,7 @@ Examples:
 pub const COLOR_HELP: &str = "Prints the rows of a screen in colour, by sequences of ECMA-48";
 
 /// Of the flag for what is beside the profile.
-pub const EXTENDED_HELP: &str =
+const EXTENDED_HELP: &str =
     "Takes also what live hosts send beside the profile, such as Query and Save Screen";
 
 const ANY_HELP: &str = "Takes any terminal name and any record, for tests of emulators";
