@@ -27,13 +27,13 @@ use Rattle.ws_live.specs.declared.script.ScriptFault.TheVariants as scripts
 pub session_text : (moves given : List Move) (events : List Event) (station : StationParts) (host : HostParts)
     (down up : List ℕ) (paint : Paint) (screen : Bool) (text : List ℕ) → given ≡ moves
     → IsReport events station host down up (after_moves (new_world Ibm3179Model2) given)
-    → IsPaintedPlayText paint events station.screen screen text → IsSessionText paint
+    → IsPaintedPlayText paint events station.screen.screen screen text → IsSessionText paint
     (after_moves (new_world Ibm3179Model2) moves) screen text
 session_text moves given events station host down up paint screen text same r t =
     let w : World = after_moves (new_world Ibm3179Model2) given in
     let told : IsPaintedPlayText paint w.events (screen_at w.station) screen text = subst
     (λ (s : ScreenParts). IsPaintedPlayText paint w.events s screen text) r.screen
-    (subst (λ (es : List Event). IsPaintedPlayText paint es station.screen screen text) r.events t) in
+    (subst (λ (es : List Event). IsPaintedPlayText paint es station.screen.screen screen text) r.events t) in
     subst (λ (ms : List Move). IsSessionText paint (after_moves (new_world Ibm3179Model2) ms) screen text) same told
 
 pub session_well : (moves given : List Move) (events : List Event) (station : StationParts) (host : HostParts)
