@@ -77,6 +77,7 @@ pub trait Code: Drop {
             (record { place = place self.new; begun = unfinished self.new }) at.new keep.new
             result.end }
     {
+        // A code that is read fast writes its own: its units go to the keep without an answer each.
         for (index, value) in values.iter().enumerate() {
             match self.push(*value) {
                 Push::More => at.is_inside = true,

@@ -10,7 +10,8 @@ pub struct DeviceFailed;
 
 /// What bytes are read from. It counts its failures, up to the greatest value of 64 bits.
 pub trait Source {
-    // What a read into a slice of a length may do: give these bytes, or fail.
+    // What a read into a slice of a length may do: give these bytes, or fail. A relation and no
+    // list of bytes, so that a file, of whose bytes nothing is known, has the contracts of a slice.
     ghost gives: { Self → ℕ → Option (List ℕ) → Self → Type 0 };
 
     ghost failures: { Self → ℕ };
@@ -30,6 +31,7 @@ pub trait Sink {
     // What a write of some bytes may do: take so many from their front, or fail.
     ghost takes: { Self → List ℕ → Option ℕ → Self → Type 0 };
 
+    // A write that takes no byte is no counted failure: whoever calls sees it by its answer.
     ghost failures: { Self → ℕ };
 
     /// Takes bytes from the slice's front, and answers how many, at most its length.

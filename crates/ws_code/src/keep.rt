@@ -13,6 +13,8 @@ pub enum Kept {
     NoMemory,
 }
 
+// It decides what a decoder costs: with a slot units come one by one, a list grows by all of them,
+// and with none kept no memory is asked for.
 /// Where the units go that a machine reads, and the values that they were read from.
 pub trait Keep<U>: Drop {
     // It holds these units, and was told of these values.

@@ -20,6 +20,8 @@ pub struct Run {
     pub end: End,
 }
 
+// Kept beside a machine, since no default body could ask the machine for it. A fast run writes it
+// once, at its end.
 /// Where the unit stands that is read, and whether it is unfinished.
 #[derive(Clone, Copy)]
 pub struct Standing<P> {

@@ -1,5 +1,6 @@
 ghost use Rattle.std.specs.Prelude.{◌≡◌, ◌+◌, ◌*◌};
 
+// By hand: what u16::from_be_bytes promises is a sum that each proof would have to unfold.
 /// The number of 16 bits that two bytes are, the high one first.
 #[inline(always)]
 pub fn word(high: u8, low: u8) -> u16

@@ -24,6 +24,7 @@ pub enum Mode {
     On,
 }
 
+// One enum, so that no name can be accepted without SEND.
 /// What a host end knows of the terminal's name.
 #[derive(Clone, Copy, PartialEq, Eq)]
 pub enum TerminalName {

@@ -1,3 +1,4 @@
+// Not named encode: a module and a function brought in beside it may not share a name.
 ghost use Rattle.std.specs.Prelude.{◌≡◌, IsTrue, ◌↔◌, OnOk, IfOk, IfErr};
 ghost use Rattle.std.specs.List.{AllByRecursion};
 ghost use Rattle.ws_code.specs.Code.{IsWhole};
@@ -59,6 +60,7 @@ pub fn encode<B: Body>(alloc: Global, items: &[Item<B::Unit>]) -> Result<Vec<u8>
     ensures fault { IfErr result (IsEncodeFault B.rules items.now) }
 {
     check_items::<B>(items)?;
+    // By the code of encode_to: the one failure of a VecSink is a refused growth.
     let mut sink = VecSink::new(alloc);
     match write_items::<B, VecSink>(&mut sink, items) {
         Ok(()) => Ok(sink.into_inner()),

@@ -29,7 +29,8 @@ pub fn write_items<B: Body, S: Sink>(sink: &mut S, items: &[Item<B::Unit>]) -> R
     Ok(())
 }
 
-// Writes a record that can be encoded.
+// Writes a record that can be encoded. Its units are spelled when they are checked, counted and
+// written: a length that is kept in between would ask for memory.
 fn write_encoded<B: Body, S: Sink>(sink: &mut S, encoded: &Record<B::Unit>) -> Result<(), Fault>
     requires { length (record_bytes B.rules encoded.now) < 2 ^ 16 }
     ensures ok { OnOk result (WentOut S.takes S.failures sink.old sink.new

@@ -96,6 +96,7 @@ pub fn encode_and_decode<B: Body>(
     }
 }
 
+// A law, since no clause of decode_from, generic over its source, can speak of one source.
 /// Decodes the bytes at once, and through a source over them: the same items, or the same fault, unless one of
 /// the two was refused a growth. The bytes are fewer than 4,294,967,296, since so many reads of a source are made
 /// at most.

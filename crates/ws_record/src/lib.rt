@@ -29,6 +29,7 @@ pub use raw::RawBody;
 pub use receiver::{Fed, Receiver};
 pub use record::{Head, Item, Record};
 pub use record_writer::{header_bytes, write_record};
+// Handed on, so that a caller names one crate.
 pub use ws_code::{
     Body, Code, DeviceFailed, Fault, List, Push, ReadSource, Reason, Sink, SliceSource, Source,
     VecSink, WriteSink, write_whole,

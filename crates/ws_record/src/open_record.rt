@@ -261,6 +261,7 @@ impl<B: Body> OpenRecord<B> {
     }
 
     // Ends the record, where it is whole, and tells its head, else why not. The next one begins.
+    // The head is read from its ten bytes anew: none is kept, nor made up before the first record.
     fn end(&mut self) -> News
         ensures { (so_far : RecordSoFar B.Unit) → HasRead B.rules self.old so_far
             → IsEnd B.rules so_far self.new result }

@@ -10,6 +10,7 @@ use crate::Screen;
 use ws_code::Reason;
 use ws_stream::Element;
 
+// It asks for a body, so that no caller proves again that each order finds an open write.
 /// Carries out a body's elements up to the first that the screen refuses.
 ///
 /// # Errors

@@ -1,4 +1,5 @@
 //! The codes of the commands in a host's body, each behind an escape (SC30-3533, commands).
+// Apart from the orders' codes, since both have an 11.
 
 /// Stands before each command.
 pub const ESCAPE: u8 = 0x04;

@@ -79,6 +79,7 @@ pub struct Sub {
     /// The option's byte, which is any.
     pub option: u8,
     /// The bytes between the option and the end. An FF among them is spelled FF FF.
+    // Not data, which is a word of the contract language.
     pub data_: ByteList<64>,
 }
 

@@ -36,6 +36,7 @@ pub fn write_token<S: Sink>(sink: &mut S, token: &Token) -> Result<(), Fault>
     write_whole(sink, spelling.as_slice())
 }
 
+// Beside write_token, since a token can't be made of a borrowed command without a copy.
 /// Writes a command's spelling (RFC 854).
 ///
 /// `Write` is the only fault: the sink failed, and what went out of the spelling is a prefix of it.

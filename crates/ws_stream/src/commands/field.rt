@@ -40,6 +40,7 @@ impl Commands {
                 self.controls.clear();
                 self.wait_for(Phase::FieldNext(format))
             }
+            // Never reached: the shift lies in the first byte, which was judged.
             None => End::Bad(Reason::LeftOutShift),
         }
     }

@@ -19,6 +19,7 @@ pub(super) fn hand_over<K: Keep<Element>>(keep: &mut K, element: Element) -> End
         → reading_of machine ≡ record { place = element_rules.after element; begun = [] }
         → IsKept K.holds K.may_answer keep.old element machine keep.new result }
 {
+    // Straight into the keep, so that no layer hands an element on by value.
     match keep.keep(element) {
         Kept::GoOn => End::More,
         Kept::Enough => End::Enough,
