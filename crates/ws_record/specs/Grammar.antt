@@ -74,6 +74,8 @@ module _ {Place U : Type 0} where
 
   -- The bytes hold the items, then an open record of these bytes, then an unfinished token.
   -- A command inside a record comes before it.
+  --
+  -- These are arguments and no record of three, which would be taken apart wherever a clause says that one is empty.
   pub record Holds (rules : Rules Place U) (bytes : List ℕ) (items : List (Item U))
       (record_so_far begun : List ℕ) : Type 0 where
     pub stretches : List (List Token × Record U)
