@@ -67,6 +67,8 @@ module _ {S : Type 0} where
     pub uncounted : failures to ≡ failures from
 
   -- these bytes went out, and then a write failed, which was the last
+  --
+  -- It has the last write's offer and its answer, so that a sink that took nothing is seen here.
   pub record FailedAfter (takes : MayTake S) (failures : S → ℕ) (from to : S) (bytes : List ℕ) : Type 0 where
     pub before : S
     pub went_out : WentOut takes failures from before bytes
@@ -89,6 +91,8 @@ module _ {S : Type 0} where
 
   -- between the two states so many reads, no more than one call may make, gave these bytes, and none gave the end or
   -- failed
+  --
+  -- It has the most reads, so that each contract that says what a source gave also says that its call ends.
   pub record Gave (gives : MayGive S) (failures : S → ℕ) (from to : S) (count : ℕ) (bytes : List ℕ) : Type 0 where
     pub reads : List Given
     pub made : Reads gives from reads to
