@@ -1,9 +1,10 @@
 #!/usr/bin/env python3
-"""Checks that the programs of docs/CALLING.md call what stands in crates/rows_session/src/calling.rt, word for word.
+"""Checks that docs/CALLING.md quotes the programs of examples/programs, and that what these call is proved.
 
-Run it from anywhere. With --try it also makes a crate of each program, as the page says, in a copy of the repository, and
-builds it by `rt try` without proving it; with --check it proves it. Its last line counts what was looked at, and its
-status is 1 where something differs.
+Each of their functions and types but `main` stands in crates/rows_session/src/calling.rt, word for word, and no other
+does. Run it from anywhere. With --try it also makes a crate of each program, as the page says, in a copy of the
+repository, and builds it by `rt try` without proving it; with --check it proves it. Its last line counts what was
+looked at, and its status is 1 where something differs.
 """
 import pathlib
 import re
@@ -15,18 +16,36 @@ import tempfile
 ROOT = pathlib.Path(__file__).resolve().parent.parent
 PAGE = ROOT / "docs/CALLING.md"
 PROVED = ROOT / "crates/rows_session/src/calling.rt"
+PROGRAMS = ROOT / "examples/programs"
 # An example has to stand before the programs can run on it.
 INPUT = ROOT / "examples/inquiry.hex"
+QUOTED = re.compile(r"```\n(\w+: [^\n]*)\n```\n\n`examples/programs/(\w+)\.rattle`:\n\n```rust\n(.*?)```", re.S)
 
 
-def programs(page):
-    """Each program's line of crates.txt, and its text."""
-    return re.findall(r"```\n(\w+: [^\n]*)\n```\n\n```rust\n(.*?)```", page, re.S)
+def programs():
+    """Each program's name, its line of crates.txt, and its text."""
+    for row in (PROGRAMS / "rows.txt").read_text().splitlines():
+        name = row.split(":")[0]
+        yield name, row, (PROGRAMS / f"{name}.rattle").read_text()
 
 
 def proof_files(page):
-    """What the page gives of proofs, each with its file."""
+    """The files of proofs that the page has made, each with its text."""
     return re.findall(r"`(crates/[\w/.]+\.antt)`:\n\n```\n(.*?)```", page, re.S)
+
+
+def quotes(page):
+    """Whether each program stands in the page, and no other does; so for what is put into files of proofs."""
+    quoted = {name: (row, text) for row, name, text in QUOTED.findall(page)}
+    for name, row, text in programs():
+        is_quoted = quoted.pop(name, None) == (row, text)
+        yield name, None if is_quoted else f"{PAGE.name} doesn't quote {name}.rattle and its row as they stand"
+    for name in [*quoted, *["a program"] * (page.count("```rust") - len(QUOTED.findall(page)))]:
+        yield name, f"{PAGE.name} quotes {name}, which {PROGRAMS.name} hasn't"
+    for path, text in proof_files(page):
+        kept = PROGRAMS / f"{path.split('/')[1]}.invariants.txt"
+        is_quoted = kept.exists() and kept.read_text() == text
+        yield path, None if is_quoted else f"{PAGE.name} doesn't quote {kept.name} as it stands"
 
 
 def items(text):
@@ -37,16 +56,17 @@ def items(text):
         yield found.group(1), words.replace("( ", "(").replace(", )", ")")
 
 
-def differences(page):
+def differences():
+    """Whether each item of a program is what was proved, and each that was proved stands in one."""
     proved = dict(items(PROVED.read_text()))
-    printed = set()
-    for line, text in programs(page):
+    called = set()
+    for program, _, text in programs():
         for name, item in items(text):
-            printed.add(name)
+            called.add(name)
             if name != "main":
-                yield name, None if proved.get(name) == item else f"{name} of {line.split(':')[0]} isn't what {PROVED.name} has"
-    for name in proved.keys() - printed:
-        yield name, f"{name} of {PROVED.name} isn't in {PAGE.name}"
+                yield name, None if proved.get(name) == item else f"{name} of {program} isn't what {PROVED.name} has"
+    for name in proved.keys() - called:
+        yield name, f"{name} of {PROVED.name} isn't in {PROGRAMS.name}"
 
 
 def copy_libraries(folder, has_work):
@@ -70,12 +90,11 @@ def built(page, command):
         for path, text in proof_files(page):
             (folder / path).parent.mkdir(parents=True)
             (folder / path).write_text(text)
-        for line, text in programs(page):
-            name = line.split(":")[0]
+        for name, row, text in programs():
             source = folder / "crates" / name / "src"
             source.mkdir(parents=True)
             (source / "main.rt").write_text(text)
-            (folder / "crates.txt").write_text(f"{rows}{line}\n")
+            (folder / "crates.txt").write_text(f"{rows}{row}\n")
             done = subprocess.run(
                 ["rt", command], cwd=source.parent, input=bytes.fromhex(INPUT.read_text()), capture_output=True
             )
@@ -86,7 +105,7 @@ def built(page, command):
 
 def main():
     page = PAGE.read_text()
-    found = list(differences(page))
+    found = [*quotes(page), *differences()]
     for command in "try", "check":
         if f"--{command}" in sys.argv[1:]:
             found += built(page, command)
