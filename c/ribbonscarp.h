@@ -120,8 +120,8 @@ extern "C" {
 #endif
 
 /* The version of this header. ribbon_version tells that of the library. */
-#define RIBBON_VERSION "2.0.0"
-#define RIBBON_VERSION_MAJOR 2
+#define RIBBON_VERSION "3.0.0"
+#define RIBBON_VERSION_MAJOR 3
 #define RIBBON_VERSION_MINOR 0
 #define RIBBON_VERSION_PATCH 0
 

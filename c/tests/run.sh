@@ -141,8 +141,7 @@ if has pkg-config "programs on what was installed"; then
             "$here/examples/station.cpp" "${flags[@]}"
         try "it prints station.out" prints "$here/examples/station.out" "$folder/theirs"
     fi
-    try "the version of pkg-config" test "$(pkg-config --modversion ribbonscarp)" = \
-        "$(sed -n 's/^#define RIBBON_VERSION "\(.*\)"/\1/p' "$here/ribbonscarp.h")"
+    try "the version of pkg-config" test "$(pkg-config --modversion ribbonscarp)" = "$(cat "$top/VERSION")"
     unset PKG_CONFIG_PATH PKG_CONFIG_SYSROOT_DIR
     if has python3 "a client in Python on what was installed"; then
         try_counted "a client in Python on what was installed" python3 "$tests/client.py" \

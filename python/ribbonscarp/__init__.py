@@ -23,6 +23,7 @@ from .host_session import HostSession, Listener, listen
 from .screen import Cell, Color, Field, Screen, Shift, State, Style, Which
 from .session import Session, connect
 from .station import Station
+from .version import __version__
 
 __all__ = [
     "TERMINALS",
@@ -66,9 +67,8 @@ __all__ = [
     "Truncated",
     "WaitedTooLong",
     "Which",
+    "__version__",
     "connect",
     "keys_to_fill",
     "listen",
 ]
-
-__version__ = "2.0.0"

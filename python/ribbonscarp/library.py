@@ -13,11 +13,12 @@ from ctypes import POINTER, Structure, c_bool, c_char_p, c_size_t, c_uint8, c_ui
 from typing import Any
 
 from .errors import LibraryNotFound
+from .version import __version__
 
 VARIABLE = "RIBBONSCARP_LIBRARY"
 """The environment variable that names the library's file."""
 
-MAJOR = 2
+MAJOR = int(__version__.split(".")[0])
 """The library's version must begin with this number."""
 
 ROWS, COLUMNS = 24, 80

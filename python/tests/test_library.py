@@ -73,10 +73,8 @@ class HeaderTest(unittest.TestCase):
 
     def test_version(self) -> None:
         version = re.search(r'#define RIBBON_VERSION "(.*)"', HEADER)
-        project = re.search(r'^version = "(.*)"', (TOP / "python/pyproject.toml").read_text(), re.M)
-        assert version is not None and project is not None
+        assert version is not None
         self.assertEqual(ribbonscarp.__version__, version[1])
-        self.assertEqual(project[1], version[1])
 
     def test_sentences(self) -> None:
         self.assertEqual(library.reason_text(Reason.ROLL), "33: rolling of the screen isn't part of the profile")
@@ -129,6 +127,8 @@ class FindingTest(unittest.TestCase):
         kept = library.STRUCTURES["cell"]
         try:
             library.STRUCTURES["cell"] = Longer
-            self.assertRegex(str(library._fault(library.library())), r"has another ribbon_cell \(version 2\.")
+            self.assertEqual(
+                library._fault(library.library()), f"has another ribbon_cell (version {ribbonscarp.__version__})"
+            )
         finally:
             library.STRUCTURES["cell"] = kept
