@@ -1,12 +1,12 @@
 #!/usr/bin/env python3
 """What becomes of a Telnet Synch (RFC 854) at `t5250 connect` and `t5250 serve`: its data mark is lost.
 
-A Synch sends the data mark, IAC DM, so that its last byte is TCP urgent data. The kit's sockets have no SO_OOBINLINE, so
-the system takes that byte out of the stream, and the byte behind it stands behind the IAC. The tests say so: they are to
-be turned round once the kit has the option. A data mark that isn't urgent is a Telnet command like any other.
+A Synch sends the data mark, IAC DM, so that its last byte is TCP urgent data. The kit's sockets have no SO_OOBINLINE,
+so the system takes that byte out of the stream, and the byte behind it stands behind the IAC. The tests say so: they
+are to be turned round once the kit has the option. A data mark that isn't urgent is a Telnet command like any other.
 
-Another program than that of `crates/t5250/out` may be named. The last line tells how many passed and how many failed, and
-the status is 1 where one failed.
+Another program than that of `crates/t5250/out` may be named. The last line tells how many passed and how many failed,
+and the status is 1 where one failed.
 """
 import os
 import socket

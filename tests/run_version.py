@@ -1,9 +1,8 @@
 #!/usr/bin/env python3
 """Checks that one version stands everywhere: the one of the file VERSION, at the top.
 
-Where a program, a shared library or both are there, as `rt run` in crates/t5250 and `make -C c` leave them or as they are
-named (`run_version.py [T5250 [LIBRARY]]`), they are asked too. The last line tells how many passed and how many failed,
-and the status is 1 where one failed.
+A shared library is asked too, where `make -C c` has left one or another is named. The last line tells how many passed
+and how many failed, and the status is 1 where one failed.
 """
 import ctypes
 import os
@@ -47,8 +46,7 @@ def library_says(path):
 
 
 def main():
-    named = [pathlib.Path(os.path.abspath(word)) for word in sys.argv[1:]]
-    library = named[1] if len(named) > 1 else TOP / "c/build/libribbonscarp.so"
+    library = pathlib.Path(os.path.abspath(sys.argv[1])) if len(sys.argv) > 1 else TOP / "c/build/libribbonscarp.so"
     found = list(written())
     if library.exists():
         found += library_says(library)

@@ -123,6 +123,8 @@ prints() {
 made_by=(BUILD="$BUILD" LIB="$LIB" GLUE="$GLUE" T5250="$T5250")
 try "make install" "$MAKE" -C "$here" install PREFIX=/usr DESTDIR="$stage" "${made_by[@]}"
 try "the program that was installed" "$stage/usr/bin/t5250" check "$top/examples/inquiry.hex"
+try "its page of the manual" grep -q '^.TH T5250 1' "$stage/usr/share/man/man1/t5250.1"
+try "its completions" grep -q '^complete .* t5250$' "$stage/usr/share/bash-completion/completions/t5250"
 if has pkg-config "programs on what was installed"; then
     export PKG_CONFIG_PATH=$stage/usr/lib/pkgconfig PKG_CONFIG_SYSROOT_DIR=$stage
     read -r -a flags <<<"$(pkg-config --define-variable=prefix=/usr --cflags --libs ribbonscarp)"
