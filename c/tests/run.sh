@@ -151,6 +151,8 @@ if has pkg-config "programs on what was installed"; then
         try "the Python package on what was installed" env -u RIBBONSCARP_LIBRARY LD_LIBRARY_PATH="$stage/usr/lib" \
             PYTHONPATH="$top/python" PYTHONDONTWRITEBYTECODE=1 \
             python3 -m unittest discover -q -s "$top/python/tests" -p test_host.py
+        try "a scraper in Python on what was installed" "$tests/scrape_python.sh" "$stage/usr"
+        grep '^left out:' "$folder/said"
     fi
 fi
 
