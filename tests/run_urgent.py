@@ -27,7 +27,7 @@ ANSWERS = [b"\xff\xfb\x19", b"\xff\xfd\x19", b"\xff\xfb\x00", b"\xff\xfd\x00"]
 DATA_MARK = b"\xff\xf2"
 # A record of opcode 0 without a body. Its first byte is 00, which is no Telnet command.
 RECORD = struct.pack(">HHHBHB", 10, 0x12A0, 0, 4, 0, 0) + b"\xff\xef"
-NO_COMMAND = "reason 1 BadCommand"
+NO_COMMAND, BAD_TYPE = "reason 1 BadCommand", "reason 11 BadType"
 SECONDS = 15
 
 
@@ -127,6 +127,13 @@ def send_synch(line):
     line.send(RECORD)
 
 
+def send_synch_and_command(line):
+    """A NOP behind it, whose IAC makes a doubled FF, a byte of data: FFF1 is the length of a record then."""
+    line.synch()
+    line.send(b"\xff\xf1")
+    line.send(RECORD)
+
+
 def a_socket_loses_it():
     """The system keeps an urgent byte in its place only where the socket has SO_OOBINLINE."""
     for is_inline in (0, 1):
@@ -148,10 +155,11 @@ def a_data_mark_is_taken(words):
 
 
 def connect_loses_it(words):
-    """The record's first byte stands behind the IAC then, and is refused there."""
-    printed, status, line = connect(send_synch, *words)
-    place = line.sent - len(RECORD)
-    expect((printed, status), (f"station refused at {place}: {NO_COMMAND}\n", 1), "connect")
+    """The record's first byte stands behind the IAC then, and is refused there, or in the place of a record's type."""
+    for play, reason in (send_synch, NO_COMMAND), (send_synch_and_command, BAD_TYPE):
+        printed, status, line = connect(play, *words)
+        place = line.sent - len(RECORD)
+        expect((printed, status), (f"station refused at {place}: {reason}\n", 1), "connect")
 
 
 def serve_takes_a_data_mark():
@@ -160,10 +168,11 @@ def serve_takes_a_data_mark():
 
 
 def serve_loses_it(words):
-    printed, status, line = serve(send_synch, *words)
-    place = line.sent - len(RECORD)
     said = "terminal" if words else "host ready"
-    expect((printed, status), (f"{said} IBM-3179-2\nhost refused at {place}: {NO_COMMAND}\n", 1), "serve")
+    for play, reason in (send_synch, NO_COMMAND), (send_synch_and_command, BAD_TYPE):
+        printed, status, line = serve(play, *words)
+        place = line.sent - len(RECORD)
+        expect((printed, status), (f"{said} IBM-3179-2\nhost refused at {place}: {reason}\n", 1), "serve")
 
 
 def main():
