@@ -28,7 +28,8 @@ def main():
     files = subprocess.run(listed, cwd=ROOT, capture_output=True, text=True, check=True).stdout.split("\n")
     paths = [f"/{file}" for file in files if file]
     passed, wrong = 0, []
-    for page in sorted([*ROOT.glob("*.md"), *ROOT.glob("docs/*.md")]):
+    pages = ("*.md", "docs/*.md", "*/README.md", ".github/*/*.md")
+    for page in sorted({page for pattern in pages for page in ROOT.glob(pattern)}):
         for name in sorted(set(names(page.read_text()))):
             if any(path.endswith(f"/{name.removeprefix('/')}") for path in paths):
                 passed += 1

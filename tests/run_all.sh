@@ -3,39 +3,11 @@
 # tests/run_*.py, the documents, and the C interface. `rt ci` leaves these programs, and so do `rt run` in crates/t5250
 # and `rt test` in crates/rows_program; with --prove `rt ci` is the first part.
 #
-# A part ends with a line `N passed, N failed`; one without counts as one, by its status. What a part leaves out for want
-# of a tool, it tells on a line that begins with `left out: `; these come again at the end. The last line is the sum, and
-# the status is 1 where something failed.
+# What is left out for want of a tool comes again at the end. The last line is the sum, and the status is 1 where
+# something failed.
 set -uo pipefail
 cd "$(dirname "$0")/.." || exit 2
-folder=$(mktemp -d) || exit 2
-trap 'rm -rf "$folder"' EXIT
-passed=0
-failed=0
-
-# part NAME MINUTES COMMAND..
-part() {
-    local name=$1 minutes=$2 status begun=$SECONDS
-    shift 2
-    echo "== $name"
-    timeout "${minutes}m" "$@" </dev/null 2>&1 | tee "$folder/text"
-    status=$?
-    grep '^left out: ' "$folder/text" >>"$folder/left_out"
-    if [[ $(tail -n 1 "$folder/text") =~ ^([0-9]+)\ passed,\ ([0-9]+)\ failed$ ]]; then
-        passed=$((passed + BASH_REMATCH[1]))
-        failed=$((failed + BASH_REMATCH[2]))
-        if [ $status -ne 0 ] && [ "${BASH_REMATCH[2]}" -eq 0 ]; then
-            echo "$name ended with status $status"
-            failed=$((failed + 1))
-        fi
-    elif [ $status -eq 0 ]; then
-        passed=$((passed + 1))
-    else
-        echo "$name ended with status $status"
-        failed=$((failed + 1))
-    fi
-    echo "== $name took $((SECONDS - begun)) seconds"
-}
+source tests/parts.sh
 
 # Each check by one process: one that is shared out among copies of the prover takes a quarter more processor time. Two at
 # a time on two or three cores, and on more all but one: more slow each other down. The prover's allocator keeps the pages that it
@@ -49,7 +21,7 @@ if command -v cc >/dev/null && command -v make >/dev/null; then
     part "C library" 60 tests/build_c_library.sh
     part "C interface" 30 make --no-print-directory -C c check
 else
-    echo "left out: the C interface, since cc or make isn't there" | tee -a "$folder/left_out"
+    left_out "the C interface, since cc or make isn't there"
 fi
 part examples 10 examples/run.sh
 for script in tests/run_*.py; do
@@ -59,7 +31,4 @@ part definitions 5 python3 docs/definitions.py
 part paths 5 python3 docs/paths.py
 part callers 20 python3 docs/calling.py --try
 
-echo "== all"
-cat "$folder/left_out"
-echo "$passed passed, $failed failed"
-[ $failed -eq 0 ]
+sum_up
