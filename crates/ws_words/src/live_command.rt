@@ -47,6 +47,9 @@ A script has a line for each step, and is read before anything is sent. Without
 one a line of standard input is carried out before the next is read:
   type TEXT    keys for the characters; insert TEXT inserts them
   key NAME     a key, such as Enter, F3, FieldExit or Tab
+  cursor R C   the cursor goes to that cell; newline goes to a row below
+  field N TEXT the cursor goes to field N, as fields counts, and fills it
+  erase        empties the field from the cursor on
   await        goes on until the keyboard is unlocked
   await record, await text TEXT
                until one more record was applied, or a row shows TEXT
