@@ -1,20 +1,21 @@
 use Rattle.std.proofs.Common.{◌≡◌, ◌≢◌, ℕ, ◌+◌, ◌<◌, ◌^◌, List, [], ◌∷◌, Option, Some, None, Ok}
-use Rattle.std.proofs.Common.{length, inl, inr, refl, sym, ap, ◌∙◌, arith}
+use Rattle.std.proofs.Common.{length, inl, inr, refl, sym, ap, ◌∙◌, arith, take, get_or, ◌++◌}
 use Rattle.std.proofs.lemmas.List.{append-nil}
 use Rattle.ws_record.specs.Encode.{item_spelling}
 use Rattle.ws_record.specs.RawBody.{raw_rules}
 use Rattle.ws_record.specs.declared.record.Item.{Item}
 use Rattle.ws_record.specs.declared.record.Item.TheVariants.{Record as RecordItem}
 use Rattle.ws_record.specs.declared.record.Record.{Record}
-use Rattle.ws_session.specs.Acts.{Came, Did, HoldsItems, as_list}
+use Rattle.ws_session.specs.Acts.{Came, Did, HoldsItems, all_came, as_list}
 use Rattle.ws_session.specs.Reaction.{GoesOn}
 use Rattle.ws_session.specs.StationManners.{goes_on}
+use Rattle.ws_session.specs.declared.refusal.Refusal.{Refusal}
 use Rattle.ws_session.specs.declared.send_fault.SendFault.{SendFault}
 use Rattle.ws_session.specs.declared.send_fault.SendFault.TheVariants as why
 use Rattle.ws_session.proofs.EndDeeds.{deed_gone}
 use Rattle.ws_session.proofs.EndSteps.{none_went, one_went}
 use Rattle.ws_any_host.specs.AnyLeads.{AnyGoes, AnyLeads, AnyParts, AnyStep, IsAnyPushed, IsAnyShut, IsSendFault}
-use Rattle.ws_any_host.specs.AnyLeads.{IsAnySendRefusal, IsAnySendTaken}
+use Rattle.ws_any_host.specs.AnyLeads.{AnyRefuses, AnyRefusesByte, IsAnySendRefusal, IsAnySendTaken}
 use Rattle.ws_any_host.specs.AnyOptions.{Negotiated}
 use Rattle.ws_any_host.specs.AnySide.{any_at_item, any_manner, send_fault}
 use Rattle.ws_any_host.specs.declared.any_event.AnyEvent.{AnyEvent}
@@ -44,6 +45,19 @@ any_came old new byte step p works = record {
   ];
   shut = λ shut. absurd (works shut);
 }
+
+-- the first byte of a piece, by itself
+pub first_fed : (old new : AnyParts) (piece : List ℕ) (step : AnyStep) → 0 < length piece
+    → AtAny old (λ bytes items side. IsAnyPushed old new bytes items side (get_or piece 0 0) (Ok step))
+    → (IsAnyShut old → ⊥) → AnyGoes old (all_came (take 1 piece)) step.reply (as_list step.event) new
+first_fed old new [] step some p works = absurd (omega (arith, some))
+first_fed old new (byte ∷ rest) step some p works = any_came old new byte step p works
+
+pub first_refused : (old new : AnyParts) (piece : List ℕ) (why : Refusal) → 0 < length piece
+    → AnyRefusesByte old (get_or piece 0 0) why new
+    → (byte : ℕ) × (rest : List ℕ) × (piece ≡ take 0 piece ++ byte ∷ rest) × AnyRefuses old (take 0 piece) byte why new
+first_refused old new [] why some r = absurd (omega (arith, some))
+first_refused old new (byte ∷ rest) why some r = (byte, rest, refl, refl, r)
 
 module _ (host : AnyParts) (r : Record ℕ) where
   -- a record that is sent

@@ -1,8 +1,20 @@
 use Rattle.std.proofs.Common.{◌≡◌, Err}
+use Rattle.ws_session.specs.declared.refusal.Refusal.TheVariants.{Failed}
+use Rattle.ws_session.proofs.Shuts.{not_shut, shut_fails}
+use Rattle.ws_any_host.proofs.AnyActs.{first_fed, first_refused}
 use Rattle.ws_any_host.proofs.end.AnyHostEnd.feed.Goals as goal
 
 pub returns-in-Ok-clause-fed : goal.returns-in-Ok-clause-fed
-returns-in-Ok-clause-fed c = ?
+returns-in-Ok-clause-fed c = first_fed c.args.self.now c.push.new.self c.args.piece.now c.in-Ok.step c.requires
+    c.in-Ok.ensures.pushed (not_shut _ _ Failed _ (λ over. (c.in-Ok.ensures.failed over).0) c.in-Ok.ensures.full)
 
 pub returns-in-Err-clause-refused : goal.returns-in-Err-clause-refused
-returns-in-Err-clause-refused c = ?
+returns-in-Err-clause-refused c =
+    first_refused c.args.self.now c.push.new.self c.args.piece.now c.in-Err.refusal c.requires (record {
+      led = c.in-Err.ensures.pushed;
+      shut = λ shut. (
+        (let e : Err c.in-Err.refusal ≡ Err Failed = shut_fails _ _ Failed _ (λ over. (c.in-Err.ensures.failed over).0)
+            c.in-Err.ensures.full shut in cc),
+        c.in-Err.ensures.seen,
+      );
+    })
