@@ -128,6 +128,9 @@ static void ring(session *s, const ribbon_state *state)
     if (state->is_message_lit && !s->was_lit && !window_has_status())
         s->rings = true; /* where no sign tells of the message light, the bell does */
     s->was_lit = state->is_message_lit;
+    if (state->alarms != s->alarms)
+        s->rings = true;
+    s->alarms = state->alarms;
     if (s->rings)
         (void)beep();
     s->rings = false;

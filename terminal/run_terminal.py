@@ -43,7 +43,7 @@ def parts(words):
                 faults.kept_is_the_last, faults.bad_peers, faults.synch, faults.ipv6, faults.floods,
                 faults.while_connecting, faults.in_the_menu, faults.command_lines, faults.without_a_terminal,
                 faults.unwritable_files)
-    yield from (live.asked, live.an_error, live.many_saves, live.strict)
+    yield from (live.asked, live.an_error, live.alarm, live.alarm_refused, live.many_saves, live.strict)
     yield in_tmux.sizes
 
     def screens():

@@ -37,6 +37,7 @@ typedef struct {
     bool is_held;      /* by a refused key */
     bool is_inserting;
     bool was_lit;      /* the message light, when it was looked at last */
+    uint64_t alarms;   /* of the host's, when they were looked at last */
     bool rings;        /* the bell is still to be rung */
     bool is_menu_open;
     bool draws_all;    /* all is to be drawn, whatever has changed */

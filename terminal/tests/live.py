@@ -4,6 +4,8 @@ from window import Terminal, check
 from work import at_form
 
 QUERY, SAVE, CLEAR = b"\x04\xf3\x00\x05\xd9\x70\x00", b"\x04\x02", b"\x04\x40"
+# A Write to Display without the alarm, and one with it.
+PLAIN, LOUD = b"\x04\x11\x00\x08", b"\x04\x11\x00\x0c"
 # Write Error Code, Insert Cursor 3 20, an attribute and a text, and a read.
 ERROR = b"\x04\x21\x13\x03\x14\x22" + "No such item".encode("cp037") + b"\x04\x52\x00\x00"
 
@@ -43,6 +45,42 @@ def an_error():
     t.type("7")
     t.until(lambda: "7" in t.window.text(2), "then keys are taken")
     t.leave()
+    host.close()
+
+
+def alarm():
+    """The host's alarm rings once, also where the key's bell is due; without it nothing does."""
+    host, t = at_form()
+    t.settle()
+    before = t.window.bells
+    host.send(PLAIN + b"\x11\x0a\x03" + "quiet".encode("cp037"), 2)
+    t.shows(9, "quiet")
+    t.settle()
+    check(t.window.bells == before, "a Write without the alarm is silent", t.window.bells - before)
+    for words, body in ("once", LOUD), ("both", LOUD * 2):
+        before = t.window.bells
+        host.send(body + b"\x11\x0a\x03" + words.encode("cp037").ljust(5, b"\x40"), 2)
+        t.shows(9, words)
+        t.settle()
+        check(t.window.bells == before + 1, f"the alarm rings once: {words}", t.window.bells - before)
+    t.type("x")
+    t.tells("Reset")
+    t.settle()
+    check(t.window.bells == before + 2, "a refused key rings once more, and the alarm not again", t.window.bells - before)
+    t.leave()
+    host.close()
+
+
+def alarm_refused():
+    """A refused record sounds no alarm of its own: the session's end rings, once."""
+    host, t = at_form()
+    t.settle()
+    before = t.window.bells
+    host.send(LOUD + b"\x23\x00\x01\x18")
+    t.tells("Refused at the host's byte")
+    t.settle()
+    check(t.window.bells == before + 1, "one bell", t.window.bells - before)
+    t.leave(1)
     host.close()
 
 

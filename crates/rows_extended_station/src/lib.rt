@@ -2,6 +2,8 @@
 #![tactic(auto)]
 
 #[cfg(test)]
+mod alarm_rows;
+#[cfg(test)]
 mod ask_rows;
 #[cfg(test)]
 mod attached_rows;

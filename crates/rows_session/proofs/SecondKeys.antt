@@ -1,20 +1,19 @@
 use Rattle.std.proofs.Common.{Option, Some, None, Result, Ok, Err, ap}
-use Rattle.ws_screen.specs.ScreenParts.{ScreenParts}
 use Rattle.ws_keys.specs.declared.answer.Answer.{Answer}
 use Rattle.ws_keys.specs.declared.answer.Answer.TheVariants.{Read, Attention, SystemRequest}
 use Rattle.ws_keys.specs.declared.key.Key.{Key}
 use Rattle.ws_keys.specs.declared.key.KeyRefusal.{KeyRefusal}
 use Rattle.ws_session.specs.Displays.{HasPressed, SideOn}
-use Rattle.ws_session.specs.StationSide.{profile}
+use Rattle.ws_session.specs.StationSide.{profile, ProfileParts}
 use Rattle.rows_session.specs.SecondDisplay.{SecondParts, SecondHappened, SecondGives, second, second_key, second_side}
 use Rattle.rows_session.specs.SecondDisplay.{profile_side}
 
 -- a key of the profile does here what it does there
-pub second_pressed : (d : SecondParts) (screen : ScreenParts) (s : SideOn SecondHappened) (key : Key)
+pub second_pressed : (d : SecondParts) (new : ProfileParts) (s : SideOn SecondHappened) (key : Key)
     (result : Result (Option Answer) KeyRefusal) → SecondGives s.happened d
-    → HasPressed profile d.screen screen (profile_side s) key result
-    → HasPressed second d (record d { screen = screen }) s (Some key) result
-second_pressed d screen s key (Ok None) g p = (
+    → HasPressed profile d.profile new (profile_side s) key result
+    → HasPressed second d (record d { profile = new }) s (Some key) result
+second_pressed d new s key (Ok None) g p = (
   second_side s p.0,
   ap (second_key s) p.1,
   record {
@@ -22,7 +21,7 @@ second_pressed d screen s key (Ok None) g p = (
     given = record { shown = p.2.given; told = g.told; rings = g.rings };
   },
 )
-second_pressed d screen s key (Ok (Some (Read body))) g p = (
+second_pressed d new s key (Ok (Some (Read body))) g p = (
   second_side s p.0,
   p.1,
   p.2,
@@ -33,8 +32,8 @@ second_pressed d screen s key (Ok (Some (Read body))) g p = (
     given = record { shown = p.5.given; told = g.told; rings = g.rings };
   },
 )
-second_pressed d screen s key (Ok (Some Attention)) g p =
+second_pressed d new s key (Ok (Some Attention)) g p =
     (ap (second_key s) p.0, record { shown = p.1; told = g.told; rings = g.rings })
-second_pressed d screen s key (Ok (Some SystemRequest)) g p =
+second_pressed d new s key (Ok (Some SystemRequest)) g p =
     (ap (second_key s) p.0, record { shown = p.1; told = g.told; rings = g.rings })
-second_pressed d screen s key (Err refusal) g p = (ap (second_key s) p.0, ap (λ z. record d { screen = z }) p.1)
+second_pressed d new s key (Err refusal) g p = (ap (second_key s) p.0, ap (λ z. record d { profile = z }) p.1)

@@ -9,15 +9,14 @@ use Rattle.ws_stream.specs.declared.answer_part.AnswerPart.{AnswerPart}
 use Rattle.ws_stream.specs.declared.answer_place.AnswerPlace.{AnswerPlace}
 use Rattle.ws_stream.specs.AnswerParts.{answer_rules}
 use Rattle.ws_screen.specs.Events.{History}
-use Rattle.ws_screen.specs.ScreenParts.{ScreenParts}
 use Rattle.ws_keys.specs.declared.key.Key.{Key}
 use Rattle.ws_session.specs.Displays.{DisplayOf, SideOn, KeyReactionOn, RefusesKey, Silent, Answers, Signals}
 use Rattle.ws_session.specs.Reaction.{Reaction, GoesOn, empty_record}
-use Rattle.ws_session.specs.StationSide.{profile, StationSide}
+use Rattle.ws_session.specs.StationSide.{profile, ProfileParts, StationSide}
 
--- what it keeps: the profile's screen, the bytes of the last answer, and whether its bell rings
+-- what it keeps: the profile's display, the bytes of the last answer, and whether its bell rings
 pub record SecondParts : Type 0 where
-  pub screen : ScreenParts
+  pub profile : ProfileParts
   pub told : List ℕ
   pub rings : Bool
 
@@ -29,7 +28,7 @@ pub record SecondHappened : Type 0 where
 
 -- which displays it gives
 pub record SecondGives (h : SecondHappened) (d : SecondParts) : Type 0 where
-  pub shown : profile.gives h.shown d.screen
+  pub shown : profile.gives h.shown d.profile
   pub told : d.told ≡ h.told
   pub rings : d.rings ≡ h.rings
 
@@ -83,7 +82,9 @@ second = record {
   fresh = λ terminal. record { shown = []; told = []; rings = false };
   gives = λ h d. SecondGives h d;
   shows = λ h. profile.shows h.shown;
-  shown = λ d. d.screen;
+  shown = λ d. profile.shown d.profile;
+  sounds = λ h. profile.sounds h.shown;
+  sounded = λ d. profile.sounded d.profile;
   applies = second_applies;
   sends = second_sends;
   presses = second_presses;

@@ -56,6 +56,7 @@ fn stations_stand_on_any_display(rt: HostRuntime) {
             (station.records(), station.display().rings()),
             (1, true),
         );
+        same(&rt, station.alarms(), 0);
         same(&rt, station.key(None), Ok(None));
         holds(&rt, !station.display().rings());
         same(

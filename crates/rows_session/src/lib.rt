@@ -12,6 +12,8 @@ mod second_display;
 
 // Rows of ws_session.
 #[cfg(test)]
+mod alarm_rows;
+#[cfg(test)]
 mod attached_rows;
 #[cfg(test)]
 mod calling_rows;

@@ -27,7 +27,7 @@ impl Model for SecondDisplay {
 
     ghost Value = { SecondParts };
 
-    ghost view = { λ d. record { screen = d.profile; told = d.told.items; rings = d.rings } };
+    ghost view = { λ d. record { profile = d.profile; told = d.told.items; rings = d.rings } };
 }
 
 impl SecondDisplay {
@@ -102,6 +102,10 @@ impl StationDisplay for SecondDisplay {
 
     fn screen(&self) -> &Screen {
         self.profile.screen()
+    }
+
+    fn alarms(&self) -> u64 {
+        self.profile.alarms()
     }
 
     ghost spells = { λ screen kind aid. refl };
