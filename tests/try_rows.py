@@ -25,9 +25,9 @@ CRATES = [
     "rows_extended_station",
     "rows_extended",
 ]
-# Tests that take minutes as `rt try` compiles them. They get these seconds, and are left out where that isn't enough.
-SLOW = {"rows_decoder": {"hostile_rows::change", "hostile_rows::change_of_length_255"}}
-SLOW_SECONDS = "20"
+# Seconds for each test of a crate of which some take minutes as `rt try` compiles them. Those that haven't ended then
+# are left out; in other crates, whose tests have a minute, such a test has failed.
+SHORT = {"rows_decoder": "10"}
 LATE = re.compile(r"^test (\S+) \.{3} FAILED\n +checked: no-answer: .* did not end within the time limit$", re.M)
 
 
@@ -35,17 +35,17 @@ def try_crate(name, end):
     """How many tests of a crate passed and failed, and those that are left out; None where there was no time."""
     if time.monotonic() >= end:
         return None
-    command = ["rt", "try", "--test", *(["--seconds", SLOW_SECONDS] if name in SLOW else [])]
+    command = ["rt", "try", "--test", *(["--seconds", SHORT[name]] if name in SHORT else [])]
     done = subprocess.run(command, cwd=TOP / "crates" / name, stdin=subprocess.DEVNULL, capture_output=True, text=True)
     said = done.stdout + done.stderr
     found = re.search(r"^test result: .* (\d+) passed; (\d+) failed;", said, re.M)
-    left = SLOW.get(name, set()) & set(LATE.findall(said)) if found else set()
+    left = LATE.findall(said) if found and name in SHORT else []
     passed, failed = (int(found[1]), int(found[2]) - len(left)) if found else (0, 1)
     if done.returncode != 0 and not left:
         failed = max(failed, 1)
     told = "" if failed == 0 else "".join(f"{line}\n" for line in said.splitlines() if not line.endswith(" ok"))
     print(f"{told}{name}: {passed} passed, {failed} failed", flush=True)
-    return passed, failed, [f"{name}'s {test}" for test in sorted(left)]
+    return passed, failed, [f"{name}'s {test}" for test in left]
 
 
 def main():
