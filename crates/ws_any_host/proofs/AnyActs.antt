@@ -57,7 +57,7 @@ pub first_refused : (old new : AnyParts) (piece : List ℕ) (why : Refusal) → 
     → AnyRefusesByte old (get_or piece 0 0) why new
     → (byte : ℕ) × (rest : List ℕ) × (piece ≡ take 0 piece ++ byte ∷ rest) × AnyRefuses old (take 0 piece) byte why new
 first_refused old new [] why some r = absurd (omega (arith, some))
-first_refused old new (byte ∷ rest) why some r = (byte, rest, refl, refl, r)
+first_refused old new (byte ∷ rest) why some r = (byte, rest, refl, (refl, r))
 
 module _ (host : AnyParts) (r : Record ℕ) where
   -- a record that is sent
