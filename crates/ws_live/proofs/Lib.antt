@@ -13,3 +13,6 @@ pub mod ScriptWords
 pub mod Scripts
 pub mod ServeRuns
 pub mod ServeWords
+pub mod StationLines
+pub mod StrokeRuns
+pub mod StrokeWords

@@ -1,11 +1,17 @@
 -- The lines of a script for a station at a host, whose display has keys by these words.
 
-use Rattle.std.specs.Prelude.{◌≡◌, ◌≢◌, ℕ, ◌⊎◌, List, [], ◌∷◌, ◌++◌, Bool, true, false, map, codes, Some, string_bytes}
+use Rattle.std.specs.Prelude.{◌≡◌, ◌≢◌, ℕ, ◌≤◌, ◌⊎◌, List, [], ◌∷◌, ◌++◌, Bool, true, false, map, codes, Some, string_bytes}
 use Rattle.std.specs.Str.{IsUtf8, all_scalars, encode_utf8_all}
+use Rattle.ws_screen.specs.declared.format_table.TheConstants.{MAX_FIELDS}
+use Rattle.ws_text.specs.Words.{IsCell, IsNumber}
 use Rattle.ws_live.specs.KeyWords.{KeyWords}
 use Rattle.ws_live.specs.Script.{typed_key}
 use Rattle.ws_live.specs.declared.connect_line.StationLine.{StationLine}
 use Rattle.ws_live.specs.declared.connect_line.StationLine.TheVariants.{Nothing, Press, Await, Fields, Show}
+use Rattle.ws_live.specs.declared.connect_line.StationLine.TheVariants.{Stroke as StrokeLine}
+use Rattle.ws_live.specs.declared.stroke.Filling.{Filling}
+use Rattle.ws_live.specs.declared.stroke.Stroke.{Stroke}
+use Rattle.ws_live.specs.declared.stroke.Stroke.TheVariants.{Cursor, NewLine, EraseEof, Fill}
 use Rattle.ws_live.specs.declared.connect_line.Awaited.{Awaited}
 use Rattle.ws_live.specs.declared.connect_line.Awaited.TheVariants.{Turn, Record, Text}
 
@@ -36,6 +42,15 @@ IsTextWait line = (words : List ℕ) × (line ≡ codes "await " ++ words) × Is
 abbrev pub BeginsStationLine : List ℕ → Type 0
 BeginsStationLine line = IsUtf8 line × IsTextWait line
 
+-- the cell of a row and a column
+abbrev pub IsCellText : List ℕ → ℕ → Type 0
+IsCellText words cell = (row : List ℕ) × (column : List ℕ) × (words ≡ row ++ codes " " ++ column)
+    × IsCell row column cell
+
+-- the number of a field that a screen may have
+abbrev pub IsFieldNumber : List ℕ → ℕ → Type 0
+IsFieldNumber word number = IsNumber word number × (1 ≤ number) × (number ≤ MAX_FIELDS)
+
 module _ {Q : Type 0} (w : KeyWords Q) where
   -- a key for each character of a text in UTF-8
   pub record AreKeysOf (inserts : Bool) (text : List ℕ) (keys : List Q) : Type 0 where
@@ -54,10 +69,27 @@ module _ {Q : Type 0} (w : KeyWords Q) where
     inserted : (text : List ℕ) → line ≡ codes "insert " ++ text → AreKeysOf true text keys → MeansKeys line keys
     named : (name : List ℕ) → line ≡ codes "key " ++ name → AreNamed name keys → MeansKeys line keys
 
+  -- the field of a number, and keys for the characters of a text
+  abbrev pub IsFieldText : List ℕ → List ℕ → Filling Q → Type 0
+  IsFieldText word text filling = IsFieldNumber word filling.number × AreKeysOf false text filling.keys
+
+  -- the same, the text behind the number
+  abbrev pub IsFilling : List ℕ → Filling Q → Type 0
+  IsFilling words filling = (word : List ℕ) × (text : List ℕ) × (words ≡ word ++ codes " " ++ text)
+      × IsFieldText word text filling
+
+  -- the lines that press keys by the screen
+  abbrev pub MeansStroke : List ℕ → Stroke Q → Type 0
+  MeansStroke line (Cursor cell) = (words : List ℕ) × (line ≡ codes "cursor " ++ words) × IsCellText words cell
+  MeansStroke line NewLine = line ≡ codes "newline"
+  MeansStroke line EraseEof = line ≡ codes "erase"
+  MeansStroke line (Fill filling) = (words : List ℕ) × (line ≡ codes "field " ++ words) × IsFilling words filling
+
   -- what a line means
   abbrev pub Means : List ℕ → StationLine Q → Type 0
   Means line Nothing = IsNothing line
   Means line (Press keys) = MeansKeys line keys
+  Means line (StrokeLine stroke) = MeansStroke line stroke
   Means line (Await awaited) = MeansWait line awaited
   Means line Fields = line ≡ codes "fields"
   Means line Show = line ≡ codes "show"

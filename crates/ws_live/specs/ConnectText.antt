@@ -1,6 +1,6 @@
 -- What a line of a script for a station does there, and what it prints, by the station's display.
 
-use Rattle.std.specs.Prelude.{◌≡◌, ℕ, ◌≤◌, List, [], ◌∷◌, ◌++◌, ◌⊎◌, Bool, true, false, ◌&&◌, Option, None, Some}
+use Rattle.std.specs.Prelude.{◌≡◌, ◌≢◌, ℕ, ◌≤◌, List, [], ◌∷◌, ◌++◌, ◌⊎◌, Bool, true, false, ◌&&◌, Option, None, Some}
 use Rattle.std.specs.Prelude.{IfSome, IfNone, is_none}
 use Rattle.std.specs.Prelude.{Result, Ok, Err, string_bytes, length, if◌then◌else◌}
 use Rattle.std.specs.Str.{encode_utf8_all}
@@ -25,11 +25,14 @@ use Rattle.ws_live.specs.ScreenLines.{IsDisplayText}
 use Rattle.ws_live.specs.declared.connect.Waited.{Waited}
 use Rattle.ws_live.specs.declared.connect.Waited.TheVariants.{Met, Late as WasLate, Ended as HasEnded, Failed}
 use Rattle.ws_live.specs.declared.connect_line.StationLine.{StationLine}
-use Rattle.ws_live.specs.declared.connect_line.StationLine.TheVariants.{Nothing as NoLine, Press, Await, Fields, Show}
+use Rattle.ws_live.specs.declared.connect_line.StationLine.TheVariants.{Nothing as NoLine, Press, Stroke, Await}
+use Rattle.ws_live.specs.declared.connect_line.StationLine.TheVariants.{Fields, Show}
 use Rattle.ws_live.specs.declared.connect_line.Awaited.{Awaited}
 use Rattle.ws_live.specs.declared.connect_line.Awaited.TheVariants.{Turn, Record, Text}
+use Rattle.ws_live.specs.KeyWords.{KeyWords}
 use Rattle.ws_live.specs.LiveText.{IsLiveText}
 use Rattle.ws_live.specs.Operating.{OperatedOn}
+use Rattle.ws_live.specs.Stroking.{no_field_text, stroke_keys}
 use Rattle.ws_live.specs.Waits.{InTime}
 use Rattle.ws_live.specs.declared.live.Ran.{Ran}
 use Rattle.ws_live.specs.declared.live.Closing.{Closing}
@@ -143,6 +146,18 @@ module _ {D P U H PlaceV V Q R : Type 0} (rules : Rules P U) (d : DisplayOf D U 
         × (keys ≡ before ++ key ∷ after) × ArePressed from before well text mid × IsUnwritten key mid to
         × (outcome ≡ Err fault.Write))
 
+    -- keys one after another, up to the first that isn't taken, how their line closes, and what it prints
+    abbrev pub KeysUntil : List Q → Parts → Result Closing Fault → List ℕ → Parts → Type 0
+    KeysUntil [] from outcome text to = (to ≡ from) × (outcome ≡ Ok Done) × (text ≡ [])
+    KeysUntil (key ∷ keys) from outcome text to =
+        ((mid : Parts) × KeyRuns key from (Ok Done) [] mid × KeysUntil keys mid outcome text to)
+        ⊎ (KeyRuns key from outcome text to × (outcome ≢ Ok Done))
+
+    -- the keys of a stroke, or what is printed where the screen hasn't the field that it names
+    abbrev pub StrokeRuns : Option (List Q) → Parts → Result Closing Fault → List ℕ → Parts → Type 0
+    StrokeRuns None from outcome text to = (to ≡ from) × (outcome ≡ Ok Declined) × (text ≡ no_field_text)
+    StrokeRuns (Some keys) from outcome text to = KeysUntil keys from outcome text to
+
     -- records were applied one after another, and before each it wasn't yet met
     abbrev pub HasWaited : (D → Type 0) → Parts → List Applied → Parts → Type 0
     HasWaited Met' from [] to = to ≡ from
@@ -181,21 +196,26 @@ module _ {D P U H PlaceV V Q R : Type 0} (rules : Rules P U) (d : DisplayOf D U 
         IsWaited Record from waited to = HearsOne from waited to
         IsWaited awaited from waited to = WaitsFor (IsMet d.shown operated awaited) from waited to
 
-        -- a line at a station, how it closed, and what it printed, with screens in a paint
-        abbrev pub StationRuns : Paint → StationLine Q → Parts → Result Closing Fault → List ℕ → Parts → Type 0
-        StationRuns paint NoLine from outcome text to = (to ≡ from) × (outcome ≡ Ok Nothing) × (text ≡ [])
-        StationRuns paint (Press keys) from outcome text to = KeysRun keys from outcome text to
-        StationRuns paint (Await awaited) from outcome text to = (waited : Waited) × IsWaited awaited from waited to
-            × (outcome ≡ waited_outcome waited) × (text ≡ waited_text waited)
-        StationRuns paint Fields from outcome text to = (to ≡ from) × (outcome ≡ Ok Done)
-            × AreFieldLines (d.shown from.end.screen) text
-        StationRuns paint Show from outcome text to = (to ≡ from) × (outcome ≡ Ok Done)
-            × IsDisplayText paint (d.shown from.end.screen) (operated.behind from.end.screen) text
+        -- and of keys by these words
+        module _ (w : KeyWords Q) where
+          -- a line at a station, how it closed, and what it printed, with screens in a paint; the keys of a stroke are
+          -- those at the screen that the station then has
+          abbrev pub StationRuns : Paint → StationLine Q → Parts → Result Closing Fault → List ℕ → Parts → Type 0
+          StationRuns paint NoLine from outcome text to = (to ≡ from) × (outcome ≡ Ok Nothing) × (text ≡ [])
+          StationRuns paint (Press keys) from outcome text to = KeysRun keys from outcome text to
+          StationRuns paint (Stroke stroke) from outcome text to =
+              StrokeRuns (stroke_keys w (d.shown from.end.screen) stroke) from outcome text to
+          StationRuns paint (Await awaited) from outcome text to = (waited : Waited) × IsWaited awaited from waited to
+              × (outcome ≡ waited_outcome waited) × (text ≡ waited_text waited)
+          StationRuns paint Fields from outcome text to = (to ≡ from) × (outcome ≡ Ok Done)
+              × AreFieldLines (d.shown from.end.screen) text
+          StationRuns paint Show from outcome text to = (to ≡ from) × (outcome ≡ Ok Done)
+              × IsDisplayText paint (d.shown from.end.screen) (operated.behind from.end.screen) text
 
-        -- what the lines of a script at a station print, and whether all went well
-        module _ {W : Type 0} (begins : W → S → W → Type 0) (begun : W → ℕ) where
-          abbrev pub IsConnectText : Paint → Bool → (Parts × W) → List (StationLine Q) → Bool → List ℕ → (Parts × W)
-              → Type 0
-          IsConnectText paint ready from lines all_well text to = (ran : Ran)
-              × IsLiveText (InTime (StationRuns paint) station_waits begins begun) ready from lines ran text to
-              × (all_well ≡ ran.all_well)
+          -- what the lines of a script at a station print, and whether all went well
+          module _ {W : Type 0} (begins : W → S → W → Type 0) (begun : W → ℕ) where
+            abbrev pub IsConnectText : Paint → Bool → (Parts × W) → List (StationLine Q) → Bool → List ℕ → (Parts × W)
+                → Type 0
+            IsConnectText paint ready from lines all_well text to = (ran : Ran)
+                × IsLiveText (InTime (StationRuns paint) station_waits begins begun) ready from lines ran text to
+                × (all_well ≡ ran.all_well)

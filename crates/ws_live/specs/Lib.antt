@@ -17,4 +17,5 @@ pub mod Script
 pub mod ScriptFaults
 pub mod ServeLines
 pub mod ServeText
+pub mod Stroking
 pub mod Waits

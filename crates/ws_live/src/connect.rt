@@ -10,6 +10,7 @@ use crate::named_key::NamedKey;
 use crate::operated_display::OperatedDisplay;
 use crate::paint::Paint;
 use crate::play::put_event;
+use crate::pressing::{press_key, press_stroke};
 use crate::screen_lines::put_display;
 use ws_code::{Fault, ROWS, Sink, Source};
 use ws_screen::Screen;
@@ -30,7 +31,7 @@ where
     D::Key: NamedKey,
 {
     ghost runs = { λ tells. Spec.StationRuns D.Commands.rules D.does
-        K.takes K.failures S.gives S.failures tells D.operated };
+        K.takes K.failures S.gives S.failures tells D.operated D.Key.words };
 
     ghost waits = { Spec.station_waits };
 
@@ -48,6 +49,7 @@ where
                 outcome: Ok(Closing::Nothing),
             },
             StationLine::Press(keys) => press_keys(attached, keys.as_slice(), out, output),
+            StationLine::Stroke(stroke) => press_stroke(attached, stroke, out, output),
             StationLine::Await(awaited) => {
                 let waited = wait(attached, watch, awaited);
                 put_waited(out, output, waited)
@@ -95,35 +97,6 @@ where
     Carried {
         output,
         outcome: Ok(closing),
-    }
-}
-
-// Presses a key, and prints why it is refused.
-fn press_key<D: OperatedDisplay, S: Source, K: Sink, O: Sink>(
-    attached: &mut Attached<StationOn<D>, S, K>,
-    key: D::Key,
-    out: &mut O,
-    output: Output,
-) -> Carried
-    requires works { attached.old.broken ≡ false }
-    ensures runs { (text : List ℕ) × Spec.KeyRuns D.Commands.rules D.does K.takes K.failures S.gives S.failures key
-        attached.old result.outcome text attached.new
-        × Prints O.takes O.failures out.old out.new output result.output text }
-    ensures works { IfOk result.outcome (λ closing. attached.new.broken ≡ false) }
-{
-    match attached.press(key) {
-        Ok(None) => Carried {
-            output,
-            outcome: Ok(Closing::Done),
-        },
-        Ok(Some(fault)) => Carried {
-            output: put_event(out, output, &Event::KeyRefused(fault)),
-            outcome: Ok(Closing::Declined),
-        },
-        Err(fault) => Carried {
-            output,
-            outcome: Err(fault),
-        },
     }
 }
 

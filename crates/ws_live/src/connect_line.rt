@@ -1,13 +1,16 @@
-ghost use Rattle.std.specs.Prelude.{◌≡◌, ◌++◌, [], ◌<◌, List as Seq, true, length, codes, IfOk, IfErr};
+ghost use Rattle.std.specs.Prelude.{◌≡◌, ◌++◌, [], ◌<◌, true, length, codes, IfOk, IfErr};
 ghost use Rattle.ws_live.specs.ConnectLines as Spec;
 ghost use Rattle.ws_live.specs.ConnectLines.{BeginsStationLine, IsStationLine, IsStationSoFar};
 ghost use Rattle.ws_live.specs.ScriptFaults.{IsLineFault, IsNoComment, has_no_blank};
 
+use crate::key_line::{named_key, typed_keys};
 use crate::live_line::LiveLine;
 use crate::named_key::NamedKey;
 use crate::script::ScriptFault;
-use crate::script_line::{LineFault, add, typed_key};
+use crate::script_line::LineFault;
 use crate::script_move::split_word;
+use crate::stroke::Stroke;
+use crate::stroke_words::{read_cell, read_filling};
 use std::alloc::Global;
 use std::str;
 use ws_code::List;
@@ -19,6 +22,8 @@ pub enum StationLine<Q> {
     Nothing,
     /// The keys are pressed one after another.
     Press(List<Q>),
+    /// Keys are pressed by the screen, up to the first that isn't taken.
+    Stroke(Stroke<Q>),
     /// The station takes what the host sends, until this holds.
     Await(Awaited),
     /// The fields are printed.
@@ -94,6 +99,8 @@ fn read_word<Q: NamedKey>(word: &str) -> Result<StationLine<Q>, LineFault>
 {
     match word {
         "await" => Ok(StationLine::Await(Awaited::Turn)),
+        "erase" => Ok(StationLine::Stroke(Stroke::EraseEof)),
+        "newline" => Ok(StationLine::Stroke(Stroke::NewLine)),
         "fields" => Ok(StationLine::Fields),
         "show" => Ok(StationLine::Show),
         _ => Err(LineFault::Bad),
@@ -118,34 +125,10 @@ fn read_command<Q: NamedKey>(
         "insert" => Ok(StationLine::Press(typed_keys(alloc, words, true)?)),
         "key" => Ok(StationLine::Press(named_key(alloc, words)?)),
         "await" => Ok(StationLine::Await(read_awaited(alloc, words)?)),
+        "cursor" => Ok(StationLine::Stroke(Stroke::Cursor(read_cell(words)?))),
+        "field" => Ok(StationLine::Stroke(Stroke::Fill(read_filling(alloc, words)?))),
         _ => Err(LineFault::Bad),
     }
-}
-
-// A key for each character of a text.
-fn typed_keys<Q: NamedKey>(alloc: Global, text: &str, inserts: bool) -> Result<List<Q>, LineFault>
-    ensures keys { IfOk result (Spec.AreKeysOf Q.words inserts text.now) }
-    ensures fault { IfErr result (λ fault. fault ≡ LineFault.Memory) }
-{
-    let mut keys = Vec::new(alloc);
-    for character in text.chars() {
-        add(&mut keys, Q::from_profile(typed_key(inserts, character)))?;
-    }
-    Ok(List::of(keys))
-}
-
-// The key of this name.
-fn named_key<Q: NamedKey>(alloc: Global, name: &str) -> Result<List<Q>, LineFault>
-    ensures keys { IfOk result (Spec.AreNamed Q.words name.now) }
-    ensures fault { IfErr result (IsLineFault (Spec.AreNamed Q.words name.now)
-        ((keys : Seq Q) × Spec.AreNamed Q.words name.now keys)) }
-{
-    let Some(key) = Q::named(name) else {
-        return Err(LineFault::Bad);
-    };
-    let mut keys = Vec::new(alloc);
-    add(&mut keys, key)?;
-    Ok(List::of(keys))
 }
 
 // What is waited for: a record, or a text of one character at least.

@@ -15,6 +15,7 @@ use Rattle.ws_session.specs.PartsOn.{PartsOn}
 use Rattle.ws_session.specs.StationManners.{new_side_on}
 use Rattle.ws_session.specs.Stations.{LeadsOn}
 use Rattle.ws_live.specs.ConnectText.{IsConnectText}
+use Rattle.ws_live.specs.KeyWords.{KeyWords}
 use Rattle.ws_live.specs.LiveScript.{AreLiveLines}
 use Rattle.ws_live.specs.Operating.{OperatedOn}
 use Rattle.ws_live.specs.ServeText.{IsServeText}
@@ -45,17 +46,17 @@ new_at end source sink = record { end = end; source = source; sink = sink; waiti
 
 -- a station that is new at a connection has carried the lines out
 module _ {D P U H PlaceV V Q R : Type 0} (rules : Rules P U) (d : DisplayOf D U H PlaceV V Q R)
-    (operated : OperatedOn D) (asked : ConnectAsked) (lines : List (StationLine Q)) (all_well : Bool) (text : List ℕ)
+    (operated : OperatedOn D) (words : KeyWords Q) (asked : ConnectAsked) (lines : List (StationLine Q)) (all_well : Bool) (text : List ℕ)
     (to : AttachedParts (PartsOn D P) Reads Writes × ℕ) where
   abbrev Ran : AttachedParts (PartsOn D P) Reads Writes → ℕ → Type 0
-  Ran attached begun = IsConnectText rules d takes (λ s. s.failures) gives (λ s. s.failures) tells operated begins
+  Ran attached begun = IsConnectText rules d takes (λ s. s.failures) gives (λ s. s.failures) tells operated words begins
       (λ n. n) asked.paint asked.ready (attached, begun) lines all_well text to
 
   pub connected : (station : PartsOn D P) (source : Reads) (sink : Writes)
       (attached : AttachedParts (PartsOn D P) Reads Writes) (begun : ℕ)
       → LeadsOn rules d station [] [] (new_side_on d asked.terminal)
       → attached ≡ new_at station source sink → source ≡ no_reads → sink ≡ no_writes → begun ≡ 0
-      → Ran attached begun → IsConnected rules d operated asked lines all_well text
+      → Ran attached begun → IsConnected rules d operated words asked lines all_well text
   connected station source sink attached begun new is read written none ran = record {
     station = station;
     new = new;

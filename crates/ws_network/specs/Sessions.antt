@@ -47,7 +47,7 @@ abbrev pub at_connection : {E : Type 0} → E → Writes → AttachedParts E Rea
 at_connection end written = record { end = end; source = no_reads; sink = written; waiting = []; broken = false }
 
 module _ {D P U H PlaceV V Q R : Type 0} (rules : Rules P U) (d : DisplayOf D U H PlaceV V Q R)
-    (operated : OperatedOn D) where
+    (operated : OperatedOn D) (words : KeyWords Q) where
   -- A station on this display, of the terminal that is asked for, new at a connection, carried out the lines, printed
   -- this, and all went well or not.
   pub record IsConnected (asked : ConnectAsked) (lines : List (StationLine Q)) (all_well : Bool) (text : List ℕ)
@@ -55,7 +55,7 @@ module _ {D P U H PlaceV V Q R : Type 0} (rules : Rules P U) (d : DisplayOf D U 
     pub station : PartsOn D P
     pub new : LeadsOn rules d station [] [] (new_side_on d asked.terminal)
     pub to : AttachedParts (PartsOn D P) Reads Writes × ℕ
-    pub ran : IsConnectText rules d takes (λ s. s.failures) gives (λ s. s.failures) tells operated begins
+    pub ran : IsConnectText rules d takes (λ s. s.failures) gives (λ s. s.failures) tells operated words begins
         (λ begun. begun) asked.paint asked.ready (at_connection station no_writes, 0) lines all_well text to
 
 -- a host end whose opening went out carried out the lines and answered on
@@ -76,7 +76,7 @@ module _ {O : Type 0} (prints : MayTake O) (misprints : O → ℕ) (old new : O)
     abbrev pub HasConnectedOn : ConnectAsked → Bool → Type 0
     HasConnectedOn asked all_well = (lines : List (StationLine Q)) × (text : List ℕ)
         × AreFromScript (station_means words) (λ line. ⊥) asked.script lines
-        × IsConnected rules d operated asked lines all_well text
+        × IsConnected rules d operated words asked lines all_well text
         × WentOut prints misprints old new text
 
   -- the same at the profile's display, or at one that also takes what live hosts send beside the profile

@@ -50,14 +50,14 @@ where
     ensures ran { IfOk result (λ all_well. (lines : List (AStationLine D.Key)) × (text : List ℕ)
         × MatchOption script (Unit {0}) (λ asked. lines ≡ asked.items)
         × IsConnectText D.Commands.rules D.does K.takes K.failures S.gives S.failures
-        W.tells D.operated W.begins W.begun
+        W.tells D.operated D.Key.words W.begins W.begun
         paint ready (attached.old, watch.old) lines all_well text (attached.new, watch.new)
         × WentOut O.takes O.failures out.old.sink out.new.sink text) }
     ensures fault { IfErr result (λ fault. (lines : List (AStationLine D.Key))
         × MatchOption script (Unit {0}) (λ asked. lines ≡ asked.items)
         × IsSessionFault
         (InTime (StationRuns D.Commands.rules D.does K.takes K.failures S.gives S.failures
-        W.tells D.operated paint)
+        W.tells D.operated D.Key.words paint)
         station_waits W.begins W.begun) ready O.takes O.failures
         (attached.old, watch.old) (attached.new, watch.new) out.old.sink out.new.sink
         (is_some script) lines fault) }

@@ -1,10 +1,10 @@
 use Rattle.std.proofs.Common.{◌++◌, List, ℕ, ap}
 use Rattle.std.specs.Prelude.{codes}
 use Rattle.std.proofs.lemmas.Result.{err_from_is_err_and}
-use Rattle.ws_live.specs.ConnectLines.{AreNamed, IsAwaited, Means}
+use Rattle.ws_live.specs.ConnectLines.{AreNamed, IsAwaited, IsCellText, IsFilling, Means}
 use Rattle.ws_live.specs.ConnectLines.MeansKeys.{typed, inserted, named}
-use Rattle.ws_live.proofs.LiveLines.{types_so_far, inserts_so_far, named_so_far, awaits_so_far, no_named_line}
-use Rattle.ws_live.proofs.LiveLines.{no_awaited_line, no_station_command}
+use Rattle.ws_live.proofs.StationLines.{types_so_far, inserts_so_far, named_so_far, awaits_so_far, no_named_line}
+use Rattle.ws_live.proofs.StationLines.{no_awaited_line, no_station_command, no_cell_line, no_filling_line, fills_so_far}
 use Rattle.ws_live.proofs.Scripts.{fault_on, only_memory}
 use Rattle.ws_live.proofs.connect_line.read_command.Goals as goal
 
@@ -65,5 +65,46 @@ returns-in_ok-named_key-in-key-clause-line g c =
 
 pub returns-in_default-clause-fault : goal.returns-in_default-clause-fault
 returns-in_default-clause-fault g c =
-    no_station_command g.Q.NamedKey.words c.args.command.now c.args.words.now c.requires.no_blank c.requires.no_comment
-    c.in_default.not-type c.in_default.not-insert c.in_default.not-key c.in_default.not-await
+    no_station_command g.Q.NamedKey.words c.args.command.now c.args.words.now c.requires.no_blank c.requires.no_comment (
+      c.in_default.not-type,
+      c.in_default.not-insert,
+      c.in_default.not-key,
+      c.in_default.not-await,
+      c.in_default.not-cursor,
+      c.in_default.not-field,
+    )
+
+pub returns-in_err-read_cell-in-cursor-clause-fault : goal.returns-in_err-read_cell-in-cursor-clause-fault
+returns-in_err-read_cell-in-cursor-clause-fault g c =
+    let p = err_from_is_err_and c.from_residual-in_err-read_cell-in-cursor.result
+    c.from_residual-in_err-read_cell-in-cursor.ensures.1 in
+    let command = c.args.command.now in
+    let words = c.args.words.now in
+    rw (p.1, p.2) (fault_on (IsCellText words) (Means g.Q.NamedKey.words ((command ++ codes " ") ++ words)) _
+    (no_cell_line g.Q.NamedKey.words command words c.requires.no_blank c.requires.no_comment c.in-cursor.is)
+    (λ (h : ⊥). absurd h) c.in_err-read_cell-in-cursor.ensures.fault)
+
+pub returns-in_err-read_filling-in-field-clause-fault : goal.returns-in_err-read_filling-in-field-clause-fault
+returns-in_err-read_filling-in-field-clause-fault g c =
+    let p = err_from_is_err_and c.from_residual-in_err-read_filling-in-field.result
+    c.from_residual-in_err-read_filling-in-field.ensures.1 in
+    let command = c.args.command.now in
+    let words = c.args.words.now in
+    rw (p.1, p.2) (fault_on (IsFilling g.Q.NamedKey.words words) (Means g.Q.NamedKey.words ((command ++ codes " ") ++
+    words)) _
+    (no_filling_line g.Q.NamedKey.words command words c.requires.no_blank c.requires.no_comment c.in-field.is)
+    (fills_so_far g.Q.NamedKey.words command words c.in-field.is) c.in_err-read_filling-in-field.ensures.fault)
+
+pub returns-in_ok-read_cell-in-cursor-clause-line : goal.returns-in_ok-read_cell-in-cursor-clause-line
+returns-in_ok-read_cell-in-cursor-clause-line g c = (
+  c.args.words.now,
+  ap (λ (z : List ℕ). (z ++ codes " ") ++ c.args.words.now) c.in-cursor.is,
+  c.in_ok-read_cell-in-cursor.ensures.cell,
+)
+
+pub returns-in_ok-read_filling-in-field-clause-line : goal.returns-in_ok-read_filling-in-field-clause-line
+returns-in_ok-read_filling-in-field-clause-line g c = (
+  c.args.words.now,
+  ap (λ (z : List ℕ). (z ++ codes " ") ++ c.args.words.now) c.in-field.is,
+  c.in_ok-read_filling-in-field.ensures.filling,
+)

@@ -3,7 +3,7 @@ use Rattle.std.specs.Prelude.{codes}
 use Rattle.std.proofs.lemmas.Result.{IfOk-weaker, IfErr-weaker}
 use Rattle.ws_live.specs.ConnectLines.{Means, IsStationLine, IsStationSoFar, IsCommandSoFar}
 use Rattle.ws_live.specs.ScriptFaults.{IsLineFault}
-use Rattle.ws_live.proofs.LiveLines.{station_so_far}
+use Rattle.ws_live.proofs.StationLines.{station_so_far}
 use Rattle.ws_live.proofs.Scripts.{fault_on}
 use Rattle.ws_live.proofs.ScriptWords.{comment_text, is_no_comment}
 use Rattle.ws_live.proofs.connect_line.read_line.Goals as goal

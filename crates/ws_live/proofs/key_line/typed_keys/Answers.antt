@@ -3,7 +3,7 @@ use Rattle.std.specs.Str.{all_scalars, encode_utf8_all}
 use Rattle.std.proofs.lemmas.Iterator.{YieldsList-from_chars}
 use Rattle.std.proofs.lemmas.Iterator.Consumers.{YieldsList-end}
 use Rattle.std.proofs.lemmas.Str.{scalars-chars, encodes-chars}
-use Rattle.ws_live.proofs.connect_line.typed_keys.Goals as goal
+use Rattle.ws_live.proofs.key_line.typed_keys.Goals as goal
 
 pub returns-clause-keys : goal.returns-clause-keys
 returns-clause-keys g c =

@@ -2,7 +2,7 @@ use Rattle.std.proofs.Common.{◌∷◌, [], refl, sym, ◌∙◌}
 use Rattle.std.proofs.lemmas.Result.{err_from_is_err_and}
 use Rattle.ws_live.specs.ConnectLines.{AreNamed}
 use Rattle.ws_live.proofs.Scripts.{only_memory}
-use Rattle.ws_live.proofs.connect_line.named_key.Goals as goal
+use Rattle.ws_live.proofs.key_line.named_key.Goals as goal
 
 pub returns-in_err-add-clause-fault : goal.returns-in_err-add-clause-fault
 returns-in_err-add-clause-fault g c =

@@ -5,7 +5,7 @@ use Rattle.ws_session.specs.declared.key_fault.KeyFault.{KeyFault}
 use Rattle.ws_session.specs.StationActs.{IsKeyTakenOn}
 use Rattle.ws_live.specs.declared.live.Closing.{Closing}
 use Rattle.ws_text.proofs.Prints.{prints_none}
-use Rattle.ws_live.proofs.connect.press_key.Goals as goal
+use Rattle.ws_live.proofs.pressing.press_key.Goals as goal
 
 pub returns-in-Ok-None-clause-runs : goal.returns-in-Ok-None-clause-runs
 returns-in-Ok-None-clause-runs g c =

@@ -1,6 +1,6 @@
 use Rattle.std.proofs.Common.{◌≡◌, map}
 use Rattle.ws_live.specs.Script.{typed_key}
-use Rattle.ws_live.proofs.connect_line.typed_keys.Given as goal
+use Rattle.ws_live.proofs.key_line.typed_keys.Given as goal
 
 -- a key for each character so far
 abbrev pub invariant-loop-character : goal.invariant-loop-character
