@@ -453,6 +453,20 @@ def lines_at_a_host():
 
 
 @test
+def keys_by_the_screen():
+    """Lines whose keys hang on the screen: to a cell and to a field, New Line and Erase EOF, up to one that is refused."""
+    def play(side):
+        negotiate_as_host(side)
+        side.send(record(3, hexed(SIGN_ON)))
+        side.take(record(3, hexed("0737F1" "110635D8E4E2C5D9" "110735C1C2")))
+        if not side.closed():
+            raise Failure("the station goes on")
+    script = ("await\nfield 2 SECRET\nfield 1 QUSER\nnewline\ntype ABC\ncursor 7 55\nerase\nkey Enter\n"
+              "field 1 X\nfield 3 X\n")
+    at_host(play, ["--wait", "5"], script, 1, "key refused Locked\nfield refused NoSuchField\n")
+
+
+@test
 def a_screen_in_color():
     # A white part, and behind it a part whose attribute is that of the green before the first. The text is awaited as
     # it stands without sequences.

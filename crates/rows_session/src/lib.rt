@@ -49,6 +49,8 @@ mod live_rows;
 mod script_rows;
 #[cfg(test)]
 mod serve_rows;
+#[cfg(test)]
+mod stroke_line_rows;
 
 // Expects two values to be the same, and shows both where they aren't. One call of it is proved sooner than an
 // `assert_eq!`.

@@ -79,7 +79,10 @@ pub(crate) fn carried<R: Abort + AllocGlobal, E, S, K, L: LiveMove<E, S, K>>(
 }
 
 // A station that is given these bytes.
-fn station_given<'a>(alloc: Global, bytes: &'a [u8]) -> Attached<Station, SliceSource<'a>, VecSink>
+pub(crate) fn station_given<'a>(
+    alloc: Global,
+    bytes: &'a [u8],
+) -> Attached<Station, SliceSource<'a>, VecSink>
     ensures { result.broken ≡ false }
 {
     Attached::new(new_station(), SliceSource::new(bytes), VecSink::new(alloc))
