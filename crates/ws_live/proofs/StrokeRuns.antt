@@ -74,7 +74,8 @@ module _ {Q : Type 0} (profile : Key → Q) where
   keys_on runs n = ap display_keys (sym (take-append-drop n runs)) ∙ keys_both (take n runs) (drop n runs)
 
 -- nothing is typed behind a stroke that fills no field
-pub no_keys_behind : {Q : Type 0} (stroke : Stroke Q) → ((f : Filling Q) → stroke ≡ Fill f → ⊥) → keys_behind stroke ≡ []
+pub no_keys_behind : {Q : Type 0} (stroke : Stroke Q) → ((f : Filling Q) → stroke ≡ Fill f → ⊥)
+    → keys_behind stroke ≡ []
 no_keys_behind (Cursor cell) other = refl
 no_keys_behind NewLine other = refl
 no_keys_behind EraseEof other = refl

@@ -1,6 +1,7 @@
 -- The lines of a script for a station at a host, whose display has keys by these words.
 
-use Rattle.std.specs.Prelude.{◌≡◌, ◌≢◌, ℕ, ◌≤◌, ◌⊎◌, List, [], ◌∷◌, ◌++◌, Bool, true, false, map, codes, Some, string_bytes}
+use Rattle.std.specs.Prelude.{◌≡◌, ◌≢◌, ℕ, ◌≤◌, ◌⊎◌, List, [], ◌∷◌, ◌++◌, Bool, true, false, map}
+use Rattle.std.specs.Prelude.{codes, Some, string_bytes}
 use Rattle.std.specs.Str.{IsUtf8, all_scalars, encode_utf8_all}
 use Rattle.ws_screen.specs.declared.format_table.TheConstants.{MAX_FIELDS}
 use Rattle.ws_text.specs.Words.{IsCell, IsNumber}

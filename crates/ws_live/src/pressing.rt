@@ -22,7 +22,8 @@ pub fn press_key<D: StationDisplay, S: Source, K: Sink, O: Sink>(
     output: Output,
 ) -> Carried
     requires works { attached.old.broken ≡ false }
-    ensures runs { (text : List ℕ) × Spec.KeyRuns D.Commands.rules D.does K.takes K.failures S.gives S.failures key
+    ensures runs { (text : List ℕ) × Spec.KeyRuns D.Commands.rules D.does K.takes K.failures
+        S.gives S.failures key
         attached.old result.outcome text attached.new
         × Prints O.takes O.failures out.old out.new output result.output text }
     ensures works { IfOk result.outcome (λ closing. attached.new.broken ≡ false) }
@@ -53,7 +54,8 @@ pub fn press_stroke<D: StationDisplay, S: Source, K: Sink, O: Sink>(
 where
     D::Key: NamedKey,
     requires works { attached.old.broken ≡ false }
-    ensures runs { (text : List ℕ) × Spec.StrokeRuns D.Commands.rules D.does K.takes K.failures S.gives S.failures
+    ensures runs { (text : List ℕ) × Spec.StrokeRuns D.Commands.rules D.does K.takes K.failures
+        S.gives S.failures
         (stroke_keys D.Key.words (D.does.shown attached.old.end.screen) stroke.now)
         attached.old result.outcome text attached.new
         × Prints O.takes O.failures out.old out.new output result.output text }
@@ -82,7 +84,8 @@ fn press_behind<D: StationDisplay, S: Source, K: Sink, O: Sink>(
 where
     D::Key: Copy,
     requires works { attached.old.broken ≡ false }
-    ensures runs { (text : List ℕ) × Spec.KeysUntil D.Commands.rules D.does K.takes K.failures S.gives S.failures
+    ensures runs { (text : List ℕ) × Spec.KeysUntil D.Commands.rules D.does K.takes K.failures
+        S.gives S.failures
         (keys_behind stroke.now) attached.old result.outcome text attached.new
         × Prints O.takes O.failures out.old out.new output result.output text }
     ensures works { IfOk result.outcome (λ closing. attached.new.broken ≡ false) }
@@ -106,7 +109,8 @@ fn press_until<D: StationDisplay, S: Source, K: Sink, O: Sink>(
 where
     D::Key: Copy,
     requires works { attached.old.broken ≡ false }
-    ensures runs { (text : List ℕ) × Spec.KeysUntil D.Commands.rules D.does K.takes K.failures S.gives S.failures
+    ensures runs { (text : List ℕ) × Spec.KeysUntil D.Commands.rules D.does K.takes K.failures
+        S.gives S.failures
         keys.now attached.old result.outcome text attached.new
         × Prints O.takes O.failures out.old out.new output result.output text }
     ensures works { IfOk result.outcome (λ closing. attached.new.broken ≡ false) }
@@ -135,7 +139,8 @@ fn press_runs<D: StationDisplay, S: Source, K: Sink, O: Sink>(
 where
     D::Key: NamedKey,
     requires works { attached.old.broken ≡ false }
-    ensures runs { (text : List ℕ) × Spec.KeysUntil D.Commands.rules D.does K.takes K.failures S.gives S.failures
+    ensures runs { (text : List ℕ) × Spec.KeysUntil D.Commands.rules D.does K.takes K.failures
+        S.gives S.failures
         (map D.Key.words.profile (keys_of runs.now)) attached.old result.outcome text attached.new
         × Prints O.takes O.failures out.old out.new output result.output text }
     ensures works { IfOk result.outcome (λ closing. attached.new.broken ≡ false) }
@@ -166,7 +171,8 @@ fn press_times<D: StationDisplay, S: Source, K: Sink, O: Sink>(
 where
     D::Key: Copy,
     requires works { attached.old.broken ≡ false }
-    ensures runs { (text : List ℕ) × Spec.KeysUntil D.Commands.rules D.does K.takes K.failures S.gives S.failures
+    ensures runs { (text : List ℕ) × Spec.KeysUntil D.Commands.rules D.does K.takes K.failures
+        S.gives S.failures
         (replicate times key) attached.old result.outcome text attached.new
         × Prints O.takes O.failures out.old out.new output result.output text }
     ensures works { IfOk result.outcome (λ closing. attached.new.broken ≡ false) }

@@ -113,7 +113,7 @@ impl ExtendedScreen {
     }
 
     // Carries out an element of the profile.
-    pub fn apply_own(&mut self, element: &Element) -> Result<(), Reason>
+    fn apply_own(&mut self, element: &Element) -> Result<(), Reason>
         requires { NeedsOpenWrite (Profile element.now) self.old.screen }
         ensures fault { (state : ExtendedState) → Shows state self.old
             → refusal result ≡ state_fault state (Profile element.now) }
