@@ -36,9 +36,11 @@ def serve(listening, stream):
     line, _ = listening.accept()
     with line:
         line.sendall(OPENING)
-        threading.Thread(target=lambda: [None for _ in iter(lambda: line.recv(65_536), b"")], daemon=True).start()
+        reader = threading.Thread(target=lambda: [None for _ in iter(lambda: line.recv(65_536), b"")], daemon=True)
+        reader.start()
         line.sendall(stream)
         line.shutdown(socket.SHUT_WR)
+        reader.join()
 
 
 def instructions(program, stream):

@@ -9,7 +9,7 @@ import unittest
 from ribbonscarp import Color, Command, Decoder, Header, Refused, Screen, Style, Truncated
 from support import EXAMPLES, PROGRAM, ready_station, record
 
-CAPTURES = [file for file in sorted(EXAMPLES.glob("*.hex")) if not file.name.endswith("-answers.hex")]
+CAPTURES = [file for file in sorted(EXAMPLES.glob("*.hex")) if not file.name.endswith(("-answers.hex", "-station.hex"))]
 COLORS = {"32": Color.GREEN, "37;1": Color.WHITE, "31": Color.RED, "36": Color.TURQUOISE}
 COLORS |= {"33": Color.YELLOW, "35": Color.PINK, "34": Color.BLUE}
 
