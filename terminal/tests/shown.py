@@ -48,7 +48,8 @@ def attributes():
         host.ready()
         host.send(body)
         t.shows(0, "all")
-        t.until(lambda: "waiting" not in t.status() and "x" in t.window.text(18), "all rows are there")
+        t.until(lambda: "waiting" not in t.status() and "x" in t.window.text(18)[22:], "all rows are there")
+        t.settle()
         is_color = not words[:1] in (["--mono"], ["--terminal"]) and not more.get("NO_COLOR") and "term" not in more
         for k in range(32):
             row, column = 4 + k % 16, 2 + 20 * (k // 16)
