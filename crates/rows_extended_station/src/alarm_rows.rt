@@ -49,8 +49,9 @@ fn saved_screens_sound_no_alarm(rt: HostRuntime) {
     let save = answer(&rt, alloc, &mut station, Opcode::SaveScreen, b"\x04\x02");
     let mut saved = save.expect(&rt, "a record");
     // the record of what was told, but with the opcode Restore Screen
-    same(&rt, saved.get(9).copied(), Some(4));
-    saved[9] = 5;
+    let opcode = saved.get_mut(9).expect(&rt, "an opcode");
+    same(&rt, *opcode, 4);
+    *opcode = 5;
     let fed = station.feed(saved.as_slice());
     same(&rt, fed.is_ok(), true);
     same(&rt, (station.records(), station.alarms()), (3, 1));
