@@ -1,26 +1,18 @@
-use Rattle.std.proofs.Common.{◌≡◌, ℕ, ◌+◌, ◌<◌, ◌≤◌, Bool, true, false, List, ◌∷◌, Option, Some, None, inl, inr}
+use Rattle.std.proofs.Common.{◌≡◌, ℕ, ◌+◌, ◌<◌, ◌≤◌, Bool, true, false, List, ◌∷◌, Option, Some, None}
 use Rattle.std.proofs.Common.{length, drop, get_or, refl, sym, ap, ◌∙◌, subst}
 use Rattle.std.specs.Option.{is_some, option_or}
-use Rattle.std.proofs.lemmas.Bool.{both_ways, false≢true, or_cases}
 use Rattle.std.proofs.lemmas.List.{drop_all, drop_more}
 use Rattle.ws_code.specs.Code.{IsChain}
 use Rattle.ws_code.specs.declared.reason.Reason.{Reason}
-use Rattle.ws_stream.specs.Elements.{allows_orders, is_command}
-use Rattle.ws_screen.specs.ScreenParts.{ScreenParts}
-use Rattle.ws_screen.proofs.Applies.{allows_after}
 use Rattle.ws_extended.specs.Asking.{asks_in, second_reason}
-use Rattle.ws_extended.specs.ExtendedElements.{extended_follows, extended_rules, place_behind}
+use Rattle.ws_extended.specs.ExtendedElements.{extended_rules, place_behind}
 use Rattle.ws_extended.specs.ExtendedStates.{ExtendedState, state_after, state_after_all, state_fault}
 use Rattle.ws_extended.specs.ExtendedViews.{ExtendedParts, NeedsOpenWrite, Shows, leaves_write_open}
 use Rattle.ws_extended.specs.declared.ask.Ask.{Ask}
 use Rattle.ws_extended.specs.declared.extended_element.ExtendedElement.{ExtendedElement}
-use Rattle.ws_extended.specs.declared.extended_element.ExtendedElement.TheVariants.{Profile, Text, RestoreScreen}
-use Rattle.ws_extended.specs.declared.extended_element.ExtendedElement.TheVariants.{WriteError, Asks}
 use Rattle.ws_extended.specs.declared.extended_place.ExtendedPlace.{ExtendedPlace}
-use Rattle.ws_extended.specs.declared.extended_place.ExtendedPlace.TheVariants.{InProfile, ErrorText}
-use Rattle.ws_extended.specs.declared.extended_place.ExtendedPlace.TheVariants.{Asked as BehindAsk}
+use Rattle.ws_extended.proofs.OpenWrites.{finds_write, is_open_at, open_behind}
 use Rattle.ws_extended_station.specs.ExtendedRecords.{elements_fault}
-use Rattle.ws_extended_station.proofs.CarryingOut.{is_open_at}
 
 -- The elements of a live host's record, one after another.
 
@@ -37,29 +29,6 @@ AskedUpTo false es rest = second_reason (asks_in es) ≡ second_reason (asks_in 
 AskedUpTo true es rest = (ask : Ask) × (second_reason (asks_in es) ≡ second_reason (ask ∷ asks_in rest))
 
 -- WHAT THEY MAKE OF A DISPLAY
-
-open_behind : (e : ExtendedElement) → is_open_at (place_behind e) ≡ leaves_write_open e
-open_behind (Profile e) = allows_after e
-open_behind (Text e) = refl
-open_behind RestoreScreen = refl
-open_behind WriteError = refl
-open_behind (Asks ask) = refl
-
-finds_write : (e : ExtendedElement) (place : ExtendedPlace) (s : ScreenParts) → extended_follows place e ≡ true
-    → is_some s.writing ≡ is_open_at place → NeedsOpenWrite e s
-finds_write (Profile e) (InProfile place) s may open_ = λ order.
-    elim (or_cases (is_command e) (allows_orders place) may) [
-      | inl it ↦ absurd (both_ways (is_command e) order it)
-      | inr can ↦ open_ ∙ can
-    ]
-finds_write (Profile e) ErrorText s may open_ = λ order. absurd (both_ways (is_command e) order may)
-finds_write (Profile e) (BehindAsk ask) s may open_ = absurd (false≢true may)
-finds_write (Text e) (InProfile place) s may open_ = absurd (false≢true may)
-finds_write (Text e) ErrorText s may open_ = (open_, may)
-finds_write (Text e) (BehindAsk ask) s may open_ = absurd (false≢true may)
-finds_write RestoreScreen place s may open_ = tt
-finds_write WriteError place s may open_ = tt
-finds_write (Asks ask) place s may open_ = tt
 
 -- The elements up to a rest are carried out, and a write is open where an order may stand.
 pub record CarriedUpTo (from now : ExtendedParts) (es rest : List ExtendedElement) : Type 0 where
