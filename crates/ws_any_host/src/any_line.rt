@@ -154,7 +154,8 @@ fn read_word(word: &str) -> Result<AnyLine, ScriptFault>
 // A record to be sent: its opcode, and its body in hex where it has one.
 fn read_sent(alloc: Global, words: &str) -> Result<Record<u8>, ScriptFault>
     ensures record_ { IfOk result (Spec.IsSendText words.now) }
-    ensures fault { IfErr result (Spec.IsFault (Spec.IsSendText words.now) (Spec.IsSendBegun words.now)) }
+    ensures fault { IfErr result
+        (Spec.IsFault (Spec.IsSendText words.now) (Spec.IsSendBegun words.now)) }
 {
     match split_word(words) {
         None => match read_opcode(words) {

@@ -1,7 +1,6 @@
 use Rattle.ws_text.proofs.Common.{◌≡◌, ◌⊎◌, inl, inr, ℕ, zero, suc, ◌+◌, ◌<◌, List, [], ◌∷◌, ◌++◌, length, map, refl}
-use Rattle.ws_text.proofs.Common.{sym}
 use Rattle.ws_text.proofs.Common.{ap, subst, ◌∙◌, arith, Bool, true, false, codes, AllByRecursion, flat_map}
-use Rattle.ws_text.proofs.Common.{encode_upper}
+use Rattle.ws_text.proofs.Common.{encode_upper, sym}
 use Rattle.ws_text.proofs.Common.{append_assoc, IsChain, IsData, CELLS, Byte, Item, AreItems, AreUnits, one, run}
 use Rattle.ws_text.proofs.Common.{eqb_tells, false≢true, ◌==◌, answer_wording, head_text}
 use Rattle.ws_code.specs.Code.{AreBytes, IsWhole, place_after}
