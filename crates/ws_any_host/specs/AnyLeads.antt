@@ -119,6 +119,10 @@ pub record AnyRefusesByte (old : AnyParts) (byte : ℕ) (refusal : Refusal) (new
 abbrev pub AnyRefuses : AnyParts → List ℕ → ℕ → Refusal → AnyParts → Type 0
 AnyRefuses old front byte refusal new = (front ≡ []) × AnyRefusesByte old byte refusal new
 
+-- for the same reason it takes none in silence before the one that it takes
+abbrev pub AnyStaysSilent : AnyParts → List ℕ → Type 0
+AnyStaysSilent old came = came ≡ []
+
 -- the host refuses to send a record, for this reason, by all that came before; or since it is shut
 pub record IsAnySendRefusal (host : AnyParts) (r : Record ℕ) (why : SendFault) : Type 0 where
   pub led : (bytes : List ℕ) (items : List (Item ℕ)) (side : Negotiated) → AnyLeads host bytes items side

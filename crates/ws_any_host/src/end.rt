@@ -2,7 +2,7 @@
 ghost use Rattle.std.specs.Prelude.{IsSome};
 ghost use Rattle.ws_record.specs.RawBody.{raw_rules};
 ghost use Rattle.ws_session.specs.ActLaws.{goes_none, goes_on};
-ghost use Rattle.ws_any_host.specs.AnyLeads.{AnyGoes, AnyLeads, AnyRefuses, AnyRefusesByte, IsAnyShut, IsAnySendRefusal, IsAnySendTaken};
+ghost use Rattle.ws_any_host.specs.AnyLeads.{AnyGoes, AnyLeads, AnyRefuses, AnyRefusesByte, AnyStaysSilent, IsAnyShut, IsAnySendRefusal, IsAnySendTaken};
 ghost use Rattle.ws_any_host.specs.AnySide.{any_manner};
 
 use crate::{AnyEvent, AnyHost};
@@ -22,6 +22,8 @@ impl End for AnyHost {
     ghost refuses_byte = { AnyRefusesByte };
 
     ghost refuses = { AnyRefuses };
+
+    ghost silent = { AnyStaysSilent };
 
     ghost over = { λ host. IsSome host.ended };
 

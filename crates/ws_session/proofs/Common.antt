@@ -95,13 +95,13 @@ pub use Rattle.ws_session.specs.World.{World, new_world, after_moves, IsQuiet, a
 pub use Rattle.ws_session.specs.World.{station_gets, byte_to_station, up_bytes, host_did, host_gets, byte_to_host}
 pub use Rattle.ws_session.specs.World.{events_with, bytes_to_station, bytes_to_host, station_pressed, host_sent}
 pub use Rattle.ws_session.specs.World.{host_sends, after_press, after_send}
-pub use Rattle.ws_session.specs.Runs.{AreWritable, WorldParts, Runs, IsKey}
+pub use Rattle.ws_session.specs.Runs.{AreWritable, WorldParts, RunsWith, Runs, IsKey}
 pub use Rattle.ws_session.specs.declared.refusal.Refusal.{Refusal}
 pub use Rattle.ws_session.specs.declared.world.Event.{Event}
 pub use Rattle.ws_session.specs.Acts.{Doing, Act, Came, all_came, Did, Happening, Does, doing, items_of, HasGone}
 pub use Rattle.ws_session.specs.Acts.{Arrives, as_list, Manner, AllTaken, Happen, HoldsItems, Goes}
 pub use Rattle.ws_session.specs.Through.{HasRefusedIn, Through}
-pub use Rattle.ws_session.specs.Wires.{WireParts, reported, HasMemory, Comes, AllCome, AreDelivered}
+pub use Rattle.ws_session.specs.Wires.{WireParts, reported, HasMemory, Comes, AreDelivered}
 pub use Rattle.ws_session.specs.declared.refusal.Refusal.TheVariants.{At, Failed, Memory}
 pub use Rattle.ws_session.specs.ActLaws.{came_append, gone_on, bytes_came}
 pub use Rattle.ws_session.specs.Attachments.{AttachedParts, fault_of, HaveLed, HaveLedUnwritten, HasRefused}
@@ -137,7 +137,7 @@ pub use Rattle.ws_session.specs.HostLeads.{HostLeads, HostParts, IsSent, IsSendF
 pub use Rattle.ws_session.specs.HostLeads.{IsReacted, unopened_host_side}
 pub use Rattle.ws_session.specs.StationLeads.{StationParts, StationLeads, IsPushed, IsKeyed, IsTaken}
 pub use Rattle.ws_session.specs.StationLeads.{is_record, records_in, keeps_body}
-pub use Rattle.ws_session.specs.Manners.{station_at_item, StationRefusesByte, station_manner, station_at_key, host_at_send}
+pub use Rattle.ws_session.specs.Manners.{station_at_item, StationRefuses, StationRefusesByte, station_manner, station_at_key, host_at_send}
 pub use Rattle.ws_session.specs.Manners.{host_at_item, IsKeyRefusal, StationGoes, host_manner, HostGoes, HostRefuses, HostRefusesByte}
 pub use Rattle.ws_session.specs.Manners.{applied_by, IsKeyTaken, goes_on, told_by}
 pub use Rattle.ws_session.specs.declared.end_step.Applied.{Applied}

@@ -6,10 +6,10 @@ use C.{length, arith, Refusal, Failed, take-append-le, IsHostPushed, Err, Ok, Re
 use C.{false, ◌-◌, suc, subst}
 use Rattle.ws_session.specs.Displays.{DisplayOf, SideOn}
 use Rattle.ws_session.specs.Ends.{IsShut}
-use Rattle.ws_session.specs.HostFeeds.{HostStopsWithin}
+use Rattle.ws_session.specs.HostFeeds.{HostStopsWithin, IsHostSilent, HostStaysSilent}
 use Rattle.ws_session.specs.Manners.{IsHostShut}
 use Rattle.ws_session.specs.PartsOn.{PartsOn}
-use Rattle.ws_session.specs.StationActs.{IsShutOn, RefusesOn}
+use Rattle.ws_session.specs.StationActs.{IsShutOn, RefusesOn, IsSilentOn, StaysSilentOn}
 use Rattle.ws_session.specs.StationManners.{manner_on}
 use Rattle.ws_session.specs.StationNews.{StopsWithinOn}
 use Rattle.ws_session.specs.Stations.{LeadsOn}
@@ -80,6 +80,17 @@ module _ {Place PlaceV Side U V Deed Event E : Type 0} (rules : Rules Place U) (
       → HasGone rules out manner AtLast bytes items side (all_came {Deed = Deed} (take used piece)) [] []
   stops_by AtLast led bytes items side l few = gone_by AtLast [] [] led bytes items side l
 
+  pub silent_by : (Then : List ℕ → List (Item U) → Side → Type 0) (n : ℕ) → n < used
+      → ((bytes : List ℕ) (items : List (Item U)) (side : Side) → leads old bytes items side
+      → length bytes + length part < 2 ^ 64
+      → HasGone rules out manner Then bytes items side (all_came {Deed = Deed} (take n part)) [] [])
+      → (bytes : List ℕ) (items : List (Item U)) (side : Side) → leads old bytes items side
+      → length bytes + length (take n piece) + 1 < 2 ^ 64
+      → HasGone rules out manner Then bytes items side (all_came {Deed = Deed} (take n piece)) [] []
+  silent_by Then n lt quiet bytes items side l few =
+      rw whole (rw (take-append-le n part more (omega (arith, lt, within)))
+      (quiet bytes items side l (omega (arith, fits, count old bytes items side l))))
+
 -- what holds of an answer, and what follows from it
 pub if_ok_on : {A Why : Type 0} (P Q : A → Type 0) (result : Result A Why) → ((x : A) → P x → Q x) → IfOk result P
     → IfOk result Q
@@ -140,6 +151,19 @@ module _ {D P U H PlaceV V K R : Type 0} (rules : Rules P U) (d : DisplayOf D U 
     },
   )
 
+  -- and is silent before the last byte that it takes
+  pub station_silent : (old : PartsOn D P) (piece part more : List ℕ) → piece ≡ part ++ more → (used : ℕ)
+      → used ≤ length part → old.live.taken + length part < 2 ^ 64 → (IsShutOn old → ⊥)
+      → ((bytes : List ℕ) (items : List (Item U)) (side : SideOn H) → LeadsOn rules d old bytes items side
+      → length bytes + length part < 2 ^ 64 → (n : ℕ) → n < used → IsSilentOn rules d bytes items side (take n part))
+      → (n : ℕ) → n < used → StaysSilentOn rules d old (take n piece)
+  station_silent old piece part more whole used within fits works quiet n lt = record {
+    led = silent_by rules d.out (manner_on d) (LeadsOn rules d) IsShutOn (λ (z : PartsOn D P). z.live.taken)
+        station_count old piece part more whole used within fits _ n lt
+        (λ bytes items side l room. quiet bytes items side l room n lt);
+    shut = λ shut. absurd (works shut);
+  }
+
 pub host_count : (host : HostParts) (bytes : List ℕ) (items : List (Item AnswerPart)) (side : HostSide)
     → HostLeads host bytes items side → host.receiver.live.taken ≡ length bytes
 host_count host bytes items side l = l.taken.leads.1.count
@@ -177,3 +201,15 @@ host_stops old new piece part more whole used within fits works why s = (
     shut = λ shut. absurd (works shut);
   },
 )
+
+pub host_silent : (old : HostParts) (piece part more : List ℕ) → piece ≡ part ++ more → (used : ℕ)
+    → used ≤ length part → old.receiver.live.taken + length part < 2 ^ 64 → (IsHostShut old → ⊥)
+    → ((bytes : List ℕ) (items : List (Item AnswerPart)) (side : HostSide) → HostLeads old bytes items side
+    → length bytes + length part < 2 ^ 64 → (n : ℕ) → n < used → IsHostSilent bytes items side (take n part))
+    → (n : ℕ) → n < used → HostStaysSilent old (take n piece)
+host_silent old piece part more whole used within fits works quiet n lt = record {
+  led = silent_by answer_rules element_rules host_manner HostLeads IsHostShut
+      (λ (z : HostParts). z.receiver.live.taken) host_count old piece part more whole used within fits _ n lt
+      (λ bytes items side l room. quiet bytes items side l room n lt);
+  shut = λ shut. absurd (works shut);
+}

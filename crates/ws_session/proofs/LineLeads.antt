@@ -1,11 +1,12 @@
 use Rattle.ws_session.proofs.Common as C
-use C.{new_station_side, flat_map-append, StationRefusesByte, StationRefused, station_manner, element_rules, new_host_side}
+use C.{new_station_side, flat_map-append, StationRefuses, StationRefused, station_manner, element_rules, new_host_side}
 use C.{length-append, StationLeads, answer_rules, StationIsLed, StationParts, TerminalType, append_assoc, HostRefused}
-use C.{host_manner, HostRefusesByte, append-nil, HostLeads, HostEvent, HaveMoved, HostParts, ToStation, HostIsLed, HasMoved}
-use C.{order_of, items_of, Crossing, all_read, TwoEnds, Through, Applied, Refusal, AllCome, HasRun, Reason, Cancel, ◌^◌}
+use C.{host_manner, HostRefuses, append-nil, HostLeads, HostEvent, HaveMoved, HostParts, ToStation, HostIsLed, HasMoved}
+use C.{order_of, items_of, Crossing, all_read, TwoEnds, Through, Applied, Refusal, HasRun, Reason, Cancel, ◌^◌}
 use C.{Option, ToHost, length, IsSome, Manner, Rules, subst, Press, doing, Comes, arith, Event, Host, Some, Move, refl}
-use C.{Goes, Came, List, None, ◌++◌, Item, ◌∷◌, sym, ◌∙◌, ◌+◌, Did, ◌≡◌, inl, inr, ◌⊎◌, ◌<◌, [], ap, ℕ}
+use C.{bytes_came, all_came, Goes, List, None, ◌++◌, Item, ◌∷◌, sym, ◌∙◌, ◌+◌, Did, ◌≡◌, inl, inr, ◌⊎◌, ◌<◌, [], ap, ℕ}
 use Rattle.ws_session.specs.declared.world.Move.TheVariants.{Send}
+use Rattle.ws_session.specs.Acts.{bytes_of}
 use Rattle.ws_session.specs.StationActs.{IsShutOn}
 use Rattle.ws_session.specs.Manners.{IsHostShut}
 
@@ -13,7 +14,7 @@ use Rattle.ws_session.specs.Manners.{IsHostShut}
 
 module _ {Place PlaceV Side U V Deed Told E : Type 0} (rules : Rules Place U) (out : Rules PlaceV V)
     (manner : Manner Side U V Deed Told)
-    (leads : E → List ℕ → List (Item U) → Side → Type 0) (refuses : E → ℕ → Refusal → E → Type 0) (over : E → Type 0)
+    (leads : E → List ℕ → List (Item U) → Side → Type 0) (refuses : E → List ℕ → ℕ → Refusal → E → Type 0) (over : E → Type 0)
     (tells : Told → List Event) (refusal : ℕ → Reason → Event) (is_shut : E → Type 0) where
   abbrev Led : E → List ℕ → Type 0
   Led e bytes = ((items : List (Item U)) × (side : Side) × leads e bytes items side) ⊎ over e
@@ -31,27 +32,23 @@ module _ {Place PlaceV Side U V Deed Told E : Type 0} (rules : Rules Place U) (o
       )
   act_led a b deed w t front goes same few (inr o) = inr (subst over (sym (same o)) o)
 
-  byte_led : (a b : E) (x : ℕ) (w : List ℕ) (s : List Event) (front : List ℕ) → Comes
-      (Goes rules out manner leads is_shut) refuses over tells refusal a x b w s → length front + 2 < 2 ^ 64 → Led a
-      front → Led b (front ++ x ∷ [])
-  byte_led a b x w s front c few (inr o) = inr (subst over (sym (c.stays o).0) o)
-  byte_led a b x w s front c few (inl l) = by c.why c.through where
-    by : (why : Option Refusal) → Through (Goes rules out manner leads is_shut) refuses over a (Came x ∷ []) w c.told
-        why b
-        → Led b (front ++ x ∷ [])
-    by None goes =
-        let g = goes.led front l.0 l.1 l.2 (omega (arith, few)) in
-        inl (l.0 ++ items_of g.happened, (doing manner l.1 g.happened).side, g.leads)
-    by (Some why) h = inr h.is_over
-
   bytes_led : (a b : E) (xs : List ℕ) (w : List ℕ) (s : List Event) (front : List ℕ)
-      → AllCome (Goes rules out manner leads is_shut) refuses over tells refusal a xs b w s
+      → Comes (Goes rules out manner leads is_shut) refuses over tells refusal a xs b w s
       → length front + length xs + 1 < 2 ^ 64 → Led a front → Led b (front ++ xs)
-  bytes_led a b [] w s front p few l = rw p.0 (subst (Led a) (sym (append-nil front)) l)
-  bytes_led a b (x ∷ xs) w s front p few l =
-      let one = byte_led a p.0 x p.1 p.3 front p.5 (omega (arith, few)) l in
-      let all = bytes_led p.0 b xs p.2 p.4 _ p.6
-      (omega (arith, few, length-append front (x ∷ []))) one in subst (Led b) (append_assoc front (x ∷ []) xs) all
+  bytes_led a b xs w s front c few (inr o) = inr (subst over (sym (c.stays o).0) o)
+  bytes_led a b xs w s front c few (inl l) = by c.why c.through where
+    by : (why : Option Refusal) → Through (Goes rules out manner leads is_shut) refuses over a xs w c.told why b
+        → Led b (front ++ xs)
+    by None goes =
+        let came : bytes_of (all_came {Deed = Deed} xs) ≡ xs = bytes_came Deed xs in
+        let g = goes.led front l.0 l.1 l.2 (omega (arith, few, ap (λ (z : List ℕ). length z) came)) in
+        inl (
+          l.0 ++ items_of g.happened,
+          (doing manner l.1 g.happened).side,
+          subst (λ (z : List ℕ). leads b (front ++ z) (l.0 ++ items_of g.happened) (doing manner l.1 g.happened).side)
+              came g.leads,
+        )
+    by (Some why) h = inr h.is_over
 
 -- nothing comes to an end that stays as it is
 stays : {E : Type 0} (IsLed : E → List ℕ → Type 0) (a b : E) (cs : List Crossing) (front : List ℕ) → cs ≡ [] → b ≡ a
@@ -68,11 +65,11 @@ station_moved a b Cancel ds us front p few l = stays StationIsLed a.station b.st
 station_moved a b (ToHost n) ds us front p few l = stays StationIsLed a.station b.station ds front p.0
     (ap (λ (z : TwoEnds). z.station) p.1.3) l
 station_moved a b (ToStation n) ds us front p few l = bytes_led element_rules answer_rules station_manner StationLeads
-    StationRefusesByte (λ (s : StationParts). IsSome s.ended) (λ (t : Applied). let none : List Event = [] in none)
+    StationRefuses (λ (s : StationParts). IsSome s.ended) (λ (t : Applied). let none : List Event = [] in none)
     (λ place reason. StationRefused place reason) IsShutOn a.station b.station (all_read ds) p.1.0 p.1.1 front
     p.1.2.come few l
 station_moved a b (Press key) ds us front p few l = stays StationIsLed b.station b.station ds front p.0 refl
-    (act_led element_rules answer_rules station_manner StationLeads StationRefusesByte (λ (s : StationParts).
+    (act_led element_rules answer_rules station_manner StationLeads StationRefuses (λ (s : StationParts).
     IsSome s.ended) (λ (t : Applied). let none : List Event = [] in none) (λ place reason. StationRefused place reason)
     IsShutOn a.station b.station key p.2.0 [] front p.2.2.led (λ o. (p.2.2.stays (inl o)).0) (omega (arith, few)) l)
 
@@ -82,15 +79,15 @@ host_moved a b (Press key) ds us front p few l = stays HostIsLed a.host b.host u
     (ap (λ (z : TwoEnds). z.host) p.2.3) l
 host_moved a b (ToStation n) ds us front p few l = stays HostIsLed a.host b.host us front p.0
     (ap (λ (z : TwoEnds). z.host) p.1.3) l
-host_moved a b (ToHost n) ds us front p few l = bytes_led answer_rules element_rules host_manner HostLeads HostRefusesByte
+host_moved a b (ToHost n) ds us front p few l = bytes_led answer_rules element_rules host_manner HostLeads HostRefuses
     (λ (h : HostParts). IsSome h.ended) (λ (e : HostEvent). Host e ∷ [])
     (λ place reason. HostRefused place reason) IsHostShut a.host b.host (all_read us) p.1.0 p.1.1 front p.1.2.come few l
 host_moved a b (Send opcode body) ds us front p few l = stays HostIsLed b.host b.host us front p.1 refl
-    (act_led answer_rules element_rules host_manner HostLeads HostRefusesByte (λ (h : HostParts). IsSome h.ended)
+    (act_led answer_rules element_rules host_manner HostLeads HostRefuses (λ (h : HostParts). IsSome h.ended)
     (λ (e : HostEvent). Host e ∷ []) (λ place reason. HostRefused place reason) IsHostShut a.host
     b.host (order_of opcode body) p.2.0 [] front p.2.2.led (λ o. (p.2.2.stays (inl o)).0) (omega (arith, few)) l)
 host_moved a b Cancel ds us front p few l = stays HostIsLed b.host b.host us front p.1 refl
-    (act_led answer_rules element_rules host_manner HostLeads HostRefusesByte (λ (h : HostParts). IsSome h.ended)
+    (act_led answer_rules element_rules host_manner HostLeads HostRefuses (λ (h : HostParts). IsSome h.ended)
     (λ (e : HostEvent). Host e ∷ []) (λ place reason. HostRefused place reason) IsHostShut a.host
     b.host _ p.2.0 [] front p.2.2.led (λ o. (p.2.2.stays (inl o)).0) (omega (arith, few)) l)
 

@@ -5,11 +5,16 @@ use C.{drop-append-le, flat_map-append, take-add, drop-append_seam, take-append-
 use C.{Act, Crossing, with_piece_at, HostParts, StationParts, TerminalType, WorldParts, Runs, new_world, TwoEnds}
 use C.{ends_of, all_sent, all_read, HaveCome, ComesDown, ComesUp, IsDeliveredDown, IsDeliveredUp, HasMoved}
 use C.{HaveMoved, HasRun, WireParts, AreDelivered, inl, inr, subst, take-append-drop, Fault, MayTake}
-use C.{MayGive, AreFaithful, HaveCrossed, HasCrossed, IsStopped, IsEnded, AreEnded}
+use C.{StationGoes, HostGoes, element_rules, answer_rules, station_manner, host_manner, StationLeads, HostLeads, Key}
+use C.{Applied, HostEvent, MayGive, AreFaithful, HaveCrossed, HasCrossed, IsStopped, IsEnded, AreEnded}
 use Rattle.std.specs.List.{AllByRecursion}
 use Rattle.ws_session.specs.declared.line.Line.{Line}
 use Rattle.ws_session.specs.BrokenOff.{AreNext, IsCut}
-use Rattle.ws_session.proofs.Arriving.{come_on}
+use Rattle.ws_session.specs.ActLaws.{goes_none, goes_on}
+use Rattle.ws_session.specs.Manners.{IsHostShut}
+use Rattle.ws_session.specs.StationActs.{IsShutOn}
+use Rattle.ws_session.specs.declared.end_step.Order.{Order}
+use Rattle.ws_session.proofs.Arriving.{come_on, none_comes}
 
 -- Moves of a session whose bytes go over two lines.
 
@@ -48,10 +53,17 @@ pieces_append : (cs ds : List Crossing) → AreSmall cs → AreSmall ds → AreS
 pieces_append [] ds p q = q
 pieces_append (c ∷ cs) ds p q = (p.0, pieces_append cs ds p.1 q)
 
-module _ {E Deed Told : Type 0} (goes : E → List (Act Deed) → List ℕ → List Told → E → Type 0) (refuses : E → ℕ
-    → Refusal → E → Type 0) (over : E → Type 0) (tells : Told → List Event) (refusal : ℕ → Reason → Event) where
-  pub none_come : (e : E) (flight : List ℕ) → HaveCome goes refuses over tells refusal 0 [] flight flight e e [] []
-  none_come e flight = record { sent = refl; pieces = tt; as_many = refl; left = refl; come = (refl, refl, refl) }
+module _ {E Deed Told : Type 0} (goes : E → List (Act Deed) → List ℕ → List Told → E → Type 0) (refuses : E → List ℕ
+    → ℕ → Refusal → E → Type 0) (over : E → Type 0) (tells : Told → List Event) (refusal : ℕ → Reason → Event) where
+  pub none_come : ((e : E) → goes e [] [] [] e) → (e : E) (flight : List ℕ)
+      → HaveCome goes refuses over tells refusal 0 [] flight flight e e [] []
+  none_come stays e flight = record {
+    sent = refl;
+    pieces = tt;
+    as_many = refl;
+    left = refl;
+    come = none_comes goes refuses over tells refusal stays e;
+  }
 
   -- a piece that crossed
   pub piece_comes : (old new : E) (bytes : List ℕ) (at n : ℕ) (read : List ℕ) (from' to to' : WireParts)
@@ -78,10 +90,11 @@ module _ {E Deed Told : Type 0} (goes : E → List (Act Deed) → List ℕ → L
       }
 
   module _ (a b : ℕ) (cs ds : List Crossing) (f g h : List ℕ) (old mid new : E) (v w : List ℕ) (s t : List Event) where
-    pub more_come : HaveCome goes refuses over tells refusal a cs f g old mid v s
+    pub more_come : ((a b c : E) (xs ys : List (Act Deed)) (v w : List ℕ) (s t : List Told) → goes a xs v s b
+        → goes b ys w t c → goes a (xs ++ ys) (v ++ w) (s ++ t) c) → HaveCome goes refuses over tells refusal a cs f g old mid v s
         → HaveCome goes refuses over tells refusal b ds g h mid new w t
         → HaveCome goes refuses over tells refusal (a + b) (cs ++ ds) f h old new (v ++ w) (s ++ t)
-    more_come p q =
+    more_come follows p q =
         let sents : all_sent
         (cs ++ ds) ≡ all_sent cs ++ all_sent ds = flat_map-append (λ (c : Crossing). c.sent) cs ds in
         let reads : all_read
@@ -101,7 +114,7 @@ module _ {E Deed Told : Type 0} (goes : E → List (Act Deed) → List ℕ → L
           );
           left = q.left ∙ ap (drop b) p.left ∙ drop-drop b a f;
           come = rw reads
-              (come_on goes refuses over tells refusal old mid new (all_read cs) (all_read ds) v w s t p.come q.come);
+              (come_on goes refuses over tells refusal follows old mid new (all_read cs) (all_read ds) v w s t p.come q.come);
         }
 
   -- all that were in flight have come
@@ -125,13 +138,28 @@ pub same_ends : {s s' : StationParts} {h h' : HostParts} {a a' b b' : List ℕ} 
     (record { station = s'; host = h'; to_station = a'; to_host = b'; events = e' })
 same_ends p q r s t = cc
 
+-- without an act both ends stay as they are, and acts go on where others have led
+station_stays : (s : StationParts) → StationGoes s [] [] [] s
+station_stays = goes_none element_rules answer_rules station_manner StationLeads IsShutOn
+
+station_follows : (a b c : StationParts) (xs ys : List (Act Key)) (v w : List ℕ) (s t : List Applied)
+    → StationGoes a xs v s b → StationGoes b ys w t c → StationGoes a (xs ++ ys) (v ++ w) (s ++ t) c
+station_follows = goes_on element_rules answer_rules station_manner StationLeads IsShutOn
+
+host_stays : (h : HostParts) → HostGoes h [] [] [] h
+host_stays = goes_none answer_rules element_rules host_manner HostLeads IsHostShut
+
+host_follows : (a b c : HostParts) (xs ys : List (Act Order)) (v w : List ℕ) (s t : List HostEvent)
+    → HostGoes a xs v s b → HostGoes b ys w t c → HostGoes a (xs ++ ys) (v ++ w) (s ++ t) c
+host_follows = goes_on answer_rules element_rules host_manner HostLeads IsHostShut
+
 -- bytes down
 
 pub down_none : (now : WorldParts) → ComesDown (ends_of now) 0 [] (ends_of now)
-down_none now = ([], [], none_come _ _ _ _ _ _ _, rw (append-nil (drop now.at_host now.up), append-nil now.events))
+down_none now = ([], [], none_come _ _ _ _ _ station_stays _ _, rw (append-nil (drop now.at_host now.up), append-nil now.events))
 
 pub up_none : (now : WorldParts) → ComesUp (ends_of now) 0 [] (ends_of now)
-up_none now = ([], [], none_come _ _ _ _ _ _ _, rw (append-nil (drop now.at_station now.down), append-nil now.events))
+up_none now = ([], [], none_come _ _ _ _ _ host_stays _ _, rw (append-nil (drop now.at_station now.down), append-nil now.events))
 
 -- what went over a line, written in the place of the bytes in flight
 module _ (old new : WorldParts) (n : ℕ) (read : List ℕ) (is : length read ≡ n) where
@@ -165,7 +193,7 @@ module _ (x y z : TwoEnds) (a b : ℕ) (cs ds : List Crossing) where
   down_more p q = (
     p.0 ++ q.0,
     p.1 ++ q.1,
-    more_come _ _ _ _ _ a b cs ds _ _ _ _ _ _ p.0 q.0 p.1 q.1 p.2 q.2,
+    more_come _ _ _ _ _ a b cs ds _ _ _ _ _ _ p.0 q.0 p.1 q.1 station_follows p.2 q.2,
     cc (q.3, p.3, append_assoc x.to_host p.0 q.0, append_assoc x.events p.1 q.1),
   )
 
@@ -173,7 +201,7 @@ module _ (x y z : TwoEnds) (a b : ℕ) (cs ds : List Crossing) where
   up_more p q = (
     p.0 ++ q.0,
     p.1 ++ q.1,
-    more_come _ _ _ _ _ a b cs ds _ _ _ _ _ _ p.0 q.0 p.1 q.1 p.2 q.2,
+    more_come _ _ _ _ _ a b cs ds _ _ _ _ _ _ p.0 q.0 p.1 q.1 host_follows p.2 q.2,
     cc (q.3, p.3, append_assoc x.to_station p.0 q.0, append_assoc x.events p.1 q.1),
   )
 

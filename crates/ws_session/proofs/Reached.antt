@@ -8,7 +8,7 @@ use C.{down_bytes, host_sends, AnswerPart, RefusesKey, after_send, KeyRefusal, S
 use C.{WorldParts, screen_at, answer_of, host_send, Attention, new_world, IsInRange, KeyFailed, HostLeads, AtStation, ℕ}
 use C.{host_sent, HostParts, SendFault, NotReady, up_bytes, HostSide, KeyFault, ReadKind, Signals, presses, Element, []}
 use C.{IsLegal, IsKeyed, arrived, Answers, Result, header, Option, length, AtHost, PutGet, Opcode, Silent, IsSent, ◌++◌}
-use C.{false, Press, subst, World, Event, arith, IsKey, List, take, Item, Bool, Runs, IfOk, Read, refl, Some, None, ◌≤◌}
+use C.{RunsWith, false, Press, subst, World, Event, arith, IsKey, List, take, Item, Bool, Runs, IfOk, Read, refl, Some, None, ◌≤◌}
 use C.{Send, true, ◌+◌, ap₂, ◌^◌, ◌∙◌, ◌≡◌, sym, ◌<◌, ◌∷◌, Key, SRQ, ATN, Err, ap, Ok}
 use Rattle.ws_record.proofs.Flights.{writable_append, still_led, not_more}
 use Rattle.ws_session.proofs.Betweens.{Sound}
@@ -24,7 +24,14 @@ pub more_moves : (moves : List Move) (move : Move) (w : World) → after_moves w
 more_moves [] move w = refl
 more_moves (m ∷ moves) move w = more_moves moves move _
 
-module _ {t : TerminalType} {w : World} {old : WorldParts} (r : Runs t old w) where
+-- what holds of the bytes that came to an end, of their items and of its side
+abbrev pub OfStation : Type 1
+OfStation = List ℕ → List (Item Element) → StationSide → Type 0
+
+abbrev pub OfHost : Type 1
+OfHost = List ℕ → List (Item AnswerPart) → HostSide → Type 0
+
+module _ {S : OfStation} {H : OfHost} {t : TerminalType} {w : World} {old : WorldParts} (r : RunsWith S H t old w) where
   pub is_sound : Sound t w
   is_sound = subst (Sound t) (sym r.reached) (sound t r.moves)
 
@@ -39,14 +46,14 @@ module _ {t : TerminalType} {w : World} {old : WorldParts} (r : Runs t old w) wh
 
   -- a move more, by the world behind it and by what a session keeps then
   module _ (move : Move) where
-    pub runs_on : (next : World) (new : WorldParts) → after_move w move ≡ next → new.down ≡ down_bytes next
-        → new.up ≡ up_bytes next → new.at_station ≡ next.at_station → new.at_host ≡ next.at_host
-        → AreWritable element_rules next.down → AreWritable answer_rules next.up → StationLeads new.station
-        (take next.at_station (down_bytes next)) (arrived element_rules next.down next.at_station) next.station
-        → HostLeads new.host (take next.at_host (up_bytes next)) (arrived answer_rules next.up next.at_host) next.host
-        → new.events ≡ next.events → Runs t new (after_move w move)
-    runs_on next new does down up at_station at_host writable_down writable_up station host events =
-        subst (Runs t new) (sym does) (record {
+    runs_with : (S' : OfStation) (H' : OfHost) (next : World) (new : WorldParts) → after_move w move ≡ next
+        → new.down ≡ down_bytes next → new.up ≡ up_bytes next → new.at_station ≡ next.at_station
+        → new.at_host ≡ next.at_host → AreWritable element_rules next.down → AreWritable answer_rules next.up
+        → S' (take next.at_station (down_bytes next)) (arrived element_rules next.down next.at_station) next.station
+        → H' (take next.at_host (up_bytes next)) (arrived answer_rules next.up next.at_host) next.host
+        → new.events ≡ next.events → RunsWith S' H' t new (after_move w move)
+    runs_with S' H' next new does down up at_station at_host writable_down writable_up station host events =
+        subst (RunsWith S' H' t new) (sym does) (record {
           moves = r.moves ++ move ∷ [];
           reached = sym does ∙ reached_by move;
           down = down;
@@ -60,34 +67,43 @@ module _ {t : TerminalType} {w : World} {old : WorldParts} (r : Runs t old w) wh
           events = events;
         })
 
+    pub runs_on : (next : World) (new : WorldParts) → after_move w move ≡ next → new.down ≡ down_bytes next
+        → new.up ≡ up_bytes next → new.at_station ≡ next.at_station → new.at_host ≡ next.at_host
+        → AreWritable element_rules next.down → AreWritable answer_rules next.up → StationLeads new.station
+        (take next.at_station (down_bytes next)) (arrived element_rules next.down next.at_station) next.station
+        → HostLeads new.host (take next.at_host (up_bytes next)) (arrived answer_rules next.up next.at_host) next.host
+        → new.events ≡ next.events → Runs t new (after_move w move)
+    runs_on next new = runs_with (StationLeads new.station) (HostLeads new.host) next new
+
     -- at which the station writes
-    pub station_writes : (side : StationSide) (items : List (Item AnswerPart)) (n : ℕ) (answered : List HostAnswer)
-        (station : StationParts) (text : List ℕ) (at : ℕ)
+    pub station_writes : (Then : OfStation) (side : StationSide) (items : List (Item AnswerPart)) (n : ℕ)
+        (answered : List HostAnswer) (station : StationParts) (text : List ℕ) (at : ℕ)
         → after_move w move ≡ record w { station = side; up = w.up ++ items; at_station = n; answered = answered }
         → text ≡ plain_spelling answer_rules items → AreWritable answer_rules items → at ≡ n
-        → StationLeads station (take n (down_bytes w)) (arrived element_rules w.down n) side
-        → Runs t (record old { station = station; up = old.up ++ text; at_station = at }) (after_move w move)
-    station_writes side items n answered station text at does spelled fit same leads =
-        runs_on (record w { station = side; up = w.up ++ items; at_station = n; answered = answered })
+        → Then (take n (down_bytes w)) (arrived element_rules w.down n) side
+        → RunsWith Then H t (record old { station = station; up = old.up ++ text; at_station = at }) (after_move w move)
+    station_writes Then side items n answered station text at does spelled fit same leads =
+        runs_with Then H (record w { station = side; up = w.up ++ items; at_station = n; answered = answered })
         (record old { station = station; up = old.up ++ text; at_station = at }) does r.down
         (ap₂ (λ x y. x ++ y) r.up spelled ∙ sym (flat_map-append (item_spelling answer_rules) w.up items))
         same r.at_host r.writable_down (writable_append answer_rules w.up items r.writable_up fit) leads
-        (still_led answer_rules (λ x its. HostLeads old.host x its w.host) w.up items w.at_host
+        (still_led answer_rules (λ x its. H x its w.host) w.up items w.at_host
         (not_more answer_rules w.up w.at_host _ is_sound.up) r.host) r.events
 
     -- at which the host end does
-    pub host_writes : (side : HostSide) (items : List (Item Element)) (n : ℕ) (events : List Event) (host : HostParts)
-        (text : List ℕ) (at : ℕ) (told : List Event)
+    pub host_writes : (Then : OfHost) (side : HostSide) (items : List (Item Element)) (n : ℕ) (events : List Event)
+        (host : HostParts) (text : List ℕ) (at : ℕ) (told : List Event)
         → after_move w move ≡ record w { host = side; down = w.down ++ items; at_host = n; events = events }
         → text ≡ plain_spelling element_rules items → AreWritable element_rules items → at ≡ n → told ≡ events
-        → HostLeads host (take n (up_bytes w)) (arrived answer_rules w.up n) side
-        → Runs t (record old { host = host; down = old.down ++ text; at_host = at; events = told }) (after_move w move)
-    host_writes side items n events host text at told does spelled fit same is leads =
-        runs_on (record w { host = side; down = w.down ++ items; at_host = n; events = events })
+        → Then (take n (up_bytes w)) (arrived answer_rules w.up n) side
+        → RunsWith S Then t (record old { host = host; down = old.down ++ text; at_host = at; events = told })
+        (after_move w move)
+    host_writes Then side items n events host text at told does spelled fit same is leads =
+        runs_with S Then (record w { host = side; down = w.down ++ items; at_host = n; events = events })
         (record old { host = host; down = old.down ++ text; at_host = at; events = told }) does
         (ap₂ (λ x y. x ++ y) r.down spelled ∙ sym (flat_map-append (item_spelling element_rules) w.down items)) r.up
         r.at_station same (writable_append element_rules w.down items r.writable_down fit) r.writable_up
-        (still_led element_rules (λ x its. StationLeads old.station x its w.station) w.down items w.at_station
+        (still_led element_rules (λ x its. S x its w.station) w.down items w.at_station
         (not_more element_rules w.down w.at_station _ is_sound.down) r.station) leads is
 
 -- The host end of a running session sends or cancels.
@@ -111,7 +127,7 @@ module _ {t : TerminalType} {w : World} {old : WorldParts} (r : Runs t old w) (m
       → Runs t (record old { host = host; down = old.down ++ text }) (after_send w (reacts w.host))
   host_wrote few host text p =
       let x = p _ _ _ r.host (few_up r few) in
-      rw (← moves_by) (host_writes r move x.0 (x.1 ∷ []) w.at_host w.events host text old.at_host old.events
+      rw (← moves_by) (host_writes r move (HostLeads host) x.0 (x.1 ∷ []) w.at_host w.events host text old.at_host old.events
       (moves_by ∙ by_going w (reacts w.host) (going_host r) ∙ ap (host_sent w) x.2)
       (x.3 ∙ sym (append-nil (item_spelling element_rules x.1))) ((x.4, tt), (x.5, tt)) r.at_host r.events x.6)
 
@@ -196,7 +212,7 @@ module _ {t : TerminalType} {w : World} {old : WorldParts} (r : Runs t old w) (k
         → after_press w key ≡ record w { station = side; up = w.up ++ item ∷ []; answered = told }
         → Runs t (record old { station = station; up = old.up ++ text }) (after_press w key)
     wrote side item told text spelled fit range leads does =
-        station_writes r (Press key) side (item ∷ []) w.at_station told station text old.at_station does
+        station_writes r (Press key) (StationLeads station) side (item ∷ []) w.at_station told station text old.at_station does
         (spelled ∙ sym (append-nil (item_spelling answer_rules item))) ((fit, tt), (range, tt)) r.at_station leads
 
     pub key_wrote : IsKey key → IsLegal old.station.screen.screen → AreBytes old.station.screen.screen.cells

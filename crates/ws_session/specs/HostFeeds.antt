@@ -9,7 +9,7 @@ use Rattle.ws_session.specs.declared.end_step.Order.{Order}
 use Rattle.ws_session.specs.declared.host_event.HostEvent.{HostEvent}
 use Rattle.ws_session.specs.declared.refusal.Refusal.{Refusal}
 use Rattle.ws_session.specs.Acts.{all_came, as_list, HasGone}
-use Rattle.ws_session.specs.Manners.{host_manner}
+use Rattle.ws_session.specs.Manners.{host_manner, IsHostShut}
 use Rattle.ws_session.specs.HostLeads.{HostParts, HostLeads, IsHostPushed}
 use Rattle.ws_session.specs.HostSide.{HostSide}
 
@@ -29,6 +29,12 @@ HasHostFed new bytes items side came reply event =
 -- at these bytes of a piece a host end writes and tells nothing
 abbrev pub IsHostSilent : List ℕ → List (Item AnswerPart) → HostSide → List ℕ → Type 0
 IsHostSilent bytes items side came = HasHostTakenAll (λ bytes' items' side'. Unit {0}) bytes items side came [] []
+
+-- The host end takes these bytes, and writes and tells nothing at them. One that is shut takes none.
+pub record HostStaysSilent (old : HostParts) (came : List ℕ) : Type 0 where
+  pub led : (bytes : List ℕ) (items : List (Item AnswerPart)) (side : HostSide) → HostLeads old bytes items side
+      → length bytes + length came + 1 < 2 ^ 64 → IsHostSilent bytes items side came
+  pub shut : IsHostShut old → came ≡ []
 
 -- the host end takes no byte behind this one, for which it fails as it does for that byte alone
 abbrev pub EndsAt : HostParts → HostParts → ℕ → Refusal → List ℕ → List (Item AnswerPart) → HostSide → Type 0

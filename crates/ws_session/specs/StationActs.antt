@@ -69,6 +69,13 @@ module _ {D P U H PlaceV V K R : Type 0} (rules : Rules P U) (d : DisplayOf D U 
         bytes items side front [] []
     pub shut : IsShutOn old → (front ≡ []) × (refusal ≡ Failed) × (new.screen ≡ old.screen)
 
+  -- The station takes these bytes, and writes and tells nothing at them. One that is shut takes none.
+  pub record StaysSilentOn (old : PartsOn D P) (came : List ℕ) : Type 0 where
+    pub led : (bytes : List ℕ) (items : List (Item U)) (side : SideOn H)
+        → LeadsOn rules d old bytes items side → length bytes + length came + 1 < 2 ^ 64
+        → IsSilentOn bytes items side came
+    pub shut : IsShutOn old → came ≡ []
+
   -- the station refuses the key, for this reason, by all that came and was pressed before, or since it is shut
   pub record IsKeyRefusalOn (station : PartsOn D P) (key : K) (fault : KeyFault) : Type 0 where
     pub led : (bytes : List ℕ) (items : List (Item U)) (side : SideOn H)

@@ -32,11 +32,11 @@ use Rattle.ws_session.specs.Crossings.{Crossing}
 use Rattle.ws_session.specs.HostLeads.{HostParts, HostLeads}
 use Rattle.ws_session.specs.HostSide.{HostSide, new_host_side, host_cancel, SendReaction, RefusesSend}
 use Rattle.ws_session.specs.StationActs.{IsShutOn}
-use Rattle.ws_session.specs.Manners.{StationGoes, StationRefusesByte, HostGoes, HostRefusesByte, IsHostShut}
+use Rattle.ws_session.specs.Manners.{StationGoes, StationRefuses, HostGoes, HostRefuses, IsHostShut}
 use Rattle.ws_session.specs.Runs.{WorldParts}
 use Rattle.ws_session.specs.StationLeads.{StationParts, StationLeads}
 use Rattle.ws_session.specs.StationSide.{StationSide, new_station_side, station_key, KeyReaction, RefusesKey}
-use Rattle.ws_session.specs.Wires.{WireParts, AllCome, AreDelivered}
+use Rattle.ws_session.specs.Wires.{WireParts, Comes, AreDelivered}
 use Rattle.ws_session.specs.World.{host_sends}
 
 -- where a session stands: both ends, the bytes in flight to each, and what was told
@@ -73,8 +73,8 @@ all_sent crossings = flat_map (λ (c : Crossing). c.sent) crossings
 abbrev pub all_read : List Crossing → List ℕ
 all_read crossings = flat_map (λ (c : Crossing). c.read) crossings
 
-module _ {E Deed Told : Type 0} (goes : E → List (Act Deed) → List ℕ → List Told → E → Type 0) (refuses : E → ℕ
-    → Refusal → E → Type 0) (over : E → Type 0) (tells : Told → List Event) (refusal : ℕ → Reason → Event) where
+module _ {E Deed Told : Type 0} (goes : E → List (Act Deed) → List ℕ → List Told → E → Type 0) (refuses : E → List ℕ
+    → ℕ → Refusal → E → Type 0) (over : E → Type 0) (tells : Told → List Event) (refusal : ℕ → Reason → Event) where
   -- So many of the bytes in flight go into the line, or all where there are fewer. As many that came out of it come
   -- to the end, whatever they are; what it writes and tells at them is this.
   pub record HaveCome (count : ℕ) (crossings : List Crossing) (flight flight' : List ℕ) (old new : E)
@@ -84,17 +84,17 @@ module _ {E Deed Told : Type 0} (goes : E → List (Act Deed) → List ℕ → L
     pub pieces : AllByRecursion (λ (c : Crossing). length c.sent ≤ 4096) crossings
     pub as_many : length (all_read crossings) ≡ length (all_sent crossings)
     pub left : flight' ≡ drop count flight
-    pub come : AllCome goes refuses over tells refusal old (all_read crossings) new written told
+    pub come : Comes goes refuses over tells refusal old (all_read crossings) new written told
 
 -- bytes come to the station: it tells a refusal alone
 abbrev pub StationHears : ℕ → List Crossing → List ℕ → List ℕ → StationParts → StationParts → List ℕ → List Event
     → Type 0
-StationHears = HaveCome StationGoes StationRefusesByte (λ (s : StationParts). IsSome s.ended)
+StationHears = HaveCome StationGoes StationRefuses (λ (s : StationParts). IsSome s.ended)
     (λ (a : Applied). let none : List Event = [] in none) (λ place reason. StationRefused place reason)
 
 -- bytes come to the host end: its events are told, and a refusal
 abbrev pub HostHears : ℕ → List Crossing → List ℕ → List ℕ → HostParts → HostParts → List ℕ → List Event → Type 0
-HostHears = HaveCome HostGoes HostRefusesByte (λ (h : HostParts). IsSome h.ended)
+HostHears = HaveCome HostGoes HostRefuses (λ (h : HostParts). IsSome h.ended)
     (λ (e : HostEvent). Host e ∷ []) (λ place reason. HostRefused place reason)
 
 -- what is told of a key: that it was refused, and why; or nothing
@@ -220,7 +220,7 @@ up_wire w = record { bytes = w.up; at = w.at_host }
 -- so many of the bytes in flight, as they stand there, have come to the station
 abbrev pub IsDeliveredDown : WorldParts → ℕ → WorldParts → Type 0
 IsDeliveredDown old count new =
-    AreDelivered StationGoes StationRefusesByte (λ (s : StationParts). IsSome s.ended)
+    AreDelivered StationGoes StationRefuses (λ (s : StationParts). IsSome s.ended)
     (λ (a : Applied). let none : List Event = [] in none) (λ place reason. StationRefused place reason)
     old.station new.station (down_wire old) (down_wire new) (up_wire old) (up_wire new) old.events new.events count
     × (new.host ≡ old.host)
@@ -228,7 +228,7 @@ IsDeliveredDown old count new =
 -- so many of the bytes in flight, as they stand there, have come to the host end
 abbrev pub IsDeliveredUp : WorldParts → ℕ → WorldParts → Type 0
 IsDeliveredUp old count new =
-    AreDelivered HostGoes HostRefusesByte (λ (h : HostParts). IsSome h.ended)
+    AreDelivered HostGoes HostRefuses (λ (h : HostParts). IsSome h.ended)
     (λ (e : HostEvent). Host e ∷ []) (λ place reason. HostRefused place reason)
     old.host new.host (up_wire old) (up_wire new) (down_wire old) (down_wire new) old.events new.events count
     × (new.station ≡ old.station)

@@ -5,7 +5,7 @@ use Rattle.ws_code.specs.declared.reason.Reason.{Reason}
 use Rattle.ws_session.specs.declared.refusal.Refusal.{Refusal}
 use Rattle.ws_session.specs.declared.refusal.Refusal.TheVariants.{At, Memory}
 use Rattle.ws_session.specs.declared.world.Event.{Event}
-use Rattle.ws_session.specs.Acts.{Act, Came}
+use Rattle.ws_session.specs.Acts.{Act}
 use Rattle.ws_session.specs.Through.{Through}
 
 -- all that one end has written for the other, and how many bytes of it have arrived
@@ -18,34 +18,27 @@ abbrev pub HasMemory : Option Refusal → Type 0
 HasMemory (Some Memory) = ⊥
 HasMemory why = Unit {0}
 
-module _ {E Deed Told : Type 0} (goes : E → List (Act Deed) → List ℕ → List Told → E → Type 0) (refuses : E → ℕ
-    → Refusal → E → Type 0) (over : E → Type 0) (tells : Told → List Event) (refusal : ℕ → Reason → Event) where
+module _ {E Deed Told : Type 0} (goes : E → List (Act Deed) → List ℕ → List Told → E → Type 0) (refuses : E → List ℕ
+    → ℕ → Refusal → E → Type 0) (over : E → Type 0) (tells : Told → List Event) (refusal : ℕ → Reason → Event) where
   -- what a report tells of it
   abbrev pub reported : List Told → Option Refusal → List Event
   reported told (Some (At place reason)) = flat_map tells told ++ refusal place reason ∷ []
   reported told why = flat_map tells told
 
-  -- A byte comes: the end goes on, or refuses it. One that has refused a byte stays as it is.
-  pub record Comes (old : E) (byte : ℕ) (new : E) (written : List ℕ) (events : List Event) : Type 0 where
+  -- Bytes come: the end goes on, or refuses one of them. One that has refused a byte stays as it is.
+  pub record Comes (old : E) (bytes : List ℕ) (new : E) (written : List ℕ) (events : List Event) : Type 0 where
     pub told : List Told
     pub why : Option Refusal
-    pub through : Through goes refuses over old (Came byte ∷ []) written told why new
+    pub through : Through goes refuses over old bytes written told why new
     pub reports : events ≡ reported told why
     pub has_memory : HasMemory why
     pub stays : over old → (new ≡ old) × (written ≡ []) × (events ≡ [])
 
-  -- bytes come, one after another
-  abbrev pub AllCome : E → List ℕ → E → List ℕ → List Event → Type 0
-  AllCome old [] new written events = (new ≡ old) × (written ≡ []) × (events ≡ [])
-  AllCome old (byte ∷ bytes) new written events = (next : E) × (first : List ℕ) × (later : List ℕ)
-      × (one : List Event) × (more : List Event) × Comes old byte next first one × AllCome next bytes new later more
-      × (written ≡ first ++ later) × (events ≡ one ++ more)
-
-  -- a byte came to it, and what it wrote is on its way
-  pub record HasCome (old : E) (byte : ℕ) (new : E) (to to' : WireParts) (told told' : List Event) : Type 0 where
+  -- bytes came to it, and what it wrote is on its way
+  pub record HasCome (old : E) (bytes : List ℕ) (new : E) (to to' : WireParts) (told told' : List Event) : Type 0 where
     pub written : List ℕ
     pub events : List Event
-    pub comes : Comes old byte new written events
+    pub comes : Comes old bytes new written events
     pub to_is : to' ≡ record to { bytes = to.bytes ++ written }
     pub told_is : told' ≡ told ++ events
 
@@ -57,7 +50,7 @@ module _ {E Deed Told : Type 0} (goes : E → List (Act Deed) → List ℕ → L
     pub events : List Event
     pub first : bytes ≡ take count (drop from.at from.bytes)
     pub few : length from.bytes + 1 < 2 ^ 64
-    pub come : AllCome old bytes new written events
+    pub come : Comes old bytes new written events
     pub from_is : from' ≡ record from { at = from.at + length bytes }
     pub to_is : to' ≡ record to { bytes = to.bytes ++ written }
     pub told_is : told' ≡ told ++ events

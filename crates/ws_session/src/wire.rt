@@ -1,4 +1,4 @@
-ghost use Rattle.std.specs.Prelude.{[], ◌^◌, ◌≡◌, ◌<◌, ◌≤◌, ◌+◌, ◌++◌, get_or, length, drop, OnOk, IfErr};
+ghost use Rattle.std.specs.Prelude.{[], ◌^◌, ◌≡◌, ◌<◌, ◌≤◌, ◌+◌, ◌++◌, length, drop, OnOk, IfErr};
 ghost use Rattle.ws_session.specs.Crossings.{with_piece_at};
 
 use std::alloc::Global;
@@ -74,16 +74,12 @@ impl Wire {
         &self.bytes[self.at..]
     }
 
-    // The next byte, which has arrived then.
-    pub(crate) fn next(&mut self) -> u8
-        requires some { self.old.at < length self.old.bytes }
-        ensures byte { result ≡ get_or self.old.bytes self.old.at result }
-        ensures on { self.new ≡ record self.old { at = self.old.at + 1 } }
-        ensures few { length self.old.bytes + 1 < 2 ^ 64 }
+    // So many of them have arrived.
+    pub(crate) fn skip(&mut self, count: usize)
+        requires some { self.old.at + count ≤ length self.old.bytes }
+        ensures { self.new ≡ record self.old { at = self.old.at + count } }
     {
-        let byte = self.bytes[self.at];
-        self.at += 1;
-        byte
+        self.at += count;
     }
 
     // Puts a piece in the place of as many bytes in flight.

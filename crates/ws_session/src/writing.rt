@@ -3,7 +3,7 @@
 ghost use Rattle.std.specs.Prelude.{◌≡◌, ◌<◌, ◌≤◌, ◌∷◌, [], true, length, take, IfOk, IfErr, IfSome, IfNone};
 ghost use Rattle.ws_session.specs.Acts.{Came, Did, all_came, as_list};
 ghost use Rattle.ws_session.specs.Attachments as spec;
-ghost use Rattle.ws_session.specs.Attachments.{breaks};
+ghost use Rattle.ws_session.specs.Attachments.{breaks, IfTold, TellsAtLast};
 ghost use Rattle.ws_session.specs.StationActs.{GoesOnDisplay, IsKeyRefusalOn, IsKeyTakenOn};
 ghost use Rattle.ws_session.specs.Written.{HasWritten, HasWrittenFront, IsUnheard, IsUntaken};
 
@@ -51,6 +51,8 @@ pub(crate) fn hear_piece<E: End, K: Sink>(
     ensures some { 0 < result.used }
     ensures heard { IfOk result.told (λ told. HasWritten E.goes K.takes K.failures
         end.old end.new sink.old sink.new (all_came (take result.used piece.now)) (as_list told)) }
+    ensures first { IfTold result.told
+        (TellsAtLast E.goes E.silent end.old end.new (take result.used piece.now)) }
     ensures fault { IfErr result.told (IsUnheard E.goes E.refuses K.takes K.failures
         end.old end.new sink.old sink.new (take result.used piece.now)) }
     ensures breaks { IfErr result.told (λ fault. breaks fault ≡ true) }

@@ -4,7 +4,7 @@ ghost use Rattle.ws_record.specs.declared.record.Item.{Item as AnItem};
 ghost use Rattle.ws_stream.specs.declared.answer_part.AnswerPart.{AnswerPart as APart};
 ghost use Rattle.ws_session.specs.Acts.{all_came, as_list};
 ghost use Rattle.ws_session.specs.Ends.{CountsUpTo};
-ghost use Rattle.ws_session.specs.HostFeeds.{HasHostFed, IsHostSilent, HostStopsWithin};
+ghost use Rattle.ws_session.specs.HostFeeds.{HasHostFed, IsHostSilent, HostStaysSilent, HostStopsWithin};
 ghost use Rattle.ws_session.specs.HostLeads.{HostLeads};
 ghost use Rattle.ws_session.specs.HostSide.{HostSide};
 ghost use Rattle.ws_session.specs.Manners.{HostGoes, HostRefuses};
@@ -74,6 +74,8 @@ impl HostEnd {
         ensures gone { IfOk result.step (λ step.
             HostGoes self.old (all_came (take result.used piece.now)) step.reply
             (as_list step.event) self.new) }
+        ensures first { IfOk result.step (λ step. (n : ℕ) → n < result.used
+            → HostStaysSilent self.old (take n piece.now)) }
         ensures refused { IfErr result.step (λ why. (byte : ℕ) × (rest : List ℕ)
             × (piece.now ≡ take result.used piece.now ++ byte ∷ rest)
             × HostRefuses self.old (take result.used piece.now) byte why self.new) }

@@ -3,7 +3,7 @@ ghost use Rattle.std.specs.Prelude.{◌≡◌, ◌<◌, ◌≤◌, ◌+◌, ◌^
 ghost use Rattle.ws_record.specs.declared.record.Item.{Item};
 ghost use Rattle.ws_session.specs.Displays.{SideOn};
 ghost use Rattle.ws_session.specs.Ends.{CountsUpTo};
-ghost use Rattle.ws_session.specs.StationActs.{GoesOnDisplay, HasFedOn, IsSilentOn, RefusesOn};
+ghost use Rattle.ws_session.specs.StationActs.{GoesOnDisplay, HasFedOn, IsSilentOn, RefusesOn, StaysSilentOn};
 ghost use Rattle.ws_session.specs.StationManners.{told_by};
 ghost use Rattle.ws_session.specs.StationNews.{StopsWithinOn};
 ghost use Rattle.ws_session.specs.Stations.{LeadsOn};
@@ -78,6 +78,8 @@ impl<D: StationDisplay> StationOn<D> {
             GoesOnDisplay D.Commands.rules D.does self.old (all_came (take result.used piece.now))
             (D.does.written self.new.screen step.reply) (as_list (told_by step.ends_record))
             self.new) }
+        ensures first { IfOk result.step (λ step. (n : ℕ) → n < result.used
+            → StaysSilentOn D.Commands.rules D.does self.old (take n piece.now)) }
         ensures refused { IfErr result.step (λ why. (byte : ℕ) × (rest : List ℕ)
             × (piece.now ≡ take result.used piece.now ++ byte ∷ rest)
             × RefusesOn D.Commands.rules D.does self.old (take result.used piece.now) byte why self.new) }

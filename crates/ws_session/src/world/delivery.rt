@@ -1,14 +1,14 @@
 //! Bytes in flight that arrive at an end of a session.
-ghost use Rattle.std.specs.Prelude.{◌≡◌, ◌++◌, ◌∷◌, [], ℕ, List as Seq, flat_map, IfErr, OnOk};
+ghost use Rattle.std.specs.Prelude.{◌≡◌, ◌<◌, ◌≤◌, ◌++◌, ◌∷◌, [], ℕ, List as Seq, flat_map, Some, length, take, IfErr, IfOk, OnOk};
 ghost use Rattle.ws_code.specs.declared.reason.Reason.{Reason as AReason};
 ghost use Rattle.ws_session.specs.Acts.{as_list};
-ghost use Rattle.ws_session.specs.Wires.{HasCome, AreDelivered};
+ghost use Rattle.ws_session.specs.Wires.{HasCome, HasMemory, AreDelivered, reported};
 ghost use Rattle.ws_session.specs.declared.world.Event.{Event as AnEvent};
 ghost use Rattle.ws_session.specs.declared.world.Event.TheVariants.{Host as HostEventOf, StationRefused, HostRefused};
 
 use super::Event;
 use crate::end::End;
-use crate::end_step::Applied;
+use crate::end_step::{Applied, EndFed};
 use crate::wire::Wire;
 use crate::{HostEnd, HostEvent, Refusal, Station};
 use ws_code::{Fault, Reason};
@@ -72,37 +72,58 @@ pub(crate) fn deliver<E: Reported>(
     events: &mut Vec<Event>,
     count: usize,
 ) -> Result<(), Fault>
-    ensures come { OnOk result (AreDelivered E.goes E.refuses_byte E.over E.tells E.refusal
+    ensures come { OnOk result (AreDelivered E.goes E.refuses E.over E.tells E.refusal
         end.old end.new from.old from.new to.old to.new events.old.items events.new.items count) }
     ensures fault { IfErr result (λ fault. fault ≡ Fault.Memory) }
 {
-    let left = count.min(from.in_flight());
-    for _i in 0..left {
-        let byte = from.next();
-        come(end, byte, to, events)?;
+    let mut left = count.min(from.in_flight());
+    while left > 0 {
+        let used = come(end, &from.waiting()[..left], to, events)?;
+        from.skip(used);
+        left -= used;
     }
     Ok(())
 }
 
-// A byte comes to the end.
+// Bytes of the piece come to the end, at least one, and this many. At an end that refuses one all others come to nothing.
 fn come<E: Reported>(
     end: &mut E,
-    byte: u8,
+    piece: &[u8],
     to: &mut Wire,
     events: &mut Vec<Event>,
-) -> Result<(), Fault>
-    ensures come { OnOk result (HasCome E.goes E.refuses_byte E.over E.tells E.refusal
-        end.old byte end.new to.old to.new events.old.items events.new.items) }
+) -> Result<usize, Fault>
+    requires { 0 < length piece.now }
+    ensures within { IfOk result (λ used. used ≤ length piece.now) }
+    ensures some { IfOk result (λ used. 0 < used) }
+    ensures come { IfOk result (λ used. HasCome E.goes E.refuses E.over E.tells E.refusal
+        end.old (take used piece.now) end.new to.old to.new events.old.items events.new.items) }
     ensures fault { IfErr result (λ fault. fault ≡ Fault.Memory) }
 {
-    match end.take(byte) {
+    let EndFed { used, step } = end.feed(piece);
+    match step {
         Ok(step) => {
             to.write(end.bytes(&step.reply))?;
-            tell(events, E::event(step.event))
+            tell(events, E::event(step.event))?;
+            Ok(used)
         }
-        Err(Refusal::At { place, reason }) => tell(events, Some(E::refused(place, reason))),
-        Err(Refusal::Failed) => Ok(()),
-        Err(Refusal::Memory) => Err(Fault::Memory),
+        Err(refusal) => {
+            tell(events, refused::<E>(refusal)?)?;
+            Ok(piece.len())
+        }
+    }
+}
+
+// What a report tells of a refusal. One for want of memory ends the session.
+fn refused<E: Reported>(refusal: Refusal) -> Result<Option<Event>, Fault>
+    ensures told { IfOk result (λ event. as_list event
+        ≡ reported E.goes E.refuses E.over E.tells E.refusal [] (Some refusal)) }
+    ensures memory { OnOk result (HasMemory (Some refusal)) }
+    ensures fault { IfErr result (λ fault. fault ≡ Fault.Memory) }
+{
+    match refusal {
+        Refusal::At { place, reason } => Ok(Some(E::refused(place, reason))),
+        Refusal::Failed => Ok(None),
+        Refusal::Memory => Err(Fault::Memory),
     }
 }
 

@@ -1,4 +1,4 @@
-use Rattle.std.proofs.Common.{◌≡◌, Err}
+use Rattle.std.proofs.Common.{◌≡◌, Err, refl, arith}
 use Rattle.ws_session.specs.declared.refusal.Refusal.TheVariants.{Failed}
 use Rattle.ws_session.proofs.Shuts.{not_shut, shut_fails}
 use Rattle.ws_any_host.proofs.AnyActs.{first_fed, first_refused}
@@ -18,3 +18,6 @@ returns-in-Err-clause-refused c =
         c.in-Err.ensures.seen,
       );
     })
+
+pub returns-in-Ok-clause-first : goal.returns-in-Ok-clause-first
+returns-in-Ok-clause-first c = λ n lt. (let none : n ≡ 0 = omega (arith, lt) in rw none refl)

@@ -1,6 +1,8 @@
-use Rattle.ws_session.proofs.Common.{ap, ◌∙◌, [], ◌++◌, arith}
-use Rattle.ws_session.proofs.Attachings.{reads_on, reads_heard, reads_fail, at_once, heard_at_once, fails_at_once}
+use Rattle.ws_session.proofs.Common.{ap, ◌∙◌, [], ◌++◌, ◌+◌, arith, Err}
+use Rattle.ws_session.proofs.Attachings.{gave_on, reads_on, reads_heard, reads_fail, at_once, heard_at_once, fails_at_once}
 use Rattle.ws_session.proofs.Attachings.{hearing_endless}
+use Rattle.ws_session.proofs.FirstTold.{if_told_on, hears_at_once, hears_behind}
+use Rattle.ws_session.specs.Attachments.{TakesFirst, HearsFirst}
 use Rattle.ws_session.proofs.attached.Attached.listen.Goals as goal
 
 pub returns-in-Ok-Some-clause-heard : goal.returns-in-Ok-Some-clause-heard
@@ -66,3 +68,45 @@ returns-in-Ok-Some-take_waiting-clause-works g c = c.in-Ok-Some-take_waiting.ens
 
 pub returns-clause-breaks : goal.returns-clause-breaks
 returns-clause-breaks g c = c.loop.invariant.5
+
+pub returns-in-Ok-Some-clause-first : goal.returns-in-Ok-Some-clause-first
+returns-in-Ok-Some-clause-first g c =
+    hears_at_once _ _ g.met.E.End.follows _ _ _ _ _ (rw c.in-Ok-Some.field-0-is at c.in-Ok-Some.ensures.first)
+
+pub returns-in-Err-clause-first : goal.returns-in-Err-clause-first
+returns-in-Err-clause-first g c = if_told_on
+    (TakesFirst g.E.End.goes g.E.End.silent c.args.self.now c.take_waiting.new.self)
+    (HearsFirst g.E.End.goes g.E.End.silent g.S.Source.gives g.S.Source.failures c.args.self.now c.take_waiting.new.self)
+    (Err c.in-Err.fault) (hears_at_once _ _ g.met.E.End.follows _ _ _ _) c.in-Err.ensures.first
+
+pub returns-in-Ok-Some-take_waiting-clause-first : goal.returns-in-Ok-Some-take_waiting-clause-first
+returns-in-Ok-Some-take_waiting-clause-first g c =
+    let i = c.loop.invariant in
+    let f = c.in-Ok-true.ensures.some in
+    hears_behind _ _ g.met.E.End.follows _ _ c.args.self.now c.loop.self _ c.take_waiting-in-loop.new.self
+    c.self.view_is i.0 i.1 i.2.written c.fill.new.self c.fill.new.source (c.loop.counter + 1) i.2.led i.3
+    (gave_on g.E.End.goes g.E.End.refuses g.K.Sink.takes g.K.Sink.failures g.S.Source.gives g.S.Source.failures
+    g.met.E.End.follows c.args.self.now c.loop.self _ c.take_waiting-in-loop.new.self c.self.view_is i.0 i.1
+    c.loop.counter i.2 i.3 i.6 (omega (arith, c.loop-test.true)) c.fill.new.self c.fill.new.source f.0 f.1
+    (f.2 c.in-Ok-true.field-0-test)) _
+    (rw c.in-Ok-Some-take_waiting.field-0-is at c.in-Ok-Some-take_waiting.ensures.first)
+
+pub returns-in-Err-take_waiting-clause-first : goal.returns-in-Err-take_waiting-clause-first
+returns-in-Err-take_waiting-clause-first g c =
+    let i = c.loop.invariant in
+    let f = c.in-Ok-true.ensures.some in
+    if_told_on (TakesFirst g.E.End.goes g.E.End.silent (record {
+      end = c.self.inside.end;
+      source = c.fill.new.source;
+      sink = c.self.inside.sink;
+      waiting = c.fill.new.self;
+      broken = c.self.inside.broken;
+    }) c.take_waiting-in-loop.new.self)
+    (HearsFirst g.E.End.goes g.E.End.silent g.S.Source.gives g.S.Source.failures c.args.self.now
+    c.take_waiting-in-loop.new.self) (Err c.in-Err-take_waiting.fault)
+    (hears_behind _ _ g.met.E.End.follows _ _ c.args.self.now c.loop.self _ c.take_waiting-in-loop.new.self
+    c.self.view_is i.0 i.1 i.2.written c.fill.new.self c.fill.new.source (c.loop.counter + 1) i.2.led i.3
+    (gave_on g.E.End.goes g.E.End.refuses g.K.Sink.takes g.K.Sink.failures g.S.Source.gives g.S.Source.failures
+    g.met.E.End.follows c.args.self.now c.loop.self _ c.take_waiting-in-loop.new.self c.self.view_is i.0 i.1
+    c.loop.counter i.2 i.3 i.6 (omega (arith, c.loop-test.true)) c.fill.new.self c.fill.new.source f.0 f.1
+    (f.2 c.in-Ok-true.field-0-test))) c.in-Err-take_waiting.ensures.first

@@ -2,7 +2,7 @@ use Rattle.ws_session.proofs.Common.{inl, inr, refl, sym, ap, ◌∙◌, as_list
 use Rattle.ws_session.proofs.Common.{take-append-drop, is_some, arith, ℕ, length, ◌-◌, ◌<◌, ◌+◌, ◌^◌, ◌≡◌, ◌≤◌, length-take-le, min}
 use Rattle.ws_session.proofs.Common.{HostParts, HostLeads, answer_rules, element_rules, host_manner}
 use Rattle.ws_session.specs.Manners.{IsHostShut}
-use Rattle.ws_session.proofs.EndFeeds.{if_ok_on, if_err_on, has_room, goes_by, host_count, host_shut, host_stops}
+use Rattle.ws_session.proofs.EndFeeds.{if_ok_on, if_err_on, has_room, goes_by, host_count, host_shut, host_stops, host_silent}
 use Rattle.ws_session.proofs.host_end.HostEnd.take_countable.Goals as goal
 
 pub returns-then-is_some-clause-refused : goal.returns-then-is_some-clause-refused
@@ -46,6 +46,26 @@ returns-clause-gone c =
       c.taken-room.ensures,
       ap (λ (z : HostParts). z.receiver.live.taken) c.self.view_is,
     )))) fed) c.take_piece.ensures.fed
+
+pub returns-clause-first : goal.returns-clause-first
+returns-clause-first c =
+    let now = c.args.self.now in
+    let piece = c.args.piece.now in
+    let room : ℕ = c.min-count.result in
+    if_ok_on _ _ c.take_piece.result.step (λ step quiet. host_silent now piece (take room piece) (drop room piece)
+    (sym (take-append-drop room piece)) c.take_piece.result.used c.take_piece.ensures.within
+    (fits now.receiver.live.taken c.taken-room.result (length piece) room (length (take room piece)) c.taken-room.type_inv
+    (ap (λ (z : HostParts). z.receiver.live.taken) (sym c.self.view_is) ∙ sym c.taken-room.ensures)
+    c.min-count.ensures (λ le. length-take-le room piece le))
+    (has_room now.ended now.receiver.live.taken
+    (c.if-is_some.ensures ∙ ap (λ (z : HostParts). is_some z.ended) c.self.view_is)
+    (λ e. c.if-room-eq0.false (omega (
+      arith,
+      e,
+      c.taken-room.ensures,
+      ap (λ (z : HostParts). z.receiver.live.taken) c.self.view_is,
+    )))) quiet)
+    c.take_piece.ensures.first
 
 pub returns-clause-refused : goal.returns-clause-refused
 returns-clause-refused c =

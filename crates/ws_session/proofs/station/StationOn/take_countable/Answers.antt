@@ -5,6 +5,7 @@ use Rattle.ws_session.specs.StationActs.{IsShutOn}
 use Rattle.ws_session.specs.StationManners.{manner_on}
 use Rattle.ws_session.specs.Stations.{LeadsOn}
 use Rattle.ws_session.proofs.EndFeeds.{if_ok_on, if_err_on, has_room, goes_by, station_count, station_shut, station_stops}
+use Rattle.ws_session.proofs.EndFeeds.{station_silent}
 use Rattle.ws_session.proofs.station.StationOn.take_countable.Goals as goal
 
 pub returns-then-is_some-clause-refused : goal.returns-then-is_some-clause-refused
@@ -50,6 +51,27 @@ returns-clause-gone g c =
       c.taken-room.ensures,
       ap (λ (z : PartsOn _ _). z.live.taken) c.self.view_is,
     )))) fed) c.take_piece.ensures.fed
+
+pub returns-clause-first : goal.returns-clause-first
+returns-clause-first g c =
+    let now = c.args.self.now in
+    let piece = c.args.piece.now in
+    let room : ℕ = c.min-count.result in
+    if_ok_on _ _ c.take_piece.result.step (λ step quiet. station_silent g.D.Commands.Code.rules
+    g.D.StationDisplay.does now piece (take room piece) (drop room piece)
+    (sym (take-append-drop room piece)) c.take_piece.result.used c.take_piece.ensures.within
+    (fits now.live.taken c.taken-room.result (length piece) room (length (take room piece)) c.taken-room.type_inv
+    (ap (λ (z : PartsOn _ _). z.live.taken) (sym c.self.view_is) ∙ sym c.taken-room.ensures)
+    c.min-count.ensures (λ le. length-take-le room piece le))
+    (has_room now.ended now.live.taken
+    (c.if-is_some.ensures ∙ ap (λ (z : PartsOn _ _). is_some z.ended) c.self.view_is)
+    (λ e. c.if-room-eq0.false (omega (
+      arith,
+      e,
+      c.taken-room.ensures,
+      ap (λ (z : PartsOn _ _). z.live.taken) c.self.view_is,
+    )))) quiet)
+    c.take_piece.ensures.first
 
 pub returns-clause-refused : goal.returns-clause-refused
 returns-clause-refused g c =

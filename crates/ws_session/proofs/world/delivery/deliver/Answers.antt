@@ -1,33 +1,35 @@
-use Rattle.ws_session.proofs.Common.{arith}
-use Rattle.ws_session.proofs.Arriving.{none_delivered, one_delivered, more_wait, all_come}
+use Rattle.ws_session.proofs.Common.{arith, ◌+◌, ◌≤◌, ap, length-take, take, ℕ}
+use Rattle.ws_session.proofs.Arriving.{none_delivered, some_delivered, all_come}
 use Rattle.ws_session.proofs.world.delivery.deliver.Goals as goal
 
-pub loop-i-init : goal.loop-i-init
-loop-i-init g c = none_delivered _ _ _ _ _ _ _ _ _ c.in_flight.ensures.few
+pub loop-left-init : goal.loop-left-init
+loop-left-init g c = record {
+  gone = 0;
+  all = omega (arith, c.min-left.ensures, c.in_flight.ensures.left);
+  come = none_delivered _ _ _ _ _ g.met.E.End.stays _ _ _ _ c.in_flight.ensures.few;
+}
 
-pub next-byte-requires : goal.next-byte-requires
-next-byte-requires g c =
-    let l = c.loop-i in
+pub loop-left-preserved : goal.loop-left-preserved
+loop-left-preserved g c =
+    let l = c.loop-left in
+    let i = l.invariant in
+    let used : ℕ = c.in_ok-used.used in
+    let within : used ≤ l.left = omega (arith, c.in_ok-used.ensures.within, length-take l.left c.waiting.result.now) in
     record {
-      some = more_wait g.E.End.goes g.E.End.refuses_byte g.E.End.over g.E.Reported.tells g.E.Reported.refusal c.args.end.now
-          l.end c.args.from.now l.from c.args.to.now l.to c.args.events.now.items l.events.items l._i l.invariant
-          c.in_flight.result c.in_flight.ensures.left (omega (arith, c.loop-i-test.true, c.min-left.ensures));
+      gone = i.gone + used;
+      all = omega (arith, i.all, within);
+      come = some_delivered g.E.End.goes g.E.End.refuses g.E.End.over g.E.Reported.tells g.E.Reported.refusal
+          c.args.end.now l.end c.args.from.now l.from c.args.to.now l.to c.args.events.now.items l.events.items i.gone
+          i.come g.met.E.End.follows c.in_flight.result l.left used c.in_flight.ensures.left
+          (omega (arith, i.all, c.in_flight.ensures.left)) within (take used (take l.left c.waiting.result.now))
+          (ap (λ z. take used (take l.left z)) c.waiting.ensures.bytes) c.skip.new.self c.skip.ensures
+          c.come.new.end c.come.new.to c.come.new.events.items c.in_ok-used.ensures.come;
     }
-
-pub loop-i-preserved : goal.loop-i-preserved
-loop-i-preserved g c =
-    let l = c.loop-i in
-    let more = more_wait g.E.End.goes g.E.End.refuses_byte g.E.End.over g.E.Reported.tells g.E.Reported.refusal
-    c.args.end.now l.end c.args.from.now l.from c.args.to.now l.to c.args.events.now.items l.events.items l._i
-    l.invariant c.in_flight.result c.in_flight.ensures.left (omega (arith, c.loop-i-test.true, c.min-left.ensures)) in
-    one_delivered g.E.End.goes g.E.End.refuses_byte g.E.End.over g.E.Reported.tells
-    g.E.Reported.refusal c.args.end.now l.end c.args.from.now l.from c.args.to.now l.to c.args.events.now.items
-    l.events.items l._i l.invariant more c.next-byte.result c.next-byte.ensures.byte c.next-byte.new.self
-    c.next-byte.ensures.on c.come.new.end c.come.new.to c.come.new.events.items c.in_ok-come.ensures.come
 
 pub returns-clause-come : goal.returns-clause-come
 returns-clause-come g c =
-    let l = c.loop-i in
-    all_come g.E.End.goes g.E.End.refuses_byte g.E.End.over g.E.Reported.tells g.E.Reported.refusal c.args.end.now l.end
-    c.args.from.now l.from c.args.to.now l.to c.args.events.now.items l.events.items l._i l.invariant c.in_flight.result
-    c.args.count c.in_flight.ensures.left (omega (arith, c.loop-i-test.false, c.loop-i.auto._i-end, c.min-left.ensures))
+    let l = c.loop-left in
+    let i = l.invariant in
+    all_come g.E.End.goes g.E.End.refuses g.E.End.over g.E.Reported.tells g.E.Reported.refusal c.args.end.now l.end
+    c.args.from.now l.from c.args.to.now l.to c.args.events.now.items l.events.items i.gone i.come c.in_flight.result
+    c.args.count c.in_flight.ensures.left (omega (arith, i.all, c.loop-left-test.false, c.in_flight.ensures.left))

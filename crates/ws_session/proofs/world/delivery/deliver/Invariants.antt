@@ -1,7 +1,14 @@
-use Rattle.ws_session.proofs.Common.{AreDelivered}
+use Rattle.ws_session.proofs.Common.{◌≡◌, ◌+◌, ◌-◌, ℕ, length, min, AreDelivered}
 use Rattle.ws_session.proofs.world.delivery.deliver.Given as goal
 
+abbrev pub decreases-loop-left : goal.decreases-loop-left
+decreases-loop-left g l = l.left
+
 -- so many bytes have come
-abbrev pub invariant-loop-i : goal.invariant-loop-i
-invariant-loop-i g l = AreDelivered g.E.End.goes g.E.End.refuses_byte g.E.End.over g.E.Reported.tells
-    g.E.Reported.refusal l.fn.end l.end l.fn.from l.from l.fn.to l.to l.fn.events.items l.events.items l._i
+abbrev pub invariant-loop-left : goal.invariant-loop-left
+invariant-loop-left g l = record {
+  gone : ℕ;
+  all : gone + l.left ≡ min l.count (length l.fn.from.bytes - l.fn.from.at);
+  come : AreDelivered g.E.End.goes g.E.End.refuses g.E.End.over g.E.Reported.tells g.E.Reported.refusal
+      l.fn.end l.end l.fn.from l.from l.fn.to l.to l.fn.events.items l.events.items gone;
+}
