@@ -3,9 +3,9 @@
 
 Build the program first (`cd crates/t5250 && rt run -- check < stdin`), then call `python3 tests/run_live.py` from
 anywhere; another program than that of `crates/t5250/out` may be named behind it, and `-v` tells the time of each test.
-The two meet one another, and each meets a socket of Python that plays the other side, also one that is silent, slow, mad
-or gone. The tests are the files `*_tests.py` of tests/live, a subject each. The last line tells how many passed and how
-many failed, and the status is 1 where one failed.
+The two meet one another, and each meets a socket of Python that plays the other side, also one that is silent, slow,
+mad or gone. The tests are the files `*_tests.py` of tests/live, a subject each. The last line tells how many passed and
+how many failed, and the status is 1 where one failed.
 """
 import importlib
 import os

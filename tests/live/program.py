@@ -74,7 +74,10 @@ class Run:
             text += got
 
     def end(self, status, printed=None, error="", seconds=20):
-        """Ends standard input, and looks at the status, at what was printed since, and at standard error."""
+        """Ends standard input, and looks at the status, at what was printed since, and at standard error.
+
+        None stands for anything. What was printed since is the answer, and standard error is in `fault`.
+        """
         try:
             if self.process.stdin is not None:
                 self.process.stdin.close()
@@ -92,12 +95,13 @@ class Run:
             if line is None:
                 break
             text += line
-        fault = self.process.stderr.read().decode()
+        self.fault = self.process.stderr.read().decode()
         if error is not None:
-            expect(fault, error, "standard error")
+            expect(self.fault, error, "standard error")
         if printed is not None:
             expect(text, printed, "standard output")
-        expect(self.process.returncode, status, "status")
+        if status is not None:
+            expect(self.process.returncode, status, "status")
         return text
 
     def stop(self):

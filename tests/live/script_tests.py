@@ -70,7 +70,8 @@ def script_files_that_go_otherwise():
         side.send(b"\x00\x00\x00")
         side.closed()
     rows = [(host, "await\nkey Dup\n", "key refused DupNotAllowed\n"), (host, "await\nawait record\n", "late\n"),
-            (host_gone, "await\n", "ended\n"), (host_mad, "await\n", "station refused at 1: reason 10 LengthBelowHeader\n")]
+            (host_gone, "await\n", "ended\n"),
+            (host_mad, "await\n", "station refused at 1: reason 10 LengthBelowHeader\n")]
     for play, text, printed in rows:
         with script_file(".connect", text) as script:
             at = Host(play)
@@ -84,7 +85,8 @@ def lines_that_are_not_utf_8():
         negotiate_as_host(side)
         side.send(record(3, hexed(SIGN_ON)))
         side.closed()
-    rows = [(b"\xff", 1), (b"await\n\xff\nshow\n", 2), (b"# one\n\nawait\ntype \xc3\n", 4), (b"await\nfields\n# \x80", 3)]
+    rows = [(b"\xff", 1), (b"await\n\xff\nshow\n", 2), (b"# one\n\nawait\ntype \xc3\n", 4),
+            (b"await\nfields\n# \x80", 3)]
     for text, number in rows:
         printed = SIGN_ON_FIELDS if b"fields" in text else ""
         at_host(host, ["--wait", "5"], text, 2, printed, "script line %d\n" % number, host_ends=False)

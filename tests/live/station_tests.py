@@ -65,7 +65,7 @@ def lines_at_a_host():
 
 @test
 def keys_by_the_screen():
-    """Lines whose keys hang on the screen: to a cell and to a field, New Line and Erase EOF, up to one that is refused."""
+    """Lines whose keys hang on the screen: to a cell, to a field, New Line and Erase EOF, up to one that is refused."""
     def play(side):
         negotiate_as_host(side)
         side.send(record(3, hexed(SIGN_ON)))

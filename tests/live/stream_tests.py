@@ -47,7 +47,8 @@ def closed_streams_that_are_needed():
 @test
 def closed_streams_that_are_not_needed():
     with script_file(".connect", "await\nfields\n") as script:
-        for closed, words, text in ((0,), [script.name], None), ((0, 2), [script.name], None), ((2,), [], "await\nfields\n"):
+        rows = ((0,), [script.name], None), ((0, 2), [script.name], None), ((2,), [], "await\nfields\n")
+        for closed, words, text in rows:
             found = []
 
             def play(side):

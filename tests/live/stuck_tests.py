@@ -33,7 +33,7 @@ def a_host_that_never_reads():
 
 @test
 def a_station_that_never_reads():
-    text = "await\n" + "send 2 0411000011010140\n" * 1 + "".join("send 2 04110000%s\n" % ("C1" * 1900) for _ in range(4000))
+    text = "await\nsend 2 0411000011010140\n" + "send 2 04110000%s\n" % ("C1" * 1900) * 4000
     with script_file(".serve", text) as script:
         serve = Run(["serve", "--wait", "1", "127.0.0.1:0", script.name])
         side = station_at(serve)
@@ -55,8 +55,9 @@ def a_full_output():
         side.closed()
     host = Host(play)
     with open("/dev/full", "w") as full:
-        run = subprocess.run([Run.program, "connect", "--wait", "5", "127.0.0.1:%d" % host.port], input=b"await\nshow\n",
-                             stdout=full, stderr=subprocess.PIPE, timeout=20)
+        words = ["connect", "--wait", "5", "127.0.0.1:%d" % host.port]
+        run = subprocess.run([Run.program, *words], input=b"await\nshow\n", stdout=full, stderr=subprocess.PIPE,
+                             timeout=20)
     expect(run.stderr, b"cannot write\n", "standard error")
     expect(run.returncode, 2, "status")
 

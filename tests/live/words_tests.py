@@ -15,15 +15,16 @@ def wrong_lines():
         side.send(record(3, hexed(SIGN_ON)))
         side.closed()
     # At standard input a line before it is carried out.
-    at_host(play, ["--wait", "5"], "await\nfields\nsettle\nshow\n", 2, SIGN_ON_FIELDS, "script line 3\n", host_ends=False)
-    words = ["wait", "await ", "await records", "await text", "await text ", "key enter", "key", "send 3 00", "down all",
-             "show x", "fields ", "Show", "type", " await", "cancel", "\ufeffawait"]
+    at_host(play, ["--wait", "5"], "await\nfields\nsettle\nshow\n", 2, SIGN_ON_FIELDS, "script line 3\n",
+            host_ends=False)
+    words = ["wait", "await ", "await records", "await text", "await text ", "key enter", "key", "send 3 00",
+             "down all", "show x", "fields ", "Show", "type", " await", "cancel", "\ufeffawait"]
     for line in words:
         with script_file(".connect", "show\n\n%s\n" % line) as script:
             # Nothing is connected: there is no host.
             Run(["connect", "--wait", "1", "127.0.0.1:1", script.name]).end(2, "", "script line 3\n")
-    words = ["wait", "await record", "await ", "  CLEAR-UNIT", "send", "send ", "send x", "send 3 ", "send 3 0", "send 10", "send 256",
-             "send 3 0440F3", "type A", "key Enter", "show", "cancel ", "down all", "settle"]
+    words = ["wait", "await record", "await ", "  CLEAR-UNIT", "send", "send ", "send x", "send 3 ", "send 3 0",
+             "send 10", "send 256", "send 3 0440F3", "type A", "key Enter", "show", "cancel ", "down all", "settle"]
     for line in words:
         with script_file(".serve", "cancel\n# no line\n%s\n" % line) as script:
             Run(["serve", "--wait", "1", "127.0.0.1:0", script.name]).end(2, "", "script line 3\n")
