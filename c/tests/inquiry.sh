@@ -10,7 +10,7 @@ begin_inquiry() {
     "$1" serve --wait 20 127.0.0.1:0 "$examples/inquiry.serve" >"$folder/served" &
     host=$!
     for _ in $(seq 100); do
-        grep -q listening "$folder/served" && break
+        grep -qs listening "$folder/served" && break
         sleep 0.05
     done
     port=$(sed -n '1s/.*://p' "$folder/served")
