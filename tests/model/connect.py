@@ -19,8 +19,8 @@ class Connect:
 
     refused = Refused
 
-    def __init__(self, terminal="IBM-3179-2", is_extended=False, is_ready=False):
-        self.is_extended, self.is_ready, self.terminal = is_extended, is_ready, terminal
+    def __init__(self, terminal, is_extended=False, is_ready=False, is_colored=False):
+        self.terminal, self.is_ready, self.is_colored = terminal, is_ready, is_colored
         self.options, self.screen = Station(terminal), Screen()
         self.keys = Keys(self.screen)
         self.stream = Stream(extended_elements if is_extended else elements)
@@ -106,7 +106,7 @@ class Connect:
     # What is looked at.
 
     def show(self, _):
-        self.printed += self.screen.lines()
+        self.printed += self.screen.lines(self.is_colored)
 
     def fields(self, _):
         self.printed += self.screen.field_lines()

@@ -236,30 +236,35 @@ class Screen:
 
     # What is printed.
 
+    def attributes(self):
+        """The attribute of each cell: the one in force, and 20 where the cell holds one."""
+        force, found = 0x20, []
+        for byte in self.cells:
+            is_attribute = 0x20 <= byte <= 0x3F
+            found.append(0x20 if is_attribute else force)
+            force = byte if is_attribute else force
+        return found
+
     def shown(self):
         """The characters of all cells, as a person sees them."""
-        text, attribute = "", 0x20
-        for byte in self.cells:
-            if 0x20 <= byte <= 0x3F:
-                attribute = byte
-                text += " "
-            elif byte == 0 or attribute & 7 == 7:
-                text += " "
-            elif byte == 0x1C:
-                text += "*"
-            else:
-                text += bytes([byte]).decode("cp037") if 0x40 <= byte <= 0xFE else "."
-        return text
+        return "".join(map(character, self.cells, self.attributes()))
 
     def rows(self):
         text = self.shown()
         return [text[at:at + COLUMNS] for at in range(0, CELLS, COLUMNS)]
 
-    def lines(self):
-        text = "screen\n"
-        for number, row in enumerate(self.rows(), 1):
-            if row.strip(" "):
-                text += f"{number:2} {row.rstrip(' ')}\n"
+    def row_lines(self, is_colored):
+        attributes = self.attributes()
+        for index, row in enumerate(self.rows()):
+            text = row.rstrip(" ")
+            if text and is_colored:
+                first = index * COLUMNS
+                text = colored(text, attributes[first:first + COLUMNS])
+            if text:
+                yield f"{index + 1:2} {text}\n"
+
+    def lines(self, is_colored=False):
+        text = "screen\n" + "".join(self.row_lines(is_colored))
         row, column = divmod(self.cursor, COLUMNS)
         text += f"cursor {row + 1} {column + 1}, {'locked' if self.locked else 'unlocked'}, "
         text += f"message {'on' if self.message else 'off'}, blink {'on' if self.blink else 'off'}, "
@@ -276,3 +281,37 @@ class Screen:
             line = f"field {row + 1} {column + 1} {field.length} {field.word:04X} {content}"
             text += (line if content else line[:-1]) + "\n"
         return text
+
+
+def character(byte, attribute):
+    """What a cell shows under an attribute."""
+    if byte == 0 or 0x20 <= byte <= 0x3F or attribute & 7 == 7:
+        return " "
+    if byte == 0x1C:
+        return "*"
+    return bytes([byte]).decode("cp037") if 0x40 <= byte <= 0xFE else "."
+
+
+GREEN, WHITE, RED, TURQUOISE, YELLOW, PINK, BLUE = "32", "37;1", "31", "36", "33", "35", "34"
+REVERSED, UNDERSCORED, BLINKING = ";7", ";4", ";5"
+# The colours of 20 to 3F as a table of eight in a row, the last of which is hidden.
+COLORS = [
+    GREEN, GREEN + REVERSED, WHITE, WHITE + REVERSED, GREEN + UNDERSCORED, GREEN + REVERSED + UNDERSCORED,
+    WHITE + UNDERSCORED, GREEN,
+    RED, RED + REVERSED, RED + BLINKING, RED + REVERSED + BLINKING, RED + UNDERSCORED, RED + REVERSED + UNDERSCORED,
+    RED + UNDERSCORED + BLINKING, GREEN,
+    TURQUOISE, TURQUOISE + REVERSED, YELLOW, YELLOW + REVERSED, TURQUOISE + UNDERSCORED,
+    TURQUOISE + REVERSED + UNDERSCORED, YELLOW + UNDERSCORED, GREEN,
+    PINK, PINK + REVERSED, BLUE, BLUE + REVERSED, PINK + UNDERSCORED, PINK + REVERSED + UNDERSCORED,
+    BLUE + UNDERSCORED, GREEN,
+]
+
+
+def colored(text, attributes):
+    """A row with sequences of ECMA-48: before the first cell, and each with another attribute than the one before."""
+    line = ""
+    for index, shown in enumerate(text):
+        if index == 0 or attributes[index] != attributes[index - 1]:
+            line += f"\x1b[0;{COLORS[attributes[index] - 0x20]}m"
+        line += shown
+    return line + "\x1b[0m"

@@ -14,12 +14,14 @@ class ConnectPlan(Plan):
 
     def choose(self):
         self.terminal = self.random.choice(TERMINALS) if self.chance.one_in(3) else None
+        self.is_colored = self.chance.one_in(3)
 
     def new_model(self):
-        return Connect(self.terminal or "IBM-3179-2", self.is_other, self.is_ready)
+        return Connect(self.terminal or "IBM-3179-2", self.is_other, self.is_ready, self.is_colored)
 
     def words(self):
         words = ["connect", "--wait", str(self.wait)] + ["--extended"] * self.is_other + ["--ready"] * self.is_ready
+        words += ["--color"] * self.is_colored
         return words + (["--terminal", self.terminal] if self.terminal else [])
 
     def tokens(self):
