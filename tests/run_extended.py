@@ -15,19 +15,18 @@ is 1 where one failed.
 import os
 import shutil
 import socket
-import struct
 import subprocess
 import sys
 import tempfile
 import xml.etree.ElementTree
 
+from live.lines import Side
+from live.program import BUILT, Failure, expect
+from live.records import record
 from packets import Session, write_capture
 
-HERE = os.path.dirname(os.path.abspath(__file__))
-BUILT = os.path.join(HERE, "..", "crates", "t5250", "out", "t5250")
-PROGRAM = os.path.abspath(sys.argv[1] if len(sys.argv) > 1 else BUILT)
+PROGRAM = os.path.abspath(sys.argv[1]) if len(sys.argv) > 1 else BUILT
 
-EOR = b"\xff\xef"
 ASKED = bytes.fromhex("FFFD18"), bytes.fromhex("FFFA1801FFF0"), bytes.fromhex("FFFD19FFFB19FFFD00FFFB00")
 NAME = bytes.fromhex("FFFA1800") + b"IBM-3179-2" + bytes.fromhex("FFF0")
 GRANTED = bytes.fromhex("FFFB18"), NAME, bytes.fromhex("FFFB19FFFD19FFFB00FFFD00")
@@ -136,44 +135,23 @@ STEPS = [
 ]
 
 
-class Failure(Exception):
-    pass
-
-
-def expect(got, wanted, what):
-    if got != wanted:
-        raise Failure(f"{what}: got {got!r}, and not {wanted!r}")
-
-
-def record(opcode, body):
-    """A record as it goes over the line (RFC 1205, section 3; RFC 885)."""
-    head = struct.pack(">HHHBHB", 10 + len(body), 0x12A0, 0, 4, 0, opcode)
-    return (head + body).replace(b"\xff", b"\xff\xff") + EOR
-
-
-class Line:
+class Line(Side):
     """The host's side of a connection, which keeps what goes over it as the packets of a capture."""
 
     def __init__(self, stream):
-        self.stream = stream
-        self.stream.settimeout(30)
-        self.rest = self.taken = b""
+        super().__init__(stream, 30)
+        self.taken = b""
         self.seen = Session().open()
 
-    def send(self, data):
+    def send(self, data, pieces=0):
         self.seen.host(data)
-        self.stream.sendall(data)
+        super().send(data, pieces)
 
-    def take(self, wanted, what):
-        while len(self.rest) < len(wanted):
-            piece = self.stream.recv(4096)
-            if not piece:
-                break
-            self.rest += piece
-        got, self.rest = self.rest[:len(wanted)], self.rest[len(wanted):]
+    def get(self, length):
+        got = super().get(length)
         self.seen.station(got)
         self.taken += got
-        expect(got.hex(), wanted.hex(), what)
+        return got
 
 
 def play_host(line):

@@ -10,14 +10,16 @@ and the status is 1 where one failed.
 """
 import os
 import socket
-import struct
 import subprocess
 import sys
 import tempfile
 import traceback
 
-HERE = os.path.dirname(os.path.abspath(__file__))
-PROGRAM = os.path.abspath(sys.argv[1] if len(sys.argv) > 1 else os.path.join(HERE, "..", "crates/t5250/out/t5250"))
+from live.lines import Side
+from live.program import BUILT, Failure, expect
+from live.records import record
+
+PROGRAM = os.path.abspath(sys.argv[1]) if len(sys.argv) > 1 else BUILT
 
 DO_TERMINAL, WILL_TERMINAL = b"\xff\xfd\x18", b"\xff\xfb\x18"
 SEND_NAME, IS_NAME = b"\xff\xfa\x18\x01\xff\xf0", b"\xff\xfa\x18\x00IBM-3179-2\xff\xf0"
@@ -26,42 +28,28 @@ ASKED = [b"\xff\xfd\x19", b"\xff\xfb\x19", b"\xff\xfd\x00", b"\xff\xfb\x00"]
 ANSWERS = [b"\xff\xfb\x19", b"\xff\xfd\x19", b"\xff\xfb\x00", b"\xff\xfd\x00"]
 DATA_MARK = b"\xff\xf2"
 # A record of opcode 0 without a body. Its first byte is 00, which is no Telnet command.
-RECORD = struct.pack(">HHHBHB", 10, 0x12A0, 0, 4, 0, 0) + b"\xff\xef"
+RECORD = record(0)
 NO_COMMAND, BAD_TYPE = "reason 1 BadCommand", "reason 11 BadType"
 SECONDS = 15
 
 
-class Line:
+class Line(Side):
     """One side of a connection. It counts the bytes that it sent in the stream, which an urgent one isn't in."""
 
     def __init__(self, stream):
-        self.stream, self.sent = stream, 0
-        stream.settimeout(SECONDS)
+        super().__init__(stream, SECONDS)
+        self.sent = 0
         # Each send by itself, so that an urgent byte comes where it was sent.
         stream.setsockopt(socket.IPPROTO_TCP, socket.TCP_NODELAY, 1)
 
-    def send(self, data):
-        self.stream.sendall(data)
+    def send(self, data, pieces=0):
+        super().send(data, pieces)
         self.sent += len(data)
 
     def synch(self):
         """IAC DM, whose last byte is urgent."""
         self.stream.send(DATA_MARK, socket.MSG_OOB)
         self.sent += len(DATA_MARK) - 1
-
-    def take(self, wanted):
-        got = b""
-        while len(got) < len(wanted):
-            piece = self.stream.recv(len(wanted) - len(got))
-            if not piece:
-                break
-            got += piece
-        expect(got, wanted, "what came over the line")
-
-
-def expect(got, wanted, what):
-    if got != wanted:
-        raise AssertionError(f"{what}: {got!r}, and not {wanted!r}")
 
 
 def as_host(line):
@@ -185,7 +173,7 @@ def main():
             test(*words)
         except Exception as error:
             failed += 1
-            print(f"{test.__name__}{words}: {error if isinstance(error, AssertionError) else traceback.format_exc()}")
+            print(f"{test.__name__}{words}: {error if isinstance(error, Failure) else traceback.format_exc()}")
     print(f"{len(tests) - failed} passed, {failed} failed")
     return 1 if failed else 0
 

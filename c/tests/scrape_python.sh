@@ -4,10 +4,8 @@
 # told what examples/inquiry.served has.
 #
 #     scrape_python.sh FOLDER         FOLDER has bin/t5250 and lib/libribbonscarp.so
-set -uo pipefail
-top=$(cd "$(dirname "$0")/../.." && pwd) || exit 2
-folder=$(mktemp -d) || exit 2
-trap 'rm -rf "$folder"' EXIT
+source "$(dirname "$0")/inquiry.sh" || exit 2
+top=$(dirname "$examples")
 
 # pip builds in the folder that it is given.
 cp -r "$top/python" "$folder/python"
@@ -19,15 +17,7 @@ else
     mv "$folder/python" "$folder/installed"
 fi
 
-"$1/bin/t5250" serve --wait 20 127.0.0.1:0 "$top/examples/inquiry.serve" >"$folder/served" &
-host=$!
-for _ in $(seq 100); do
-    grep -q listening "$folder/served" && break
-    sleep 0.05
-done
-port=$(sed -n '1s/.*://p' "$folder/served")
+begin_inquiry "$1/bin/t5250"
 cd "$folder" || exit 2
-env -u RIBBONSCARP_LIBRARY LD_LIBRARY_PATH="$1/lib" PYTHONPATH="$folder/installed" PASSWORD=SECRET \
-    python3 "$top/examples/python/scrape.py" 127.0.0.1 "$port" QUSER 4711 >"$folder/printed" || { kill "$host"; exit 1; }
-wait "$host" || exit 1
-diff "$folder/printed" <(echo "4711 12.50") && diff <(tail -n +2 "$folder/served") "$top/examples/inquiry.served"
+end_inquiry "4711 12.50" env -u RIBBONSCARP_LIBRARY LD_LIBRARY_PATH="$1/lib" PYTHONPATH="$folder/installed" \
+    PASSWORD=SECRET python3 "$top/examples/python/scrape.py" 127.0.0.1 "$port" QUSER 4711

@@ -1,0 +1,54 @@
+"""Records and options as they go over the line (RFC 854, 885, 1091, 1205), and three screens."""
+import struct
+
+IAC, EOR, SB, SE = 0xFF, 0xEF, 0xFA, 0xF0
+WILL, DO = 0xFB, 0xFD
+BINARY, TERMINAL, END_OF_RECORD = 0, 24, 25
+NAME = b"IBM-3179-2"
+OPENING = bytes([IAC, DO, TERMINAL])
+SEND_NAME = bytes([IAC, SB, TERMINAL, 1, IAC, SE])
+IS_NAME = bytes([IAC, SB, TERMINAL, 0]) + NAME + bytes([IAC, SE])
+
+
+def record(opcode, body=b"", flags=0):
+    """A record as it goes over the line (RFC 1205, section 3; RFC 885)."""
+    head = struct.pack(">HHHBHB", 10 + len(body), 0x12A0, 0, 4, flags, opcode)
+    return (head + body).replace(b"\xff", b"\xff\xff") + bytes([IAC, EOR])
+
+
+def hexed(text):
+    return bytes.fromhex(text)
+
+
+# A sign-on, an inquiry and its price, as in examples/.
+SIGN_ON = (
+    "044004110008110125E289879540D695110611E4A2859940404B404B404B404B404B404B404B404B404B404B404B404B404B"
+    "1106341D400020000A110711D781A2A2A696998440404B404B404B404B404B404B404B404B404B404B404B1107341D400027"
+    "000A04520000"
+)
+
+INQUIRY = (
+    "044004110008010700000000000004110123C9A3859440899598A48999A8110302C9A385944095A49482859940404B110313"
+    "1D4300200006111702C6F37EC5A789A34040C6F57ED985869985A28804520000"
+)
+PRICE = "04110008110502D79989838540404B404B404B404B404040F1F24BF5F004520000"
+
+# A field that the format table can't hold: it ends behind the last cell.
+PAST_END = "0411000811184F1D4000200010"
+
+SIGN_ON_FIELDS = "field 6 53 10 4000\nfield 7 53 10 4000\n"
+
+SIGN_ON_SCREEN = """screen
+ 1                                     Sign On
+ 6                 User  . . . . . . . . . . . . .
+ 7                 Password  . . . . . . . . . . .
+cursor 6 53, unlocked, message off, blink off, fields 2
+"""
+
+PRICE_SCREEN = """screen
+ 1                                   Item inquiry
+ 3  Item number  .    4711
+ 5  Price  . . . .   12.50
+23  F3=Exit  F5=Refresh
+cursor 3 20, unlocked, message off, blink off, fields 1
+"""

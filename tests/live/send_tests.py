@@ -1,0 +1,89 @@
+"""What `serve` sends in words, of a script and line by line."""
+
+from live.lines import negotiate_as_station, station_at
+from live.program import expect, Run, script_file
+from live.records import hexed, record, SIGN_ON
+from live.runner import test
+
+# The sign-on in words, as `show` prints it, with its texts in characters.
+SIGN_ON_WORDS = """send 3
+  CLEAR-UNIT
+  WRITE 00 08
+  SBA 1 37
+  TEXT Sign On
+  SBA 6 17
+  TEXT User  . . . . . . . . . . . . .
+  SBA 6 52
+  SF 4000 20 10
+  SBA 7 17
+  TEXT Password  . . . . . . . . . . .
+  SBA 7 52
+  SF 4000 27 10
+  READ-MDT 00 00
+"""
+
+
+@test
+def sends_in_words():
+    text = "await\n" + SIGN_ON_WORDS + "await\nsend 1\nsend 3\n  CLEAR-UNIT\n"
+    printed = "host ready IBM-3179-2\nanswer 6 53 F1\n"
+    with script_file(".serve", text) as script:
+        ready = "host ready IBM-3179-2\nok\nok\nanswer 6 53 F1\nok\nok\nok\n"
+        rows = [(["127.0.0.1:0"], text, printed), (["127.0.0.1:0", script.name], None, printed),
+                (["--ready", "127.0.0.1:0"], text, ready)]
+        for words, given, wanted in rows:
+            serve = Run(["serve", "--wait", "10"] + words, given)
+            side = station_at(serve)
+            negotiate_as_station(side)
+            side.take(record(3, hexed(SIGN_ON)))
+            side.send(record(3, hexed("0635F1")))
+            side.take(record(1) + record(3, hexed("0440")))
+            side.close()
+            serve.end(0, wanted)
+
+
+@test
+def sends_in_words_line_by_line():
+    serve = Run(["serve", "--ready", "--wait", "10", "127.0.0.1:0"], "", keep_open=True)
+    side = station_at(serve)
+    # A host end takes bytes while it waits.
+    serve.tell("await")
+    negotiate_as_station(side)
+    expect(serve.line(), "host ready IBM-3179-2\n", "await")
+    expect(serve.line(), "ok\n", "await")
+    for line in SIGN_ON_WORDS.splitlines():
+        serve.tell(line)
+    # An empty line ends the record, and there is one `ok` for both.
+    expect(serve.asked(""), "", "send")
+    side.take(record(3, hexed(SIGN_ON)))
+    side.send(record(3, hexed("0635F1")))
+    expect(serve.asked("await"), "answer 6 53 F1\n", "await")
+    # Any other line ends it too, and is carried out.
+    serve.tell("send 1")
+    expect(serve.asked("cancel"), "", "send")
+    side.take(record(1))
+    expect(serve.line(), "send refused NoReadToCancel\n", "cancel")
+    expect(serve.line(), "ok\n", "cancel")
+    # So does a comment, behind which a line with two blanks belongs to nothing.
+    serve.tell("send 3")
+    serve.tell("  CLEAR-UNIT")
+    expect(serve.asked("# none"), "", "send")
+    side.take(record(3, hexed("0440")))
+    serve.tell("  CLEAR-UNIT")
+    serve.end(2, "", "script line 23\n")
+    side.close()
+
+
+@test
+def bad_lines_of_sends_in_words():
+    rows = [("  CLEAR-UNIT", 1), ("send 3\n  WRITE", 2), ("send 3\n  CLEAR-UNIT\n  WRITE 00 08\n  SBA 25 1", 4),
+            ("send 3 0440\n  CLEAR-UNIT", 2), ("send 3\n  CLEAR-UNIT\n\n  WRITE 00 08", 4),
+            ("send 3\n  WRITE 00 08\n  TEXT \u20ac", 3), ("send 3\n CLEAR-UNIT", 2), ("send x\n  CLEAR-UNIT", 1)]
+    for text, number in rows:
+        with script_file(".serve", "await\n%s\nawait\n" % text) as script:
+            Run(["serve", "--wait", "1", "127.0.0.1:0", script.name]).end(2, "", "script line %d\n" % (number + 1))
+        serve = Run(["serve", "--wait", "10", "127.0.0.1:0"], "await\n%s\nawait\n" % text)
+        side = station_at(serve)
+        negotiate_as_station(side)
+        serve.end(2, None, "script line %d\n" % (number + 1))
+        side.close()
