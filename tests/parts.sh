@@ -37,9 +37,12 @@ left_out() {
     echo "left out: $1" | tee -a "$folder/left_out"
 }
 
-# The last line, and the status.
+# The last line, and the status. Before it, how long all took, and the processor time of all that was started.
 sum_up() {
-    echo "== all"
+    local processor
+    times >"$folder/times"
+    processor=$(awk -F '[ms ]+' 'NR == 2 { printf "%d", $1 * 60 + $2 + $3 * 60 + $4 }' "$folder/times")
+    echo "== all took $SECONDS seconds, and $processor seconds of processor time"
     cat "$folder/left_out"
     echo "$passed passed, $failed failed"
     [ $failed -eq 0 ]
