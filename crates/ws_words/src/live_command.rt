@@ -86,6 +86,9 @@ Without one a line of standard input is carried out before the next is read:
   cancel       cancels the read that is asked
   await        goes on until the station has told something, and prints it
                as `play` does
+  await answer, await KEY
+               until it has answered, or answered by that key, such as F3
+  show         prints the screen that the host keeps
 
 On standard input `send K` is carried out when the next line comes that doesn't
 begin with two blanks; an empty one belongs to it, and has no `ok` of its own.
@@ -97,7 +100,8 @@ script it answers on until the station closes, or the wait is over.
 
 With --any, for tests of emulators, it judges no terminal name and no record. It
 prints `terminal NAME` and `record flags FFFF opcode K HEX`; `send K` takes any
-bytes, and the elements of live hosts; there is no `cancel`.
+bytes, and the elements of live hosts; `await KEY` goes on until a record by that
+key; there is no `cancel`, `await answer` or `show`.
 
 Exit status: as of connect.
 
