@@ -100,8 +100,8 @@ script it answers on until the station closes, or the wait is over.
 
 With --any, for tests of emulators, it judges no terminal name and no record. It
 prints `terminal NAME` and `record flags FFFF opcode K HEX`; `send K` takes any
-bytes, and the elements of live hosts; `await KEY` goes on until a record by that
-key; there is no `cancel`, `await answer` or `show`.
+bytes, and the elements of live hosts; `await KEY` goes on until a record by
+that key; there is no `cancel`, `await answer` or `show`.
 
 Exit status: as of connect.
 
