@@ -30,7 +30,11 @@ const SAME: [(&[u8], &[u8]); 8] = [
 ];
 
 // Scripts, and their first bad line.
-const BAD: [(&[u8], u64); 13] = [
+const BAD: [(&[u8], u64); 17] = [
+    (b"await answer", 1),
+    (b"await Tab", 1),
+    (b"await ", 1),
+    (b"await enter", 1),
     (b"  CLEAR-UNIT", 1),
     (b"await\n  CLEAR-UNIT", 2),
     (b"cancel", 1),
@@ -138,6 +142,73 @@ const HOSTS: [(&str, &str, bool); 6] = [
     ),
 ];
 
+// Scripts at a host to which the opening comes, and behind it a record of another opcode, one that is too short, one by
+// Enter and one by F3 (SC30-3533, responses to read commands).
+const KEYS: [(&str, &str, bool); 3] = [
+    (
+        "await Enter\n",
+        "terminal IBM-3477-FC\nrecord flags 0000 opcode 4 0101F1\nrecord flags 0000 opcode 3 F1\nrecord flags 0000 opcode 3 0102F1\nrecord flags 0000 opcode 3 010333C1\n",
+        true,
+    ),
+    (
+        "await F3\n",
+        "terminal IBM-3477-FC\nrecord flags 0000 opcode 4 0101F1\nrecord flags 0000 opcode 3 F1\nrecord flags 0000 opcode 3 0102F1\nrecord flags 0000 opcode 3 010333C1\n",
+        true,
+    ),
+    (
+        "await F4\n",
+        "terminal IBM-3477-FC\nrecord flags 0000 opcode 4 0101F1\nrecord flags 0000 opcode 3 F1\nrecord flags 0000 opcode 3 0102F1\nrecord flags 0000 opcode 3 010333C1\nended\n",
+        false,
+    ),
+];
+
+#[test]
+fn waits_for_keys(rt: HostRuntime) {
+    let alloc = rt.alloc();
+    let mut bytes = Vec::new(alloc);
+    bytes.extend_from_slice(OPENED).expect(&rt, "memory");
+    bytes
+        .extend_from_slice(
+            b"\x00\x0d\x12\xa0\x00\x00\x04\x00\x00\x04\x01\x01\xf1\xff\xef\
+\x00\x0b\x12\xa0\x00\x00\x04\x00\x00\x03\xf1\xff\xef\
+\x00\x0d\x12\xa0\x00\x00\x04\x00\x00\x03\x01\x02\xf1\xff\xef\
+\x00\x0e\x12\xa0\x00\x00\x04\x00\x00\x03\x01\x03\x33\xc1\xff\xef",
+        )
+        .expect(&rt, "memory");
+    for (script, printed, well) in &KEYS {
+        same_at(&rt, script, runs(&rt, bytes.as_slice(), script, printed), *well);
+    }
+}
+
+// Whether all went well with a script at a host to which these bytes come, and behind it; what is printed is this.
+fn runs(rt: &HostRuntime, bytes: &[u8], script: &str, printed: &str) -> bool {
+    let alloc = rt.alloc();
+    let mut attached = host_given(alloc, bytes);
+    let lines = read_lines::<AnyLine>(alloc, script.as_bytes()).expect(rt, "a script");
+    let mut watch = Counter { begun: 0 };
+    let mut out = BufferedSink::new(VecSink::new(alloc));
+    let ran = carry_lines(
+        &mut attached,
+        &mut watch,
+        lines.as_slice(),
+        false,
+        Paint::Plain,
+        &mut out,
+    );
+    match ran {
+        Ok(ran) => {
+            same_at(rt, script, ran.is_over, false);
+            if !ran.is_over {
+                let on = carry_on(&mut attached, &mut watch, &AnyLine::Await, &mut out);
+                same_at(rt, script, on, Ok(true));
+            }
+            same_at(rt, script, out.into_inner().as_slice(), printed.as_bytes());
+            ran.all_well
+        }
+        Err(fault) => panic!(rt; "{fault:?}"),
+    }
+}
+
 fn came(rt: &impl Abort, alloc: Global) -> Vec<u8> {
     let mut bytes = Vec::new(alloc);
     bytes.extend_from_slice(OPENED).expect(rt, "memory");
@@ -149,32 +220,9 @@ fn came(rt: &impl Abort, alloc: Global) -> Vec<u8> {
 
 #[test]
 fn scripts(rt: HostRuntime) {
+    let bytes = came(&rt, rt.alloc());
     for (script, printed, well) in &HOSTS {
-        let alloc = rt.alloc();
-        let bytes = came(&rt, alloc);
-        let mut attached = host_given(alloc, bytes.as_slice());
-        let lines = read_lines::<AnyLine>(alloc, script.as_bytes()).expect(&rt, "a script");
-        let mut watch = Counter { begun: 0 };
-        let mut out = BufferedSink::new(VecSink::new(alloc));
-        match carry_lines(
-            &mut attached,
-            &mut watch,
-            lines.as_slice(),
-            false,
-            Paint::Plain,
-            &mut out,
-        ) {
-            Ok(ran) => {
-                same_at(&rt, script, ran.all_well, *well);
-                same_at(&rt, script, ran.is_over, false);
-                if !ran.is_over {
-                    let on = carry_on(&mut attached, &mut watch, &AnyLine::Await, &mut out);
-                    same_at(&rt, script, on, Ok(true));
-                }
-            }
-            Err(fault) => panic!(rt; "{fault:?}"),
-        }
-        same_at(&rt, script, out.into_inner().as_slice(), printed.as_bytes());
+        same_at(&rt, script, runs(&rt, bytes.as_slice(), script, printed), *well);
     }
 }
 

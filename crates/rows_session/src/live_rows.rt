@@ -2,7 +2,7 @@
 //! begun.
 ghost use Rattle.std.specs.Prelude.{◌≡◌, false};
 
-use crate::end_rows::{ATTENTION, OPENED, OPENING_AND_BOB, joined, new_station};
+use crate::end_rows::{ATTENTION, BOB_ANSWER, OPENED, OPENING_AND_BOB, joined, new_station};
 use crate::{same, same_at};
 use std::alloc::Global;
 use std::process::Abort;
@@ -228,6 +228,66 @@ const HOSTS: [(&str, &str, Came); 4] = [
 fn lines_at_a_host(rt: HostRuntime) {
     let came_in = joined(&rt, rt.alloc(), &[OPENED, ATTENTION]);
     for (script, printed, wanted) in &HOSTS {
+        let mut attached = host_given(&rt, rt.alloc(), came_in.as_slice());
+        let came = carried::<HostRuntime, _, _, _, HostLine>(&rt, &mut attached, script, printed);
+        same_at(&rt, *script, came, *wanted);
+    }
+}
+
+// Scripts for a host whose station answers the opening, presses Attention, enters BOB and presses Attention again, and
+// then ends (SC30-3533, responses to read commands): waits for an answer, and the screen that the host keeps.
+const ANSWERED: [(&str, &str, Came); 5] = [
+    (
+        "await\nsend 3 0440041100081106341d400020000a04520000\nawait answer\nawait\n",
+        "host ready IBM-3179-2\nok\nok\nattention\nanswer 6 56 F1\n  field 6 53 C2D6C2\nok\nattention\nok\n",
+        Came {
+            all_well: true,
+            is_over: false,
+            waits: 3,
+        },
+    ),
+    (
+        "await\nsend 3 0440041100081106341d400020000a04520000\nawait Enter\n",
+        "host ready IBM-3179-2\nok\nok\nattention\nanswer 6 56 F1\n  field 6 53 C2D6C2\nok\n",
+        Came {
+            all_well: true,
+            is_over: false,
+            waits: 2,
+        },
+    ),
+    (
+        "await\nsend 3 0440041100081106341d400020000a04520000\nawait F3\n",
+        "host ready IBM-3179-2\nok\nok\nattention\nanswer 6 56 F1\n  field 6 53 C2D6C2\nattention\nended\nok\n",
+        Came {
+            all_well: false,
+            is_over: false,
+            waits: 2,
+        },
+    ),
+    (
+        "show\n",
+        "screen\ncursor 1 1, locked, message off, blink off, fields 0\nok\n",
+        Came {
+            all_well: true,
+            is_over: false,
+            waits: 0,
+        },
+    ),
+    (
+        "await\nsend 3 0440041100081106341d400020000a04520000\nshow\n",
+        "host ready IBM-3179-2\nok\nok\nscreen\ncursor 6 53, unlocked, message off, blink off, fields 1\nok\n",
+        Came {
+            all_well: true,
+            is_over: false,
+            waits: 1,
+        },
+    ),
+];
+
+#[test]
+fn a_host_waits_for_an_answer(rt: HostRuntime) {
+    let came_in = joined(&rt, rt.alloc(), &[OPENED, ATTENTION, BOB_ANSWER, ATTENTION]);
+    for (script, printed, wanted) in &ANSWERED {
         let mut attached = host_given(&rt, rt.alloc(), came_in.as_slice());
         let came = carried::<HostRuntime, _, _, _, HostLine>(&rt, &mut attached, script, printed);
         same_at(&rt, *script, came, *wanted);

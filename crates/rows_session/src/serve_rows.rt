@@ -27,7 +27,14 @@ const SAME: [(&[u8], &[u8]); 8] = [
 ];
 
 // Scripts for a host, and their first bad line.
-const BAD: [(&[u8], u64); 30] = [
+const BAD: [(&[u8], u64); 37] = [
+    (b"await answer ", 1),
+    (b"await Left", 1),
+    (b"await Attention", 1),
+    (b"await enter", 1),
+    (b"await  Enter", 1),
+    (b"show 1", 1),
+    (b"Show", 1),
     (b"  CLEAR-UNIT", 1),
     (b"\n  CLEAR-UNIT", 2),
     (b"# send 3\n  CLEAR-UNIT", 2),

@@ -16,7 +16,7 @@ use Rattle.ws_any_host.specs.AnyLines.{AreBadAt, BeginsAnyLine, IsAnyLine, IsBad
 use Rattle.ws_any_host.specs.AnyLines.{IsOpcode, IsSendBegun, IsSendText, IsWordFault, Means, OpensAnyBlock}
 use Rattle.ws_any_host.specs.AnyLines.{SayBytes, SendsAlone}
 use Rattle.ws_any_host.specs.declared.any_line.AnyLine.{AnyLine}
-use Rattle.ws_any_host.specs.declared.any_line.AnyLine.TheVariants.{Nothing, Send, Await}
+use Rattle.ws_any_host.specs.declared.any_line.AnyLine.TheVariants.{Nothing, Send, Await, AwaitKey}
 
 -- What the lines of a script for a host that takes any record can't mean.
 
@@ -52,6 +52,7 @@ sends_only line words e none Nothing (inr m) = false≢true (ap begins_with_s (s
 sends_only line words e none (Send r) m =
     none r (subst (λ (z : List ℕ). IsSendText z r) (same_words line words m.0 e m.1) m.2)
 sends_only line words e none Await m = false≢true (ap begins_with_s (sym m ∙ e))
+sends_only line words e none (AwaitKey aid) m = false≢true (ap begins_with_s (sym m.1 ∙ e))
 
 -- the fault of its words is the line's
 pub line_fault : (line words : List ℕ) → line ≡ codes "send " ++ words → (fault : ScriptFault)

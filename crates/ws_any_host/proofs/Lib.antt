@@ -3,3 +3,4 @@ pub mod AnySteps
 pub mod AnyWords
 pub mod CarryOns
 pub mod FreeNames
+pub mod KeyWaits

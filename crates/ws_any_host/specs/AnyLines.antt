@@ -1,6 +1,6 @@
 -- The lines of a script for a host that takes any record.
 
-use Rattle.std.specs.Prelude.{◌≡◌, ◌≢◌, ◌⊎◌, ℕ, ◌+◌, ◌-◌, ◌^◌, List, [], ◌++◌, codes, min}
+use Rattle.std.specs.Prelude.{◌≡◌, ◌≢◌, ◌⊎◌, ℕ, ◌+◌, ◌-◌, ◌^◌, List, [], ◌++◌, codes, min, Some}
 use Rattle.std.specs.Str.{IsUtf8}
 use Rattle.ws_code.specs.Code.{spelling_of}
 use Rattle.ws_record.specs.Grammar.{opcode_byte}
@@ -14,10 +14,11 @@ use Rattle.ws_text.specs.Words.{IsNumber, IsHex}
 use Rattle.ws_text.specs.declared.items.TextFault.{TextFault}
 use Rattle.ws_text.specs.declared.items.TextFault.TheVariants as items
 use Rattle.ws_live.specs.ConnectLines.{IsNothing}
+use Rattle.ws_live.specs.KeyNames.{aid_named}
 use Rattle.ws_live.specs.declared.script.ScriptFault.{ScriptFault}
 use Rattle.ws_live.specs.declared.script.ScriptFault.TheVariants.{Line, Memory}
 use Rattle.ws_any_host.specs.declared.any_line.AnyLine.{AnyLine}
-use Rattle.ws_any_host.specs.declared.any_line.AnyLine.TheVariants.{Nothing, Send, Await}
+use Rattle.ws_any_host.specs.declared.any_line.AnyLine.TheVariants.{Nothing, Send, Await, AwaitKey}
 
 -- a record that a script sends: its flags are all off
 abbrev pub sent : Opcode → List ℕ → Record ℕ
@@ -42,6 +43,7 @@ abbrev pub Means : List ℕ → AnyLine → Type 0
 Means line Nothing = IsNothing line
 Means line (Send r) = (words : List ℕ) × (line ≡ codes "send " ++ words) × IsSendText words r
 Means line Await = line ≡ codes "await"
+Means line (AwaitKey aid) = (name : List ℕ) × (line ≡ codes "await " ++ name) × (aid_named name ≡ Some aid)
 
 -- a line by itself, which is UTF-8
 abbrev pub IsOneLine : List ℕ → AnyLine → Type 0

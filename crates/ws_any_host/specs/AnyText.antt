@@ -1,11 +1,11 @@
 -- What a line of a script does at a host that takes any record, and what it prints.
 
-use Rattle.std.specs.Prelude.{◌≡◌, ℕ, List, [], ◌∷◌, ◌++◌, ◌⊎◌, Bool, true, false, not, ◌&&◌, ◌==◌, nat_lt, codes}
+use Rattle.std.specs.Prelude.{◌≡◌, ℕ, List, [], ◌∷◌, ◌++◌, ◌⊎◌, Bool, true, false, not, ◌&&◌, ◌==◌, nat_lt, length, codes}
 use Rattle.std.specs.Prelude.{Option, None, Some, IfSome, IfNone, Result, Ok, Err, if◌then◌else◌}
 use Rattle.std.specs.List.{flat_map}
 use Rattle.std.specs.Fmt.{decimal}
 use Rattle.hex.specs.Hex.{encode_upper}
-use Rattle.ws_code.specs.Device.{MayTake, MayGive}
+use Rattle.ws_code.specs.Device.{MayTake, MayGive, most_reads}
 use Rattle.ws_code.specs.declared.fault.Fault.{Fault}
 use Rattle.ws_code.specs.declared.fault.Fault.TheVariants as fault
 use Rattle.ws_record.specs.Grammar.{two_bytes, opcode_byte}
@@ -21,7 +21,7 @@ use Rattle.ws_any_host.specs.AnyLeads.{AnyParts, AnyGoes, AnyRefuses, IsAnySendR
 use Rattle.ws_any_host.specs.declared.any_event.AnyEvent.{AnyEvent}
 use Rattle.ws_any_host.specs.declared.any_event.AnyEvent.TheVariants.{Ready, Record as Came}
 use Rattle.ws_any_host.specs.declared.any_line.AnyLine.{AnyLine}
-use Rattle.ws_any_host.specs.declared.any_line.AnyLine.TheVariants.{Nothing as NoLine, Send, Await}
+use Rattle.ws_any_host.specs.declared.any_line.AnyLine.TheVariants.{Nothing as NoLine, Send, Await, AwaitKey}
 
 -- a byte of a name that stands for itself: it prints (ASCII), and is neither a blank nor `\`
 abbrev pub is_plain : ℕ → Bool
@@ -42,9 +42,20 @@ any_event_text (Ready name) = codes "terminal " ++ name_text name ++ codes "\n"
 any_event_text (Came r) = codes "record flags " ++ encode_upper (two_bytes r.flags) ++ codes " opcode "
     ++ decimal (opcode_byte r.opcode) ++ hex_behind_blank r.body ++ codes "\n"
 
+-- a body begins as an answer by this key: behind a cursor's row and column (SC30-3533, responses to read commands)
+abbrev pub is_answer_by : ℕ → List ℕ → Bool
+is_answer_by aid (row ∷ column ∷ third ∷ rest) = third == aid
+is_answer_by aid short = false
+
+-- what the host tells is a record by this key: an answer's opcode, and a body that begins as one
+abbrev pub is_by : ℕ → AnyEvent → Bool
+is_by aid (Ready name) = false
+is_by aid (Came r) = (opcode_byte r.opcode == 3) && is_answer_by aid r.body
+
 -- the lines that wait
 abbrev pub any_waits : AnyLine → Bool
 any_waits Await = true
+any_waits (AwaitKey aid) = true
 any_waits line = false
 
 module _ {S K : Type 0} (takes : MayTake K) (failures : K → ℕ) (gives : MayGive S) (misses : S → ℕ) where
@@ -67,18 +78,48 @@ module _ {S K : Type 0} (takes : MayTake K) (failures : K → ℕ) (gives : MayG
   IsGiven r from (Err why) to =
       IsSendFailure AnyGoes AnyRefuses takes failures gives misses from to (Did r ∷ []) why
 
+  -- things were told one after another, none of which is a record by the key
+  abbrev pub HaveTold : ℕ → Parts → List AnyEvent → Parts → Type 0
+  HaveTold aid from [] to = to ≡ from
+  HaveTold aid from (event ∷ more) to = (mid : Parts)
+      × HasHeard AnyGoes AnyRefuses takes failures gives misses from mid (Some event)
+      × (is_by aid event ≡ false) × HaveTold aid mid more to
+
   -- What a wait comes to, at a watch that tells of a source whether the read that failed was late.
   module _ (tells : S → Bool → Type 0) where
+    -- the host heard the station, and tells nothing more: the station closed, or a fault came
+    abbrev pub HearsNone : Parts → Result Closing Fault → List ℕ → Parts → Type 0
+    HearsNone from outcome text to =
+        (HasHeard AnyGoes AnyRefuses takes failures gives misses from to None
+        × (outcome ≡ Ok Ended) × (text ≡ []))
+        ⊎ ((why : Fault) × (late : Bool) × IsHearFault AnyGoes AnyRefuses takes failures gives misses from to why
+        × (why ≡ fault.Read → tells to.source late)
+        × (outcome ≡ unheard_outcome late why) × (text ≡ unheard_text why))
+
     -- the host heard the station up to the first thing that it tells, which is printed, or none came
     abbrev pub HearsOne : Parts → Result Closing Fault → List ℕ → Parts → Type 0
     HearsOne from outcome text to =
         ((event : AnyEvent) × HasHeard AnyGoes AnyRefuses takes failures gives misses from to (Some event)
         × (outcome ≡ Ok Done) × (text ≡ any_event_text event))
-        ⊎ ((HasHeard AnyGoes AnyRefuses takes failures gives misses from to None
-        × (outcome ≡ Ok Ended) × (text ≡ []))
-        ⊎ ((why : Fault) × (late : Bool) × IsHearFault AnyGoes AnyRefuses takes failures gives misses from to why
-        × (why ≡ fault.Read → tells to.source late)
-        × (outcome ≡ unheard_outcome late why) × (text ≡ unheard_text why)))
+        ⊎ HearsNone from outcome text to
+
+    -- behind so many things a record by the key is told; or none more is; or as many were told as one wait takes
+    abbrev pub KeyComes : ℕ → ℕ → Parts → Result Closing Fault → List ℕ → Parts → Type 0
+    KeyComes aid told from outcome text to =
+        ((event : AnyEvent) × HasHeard AnyGoes AnyRefuses takes failures gives misses from to (Some event)
+        × (is_by aid event ≡ true) × (outcome ≡ Ok Done) × (text ≡ any_event_text event))
+        ⊎ (HearsNone from outcome text to
+        ⊎ ((told ≡ most_reads) × (to ≡ from) × (outcome ≡ Err fault.Read) × (text ≡ [])))
+
+    -- the host heard the station up to a record by the key, and printed all that it told
+    pub record HearsKey (aid : ℕ) (from : Parts) (outcome : Result Closing Fault) (text : List ℕ) (to : Parts)
+        : Type 0 where
+      pub told : List AnyEvent
+      pub mid : Parts
+      pub before : HaveTold aid from told mid
+      pub last : List ℕ
+      pub came : KeyComes aid (length told) mid outcome last to
+      pub all : text ≡ flat_map any_event_text told ++ last
 
     -- a line at such a host, how it closed, and what it printed
     abbrev pub AnyRuns : AnyLine → Parts → Result Closing Fault → List ℕ → Parts → Type 0
@@ -86,3 +127,4 @@ module _ {S K : Type 0} (takes : MayTake K) (failures : K → ℕ) (gives : MayG
     AnyRuns (Send r) from outcome text to = (given : Result (Option SendFault) Fault) × IsGiven r from given to
         × (outcome ≡ given_outcome given) × (text ≡ given_text given)
     AnyRuns Await from outcome text to = HearsOne from outcome text to
+    AnyRuns (AwaitKey aid) from outcome text to = HearsKey aid from outcome text to

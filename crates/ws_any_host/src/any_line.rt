@@ -12,9 +12,9 @@ use arrayvec::ArrayVec;
 use hex::FromHexError;
 use std::alloc::{AllocError, Global};
 use std::str;
-use ws_code::{Body, List};
+use ws_code::{Aid, Body, List};
 use ws_extended::{ExtendedCommands, ExtendedElement};
-use ws_live::{LiveLine, ScriptFault};
+use ws_live::{LiveLine, ScriptFault, aid_named};
 use ws_record::{Opcode, Record};
 use ws_text::{TextFault, read_extended_elements, read_number};
 
@@ -27,6 +27,8 @@ pub enum AnyLine {
     Send(Record<u8>),
     /// The host takes what the station sends, until it tells something.
     Await,
+    /// The host takes what the station sends, until it tells a record of this key.
+    AwaitKey(Aid),
 }
 
 impl LiveLine for AnyLine {
@@ -145,9 +147,15 @@ fn read_word(word: &str) -> Result<AnyLine, ScriptFault>
     ensures line { IfOk result (Spec.Means word.now) }
     ensures fault { IfErr result (Spec.IsFault (Spec.Means word.now) ⊥) }
 {
-    match word {
-        "await" => Ok(AnyLine::Await),
-        _ => Err(ScriptFault::Line(1)),
+    if word == "await" {
+        return Ok(AnyLine::Await);
+    }
+    let Some(name) = word.strip_prefix("await ") else {
+        return Err(ScriptFault::Line(1));
+    };
+    match aid_named(name) {
+        Some(aid) => Ok(AnyLine::AwaitKey(aid)),
+        None => Err(ScriptFault::Line(1)),
     }
 }
 

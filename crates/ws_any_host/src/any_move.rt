@@ -6,10 +6,10 @@ ghost use Rattle.ws_live.specs.ServeText.{given_outcome, given_text, unheard_out
 ghost use Rattle.ws_any_host.specs.AnyText as Spec;
 
 use crate::any_text::put_any_event;
-use crate::{AnyHost, AnyLine};
-use ws_code::{Fault, Sink, Source};
+use crate::{AnyEvent, AnyHost, AnyLine};
+use ws_code::{Aid, Fault, Sink, Source};
 use ws_live::{Carried, Closing, LiveMove, Paint, Watch, put_event};
-use ws_record::Record;
+use ws_record::{Opcode, Record};
 use ws_session::{Attached, Event, SendFault};
 use ws_text::Output;
 
@@ -35,6 +35,10 @@ impl<S: Source, K: Sink> LiveMove<AnyHost, S, K> for AnyLine {
             AnyLine::Await => {
                 watch.begin(attached.source());
                 hear_event(attached, watch, out, output)
+            }
+            AnyLine::AwaitKey(aid) => {
+                watch.begin(attached.source());
+                hear_key(attached, watch, *aid, out, output)
             }
         }
     }
@@ -105,6 +109,66 @@ fn hear_event<S: Source, K: Sink, W: Watch<S>, O: Sink>(
             outcome: Ok(Closing::Ended),
         },
         Err(fault) => put_unheard(watch, attached.source(), out, output, fault),
+    }
+}
+
+// Takes what the station sends up to a record by the key, and prints what the host tells.
+fn hear_key<S: Source, K: Sink, W: Watch<S>, O: Sink>(
+    attached: &mut Attached<AnyHost, S, K>,
+    watch: &W,
+    aid: Aid,
+    out: &mut O,
+    output: Output,
+) -> Carried
+    requires works { attached.old.broken ≡ false }
+    ensures heard { (text : List ℕ) × Spec.HearsKey K.takes K.failures S.gives S.failures
+        W.tells aid attached.old result.outcome text attached.new
+        × Prints O.takes O.failures out.old out.new output result.output text }
+    ensures works { IfOk result.outcome (λ closing.
+        stops closing ≡ false → attached.new.broken ≡ false) }
+{
+    let mut output = output;
+    for _ in 0..4_294_967_296u64 {
+        match attached.hear() {
+            Ok(Some(event)) => {
+                output = put_any_event(out, output, &event);
+                if is_by(aid, &event) {
+                    return Carried {
+                        output,
+                        outcome: Ok(Closing::Done),
+                    };
+                }
+            }
+            Ok(None) => return Carried {
+                output,
+                outcome: Ok(Closing::Ended),
+            },
+            Err(fault) => return put_unheard(watch, attached.source(), out, output, fault),
+        }
+    }
+    Carried {
+        output,
+        outcome: Err(Fault::Read),
+    }
+}
+
+// Whether the host tells a record by the key: an answer's opcode, and a body that begins as one.
+fn is_by(aid: Aid, event: &AnyEvent) -> bool
+    ensures { result ≡ Spec.is_by aid event.now }
+{
+    match event {
+        AnyEvent::Ready(_) => false,
+        AnyEvent::Record(record) => record.opcode == Opcode::PutGet && is_answer_by(aid, record.body.as_slice()),
+    }
+}
+
+// Whether a body begins as an answer by the key.
+fn is_answer_by(aid: Aid, body: &[u8]) -> bool
+    ensures { result ≡ Spec.is_answer_by aid body.now }
+{
+    match body {
+        [_, _, third, ..] => *third == aid.byte(),
+        _ => false,
     }
 }
 

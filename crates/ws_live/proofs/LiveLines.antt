@@ -8,7 +8,8 @@ use Rattle.ws_session.specs.declared.world.Move.TheVariants as moves
 use Rattle.ws_live.specs.ConnectLines.{IsNothing}
 use Rattle.ws_live.specs.Script.{IsMove}
 use Rattle.ws_live.specs.ScriptFaults.{IsNoComment, IsSendLine, has_no_blank}
-use Rattle.ws_live.specs.ServeLines.{Means as HostMeans, IsOneSoFar}
+use Rattle.ws_live.specs.ServeLines.{IsAnswerAwaited, Means as HostMeans, IsOneSoFar}
+use Rattle.ws_live.specs.declared.serve_line.AnswerAwaited.{AnswerAwaited}
 use Rattle.ws_live.specs.declared.serve_line.HostLine.{HostLine}
 use Rattle.ws_live.specs.declared.serve_line.HostLine.TheVariants as host
 use Rattle.ws_live.proofs.ScriptWords.{blank_inside, split_unique}
@@ -23,30 +24,55 @@ is_something line some plain (inr c) = plain c.0 c.1
 -- THE LINES OF A HOST
 
 pub no_host_word : (word : List ℕ) → 0 < length word → has_no_blank word ≡ true → IsNoComment word
-    → (word ≡ codes "await" → ⊥) → (word ≡ codes "cancel" → ⊥) → (line : HostLine) → HostMeans word line → ⊥
-no_host_word word some free plain na nc host.Nothing m = is_something word some plain m
-no_host_word word some free plain na nc (host.Give (Send opcode body)) m = false≢true (ap has_no_blank (sym m.1) ∙ free)
-no_host_word word some free plain na nc (host.Give Cancel) m = nc m
-no_host_word word some free plain na nc host.Await m = na m
+    → (word ≡ codes "await" → ⊥) → (word ≡ codes "cancel" → ⊥) → (word ≡ codes "show" → ⊥) → (line : HostLine)
+    → HostMeans word line → ⊥
+no_host_word word some free plain na nc ns host.Nothing m = is_something word some plain m
+no_host_word word some free plain na nc ns (host.Give (Send opcode body)) m = false≢true (ap has_no_blank (sym m.1) ∙ free)
+no_host_word word some free plain na nc ns (host.Give Cancel) m = nc m
+no_host_word word some free plain na nc ns host.Await m = na m
+no_host_word word some free plain na nc ns (host.AwaitAnswer awaited) m = false≢true (ap has_no_blank (sym m.1) ∙ free)
+no_host_word word some free plain na nc ns host.Show m = ns m
 
 pub no_host_command : (command words : List ℕ) → has_no_blank command ≡ true → IsNoComment ((command ++ codes " ")
-    ++ words) → (command ≡ codes "send" → ⊥) → (line : HostLine) → HostMeans ((command ++ codes " ") ++ words) line → ⊥
-no_host_command command words free plain ns host.Nothing (inl e) = blank_inside command words (ap has_no_blank e)
-no_host_command command words free plain ns host.Nothing (inr c) = plain c.0 c.1
-no_host_command command words free plain ns (host.Give (Send opcode body)) m =
+    ++ words) → (command ≡ codes "send" → ⊥) → (command ≡ codes "await" → ⊥) → (line : HostLine)
+    → HostMeans ((command ++ codes " ") ++ words) line → ⊥
+no_host_command command words free plain ns na host.Nothing (inl e) = blank_inside command words (ap has_no_blank e)
+no_host_command command words free plain ns na host.Nothing (inr c) = plain c.0 c.1
+no_host_command command words free plain ns na (host.Give (Send opcode body)) m =
     ns (split_unique command (codes "send") words m.0 free refl m.1).0
-no_host_command command words free plain ns (host.Give Cancel) m = blank_inside command words (ap has_no_blank m)
-no_host_command command words free plain ns host.Await m = blank_inside command words (ap has_no_blank m)
+no_host_command command words free plain ns na (host.Give Cancel) m = blank_inside command words (ap has_no_blank m)
+no_host_command command words free plain ns na host.Await m = blank_inside command words (ap has_no_blank m)
+no_host_command command words free plain ns na (host.AwaitAnswer awaited) m =
+    na (split_unique command (codes "await") words m.0 free refl m.1).0
+no_host_command command words free plain ns na host.Show m = blank_inside command words (ap has_no_blank m)
+
+-- a line that awaits says what is awaited
+pub no_awaited_answer : (command words : List ℕ) → has_no_blank command ≡ true → IsNoComment ((command ++ codes " ")
+    ++ words) → command ≡ codes "await" → ((awaited : AnswerAwaited) → IsAnswerAwaited words awaited → ⊥) → (line : HostLine)
+    → HostMeans ((command ++ codes " ") ++ words) line → ⊥
+no_awaited_answer command words free plain is none_is host.Nothing (inl e) = blank_inside command words (ap has_no_blank e)
+no_awaited_answer command words free plain is none_is host.Nothing (inr c) = plain c.0 c.1
+no_awaited_answer command words free plain is none_is (host.Give (Send opcode body)) m =
+    let other : command ≡ codes "send" = (split_unique command (codes "send") words m.0 free refl m.1).0 in cc
+no_awaited_answer command words free plain is none_is (host.Give Cancel) m = blank_inside command words (ap has_no_blank m)
+no_awaited_answer command words free plain is none_is host.Await m = blank_inside command words (ap has_no_blank m)
+no_awaited_answer command words free plain is none_is (host.AwaitAnswer awaited) m =
+    none_is awaited (subst (λ (z : List ℕ). IsAnswerAwaited z awaited)
+    (sym (split_unique command (codes "await") words m.0 free refl m.1).1) m.2)
+no_awaited_answer command words free plain is none_is host.Show m = blank_inside command words (ap has_no_blank m)
 
 -- a line that sends is a move that sends
 pub no_send_line : (command words : List ℕ) → has_no_blank command ≡ true → IsNoComment ((command ++ codes " ")
-    ++ words) → ((step : Move) → IsMove ((command ++ codes " ") ++ words) step → ⊥) → (line : HostLine)
-    → HostMeans ((command ++ codes " ") ++ words) line → ⊥
-no_send_line command words free plain none_is host.Nothing (inl e) = blank_inside command words (ap has_no_blank e)
-no_send_line command words free plain none_is host.Nothing (inr c) = plain c.0 c.1
-no_send_line command words free plain none_is (host.Give (Send opcode body)) m = none_is (moves.Send opcode body) m
-no_send_line command words free plain none_is (host.Give Cancel) m = blank_inside command words (ap has_no_blank m)
-no_send_line command words free plain none_is host.Await m = blank_inside command words (ap has_no_blank m)
+    ++ words) → command ≡ codes "send" → ((step : Move) → IsMove ((command ++ codes " ") ++ words) step → ⊥)
+    → (line : HostLine) → HostMeans ((command ++ codes " ") ++ words) line → ⊥
+no_send_line command words free plain is none_is host.Nothing (inl e) = blank_inside command words (ap has_no_blank e)
+no_send_line command words free plain is none_is host.Nothing (inr c) = plain c.0 c.1
+no_send_line command words free plain is none_is (host.Give (Send opcode body)) m = none_is (moves.Send opcode body) m
+no_send_line command words free plain is none_is (host.Give Cancel) m = blank_inside command words (ap has_no_blank m)
+no_send_line command words free plain is none_is host.Await m = blank_inside command words (ap has_no_blank m)
+no_send_line command words free plain is none_is (host.AwaitAnswer awaited) m =
+    let other : command ≡ codes "await" = (split_unique command (codes "await") words m.0 free refl m.1).0 in cc
+no_send_line command words free plain is none_is host.Show m = blank_inside command words (ap has_no_blank m)
 
 -- what was read when a growth was refused
 pub host_so_far : (line text : List ℕ) → text ≡ line → IsUtf8 line → IsSendLine text

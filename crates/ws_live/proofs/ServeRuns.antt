@@ -1,6 +1,6 @@
 use Rattle.std.proofs.Common.{◌≡◌, ◌≢◌, ℕ, ◌+◌, List, [], ◌∷◌, ◌++◌, Bool, true, false, ◌&&◌, inl, inr, refl, sym, ap}
 use Rattle.std.proofs.Common.{◌∙◌, subst}
-use Rattle.std.specs.Prelude.{Result, Ok, Err, Option, IfOk, IfErr, IfSome, IfNone, not, replicate}
+use Rattle.std.specs.Prelude.{Result, Ok, Err, Option, Some, IfOk, IfErr, IfSome, IfNone, not, replicate}
 use Rattle.std.proofs.lemmas.Bool.{false≢true}
 use Rattle.std.proofs.lemmas.List.{append-nil, replicate-append-replicate}
 use Rattle.ws_code.specs.Device.{MayTake, MayGive, WentOut, most_reads}
@@ -13,16 +13,17 @@ use Rattle.ws_record.specs.declared.opcode.Opcode.TheVariants.{NoOperation, Invi
 use Rattle.ws_record.specs.declared.opcode.Opcode.TheVariants.{RestoreScreen, ReadImmediate, ReadScreen, CancelInvite}
 use Rattle.ws_record.specs.declared.opcode.Opcode.TheVariants.{MessageLightOn, MessageLightOff}
 use Rattle.ws_session.specs.Acts.{Did}
-use Rattle.ws_session.specs.Attachments.{AttachedParts, HaveLed, HaveLedUnwritten, IsSendFailure}
+use Rattle.ws_session.specs.Attachments.{AttachedParts, HasHeard, HaveLed, HaveLedUnwritten, IsSendFailure}
 use Rattle.ws_session.specs.HostLeads.{HostParts}
 use Rattle.ws_session.specs.Manners.{HostGoes, HostRefuses, IsSendRefusal, IsSendTaken}
 use Rattle.ws_session.specs.declared.end_step.Order.{Order}
 use Rattle.ws_session.specs.declared.end_step.Order.TheVariants.{Send}
+use Rattle.ws_session.specs.declared.host_event.HostEvent.{HostEvent}
 use Rattle.ws_session.specs.declared.send_fault.SendFault.{SendFault}
 use Rattle.ws_stream.specs.declared.element.Element.{Element}
 use Rattle.ws_live.specs.LiveText.{HaveRun, IsLiveText, stops}
 use Rattle.ws_live.specs.Waits.{InTime}
-use Rattle.ws_live.specs.ServeText.{deed_of, reaction_to, is_told, AnswersOn, HasAnsweredOnce}
+use Rattle.ws_live.specs.ServeText.{deed_of, reaction_to, is_awaited, is_told, AnswersOn, HasAnsweredOnce, HaveTold}
 use Rattle.ws_live.specs.ServeText.{HasAnsweredOn, IsAnswerFault, HostRuns, Hears, host_waits, IsDone, IsGiven, IsAnsweringText}
 use Rattle.ws_live.specs.ServeText.{IsAnswerOnFault, IsServeText}
 use Rattle.ws_text.specs.Printing.{IsOut}
@@ -31,6 +32,7 @@ use Rattle.ws_text.specs.declared.output.Output.TheVariants.{Open, Failed as Unw
 use Rattle.ws_live.specs.declared.live.Closing.{Closing}
 use Rattle.ws_live.specs.declared.live.Closing.TheVariants.{Nothing, Done, Declined, Late, Ended, Stopped}
 use Rattle.ws_live.specs.declared.live.Ran.{Ran}
+use Rattle.ws_live.specs.declared.serve_line.AnswerAwaited.{AnswerAwaited}
 use Rattle.ws_live.specs.declared.serve_line.HostLine.{HostLine}
 use Rattle.ws_live.specs.declared.serve_line.HostLine.TheVariants.{Await}
 use Rattle.ws_live.proofs.LiveRuns.{run_more}
@@ -96,6 +98,20 @@ module _ {S K : Type 0} (takes : MayTake K) (failures : K → ℕ) (gives : MayG
         → IfErr given (λ why. to.broken ≡ true) → IfErr given (Unsent deed)
     cancel_fails (Ok refused) h b = tt
     cancel_fails (Err why) h b = subst (Unsent deed) (sym h.0) (h.1, b)
+
+  -- one thing more is told that isn't the answer
+  pub told_behind : (awaited : AnswerAwaited) (from mid to : Parts) (told : List HostEvent) (one : HostEvent)
+      → HaveTold takes failures gives misses awaited from told mid
+      → HasHeard HostGoes HostRefuses takes failures gives misses mid to (Some one) → is_awaited awaited one ≡ false
+      → HaveTold takes failures gives misses awaited from (told ++ one ∷ []) to
+  told_behind awaited from mid to [] one h heard other = (
+    to,
+    subst (λ (z : Parts). HasHeard HostGoes HostRefuses takes failures gives misses z to (Some one)) h heard,
+    other,
+    refl,
+  )
+  told_behind awaited from mid to (first ∷ told) one h heard other =
+      (h.0, h.1, h.2, told_behind awaited h.0 mid to told one h.3 heard other)
 
   module _ {W : Type 0} (tells : S → Bool → Type 0) (begins : W → S → W → Type 0) (begun : W → ℕ) where
     abbrev Runs : HostLine → (Parts × W) → Result Closing Fault → List ℕ → (Parts × W) → Type 0

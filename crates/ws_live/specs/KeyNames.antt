@@ -50,3 +50,12 @@ first_of_two (Some key) other = Some key
 abbrev pub key_named : List ℕ → Option Key
 key_named name = first_of_two (look_up name plain_keys)
     (first_of_two (look_up name answering_keys) (look_up name function_keys))
+
+-- the AID of a key, where it answers a read
+abbrev pub aid_of : Option Key → Option ℕ
+aid_of (Some (Aid aid)) = Some aid
+aid_of key = None
+
+-- the AID of the key of a name
+abbrev pub aid_named : List ℕ → Option ℕ
+aid_named name = aid_of (key_named name)

@@ -1,6 +1,6 @@
 -- The lines of a script for a host of one station.
 
-use Rattle.std.specs.Prelude.{◌≡◌, ◌≢◌, ◌⊎◌, ℕ, ◌+◌, ◌-◌, ◌^◌, List, [], ◌++◌, codes, min}
+use Rattle.std.specs.Prelude.{◌≡◌, ◌≢◌, ◌⊎◌, ℕ, ◌+◌, ◌-◌, ◌^◌, List, [], ◌++◌, codes, min, Some}
 use Rattle.std.specs.Str.{IsUtf8}
 use Rattle.ws_record.specs.declared.opcode.Opcode.{Opcode}
 use Rattle.ws_record.specs.declared.record.Record.{Record}
@@ -11,10 +11,18 @@ use Rattle.ws_text.specs.ElementWords.{element_wording}
 use Rattle.ws_text.specs.BodyLines.{AddUnits, IsAddFault, new_record}
 use Rattle.ws_text.specs.declared.items.TextFault.TheVariants as items
 use Rattle.ws_live.specs.ConnectLines.{IsNothing}
+use Rattle.ws_live.specs.KeyNames.{aid_named}
 use Rattle.ws_live.specs.Script.{IsOpcodeText, IsRecordText}
 use Rattle.ws_live.specs.ScriptFaults.{IsSendLine}
+use Rattle.ws_live.specs.declared.serve_line.AnswerAwaited.{AnswerAwaited}
+use Rattle.ws_live.specs.declared.serve_line.AnswerAwaited.TheVariants.{Any, By}
 use Rattle.ws_live.specs.declared.serve_line.HostLine.{HostLine}
-use Rattle.ws_live.specs.declared.serve_line.HostLine.TheVariants.{Nothing, Give, Await}
+use Rattle.ws_live.specs.declared.serve_line.HostLine.TheVariants.{Nothing, Give, Await, AwaitAnswer, Show}
+
+-- the answer that the words behind `await` are for: any, or one by the key of a name
+abbrev pub IsAnswerAwaited : List ℕ → AnswerAwaited → Type 0
+IsAnswerAwaited words Any = words ≡ codes "answer"
+IsAnswerAwaited words (By aid) = aid_named words ≡ Some aid
 
 -- what a line means by itself
 abbrev pub Means : List ℕ → HostLine → Type 0
@@ -23,6 +31,8 @@ Means line (Give (Send opcode body)) = (words : List ℕ) × (line ≡ codes "se
     × IsRecordText words opcode body
 Means line (Give Cancel) = line ≡ codes "cancel"
 Means line Await = line ≡ codes "await"
+Means line (AwaitAnswer awaited) = (words : List ℕ) × (line ≡ codes "await " ++ words) × IsAnswerAwaited words awaited
+Means line Show = line ≡ codes "show"
 
 -- a line by itself, which is UTF-8
 abbrev pub IsOneLine : List ℕ → HostLine → Type 0

@@ -1,7 +1,8 @@
 -- What a line of a script for a host does there, and what it prints, by what the host end is told.
 
 use Rattle.std.specs.Prelude.{◌≡◌, ℕ, List, [], ◌∷◌, ◌++◌, ◌⊎◌, Bool, true, false, Option, None, Some}
-use Rattle.std.specs.Prelude.{IfSome, IfNone, not, ◌&&◌, replicate}
+use Rattle.std.specs.Prelude.{IfSome, IfNone, not, ◌&&◌, ◌==◌, length, replicate}
+use Rattle.std.specs.List.{flat_map}
 use Rattle.std.specs.Prelude.{Result, Ok, Err}
 use Rattle.ws_code.specs.Device.{MayTake, MayGive, WentOut, FailedWithin, most_reads}
 use Rattle.ws_code.specs.declared.fault.Fault.{Fault}
@@ -15,16 +16,21 @@ use Rattle.ws_record.specs.declared.opcode.Opcode.TheVariants.{CancelInvite}
 use Rattle.ws_session.specs.declared.end_step.Order.{Order}
 use Rattle.ws_session.specs.declared.end_step.Order.TheVariants.{Send, Cancel}
 use Rattle.ws_session.specs.declared.host_event.HostEvent.{HostEvent}
+use Rattle.ws_session.specs.declared.host_event.HostEvent.TheVariants.{Answer}
 use Rattle.ws_session.specs.declared.send_fault.SendFault.{SendFault}
 use Rattle.ws_session.specs.declared.world.Event.TheVariants.{Host, SendRefused, HostRefused}
 use Rattle.ws_live.specs.LiveText.{HaveRun, IsStoppedAt, stops}
 use Rattle.ws_live.specs.Waits.{InTime}
-use Rattle.ws_live.specs.PlayLines.{event_text}
+use Rattle.ws_live.specs.PlayLines.{event_text, host_event_text}
+use Rattle.ws_live.specs.ScreenLines.{IsScreenText}
 use Rattle.ws_text.specs.Printing.{IsOut}
+use Rattle.ws_live.specs.declared.serve_line.AnswerAwaited.{AnswerAwaited}
+use Rattle.ws_live.specs.declared.serve_line.AnswerAwaited.TheVariants.{Any, By}
 use Rattle.ws_live.specs.declared.serve_line.HostLine.{HostLine}
-use Rattle.ws_live.specs.declared.serve_line.HostLine.TheVariants.{Nothing as NoLine, Give, Await}
+use Rattle.ws_live.specs.declared.serve_line.HostLine.TheVariants.{Nothing as NoLine, Give, Await, AwaitAnswer, Show}
 use Rattle.ws_text.specs.declared.output.Output.{Output}
 use Rattle.ws_live.specs.declared.live.Closing.{Closing}
+use Rattle.ws_live.specs.declared.paint.Paint.TheVariants.{Plain}
 use Rattle.ws_live.specs.declared.live.Closing.TheVariants.{Nothing, Done, Declined, Late, Ended, Stopped}
 
 -- how a send or a cancel closes, and what it prints
@@ -52,7 +58,18 @@ unheard_outcome late why = Err why
 -- the line is one that waits
 abbrev pub host_waits : HostLine → Bool
 host_waits Await = true
+host_waits (AwaitAnswer awaited) = true
 host_waits line = false
+
+-- the answer is the one that a wait is for
+abbrev pub is_answer : AnswerAwaited → ℕ → Bool
+is_answer Any aid = true
+is_answer (By key) aid = aid == key
+
+-- what the host end tells is the answer that a wait is for
+abbrev pub is_awaited : AnswerAwaited → HostEvent → Bool
+is_awaited awaited (Answer answer) = is_answer awaited answer.aid
+is_awaited awaited told = false
 
 -- what the host end's fault prints: the byte that it refused, or nothing
 abbrev pub unheard_text : Fault → List ℕ
@@ -89,18 +106,49 @@ module _ {S K : Type 0} (takes : MayTake K) (failures : K → ℕ) (gives : MayG
   IsGiven order from (Err why) to = IsSendFailure HostGoes HostRefuses takes failures gives misses from to
       (Did (deed_of order) ∷ []) why
 
+  -- things were told one after another, none of which is the answer that is awaited
+  abbrev pub HaveTold : AnswerAwaited → Parts → List HostEvent → Parts → Type 0
+  HaveTold awaited from [] to = to ≡ from
+  HaveTold awaited from (event ∷ more) to = (mid : Parts)
+      × HasHeard HostGoes HostRefuses takes failures gives misses from mid (Some event)
+      × (is_awaited awaited event ≡ false) × HaveTold awaited mid more to
+
   -- What a wait comes to, at a watch that tells of a source whether the read that failed was late.
   module _ (tells : S → Bool → Type 0) where
+    -- the host end heard the station, and tells nothing more: the station closed, or a fault came
+    abbrev pub HearsNone : Parts → Result Closing Fault → List ℕ → Parts → Type 0
+    HearsNone from outcome text to =
+        (HasHeard HostGoes HostRefuses takes failures gives misses from to None
+        × (outcome ≡ Ok Ended) × (text ≡ []))
+        ⊎ ((why : Fault) × (late : Bool)
+        × IsHearFault HostGoes HostRefuses takes failures gives misses from to why × (why ≡ fault.Read → tells to.source late)
+        × (outcome ≡ unheard_outcome late why) × (text ≡ unheard_text why))
+
     -- the host end heard the station up to the first thing that it tells, which is printed, or none came
     abbrev pub HearsOne : Parts → Result Closing Fault → List ℕ → Parts → Type 0
     HearsOne from outcome text to =
         ((event : HostEvent) × HasHeard HostGoes HostRefuses takes failures gives misses from to (Some event)
         × (outcome ≡ Ok Done) × (text ≡ event_text (Host event)))
-        ⊎ ((HasHeard HostGoes HostRefuses takes failures gives misses from to None
-        × (outcome ≡ Ok Ended) × (text ≡ []))
-        ⊎ ((why : Fault) × (late : Bool)
-        × IsHearFault HostGoes HostRefuses takes failures gives misses from to why × (why ≡ fault.Read → tells to.source late)
-        × (outcome ≡ unheard_outcome late why) × (text ≡ unheard_text why)))
+        ⊎ HearsNone from outcome text to
+
+    -- Waits for this answer.
+    module _ (awaited : AnswerAwaited) where
+      -- behind so many things the answer is told; or none more is; or as many were told as one wait takes
+      abbrev pub AnswerComes : ℕ → Parts → Result Closing Fault → List ℕ → Parts → Type 0
+      AnswerComes told from outcome text to =
+          ((event : HostEvent) × HasHeard HostGoes HostRefuses takes failures gives misses from to (Some event)
+          × (is_awaited awaited event ≡ true) × (outcome ≡ Ok Done) × (text ≡ host_event_text event))
+          ⊎ (HearsNone from outcome text to
+          ⊎ ((told ≡ most_reads) × (to ≡ from) × (outcome ≡ Err fault.Read) × (text ≡ [])))
+
+      -- the host end heard the station up to the answer, and printed all that it told
+      pub record HearsAnswer (from : Parts) (outcome : Result Closing Fault) (text : List ℕ) (to : Parts) : Type 0 where
+        pub told : List HostEvent
+        pub mid : Parts
+        pub before : HaveTold awaited from told mid
+        pub last : List ℕ
+        pub came : AnswerComes (length told) mid outcome last to
+        pub all : text ≡ flat_map host_event_text told ++ last
 
     -- a line at a host, how it closed, and what it printed
     abbrev pub HostRuns : HostLine → Parts → Result Closing Fault → List ℕ → Parts → Type 0
@@ -108,6 +156,8 @@ module _ {S K : Type 0} (takes : MayTake K) (failures : K → ℕ) (gives : MayG
     HostRuns (Give order) from outcome text to = (given : Result (Option SendFault) Fault) × IsGiven order from given to
         × (outcome ≡ given_outcome given) × (text ≡ given_text given)
     HostRuns Await from outcome text to = HearsOne from outcome text to
+    HostRuns (AwaitAnswer awaited) from outcome text to = HearsAnswer awaited from outcome text to
+    HostRuns Show from outcome text to = (to ≡ from) × (outcome ≡ Ok Done) × IsScreenText Plain from.end.screen text
 
     module _ {W : Type 0} (begins : W → S → W → Type 0) (begun : W → ℕ) where
       -- a line at a host and a watch, how it closed, and what it printed

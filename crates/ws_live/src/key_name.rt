@@ -18,6 +18,17 @@ pub fn key_named(name: &str) -> Option<Key>
     function_key(name)
 }
 
+/// The AID of the key that has this name in a script, where it answers a read.
+pub fn aid_named(name: &str) -> Option<Aid>
+    ensures { result ≡ Spec.aid_named name.now }
+{
+    let key = key_named(name)?;
+    match key {
+        Key::Aid(aid) => Some(aid),
+        _ => None,
+    }
+}
+
 fn plain_key(name: &str) -> Option<Key>
     ensures { result ≡ Spec.look_up name.now Spec.plain_keys }
 {

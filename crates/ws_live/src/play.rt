@@ -112,7 +112,8 @@ pub fn put_event<S: Sink>(sink: &mut S, output: Output, event: &Event) -> Output
     }
 }
 
-fn put_host_event<S: Sink>(sink: &mut S, output: Output, event: &HostEvent) -> Output
+/// Writes what a host end tells.
+pub fn put_host_event<S: Sink>(sink: &mut S, output: Output, event: &HostEvent) -> Output
     ensures { Prints S.takes S.failures sink.old sink.new output result
         (Spec.host_event_text event.now) }
 {

@@ -7,11 +7,12 @@ ghost use Rattle.ws_text.specs.Printing.{Prints};
 use crate::buffered_sink::BufferedSink;
 use crate::live::{Carried, Closing, LiveMove, Watch, hand_on};
 use crate::paint::Paint;
-use crate::play::put_event;
-use crate::serve_line::HostLine;
+use crate::play::{put_event, put_host_event};
+use crate::screen_lines::put_screen;
+use crate::serve_line::{AnswerAwaited, HostLine};
 use ws_code::{Fault, Sink, Source};
 use ws_record::Opcode;
-use ws_session::{Attached, Event, HostEnd, Order, SendFault};
+use ws_session::{Attached, Event, HostEnd, HostEvent, Order, SendFault};
 use ws_stream::Element;
 use ws_text::Output;
 
@@ -38,6 +39,15 @@ impl<S: Source, K: Sink> LiveMove<HostEnd, S, K> for HostLine {
                 watch.begin(attached.source());
                 hear_event(attached, watch, out, output)
             }
+            HostLine::AwaitAnswer(awaited) => {
+                let source = attached.source();
+                watch.begin(source);
+                hear_answer(attached, watch, awaited, out, output)
+            }
+            HostLine::Show => Carried {
+                output: put_screen(out, output, Paint::Plain, attached.end().screen()),
+                outcome: Ok(Closing::Done),
+            },
         }
     }
 }
@@ -124,6 +134,59 @@ fn hear_event<S: Source, K: Sink, W: Watch<S>, O: Sink>(
             outcome: Ok(Closing::Ended),
         },
         Err(fault) => put_unheard(watch, attached.source(), out, output, fault),
+    }
+}
+
+// Takes what the station sends up to the answer that is awaited, and prints what the host end tells.
+fn hear_answer<S: Source, K: Sink, W: Watch<S>, O: Sink>(
+    attached: &mut Attached<HostEnd, S, K>,
+    watch: &W,
+    awaited: &AnswerAwaited,
+    out: &mut O,
+    output: Output,
+) -> Carried
+    requires works { attached.old.broken ≡ false }
+    ensures heard { (text : List ℕ) × Spec.HearsAnswer K.takes K.failures S.gives S.failures
+        W.tells awaited.now attached.old result.outcome text attached.new
+        × Prints O.takes O.failures out.old out.new output result.output text }
+    ensures works { IfOk result.outcome (λ closing.
+        stops closing ≡ false → attached.new.broken ≡ false) }
+{
+    let mut output = output;
+    for _ in 0..4_294_967_296u64 {
+        match attached.hear() {
+            Ok(Some(event)) => {
+                output = put_host_event(out, output, &event);
+                if is_awaited(awaited, &event) {
+                    return Carried {
+                        output,
+                        outcome: Ok(Closing::Done),
+                    };
+                }
+            }
+            Ok(None) => return Carried {
+                output,
+                outcome: Ok(Closing::Ended),
+            },
+            Err(fault) => return put_unheard(watch, attached.source(), out, output, fault),
+        }
+    }
+    Carried {
+        output,
+        outcome: Err(Fault::Read),
+    }
+}
+
+// Whether the host end tells the answer that is awaited.
+fn is_awaited(awaited: &AnswerAwaited, event: &HostEvent) -> bool
+    ensures { result ≡ Spec.is_awaited awaited.now event.now }
+{
+    match event {
+        HostEvent::Answer(answer) => match awaited {
+            AnswerAwaited::Any => true,
+            AnswerAwaited::By(aid) => answer.aid == *aid,
+        },
+        _ => false,
     }
 }
 

@@ -3,17 +3,29 @@ ghost use Rattle.ws_session.specs.declared.end_step.Order.TheVariants.{Send};
 ghost use Rattle.ws_live.specs.LiveScript.{IsBlockFault};
 ghost use Rattle.ws_live.specs.ServeLines.{BeginsHostLine, IsBadHostLineAt, IsHostLine, IsOneLine, OpensHostBlock};
 ghost use Rattle.ws_live.specs.ServeLines as Spec;
+ghost use Rattle.ws_live.specs.ServeLines.{IsAnswerAwaited};
 ghost use Rattle.ws_live.specs.ScriptFaults.{IsLineFault, IsNoComment, IsSendLine, has_no_blank};
 
+use crate::key_name::aid_named;
 use crate::live_line::LiveLine;
 use crate::script::ScriptFault;
 use crate::script_line::LineFault;
 use crate::script_move::{read_move, read_opcode, split_word};
 use std::alloc::Global;
 use std::str;
+use ws_code::Aid;
 use ws_record::Opcode;
 use ws_session::{Move, Order};
 use ws_text::{TextFault, read_elements};
+
+/// The answer that a host waits for.
+#[derive(Clone, Copy, Debug, PartialEq, Eq)]
+pub enum AnswerAwaited {
+    /// Any answer.
+    Any,
+    /// One by this key.
+    By(Aid),
+}
 
 /// A line of a script for a host of one station.
 #[derive(Drop)]
@@ -24,6 +36,10 @@ pub enum HostLine {
     Give(Order),
     /// The host end takes what the station sends, until it tells something.
     Await,
+    /// The host end takes what the station sends, until it tells this answer.
+    AwaitAnswer(AnswerAwaited),
+    /// The screen that the host end keeps is printed.
+    Show,
 }
 
 impl LiveLine for HostLine {
@@ -99,11 +115,12 @@ fn read_word(word: &str) -> Result<HostLine, LineFault>
     match word {
         "await" => Ok(HostLine::Await),
         "cancel" => Ok(HostLine::Give(Order::Cancel)),
+        "show" => Ok(HostLine::Show),
         _ => Err(LineFault::Bad),
     }
 }
 
-// A command with words behind its blank: a record to be sent, as in a script of both ends.
+// A command with words behind its blank: a record to be sent, as in a script of both ends, or a wait for an answer.
 fn read_command(alloc: Global, command: &str, words: &str) -> Result<HostLine, LineFault>
     requires no_blank { has_no_blank command.now ≡ true }
     requires no_comment { IsNoComment (command.now ++ codes " " ++ words.now) }
@@ -118,7 +135,25 @@ fn read_command(alloc: Global, command: &str, words: &str) -> Result<HostLine, L
             Ok(_) => Err(LineFault::Bad),
             Err(fault) => Err(fault),
         },
+        "await" => match read_awaited(words) {
+            Ok(awaited) => Ok(HostLine::AwaitAnswer(awaited)),
+            Err(fault) => Err(fault),
+        },
         _ => Err(LineFault::Bad),
+    }
+}
+
+// The answer that is awaited.
+fn read_awaited(words: &str) -> Result<AnswerAwaited, LineFault>
+    ensures awaited { IfOk result (IsAnswerAwaited words.now) }
+    ensures fault { IfErr result (IsLineFault (IsAnswerAwaited words.now) ⊥) }
+{
+    if words == "answer" {
+        return Ok(AnswerAwaited::Any);
+    }
+    match aid_named(words) {
+        Some(aid) => Ok(AnswerAwaited::By(aid)),
+        None => Err(LineFault::Bad),
     }
 }
 

@@ -1,0 +1,27 @@
+use Rattle.std.proofs.Common.{◌≡◌, ℕ, List, [], ◌∷◌, ◌++◌, false, refl, subst}
+use Rattle.std.specs.Prelude.{Some}
+use Rattle.ws_code.specs.Device.{MayTake, MayGive}
+use Rattle.ws_session.specs.Attachments.{AttachedParts, HasHeard}
+use Rattle.ws_any_host.specs.AnyLeads.{AnyParts, AnyGoes, AnyRefuses}
+use Rattle.ws_any_host.specs.AnyText.{HaveTold, is_by}
+use Rattle.ws_any_host.specs.declared.any_event.AnyEvent.{AnyEvent}
+
+-- Waits for a record by a key.
+
+module _ {S K : Type 0} (takes : MayTake K) (failures : K → ℕ) (gives : MayGive S) (misses : S → ℕ) where
+  abbrev Parts : Type 0
+  Parts = AttachedParts AnyParts S K
+
+  -- one thing more is told that isn't by the key
+  pub told_behind : (aid : ℕ) (from mid to : Parts) (told : List AnyEvent) (one : AnyEvent)
+      → HaveTold takes failures gives misses aid from told mid
+      → HasHeard AnyGoes AnyRefuses takes failures gives misses mid to (Some one) → is_by aid one ≡ false
+      → HaveTold takes failures gives misses aid from (told ++ one ∷ []) to
+  told_behind aid from mid to [] one h heard other = (
+    to,
+    subst (λ (z : Parts). HasHeard AnyGoes AnyRefuses takes failures gives misses z to (Some one)) h heard,
+    other,
+    refl,
+  )
+  told_behind aid from mid to (first ∷ told) one h heard other =
+      (h.0, h.1, h.2, told_behind aid h.0 mid to told one h.3 heard other)
