@@ -66,7 +66,7 @@ def both_line_by_line():
     expect(serve.asked("cancel"), "", "cancel")
     expect(connect.line(), "ok\n", "await record")
     expect(serve.asked("await"), "cancelled\n", "await")
-    expect(connect.asked("type 5"), "key refused Locked\n", "type")
+    expect(connect.asked("type 5"), "key refused Locked 5\n", "type")
     expect(connect.asked("key SystemRequest"), "", "key")
     expect(serve.asked("await"), "system request\n", "await")
     connect.end(1, "")

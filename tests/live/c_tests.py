@@ -58,7 +58,7 @@ def a_station_in_c_writes_the_same():
             raise Failure("the station goes on")
 
     script = "await text Sign On\nawait\ntype QUSER\nkey FieldExit\ntype SECRET\nkey Enter\ntype A\n"
-    at_host(play, ["--wait", "10", "--terminal", "IBM-3179-2"], script, 1, "key refused Locked\n")
+    at_host(play, ["--wait", "10", "--terminal", "IBM-3179-2"], script, 1, "key refused Locked A\n")
 
 
 @beside_c

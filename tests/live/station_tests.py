@@ -47,7 +47,7 @@ await
 key F3
 """
 
-INQUIRY_PRINTED = SIGN_ON_FIELDS + PRICE_SCREEN + "key refused Locked\n"
+INQUIRY_PRINTED = SIGN_ON_FIELDS + PRICE_SCREEN + "key refused Locked 5\n"
 
 
 @test
@@ -75,6 +75,24 @@ def keys_by_the_screen():
     script = ("await\nfield 2 SECRET\nfield 1 QUSER\nnewline\ntype ABC\ncursor 7 55\nerase\nkey Enter\n"
               "field 1 X\nfield 3 X\n")
     at_host(play, ["--wait", "5"], script, 1, "key refused Locked\nfield refused NoSuchField\n")
+
+
+@test
+def what_a_station_tells():
+    """A station's state in one line, the text of some cells, a row's bytes with its attributes, and a note."""
+    def play(side):
+        negotiate_as_host(side)
+        side.send(record(3, hexed(SIGN_ON)))
+        if not side.closed():
+            raise Failure("the station goes on")
+    script = "status\nawait\nstatus\nfield 1 QUSER\nshow 6 17 45\ncells 24\nnote typed\nstatus\n"
+    taken = len(OPENING + SEND_NAME) + 4 * 3 + len(record(3, hexed(SIGN_ON)))
+    at_host(play, ["--wait", "5"], script, 0, (
+        "status locked negotiating 1 1 records 0 bytes 0\n"
+        "status unlocked ready 6 53 field 1 records 1 bytes %d\n"
+        "User  . . . . . . . . . . . . .     QUSER\n"
+        "cells 24 %s %s\ntyped\n"
+        "status unlocked ready 6 58 field 1 records 1 bytes %d\n") % (taken, 80 * "00", 80 * "20", taken))
 
 
 @test

@@ -119,7 +119,7 @@ class Connect:
             try:
                 press(character)
             except KeyRefused as refused:
-                self.print(f"key refused {refused.args[0]}\n")
+                self.print(f"key refused {refused.args[0]} {character}\n")
 
     def type(self, text):
         self.each(self.keys.type, text)

@@ -223,4 +223,7 @@ class Keys:
         self.go_to(field.start)
         self.erase()
         for character in text:
-            self.type(character)
+            try:
+                self.type(character)
+            except KeyRefused as refused:
+                raise KeyRefused(f"{refused.args[0]} {character}") from None

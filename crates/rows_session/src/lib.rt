@@ -42,11 +42,15 @@ mod station_rows;
 
 // Rows of ws_live.
 #[cfg(test)]
+mod await_rows;
+#[cfg(test)]
 mod colored_rows;
 #[cfg(test)]
 mod extended_live_rows;
 #[cfg(test)]
 mod live_rows;
+#[cfg(test)]
+mod report_rows;
 #[cfg(test)]
 mod script_rows;
 #[cfg(test)]

@@ -90,7 +90,7 @@ pub(crate) fn station_given<'a>(
 
 // Scripts for a station behind the opening and a form, what they print, and what came of them. Behind the form the
 // source ends.
-const STATIONS: [(&str, &str, Came); 7] = [
+const STATIONS: [(&str, &str, Came); 8] = [
     (
         "",
         "",
@@ -147,7 +147,18 @@ const STATIONS: [(&str, &str, Came); 7] = [
     ),
     (
         "type A\nawait\n",
-        "key refused Locked\nok\nok\n",
+        "key refused Locked A\nok\nok\n",
+        Came {
+            all_well: false,
+            is_over: false,
+            waits: 1,
+        },
+    ),
+    (
+        "await\ntype A\u{20ac} \u{3b1}\ninsert \u{20ac}\nfield 1 A\u{20ac}B\nkey Dup\nfields\n",
+        "ok\nkey refused WrongCharacter \u{20ac}\nkey refused WrongCharacter \u{3b1}\nok\n\
+         key refused WrongCharacter \u{20ac}\nok\nkey refused WrongCharacter \u{20ac}\nok\n\
+         key refused DupNotAllowed\nok\nfield 6 53 10 4800 A\nok\n",
         Came {
             all_well: false,
             is_over: false,

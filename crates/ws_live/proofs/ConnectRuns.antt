@@ -21,6 +21,7 @@ use Rattle.ws_live.specs.declared.connect_line.Awaited.{Awaited}
 use Rattle.ws_live.specs.declared.connect_line.Awaited.TheVariants as awaits
 use Rattle.ws_live.specs.ConnectText.{refused_text, pressed, closing_of_both, IsMet, IsPressed, KeyRuns, ArePressed}
 use Rattle.ws_live.specs.ConnectText.{KeysRun, Hears, HasWaited, HearsOne, HearsNone, WaitsFor, IsWaited, IsUnwritten}
+use Rattle.ws_live.specs.KeyWords.{KeyWords}
 use Rattle.ws_live.specs.Operating.{OperatedOn}
 
 -- Keys and records at a station, one more at a time.
@@ -44,54 +45,54 @@ both_pressed true b = refl
 both_pressed false b = refl
 
 module _ {D P U H PlaceV V Q R S K : Type 0} (rules : Rules P U) (d : DisplayOf D U H PlaceV V Q R)
-    (takes : MayTake K) (failures : K → ℕ) (gives : MayGive S) (misses : S → ℕ) where
-  abbrev Parts : Type 0
-  Parts = AttachedParts (PartsOn D P) S K
+    (takes : MayTake K) (failures : K → ℕ) (gives : MayGive S) (misses : S → ℕ) (w : KeyWords Q) where
+  abbrev Ends : Type 0
+  Ends = AttachedParts (PartsOn D P) S K
 
-  pub pressed_more : (from mid to : Parts) (keys : List Q) (key : Q) (refused : Option KeyFault) (well : Bool)
-      (text : List ℕ) → ArePressed rules d takes failures gives misses from keys well text mid
+  pub pressed_more : (from mid to : Ends) (keys : List Q) (key : Q) (refused : Option KeyFault) (well : Bool)
+      (text : List ℕ) → ArePressed rules d takes failures gives misses w from keys well text mid
       → IsPressed rules d takes failures gives misses key mid refused to
-      → ArePressed rules d takes failures gives misses from (keys ++ key ∷ []) (well && is_none refused)
-      (text ++ refused_text refused) to
+      → ArePressed rules d takes failures gives misses w from (keys ++ key ∷ []) (well && is_none refused)
+      (text ++ refused_text (w.entered key) refused) to
   pressed_more from mid to [] key refused well text h p = (
     refused,
     to,
     true,
     [],
-    subst (λ (z : Parts). IsPressed rules d takes failures gives misses key z refused to) h.0 p,
+    subst (λ (z : Ends). IsPressed rules d takes failures gives misses key z refused to) h.0 p,
     (refl, refl, refl),
     ap (λ b. b && is_none refused) h.1 ∙ sym (and_true (is_none refused)),
-    ap (λ z. z ++ refused_text refused) h.2 ∙ sym (append-nil (refused_text refused)),
+    ap (λ z. z ++ refused_text (w.entered key) refused) h.2 ∙ sym (append-nil (refused_text (w.entered key) refused)),
   )
   pressed_more from mid to (first ∷ keys) key refused well text h p = (
     h.0,
     h.1,
     h.2 && is_none refused,
-    h.3 ++ refused_text refused,
+    h.3 ++ refused_text (w.entered key) refused,
     h.4,
     pressed_more h.1 mid to keys key refused h.2 h.3 h.5 p,
     ap (λ b. b && is_none refused) h.6 ∙ and_assoc (is_none h.0) h.2 (is_none refused),
-    ap (λ z. z ++ refused_text refused) h.7 ∙ append_assoc (refused_text h.0) h.3 (refused_text refused),
+    ap (λ z. z ++ refused_text (w.entered key) refused) h.7 ∙ append_assoc (refused_text (w.entered first) h.0) h.3 (refused_text (w.entered key) refused),
   )
 
   -- the keys of a list, of which so many are pressed
-  module _ (from mid to : Parts) (keys : List Q) (i : ℕ) (key : Q) (inside : i < length keys)
+  module _ (from mid to : Ends) (keys : List Q) (i : ℕ) (key : Q) (inside : i < length keys)
       (is : key ≡ get_or keys i key) where
     pub pressed_on : (refused : Option KeyFault) (well : Bool) (text : List ℕ)
-        → ArePressed rules d takes failures gives misses from (take i keys) well text mid
+        → ArePressed rules d takes failures gives misses w from (take i keys) well text mid
         → IsPressed rules d takes failures gives misses key mid refused to
-        → ArePressed rules d takes failures gives misses from (take (i + 1) keys) (well && is_none refused)
-        (text ++ refused_text refused) to
+        → ArePressed rules d takes failures gives misses w from (take (i + 1) keys) (well && is_none refused)
+        (text ++ refused_text (w.entered key) refused) to
     pressed_on refused well text h p =
         let next : take i keys ++ key ∷ [] ≡ take (i + 1) keys = ap (λ z. take i keys ++ z ∷ []) is
         ∙ sym (take_more keys i key inside) in
-        subst (λ (z : List Q). ArePressed rules d takes failures gives misses from z (well && is_none refused)
-        (text ++ refused_text refused) to) next (pressed_more from mid to (take i keys) key refused well text h p)
+        subst (λ (z : List Q). ArePressed rules d takes failures gives misses w from z (well && is_none refused)
+        (text ++ refused_text (w.entered key) refused) to) next (pressed_more from mid to (take i keys) key refused well text h p)
 
     pub unwritten_at : (well : Bool) (text : List ℕ) (outcome : Result Closing Fault)
-        → ArePressed rules d takes failures gives misses from (take i keys) well text mid
+        → ArePressed rules d takes failures gives misses w from (take i keys) well text mid
         → IsUnwritten rules d takes failures gives misses key mid to → outcome
-        ≡ Err fault.Write → KeysRun rules d takes failures gives misses keys from outcome text to
+        ≡ Err fault.Write → KeysRun rules d takes failures gives misses w keys from outcome text to
     unwritten_at well text outcome h led e = let n : suc i ≡ i + 1 = omega arith in inr (
       take i keys,
       key,
@@ -107,14 +108,14 @@ module _ {D P U H PlaceV V Q R S K : Type 0} (rules : Rules P U) (d : DisplayOf 
 
     -- one key more, and how they close then
     pub key_more : (well : Bool) (text last : List ℕ) (closing next : Closing)
-        → ArePressed rules d takes failures gives misses from (take i keys) well text mid → closing ≡ pressed well
-        → KeyRuns rules d takes failures gives misses key mid (Ok next) last to
-        → (more : Bool) × ArePressed rules d takes failures gives misses from (take (i + 1) keys) more (text ++ last) to
+        → ArePressed rules d takes failures gives misses w from (take i keys) well text mid → closing ≡ pressed well
+        → KeyRuns rules d takes failures gives misses w key mid (Ok next) last to
+        → (more : Bool) × ArePressed rules d takes failures gives misses w from (take (i + 1) keys) more (text ++ last) to
         × (closing_of_both closing next ≡ pressed more)
     key_more well text last closing next h e (inl r) =
         let same : next ≡ pressed (is_none r.0) = ok_same next (pressed (is_none r.0)) r.2 in (
           well && is_none r.0,
-          subst (λ (z : List ℕ). ArePressed rules d takes failures gives misses from (take (i + 1) keys)
+          subst (λ (z : List ℕ). ArePressed rules d takes failures gives misses w from (take (i + 1) keys)
               (well && is_none r.0) (text ++ z) to) (sym r.3) (pressed_on r.0 well text h r.1),
           ap (λ z. closing_of_both z next) e ∙ ap (λ z. closing_of_both (pressed well) z) same ∙ both_pressed well
               (is_none r.0),
@@ -122,14 +123,19 @@ module _ {D P U H PlaceV V Q R S K : Type 0} (rules : Rules P U) (d : DisplayOf 
     key_more well text last closing next h e (inr r) = absurd (ok_no_err next fault.Write r.1)
 
     pub key_stops : (well : Bool) (text last : List ℕ) (why : Fault)
-        → ArePressed rules d takes failures gives misses from (take i keys) well text mid
-        → KeyRuns rules d takes failures gives misses key mid (Err why) last to
-        → KeysRun rules d takes failures gives misses keys from (Err why) (text ++ last) to
+        → ArePressed rules d takes failures gives misses w from (take i keys) well text mid
+        → KeyRuns rules d takes failures gives misses w key mid (Err why) last to
+        → KeysRun rules d takes failures gives misses w keys from (Err why) (text ++ last) to
     key_stops well text last why h (inl r) = absurd (ok_no_err (pressed (is_none r.0)) why (sym r.2))
     key_stops well text last why h (inr r) =
         let all : text ≡ text ++ last = sym (append-nil text) ∙ ap (λ z. text ++ z) (sym r.2) in
-        subst (λ (z : List ℕ). KeysRun rules d takes failures gives misses keys from (Err why) z to) all
+        subst (λ (z : List ℕ). KeysRun rules d takes failures gives misses w keys from (Err why) z to) all
         (unwritten_at well text (Err why) h r.0 r.1)
+
+module _ {D P U H PlaceV V Q R S K : Type 0} (rules : Rules P U) (d : DisplayOf D U H PlaceV V Q R)
+    (takes : MayTake K) (failures : K → ℕ) (gives : MayGive S) (misses : S → ℕ) where
+  abbrev Parts : Type 0
+  Parts = AttachedParts (PartsOn D P) S K
 
   pub is_waited : (tells : S → Bool → Type 0) (operated : OperatedOn D) (from to : Parts) (awaited : Awaited)
       (waited : Waited) → (awaited ≡ awaits.Record → ⊥)
@@ -137,6 +143,7 @@ module _ {D P U H PlaceV V Q R S K : Type 0} (rules : Rules P U) (d : DisplayOf 
       → IsWaited rules d takes failures gives misses tells operated awaited from waited to
   is_waited tells operated from to awaits.Turn waited other h = h
   is_waited tells operated from to (awaits.Text text) waited other h = h
+  is_waited tells operated from to (awaits.At cell text) waited other h = h
   is_waited tells operated from to awaits.Record waited other h = absurd (other refl)
 
   module _ (Met : D → Type 0) where

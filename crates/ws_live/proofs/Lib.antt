@@ -1,3 +1,4 @@
+pub mod AwaitedWords
 pub mod Buffers
 pub mod ColoredCells
 pub mod ConnectRuns
@@ -8,11 +9,14 @@ pub mod LiveLines
 pub mod LiveOutput
 pub mod LiveRuns
 pub mod LiveScripts
+pub mod ReportTexts
+pub mod ReportWords
 pub mod Rows
 pub mod ScriptWords
 pub mod Scripts
 pub mod ServeRuns
 pub mod ServeWords
+pub mod ShownTexts
 pub mod StationLines
 pub mod StrokeRuns
 pub mod StrokeWords

@@ -5,6 +5,7 @@ use Rattle.std.specs.Str.{IsUtf8, bytes_eq, chars}
 use Rattle.std.proofs.lemmas.Str.{scalars-chars, encodes-chars}
 use Rattle.std.proofs.lemmas.Bool.{false≢true}
 use Rattle.ws_live.specs.ConnectLines.{AreKeysOf, AreNamed, MeansKeys, MeansStroke, MeansWait, IsAwaited}
+use Rattle.ws_live.specs.ConnectLines.{IsRowText, IsSpanText, MeansReport}
 use Rattle.ws_live.specs.ConnectLines.{IsCellText, IsFilling, IsTextAwaited, IsTextWait, IsCommandSoFar}
 use Rattle.ws_live.specs.ConnectLines.{IsStationSoFar, Means}
 use Rattle.ws_live.specs.ConnectLines.MeansKeys.{typed, inserted, named}
@@ -13,7 +14,10 @@ use Rattle.ws_live.specs.Script.{typed_key}
 use Rattle.ws_live.specs.ScriptFaults.{IsNoComment, has_no_blank}
 use Rattle.ws_live.specs.declared.connect_line.StationLine.{StationLine}
 use Rattle.ws_live.specs.declared.connect_line.StationLine.TheVariants.{Nothing, Press, Await, Fields, Show}
-use Rattle.ws_live.specs.declared.connect_line.StationLine.TheVariants.{Stroke as StrokeLine}
+use Rattle.ws_live.specs.declared.connect_line.StationLine.TheVariants.{Stroke as StrokeLine, Report as ReportLine}
+use Rattle.ws_live.specs.declared.report.Report.{Report}
+use Rattle.ws_live.specs.declared.report.Report.TheVariants.{Status, Cells, Text as ShownText, Note}
+use Rattle.ws_live.specs.declared.report.Span.{Span}
 use Rattle.ws_live.specs.declared.connect_line.Awaited.{Awaited}
 use Rattle.ws_live.specs.declared.stroke.Filling.{Filling}
 use Rattle.ws_live.specs.declared.stroke.Stroke.{Stroke}
@@ -49,15 +53,24 @@ module _ {Q : Type 0} (w : KeyWords Q) where
   no_stroke word EraseEof free nn ne m = ne m
   no_stroke word (Fill filling) free nn ne m = false≢true (ap has_no_blank (sym m.1) ∙ free)
 
+  no_report : (word : List ℕ) (report : Report) → has_no_blank word ≡ true → (word ≡ codes "status" → ⊥)
+      → MeansReport word report → ⊥
+  no_report word Status free ns m = ns m
+  no_report word (Cells cell) free ns m = false≢true (ap has_no_blank (sym m.1) ∙ free)
+  no_report word (ShownText span) free ns m = false≢true (ap has_no_blank (sym m.1) ∙ free)
+  no_report word (Note note) free ns m = false≢true (ap has_no_blank (sym m) ∙ free)
+
   pub no_station_word : (word : List ℕ) → 0 < length word → has_no_blank word ≡ true → IsNoComment word
       → (word ≡ codes "await" → ⊥) → (word ≡ codes "erase" → ⊥) → (word ≡ codes "newline" → ⊥)
-      → (word ≡ codes "fields" → ⊥) → (word ≡ codes "show" → ⊥) → (line : StationLine Q) → Means w word line → ⊥
-  no_station_word word some free plain na ne nn nf ns Nothing m = is_something word some plain m
-  no_station_word word some free plain na ne nn nf ns (Press keys) m = no_keys word keys free m
-  no_station_word word some free plain na ne nn nf ns (StrokeLine stroke) m = no_stroke word stroke free nn ne m
-  no_station_word word some free plain na ne nn nf ns (Await awaited) m = no_wait word awaited free na m
-  no_station_word word some free plain na ne nn nf ns Fields m = nf m
-  no_station_word word some free plain na ne nn nf ns Show m = ns m
+      → (word ≡ codes "fields" → ⊥) → (word ≡ codes "show" → ⊥) → (word ≡ codes "status" → ⊥)
+      → (line : StationLine Q) → Means w word line → ⊥
+  no_station_word word some free plain na ne nn nf ns nt Nothing m = is_something word some plain m
+  no_station_word word some free plain na ne nn nf ns nt (Press keys) m = no_keys word keys free m
+  no_station_word word some free plain na ne nn nf ns nt (StrokeLine stroke) m = no_stroke word stroke free nn ne m
+  no_station_word word some free plain na ne nn nf ns nt (Await awaited) m = no_wait word awaited free na m
+  no_station_word word some free plain na ne nn nf ns nt Fields m = nf m
+  no_station_word word some free plain na ne nn nf ns nt Show m = ns m
+  no_station_word word some free plain na ne nn nf ns nt (ReportLine report) m = no_report word report free nt m
 
   -- what a command and its words say
   abbrev pub KeysSay : List ℕ → List ℕ → List Q → Type 0
@@ -70,10 +83,17 @@ module _ {Q : Type 0} (w : KeyWords Q) where
   StrokeSays command words (Fill filling) = (command ≡ codes "field") × IsFilling w words filling
   StrokeSays command words stroke = ⊥
 
+  abbrev pub ReportSays : List ℕ → List ℕ → Report → Type 0
+  ReportSays command words Status = ⊥
+  ReportSays command words (Cells cell) = (command ≡ codes "cells") × IsRowText words cell
+  ReportSays command words (ShownText span) = (command ≡ codes "show") × IsSpanText words span
+  ReportSays command words (Note note) = (command ≡ codes "note") × (words ≡ note)
+
   abbrev pub Says : List ℕ → List ℕ → StationLine Q → Type 0
   Says command words (Press keys) = KeysSay command words keys
   Says command words (StrokeLine stroke) = StrokeSays command words stroke
   Says command words (Await awaited) = (command ≡ codes "await") × IsAwaited words awaited
+  Says command words (ReportLine report) = ReportSays command words report
   Says command words line = ⊥
 
   keys_say : (command words : List ℕ) (keys : List Q) → has_no_blank command ≡ true
@@ -99,6 +119,17 @@ module _ {Q : Type 0} (w : KeyWords Q) where
       (let u = split_unique command (codes "field") words m.0 free refl m.1 in
       (u.0, subst (λ (z : List ℕ). IsFilling w z filling) (sym u.1) m.2))
 
+  report_says : (command words : List ℕ) (report : Report) → has_no_blank command ≡ true
+      → MeansReport ((command ++ codes " ") ++ words) report → ReportSays command words report
+  report_says command words Status free m = blank_inside command words (ap has_no_blank m)
+  report_says command words (Cells cell) free m =
+      (let u = split_unique command (codes "cells") words m.0 free refl m.1 in
+      (u.0, subst (λ (z : List ℕ). IsRowText z cell) (sym u.1) m.2))
+  report_says command words (ShownText span) free m =
+      (let u = split_unique command (codes "show") words m.0 free refl m.1 in
+      (u.0, subst (λ (z : List ℕ). IsSpanText z span) (sym u.1) m.2))
+  report_says command words (Note note) free m = split_unique command (codes "note") words note free refl m
+
   says : (command words : List ℕ) → has_no_blank command ≡ true → IsNoComment ((command ++ codes " ") ++ words)
       → (line : StationLine Q) → Means w ((command ++ codes " ") ++ words) line → Says command words line
   says command words free plain Nothing (inl e) = blank_inside command words (ap has_no_blank e)
@@ -108,6 +139,7 @@ module _ {Q : Type 0} (w : KeyWords Q) where
   says command words free plain (Await awaited) m = waits_say command words awaited free m
   says command words free plain Fields m = blank_inside command words (ap has_no_blank m)
   says command words free plain Show m = blank_inside command words (ap has_no_blank m)
+  says command words free plain (ReportLine report) m = report_says command words report free m
 
   -- THE COMMANDS OF A LINE
 
@@ -117,6 +149,9 @@ module _ {Q : Type 0} (w : KeyWords Q) where
   commands_of (StrokeLine (Cursor cell)) = codes "cursor" ∷ []
   commands_of (StrokeLine (Fill filling)) = codes "field" ∷ []
   commands_of (Await awaited) = codes "await" ∷ []
+  commands_of (ReportLine (Cells cell)) = codes "cells" ∷ []
+  commands_of (ReportLine (ShownText span)) = codes "show" ∷ []
+  commands_of (ReportLine (Note note)) = codes "note" ∷ []
   commands_of line = []
 
   abbrev begins_by : List ℕ → StationLine Q → Bool
@@ -142,11 +177,19 @@ module _ {Q : Type 0} (w : KeyWords Q) where
   by_command command words (Await awaited) h = by_word (Await awaited) command (codes "await") h.0 refl
   by_command command words Fields h = absurd h
   by_command command words Show h = absurd h
+  by_command command words (ReportLine Status) h = absurd h
+  by_command command words (ReportLine (Cells cell)) h =
+      by_word (ReportLine (Cells cell)) command (codes "cells") h.0 refl
+  by_command command words (ReportLine (ShownText span)) h =
+      by_word (ReportLine (ShownText span)) command (codes "show") h.0 refl
+  by_command command words (ReportLine (Note note)) h =
+      by_word (ReportLine (Note note)) command (codes "note") h.0 refl
 
   -- a command that isn't one of these says nothing
   abbrev pub IsOther : List ℕ → Type 0
   IsOther command = (command ≡ codes "type" → ⊥) × (command ≡ codes "insert" → ⊥) × (command ≡ codes "key" → ⊥)
       × (command ≡ codes "await" → ⊥) × (command ≡ codes "cursor" → ⊥) × (command ≡ codes "field" → ⊥)
+      × (command ≡ codes "cells" → ⊥) × (command ≡ codes "show" → ⊥) × (command ≡ codes "note" → ⊥)
 
   other_says : (command words : List ℕ) → IsOther command → (line : StationLine Q) → Says command words line → ⊥
   other_says command words other (Press keys) (inl k) = other.0 k.0
@@ -160,6 +203,10 @@ module _ {Q : Type 0} (w : KeyWords Q) where
   other_says command words other Nothing h = h
   other_says command words other Fields h = h
   other_says command words other Show h = h
+  other_says command words other (ReportLine Status) h = h
+  other_says command words other (ReportLine (Cells cell)) h = other.6 h.0
+  other_says command words other (ReportLine (ShownText span)) h = other.7 h.0
+  other_says command words other (ReportLine (Note note)) h = other.8 h.0
 
   pub no_station_command : (command words : List ℕ) → has_no_blank command ≡ true → IsNoComment ((command ++ codes " ")
       ++ words) → IsOther command → (line : StationLine Q) → Means w ((command ++ codes " ") ++ words) line → ⊥
@@ -186,6 +233,7 @@ module _ {Q : Type 0} (w : KeyWords Q) where
       → Says (codes "key") words line → ⊥
   named_says words none_is (Press keys) h = named_keys words keys none_is h
   named_says words none_is (StrokeLine NewLine) h = h
+  named_says words none_is (ReportLine Status) h = h
   named_says words none_is line h = false≢true (by_command (codes "key") words line h)
 
   pub no_named_line : (command words : List ℕ) → has_no_blank command ≡ true → IsNoComment ((command ++ codes " ")
@@ -199,6 +247,7 @@ module _ {Q : Type 0} (w : KeyWords Q) where
       → Says (codes "await") words line → ⊥
   awaited_says words none_is (Await awaited) h = none_is awaited h.1
   awaited_says words none_is (StrokeLine NewLine) h = h
+  awaited_says words none_is (ReportLine Status) h = h
   awaited_says words none_is line h = false≢true (by_command (codes "await") words line h)
 
   pub no_awaited_line : (command words : List ℕ) → has_no_blank command ≡ true → IsNoComment ((command ++ codes " ")
@@ -212,6 +261,7 @@ module _ {Q : Type 0} (w : KeyWords Q) where
       → Says (codes "cursor") words line → ⊥
   cell_says words none_is (StrokeLine (Cursor cell)) h = none_is cell h.1
   cell_says words none_is (StrokeLine NewLine) h = h
+  cell_says words none_is (ReportLine Status) h = h
   cell_says words none_is line h = false≢true (by_command (codes "cursor") words line h)
 
   pub no_cell_line : (command words : List ℕ) → has_no_blank command ≡ true → IsNoComment ((command ++ codes " ")
@@ -225,6 +275,7 @@ module _ {Q : Type 0} (w : KeyWords Q) where
       → Says (codes "field") words line → ⊥
   filling_says words none_is (StrokeLine (Fill filling)) h = none_is filling h.1
   filling_says words none_is (StrokeLine NewLine) h = h
+  filling_says words none_is (ReportLine Status) h = h
   filling_says words none_is line h = false≢true (by_command (codes "field") words line h)
 
   pub no_filling_line : (command words : List ℕ) → has_no_blank command ≡ true → IsNoComment ((command ++ codes " ")
@@ -232,6 +283,32 @@ module _ {Q : Type 0} (w : KeyWords Q) where
       → Means w ((command ++ codes " ") ++ words) line → ⊥
   no_filling_line command words free plain e none_is =
       none_by command words (codes "field") free plain e (filling_says words none_is)
+
+  -- no row of the screen
+  row_says : (words : List ℕ) → ((cell : ℕ) → IsRowText words cell → ⊥) → (line : StationLine Q)
+      → Says (codes "cells") words line → ⊥
+  row_says words none_is (ReportLine (Cells cell)) h = none_is cell h.1
+  row_says words none_is (StrokeLine NewLine) h = h
+  row_says words none_is line h = false≢true (by_command (codes "cells") words line h)
+
+  pub no_row_line : (command words : List ℕ) → has_no_blank command ≡ true → IsNoComment ((command ++ codes " ")
+      ++ words) → command ≡ codes "cells" → ((cell : ℕ) → IsRowText words cell → ⊥) → (line : StationLine Q)
+      → Means w ((command ++ codes " ") ++ words) line → ⊥
+  no_row_line command words free plain e none_is =
+      none_by command words (codes "cells") free plain e (row_says words none_is)
+
+  -- no cells of the screen
+  span_says : (words : List ℕ) → ((span : Span) → IsSpanText words span → ⊥) → (line : StationLine Q)
+      → Says (codes "show") words line → ⊥
+  span_says words none_is (ReportLine (ShownText span)) h = none_is span h.1
+  span_says words none_is (StrokeLine NewLine) h = h
+  span_says words none_is line h = false≢true (by_command (codes "show") words line h)
+
+  pub no_span_line : (command words : List ℕ) → has_no_blank command ≡ true → IsNoComment ((command ++ codes " ")
+      ++ words) → command ≡ codes "show" → ((span : Span) → IsSpanText words span → ⊥) → (line : StationLine Q)
+      → Means w ((command ++ codes " ") ++ words) line → ⊥
+  no_span_line command words free plain e none_is =
+      none_by command words (codes "show") free plain e (span_says words none_is)
 
   -- WHAT WAS READ WHEN A GROWTH WAS REFUSED
 
@@ -273,6 +350,10 @@ module _ {Q : Type 0} (w : KeyWords Q) where
       → IsCommandSoFar w ((command ++ codes " ") ++ words)
   fills_so_far command words e f =
       inl (StrokeLine (Fill f.0), (words, behind command words (codes "field") e, f.1))
+
+  pub notes_so_far : (command words : List ℕ) → command ≡ codes "note"
+      → IsCommandSoFar w ((command ++ codes " ") ++ words)
+  notes_so_far command words e = inl (ReportLine (Note words), behind command words (codes "note") e)
 
   pub station_so_far : (line text : List ℕ) → text ≡ line → IsUtf8 line → IsCommandSoFar w text
       → IsStationSoFar w line

@@ -84,24 +84,25 @@ no_keys_behind (Fill f) other = absurd (other f refl)
 -- KEYS THAT ARE PRESSED
 
 module _ {D P U H PlaceV V Q R S K : Type 0} (rules : Rules P U) (d : DisplayOf D U H PlaceV V Q R)
-    (takes : MayTake K) (failures : K → ℕ) (gives : MayGive S) (misses : S → ℕ) where
+    (takes : MayTake K) (failures : K → ℕ) (gives : MayGive S) (misses : S → ℕ) (w : KeyWords Q) where
   abbrev Parts : Type 0
   Parts = AttachedParts (PartsOn D P) S K
 
   abbrev Runs : Q → Parts → Result Closing Fault → List ℕ → Parts → Type 0
-  Runs = KeyRuns rules d takes failures gives misses
+  Runs = KeyRuns rules d takes failures gives misses w
 
   abbrev Until : List Q → Parts → Result Closing Fault → List ℕ → Parts → Type 0
-  Until = KeysUntil rules d takes failures gives misses
+  Until = KeysUntil rules d takes failures gives misses w
 
   -- a key that is taken prints nothing
-  quiet : (refused : Option KeyFault) → ◌≡◌ {A = Result Closing Fault} (Ok Done) (Ok (pressed (is_none refused)))
-      → refused_text refused ≡ []
-  quiet None e = refl
-  quiet (Some why) e = cc
+  quiet : (entered : Option ℕ) (refused : Option KeyFault)
+      → ◌≡◌ {A = Result Closing Fault} (Ok Done) (Ok (pressed (is_none refused)))
+      → refused_text entered refused ≡ []
+  quiet entered None e = refl
+  quiet entered (Some why) e = cc
 
   pub prints_nothing : (key : Q) (from to : Parts) (text : List ℕ) → Runs key from (Ok Done) text to → text ≡ []
-  prints_nothing key from to text (inl r) = r.3 ∙ quiet r.0 r.2
+  prints_nothing key from to text (inl r) = r.3 ∙ quiet (w.entered key) r.0 r.2
   prints_nothing key from to text (inr r) = r.2
 
   pub silent : (key : Q) (from to : Parts) (outcome : Result Closing Fault) (text : List ℕ) → outcome ≡ Ok Done
@@ -180,19 +181,19 @@ module _ {D P U H PlaceV V Q R S K : Type 0} (rules : Rules P U) (d : DisplayOf 
         (until_stopped (display_keys profile (take (i + 1) runs)) (display_keys profile (drop (i + 1) runs)) from to
         outcome text (both before next) other)
 
-  module _ (w : KeyWords Q) (s : ScreenParts) (stroke : Stroke Q) (from to : Parts) (outcome : Result Closing Fault)
+  module _ (s : ScreenParts) (stroke : Stroke Q) (from to : Parts) (outcome : Result Closing Fault)
       (text : List ℕ) where
     abbrev Strokes : Option (List KeyRun) → Type 0
-    Strokes runs = StrokeRuns rules d takes failures gives misses
+    Strokes runs = StrokeRuns rules d takes failures gives misses w
         (option_map (λ runs. map w.profile (keys_of runs) ++ keys_behind stroke) runs) from outcome text to
 
     -- a stroke whose field there is
     pub stroke_some : (runs : List KeyRun) → Some runs ≡ stroke_runs s stroke
         → Until (map w.profile (keys_of runs) ++ keys_behind stroke) from outcome text to
-        → StrokeRuns rules d takes failures gives misses (stroke_keys w s stroke) from outcome text to
+        → StrokeRuns rules d takes failures gives misses w (stroke_keys w s stroke) from outcome text to
     stroke_some runs e h = subst Strokes e h
 
     -- one whose field there isn't
     pub stroke_none : None ≡ stroke_runs s stroke → to ≡ from → outcome ≡ Ok Declined → text ≡ no_field_text
-        → StrokeRuns rules d takes failures gives misses (stroke_keys w s stroke) from outcome text to
+        → StrokeRuns rules d takes failures gives misses w (stroke_keys w s stroke) from outcome text to
     stroke_none e same declined printed = subst Strokes e (same, declined, printed)

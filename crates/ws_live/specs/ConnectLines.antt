@@ -3,37 +3,77 @@
 use Rattle.std.specs.Prelude.{◌≡◌, ◌≢◌, ℕ, ◌≤◌, ◌⊎◌, List, [], ◌∷◌, ◌++◌, Bool, true, false, map}
 use Rattle.std.specs.Prelude.{codes, Some, string_bytes}
 use Rattle.std.specs.Str.{IsUtf8, all_scalars, encode_utf8_all}
+use Rattle.ws_code.specs.Address.{IsRowAndColumn, place_of}
+use Rattle.ws_code.specs.declared.address.TheConstants.{CELLS}
 use Rattle.ws_screen.specs.declared.format_table.TheConstants.{MAX_FIELDS}
-use Rattle.ws_text.specs.Words.{IsCell, IsNumber}
+use Rattle.ws_text.specs.Words.{IsCell, IsNumber, IsSmall}
 use Rattle.ws_live.specs.KeyWords.{KeyWords}
 use Rattle.ws_live.specs.Script.{typed_key}
 use Rattle.ws_live.specs.declared.connect_line.StationLine.{StationLine}
 use Rattle.ws_live.specs.declared.connect_line.StationLine.TheVariants.{Nothing, Press, Await, Fields, Show}
 use Rattle.ws_live.specs.declared.connect_line.StationLine.TheVariants.{Stroke as StrokeLine}
+use Rattle.ws_live.specs.declared.connect_line.StationLine.TheVariants.{Report as ReportLine}
+use Rattle.ws_live.specs.declared.report.Report.{Report}
+use Rattle.ws_live.specs.declared.report.Report.TheVariants.{Status, Cells, Text as ShownText, Note}
+use Rattle.ws_live.specs.declared.report.Span.{Span}
 use Rattle.ws_live.specs.declared.stroke.Filling.{Filling}
 use Rattle.ws_live.specs.declared.stroke.Stroke.{Stroke}
 use Rattle.ws_live.specs.declared.stroke.Stroke.TheVariants.{Cursor, NewLine, EraseEof, Fill}
 use Rattle.ws_live.specs.declared.connect_line.Awaited.{Awaited}
-use Rattle.ws_live.specs.declared.connect_line.Awaited.TheVariants.{Turn, Record, Text}
+use Rattle.ws_live.specs.declared.connect_line.Awaited.TheVariants.{Turn, Record, Text, At}
 
 -- an empty line, or a comment
 abbrev pub IsNothing : List ℕ → Type 0
 IsNothing line = (line ≡ []) ⊎ ((text : List ℕ) × (line ≡ codes "#" ++ text))
+
+-- behind a row its column stands, and something behind that
+abbrev pub IsBehindRow : List ℕ → List ℕ → ℕ → List ℕ → Type 0
+IsBehindRow row words cell rest = (column : List ℕ) × (words ≡ column ++ codes " " ++ rest) × IsCell row column cell
+
+-- a cell by its row and its column, and what stands behind them
+abbrev pub IsPlaced : List ℕ → ℕ → List ℕ → Type 0
+IsPlaced words cell rest = (row : List ℕ) × (behind : List ℕ) × (words ≡ row ++ codes " " ++ behind)
+    × IsBehindRow row behind cell rest
+
+-- the words are a text of one character at least
+abbrev pub IsSomeText : List ℕ → List ℕ → Type 0
+IsSomeText words text = (text ≡ words) × (text ≢ [])
+
+-- a text of one character at least is awaited anywhere, or at a cell
+abbrev pub IsTextAnywhere : List ℕ → Awaited → Type 0
+IsTextAnywhere words (Text text) = IsSomeText words (string_bytes text)
+IsTextAnywhere words awaited = ⊥
+
+abbrev pub IsTextAt : ℕ → List ℕ → Awaited → Type 0
+IsTextAt cell words (At at text) = (at ≡ cell) × IsSomeText words (string_bytes text)
+IsTextAt cell words awaited = ⊥
+
+-- what is awaited by the words behind `await at`: a text, behind the row and the column of its first cell
+abbrev pub IsPlacedText : List ℕ → Awaited → Type 0
+IsPlacedText words (At cell text) = IsPlaced words cell (string_bytes text) × (string_bytes text ≢ [])
+IsPlacedText words awaited = ⊥
 
 -- what is awaited by the words behind `await`
 abbrev pub IsAwaited : List ℕ → Awaited → Type 0
 IsAwaited words Turn = ⊥
 IsAwaited words Record = words ≡ codes "record"
 IsAwaited words (Text text) = (words ≡ codes "text " ++ string_bytes text) × (string_bytes text ≢ [])
+IsAwaited words (At cell text) = (placed : List ℕ) × (words ≡ codes "at " ++ placed)
+    × IsPlacedText placed (At cell text)
 
 -- the lines that wait
 abbrev pub MeansWait : List ℕ → Awaited → Type 0
 MeansWait line awaited = ((line ≡ codes "await") × (awaited ≡ Turn))
     ⊎ ((words : List ℕ) × (line ≡ codes "await " ++ words) × IsAwaited words awaited)
 
--- the words of a wait for a text
+-- the words of a text behind the row and the column of its first cell
+abbrev pub IsTextPlaced : List ℕ → Type 0
+IsTextPlaced words = (cell : ℕ) × (text : List ℕ) × IsPlaced words cell text × (text ≢ [])
+
+-- the words of a wait for a text, anywhere or at a cell
 abbrev pub IsTextAwaited : List ℕ → Type 0
-IsTextAwaited words = (text : List ℕ) × (words ≡ codes "text " ++ text) × (text ≢ [])
+IsTextAwaited words = ((text : List ℕ) × (words ≡ codes "text " ++ text) × (text ≢ []))
+    ⊎ ((placed : List ℕ) × (words ≡ codes "at " ++ placed) × IsTextPlaced placed)
 
 -- a line that waits for one
 abbrev pub IsTextWait : List ℕ → Type 0
@@ -47,6 +87,25 @@ BeginsStationLine line = IsUtf8 line × IsTextWait line
 abbrev pub IsCellText : List ℕ → ℕ → Type 0
 IsCellText words cell = (row : List ℕ) × (column : List ℕ) × (words ≡ row ++ codes " " ++ column)
     × IsCell row column cell
+
+-- a row, by its first cell
+abbrev pub IsRowText : List ℕ → ℕ → Type 0
+IsRowText word cell = (row : ℕ) × IsSmall word row × IsRowAndColumn row 1 × (cell ≡ place_of row 1)
+
+-- how many cells: at most those of a screen
+abbrev pub IsCellCount : List ℕ → ℕ → Type 0
+IsCellCount word count = IsNumber word count × (1 ≤ count) × (count ≤ CELLS)
+
+-- cells, by the first of them and their number
+abbrev pub IsSpanText : List ℕ → Span → Type 0
+IsSpanText words span = (count : List ℕ) × IsPlaced words span.at count × IsCellCount count span.count
+
+-- the lines that print what they ask for
+abbrev pub MeansReport : List ℕ → Report → Type 0
+MeansReport line Status = line ≡ codes "status"
+MeansReport line (Cells cell) = (word : List ℕ) × (line ≡ codes "cells " ++ word) × IsRowText word cell
+MeansReport line (ShownText span) = (words : List ℕ) × (line ≡ codes "show " ++ words) × IsSpanText words span
+MeansReport line (Note note) = line ≡ codes "note " ++ note
 
 -- the number of a field that a screen may have
 abbrev pub IsFieldNumber : List ℕ → ℕ → Type 0
@@ -94,6 +153,7 @@ module _ {Q : Type 0} (w : KeyWords Q) where
   Means line (Await awaited) = MeansWait line awaited
   Means line Fields = line ≡ codes "fields"
   Means line Show = line ≡ codes "show"
+  Means line (ReportLine report) = MeansReport line report
 
   -- a line of such a script, which is UTF-8
   abbrev pub IsStationLine : List ℕ → StationLine Q → Type 0

@@ -1,15 +1,13 @@
 -- What a line of a script for a station does there, and what it prints, by the station's display.
 
-use Rattle.std.specs.Prelude.{◌≡◌, ◌≢◌, ℕ, ◌≤◌, List, [], ◌∷◌, ◌++◌, ◌⊎◌, Bool, true, false, ◌&&◌, Option, None, Some}
+use Rattle.std.specs.Prelude.{◌≡◌, ◌≢◌, ℕ, List, [], ◌∷◌, ◌++◌, ◌⊎◌, Bool, true, false, ◌&&◌, Option, None, Some}
 use Rattle.std.specs.Prelude.{IfSome, IfNone, is_none}
-use Rattle.std.specs.Prelude.{Result, Ok, Err, string_bytes, length, if◌then◌else◌}
-use Rattle.std.specs.Str.{encode_utf8_all}
+use Rattle.std.specs.Prelude.{Result, Ok, Err, string_bytes, length, if◌then◌else◌, codes, encode_utf8}
 use Rattle.ws_code.specs.Code.{Rules}
 use Rattle.ws_code.specs.Device.{MayTake, MayGive, most_reads}
-use Rattle.ws_code.specs.declared.address.TheConstants.{ROWS}
 use Rattle.ws_code.specs.declared.fault.Fault.{Fault}
 use Rattle.ws_code.specs.declared.fault.Fault.TheVariants as fault
-use Rattle.ws_screen.specs.Lines.{row_chars}
+use Rattle.ws_nego.specs.Station.{station_allows_records}
 use Rattle.ws_screen.specs.ScreenParts.{ScreenParts}
 use Rattle.ws_session.specs.Acts.{Did}
 use Rattle.ws_session.specs.Attachments.{AttachedParts, HaveLed, HaveLedUnwritten, HasHeard, IsHearFault}
@@ -18,17 +16,19 @@ use Rattle.ws_session.specs.PartsOn.{PartsOn}
 use Rattle.ws_session.specs.StationActs.{GoesOnDisplay, RefusesOn, IsKeyRefusalOn, IsKeyTakenOn}
 use Rattle.ws_session.specs.declared.end_step.Applied.{Applied}
 use Rattle.ws_session.specs.declared.key_fault.KeyFault.{KeyFault}
-use Rattle.ws_session.specs.declared.world.Event.TheVariants.{KeyRefused, StationRefused}
+use Rattle.ws_session.specs.declared.world.Event.TheVariants.{StationRefused}
 use Rattle.ws_live.specs.FieldLines.{AreFieldLines}
-use Rattle.ws_live.specs.PlayLines.{event_text}
+use Rattle.ws_live.specs.PlayLines.{event_text, key_fault_name}
+use Rattle.ws_live.specs.ReportLines.{IsReportText}
 use Rattle.ws_live.specs.ScreenLines.{IsDisplayText}
+use Rattle.ws_live.specs.ShownTexts.{BeginsAt, ShowsText}
 use Rattle.ws_live.specs.declared.connect.Waited.{Waited}
 use Rattle.ws_live.specs.declared.connect.Waited.TheVariants.{Met, Late as WasLate, Ended as HasEnded, Failed}
 use Rattle.ws_live.specs.declared.connect_line.StationLine.{StationLine}
 use Rattle.ws_live.specs.declared.connect_line.StationLine.TheVariants.{Nothing as NoLine, Press, Stroke, Await}
-use Rattle.ws_live.specs.declared.connect_line.StationLine.TheVariants.{Fields, Show}
+use Rattle.ws_live.specs.declared.connect_line.StationLine.TheVariants.{Fields, Show, Report}
 use Rattle.ws_live.specs.declared.connect_line.Awaited.{Awaited}
-use Rattle.ws_live.specs.declared.connect_line.Awaited.TheVariants.{Turn, Record, Text}
+use Rattle.ws_live.specs.declared.connect_line.Awaited.TheVariants.{Turn, Record, Text, At}
 use Rattle.ws_live.specs.KeyWords.{KeyWords}
 use Rattle.ws_live.specs.LiveText.{IsLiveText}
 use Rattle.ws_live.specs.Operating.{OperatedOn}
@@ -38,15 +38,6 @@ use Rattle.ws_live.specs.declared.live.Ran.{Ran}
 use Rattle.ws_live.specs.declared.live.Closing.{Closing}
 use Rattle.ws_live.specs.declared.paint.Paint.{Paint}
 use Rattle.ws_live.specs.declared.live.Closing.TheVariants.{Nothing, Done, Declined, Late, Ended, Stopped}
-
--- some row shows the text
-pub record ShowsText (cells text : List ℕ) : Type 0 where
-  pub row : ℕ
-  pub low : 1 ≤ row
-  pub high : row ≤ ROWS
-  pub front : List ℕ
-  pub back : List ℕ
-  pub is : encode_utf8_all (row_chars cells row) ≡ front ++ text ++ back
 
 -- the line is one that waits
 abbrev pub station_waits : {Q : Type 0} → StationLine Q → Bool
@@ -75,10 +66,19 @@ abbrev pub IsWorking : Waited → Bool → Type 0
 IsWorking (Failed why) broken = Unit {0}
 IsWorking waited broken = broken ≡ false
 
--- a key that is refused has its line
-abbrev pub refused_text : Option KeyFault → List ℕ
-refused_text None = []
-refused_text (Some why) = event_text (KeyRefused why)
+-- the character that a key enters, where it enters one, behind a blank
+abbrev pub entered_behind : Option ℕ → List ℕ
+entered_behind None = []
+entered_behind (Some character) = codes " " ++ encode_utf8 character
+
+-- the line of a key that is refused: why, and the character that it would have entered
+abbrev pub key_refused_line : Option ℕ → KeyFault → List ℕ
+key_refused_line entered why = codes "key refused " ++ key_fault_name why ++ entered_behind entered ++ codes "\n"
+
+-- what is printed of a key that enters this: where it is refused, its line
+abbrev pub refused_text : Option ℕ → Option KeyFault → List ℕ
+refused_text entered None = []
+refused_text entered (Some why) = key_refused_line entered why
 
 -- keys were pressed, and perhaps one was refused
 abbrev pub pressed : Bool → Closing
@@ -93,6 +93,7 @@ closing_of_both closing next = closing
 abbrev pub IsMet : {D : Type 0} → (D → ScreenParts) → OperatedOn D → Awaited → D → Type 0
 IsMet shown operated Turn display = operated.IsTurn display
 IsMet shown operated (Text text) display = ShowsText (shown display).cells (string_bytes text)
+IsMet shown operated (At cell text) display = BeginsAt (shown display).cells cell (string_bytes text)
 IsMet shown operated Record display = Unit {0}
 
 module _ {D P U H PlaceV V Q R : Type 0} (rules : Rules P U) (d : DisplayOf D U H PlaceV V Q R) where
@@ -125,38 +126,40 @@ module _ {D P U H PlaceV V Q R : Type 0} (rules : Rules P U) (d : DisplayOf D U 
     IsUnwritten key from to =
         HaveLedUnwritten (GoesOnDisplay rules d) (RefusesOn rules d) takes failures gives misses from to (Did key ∷ [])
 
-    -- a key, how its line would close, and what it prints: it was pressed, or what it sends didn't go out
-    abbrev pub KeyRuns : Q → Parts → Result Closing Fault → List ℕ → Parts → Type 0
-    KeyRuns key from outcome text to = ((refused : Option KeyFault) × IsPressed key from refused to
-        × (outcome ≡ Ok (pressed (is_none refused))) × (text ≡ refused_text refused))
-        ⊎ (IsUnwritten key from to × (outcome ≡ Err fault.Write) × (text ≡ []))
+    -- Keys by these words.
+    module _ (w : KeyWords Q) where
+      -- a key, how its line would close, and what it prints: it was pressed, or what it sends didn't go out
+      abbrev pub KeyRuns : Q → Parts → Result Closing Fault → List ℕ → Parts → Type 0
+      KeyRuns key from outcome text to = ((refused : Option KeyFault) × IsPressed key from refused to
+          × (outcome ≡ Ok (pressed (is_none refused))) × (text ≡ refused_text (w.entered key) refused))
+          ⊎ (IsUnwritten key from to × (outcome ≡ Err fault.Write) × (text ≡ []))
 
-    -- keys one after another
-    abbrev pub ArePressed : Parts → List Q → Bool → List ℕ → Parts → Type 0
-    ArePressed from [] well text to = (to ≡ from) × (well ≡ true) × (text ≡ [])
-    ArePressed from (key ∷ keys) well text to = (refused : Option KeyFault) × (mid : Parts) × (rest_well : Bool)
-        × (rest : List ℕ) × IsPressed key from refused mid × ArePressed mid keys rest_well rest to
-        × (well ≡ is_none refused && rest_well) × (text ≡ refused_text refused ++ rest)
+      -- keys one after another
+      abbrev pub ArePressed : Parts → List Q → Bool → List ℕ → Parts → Type 0
+      ArePressed from [] well text to = (to ≡ from) × (well ≡ true) × (text ≡ [])
+      ArePressed from (key ∷ keys) well text to = (refused : Option KeyFault) × (mid : Parts) × (rest_well : Bool)
+          × (rest : List ℕ) × IsPressed key from refused mid × ArePressed mid keys rest_well rest to
+          × (well ≡ is_none refused && rest_well) × (text ≡ refused_text (w.entered key) refused ++ rest)
 
-    -- keys at a station, how their line closes, and what it prints: all were pressed, or up to one that wasn't written
-    abbrev pub KeysRun : List Q → Parts → Result Closing Fault → List ℕ → Parts → Type 0
-    KeysRun keys from outcome text to =
-        ((well : Bool) × ArePressed from keys well text to × (outcome ≡ Ok (pressed well)))
-        ⊎ ((before : List Q) × (key : Q) × (after : List Q) × (well : Bool) × (mid : Parts)
-        × (keys ≡ before ++ key ∷ after) × ArePressed from before well text mid × IsUnwritten key mid to
-        × (outcome ≡ Err fault.Write))
+      -- keys at a station, how their line closes, and what it prints: all were pressed, or up to one that wasn't written
+      abbrev pub KeysRun : List Q → Parts → Result Closing Fault → List ℕ → Parts → Type 0
+      KeysRun keys from outcome text to =
+          ((well : Bool) × ArePressed from keys well text to × (outcome ≡ Ok (pressed well)))
+          ⊎ ((before : List Q) × (key : Q) × (after : List Q) × (well : Bool) × (mid : Parts)
+          × (keys ≡ before ++ key ∷ after) × ArePressed from before well text mid × IsUnwritten key mid to
+          × (outcome ≡ Err fault.Write))
 
-    -- keys one after another, up to the first that isn't taken, how their line closes, and what it prints
-    abbrev pub KeysUntil : List Q → Parts → Result Closing Fault → List ℕ → Parts → Type 0
-    KeysUntil [] from outcome text to = (to ≡ from) × (outcome ≡ Ok Done) × (text ≡ [])
-    KeysUntil (key ∷ keys) from outcome text to =
-        ((mid : Parts) × KeyRuns key from (Ok Done) [] mid × KeysUntil keys mid outcome text to)
-        ⊎ (KeyRuns key from outcome text to × (outcome ≢ Ok Done))
+      -- keys one after another, up to the first that isn't taken, how their line closes, and what it prints
+      abbrev pub KeysUntil : List Q → Parts → Result Closing Fault → List ℕ → Parts → Type 0
+      KeysUntil [] from outcome text to = (to ≡ from) × (outcome ≡ Ok Done) × (text ≡ [])
+      KeysUntil (key ∷ keys) from outcome text to =
+          ((mid : Parts) × KeyRuns key from (Ok Done) [] mid × KeysUntil keys mid outcome text to)
+          ⊎ (KeyRuns key from outcome text to × (outcome ≢ Ok Done))
 
-    -- the keys of a stroke, or what is printed where the screen hasn't the field that it names
-    abbrev pub StrokeRuns : Option (List Q) → Parts → Result Closing Fault → List ℕ → Parts → Type 0
-    StrokeRuns None from outcome text to = (to ≡ from) × (outcome ≡ Ok Declined) × (text ≡ no_field_text)
-    StrokeRuns (Some keys) from outcome text to = KeysUntil keys from outcome text to
+      -- the keys of a stroke, or what is printed where the screen hasn't the field that it names
+      abbrev pub StrokeRuns : Option (List Q) → Parts → Result Closing Fault → List ℕ → Parts → Type 0
+      StrokeRuns None from outcome text to = (to ≡ from) × (outcome ≡ Ok Declined) × (text ≡ no_field_text)
+      StrokeRuns (Some keys) from outcome text to = KeysUntil keys from outcome text to
 
     -- records were applied one after another, and before each it wasn't yet met
     abbrev pub HasWaited : (D → Type 0) → Parts → List Applied → Parts → Type 0
@@ -202,15 +205,18 @@ module _ {D P U H PlaceV V Q R : Type 0} (rules : Rules P U) (d : DisplayOf D U 
           -- those at the screen that the station then has
           abbrev pub StationRuns : Paint → StationLine Q → Parts → Result Closing Fault → List ℕ → Parts → Type 0
           StationRuns paint NoLine from outcome text to = (to ≡ from) × (outcome ≡ Ok Nothing) × (text ≡ [])
-          StationRuns paint (Press keys) from outcome text to = KeysRun keys from outcome text to
+          StationRuns paint (Press keys) from outcome text to = KeysRun w keys from outcome text to
           StationRuns paint (Stroke stroke) from outcome text to =
-              StrokeRuns (stroke_keys w (d.shown from.end.screen) stroke) from outcome text to
+              StrokeRuns w (stroke_keys w (d.shown from.end.screen) stroke) from outcome text to
           StationRuns paint (Await awaited) from outcome text to = (waited : Waited) × IsWaited awaited from waited to
               × (outcome ≡ waited_outcome waited) × (text ≡ waited_text waited)
           StationRuns paint Fields from outcome text to = (to ≡ from) × (outcome ≡ Ok Done)
               × AreFieldLines (d.shown from.end.screen) text
           StationRuns paint Show from outcome text to = (to ≡ from) × (outcome ≡ Ok Done)
               × IsDisplayText paint (d.shown from.end.screen) (operated.behind from.end.screen) text
+          StationRuns paint (Report report) from outcome text to = (to ≡ from) × (outcome ≡ Ok Done)
+              × IsReportText (d.shown from.end.screen) (station_allows_records from.end.options) from.end.records
+              from.end.live.taken report text
 
           -- what the lines of a script at a station print, and whether all went well
           module _ {W : Type 0} (begins : W → S → W → Type 0) (begun : W → ℕ) where

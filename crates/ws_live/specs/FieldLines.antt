@@ -12,13 +12,14 @@ use Rattle.ws_screen.specs.declared.field.Field.{Field}
 use Rattle.ws_text.specs.ItemLines.{cell_text}
 use Rattle.ws_live.specs.ScreenLines.{IsWithoutLastBlanks}
 
--- the character that a cell shows
-abbrev pub char_at : List ℕ → ℕ → ℕ
-char_at cells place = (shown_at cells place).character
+-- the text that cells show, so many from a place on
+abbrev pub text_of_cells : List ℕ → ℕ → ℕ → List ℕ
+text_of_cells cells place count =
+    encode_utf8_all (map (λ s. s.character) (map (shown_at cells) (range_with_len place count)))
 
 -- what a field's cells show
 abbrev pub shown_of : List ℕ → Field → List ℕ
-shown_of cells field = encode_utf8_all (map (char_at cells) (range_with_len field.start field.length))
+shown_of cells field = text_of_cells cells field.start field.length
 
 -- a text behind a blank, and nothing for no text
 abbrev pub behind_blank : List ℕ → List ℕ

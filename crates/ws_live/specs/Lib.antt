@@ -12,10 +12,12 @@ pub mod LiveText
 pub mod Operating
 pub mod PlaceAndReason
 pub mod PlayLines
+pub mod ReportLines
 pub mod ScreenLines
 pub mod Script
 pub mod ScriptFaults
 pub mod ServeLines
 pub mod ServeText
+pub mod ShownTexts
 pub mod Stroking
 pub mod Waits

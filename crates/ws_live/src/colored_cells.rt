@@ -51,7 +51,8 @@ fn put_change<S: Sink>(
     }
 }
 
-fn put_char<S: Sink>(sink: &mut S, output: Output, character: char) -> Output
+/// Writes a character.
+pub fn put_char<S: Sink>(sink: &mut S, output: Output, character: char) -> Output
     ensures { Prints S.takes S.failures sink.old sink.new output result (encode_utf8 character) }
 {
     put_text(sink, output, character.encode_utf8(&mut [0; 4]))

@@ -11,9 +11,10 @@ use crate::operated_display::OperatedDisplay;
 use crate::paint::Paint;
 use crate::play::put_event;
 use crate::pressing::{press_key, press_stroke};
+use crate::report_lines::put_report;
 use crate::screen_lines::put_display;
-use ws_code::{Fault, ROWS, Sink, Source};
-use ws_screen::Screen;
+use crate::shown_text::{begins_at, shows};
+use ws_code::{Fault, Sink, Source};
 use ws_session::{Attached, Event, StationOn};
 use ws_text::Output;
 
@@ -62,6 +63,10 @@ where
                 output: put_display(out, output, paint, attached.end().display()),
                 outcome: Ok(Closing::Done),
             },
+            StationLine::Report(report) => Carried {
+                output: put_report(out, output, attached.end(), report),
+                outcome: Ok(Closing::Done),
+            },
         }
     }
 }
@@ -74,9 +79,10 @@ fn press_keys<D: OperatedDisplay, S: Source, K: Sink, O: Sink>(
     output: Output,
 ) -> Carried
 where
-    D::Key: Copy,
+    D::Key: NamedKey,
     requires works { attached.old.broken ≡ false }
-    ensures runs { (text : List ℕ) × Spec.KeysRun D.Commands.rules D.does K.takes K.failures S.gives S.failures keys.now
+    ensures runs { (text : List ℕ) × Spec.KeysRun D.Commands.rules D.does K.takes K.failures S.gives S.failures
+        D.Key.words keys.now
         attached.old result.outcome text attached.new
         × Prints O.takes O.failures out.old out.new output result.output text }
     ensures works { IfOk result.outcome (λ closing. attached.new.broken ≡ false) }
@@ -164,21 +170,9 @@ fn is_met<D: OperatedDisplay>(display: &D, awaited: &Awaited) -> bool
     match awaited {
         Awaited::Turn => display.is_turn(),
         Awaited::Text(text) => shows(display.screen(), text.as_str()),
+        Awaited::At(cell, text) => begins_at(display.screen(), *cell, text.as_str()),
         Awaited::Record => true,
     }
-}
-
-// Whether some row shows the text.
-fn shows(screen: &Screen, text: &str) -> bool
-    ensures shown { result ≡ true → Spec.ShowsText screen.now.cells text.now }
-    ensures unshown { result ≡ false → Spec.ShowsText screen.now.cells text.now → ⊥ }
-{
-    for row in 1..=ROWS {
-        if screen.line(row).as_str().contains(text) {
-            return true;
-        }
-    }
-    false
 }
 
 // Takes one record more.

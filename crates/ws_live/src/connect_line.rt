@@ -1,4 +1,5 @@
-ghost use Rattle.std.specs.Prelude.{◌≡◌, ◌++◌, [], ◌<◌, true, length, codes, IfOk, IfErr};
+ghost use Rattle.std.specs.Prelude.{◌≡◌, ◌≢◌, ◌++◌, [], ◌<◌, ℕ, List as Seq, true, length, codes, string_bytes};
+ghost use Rattle.std.specs.Prelude.{IfOk, IfErr, MatchOption};
 ghost use Rattle.ws_live.specs.ConnectLines as Spec;
 ghost use Rattle.ws_live.specs.ConnectLines.{BeginsStationLine, IsStationLine, IsStationSoFar};
 ghost use Rattle.ws_live.specs.ScriptFaults.{IsLineFault, IsNoComment, has_no_blank};
@@ -6,6 +7,8 @@ ghost use Rattle.ws_live.specs.ScriptFaults.{IsLineFault, IsNoComment, has_no_bl
 use crate::key_line::{named_key, typed_keys};
 use crate::live_line::LiveLine;
 use crate::named_key::NamedKey;
+use crate::report::Report;
+use crate::report_words::{read_note, read_placed, read_row, read_span};
 use crate::script::ScriptFault;
 use crate::script_line::LineFault;
 use crate::script_move::split_word;
@@ -13,7 +16,7 @@ use crate::stroke::Stroke;
 use crate::stroke_words::{read_cell, read_filling};
 use std::alloc::Global;
 use std::str;
-use ws_code::List;
+use ws_code::{Address, List};
 
 /// A line of a script for a station at a host, whose display has keys of this type.
 #[derive(Drop)]
@@ -30,6 +33,8 @@ pub enum StationLine<Q> {
     Fields,
     /// The screen is printed.
     Show,
+    /// What this asks for is printed.
+    Report(Report),
 }
 
 /// What a station waits for.
@@ -41,6 +46,8 @@ pub enum Awaited {
     Record,
     /// Some row shows this text.
     Text(String),
+    /// This text begins at this cell, and ends in its row.
+    At(Address, String),
 }
 
 impl<Q: NamedKey> LiveLine for StationLine<Q> {
@@ -103,6 +110,7 @@ fn read_word<Q: NamedKey>(word: &str) -> Result<StationLine<Q>, LineFault>
         "newline" => Ok(StationLine::Stroke(Stroke::NewLine)),
         "fields" => Ok(StationLine::Fields),
         "show" => Ok(StationLine::Show),
+        "status" => Ok(StationLine::Report(Report::Status)),
         _ => Err(LineFault::Bad),
     }
 }
@@ -127,11 +135,14 @@ fn read_command<Q: NamedKey>(
         "await" => Ok(StationLine::Await(read_awaited(alloc, words)?)),
         "cursor" => Ok(StationLine::Stroke(Stroke::Cursor(read_cell(words)?))),
         "field" => Ok(StationLine::Stroke(Stroke::Fill(read_filling(alloc, words)?))),
+        "cells" => Ok(StationLine::Report(Report::Cells(read_row(words)?))),
+        "show" => Ok(StationLine::Report(Report::Text(read_span(words)?))),
+        "note" => Ok(StationLine::Report(Report::Note(read_note(alloc, words)?))),
         _ => Err(LineFault::Bad),
     }
 }
 
-// What is waited for: a record, or a text of one character at least.
+// What is waited for: a record, or a text of one character at least, anywhere or at a cell.
 fn read_awaited(alloc: Global, words: &str) -> Result<Awaited, LineFault>
     ensures awaited { IfOk result (Spec.IsAwaited words.now) }
     ensures fault { IfErr result (IsLineFault (Spec.IsAwaited words.now)
@@ -140,14 +151,75 @@ fn read_awaited(alloc: Global, words: &str) -> Result<Awaited, LineFault>
     if words == "record" {
         return Ok(Awaited::Record);
     }
-    let Some(text) = words.strip_prefix("text ") else {
-        return Err(LineFault::Bad);
-    };
+    if let Some(text) = behind_text(words) {
+        return read_text_anywhere(alloc, text);
+    }
+    match behind_at(words) {
+        Some(placed) => read_placed_text(alloc, placed),
+        None => Err(LineFault::Bad),
+    }
+}
+
+// What stands behind `text `.
+fn behind_text(words: &str) -> Option<&str>
+    ensures { MatchOption result ((text : Seq ℕ) → words.now ≡ codes "text " ++ text → ⊥)
+        (λ text. words.now ≡ codes "text " ++ text.now) }
+{
+    words.strip_prefix("text ")
+}
+
+// What stands behind `at `.
+fn behind_at(words: &str) -> Option<&str>
+    ensures { MatchOption result ((placed : Seq ℕ) → words.now ≡ codes "at " ++ placed → ⊥)
+        (λ placed. words.now ≡ codes "at " ++ placed.now) }
+{
+    words.strip_prefix("at ")
+}
+
+// A text that is awaited anywhere.
+fn read_text_anywhere(alloc: Global, text: &str) -> Result<Awaited, LineFault>
+    ensures awaited { IfOk result (Spec.IsTextAnywhere text.now) }
+    ensures fault { IfErr result (IsLineFault (Spec.IsTextAnywhere text.now) (text.now ≢ [])) }
+{
+    match read_text(alloc, text) {
+        Ok(text) => Ok(Awaited::Text(text)),
+        Err(fault) => Err(fault),
+    }
+}
+
+// A text behind the row and the column of its first cell.
+fn read_placed_text(alloc: Global, words: &str) -> Result<Awaited, LineFault>
+    ensures awaited { IfOk result (Spec.IsPlacedText words.now) }
+    ensures fault { IfErr result (IsLineFault (Spec.IsPlacedText words.now)
+        (Spec.IsTextPlaced words.now)) }
+{
+    match read_placed(words) {
+        Ok(placed) => read_text_at(alloc, placed.0, placed.1),
+        Err(fault) => Err(fault),
+    }
+}
+
+// A text that is awaited at a cell.
+fn read_text_at(alloc: Global, cell: Address, text: &str) -> Result<Awaited, LineFault>
+    ensures awaited { IfOk result (Spec.IsTextAt cell text.now) }
+    ensures fault { IfErr result (IsLineFault (Spec.IsTextAt cell text.now) (text.now ≢ [])) }
+{
+    match read_text(alloc, text) {
+        Ok(text) => Ok(Awaited::At(cell, text)),
+        Err(fault) => Err(fault),
+    }
+}
+
+// A text of one character at least.
+fn read_text(alloc: Global, text: &str) -> Result<String, LineFault>
+    ensures text { IfOk result (λ read. Spec.IsSomeText text.now (string_bytes read)) }
+    ensures fault { IfErr result (IsLineFault (Spec.IsSomeText text.now) (text.now ≢ [])) }
+{
     if text.is_empty() {
         return Err(LineFault::Bad);
     }
     match String::from_str(alloc, text) {
-        Ok(text) => Ok(Awaited::Text(text)),
+        Ok(text) => Ok(text),
         Err(_) => Err(LineFault::Memory),
     }
 }

@@ -23,4 +23,11 @@ impl NamedKey for ExtendedKey {
     fn from_profile(key: Key) -> ExtendedKey {
         ExtendedKey::Profile(key)
     }
+
+    fn entered(self) -> Option<char> {
+        match self {
+            ExtendedKey::Profile(key) => key.entered(),
+            ExtendedKey::Reset => None,
+        }
+    }
 }

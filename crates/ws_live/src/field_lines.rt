@@ -1,15 +1,16 @@
-ghost use Rattle.std.specs.Prelude.{◌≡◌, ◌≤◌, ◌<◌, ◌+◌, List, ℕ};
+ghost use Rattle.std.specs.Prelude.{◌≡◌, ◌≤◌, ◌+◌, List, ℕ, length, map};
+ghost use Rattle.std.specs.Str.{encode_utf8_all};
 ghost use Rattle.ws_live.specs.FieldLines as Spec;
 ghost use Rattle.ws_text.specs.Printing.{Prints};
 ghost use Rattle.ws_live.specs.ScreenLines.{IsWithoutLastBlanks};
 
 use arrayvec::ArrayString;
 use ws_code::{Address, CELLS, Sink};
-use ws_screen::{Field, Screen};
+use ws_screen::{Field, Screen, Shown};
 use ws_text::{Output, put_cell, put_hex, put_number, put_text};
 
-// The most bytes of a field's text: four for each cell of a screen.
-const MAX_TEXT: usize = 7680;
+/// The most bytes of a text of cells: four for each cell of a screen.
+pub const MAX_TEXT: usize = 7680;
 
 /// Writes a line for each field: its first cell, its length and its format word, and the text that it shows, where it
 /// shows any, without the blanks at its end.
@@ -38,7 +39,7 @@ fn put_field_line<O: Sink>(out: &mut O, output: Output, screen: &Screen, field: 
     let output = put_number(out, output, field.length as u64);
     let output = put_text(out, output, " ");
     let output = put_hex(out, output, &field.format.value().to_be_bytes());
-    let text = field_text(screen, field);
+    let text = cells_text(screen, field.start, field.length);
     let output = put_behind_blank(out, output, text.as_str().trim_end_matches(' '));
     put_text(out, output, "\n")
 }
@@ -54,26 +55,25 @@ fn put_behind_blank<O: Sink>(out: &mut O, output: Output, text: &str) -> Output
     put_text(out, output, text)
 }
 
-// What a field's cells show.
-fn field_text(screen: &Screen, field: &Field) -> ArrayString<MAX_TEXT>
-    requires { field.now.start + field.now.length ≤ CELLS }
-    ensures { result.bytes ≡ Spec.shown_of screen.now.cells field.now }
+/// What cells show: so many from one on, each looked at once.
+pub fn cells_text(screen: &Screen, first: Address, count: u16) -> ArrayString<MAX_TEXT>
+    requires { first + count ≤ CELLS }
+    ensures { result.bytes ≡ Spec.text_of_cells screen.now.cells first count }
 {
-    let start = field.start.place();
-    let mut text = ArrayString::new();
-    for place in start..start + field.length {
-        text.push(char_at(screen, place));
-    }
-    text
+    let mut all = [Shown::default(); CELLS as usize];
+    let shown = &mut all[..usize::from(count)];
+    screen.show_cells(first, shown);
+    characters(shown)
 }
 
-// The character that the cell at a place shows.
-fn char_at(screen: &Screen, place: u16) -> char
-    requires { place < CELLS }
-    ensures { result ≡ Spec.char_at screen.now.cells place }
+// The text of cells.
+fn characters(shown: &[Shown]) -> ArrayString<MAX_TEXT>
+    requires { length shown.now ≤ CELLS }
+    ensures { result.bytes ≡ encode_utf8_all (map (λ s. s.character) shown.now) }
 {
-    match Address::at(place) {
-        Some(at) => screen.shown(at),
-        None => ' ',
+    let mut text = ArrayString::new();
+    for cell in shown {
+        text.push(cell.character);
     }
+    text
 }

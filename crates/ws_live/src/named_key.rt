@@ -6,7 +6,7 @@ use ws_keys::Key;
 
 /// A key of a display, as a script names it.
 pub trait NamedKey: Copy {
-    // The key of a name, and a key of the profile as one of them.
+    // The key of a name, a key of the profile as one of them, and the character that a key enters.
     ghost words: { KeyWords Self };
 
     /// The key that has this name in a script, where one has.
@@ -16,6 +16,10 @@ pub trait NamedKey: Copy {
     /// A key of the profile.
     fn from_profile(key: Key) -> Self
         ensures { result ≡ words.profile key };
+
+    /// The character that it enters, where it enters one.
+    fn entered(self) -> Option<char>
+        ensures { result ≡ words.entered self };
 }
 
 impl NamedKey for Key {
@@ -27,5 +31,12 @@ impl NamedKey for Key {
 
     fn from_profile(key: Key) -> Key {
         key
+    }
+
+    fn entered(self) -> Option<char> {
+        match self {
+            Key::Char(character) | Key::Insert(character) => Some(character),
+            _ => None,
+        }
     }
 }

@@ -164,8 +164,8 @@ fn put_field<S: Sink>(sink: &mut S, output: Output, field: &ReadField) -> Output
     put_text(sink, output, "\n")
 }
 
-// Writes why a key has no effect.
-fn put_key_fault<S: Sink>(sink: &mut S, output: Output, fault: KeyFault) -> Output
+/// Writes why a key has no effect.
+pub fn put_key_fault<S: Sink>(sink: &mut S, output: Output, fault: KeyFault) -> Output
     ensures { Prints S.takes S.failures sink.old sink.new output result
         (Spec.key_fault_name fault) }
 {

@@ -5,13 +5,14 @@ ghost use Rattle.ws_live.specs.ConnectText as Spec;
 ghost use Rattle.ws_live.specs.Stroking.{keys_behind, stroke_keys};
 ghost use Rattle.ws_text.specs.Printing.{Prints};
 
+use crate::colored_cells::put_char;
 use crate::live::{Carried, Closing};
 use crate::named_key::NamedKey;
-use crate::play::put_event;
+use crate::play::put_key_fault;
 use crate::stroke::Stroke;
 use ws_code::{Sink, Source};
 use ws_keys::KeyRun;
-use ws_session::{Attached, Event, StationDisplay, StationOn};
+use ws_session::{Attached, KeyFault, StationDisplay, StationOn};
 use ws_text::{Output, put_text};
 
 /// Presses a key, and prints why it is refused.
@@ -21,9 +22,11 @@ pub fn press_key<D: StationDisplay, S: Source, K: Sink, O: Sink>(
     out: &mut O,
     output: Output,
 ) -> Carried
+where
+    D::Key: NamedKey,
     requires works { attached.old.broken ≡ false }
     ensures runs { (text : List ℕ) × Spec.KeyRuns D.Commands.rules D.does K.takes K.failures
-        S.gives S.failures key
+        S.gives S.failures D.Key.words key
         attached.old result.outcome text attached.new
         × Prints O.takes O.failures out.old out.new output result.output text }
     ensures works { IfOk result.outcome (λ closing. attached.new.broken ≡ false) }
@@ -34,13 +37,43 @@ pub fn press_key<D: StationDisplay, S: Source, K: Sink, O: Sink>(
             outcome: Ok(Closing::Done),
         },
         Ok(Some(fault)) => Carried {
-            output: put_event(out, output, &Event::KeyRefused(fault)),
+            output: put_key_refused(out, output, key.entered(), fault),
             outcome: Ok(Closing::Declined),
         },
         Err(fault) => Carried {
             output,
             outcome: Err(fault),
         },
+    }
+}
+
+// Writes why a key is refused, and the character that it would have entered.
+fn put_key_refused<O: Sink>(
+    out: &mut O,
+    output: Output,
+    entered: Option<char>,
+    fault: KeyFault,
+) -> Output
+    ensures { Prints O.takes O.failures out.old out.new output result
+        (Spec.key_refused_line entered fault) }
+{
+    let output = put_text(out, output, "key refused ");
+    let output = put_key_fault(out, output, fault);
+    let output = put_entered(out, output, entered);
+    put_text(out, output, "\n")
+}
+
+// Writes a character behind a blank, where there is one.
+fn put_entered<O: Sink>(out: &mut O, output: Output, entered: Option<char>) -> Output
+    ensures { Prints O.takes O.failures out.old out.new output result
+        (Spec.entered_behind entered) }
+{
+    match entered {
+        None => output,
+        Some(character) => {
+            let output = put_text(out, output, " ");
+            put_char(out, output, character)
+        }
     }
 }
 
@@ -55,7 +88,7 @@ where
     D::Key: NamedKey,
     requires works { attached.old.broken ≡ false }
     ensures runs { (text : List ℕ) × Spec.StrokeRuns D.Commands.rules D.does K.takes K.failures
-        S.gives S.failures
+        S.gives S.failures D.Key.words
         (stroke_keys D.Key.words (D.does.shown attached.old.end.screen) stroke.now)
         attached.old result.outcome text attached.new
         × Prints O.takes O.failures out.old out.new output result.output text }
@@ -82,10 +115,10 @@ fn press_behind<D: StationDisplay, S: Source, K: Sink, O: Sink>(
     output: Output,
 ) -> Carried
 where
-    D::Key: Copy,
+    D::Key: NamedKey,
     requires works { attached.old.broken ≡ false }
     ensures runs { (text : List ℕ) × Spec.KeysUntil D.Commands.rules D.does K.takes K.failures
-        S.gives S.failures
+        S.gives S.failures D.Key.words
         (keys_behind stroke.now) attached.old result.outcome text attached.new
         × Prints O.takes O.failures out.old out.new output result.output text }
     ensures works { IfOk result.outcome (λ closing. attached.new.broken ≡ false) }
@@ -107,10 +140,10 @@ fn press_until<D: StationDisplay, S: Source, K: Sink, O: Sink>(
     output: Output,
 ) -> Carried
 where
-    D::Key: Copy,
+    D::Key: NamedKey,
     requires works { attached.old.broken ≡ false }
     ensures runs { (text : List ℕ) × Spec.KeysUntil D.Commands.rules D.does K.takes K.failures
-        S.gives S.failures
+        S.gives S.failures D.Key.words
         keys.now attached.old result.outcome text attached.new
         × Prints O.takes O.failures out.old out.new output result.output text }
     ensures works { IfOk result.outcome (λ closing. attached.new.broken ≡ false) }
@@ -140,7 +173,7 @@ where
     D::Key: NamedKey,
     requires works { attached.old.broken ≡ false }
     ensures runs { (text : List ℕ) × Spec.KeysUntil D.Commands.rules D.does K.takes K.failures
-        S.gives S.failures
+        S.gives S.failures D.Key.words
         (map D.Key.words.profile (keys_of runs.now)) attached.old result.outcome text attached.new
         × Prints O.takes O.failures out.old out.new output result.output text }
     ensures works { IfOk result.outcome (λ closing. attached.new.broken ≡ false) }
@@ -169,10 +202,10 @@ fn press_times<D: StationDisplay, S: Source, K: Sink, O: Sink>(
     output: Output,
 ) -> Carried
 where
-    D::Key: Copy,
+    D::Key: NamedKey,
     requires works { attached.old.broken ≡ false }
     ensures runs { (text : List ℕ) × Spec.KeysUntil D.Commands.rules D.does K.takes K.failures
-        S.gives S.failures
+        S.gives S.failures D.Key.words
         (replicate times key) attached.old result.outcome text attached.new
         × Prints O.takes O.failures out.old out.new output result.output text }
     ensures works { IfOk result.outcome (λ closing. attached.new.broken ≡ false) }

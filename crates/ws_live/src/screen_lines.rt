@@ -173,7 +173,8 @@ fn field_count(screen: &Screen) -> u64
     screen.field_count() as u64
 }
 
-fn lock_name(is_locked: bool) -> &'static str
+/// How the keyboard is.
+pub fn lock_name(is_locked: bool) -> &'static str
     ensures { result.now ≡ Spec.lock_name is_locked }
 {
     if is_locked { "locked" } else { "unlocked" }

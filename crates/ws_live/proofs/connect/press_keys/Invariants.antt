@@ -7,7 +7,7 @@ use Rattle.ws_live.proofs.connect.press_keys.Given as goal
 abbrev pub invariant-loop-key : goal.invariant-loop-key
 invariant-loop-key g l = (well : Bool) × (text : List ℕ)
     × ArePressed g.D.Commands.Code.rules g.D.StationDisplay.does g.K.Sink.takes g.K.Sink.failures g.S.Source.gives
-    g.S.Source.failures l.fn.attached
+    g.S.Source.failures g.D.Key.NamedKey.words l.fn.attached
     (take l.key-index l.keys) well text l.attached
     × (l.closing ≡ pressed well) × Prints g.O.Sink.takes g.O.Sink.failures l.fn.out l.out l.fn.output l.output text
     × (l.attached.broken ≡ false)

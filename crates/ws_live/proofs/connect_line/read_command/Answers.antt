@@ -1,10 +1,11 @@
 use Rattle.std.proofs.Common.{◌++◌, List, ℕ, ap}
 use Rattle.std.specs.Prelude.{codes}
 use Rattle.std.proofs.lemmas.Result.{err_from_is_err_and}
-use Rattle.ws_live.specs.ConnectLines.{AreNamed, IsAwaited, IsCellText, IsFilling, Means}
+use Rattle.ws_live.specs.ConnectLines.{AreNamed, IsAwaited, IsCellText, IsFilling, IsRowText, IsSpanText, Means}
 use Rattle.ws_live.specs.ConnectLines.MeansKeys.{typed, inserted, named}
 use Rattle.ws_live.proofs.StationLines.{types_so_far, inserts_so_far, named_so_far, awaits_so_far, no_named_line}
 use Rattle.ws_live.proofs.StationLines.{no_awaited_line, no_station_command, no_cell_line, no_filling_line, fills_so_far}
+use Rattle.ws_live.proofs.StationLines.{no_row_line, no_span_line, notes_so_far}
 use Rattle.ws_live.proofs.Scripts.{fault_on, only_memory}
 use Rattle.ws_live.proofs.connect_line.read_command.Goals as goal
 
@@ -72,6 +73,9 @@ returns-in_default-clause-fault g c =
       c.in_default.not-await,
       c.in_default.not-cursor,
       c.in_default.not-field,
+      c.in_default.not-cells,
+      c.in_default.not-show,
+      c.in_default.not-note,
     )
 
 pub returns-in_err-read_cell-in-cursor-clause-fault : goal.returns-in_err-read_cell-in-cursor-clause-fault
@@ -107,4 +111,47 @@ returns-in_ok-read_filling-in-field-clause-line g c = (
   c.args.words.now,
   ap (λ (z : List ℕ). (z ++ codes " ") ++ c.args.words.now) c.in-field.is,
   c.in_ok-read_filling-in-field.ensures.filling,
+)
+
+pub returns-in_err-read_row-in-cells-clause-fault : goal.returns-in_err-read_row-in-cells-clause-fault
+returns-in_err-read_row-in-cells-clause-fault g c =
+    let p = err_from_is_err_and c.from_residual-in_err-read_row-in-cells.result
+    c.from_residual-in_err-read_row-in-cells.ensures.1 in
+    let command = c.args.command.now in
+    let words = c.args.words.now in
+    rw (p.1, p.2) (fault_on (IsRowText words) (Means g.Q.NamedKey.words ((command ++ codes " ") ++ words)) _
+    (no_row_line g.Q.NamedKey.words command words c.requires.no_blank c.requires.no_comment c.in-cells.is)
+    (λ (h : ⊥). absurd h) c.in_err-read_row-in-cells.ensures.fault)
+
+pub returns-in_err-read_span-in-show-clause-fault : goal.returns-in_err-read_span-in-show-clause-fault
+returns-in_err-read_span-in-show-clause-fault g c =
+    let p = err_from_is_err_and c.from_residual-in_err-read_span-in-show.result
+    c.from_residual-in_err-read_span-in-show.ensures.1 in
+    let command = c.args.command.now in
+    let words = c.args.words.now in
+    rw (p.1, p.2) (fault_on (IsSpanText words) (Means g.Q.NamedKey.words ((command ++ codes " ") ++ words)) _
+    (no_span_line g.Q.NamedKey.words command words c.requires.no_blank c.requires.no_comment c.in-show.is)
+    (λ (h : ⊥). absurd h) c.in_err-read_span-in-show.ensures.fault)
+
+pub returns-in_err-read_note-in-note-clause-fault : goal.returns-in_err-read_note-in-note-clause-fault
+returns-in_err-read_note-in-note-clause-fault g c =
+    let p = err_from_is_err_and c.from_residual-in_err-read_note-in-note.result
+    c.from_residual-in_err-read_note-in-note.ensures.1 in
+    let command = c.args.command.now in
+    let words = c.args.words.now in
+    rw (p.1, p.2) (only_memory (Means g.Q.NamedKey.words ((command ++ codes " ") ++ words)) _
+    c.in_err-read_note-in-note.ensures.fault (notes_so_far g.Q.NamedKey.words command words c.in-note.is))
+
+pub returns-in_ok-read_row-in-cells-clause-line : goal.returns-in_ok-read_row-in-cells-clause-line
+returns-in_ok-read_row-in-cells-clause-line g c = (
+  c.args.words.now,
+  ap (λ (z : List ℕ). (z ++ codes " ") ++ c.args.words.now) c.in-cells.is,
+  c.in_ok-read_row-in-cells.ensures.row,
+)
+
+pub returns-in_ok-read_span-in-show-clause-line : goal.returns-in_ok-read_span-in-show-clause-line
+returns-in_ok-read_span-in-show-clause-line g c = (
+  c.args.words.now,
+  ap (λ (z : List ℕ). (z ++ codes " ") ++ c.args.words.now) c.in-show.is,
+  c.in_ok-read_span-in-show.ensures.span,
 )

@@ -17,7 +17,7 @@ returns g c =
     (prints_same (ap encode_upper (c.to_be_bytes.ensures ∙ two_bytes_of c.value.result (omega arith)
     ∙ ap two_bytes c.value.ensures.value)) c.put_hex-output.ensures) in (
       shown,
-      subst (λ (text : List ℕ). IsWithoutLastBlanks text shown) (c.as_str.ensures.value ∙ c.field_text-text.ensures)
+      subst (λ (text : List ℕ). IsWithoutLastBlanks text shown) (c.as_str.ensures.value ∙ c.cells_text-text.ensures)
           (without_last_blanks c.as_str.result.now shown c.trim_end_matches.ensures.matches),
       prints_both (prints_both format c.put_behind_blank-output.ensures) c.put_text.ensures,
     )

@@ -11,7 +11,7 @@ returns-in_default g c = record {
   runs = (
     [],
     subst (λ keys. KeysUntil g.D.Commands.Code.rules g.D.StationDisplay.does g.K.Sink.takes g.K.Sink.failures
-        g.S.Source.gives g.S.Source.failures keys c.args.attached.now (Ok Done) [] c.args.attached.now)
+        g.S.Source.gives g.S.Source.failures g.D.Key.NamedKey.words keys c.args.attached.now (Ok Done) [] c.args.attached.now)
         (sym (no_keys_behind c.args.stroke.now c.in_default.not-Fill)) (refl, refl, refl),
     prints_none g.O.Sink.takes g.O.Sink.failures c.args.out.now c.args.output,
   );

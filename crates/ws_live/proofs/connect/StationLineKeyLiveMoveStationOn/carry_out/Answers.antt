@@ -14,7 +14,7 @@ returns-in-Press-clause-runs g c =
           g.K.Sink.takes g.K.Sink.failures g.S.Source.gives g.S.Source.failures
           g.W.Watch.tells g.D.OperatedDisplay.operated g.D.Key.NamedKey.words c.args.paint line from outcome e.0 to) (sym c.in-Press.is)
           (subst (λ (keys : List g.row.D-Key.Denot). KeysRun g.D.Commands.Code.rules g.D.StationDisplay.does
-          g.K.Sink.takes g.K.Sink.failures g.S.Source.gives g.S.Source.failures
+          g.K.Sink.takes g.K.Sink.failures g.S.Source.gives g.S.Source.failures g.D.Key.NamedKey.words
           keys from outcome e.0 to) c.as_slice.ensures e.1),
       e.2,
     )

@@ -2,7 +2,7 @@ use Rattle.std.proofs.Common.{◌≤◌, ◌<◌, ℕ}
 use Rattle.std.specs.Str.{encode_utf8_all}
 use Rattle.std.specs.Str.Iter.{HasSubslice}
 use Rattle.ws_screen.specs.Lines.{row_chars}
-use Rattle.ws_live.proofs.connect.shows.Given as goal
+use Rattle.ws_live.proofs.shown_text.shows.Given as goal
 
 -- no row so far has the text
 abbrev pub invariant-loop-row : goal.invariant-loop-row

@@ -1,0 +1,102 @@
+use Rattle.std.proofs.Common.{◌≡◌, ℕ, List, [], ◌∷◌, ◌++◌, Bool, true, false, refl, sym, ap, ◌∙◌, subst}
+use Rattle.std.specs.Prelude.{codes, string_bytes, ◌==◌}
+use Rattle.std.proofs.lemmas.Bool.{false≢true}
+use Rattle.ws_live.specs.ConnectLines.{IsAwaited, IsPlaced, IsPlacedText, IsSomeText, IsTextAnywhere, IsTextAt}
+use Rattle.ws_live.specs.declared.connect_line.Awaited.{Awaited}
+use Rattle.ws_live.specs.declared.connect_line.Awaited.TheVariants.{Turn, Record, Text, At}
+use Rattle.ws_live.proofs.ReportWords.{one_rest}
+
+-- The words of a line that waits.
+
+-- the words begin with this byte
+abbrev begins : ℕ → List ℕ → Bool
+begins b [] = false
+begins b (x ∷ words) = x == b
+
+same_text : (t text : List ℕ) → codes "text " ++ t ≡ codes "text " ++ text → t ≡ text
+same_text t text e = cc
+
+same_placed : (p placed : List ℕ) → codes "at " ++ p ≡ codes "at " ++ placed → p ≡ placed
+same_placed p placed e = cc
+
+pub no_text_behind : (words text : List ℕ) → words ≡ codes "text " ++ text
+    → ((a : Awaited) → IsTextAnywhere text a → ⊥) → (awaited : Awaited) → IsAwaited words awaited → ⊥
+no_text_behind words text e none_is Turn m = m
+no_text_behind words text e none_is Record m = false≢true (ap (begins 114) (sym e ∙ m))
+no_text_behind words text e none_is (Text t) m =
+    none_is (Text t) (same_text (string_bytes t) text (sym m.0 ∙ e), m.1)
+no_text_behind words text e none_is (At cell t) m = false≢true (ap (begins 97) (sym e ∙ m.1))
+
+-- what stands behind `text ` is awaited
+pub text_awaited : (words text : List ℕ) → words ≡ codes "text " ++ text → (awaited : Awaited)
+    → IsTextAnywhere text awaited → IsAwaited words awaited
+text_awaited words text e (Text t) m = (e ∙ ap (λ z. codes "text " ++ z) (sym m.0), m.1)
+text_awaited words text e Turn m = absurd m
+text_awaited words text e Record m = absurd m
+text_awaited words text e (At cell t) m = absurd m
+
+-- the words of a text are one
+pub anywhere_none : (text : List ℕ) → ((t : List ℕ) → IsSomeText text t → ⊥) → (awaited : Awaited)
+    → IsTextAnywhere text awaited → ⊥
+anywhere_none text none_is (Text t) m = none_is (string_bytes t) m
+anywhere_none text none_is Turn m = m
+anywhere_none text none_is Record m = m
+anywhere_none text none_is (At cell t) m = m
+
+pub at_none : (cell : ℕ) (text : List ℕ) → ((t : List ℕ) → IsSomeText text t → ⊥) → (awaited : Awaited)
+    → IsTextAt cell text awaited → ⊥
+at_none cell text none_is (At c t) m = none_is (string_bytes t) m.1
+at_none cell text none_is Turn m = m
+at_none cell text none_is Record m = m
+at_none cell text none_is (Text t) m = m
+
+pub no_placed_behind : (words placed : List ℕ) → words ≡ codes "at " ++ placed
+    → ((a : Awaited) → IsPlacedText placed a → ⊥) → (awaited : Awaited) → IsAwaited words awaited → ⊥
+no_placed_behind words placed e none_is Turn m = m
+no_placed_behind words placed e none_is Record m = false≢true (ap (begins 114) (sym e ∙ m))
+no_placed_behind words placed e none_is (Text t) m = false≢true (ap (begins 116) (sym e ∙ m.0))
+no_placed_behind words placed e none_is (At cell t) m =
+    none_is (At cell t) (subst (λ z. IsPlacedText z (At cell t)) (same_placed m.0 placed (sym m.1 ∙ e)) m.2)
+
+pub no_awaited : (words : List ℕ) → (words ≡ codes "record" → ⊥) → ((t : List ℕ) → words ≡ codes "text " ++ t → ⊥)
+    → ((p : List ℕ) → words ≡ codes "at " ++ p → ⊥) → (awaited : Awaited) → IsAwaited words awaited → ⊥
+no_awaited words nr nt na Turn m = m
+no_awaited words nr nt na Record m = nr m
+no_awaited words nr nt na (Text t) m = nt (string_bytes t) m.0
+no_awaited words nr nt na (At cell t) m = na m.0 m.1
+
+-- what stands behind `at ` is awaited
+pub placed_awaited : (words placed : List ℕ) → words ≡ codes "at " ++ placed → (awaited : Awaited)
+    → IsPlacedText placed awaited → IsAwaited words awaited
+placed_awaited words placed e Turn m = m
+placed_awaited words placed e Record m = absurd m
+placed_awaited words placed e (Text t) m = absurd m
+placed_awaited words placed e (At cell t) m = (placed, e, m)
+
+-- no cell with something behind it, and no text behind the cell
+pub no_placed_text : (words : List ℕ) → ((cell : ℕ) (rest : List ℕ) → IsPlaced words cell rest → ⊥)
+    → (awaited : Awaited) → IsPlacedText words awaited → ⊥
+no_placed_text words none_is (At cell t) m = none_is cell (string_bytes t) m.0
+no_placed_text words none_is Turn m = m
+no_placed_text words none_is Record m = m
+no_placed_text words none_is (Text t) m = m
+
+pub no_text_placed : (words : List ℕ) (at : ℕ) (rest : List ℕ) → IsPlaced words at rest
+    → ((a : Awaited) → IsTextAt at rest a → ⊥) → (awaited : Awaited) → IsPlacedText words awaited → ⊥
+no_text_placed words at rest placed none_is (At cell t) m =
+    none_is (At at t) (refl, (one_rest words cell at (string_bytes t) rest m.0 placed, m.1))
+no_text_placed words at rest placed none_is Turn m = m
+no_text_placed words at rest placed none_is Record m = m
+no_text_placed words at rest placed none_is (Text t) m = m
+
+-- a text behind its cell is awaited there
+pub placed_text : (words : List ℕ) (at : ℕ) (rest : List ℕ) → IsPlaced words at rest → (awaited : Awaited)
+    → IsTextAt at rest awaited → IsPlacedText words awaited
+placed_text words at rest placed (At cell t) m = (
+  subst (λ z. IsPlaced words z (string_bytes t)) (sym m.0)
+      (subst (IsPlaced words at) (sym m.1.0) placed),
+  m.1.1,
+)
+placed_text words at rest placed Turn m = absurd m
+placed_text words at rest placed Record m = absurd m
+placed_text words at rest placed (Text t) m = absurd m
