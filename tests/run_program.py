@@ -33,6 +33,14 @@ screen
  1  HI
 cursor 1 1, unlocked, message off, blink off, fields 0
 """
+# What has come of a second one, up to its bytes for cells.
+HELLO_OPEN = """open record flags 0000 opcode 2
+  CLEAR-UNIT
+  WRITE 00 08
+  SBA 1 2
+  PUT C8
+screen
+"""
 ANSWER = "00 13 12 A0 00 00 04 00 00 03 06 38 F1 11 06 35 C2 D6 C2 FF EF\n"
 ANSWER_LINE = "accepted: 1 records, 0 commands, 21 bytes\n"
 ANSWER_LINES = """at 20 record flags 0000 opcode 3
@@ -108,6 +116,10 @@ RUNS = [
     (["show"], QUERY, 1, QUERY_LINE, ""),
     (["show"], SHORT, 1, SHORT_LINE, ""),
     (["show"], "", 0, EMPTY_SCREEN, ""),
+    (["show", "--so-far"], SHORT, 1, "open record\n" + EMPTY_SCREEN + SHORT_LINE, ""),
+    (["show", "--so-far"], HELLO + HELLO[:59], 1, HELLO_LINES.replace("screen\n", HELLO_OPEN) + "truncated at 43\n", ""),
+    (["show", "--so-far"], HELLO, 0, HELLO_LINES, ""),
+    (["show", "--so-far", "--answers"], "FF F1 FF", 1, "at 1 telnet NOP\ntruncated at 3\n", ""),
     (["show"], "0g", 2, "", "not hex\n"),
     (["make"], HELLO_LINES, 0, HELLO_MADE, ""),
     (["make"], HELLO_TEXT, 0, HELLO_MADE, ""),

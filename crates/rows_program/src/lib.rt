@@ -24,6 +24,8 @@ mod show_rows;
 #[cfg(test)]
 mod size_rows;
 #[cfg(test)]
+mod so_far_rows;
+#[cfg(test)]
 mod split_rows;
 #[cfg(test)]
 mod stream_rows;

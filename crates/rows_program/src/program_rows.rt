@@ -40,7 +40,7 @@ const CHECK: Asked = Asked::Check {
 
 // Words, and what they ask for.
 #[rattlefmt::skip]
-const COMMAND_LINES: [(&[&str], Asked); 18] = [
+const COMMAND_LINES: [(&[&str], Asked); 19] = [
     (&["t5250", "check"], CHECK),
     (&["t5250", "check", "a.hex"], Asked::Check { file: FILE, cut: NonZeroU16::MAX, from: Sender::Host }),
     (&["t5250", "check", "--cut", "1"], Asked::Check { file: None, cut: NonZeroU16::MIN, from: Sender::Host }),
@@ -49,16 +49,20 @@ const COMMAND_LINES: [(&[&str], Asked); 18] = [
     (&["t5250", "check", "--answers"], Asked::Check { file: None, cut: NonZeroU16::MAX, from: Sender::Station }),
     (&["t5250", "check", "--", "--answers"],
         Asked::Check { file: Some("--answers"), cut: NonZeroU16::MAX, from: Sender::Host }),
-    (&["t5250", "show"], Asked::Show { file: None, from: Sender::Host, paint: Paint::Plain }),
-    (&["t5250", "show", "--answers", "a.hex"], Asked::Show { file: FILE, from: Sender::Station, paint: Paint::Plain }),
+    (&["t5250", "show"], Asked::Show { file: None, from: Sender::Host, paint: Paint::Plain, so_far: false }),
+    (&["t5250", "show", "--answers", "a.hex"],
+        Asked::Show { file: FILE, from: Sender::Station, paint: Paint::Plain, so_far: false }),
     (&["t5250", "show", "--extended", "--answers"],
-        Asked::Show { file: None, from: Sender::ExtendedStation, paint: Paint::Plain }),
+        Asked::Show { file: None, from: Sender::ExtendedStation, paint: Paint::Plain, so_far: false }),
     (&["t5250", "play"], Asked::Play { file: None, screen: false, tcp: false, paint: Paint::Plain }),
     (&["t5250", "play", "a.hex"], Asked::Play { file: FILE, screen: false, tcp: false, paint: Paint::Plain }),
     (&["t5250", "play", "--screen", "a.hex"],
         Asked::Play { file: FILE, screen: true, tcp: false, paint: Paint::Plain }),
     (&["t5250", "play", "a.hex", "--tcp"], Asked::Play { file: FILE, screen: false, tcp: true, paint: Paint::Plain }),
-    (&["t5250", "show", "--color", "a.hex"], Asked::Show { file: FILE, from: Sender::Host, paint: Paint::Color }),
+    (&["t5250", "show", "--color", "a.hex"],
+        Asked::Show { file: FILE, from: Sender::Host, paint: Paint::Color, so_far: false }),
+    (&["t5250", "show", "--so-far", "--answers"],
+        Asked::Show { file: None, from: Sender::Station, paint: Paint::Plain, so_far: true }),
     (&["t5250", "play", "--color", "--screen"],
         Asked::Play { file: None, screen: true, tcp: false, paint: Paint::Color }),
     (&["t5250", "make"], Asked::Make { file: None, from: Sender::Host }),
@@ -116,12 +120,13 @@ fn command_lines(rt: HostRuntime) {
         file: FILE,
         from: Sender::Host,
         paint: Paint::Plain,
+        so_far: false,
     };
     same(&rt, show.file(), FILE);
     same(&rt, CHECK.file(), None);
 }
 
-const WRONG_COMMAND_LINES: [&[&str]; 19] = [
+const WRONG_COMMAND_LINES: [&[&str]; 22] = [
     &["t5250"],
     &["t5250", "other"],
     &["t5250", "check", "a.hex", "b.hex"],
@@ -134,6 +139,9 @@ const WRONG_COMMAND_LINES: [&[&str]; 19] = [
     &["t5250", "check", "--answers", "--answers"],
     &["t5250", "check", "--answers=1"],
     &["t5250", "show", "--cut", "1"],
+    &["t5250", "show", "--so-far=1"],
+    &["t5250", "show", "--so-far", "--so-far"],
+    &["t5250", "check", "--so-far"],
     &["t5250", "play", "--answers"],
     &["t5250", "show", "a.hex", "b.hex"],
     &["t5250", "play", "a.hex", "b.hex"],

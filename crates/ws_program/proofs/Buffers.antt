@@ -1,11 +1,11 @@
-use Rattle.std.proofs.Common.{◌≡◌, ℕ, List, [], length, refl, sym, ap, ◌∙◌, subst}
+use Rattle.std.proofs.Common.{◌≡◌, ℕ, List, [], length, sym, ap, ◌∙◌, subst}
 use Rattle.std.proofs.Common.{arith, inl, inr}
-use Rattle.std.specs.Prelude.{Bool, true, false, None, Result, Ok, Err, IfOk, IfErr}
+use Rattle.std.specs.Prelude.{Bool, true, false}
 use Rattle.ws_code.specs.Code.{Rules}
 use Rattle.ws_code.specs.Device.{MayTake, WentOut, FailedWithin}
 use Rattle.ws_code.specs.declared.fault.Fault.TheVariants as device
 use Rattle.ws_live.specs.Buffering.{Buffering, buffered_takes}
-use Rattle.ws_live.proofs.Buffers.{flushed_out, flush_fails, fails_behind}
+use Rattle.ws_live.proofs.Buffers.{flushed_out, fails_behind}
 use Rattle.ws_record.specs.declared.record.Item.{Item}
 use Rattle.ws_stream.specs.Elements.{element_rules}
 use Rattle.ws_stream.specs.AnswerParts.{answer_rules}
@@ -21,7 +21,8 @@ use Rattle.ws_program.specs.Answering.{HasAnswered, HasChecked, HasCheckedHex, H
 use Rattle.ws_program.specs.Answering.{IsCheckHexFault}
 use Rattle.ws_program.specs.Checking.{IsCheckFault}
 use Rattle.ws_program.specs.Making.{HasMade, IsMakeFault}
-use Rattle.ws_program.specs.StreamText.{View, Placed, lines_of, AreShown, AreFirstLines, IsShowFault}
+use Rattle.ws_program.specs.SoFar.{IsShowFaultWith}
+use Rattle.ws_program.specs.StreamText.{View}
 use Rattle.ws_program.specs.ExtendedView.{extended_view}
 use Rattle.ws_program.specs.Views.{painted_host_view, answer_view, told_view}
 use Rattle.ws_words.specs.declared.command_line.Asked.{Asked}
@@ -33,19 +34,14 @@ use Rattle.ws_program.specs.declared.fault.RunFault.TheVariants.{Read, NotHex, L
 use Rattle.ws_program.specs.declared.fault.RunFault.TheVariants.{Write, NoConnection, Refused}
 use Rattle.ws_program.specs.declared.fault.RunFault.TheVariants.{Truncated, Failed}
 
--- the lines of items are first lines
-first_lines : {Place U : Type 0} {rules : Rules Place U} {view : View U} {bytes : List ℕ} (placed : List (Placed U))
-    → AreShown rules view bytes [] placed → AreFirstLines rules view bytes (lines_of view placed)
-first_lines placed shown = record { placed = placed; shown = shown; last = None; complete = tt; lines = refl }
-
--- What the program does behind a buffer, where the rest goes out or doesn't.
+-- What the program does behind a buffer, where the rest goes out.
 module _ {S : Type 0} (takes : MayTake S) (failures : S → ℕ) (count : Buffering S → ℕ) (from mid : Buffering S)
     (empty : from.held ≡ []) (to : S) where
   -- nothing is held, since nothing was written
-  none_held : mid ≡ from → mid.held ≡ []
+  pub none_held : mid ≡ from → mid.held ≡ []
   none_held same = ap (λ (b : Buffering S). b.held) same ∙ empty
 
-  none_fails : mid.held ≡ [] → FailedWithin takes failures mid.sink to mid.held → ⊥
+  pub none_fails : mid.held ≡ [] → FailedWithin takes failures mid.sink to mid.held → ⊥
   none_fails none f = omega (arith, f.within, ap length none)
 
   module _ (out : WentOut takes failures mid.sink to mid.held) (idle : mid.held ≡ [] → to ≡ mid.sink) where
@@ -66,10 +62,10 @@ module _ {S : Type 0} (takes : MayTake S) (failures : S → ℕ) (count : Buffer
         (h.0, h.1, check_flushed extended_answer_rules h.0 accepted h.2)
 
     -- what is shown
-    show_flushed : {Place U : Type 0} (rules : Rules Place U) (view : View U) (bytes : List ℕ) (accepted : Bool)
-        → HasShown (buffered_takes takes failures) count from mid rules view bytes accepted
-        → HasShown takes failures from.sink to rules view bytes accepted
-    show_flushed rules view bytes accepted h =
+    show_flushed : {Place U : Type 0} (rules : Rules Place U) (view : View U) (so_far : Bool) (bytes : List ℕ)
+        (accepted : Bool) → HasShown (buffered_takes takes failures) count from mid rules view so_far bytes accepted
+        → HasShown takes failures from.sink to rules view so_far bytes accepted
+    show_flushed rules view so_far bytes accepted h =
         (h.0, h.1, flushed_out takes failures count from empty mid to h.0 h.2 out)
 
     -- what is made
@@ -86,14 +82,14 @@ module _ {S : Type 0} (takes : MayTake S) (failures : S → ℕ) (count : Buffer
         → HasAnswered (buffered_takes takes failures) count from mid asked input accepted
         → HasAnswered takes failures from.sink to asked input accepted
     done_flushed (Check file cut sender) input accepted h = check_hex_flushed sender input accepted h
-    done_flushed (Show file Host paint) input accepted h =
-        (h.0, h.1, show_flushed element_rules (painted_host_view paint) h.0 accepted h.2)
-    done_flushed (Show file ExtendedHost paint) input accepted h =
-        (h.0, h.1, show_flushed extended_rules (extended_view paint) h.0 accepted h.2)
-    done_flushed (Show file Station paint) input accepted h =
-        (h.0, h.1, show_flushed answer_rules answer_view h.0 accepted h.2)
-    done_flushed (Show file ExtendedStation paint) input accepted h =
-        (h.0, h.1, show_flushed extended_answer_rules told_view h.0 accepted h.2)
+    done_flushed (Show file Host paint so_far) input accepted h =
+        (h.0, h.1, show_flushed element_rules (painted_host_view paint) so_far h.0 accepted h.2)
+    done_flushed (Show file ExtendedHost paint so_far) input accepted h =
+        (h.0, h.1, show_flushed extended_rules (extended_view paint) so_far h.0 accepted h.2)
+    done_flushed (Show file Station paint so_far) input accepted h =
+        (h.0, h.1, show_flushed answer_rules answer_view so_far h.0 accepted h.2)
+    done_flushed (Show file ExtendedStation paint so_far) input accepted h =
+        (h.0, h.1, show_flushed extended_answer_rules told_view so_far h.0 accepted h.2)
     done_flushed (Play file screen false paint) input accepted h =
         (h.0, h.1, h.2, h.3, flushed_out takes failures count from empty mid to h.2 h.4 out, h.5)
     done_flushed (Play file screen true paint) input accepted h =
@@ -141,21 +137,38 @@ module _ {S : Type 0} (takes : MayTake S) (failures : S → ℕ) (count : Buffer
     check_hex_fault_flushed ExtendedStation input fault f = check_fault_flushed extended_answer_rules input fault f
 
     -- of what is shown
-    show_fault_flushed : {Place U : Type 0} (rules : Rules Place U) (view : View U) (input : List ℕ) (fault : RunFault)
-        → IsHexFault (buffered_takes takes failures) count from mid
-        (IsShowFault (buffered_takes takes failures) count from mid rules view) input fault
-        → IsHexFault takes failures from.sink to (IsShowFault takes failures from.sink to rules view) input fault
-    show_fault_flushed rules view input NotHex f = (unchanged f.0, f.1)
-    show_fault_flushed rules view input Memory (b, h, inl e) = (b, h, inl (unchanged e))
-    show_fault_flushed rules view input Memory (b, h, inr e) =
-        (b, h, inr (e.0, e.1, e.2, flushed_out takes failures count from empty mid to _ e.3 out))
-    show_fault_flushed rules view input Write f = (f.0, f.1, (f.2.0, f.2.1, fails_too f.2.0 f.2.2))
-    show_fault_flushed rules view input Read f = absurd f
-    show_fault_flushed rules view input (Refused place reason) f = absurd f
-    show_fault_flushed rules view input (Truncated n) f = absurd f
-    show_fault_flushed rules view input NoConnection f = absurd f
-    show_fault_flushed rules view input Failed f = absurd f
-    show_fault_flushed rules view input (Line number) f = absurd f
+    show_memory_flushed : {Place U : Type 0} (rules : Rules Place U) (view : View U) (so_far : Bool) (bytes : List ℕ)
+        → IsShowFaultWith (buffered_takes takes failures) count from mid rules view so_far bytes device.Memory
+        → IsShowFaultWith takes failures from.sink to rules view so_far bytes device.Memory
+    show_memory_flushed rules view false bytes e =
+        (e.0, e.1, e.2, flushed_out takes failures count from empty mid to _ e.3 out)
+    show_memory_flushed rules view true bytes (inl e) =
+        inl (e.0, e.1, e.2, flushed_out takes failures count from empty mid to _ e.3 out)
+    show_memory_flushed rules view true bytes (inr e) =
+        inr (e.0, e.1, e.2, e.3, flushed_out takes failures count from empty mid to _ e.4 out)
+
+    show_write_flushed : {Place U : Type 0} (rules : Rules Place U) (view : View U) (so_far : Bool) (bytes : List ℕ)
+        → IsShowFaultWith (buffered_takes takes failures) count from mid rules view so_far bytes device.Write
+        → IsShowFaultWith takes failures from.sink to rules view so_far bytes device.Write
+    show_write_flushed rules view false bytes f = (f.0, f.1, fails_too f.0 f.2)
+    show_write_flushed rules view true bytes f = (f.0, f.1, fails_too f.0 f.2)
+
+    show_fault_flushed : {Place U : Type 0} (rules : Rules Place U) (view : View U) (so_far : Bool) (input : List ℕ)
+        (fault : RunFault) → IsHexFault (buffered_takes takes failures) count from mid
+        (IsShowFaultWith (buffered_takes takes failures) count from mid rules view so_far) input fault
+        → IsHexFault takes failures from.sink to (IsShowFaultWith takes failures from.sink to rules view so_far)
+        input fault
+    show_fault_flushed rules view so_far input NotHex f = (unchanged f.0, f.1)
+    show_fault_flushed rules view so_far input Memory (b, h, inl e) = (b, h, inl (unchanged e))
+    show_fault_flushed rules view so_far input Memory (b, h, inr e) =
+        (b, h, inr (show_memory_flushed rules view so_far b e))
+    show_fault_flushed rules view so_far input Write f = (f.0, f.1, show_write_flushed rules view so_far f.0 f.2)
+    show_fault_flushed rules view so_far input Read f = absurd f
+    show_fault_flushed rules view so_far input (Refused place reason) f = absurd f
+    show_fault_flushed rules view so_far input (Truncated n) f = absurd f
+    show_fault_flushed rules view so_far input NoConnection f = absurd f
+    show_fault_flushed rules view so_far input Failed f = absurd f
+    show_fault_flushed rules view so_far input (Line number) f = absurd f
 
     -- of what is made
     make_fault_flushed : {Place U : Type 0} (rules : Rules Place U) (w : Wording U)
@@ -177,13 +190,14 @@ module _ {S : Type 0} (takes : MayTake S) (failures : S → ℕ) (count : Buffer
         → IsAnswerFault (buffered_takes takes failures) count from mid asked input fault
         → IsAnswerFault takes failures from.sink to asked input fault
     fault_flushed (Check file cut sender) input fault f = check_hex_fault_flushed sender input fault f
-    fault_flushed (Show file Host paint) input fault f =
-        show_fault_flushed element_rules (painted_host_view paint) input fault f
-    fault_flushed (Show file ExtendedHost paint) input fault f =
-        show_fault_flushed extended_rules (extended_view paint) input fault f
-    fault_flushed (Show file Station paint) input fault f = show_fault_flushed answer_rules answer_view input fault f
-    fault_flushed (Show file ExtendedStation paint) input fault f =
-        show_fault_flushed extended_answer_rules told_view input fault f
+    fault_flushed (Show file Host paint so_far) input fault f =
+        show_fault_flushed element_rules (painted_host_view paint) so_far input fault f
+    fault_flushed (Show file ExtendedHost paint so_far) input fault f =
+        show_fault_flushed extended_rules (extended_view paint) so_far input fault f
+    fault_flushed (Show file Station paint so_far) input fault f =
+        show_fault_flushed answer_rules answer_view so_far input fault f
+    fault_flushed (Show file ExtendedStation paint so_far) input fault f =
+        show_fault_flushed extended_answer_rules told_view so_far input fault f
     fault_flushed (Make file Host) input fault f = make_fault_flushed element_rules element_wording Shows input fault f
     fault_flushed (Make file ExtendedHost) input fault f =
         make_fault_flushed extended_rules extended_wording ShowsExtended input fault f
@@ -211,168 +225,3 @@ module _ {S : Type 0} (takes : MayTake S) (failures : S → ℕ) (count : Buffer
     fault_flushed (Play file screen true paint) input (Refused place reason) f = absurd f
     fault_flushed (Play file screen true paint) input (Truncated n) f = absurd f
     fault_flushed (Play file screen true paint) input Failed f = absurd f
-
-  module _ (none : FailedWithin takes failures mid.sink to mid.held) where
-    -- what it did doesn't go out whole
-    check_unflushed : {Place U : Type 0} (rules : Rules Place U) (bytes : List ℕ) (accepted : Bool)
-        → HasChecked (buffered_takes takes failures) count from mid rules bytes accepted
-        → IsCheckFault rules takes failures from.sink to bytes device.Write
-    check_unflushed rules bytes accepted h =
-        (_, (h.0, h.1, refl), flush_fails takes failures count from empty mid to _ h.3 none)
-
-    check_hex_unflushed : (sender : Sender) (input : List ℕ) (accepted : Bool)
-        → HasCheckedHex (buffered_takes takes failures) count from mid sender input accepted
-        → IsCheckHexFault takes failures from.sink to sender input Write
-    check_hex_unflushed Host input accepted h = (h.0, h.1, check_unflushed element_rules h.0 accepted h.2)
-    check_hex_unflushed ExtendedHost input accepted h = (h.0, h.1, check_unflushed extended_rules h.0 accepted h.2)
-    check_hex_unflushed Station input accepted h = (h.0, h.1, check_unflushed answer_rules h.0 accepted h.2)
-    check_hex_unflushed ExtendedStation input accepted h =
-        (h.0, h.1, check_unflushed extended_answer_rules h.0 accepted h.2)
-
-    show_unflushed : {Place U : Type 0} (rules : Rules Place U) (view : View U) (bytes : List ℕ) (accepted : Bool)
-        → HasShown (buffered_takes takes failures) count from mid rules view bytes accepted
-        → IsShowFault takes failures from.sink to rules view bytes device.Write
-    show_unflushed rules view bytes accepted h =
-        (h.0, inr (accepted, h.1), flush_fails takes failures count from empty mid to h.0 h.2 none)
-
-    make_unflushed : {Place U : Type 0} (rules : Rules Place U) (w : Wording U)
-        (Showing : List ℕ → List (Item U) → Type 0)
-        (input : List ℕ) (accepted : Bool)
-        → HasMade rules w Showing (buffered_takes takes failures) count from mid input accepted
-        → IsMakeFault rules w Showing takes failures from.sink to input Write
-    make_unflushed rules w Showing input accepted h =
-        (h.0, h.1, flush_fails takes failures count from empty mid to _ h.2 none)
-
-    done_unflushed : (asked : Asked) (input : List ℕ) (accepted : Bool)
-        → HasAnswered (buffered_takes takes failures) count from mid asked input accepted
-        → IsAnswerFault takes failures from.sink to asked input Write
-    done_unflushed (Check file cut sender) input accepted h = check_hex_unflushed sender input accepted h
-    done_unflushed (Show file Host paint) input accepted h =
-        (h.0, h.1, show_unflushed element_rules (painted_host_view paint) h.0 accepted h.2)
-    done_unflushed (Show file ExtendedHost paint) input accepted h =
-        (h.0, h.1, show_unflushed extended_rules (extended_view paint) h.0 accepted h.2)
-    done_unflushed (Show file Station paint) input accepted h =
-        (h.0, h.1, show_unflushed answer_rules answer_view h.0 accepted h.2)
-    done_unflushed (Show file ExtendedStation paint) input accepted h =
-        (h.0, h.1, show_unflushed extended_answer_rules told_view h.0 accepted h.2)
-    done_unflushed (Play file screen false paint) input accepted h =
-        (h.0, h.1, h.2, h.3, flush_fails takes failures count from empty mid to h.2 h.4 none)
-    done_unflushed (Play file screen true paint) input accepted h =
-        (h.0, h.1, inr (accepted, h.2, h.3, flush_fails takes failures count from empty mid to h.2 h.4 none))
-    done_unflushed (Make file Host) input accepted h =
-        make_unflushed element_rules element_wording Shows input accepted h
-    done_unflushed (Make file ExtendedHost) input accepted h =
-        make_unflushed extended_rules extended_wording ShowsExtended input accepted h
-    done_unflushed (Make file Station) input accepted h =
-        make_unflushed answer_rules answer_wording ShowsAnswers input accepted h
-    done_unflushed (Make file ExtendedStation) input accepted h =
-        make_unflushed extended_answer_rules told_wording ShowsTold input accepted h
-
-    unheld : {X : Type 0} → mid ≡ from → X
-    unheld same = absurd (none_fails (none_held same) none)
-
-    unfailed : {X : Type 0} (text : List ℕ) → FailedWithin (buffered_takes takes failures) count from mid text → X
-    unfailed text f = absurd (none_fails (fails_behind takes failures count from empty mid text f).1 none)
-
-    -- behind a fault neither
-    check_fault_unflushed : {Place U : Type 0} (rules : Rules Place U) (input : List ℕ) (fault : RunFault)
-        → IsHexFault (buffered_takes takes failures) count from mid
-        (IsCheckFault rules (buffered_takes takes failures) count from mid) input fault
-        → IsHexFault takes failures from.sink to (IsCheckFault rules takes failures from.sink to) input Write
-    check_fault_unflushed rules input NotHex f = unheld f.0
-    check_fault_unflushed rules input Memory (b, h, inl e) = unheld e
-    check_fault_unflushed rules input Memory (b, h, inr e) = unheld e
-    check_fault_unflushed rules input Write f = unfailed f.2.0 f.2.2
-    check_fault_unflushed rules input Read f = absurd f
-    check_fault_unflushed rules input (Refused place reason) f = absurd f
-    check_fault_unflushed rules input (Truncated n) f = absurd f
-    check_fault_unflushed rules input NoConnection f = absurd f
-    check_fault_unflushed rules input Failed f = absurd f
-    check_fault_unflushed rules input (Line number) f = absurd f
-
-    check_hex_fault_unflushed : (sender : Sender) (input : List ℕ) (fault : RunFault)
-        → IsCheckHexFault (buffered_takes takes failures) count from mid sender input fault
-        → IsCheckHexFault takes failures from.sink to sender input Write
-    check_hex_fault_unflushed Host input fault f = check_fault_unflushed element_rules input fault f
-    check_hex_fault_unflushed ExtendedHost input fault f = check_fault_unflushed extended_rules input fault f
-    check_hex_fault_unflushed Station input fault f = check_fault_unflushed answer_rules input fault f
-    check_hex_fault_unflushed ExtendedStation input fault f = check_fault_unflushed extended_answer_rules input fault f
-
-    show_fault_unflushed : {Place U : Type 0} (rules : Rules Place U) (view : View U)
-        (input : List ℕ) (fault : RunFault)
-        → IsHexFault (buffered_takes takes failures) count from mid
-        (IsShowFault (buffered_takes takes failures) count from mid rules view) input fault
-        → IsHexFault takes failures from.sink to (IsShowFault takes failures from.sink to rules view) input Write
-    show_fault_unflushed rules view input NotHex f = unheld f.0
-    show_fault_unflushed rules view input Memory (b, h, inl e) = unheld e
-    show_fault_unflushed rules view input Memory (b, h, inr e) =
-        (b, h, (_, inl (first_lines e.0 e.1), flush_fails takes failures count from empty mid to _ e.3 none))
-    show_fault_unflushed rules view input Write f = unfailed f.2.0 f.2.2
-    show_fault_unflushed rules view input Read f = absurd f
-    show_fault_unflushed rules view input (Refused place reason) f = absurd f
-    show_fault_unflushed rules view input (Truncated n) f = absurd f
-    show_fault_unflushed rules view input NoConnection f = absurd f
-    show_fault_unflushed rules view input Failed f = absurd f
-    show_fault_unflushed rules view input (Line number) f = absurd f
-
-    make_fault_unflushed : {Place U : Type 0} (rules : Rules Place U) (w : Wording U)
-        (Showing : List ℕ → List (Item U) → Type 0)
-        (input : List ℕ) (fault : RunFault)
-        → IsMakeFault rules w Showing (buffered_takes takes failures) count from mid input fault
-        → IsMakeFault rules w Showing takes failures from.sink to input Write
-    make_fault_unflushed rules w Showing input (Line number) f = unheld f.0
-    make_fault_unflushed rules w Showing input Memory f = unheld f.0
-    make_fault_unflushed rules w Showing input Write f = unfailed _ f.2
-    make_fault_unflushed rules w Showing input NotHex f = absurd f
-    make_fault_unflushed rules w Showing input Read f = absurd f
-    make_fault_unflushed rules w Showing input (Refused place reason) f = absurd f
-    make_fault_unflushed rules w Showing input (Truncated n) f = absurd f
-    make_fault_unflushed rules w Showing input NoConnection f = absurd f
-    make_fault_unflushed rules w Showing input Failed f = absurd f
-
-    fault_unflushed : (asked : Asked) (input : List ℕ) (fault : RunFault)
-        → IsAnswerFault (buffered_takes takes failures) count from mid asked input fault
-        → IsAnswerFault takes failures from.sink to asked input Write
-    fault_unflushed (Check file cut sender) input fault f = check_hex_fault_unflushed sender input fault f
-    fault_unflushed (Show file Host paint) input fault f =
-        show_fault_unflushed element_rules (painted_host_view paint) input fault f
-    fault_unflushed (Show file ExtendedHost paint) input fault f =
-        show_fault_unflushed extended_rules (extended_view paint) input fault f
-    fault_unflushed (Show file Station paint) input fault f =
-        show_fault_unflushed answer_rules answer_view input fault f
-    fault_unflushed (Show file ExtendedStation paint) input fault f =
-        show_fault_unflushed extended_answer_rules told_view input fault f
-    fault_unflushed (Make file Host) input fault f =
-        make_fault_unflushed element_rules element_wording Shows input fault f
-    fault_unflushed (Make file ExtendedHost) input fault f =
-        make_fault_unflushed extended_rules extended_wording ShowsExtended input fault f
-    fault_unflushed (Make file Station) input fault f =
-        make_fault_unflushed answer_rules answer_wording ShowsAnswers input fault f
-    fault_unflushed (Make file ExtendedStation) input fault f =
-        make_fault_unflushed extended_answer_rules told_wording ShowsTold input fault f
-    fault_unflushed (Play file screen false paint) input (Line number) f = unheld f.0
-    fault_unflushed (Play file screen false paint) input Memory f = unheld f.0
-    fault_unflushed (Play file screen false paint) input Write f = unfailed f.2 f.4
-    fault_unflushed (Play file screen false paint) input NotHex f = absurd f
-    fault_unflushed (Play file screen false paint) input Read f = absurd f
-    fault_unflushed (Play file screen false paint) input (Refused place reason) f = absurd f
-    fault_unflushed (Play file screen false paint) input (Truncated n) f = absurd f
-    fault_unflushed (Play file screen false paint) input NoConnection f = absurd f
-    fault_unflushed (Play file screen false paint) input Failed f = absurd f
-    fault_unflushed (Play file screen true paint) input (Line number) f = unheld f.0
-    fault_unflushed (Play file screen true paint) input Memory f = unheld f.0
-    fault_unflushed (Play file screen true paint) input NoConnection f = unheld f.0
-    fault_unflushed (Play file screen true paint) input Read f = unheld f.0
-    fault_unflushed (Play file screen true paint) input Write (m, s, inl e) = unheld e
-    fault_unflushed (Play file screen true paint) input Write (m, s, inr e) = unfailed e.1 e.3
-    fault_unflushed (Play file screen true paint) input NotHex f = absurd f
-    fault_unflushed (Play file screen true paint) input (Refused place reason) f = absurd f
-    fault_unflushed (Play file screen true paint) input (Truncated n) f = absurd f
-    fault_unflushed (Play file screen true paint) input Failed f = absurd f
-
-    pub outcome_unflushed : (asked : Asked) (input : List ℕ) (outcome : Result Bool RunFault)
-        → IfOk outcome (λ accepted. HasAnswered (buffered_takes takes failures) count from mid asked input accepted)
-        → IfErr outcome (λ fault. IsAnswerFault (buffered_takes takes failures) count from mid asked input fault)
-        → IsAnswerFault takes failures from.sink to asked input Write
-    outcome_unflushed asked input (Ok accepted) h f = done_unflushed asked input accepted h
-    outcome_unflushed asked input (Err fault) h f = fault_unflushed asked input fault f

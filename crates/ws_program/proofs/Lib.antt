@@ -4,9 +4,13 @@ pub mod ExtendedRecords
 pub mod FrontItems
 pub mod HexDigits
 pub mod Makings
+pub mod OpenParts
 pub mod Parts
 pub mod Plays
 pub mod Shows
+pub mod SoFarShows
+pub mod SoFarTexts
+pub mod UnflushedBuffers
 pub mod ViewLaws
 pub mod ReadBack
 pub mod WholeItems

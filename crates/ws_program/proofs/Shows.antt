@@ -234,7 +234,7 @@ module _ {Place U Made : Type 0} {rules : Rules Place U} {view : View U} {makes 
   part = record { placed = w.placed; shown = w.shown; last = None; complete = tt; lines = w.are_lines }
 
   -- the lines of an item more
-  part_more : (x : Placed U) → IsComplete rules bytes (items_of w.placed) x → AreFirstLines rules view bytes
+  pub part_more : (x : Placed U) → IsComplete rules bytes (items_of w.placed) x → AreFirstLines rules view bytes
       (lines ++ view.lines x.0 x.1)
   part_more x c = record {
     placed = w.placed;
@@ -272,7 +272,7 @@ module _ {Place U Made : Type 0} {rules : Rules Place U} {view : View U} {makes 
       }
 
   -- the next item isn't carried out
-  unapplied : (x : Placed U) (reason : Reason) → IsComplete rules bytes (items_of w.placed) x
+  pub unapplied : (x : Placed U) (reason : Reason) → IsComplete rules bytes (items_of w.placed) x
       → view.fault (items_of w.placed) x.1 ≡ Some reason → IsShown rules view bytes false
       ((lines ++ view.lines x.0 x.1) ++ line_of (Refused x.0 reason) (length bytes))
   unapplied x reason c found =
@@ -355,22 +355,6 @@ module _ {S : Type 0} (takes : MayTake S) (failures : S → ℕ) (from : S) wher
       lines ++ view.lines x.0 x.1,
       shows_next w x new next is none made_more,
       went_out_both takes failures from mid to lines (view.lines x.0 x.1) went more,
-    )
-
-    -- it isn't carried out
-    pub stops_unapplied : (mid : S) (x : Placed U) (reason : Reason) → WentOut takes failures from mid lines
-        → IsComplete rules bytes (items_of w.placed) x → WentOut takes failures mid to (view.lines x.0 x.1)
-        → view.fault (items_of w.placed) x.1 ≡ Some reason → IsStop takes failures from to rules view bytes
-        (verdict_by (faults.Refused x.0 reason))
-    stops_unapplied mid x reason went c more found = (
-      refl,
-      (
-        lines ++ view.lines x.0 x.1,
-        part_more w x c,
-        went_out_both takes failures from mid to lines
-            (view.lines x.0 x.1) went more,
-        unapplied w x reason c found,
-      ),
     )
 
     -- the next item's lines don't go out whole

@@ -19,7 +19,8 @@ use Rattle.ws_text.specs.ExtendedAnswerWords.{told_wording}
 use Rattle.ws_text.specs.ExtendedWords.{extended_wording}
 use Rattle.ws_text.specs.Shown.{Shows, ShowsAnswers, ShowsExtended, ShowsTold}
 use Rattle.ws_program.specs.Making.{HasMade, IsMakeFault}
-use Rattle.ws_program.specs.StreamText.{View, IsShown, IsShowFault}
+use Rattle.ws_program.specs.SoFar.{IsShownWith, IsShowFaultWith}
+use Rattle.ws_program.specs.StreamText.{View}
 use Rattle.ws_program.specs.ExtendedView.{extended_view}
 use Rattle.ws_program.specs.Views.{painted_host_view, answer_view, told_view}
 use Rattle.ws_live.specs.declared.paint.Paint.{Paint}
@@ -64,9 +65,9 @@ module _ {S : Type 0} (takes : MayTake S) (failures : S → ℕ) (from to : S) w
   HasChecked rules bytes accepted = (verdict : Verdict) × IsVerdict rules bytes verdict
       × (accepted ≡ is_accepted verdict) × WentOut takes failures from to (line_of verdict (length bytes))
 
-  -- what is shown of a stream went out
-  abbrev pub HasShown : {Place U : Type 0} → Rules Place U → View U → List ℕ → Bool → Type 0
-  HasShown rules view bytes accepted = (text : List ℕ) × IsShown rules view bytes accepted text
+  -- what is shown of a stream went out, without what has come of an open record or with it
+  abbrev pub HasShown : {Place U : Type 0} → Rules Place U → View U → Bool → List ℕ → Bool → Type 0
+  HasShown rules view so_far bytes accepted = (text : List ℕ) × IsShownWith so_far rules view bytes accepted text
       × WentOut takes failures from to text
 
   -- what a session tells after a script's moves went out; its terminal is the default one
@@ -92,15 +93,15 @@ module _ {S : Type 0} (takes : MayTake S) (failures : S → ℕ) (from to : S) w
       × HasChecked extended_answer_rules bytes accepted
 
   -- what is shown of the bytes that a hex text tells went out; a station's answers have no screen
-  abbrev pub HasShownHex : Paint → Sender → List ℕ → Bool → Type 0
-  HasShownHex paint Host input accepted = (bytes : List ℕ) × IsHexOf bytes input
-      × HasShown element_rules (painted_host_view paint) bytes accepted
-  HasShownHex paint ExtendedHost input accepted = (bytes : List ℕ) × IsHexOf bytes input
-      × HasShown extended_rules (extended_view paint) bytes accepted
-  HasShownHex paint Station input accepted = (bytes : List ℕ) × IsHexOf bytes input
-      × HasShown answer_rules answer_view bytes accepted
-  HasShownHex paint ExtendedStation input accepted = (bytes : List ℕ) × IsHexOf bytes input
-      × HasShown extended_answer_rules told_view bytes accepted
+  abbrev pub HasShownHex : Paint → Bool → Sender → List ℕ → Bool → Type 0
+  HasShownHex paint so_far Host input accepted = (bytes : List ℕ) × IsHexOf bytes input
+      × HasShown element_rules (painted_host_view paint) so_far bytes accepted
+  HasShownHex paint so_far ExtendedHost input accepted = (bytes : List ℕ) × IsHexOf bytes input
+      × HasShown extended_rules (extended_view paint) so_far bytes accepted
+  HasShownHex paint so_far Station input accepted = (bytes : List ℕ) × IsHexOf bytes input
+      × HasShown answer_rules answer_view so_far bytes accepted
+  HasShownHex paint so_far ExtendedStation input accepted = (bytes : List ℕ) × IsHexOf bytes input
+      × HasShown extended_answer_rules told_view so_far bytes accepted
 
   -- the stream of the items that a text spells went out, as those of a sender
   abbrev pub HasMadeBy : Sender → List ℕ → Bool → Type 0
@@ -117,7 +118,7 @@ module _ {S : Type 0} (takes : MayTake S) (failures : S → ℕ) (from to : S) w
   -- station, that a hex text tells, with a script, or with items as text
   abbrev pub HasAnswered : Asked → List ℕ → Bool → Type 0
   HasAnswered (Check file cut sender) input accepted = HasCheckedHex sender input accepted
-  HasAnswered (Show file sender paint) input accepted = HasShownHex paint sender input accepted
+  HasAnswered (Show file sender paint so_far) input accepted = HasShownHex paint so_far sender input accepted
   HasAnswered (Play file screen false paint) input accepted = HasPlayed paint screen input accepted
   HasAnswered (Play file screen true paint) input accepted = HasPlayedByTcp paint screen input accepted
   HasAnswered (Make file sender) input accepted = HasMadeBy sender input accepted
@@ -139,15 +140,15 @@ module _ {S : Type 0} (takes : MayTake S) (failures : S → ℕ) (from to : S) w
       (IsCheckFault extended_answer_rules takes failures from to) input fault
 
   -- what is answered of a hex text where what is shown of it doesn't go out
-  abbrev pub IsShowHexFault : Paint → Sender → List ℕ → RunFault → Type 0
-  IsShowHexFault paint Host input fault = IsHexFault
-      (IsShowFault takes failures from to element_rules (painted_host_view paint)) input fault
-  IsShowHexFault paint ExtendedHost input fault = IsHexFault
-      (IsShowFault takes failures from to extended_rules (extended_view paint)) input fault
-  IsShowHexFault paint Station input fault = IsHexFault
-      (IsShowFault takes failures from to answer_rules answer_view) input fault
-  IsShowHexFault paint ExtendedStation input fault = IsHexFault
-      (IsShowFault takes failures from to extended_answer_rules told_view) input fault
+  abbrev pub IsShowHexFault : Paint → Bool → Sender → List ℕ → RunFault → Type 0
+  IsShowHexFault paint so_far Host input fault = IsHexFault
+      (IsShowFaultWith takes failures from to element_rules (painted_host_view paint) so_far) input fault
+  IsShowHexFault paint so_far ExtendedHost input fault = IsHexFault
+      (IsShowFaultWith takes failures from to extended_rules (extended_view paint) so_far) input fault
+  IsShowHexFault paint so_far Station input fault = IsHexFault
+      (IsShowFaultWith takes failures from to answer_rules answer_view so_far) input fault
+  IsShowHexFault paint so_far ExtendedStation input fault = IsHexFault
+      (IsShowFaultWith takes failures from to extended_answer_rules told_view so_far) input fault
 
   -- what is answered of items as text whose stream doesn't go out
   abbrev pub IsMakeFaultBy : Sender → List ℕ → RunFault → Type 0
@@ -185,7 +186,7 @@ module _ {S : Type 0} (takes : MayTake S) (failures : S → ℕ) (from to : S) w
   -- what the program answers where it didn't do all that it was asked for
   abbrev pub IsAnswerFault : Asked → List ℕ → RunFault → Type 0
   IsAnswerFault (Check file cut sender) input fault = IsCheckHexFault sender input fault
-  IsAnswerFault (Show file sender paint) input fault = IsShowHexFault paint sender input fault
+  IsAnswerFault (Show file sender paint so_far) input fault = IsShowHexFault paint so_far sender input fault
   IsAnswerFault (Play file screen false paint) input fault = IsPlayFault paint screen input fault
   IsAnswerFault (Play file screen true paint) input fault = IsTcpPlayFault paint screen input fault
   IsAnswerFault (Make file sender) input fault = IsMakeFaultBy sender input fault

@@ -3,7 +3,9 @@ pub mod CheckLine
 pub mod Checking
 pub mod ExtendedView
 pub mod HexText
+pub mod OpenParts
 pub mod RunFaults
+pub mod SoFar
 pub mod StreamText
 pub mod Streams
 pub mod Views

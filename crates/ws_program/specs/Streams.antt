@@ -17,7 +17,7 @@ missing open_ reads_input = if reads_input && not open_.input then Some Read
 -- what is asked for, without a connection
 abbrev pub in_one_place : Asked → Asked
 in_one_place (Check file cut answers) = Check file cut answers
-in_one_place (Show file answers paint) = Show file answers paint
+in_one_place (Show file answers paint so_far) = Show file answers paint so_far
 in_one_place (Play file screen tcp paint) = Play file screen false paint
 in_one_place (Make file answers) = Make file answers
 

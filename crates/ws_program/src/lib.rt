@@ -10,10 +10,12 @@ mod fault;
 mod hex_text;
 mod input;
 mod make;
+mod open_part;
 mod open_streams;
 mod program;
 mod show;
 mod shown;
+mod so_far;
 mod tcp;
 mod verdict;
 

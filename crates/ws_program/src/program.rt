@@ -3,7 +3,6 @@ ghost use Rattle.ws_stream.specs.AnswerParts.{answer_rules};
 ghost use Rattle.ws_stream.specs.Elements.{element_rules};
 ghost use Rattle.ws_program.specs.Answering.{HasAnswered, HasChecked, HasCheckedHex, IsCheckHexFault, HasShown};
 ghost use Rattle.ws_program.specs.Answering.{HasShownHex, IsShowHexFault, HasMadeBy, IsMakeFaultBy};
-ghost use Rattle.ws_program.specs.ExtendedView.{extended_view};
 ghost use Rattle.ws_program.specs.Answering.{HasPlayed, HasPlayedByTcp, IsAnswerFault, IsHexFault, IsPlayFault};
 ghost use Rattle.ws_program.specs.Answering.{IsTcpPlayFault, status_of};
 ghost use Rattle.ws_text.specs.AnswerWords.{answer_wording};
@@ -16,9 +15,9 @@ ghost use Rattle.ws_text.specs.Shown.{Shows, ShowsAnswers, ShowsExtended, ShowsT
 ghost use Rattle.ws_program.specs.HexText.{IsHexOf};
 ghost use Rattle.ws_program.specs.Checking.{IsCheckFault};
 ghost use Rattle.ws_program.specs.Making.{HasMade, IsMakeFault};
-ghost use Rattle.ws_program.specs.StreamText.{IsShowFault};
+ghost use Rattle.ws_program.specs.SoFar.{IsShowFaultWith};
 ghost use Rattle.ws_program.specs.Streams.{HasAnsweredOpenly, IsOpenFault, in_one_place as without_connection};
-ghost use Rattle.ws_program.specs.Views.{painted_host_view, answer_view, told_view};
+ghost use Rattle.ws_program.specs.Views.{in_paint};
 ghost use Rattle.std.specs.Prelude.{List as Seq, ℕ};
 
 use crate::check::check_to;
@@ -26,7 +25,8 @@ use crate::fault::RunFault;
 use crate::hex_text::hex_bytes;
 use crate::make::make_to;
 use crate::open_streams::OpenStreams;
-use crate::show::{show_answers_to, show_extended_answers_to, show_extended_to, show_painted_to};
+use crate::show::show_with;
+use crate::shown::Shown;
 use crate::tcp::play_tcp;
 use std::alloc::Global;
 use std::net::{Net, TcpListener, TcpStream};
@@ -61,7 +61,12 @@ pub fn answer<R: Net<Listener = TcpListener, Stream = TcpStream>, S: Sink>(
 {
     match asked {
         Asked::Check { cut, from, .. } => check_sent(alloc, text, cut.get(), from, sink),
-        Asked::Show { from, paint, .. } => show_sent(alloc, text, paint, from, sink),
+        Asked::Show {
+            from,
+            paint,
+            so_far,
+            ..
+        } => show_sent(alloc, text, paint, so_far, from, sink),
         Asked::Play {
             screen,
             tcp,
@@ -190,84 +195,42 @@ fn show_sent<S: Sink>(
     alloc: Global,
     text: &[u8],
     paint: Paint,
+    so_far: bool,
     from: Sender,
     sink: &mut S,
 ) -> Result<bool, RunFault>
     ensures done { IfOk result (λ accepted.
-        HasShownHex S.takes S.failures sink.old sink.new paint from text.now accepted) }
+        HasShownHex S.takes S.failures sink.old sink.new paint so_far from text.now accepted) }
     ensures fault { IfErr result (λ fault.
-        IsShowHexFault S.takes S.failures sink.old sink.new paint from text.now fault) }
+        IsShowHexFault S.takes S.failures sink.old sink.new paint so_far from text.now fault) }
 {
     match from {
-        Sender::Host => show_text(alloc, text, paint, sink),
-        Sender::ExtendedHost => show_extended_text(alloc, text, paint, sink),
-        Sender::Station => show_answers_text(alloc, text, sink),
-        Sender::ExtendedStation => show_extended_answers_text(alloc, text, sink),
+        Sender::Host => show_text::<Commands, S>(alloc, text, paint, so_far, sink),
+        Sender::ExtendedHost => show_text::<ExtendedCommands, S>(alloc, text, paint, so_far, sink),
+        Sender::Station => show_text::<Answers, S>(alloc, text, paint, so_far, sink),
+        Sender::ExtendedStation => {
+            show_text::<ExtendedAnswers, S>(alloc, text, paint, so_far, sink)
+        }
     }
 }
 
-// Writes what is shown of the bytes that a hex text tells, as a host's.
-fn show_text<S: Sink>(
+// The same, as items of a body.
+fn show_text<B: Shown, S: Sink>(
     alloc: Global,
     text: &[u8],
     paint: Paint,
+    so_far: bool,
     sink: &mut S,
 ) -> Result<bool, RunFault>
     ensures done { IfOk result (λ accepted. (bytes : Seq ℕ) × IsHexOf bytes text.now
         × HasShown S.takes S.failures sink.old sink.new
-        element_rules (painted_host_view paint) bytes accepted) }
+        B.rules (in_paint B.view B.Ends paint) so_far bytes accepted) }
     ensures fault { IfErr result (IsHexFault S.takes S.failures sink.old sink.new
-        (IsShowFault S.takes S.failures sink.old sink.new
-        element_rules (painted_host_view paint)) text.now) }
+        (IsShowFaultWith S.takes S.failures sink.old sink.new
+        B.rules (in_paint B.view B.Ends paint) so_far) text.now) }
 {
     let bytes = hex_bytes(alloc, text)?;
-    Ok(show_painted_to(alloc, paint, bytes.as_slice(), sink)?)
-}
-
-// The same as a live host's.
-fn show_extended_text<S: Sink>(
-    alloc: Global,
-    text: &[u8],
-    paint: Paint,
-    sink: &mut S,
-) -> Result<bool, RunFault>
-    ensures done { IfOk result (λ accepted. (bytes : Seq ℕ) × IsHexOf bytes text.now
-        × HasShown S.takes S.failures sink.old sink.new
-        extended_rules (extended_view paint) bytes accepted) }
-    ensures fault { IfErr result (IsHexFault S.takes S.failures sink.old sink.new
-        (IsShowFault S.takes S.failures sink.old sink.new
-        extended_rules (extended_view paint)) text.now) }
-{
-    let bytes = hex_bytes(alloc, text)?;
-    Ok(show_extended_to(alloc, paint, bytes.as_slice(), sink)?)
-}
-
-// The same as a station's.
-fn show_answers_text<S: Sink>(alloc: Global, text: &[u8], sink: &mut S) -> Result<bool, RunFault>
-    ensures done { IfOk result (λ accepted. (bytes : Seq ℕ) × IsHexOf bytes text.now
-        × HasShown S.takes S.failures sink.old sink.new answer_rules answer_view bytes accepted) }
-    ensures fault { IfErr result (IsHexFault S.takes S.failures sink.old sink.new
-        (IsShowFault S.takes S.failures sink.old sink.new answer_rules answer_view) text.now) }
-{
-    let bytes = hex_bytes(alloc, text)?;
-    Ok(show_answers_to(alloc, bytes.as_slice(), sink)?)
-}
-
-// The same as a live host's station's.
-fn show_extended_answers_text<S: Sink>(
-    alloc: Global,
-    text: &[u8],
-    sink: &mut S,
-) -> Result<bool, RunFault>
-    ensures done { IfOk result (λ accepted. (bytes : Seq ℕ) × IsHexOf bytes text.now
-        × HasShown S.takes S.failures sink.old sink.new
-        extended_answer_rules told_view bytes accepted) }
-    ensures fault { IfErr result (IsHexFault S.takes S.failures sink.old sink.new
-        (IsShowFault S.takes S.failures sink.old sink.new
-        extended_answer_rules told_view) text.now) }
-{
-    let bytes = hex_bytes(alloc, text)?;
-    Ok(show_extended_answers_to(alloc, bytes.as_slice(), sink)?)
+    Ok(show_with::<B, S>(alloc, paint, so_far, bytes.as_slice(), sink)?)
 }
 
 // Plays a script, and writes what its session tells.

@@ -10,12 +10,15 @@ ghost use Rattle.ws_extended.specs.ExtendedElements.{extended_rules};
 ghost use Rattle.ws_program.specs.ExtendedView.{extended_view};
 ghost use Rattle.ws_text.specs.Shown.{Shows};
 ghost use Rattle.ws_program.specs.CheckLine.{verdict_by};
+ghost use Rattle.ws_program.specs.SoFar.{IsShownSoFar, IsSoFarFault, IsShownWith, IsShowFaultWith};
+ghost use Rattle.ws_program.specs.SoFar.{IsThrough, IsHalted, bytes_before as the_bytes_before};
 ghost use Rattle.ws_program.specs.StreamText.{IsShown, AreFirstLines, IsShowFault, IsStop, HasBegun, IsNext, IsNextFault};
 ghost use Rattle.ws_live.specs.declared.paint.Paint.{Paint as APaint};
 ghost use Rattle.ws_program.specs.Views.{host_view, painted_host_view, answer_view, told_view, in_paint};
 
 use crate::shown::Shown;
-use crate::verdict::verdict_by_fault;
+use crate::so_far::write_so_far;
+use crate::verdict::{Verdict, verdict_by_fault};
 use std::alloc::Global;
 use ws_code::{Body, Fault, Sink};
 use ws_extended::{ExtendedAnswers, ExtendedCommands};
@@ -152,38 +155,108 @@ pub fn show_body_to<B: Shown, S: Sink>(
 {
     let mut made = B::before_any();
     match show_items::<B, S>(alloc, bytes, &mut made, sink) {
-        Ok(()) => write_end::<B, S>(paint, &made, sink),
+        Ok(None) => write_end::<B, S>(paint, &made, sink),
+        Ok(Some(verdict)) => verdict.write_to(bytes.len(), sink),
         Err(fault) => verdict_by_fault(fault)?.write_to(bytes.len(), sink),
     }
 }
 
-// Writes the items, and carries them out. `Refused` and `Truncated` where the stream isn't accepted, or an item can't
-// be carried out: at that item's last byte. In no paint does an item show otherwise.
+/// Does the same, and where a byte is refused or the bytes end too early, it writes before the last line what has come
+/// of the record that is open there.
+///
+/// That is the line `open record`, with flags and opcode once its ten header bytes are there, the lines of the units
+/// that are complete, and in a paint what stands behind the items. Where no byte of a record has come nothing is added.
+/// Those bytes are then read once more.
+///
+/// `Memory` also where a growth for that was refused.
+pub fn show_so_far_to<B: Shown, S: Sink>(
+    alloc: Global,
+    paint: Paint,
+    bytes: &[u8],
+    sink: &mut S,
+) -> Result<bool, Fault>
+    ensures printed { IfOk result (λ accepted. (text : List ℕ)
+        × IsShownSoFar B.rules (in_paint B.view B.Ends paint) bytes.now accepted text
+        × WentOut S.takes S.failures sink.old sink.new text) }
+    ensures fault { IfErr result (λ fault. IsSoFarFault S.takes S.failures sink.old sink.new
+        B.rules (in_paint B.view B.Ends paint) bytes.now fault) }
+    ensures parts_begin { (accepted : Bool) (whole part : List ℕ)
+        → IsShownSoFar B.rules (in_paint B.view B.Ends paint) bytes.now accepted whole
+        → AreFirstLines B.rules (in_paint B.view B.Ends paint) bytes.now part
+        → (rest : List ℕ) × (whole ≡ part ++ rest) }
+{
+    let mut made = B::before_any();
+    match show_items::<B, S>(alloc, bytes, &mut made, sink) {
+        Ok(None) => write_end::<B, S>(paint, &made, sink),
+        Ok(Some(verdict)) => verdict.write_to(bytes.len(), sink),
+        Err(fault) => {
+            let verdict = verdict_by_fault(fault)?;
+            write_so_far::<B, S>(alloc, paint, bytes_before(verdict, bytes), &made, sink)?;
+            verdict.write_to(bytes.len(), sink)
+        }
+    }
+}
+
+/// Does the one or the other.
+pub fn show_with<B: Shown, S: Sink>(
+    alloc: Global,
+    paint: Paint,
+    so_far: bool,
+    bytes: &[u8],
+    sink: &mut S,
+) -> Result<bool, Fault>
+    ensures printed { IfOk result (λ accepted. (text : List ℕ)
+        × IsShownWith so_far B.rules (in_paint B.view B.Ends paint) bytes.now accepted text
+        × WentOut S.takes S.failures sink.old sink.new text) }
+    ensures fault { IfErr result (λ fault. IsShowFaultWith S.takes S.failures sink.old sink.new
+        B.rules (in_paint B.view B.Ends paint) so_far bytes.now fault) }
+{
+    if so_far {
+        show_so_far_to::<B, S>(alloc, paint, bytes, sink)
+    } else {
+        show_body_to::<B, S>(alloc, paint, bytes, sink)
+    }
+}
+
+// The bytes before the one at which they stop.
+fn bytes_before(verdict: Verdict, bytes: &[u8]) -> &[u8]
+    ensures { result.now ≡ the_bytes_before verdict bytes.now }
+{
+    match verdict {
+        Verdict::Refused { place, .. } => &bytes[..bytes.len().min(place as usize)],
+        Verdict::Accepted { .. } | Verdict::Truncated { .. } => bytes,
+    }
+}
+
+// Writes the items, and carries them out: the verdict of one that can't be carried out, which is the last. `Refused`
+// and `Truncated` where the stream isn't accepted. In no paint does an item show otherwise.
 fn show_items<B: Shown, S: Sink>(
     alloc: Global,
     bytes: &[u8],
     made: &mut B::Made,
     sink: &mut S,
-) -> Result<(), Fault>
+) -> Result<Option<Verdict>, Fault>
     requires given { B.makes [] made.old }
-    ensures ok { OnOk result ((paint : APaint) → (lines : List ℕ)
-        × AreFirstLines B.rules (in_paint B.view B.Ends paint) bytes.now lines
-        × WentOut S.takes S.failures sink.old sink.new lines
-        × ((text : List ℕ) → ((items : List (AnItem B.Unit)) → B.makes items made.new
-        → B.Ends paint items text)
-        → IsShown B.rules (in_paint B.view B.Ends paint) bytes.now true (lines ++ text))) }
+    ensures ok { IfOk result (λ unapplied. (paint : APaint)
+        → IsThrough S.takes S.failures sink.old sink.new B.rules (in_paint B.view B.Ends paint)
+        bytes.now (λ text. (items : List (AnItem B.Unit)) → B.makes items made.new
+        → B.Ends paint items text) unapplied) }
     ensures err { IfErr result (λ fault. (paint : APaint)
         → IsStop S.takes S.failures sink.old sink.new B.rules (in_paint B.view B.Ends paint)
         bytes.now (verdict_by fault)) }
+    ensures halted { IfErr result (λ fault. (paint : APaint)
+        → IsHalted S.takes S.failures sink.old sink.new B.rules (in_paint B.view B.Ends paint)
+        bytes.now (λ items. B.makes items made.new) fault) }
 {
     let mut receiver = Receiver::<B>::new(alloc);
     while let Some((place, item)) = next_item::<B>(&mut receiver, bytes)? {
         write_item::<B, S>(place, &item, sink)?;
         if let Err(reason) = B::carry_out(made, &item) {
-            return Err(Fault::Refused { place, reason });
+            return Ok(Some(Verdict::Refused { place, reason }));
         }
     }
-    receiver.finish()
+    receiver.finish()?;
+    Ok(None)
 }
 
 // The item that is complete next behind the bytes that were taken, with the place of its last byte.

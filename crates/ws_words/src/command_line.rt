@@ -41,11 +41,12 @@ pub enum Asked<'a> {
         from: Sender,
     },
     /// To show the items of a hex text: as a host's commands, with the screen that they make in a paint, or as a
-    /// station's answers.
+    /// station's answers. With `so_far` also what has come of the record that is open where the bytes stop.
     Show {
         file: Option<&'a str>,
         from: Sender,
         paint: Paint,
+        so_far: bool,
     },
     /// To play a script with both ends, and to tell what happens; with `screen` also the station's screen at the end,
     /// in a paint. With `tcp` their bytes go over a connection.
@@ -110,10 +111,16 @@ more for what a live host's station tells at once:
     IMMEDIATE R C     the cursor; the fields that were read at once follow
 Of a host's stream the last line is then `error row R` where an error stands.
 
+With --so-far, where a stream is refused or ends too early in a record, before
+the last line come `open record flags FFFF opcode K`, lines for the elements
+that are complete, and of a host's stream the screen that the records before
+it made; before the record's tenth byte the first line is `open record`.
+
 Examples:
   t5250 show capture.hex
   t5250 show --color capture.hex
   t5250 show --extended live.hex
+  t5250 show --so-far cut.hex
   t5250 show --answers answers.hex
   t5250 show --answers --extended station.hex
   echo 000A12A0000004000001FFEF | t5250 show";
@@ -163,6 +170,9 @@ const ANSWERS_HELP: &str = "Reads what a station sends, and not what a host send
 
 const EXTENDED_HELP: &str =
     "Takes also what live hosts send beside the profile, or with --answers what their stations tell";
+
+const SO_FAR_HELP: &str =
+    "Prints also what has come of the record that is open where the stream isn't accepted";
 
 const HEX_HELP: &str = "A hex text; without it, standard input is read";
 
@@ -218,6 +228,7 @@ fn show_command<'a>(alloc: Global) -> CommandParts<'a> {
     .word(flag(alloc, "answers", ANSWERS_HELP))
     .word(flag(alloc, "extended", EXTENDED_HELP))
     .word(flag(alloc, "color", COLOR_HELP))
+    .word(flag(alloc, "so-far", SO_FAR_HELP))
     .word(place(alloc, "FILE", HEX_HELP, false))
 }
 
@@ -322,6 +333,7 @@ fn show_asked<'a>(words: &ArgMatches<'a>) -> Asked<'a> {
         file: words.get_str("FILE"),
         from: sender_asked(words),
         paint: paint_asked(words),
+        so_far: words.get_flag("so-far"),
     }
 }
 

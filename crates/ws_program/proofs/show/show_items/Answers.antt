@@ -1,12 +1,13 @@
 use Rattle.std.proofs.Common.{[], sym, arith}
-use Rattle.std.proofs.lemmas.Result.{err_from_is_err_and, IfErr-weaker, on_ok_weaker}
+use Rattle.std.proofs.lemmas.Result.{err_from_is_err_and}
 use Rattle.ws_code.proofs.DeviceLaws.{went_out_none}
 use Rattle.ws_program.specs.StreamText.{items_of}
 use Rattle.ws_program.specs.Views.{in_paint}
 use Rattle.ws_live.specs.declared.paint.Paint.TheVariants.{Plain}
 use Rattle.ws_program.proofs.Shows.{shows_none, next_is, none_next}
-use Rattle.ws_program.proofs.Shows.{fewer_left, goes_on, part, accepted_behind}
-use Rattle.ws_program.proofs.Shows.{stops_next, stops_early, stops_at_item, stops_unapplied}
+use Rattle.ws_program.proofs.Shows.{fewer_left, goes_on}
+use Rattle.ws_program.proofs.Shows.{stops_next, stops_early, stops_at_item}
+use Rattle.ws_program.proofs.SoFarShows.{through_all, through_unapplied, halts_next, halts_early, fails_at_item}
 use Rattle.ws_program.proofs.WholeItems.{whole_next}
 use Rattle.ws_program.proofs.show.show_items.Goals as goal
 
@@ -53,14 +54,33 @@ carry_out-requires-clause-known g c = (
   (c.loop-receiver.invariant Plain).1.makes_it,
 )
 
-pub returns-in-Err-clause-err : goal.returns-in-Err-clause-err
-returns-in-Err-clause-err g c = λ paint.
+pub returns-in_err-place-clause-halted : goal.returns-in_err-place-clause-halted
+returns-in_err-place-clause-halted g c =
+    let p = err_from_is_err_and c.from_residual.result c.from_residual.ensures.1 in
+    rw (p.1, p.2) (λ paint.
+    let inv = c.loop-receiver.invariant paint in
+    halts_next inv.1 g.S.Sink.takes g.S.Sink.failures c.args.sink.now c.loop-receiver.sink inv.2 _
+    c.in_err-place.ensures.fault)
+
+pub returns-in_err-write_item-clause-halted : goal.returns-in_err-write_item-clause-halted
+returns-in_err-write_item-clause-halted g c =
+    let p = err_from_is_err_and c.from_residual-in_err-write_item.result c.from_residual-in_err-write_item.ensures.1 in
+    let f = c.in_err-write_item.ensures.err in
+    rw (p.1, p.2, f.0) (λ paint.
     let inv = c.loop-receiver.invariant paint in
     let next = next_is inv.1 c.next_item.new.receiver _ (c.in-Some.place, c.in-Some.item) c.in-Some.is
     c.in_ok-place.ensures.next in
-    stops_unapplied g.S.Sink.takes g.S.Sink.failures c.args.sink.now inv.1 c.write_item.new.sink c.loop-receiver.sink
-    (c.in-Some.place, c.in-Some.item) c.in-Err.reason inv.2 next.complete c.in_ok-write_item.ensures.ok
-    (sym (c.in-Err.ensures.fault (items_of inv.1.placed) inv.1.makes_it))
+    fails_at_item inv.1 g.S.Sink.takes g.S.Sink.failures c.args.sink.now c.loop-receiver.sink c.write_item.new.sink
+    (c.in-Some.place, c.in-Some.item) inv.2 next.complete f.1)
+
+pub returns-in-Err-clause-ok : goal.returns-in-Err-clause-ok
+returns-in-Err-clause-ok g c = λ paint.
+    let inv = c.loop-receiver.invariant paint in
+    let next = next_is inv.1 c.next_item.new.receiver _ (c.in-Some.place, c.in-Some.item) c.in-Some.is
+    c.in_ok-place.ensures.next in
+    through_unapplied inv.1 g.S.Sink.takes g.S.Sink.failures c.args.sink.now c.loop-receiver.sink c.write_item.new.sink
+    (c.in-Some.place, c.in-Some.item) c.in-Err.reason (λ text. Unit {0}) inv.2 next.complete
+    c.in_ok-write_item.ensures.ok (sym (c.in-Err.ensures.fault (items_of inv.1.placed) inv.1.makes_it))
 
 pub loop-receiver-preserved-in_default-carry_out : goal.loop-receiver-preserved-in_default-carry_out
 loop-receiver-preserved-in_default-carry_out g c = λ paint.
@@ -93,19 +113,29 @@ pub loop-receiver-smaller : goal.loop-receiver-smaller
 loop-receiver-smaller g c = fewer_left (next_is (c.loop-receiver.invariant Plain).1 c.next_item.new.receiver _
     (c.in-Some.place, c.in-Some.item) c.in-Some.is c.in_ok-place.ensures.next)
 
-pub returns-clause-ok : goal.returns-clause-ok
-returns-clause-ok g c =
-    on_ok_weaker c.finish.result (λ d paint.
-    let inv = c.loop-receiver.invariant paint in
-    let received = none_next inv.1 c.next_item.new.receiver _ c.in_default.is c.in_ok-place.ensures.next in
-    (inv.0, part inv.1, inv.2, accepted_behind inv.1 (d.1 c.args.bytes.now (items_of inv.1.placed) received)))
-    c.finish.ensures.ok
-
-pub returns-clause-err : goal.returns-clause-err
-returns-clause-err g c =
-    IfErr-weaker c.finish.result _ _ (λ fault f paint.
+pub returns-in_err-finish-clause-err : goal.returns-in_err-finish-clause-err
+returns-in_err-finish-clause-err g c =
+    let p = err_from_is_err_and c.from_residual-in_err-finish.result c.from_residual-in_err-finish.ensures.1 in
+    rw (p.1, p.2) (λ paint.
     let inv = c.loop-receiver.invariant paint in
     let received = none_next inv.1 c.next_item.new.receiver _ c.in_default.is c.in_ok-place.ensures.next in
     stops_early g.S.Sink.takes g.S.Sink.failures c.args.sink.now inv.1 c.loop-receiver.sink inv.2
-    c.next_item.new.receiver received fault (f c.args.bytes.now (items_of inv.1.placed) received (omega arith)))
-    c.finish.ensures.truncated
+    c.next_item.new.receiver received _
+    (c.in_err-finish.ensures.truncated c.args.bytes.now (items_of inv.1.placed) received (omega arith)))
+
+pub returns-in_err-finish-clause-halted : goal.returns-in_err-finish-clause-halted
+returns-in_err-finish-clause-halted g c =
+    let p = err_from_is_err_and c.from_residual-in_err-finish.result c.from_residual-in_err-finish.ensures.1 in
+    rw (p.1, p.2) (λ paint.
+    let inv = c.loop-receiver.invariant paint in
+    let received = none_next inv.1 c.next_item.new.receiver _ c.in_default.is c.in_ok-place.ensures.next in
+    halts_early inv.1 g.S.Sink.takes g.S.Sink.failures c.args.sink.now c.loop-receiver.sink inv.2
+    c.next_item.new.receiver received _
+    (c.in_err-finish.ensures.truncated c.args.bytes.now (items_of inv.1.placed) received (omega arith)))
+
+pub returns-clause-ok : goal.returns-clause-ok
+returns-clause-ok g c = λ paint.
+    let inv = c.loop-receiver.invariant paint in
+    let received = none_next inv.1 c.next_item.new.receiver _ c.in_default.is c.in_ok-place.ensures.next in
+    through_all inv.1 g.S.Sink.takes g.S.Sink.failures c.args.sink.now c.loop-receiver.sink inv.2
+    (c.in_ok-finish.ensures.ok.1 c.args.bytes.now (items_of inv.1.placed) received)

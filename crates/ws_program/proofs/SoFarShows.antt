@@ -1,0 +1,356 @@
+use Rattle.std.proofs.Common.{◌≡◌, ℕ, List, [], ◌∷◌, ◌++◌, Bool, true}
+use Rattle.std.proofs.Common.{false, None, Some, inl, inr, length, refl, sym, ap}
+use Rattle.std.proofs.Common.{◌∙◌, subst, append_assoc}
+use Rattle.std.specs.Prelude.{◌⊎◌, Ok, Err}
+use Rattle.ws_code.specs.Code.{Rules}
+use Rattle.ws_code.specs.Device.{MayTake, WentOut, FailedWithin}
+use Rattle.ws_code.proofs.DeviceLaws.{went_out_both, failed_within_both}
+use Rattle.ws_code.proofs.Parts.{fails_last}
+use Rattle.ws_code.specs.declared.fault.Fault.{Fault}
+use Rattle.ws_code.specs.declared.fault.Fault.TheVariants as faults
+use Rattle.ws_code.specs.declared.reason.Reason.{Reason}
+use Rattle.ws_record.specs.Grammar.{IsInGrammar}
+use Rattle.ws_record.specs.Refusal.{IsTruncated}
+use Rattle.ws_record.specs.Receiver.{Receiving, HasReceived}
+use Rattle.ws_record.specs.declared.record.Item.{Item}
+use Rattle.ws_text.specs.Printing.{IsTextFault}
+use Rattle.ws_program.specs.CheckLine.{line_of, is_accepted, verdict_by}
+use Rattle.ws_program.specs.SoFar.{IsShownSoFar, IsShownWith, IsSoFarText, IsSoFarFault, IsThrough, IsHalted}
+use Rattle.ws_program.specs.SoFar.{StopsBehind, IsShowFaultWith, bytes_before}
+use Rattle.ws_program.specs.StreamText.{View, Placed, items_of, lines_of, HoldsItems, AreShown, AreFirstLines}
+use Rattle.ws_program.specs.StreamText.{IsComplete, IsNextFault}
+use Rattle.ws_program.specs.declared.verdict.Verdict.{Verdict}
+use Rattle.ws_program.specs.declared.verdict.Verdict.TheVariants.{Refused, Truncated}
+use Rattle.ws_program.proofs.Shows.{Shows, accepted_behind, unapplied, part, part_more}
+
+-- Items that are shown one after another, and what has come of a record behind them.
+
+refused_is : (place : ℕ) (reason : Reason) (verdict : Verdict) → verdict_by (faults.Refused place reason) ≡ Ok verdict
+    → Refused place reason ≡ verdict
+refused_is place reason verdict e = cc
+
+truncated_is : (n : ℕ) (verdict : Verdict) → verdict_by (faults.Truncated n) ≡ Ok verdict → Truncated n ≡ verdict
+truncated_is n verdict e = cc
+
+refused_not : (place : ℕ) (reason : Reason) (given : Fault) → verdict_by (faults.Refused place reason) ≡ Err given → ⊥
+refused_not place reason given e = cc
+
+truncated_not : (n : ℕ) (given : Fault) → verdict_by (faults.Truncated n) ≡ Err given → ⊥
+truncated_not n given e = cc
+
+memory_is : (given : Fault) → verdict_by faults.Memory ≡ Err given → faults.Memory ≡ given
+memory_is given e = cc
+
+memory_not : (verdict : Verdict) → verdict_by faults.Memory ≡ Ok verdict → ⊥
+memory_not verdict e = cc
+
+write_is : (given : Fault) → verdict_by faults.Write ≡ Err given → faults.Write ≡ given
+write_is given e = cc
+
+write_not : (verdict : Verdict) → verdict_by faults.Write ≡ Ok verdict → ⊥
+write_not verdict e = cc
+
+module _ {Place U Made : Type 0} {rules : Rules Place U} {view : View U} {makes : List (Item U) → Made → Type 0}
+    {bytes lines : List ℕ} {receiver : Receiving Place U} {made : Made}
+    (w : Shows rules view makes bytes receiver made lines) where
+  -- the stream is accepted
+  accepted_with : IsInGrammar rules bytes (items_of w.placed) → (text : List ℕ)
+      → ((items : List (Item U)) → makes items made → view.Ends items text) → (so_far : Bool)
+      → IsShownWith so_far rules view bytes true (lines ++ text)
+  accepted_with a text ends false = accepted_behind w a text ends
+  accepted_with a text ends true =
+      let s = accepted_behind w a text ends in
+      record { placed = s.placed; shown = s.shown; end = s.end; ends = s.ends; lines = s.lines }
+
+  -- the next item isn't carried out
+  unapplied_with : (x : Placed U) (reason : Reason) → IsComplete rules bytes (items_of w.placed) x
+      → view.fault (items_of w.placed) x.1 ≡ Some reason → (so_far : Bool) → IsShownWith so_far rules view bytes false
+      ((lines ++ view.lines x.0 x.1) ++ line_of (Refused x.0 reason) (length bytes))
+  unapplied_with x reason c found false = unapplied w x reason c found
+  unapplied_with x reason c found true =
+      let behind : List ℕ = view.lines x.0 x.1 ++ line_of (Refused x.0 reason) (length bytes) in
+      record {
+        placed = w.placed;
+        shown = w.shown;
+        end = behind;
+        ends = inr (inr (x, reason, c, found, refl));
+        lines = append_assoc lines (view.lines x.0 x.1) (line_of (Refused x.0 reason) (length bytes))
+            ∙ ap (λ z. z ++ behind) w.are_lines;
+      }
+
+  module _ {S : Type 0} (takes : MayTake S) (failures : S → ℕ) (from : S) where
+    -- all are carried out
+    pub through_all : (to : S) → WentOut takes failures from to lines
+        → IsInGrammar rules bytes (items_of w.placed) → IsThrough takes failures from to rules view bytes
+        (λ text. (items : List (Item U)) → makes items made → view.Ends items text) None
+    through_all to went a = (lines, part w, went, λ text ends so_far. accepted_with a text ends so_far)
+
+    -- the last one isn't
+    pub through_unapplied : (mid to : S) (x : Placed U) (reason : Reason) (IsEnding : List ℕ → Type 0)
+        → WentOut takes failures from mid lines → IsComplete rules bytes (items_of w.placed) x
+        → WentOut takes failures mid to (view.lines x.0 x.1) → view.fault (items_of w.placed) x.1 ≡ Some reason
+        → IsThrough takes failures from to rules view bytes IsEnding (Some (Refused x.0 reason))
+    through_unapplied mid to x reason IsEnding went c more found = (
+      refl,
+      (
+        lines ++ view.lines x.0 x.1,
+        part_more w x c,
+        went_out_both takes failures from mid to lines (view.lines x.0 x.1) went more,
+        λ so_far. unapplied_with x reason c found so_far,
+      ),
+    )
+
+    -- a byte is refused behind them, or a growth was
+    pub halts_next : (to : S) → WentOut takes failures from to lines → (fault : Fault)
+        → IsNextFault rules bytes receiver fault
+        → IsHalted takes failures from to rules view bytes (λ items. makes items made) fault
+    halts_next to went (faults.Refused place reason) f = (
+      w.placed,
+      w.shown,
+      (f.0, f.1 (items_of w.placed) w.taken),
+      subst (λ (t : List ℕ). WentOut takes failures from to t) w.are_lines went,
+      w.makes_it,
+    )
+    halts_next to went (faults.Truncated n) f = absurd f
+    halts_next to went faults.Memory f = (
+      w.placed,
+      w.shown,
+      f (items_of w.placed) w.taken,
+      subst (λ (t : List ℕ). WentOut takes failures from to t) w.are_lines went,
+    )
+    halts_next to went faults.Read f = absurd f
+    halts_next to went faults.Write f = absurd f
+    halts_next to went faults.Failed f = absurd f
+
+    -- they end too early
+    pub halts_early : (to : S) → WentOut takes failures from to lines → (last : Receiving Place U)
+        → HasReceived rules last bytes (items_of w.placed) → (fault : Fault)
+        → (fault ≡ faults.Truncated (length bytes)) × IsTruncated rules bytes
+        → IsHalted takes failures from to rules view bytes (λ items. makes items made) fault
+    halts_early to went last received fault f =
+        rw f.0 (
+          w.placed,
+          w.shown,
+          (refl, f.1, (received.leads.0, last.live.begun, received.leads.1.holds)),
+          subst (λ (t : List ℕ). WentOut takes failures from to t) w.are_lines went,
+          w.makes_it,
+        )
+
+    -- the lines of one don't go out whole
+    pub fails_at_item : (mid to : S) (x : Placed U) → WentOut takes failures from mid lines
+        → IsComplete rules bytes (items_of w.placed) x → FailedWithin takes failures mid to (view.lines x.0 x.1)
+        → (text : List ℕ) × AreFirstLines rules view bytes text × FailedWithin takes failures from to text
+    fails_at_item mid to x went c f = (
+      lines ++ view.lines x.0 x.1,
+      part_more w x c,
+      fails_last takes failures from mid to lines (view.lines x.0 x.1) went f,
+    )
+
+module _ {Place U S : Type 0} (takes : MayTake S) (failures : S → ℕ) (from mid : S) (rules : Rules Place U)
+    (view : View U) (bytes : List ℕ) (IsMade : List (Item U) → Type 0) where
+  -- what is added of the open record where the bytes stop
+  abbrev pub AddsThere : Verdict → List ℕ → Type 0
+  AddsThere verdict added = (items : List (Item U)) → HoldsItems rules (bytes_before verdict bytes) items
+      → IsMade items → IsSoFarText rules view (bytes_before verdict bytes) items added
+
+  -- the lines that went out, and behind them what is added and the last line
+  pub record GoesOn (verdict : Verdict) (lines : List ℕ) : Type 0 where
+    pub went : WentOut takes failures from mid lines
+    pub on : (added : List ℕ) → AddsThere verdict added
+        → IsShownSoFar rules view bytes false (lines ++ (added ++ line_of verdict (length bytes)))
+
+  first_lines : (placed : List (Placed U)) → AreShown rules view bytes [] placed
+      → AreFirstLines rules view bytes (lines_of view placed)
+  first_lines placed shown = record { placed = placed; shown = shown; last = None; complete = tt; lines = refl }
+
+  refused_goes_on : (place : ℕ) (reason : Reason)
+      → IsHalted takes failures from mid rules view bytes IsMade (faults.Refused place reason)
+      → (lines : List ℕ) × GoesOn (Refused place reason) lines
+  refused_goes_on place reason h =
+      let line : List ℕ = line_of (Refused place reason) (length bytes) in (
+        lines_of view h.0,
+        record {
+          went = h.3;
+          on = λ added adds. record {
+            placed = h.0;
+            shown = h.1;
+            end = added ++ line;
+            ends = inl (added, line, (place, reason, h.2.0, h.2.1, refl), adds (items_of h.0) h.2.1 h.4, refl);
+            lines = refl;
+          };
+        },
+      )
+
+  truncated_goes_on : (n : ℕ) → IsHalted takes failures from mid rules view bytes IsMade (faults.Truncated n)
+      → (lines : List ℕ) × GoesOn (Truncated n) lines
+  truncated_goes_on n h =
+      let line : List ℕ = line_of (Truncated n) (length bytes) in (
+        lines_of view h.0,
+        record {
+          went = h.3;
+          on = λ added adds. record {
+            placed = h.0;
+            shown = h.1;
+            end = added ++ line;
+            ends = inr (inl (
+              added,
+              line,
+              (h.2.1, h.2.2, ap (λ (k : ℕ). line_of (Truncated k) (length bytes)) h.2.0),
+              adds (items_of h.0) h.2.2 h.4,
+              refl,
+            ));
+            lines = refl;
+          };
+        },
+      )
+
+  pub halted_goes_on : (fault : Fault) (verdict : Verdict) → verdict_by fault ≡ Ok verdict
+      → IsHalted takes failures from mid rules view bytes IsMade fault → (lines : List ℕ) × GoesOn verdict lines
+  halted_goes_on (faults.Refused place reason) verdict e h =
+      subst (λ (v : Verdict). (lines : List ℕ) × GoesOn v lines) (refused_is place reason verdict e)
+      (refused_goes_on place reason h)
+  halted_goes_on (faults.Truncated n) verdict e h =
+      subst (λ (v : Verdict). (lines : List ℕ) × GoesOn v lines) (truncated_is n verdict e) (truncated_goes_on n h)
+  halted_goes_on faults.Memory verdict e h = absurd (memory_not verdict e)
+  halted_goes_on faults.Read verdict e h = absurd h.2
+  halted_goes_on faults.Write verdict e h = absurd (write_not verdict e)
+  halted_goes_on faults.Failed verdict e h = absurd h.2
+
+  -- the fault before that
+  pub halted_fault : (fault given : Fault) → verdict_by fault ≡ Err given
+      → IsHalted takes failures from mid rules view bytes IsMade fault
+      → IsSoFarFault takes failures from mid rules view bytes given
+  halted_fault (faults.Refused place reason) given e h = absurd (refused_not place reason given e)
+  halted_fault (faults.Truncated n) given e h = absurd (truncated_not n given e)
+  halted_fault faults.Memory given e h =
+      subst (λ (f : Fault). IsSoFarFault takes failures from mid rules view bytes f) (memory_is given e) (inl h)
+  halted_fault faults.Read given e h = absurd h.2
+  halted_fault faults.Write given e h =
+      subst (λ (f : Fault). IsSoFarFault takes failures from mid rules view bytes f) (write_is given e)
+      (h.0, inl h.1, h.2)
+  halted_fault faults.Failed given e h = absurd h.2
+
+  -- where the growth for what is added is refused, or it doesn't go out whole
+  pub unadded : (fault : Fault) (verdict : Verdict) → verdict_by fault ≡ Ok verdict
+      → IsHalted takes failures from mid rules view bytes IsMade fault → (to : S) (why : Fault)
+      → IsTextFault takes failures mid to (AddsThere verdict) why
+      → IsSoFarFault takes failures from to rules view bytes why
+  unadded fault verdict e h to faults.Memory f = inr (placed_at fault verdict e h to f)
+    where
+      placed_at : (fault : Fault) (verdict : Verdict) → verdict_by fault ≡ Ok verdict
+          → IsHalted takes failures from mid rules view bytes IsMade fault → (to : S) → to ≡ mid
+          → (placed : List (Placed U)) × (stop : Fault) × AreShown rules view bytes [] placed
+          × StopsBehind rules bytes placed stop × WentOut takes failures from to (lines_of view placed)
+      placed_at (faults.Refused place reason) verdict e h to same =
+          (h.0, faults.Refused place reason, h.1, h.2, rw same h.3)
+      placed_at (faults.Truncated n) verdict e h to same = (h.0, faults.Truncated n, h.1, h.2, rw same h.3)
+      placed_at faults.Memory verdict e h to same = absurd (memory_not verdict e)
+      placed_at faults.Read verdict e h to same = absurd h.2
+      placed_at faults.Write verdict e h to same = absurd (write_not verdict e)
+      placed_at faults.Failed verdict e h to same = absurd h.2
+  unadded fault verdict e h to faults.Write f =
+      let on = halted_goes_on fault verdict e h in
+      let line : List ℕ = line_of verdict (length bytes) in (
+        on.0 ++ (f.0 ++ line),
+        inr (false, on.1.on f.0 f.1),
+        failed_within_both takes failures from mid to on.0 f.0 line on.1.went f.2,
+      )
+  unadded fault verdict e h to (faults.Refused place reason) f = absurd f
+  unadded fault verdict e h to (faults.Truncated n) f = absurd f
+  unadded fault verdict e h to faults.Read f = absurd f
+  unadded fault verdict e h to faults.Failed f = absurd f
+
+module _ {Place U S : Type 0} (takes : MayTake S) (failures : S → ℕ) (from mid to : S) (rules : Rules Place U)
+    (view : View U) (bytes : List ℕ) (so_far : Bool) where
+  -- the whole text went out
+  abbrev pub HasGoneOut : Bool → Type 0
+  HasGoneOut accepted = (text : List ℕ) × IsShownWith so_far rules view bytes accepted text
+      × WentOut takes failures from to text
+
+  -- what comes behind lines that went out goes out
+  pub went_behind : (accepted : Bool) (lines text : List ℕ) → WentOut takes failures from mid lines
+      → IsShownWith so_far rules view bytes accepted (lines ++ text) → WentOut takes failures mid to text
+      → HasGoneOut accepted
+  went_behind accepted lines text w shown h =
+      (lines ++ text, shown, went_out_both takes failures from mid to lines text w h)
+
+  -- or not the whole of it
+  pub fails_behind : (accepted : Bool) (lines text : List ℕ) → WentOut takes failures from mid lines
+      → IsShownWith so_far rules view bytes accepted (lines ++ text) → (fault : Fault)
+      → (fault ≡ faults.Write) × FailedWithin takes failures mid to text
+      → IsShowFaultWith takes failures from to rules view so_far bytes fault
+  fails_behind accepted lines text w shown fault f = rw f.0 (failed so_far shown)
+    where
+      failed : (so_far : Bool) → IsShownWith so_far rules view bytes accepted (lines ++ text)
+          → IsShowFaultWith takes failures from to rules view so_far bytes faults.Write
+      failed false shown =
+          (lines ++ text, inr (accepted, shown), fails_last takes failures from mid to lines text w f.1)
+      failed true shown =
+          (lines ++ text, inr (accepted, shown), fails_last takes failures from mid to lines text w f.1)
+
+  -- behind all items
+  pub all_written : (IsEnding : List ℕ → Type 0) (accepted : Bool) (text : List ℕ)
+      → IsThrough takes failures from mid rules view bytes IsEnding None → accepted ≡ true → IsEnding text
+      → WentOut takes failures mid to text → HasGoneOut accepted
+  all_written IsEnding accepted text t is ending h =
+      went_behind accepted t.0 text t.2 (rw is (t.3 text ending so_far)) h
+
+  pub all_unwritten : (IsEnding : List ℕ → Type 0) (text : List ℕ)
+      → IsThrough takes failures from mid rules view bytes IsEnding None → IsEnding text → (fault : Fault)
+      → (fault ≡ faults.Write) × FailedWithin takes failures mid to text
+      → IsShowFaultWith takes failures from to rules view so_far bytes fault
+  all_unwritten IsEnding text t ending fault f = fails_behind true t.0 text t.2 (t.3 text ending so_far) fault f
+
+  -- behind one that isn't carried out
+  pub unapplied_written : (IsEnding : List ℕ → Type 0) (verdict : Verdict) (accepted : Bool)
+      → IsThrough takes failures from mid rules view bytes IsEnding (Some verdict)
+      → accepted ≡ is_accepted verdict → WentOut takes failures mid to (line_of verdict (length bytes))
+      → HasGoneOut accepted
+  unapplied_written IsEnding verdict accepted t is h =
+      went_behind accepted t.1.0 _ t.1.2 (rw (is ∙ t.0) (t.1.3 so_far)) h
+
+  pub unapplied_unwritten : (IsEnding : List ℕ → Type 0) (verdict : Verdict)
+      → IsThrough takes failures from mid rules view bytes IsEnding (Some verdict) → (fault : Fault)
+      → (fault ≡ faults.Write) × FailedWithin takes failures mid to (line_of verdict (length bytes))
+      → IsShowFaultWith takes failures from to rules view so_far bytes fault
+  unapplied_unwritten IsEnding verdict t fault f = fails_behind false t.1.0 _ t.1.2 (t.1.3 so_far) fault f
+
+-- no stream that stops is accepted
+stop_refuses : (fault : Fault) (verdict : Verdict) → verdict_by fault ≡ Ok verdict → is_accepted verdict ≡ false
+stop_refuses (faults.Refused place reason) verdict e = ap is_accepted (sym (refused_is place reason verdict e))
+stop_refuses (faults.Truncated n) verdict e = ap is_accepted (sym (truncated_is n verdict e))
+stop_refuses faults.Memory verdict e = absurd (memory_not verdict e)
+stop_refuses faults.Read verdict e = cc
+stop_refuses faults.Write verdict e = absurd (write_not verdict e)
+stop_refuses faults.Failed verdict e = cc
+
+module _ {Place U S : Type 0} (takes : MayTake S) (failures : S → ℕ) (from mid next to : S) (rules : Rules Place U)
+    (view : View U) (bytes : List ℕ) (IsMade : List (Item U) → Type 0) (fault : Fault) (verdict : Verdict)
+    (is : verdict_by fault ≡ Ok verdict) (h : IsHalted takes failures from mid rules view bytes IsMade fault)
+    (added : List ℕ) (adds : AddsThere takes failures from mid rules view bytes IsMade verdict added)
+    (went : WentOut takes failures mid next added) where
+  abbrev pub line : List ℕ
+  line = line_of verdict (length bytes)
+
+  -- the last line goes out behind what is added
+  pub stop_written : (accepted : Bool) → accepted ≡ is_accepted verdict → WentOut takes failures next to line
+      → (text : List ℕ) × IsShownSoFar rules view bytes accepted text × WentOut takes failures from to text
+  stop_written accepted e w =
+      let on = halted_goes_on takes failures from mid rules view bytes IsMade fault verdict is h in (
+        on.0 ++ (added ++ line),
+        rw (e ∙ stop_refuses fault verdict is) (on.1.on added adds),
+        went_out_both takes failures from mid to on.0 (added ++ line) on.1.went
+            (went_out_both takes failures mid next to added line went w),
+      )
+
+  -- or not
+  pub stop_unwritten : (why : Fault) → (why ≡ faults.Write) × FailedWithin takes failures next to line
+      → IsSoFarFault takes failures from to rules view bytes why
+  stop_unwritten why f =
+      let on = halted_goes_on takes failures from mid rules view bytes IsMade fault verdict is h in
+      rw f.0 (
+        on.0 ++ (added ++ line),
+        inr (false, on.1.on added adds),
+        fails_last takes failures from mid to on.0 (added ++ line) on.1.went
+            (fails_last takes failures mid next to added line went f.1),
+      )

@@ -1,0 +1,134 @@
+-- What `show --so-far` adds where a stream is refused or cut: what has come of the record whose IAC EOR hasn't.
+
+use Rattle.std.specs.Prelude.{◌≡◌, ℕ, List, [], ◌∷◌, ◌++◌, ◌⊎◌, Bool, true, false, Option, None, Some, codes, length}
+use Rattle.std.specs.Prelude.{take, drop}
+use Rattle.ws_code.specs.Code.{Rules}
+use Rattle.ws_code.specs.Device.{MayTake, WentOut, FailedWithin}
+use Rattle.ws_code.specs.declared.fault.Fault.{Fault}
+use Rattle.ws_code.specs.declared.fault.Fault.TheVariants.{Memory, Write}
+use Rattle.ws_code.specs.declared.fault.Fault.TheVariants as faults
+use Rattle.ws_record.specs.DataStep.{record_of}
+use Rattle.ws_record.specs.Live.{HoldsPart}
+use Rattle.ws_record.specs.Refusal.{IsRefused, IsTruncated}
+use Rattle.ws_record.specs.declared.record.Head.{Head}
+use Rattle.ws_record.specs.declared.record.Item.{Item}
+use Rattle.ws_record.specs.declared.record.Item.TheVariants.{Record as RecordItem}
+use Rattle.ws_program.specs.CheckLine.{line_of, is_accepted}
+use Rattle.ws_program.specs.StreamText.{View, Placed, items_of, lines_of, HoldsItems, AreShown, AreFirstLines, IsShown}
+use Rattle.ws_program.specs.StreamText.{IsEnd, IsRefusedEnd, IsTruncatedEnd, IsUnappliedEnd, IsShowFault}
+use Rattle.ws_program.specs.declared.verdict.Verdict.{Verdict}
+use Rattle.ws_program.specs.declared.verdict.Verdict.TheVariants.{Accepted, Refused, Truncated}
+
+-- the bytes up to the one at which a stream stops
+abbrev pub bytes_before : Verdict → List ℕ → List ℕ
+bytes_before (Accepted records commands) bytes = bytes
+bytes_before (Refused place reason) bytes = take place bytes
+bytes_before (Truncated n) bytes = bytes
+
+-- the line of a record whose header isn't there, where one is open
+abbrev pub begun_line : Bool → List ℕ
+begun_line true = codes "open record" ++ 10 ∷ []
+begun_line false = []
+
+module _ {U : Type 0} where
+  -- The lines of an open record: before its tenth byte (RFC 1205, section 3) one, and then those of a record of which
+  -- these units are the body, with `open` where that has `at 0`.
+  abbrev pub open_lines : View U → Option Head → List U → List ℕ
+  open_lines view None units = begun_line true
+  open_lines view (Some head) units = codes "open" ++ drop 4 (view.lines 0 (RecordItem (record_of head units)))
+
+  -- the lines of a record of which these bytes have come: none where no byte has
+  abbrev pub lines_so_far : View U → List ℕ → Option Head → List U → List ℕ
+  lines_so_far view [] head units = []
+  lines_so_far view (b ∷ bytes) head units = open_lines view head units
+
+  -- what is added of a record of which these bytes have come: where any has, its lines and what stands behind the items
+  abbrev pub IsAdded : View U → List (Item U) → List ℕ → Option Head → List U → List ℕ → Type 0
+  IsAdded view items [] head units text = text ≡ []
+  IsAdded view items (b ∷ bytes) head units text = (behind : List ℕ) × view.Ends items behind
+      × (text ≡ open_lines view head units ++ behind)
+
+module _ {Place U : Type 0} where
+  -- the lines of the record that is open behind the items
+  abbrev pub AreOpenLines : Rules Place U → View U → List ℕ → List (Item U) → List ℕ → Type 0
+  AreOpenLines rules view bytes items text = (head : Option Head) × (units : List U)
+      × (part : HoldsPart rules bytes items head units) × (text ≡ lines_so_far view part.so_far head units)
+
+  -- what is added of the record that is open behind the items
+  abbrev pub IsSoFarText : Rules Place U → View U → List ℕ → List (Item U) → List ℕ → Type 0
+  IsSoFarText rules view bytes items text = (head : Option Head) × (units : List U)
+      × (part : HoldsPart rules bytes items head units) × IsAdded view items part.so_far head units text
+
+  -- a byte is refused behind the items: what has come of the open record before it is shown, and the refusal's line
+  abbrev pub IsRefusedSoFar : Rules Place U → View U → List ℕ → List (Placed U) → List ℕ → Type 0
+  IsRefusedSoFar rules view bytes placed text = (added line : List ℕ) × (e : IsRefusedEnd rules bytes placed line)
+      × IsSoFarText rules view (take e.0 bytes) (items_of placed) added × (text ≡ added ++ line)
+
+  -- the bytes end too early behind the items: what has come of the open record is shown, and the line of that
+  abbrev pub IsTruncatedSoFar : Rules Place U → View U → List ℕ → List (Placed U) → List ℕ → Type 0
+  IsTruncatedSoFar rules view bytes placed text = (added line : List ℕ) × IsTruncatedEnd rules bytes placed line
+      × IsSoFarText rules view bytes (items_of placed) added × (text ≡ added ++ line)
+
+  -- What stands behind the items. Behind an item that isn't carried out no record is open.
+  abbrev pub IsSoFarEnd : Rules Place U → View U → List ℕ → List (Placed U) → Bool → List ℕ → Type 0
+  IsSoFarEnd rules view bytes placed true text = IsEnd rules view bytes placed true text
+  IsSoFarEnd rules view bytes placed false text = IsRefusedSoFar rules view bytes placed text
+      ⊎ (IsTruncatedSoFar rules view bytes placed text ⊎ IsUnappliedEnd rules view bytes placed text)
+
+  -- the whole text that is shown of a stream with what has come of an open record
+  pub record IsShownSoFar (rules : Rules Place U) (view : View U) (bytes : List ℕ) (accepted : Bool) (text : List ℕ)
+      : Type 0 where
+    pub placed : List (Placed U)
+    pub shown : AreShown rules view bytes [] placed
+    pub end : List ℕ
+    pub ends : IsSoFarEnd rules view bytes placed accepted end
+    pub lines : text ≡ lines_of view placed ++ end
+
+  -- the whole text that is shown of a stream, without what has come of an open record or with it
+  abbrev pub IsShownWith : Bool → Rules Place U → View U → List ℕ → Bool → List ℕ → Type 0
+  IsShownWith false rules view bytes accepted text = IsShown rules view bytes accepted text
+  IsShownWith true rules view bytes accepted text = IsShownSoFar rules view bytes accepted text
+
+  -- behind the items a byte is refused, or the bytes end too early
+  abbrev pub StopsBehind : Rules Place U → List ℕ → List (Placed U) → Fault → Type 0
+  StopsBehind rules bytes placed (faults.Refused place reason) = IsRefused rules bytes place reason
+      × HoldsItems rules (take place bytes) (items_of placed)
+  StopsBehind rules bytes placed (faults.Truncated n) = (n ≡ length bytes) × IsTruncated rules bytes
+      × HoldsItems rules bytes (items_of placed)
+  StopsBehind rules bytes placed fault = ⊥
+
+  module _ {S : Type 0} (takes : MayTake S) (failures : S → ℕ) (from to : S) (rules : Rules Place U)
+      (view : View U) where
+    -- Why not all of a stream is shown with what has come of an open record. The growth for that may be refused too.
+    abbrev pub IsSoFarFault : List ℕ → Fault → Type 0
+    IsSoFarFault bytes Memory = IsShowFault takes failures from to rules view bytes Memory
+        ⊎ ((placed : List (Placed U)) × (stop : Fault) × AreShown rules view bytes [] placed
+        × StopsBehind rules bytes placed stop × WentOut takes failures from to (lines_of view placed))
+    IsSoFarFault bytes Write = (text : List ℕ) × (AreFirstLines rules view bytes text
+        ⊎ ((accepted : Bool) × IsShownSoFar rules view bytes accepted text)) × FailedWithin takes failures from to text
+    IsSoFarFault bytes fault = ⊥
+
+    -- why not all of a stream is shown, without what has come of an open record or with it
+    abbrev pub IsShowFaultWith : Bool → List ℕ → Fault → Type 0
+    IsShowFaultWith false bytes fault = IsShowFault takes failures from to rules view bytes fault
+    IsShowFaultWith true bytes fault = IsSoFarFault bytes fault
+
+    -- All items were shown and carried out, and so is a stream that is accepted; or the last one isn't carried out, and
+    -- the line of that verdict goes on behind it.
+    abbrev pub IsThrough : List ℕ → (List ℕ → Type 0) → Option Verdict → Type 0
+    IsThrough bytes IsEnding None = (lines : List ℕ) × AreFirstLines rules view bytes lines
+        × WentOut takes failures from to lines × ((text : List ℕ) → IsEnding text → (so_far : Bool)
+        → IsShownWith so_far rules view bytes true (lines ++ text))
+    IsThrough bytes IsEnding (Some verdict) = (is_accepted verdict ≡ false) × ((lines : List ℕ)
+        × AreFirstLines rules view bytes lines × WentOut takes failures from to lines
+        × ((so_far : Bool) → IsShownWith so_far rules view bytes false (lines ++ line_of verdict (length bytes))))
+
+    -- where the bytes stop behind the items, the lines of these went out, and so much is made of them; or there was a
+    -- fault before
+    abbrev pub IsHalted : List ℕ → (List (Item U) → Type 0) → Fault → Type 0
+    IsHalted bytes IsMade Memory = IsShowFault takes failures from to rules view bytes Memory
+    IsHalted bytes IsMade Write = (text : List ℕ) × AreFirstLines rules view bytes text
+        × FailedWithin takes failures from to text
+    IsHalted bytes IsMade fault = (placed : List (Placed U)) × AreShown rules view bytes [] placed
+        × StopsBehind rules bytes placed fault × WentOut takes failures from to (lines_of view placed)
+        × IsMade (items_of placed)
