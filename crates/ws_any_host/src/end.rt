@@ -2,13 +2,13 @@
 ghost use Rattle.std.specs.Prelude.{IsSome};
 ghost use Rattle.ws_record.specs.RawBody.{raw_rules};
 ghost use Rattle.ws_session.specs.ActLaws.{goes_none, goes_on};
-ghost use Rattle.ws_any_host.specs.AnyLeads.{AnyGoes, AnyLeads, AnyRefuses, AnyRefusesByte, AnyStaysSilent, IsAnyShut, IsAnySendRefusal, IsAnySendTaken};
+ghost use Rattle.ws_any_host.specs.AnyLeads.{AnyGoes, AnyLeads, AnyRefuses, AnyStaysSilent, IsAnyShut, IsAnySendRefusal, IsAnySendTaken};
 ghost use Rattle.ws_any_host.specs.AnySide.{any_manner};
 
 use crate::{AnyEvent, AnyHost};
 use ws_nego::Reply;
 use ws_record::Record;
-use ws_session::{Acting, End, EndFed, EndStep, Refusal, SendFault};
+use ws_session::{Acting, End, EndFed, SendFault};
 
 impl End for AnyHost {
     type Deed = Record<u8>;
@@ -19,8 +19,6 @@ impl End for AnyHost {
 
     ghost goes = { AnyGoes };
 
-    ghost refuses_byte = { AnyRefusesByte };
-
     ghost refuses = { AnyRefuses };
 
     ghost silent = { AnyStaysSilent };
@@ -28,13 +26,6 @@ impl End for AnyHost {
     ghost over = { λ host. IsSome host.ended };
 
     ghost written = { λ host reply. reply };
-
-    fn take(&mut self, byte: u8) -> Result<EndStep<AnyEvent>, Refusal> {
-        match self.push(byte) {
-            Ok(step) => Ok(step),
-            Err(refusal) => Err(refusal),
-        }
-    }
 
     fn feed(&mut self, piece: &[u8]) -> EndFed<AnyEvent> {
         match self.push(piece[0]) {

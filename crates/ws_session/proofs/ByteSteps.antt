@@ -11,7 +11,7 @@ use C.{get_or, World, arith, subst, ◌++◌, Some, None, Runs, RunsWith, true, 
 use C.{min, ◌+◌, Err, ◌<◌, ◌∙◌, ◌≡◌, sym, inl, inr, At, ap, [], Event, IsSome, HoldsItems, Arrives}
 use Rattle.ws_session.specs.Manners.{IsHostShut}
 use Rattle.ws_session.specs.StationActs.{IsShutOn}
-use Rattle.ws_session.proofs.Arriving.{Later, gone_first, delivered, many_on, stop}
+use Rattle.ws_session.proofs.OneByOne.{Later, gone_first, delivered, many_on, stop}
 use Rattle.ws_record.proofs.Flights.{byte_more, ByteMore}
 use Rattle.ws_session.proofs.Writables.{host_writes_well, answers_writable, WritesWell}
 use Rattle.ws_session.proofs.Bytes.{byte_down, byte_up}
@@ -139,19 +139,27 @@ station_next : {H : OfHost} {t : TerminalType} {w : World} {old : WorldParts} (T
     }) (byte_to_station w)
 station_next {H} {t} {w} {old} Then x xs v told r more is = elim (gone_first element_rules answer_rules station_manner
     Then (take w.at_station (down_bytes w)) (arrived element_rules w.down w.at_station) w.station x xs v told r.station) [
-      | inl n ↦ ([], v, [], told, refl, refl, rw (append-nil old.events)
-          (station_inside r more x is (StationLater Then xs v told) old.station n.0 n.1))
+      | inl n ↦ (
+        [],
+        v,
+        [],
+        told,
+        refl,
+        refl,
+        rw (append-nil old.events)
+            (station_inside r more x is (StationLater Then xs v told) old.station n.0 n.1),
+      )
       | inr k ↦ (
-          plain_spelling answer_rules (station_manner.at w.station (Arrives k.0)).written,
-          k.3,
-          (station_manner.at w.station (Arrives k.0)).told,
-          k.4,
-          k.5,
-          k.6,
-          rw (none_told (station_manner.at w.station (Arrives k.0)).told, append-nil old.events)
-              (station_taken r more x is (StationLater Then xs k.3 k.4) old.station _ k.0 (station_takes w.station k.0)
-              refl k.2 refl k.1 k.7),
-        )
+        plain_spelling answer_rules (station_manner.at w.station (Arrives k.0)).written,
+        k.3,
+        (station_manner.at w.station (Arrives k.0)).told,
+        k.4,
+        k.5,
+        k.6,
+        rw (none_told (station_manner.at w.station (Arrives k.0)).told, append-nil old.events)
+            (station_taken r more x is (StationLater Then xs k.3 k.4) old.station _ k.0 (station_takes w.station k.0)
+            refl k.2 refl k.1 k.7),
+      )
     ]
 
 -- once nothing is in flight, more bytes make no difference
@@ -321,18 +329,26 @@ host_next : {S : OfStation} {t : TerminalType} {w : World} {old : WorldParts} (T
     }) (byte_to_host w)
 host_next {S} {t} {w} {old} Then x xs v told r more is = elim (gone_first answer_rules element_rules host_manner Then
     (take w.at_host (up_bytes w)) (arrived answer_rules w.up w.at_host) w.host x xs v told r.host) [
-      | inl n ↦ ([], v, [], told, refl, refl, rw (append-nil old.events)
-          (host_inside r more x is (HostLater Then xs v told) old.host n.0 n.1))
+      | inl n ↦ (
+        [],
+        v,
+        [],
+        told,
+        refl,
+        refl,
+        rw (append-nil old.events)
+            (host_inside r more x is (HostLater Then xs v told) old.host n.0 n.1),
+      )
       | inr k ↦ (
-          plain_spelling element_rules (host_manner.at w.host (Arrives k.0)).written,
-          k.3,
-          (host_manner.at w.host (Arrives k.0)).told,
-          k.4,
-          k.5,
-          k.6,
-          host_taken r more x is (HostLater Then xs k.3 k.4) old.host _ _ k.0 (host_takes w.host k.0) refl refl k.2 refl
-              k.1 k.7,
-        )
+        plain_spelling element_rules (host_manner.at w.host (Arrives k.0)).written,
+        k.3,
+        (host_manner.at w.host (Arrives k.0)).told,
+        k.4,
+        k.5,
+        k.6,
+        host_taken r more x is (HostLater Then xs k.3 k.4) old.host _ _ k.0 (host_takes w.host k.0) refl refl k.2 refl
+            k.1 k.7,
+      )
     ]
 
 pub host_stops : (n m : ℕ) → n ≤ m → (w : World) → byte_to_host (bytes_to_host n w) ≡ bytes_to_host n w

@@ -106,7 +106,7 @@ pub use Rattle.ws_session.specs.declared.refusal.Refusal.TheVariants.{At, Failed
 pub use Rattle.ws_session.specs.ActLaws.{came_append, gone_on, bytes_came}
 pub use Rattle.ws_session.specs.Attachments.{AttachedParts, fault_of, HaveLed, HaveLedUnwritten, HasRefused}
 pub use Rattle.ws_session.specs.Attachments.{IsByteFault, HasTaken, IsTakeFault, HasHeard, IsHearFault, IsSendFailure}
-pub use Rattle.ws_session.specs.Written.{HasWritten, HasWrittenFront, IsUntaken, IsUnheard}
+pub use Rattle.ws_session.specs.Written.{HasWritten, HasWrittenFront, IsUnheard}
 pub use Rattle.ws_session.specs.StationSide.{StationSide, opcode_events, after_record, after_key, screen_at}
 pub use Rattle.ws_session.specs.StationSide.{opcode_answer, station_applies, station_takes, KeyReaction, RefusesKey}
 pub use Rattle.ws_session.specs.StationSide.{Silent, Answers, Signals, station_key, sends, answers_read}
@@ -137,8 +137,8 @@ pub use Rattle.ws_session.specs.HostLeads.{HostLeads, HostParts, IsSent, IsSendF
 pub use Rattle.ws_session.specs.HostLeads.{IsReacted, unopened_host_side}
 pub use Rattle.ws_session.specs.StationLeads.{StationParts, StationLeads, IsPushed, IsKeyed, IsTaken}
 pub use Rattle.ws_session.specs.StationLeads.{is_record, records_in, keeps_body}
-pub use Rattle.ws_session.specs.Manners.{station_at_item, StationRefuses, StationRefusesByte, station_manner, station_at_key, host_at_send}
-pub use Rattle.ws_session.specs.Manners.{host_at_item, IsKeyRefusal, StationGoes, host_manner, HostGoes, HostRefuses, HostRefusesByte}
+pub use Rattle.ws_session.specs.Manners.{station_at_item, StationRefuses, station_manner, station_at_key, host_at_send}
+pub use Rattle.ws_session.specs.Manners.{host_at_item, IsKeyRefusal, StationGoes, host_manner, HostGoes, HostRefuses}
 pub use Rattle.ws_session.specs.Manners.{applied_by, IsKeyTaken, goes_on, told_by}
 pub use Rattle.ws_session.specs.declared.end_step.Applied.{Applied}
 pub use Rattle.ws_session.specs.declared.answer.TheConstants.{ATN, SRQ}

@@ -1,14 +1,15 @@
 use Rattle.ws_session.proofs.Common as C
-use C.{failed_within_both, take-append-drop, new_station_side, outcome_of_both, keys_left_from, StationRefusesByte, Outcome}
+use C.{failed_within_both, take-append-drop, new_station_side, outcome_of_both, keys_left_from, StationRefuses, Outcome}
 use C.{went_out_both, went_out_none, length-append, refusal_count, RunUnwritten, TerminalType, take_more}
 use C.{StationLeads, records_from, append_assoc, moments_from, FailedWithin, idle_outcome, StationParts, StationGoes, ℕ}
 use C.{StationSide, applied_by, IsRunFault, one_record, TelnetItem, append-nil, RecordItem, AtStation, Fault}
-use C.{IsUntaken, at_moment, fault_of, run_text, AreTaken, Applied, MayTake, HasDone, HasCome, Element, at_item, Moment}
+use C.{IsUnheard, at_moment, fault_of, run_text, AreTaken, Applied, MayTake, HasDone, HasCome, Element, at_item, Moment}
 use C.{WentOut, Refused, Presses, Refusal, outcome, IsTaken, moments, behind, nat_lt, length, get_or, Player}
-use C.{arith, subst, Write, later, take, drop, refl, Item, Came, List, ◌++◌, ◌∙◌, min, ◌^◌, sym, ◌≡◌}
+use C.{arith, subst, subst₂, Write, later, take, drop, refl, Item, Came, List, ◌++◌, ◌∙◌, min, ◌^◌, sym, ◌≡◌}
 use C.{◌<◌, ◌∷◌, Key, inl, ◌-◌, ◌+◌, inr, due, ◌≤◌, [], At, ap}
 use Rattle.ws_session.specs.Moments.{goes_on, Arrives}
-use Rattle.ws_session.proofs.EndSteps.{station_went, Went}
+use Rattle.ws_session.proofs.EndSteps.{station_went, Went, gone_none}
+use Rattle.ws_session.proofs.StationFeedings.{same_end}
 use Rattle.ws_session.proofs.Plays.{outcome_append, text_append, later_by, none_due, text_of}
 use Rattle.std.proofs.lemmas.Bool.{cases_Bool}
 
@@ -258,10 +259,10 @@ module _ {S : Type 0} (takes : MayTake S) (failures : S → ℕ) (t : TerminalTy
         ]
 
     -- the byte is refused, or its item
-    refused_as : (to : S) → to ≡ now → (refusal : Refusal) → StationRefusesByte before byte refusal old.station
+    refused_as : (to : S) → to ≡ now → (refusal : Refusal) → StationRefuses before [] byte refusal old.station
         → IsRunFault t keys takes failures start to (length bytes) longer (fault_of refusal)
     refused_as to unwritten (At place reason) refuses =
-        let is = refuses.led bytes items so_far.side c.is_behind.leads (omega (arith, few)) in
+        let is = gone_none (refuses.led bytes items so_far.side c.is_behind.leads (omega (arith, few))) in
         record {
           before = bytes;
           byte = byte;
@@ -275,13 +276,19 @@ module _ {S : Type 0} (takes : MayTake S) (failures : S → ℕ) (t : TerminalTy
           why = is.2;
           wrote = rw unwritten c.wrote;
         }
-    refused_as to unwritten why refuses = refuses.led bytes items so_far.side c.is_behind.leads (omega (arith, few))
+    refused_as to unwritten why refuses =
+        gone_none (refuses.led bytes items so_far.side c.is_behind.leads (omega (arith, few)))
 
     -- it doesn't come through
-    pub byte_fails : (to : S) (fault : Fault) → IsUntaken StationGoes StationRefusesByte takes failures
-        before old.station now to byte fault → IsRunFault t keys takes failures start to (length bytes) longer fault
-    byte_fails to fault (inl h) = rw h.0 (reply_fails h.1.written h.1.told h.1.led to h.1.failed)
-    byte_fails to fault (inr h) = rw h.is (refused_as to h.unwritten _ h.refused)
+    pub byte_fails : (to : S) (fault : Fault) → IsUnheard StationGoes StationRefuses takes failures
+        before old.station now to (byte ∷ []) fault → IsRunFault t keys takes failures start to (length bytes) longer fault
+    byte_fails to fault (front, last, split, inl h) =
+        rw h.0 (reply_fails h.1.written h.1.told h.1.led to h.1.failed)
+    byte_fails to fault (front, last, split, inr h) =
+        let one = same_end [] front byte last split in
+        rw h.is (refused_as to h.unwritten h.refusal
+        (subst₂ (λ (f : List ℕ) (x : ℕ). StationRefuses before f x h.refusal old.station) (sym one.0) (sym one.1)
+        h.refused))
 
 -- a fault within some bytes is one within more
 pub fault_within : (t : TerminalType) (keys : List (ℕ × Key)) {S : Type 0} (takes : MayTake S) (failures : S → ℕ)

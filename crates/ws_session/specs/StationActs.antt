@@ -52,13 +52,6 @@ module _ {D P U H PlaceV V K R : Type 0} (rules : Rules P U) (d : DisplayOf D U 
   abbrev pub GoesOnDisplay : PartsOn D P → List (Act K) → List ℕ → List Applied → PartsOn D P → Type 0
   GoesOnDisplay = Goes rules d.out (manner_on d) (LeadsOn rules d) IsShutOn
 
-  -- the station refuses this byte behind all that came before it; where it is shut, for that alone
-  pub record RefusesByteOn (old : PartsOn D P) (byte : ℕ) (refusal : Refusal) (new : PartsOn D P) : Type 0 where
-    pub led : (bytes : List ℕ) (items : List (Item U)) (side : SideOn H)
-        → LeadsOn rules d old bytes items side → length bytes + 1 < 2 ^ 64
-        → IsPushedOn rules d old new bytes items side byte (Err refusal)
-    pub shut : IsShutOn old → (refusal ≡ Failed) × (new.screen ≡ old.screen)
-
   -- The station takes these bytes, writes and tells nothing at them, and refuses the one behind them, as it refuses
   -- that byte alone. Where it is shut, it refuses the first, for that alone.
   pub record RefusesOn (old : PartsOn D P) (front : List ℕ) (byte : ℕ) (refusal : Refusal) (new : PartsOn D P)

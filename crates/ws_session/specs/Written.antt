@@ -5,7 +5,7 @@ use Rattle.ws_code.specs.declared.fault.Fault.{Fault}
 use Rattle.ws_code.specs.declared.fault.Fault.TheVariants.{Write}
 use Rattle.ws_code.specs.Device.{MayTake, WentOut, FailedWithin}
 use Rattle.ws_session.specs.declared.refusal.Refusal.{Refusal}
-use Rattle.ws_session.specs.Acts.{Act, Came, all_came}
+use Rattle.ws_session.specs.Acts.{Act, all_came}
 use Rattle.ws_session.specs.Attachments.{fault_of}
 
 module _ {E K Deed Event : Type 0} (goes : E → List (Act Deed) → List ℕ → List Event → E → Type 0) (takes : MayTake K)
@@ -23,14 +23,6 @@ module _ {E K Deed Event : Type 0} (goes : E → List (Act Deed) → List ℕ �
     pub led : goes old acts written told new
     pub failed : FailedWithin takes failures from to written
 
--- the end refused the byte, and nothing was written
-pub record RefusesByte {E K : Type 0} (refuses : E → ℕ → Refusal → E → Type 0) (old new : E) (from to : K) (byte : ℕ)
-    (why : Fault) : Type 0 where
-  pub refusal : Refusal
-  pub refused : refuses old byte refusal new
-  pub is : why ≡ fault_of refusal
-  pub unwritten : to ≡ from
-
 -- the end took these bytes and refused the one behind them, and nothing was written
 pub record RefusesBehind {E K : Type 0} (refuses : E → List ℕ → ℕ → Refusal → E → Type 0) (old new : E) (from to : K)
     (front : List ℕ) (byte : ℕ) (why : Fault) : Type 0 where
@@ -47,11 +39,3 @@ IsUnheard goes refuses takes failures old new from to bytes why = (front : List 
     × (bytes ≡ front ++ byte ∷ [])
     × (((why ≡ Write) × HasWrittenFront goes takes failures old new from to (all_came bytes))
     ⊎ RefusesBehind refuses old new from to front byte why)
-
--- a byte doesn't come through: a write failed, or the end refused the byte
-abbrev pub IsUntaken : {E K Deed Event : Type 0} (goes : E → List (Act Deed) → List ℕ → List Event → E → Type 0)
-    (refuses : E → ℕ → Refusal → E → Type 0) (takes : MayTake K) (failures : K → ℕ) (old new : E) (from to : K)
-    (byte : ℕ) → Fault → Type 0
-IsUntaken goes refuses takes failures old new from to byte why =
-    ((why ≡ Write) × HasWrittenFront goes takes failures old new from to (Came byte ∷ []))
-    ⊎ RefusesByte refuses old new from to byte why

@@ -1,37 +1,16 @@
 // What an end does at a byte or a key, and writes at once into a sink: the steps of `Attached` and of `run_station`.
 
 ghost use Rattle.std.specs.Prelude.{◌≡◌, ◌<◌, ◌≤◌, ◌∷◌, [], true, length, take, IfOk, IfErr, IfSome, IfNone};
-ghost use Rattle.ws_session.specs.Acts.{Came, Did, all_came, as_list};
+ghost use Rattle.ws_session.specs.Acts.{Did, all_came, as_list};
 ghost use Rattle.ws_session.specs.Attachments as spec;
 ghost use Rattle.ws_session.specs.Attachments.{breaks, IfTold, TellsAtLast};
 ghost use Rattle.ws_session.specs.StationActs.{GoesOnDisplay, IsKeyRefusalOn, IsKeyTakenOn};
-ghost use Rattle.ws_session.specs.Written.{HasWritten, HasWrittenFront, IsUnheard, IsUntaken};
+ghost use Rattle.ws_session.specs.Written.{HasWritten, HasWrittenFront, IsUnheard};
 
 use crate::end::End;
 use crate::end_step::EndFed;
 use crate::{KeyFault, Refusal, StationDisplay, StationOn, write_answer};
 use ws_code::{Fault, Sink, write_whole};
-
-// Takes a byte, and writes what the end answers.
-pub(crate) fn take_byte<E: End, K: Sink>(
-    end: &mut E,
-    sink: &mut K,
-    byte: u8,
-) -> Result<Option<E::Event>, Fault>
-    ensures taken { IfOk result (λ told. HasWritten E.goes K.takes K.failures
-        end.old end.new sink.old sink.new (Came byte ∷ []) (as_list told)) }
-    ensures fault { IfErr result (IsUntaken E.goes E.refuses_byte K.takes K.failures
-        end.old end.new sink.old sink.new byte) }
-    ensures breaks { IfErr result (λ fault. breaks fault ≡ true) }
-{
-    match end.take(byte) {
-        Ok(step) => {
-            write_whole(sink, end.bytes(&step.reply))?;
-            Ok(step.event)
-        }
-        Err(refusal) => Err(fault_of(refusal)),
-    }
-}
 
 // What a piece led to: how many bytes of it are gone, and what the end told, or why it stopped.
 #[derive(Drop)]
@@ -74,6 +53,21 @@ pub(crate) fn hear_piece<E: End, K: Sink>(
             told: Err(fault_of(refusal)),
         },
     }
+}
+
+// Takes a byte, and writes what the end answers.
+pub(crate) fn take_byte<E: End, K: Sink>(
+    end: &mut E,
+    sink: &mut K,
+    byte: u8,
+) -> Result<Option<E::Event>, Fault>
+    ensures taken { IfOk result (λ told. HasWritten E.goes K.takes K.failures
+        end.old end.new sink.old sink.new (all_came (byte ∷ [])) (as_list told)) }
+    ensures fault { IfErr result (IsUnheard E.goes E.refuses K.takes K.failures
+        end.old end.new sink.old sink.new (byte ∷ [])) }
+    ensures breaks { IfErr result (λ fault. breaks fault ≡ true) }
+{
+    hear_piece(end, sink, &[byte]).told
 }
 
 // A refusal as a fault.

@@ -19,7 +19,10 @@ returns-in_ok-tell-in-Err-clause-come g c =
     c.args.end.now c.feed-used.new.self (take (length piece) piece) (take c.feed-used.result.used piece) r.1 r.0 why
     (take_all (length piece) piece (omega arith) ∙ r.2) c.in_ok-refused-in-Err.ensures.memory c.args.to.now
     c.args.events.now.items c.tell-in-Err.new.events.items r.3 (rw c.in-Err.is at c.feed-used.ensures.after)
-    (λ o. ((c.feed-used.ensures.over o).2, (let e : Err why ≡ Err Failed = rw c.in-Err.is at
-    (c.feed-used.ensures.over o).0 in
-    let failed : why ≡ Failed = cc in rw failed refl)))
+    (λ o. (
+      (c.feed-used.ensures.over o).2,
+      (let e : Err why ≡ Err Failed = rw c.in-Err.is at
+          (c.feed-used.ensures.over o).0 in
+          let failed : why ≡ Failed = cc in rw failed refl),
+    ))
     (c.in_ok-tell-in-Err.ensures.told ∙ ap (λ z. c.args.events.now.items ++ z) c.in_ok-refused-in-Err.ensures.told)
