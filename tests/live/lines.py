@@ -120,9 +120,9 @@ def at_host(play, words, text, status, printed, error="", family=socket.AF_INET,
     return run
 
 
-def station_at(run):
-    """Connects to a `serve` that has begun."""
-    line = run.line()
+def station_at(run, seconds=20):
+    """Connects to a `serve` that has begun. It reads its script first."""
+    line = run.line(seconds)
     if not line.startswith("listening "):
         raise Failure("no address: %r" % line)
     host, port = line.split()[1].rsplit(":", 1)

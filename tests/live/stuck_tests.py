@@ -36,7 +36,7 @@ def a_station_that_never_reads():
     text = "await\nsend 2 0411000011010140\n" + "send 2 04110000%s\n" % ("C1" * 1900) * 4000
     with script_file(".serve", text) as script:
         serve = Run(["serve", "--wait", "1", "127.0.0.1:0", script.name])
-        side = station_at(serve)
+        side = station_at(serve, 60)
         side.stream.setsockopt(socket.SOL_SOCKET, socket.SO_RCVBUF, 4096)
         negotiate_as_station(side)
         serve.end(2, "host ready IBM-3179-2\n", "cannot write\n")
