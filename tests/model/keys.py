@@ -225,5 +225,5 @@ class Keys:
         for character in text:
             try:
                 self.type(character)
-            except KeyRefused as refused:
-                raise KeyRefused(f"{refused.args[0]} {character}") from None
+            except Refused as refused:
+                raise Refused(f"{refused.args[0]} {character}") from None
