@@ -176,7 +176,12 @@ fn waits_for_keys(rt: HostRuntime) {
         )
         .expect(&rt, "memory");
     for (script, printed, well) in &KEYS {
-        same_at(&rt, script, runs(&rt, bytes.as_slice(), script, printed), *well);
+        same_at(
+            &rt,
+            script,
+            runs(&rt, bytes.as_slice(), script, printed),
+            *well,
+        );
     }
 }
 
@@ -222,7 +227,12 @@ fn came(rt: &impl Abort, alloc: Global) -> Vec<u8> {
 fn scripts(rt: HostRuntime) {
     let bytes = came(&rt, rt.alloc());
     for (script, printed, well) in &HOSTS {
-        same_at(&rt, script, runs(&rt, bytes.as_slice(), script, printed), *well);
+        same_at(
+            &rt,
+            script,
+            runs(&rt, bytes.as_slice(), script, printed),
+            *well,
+        );
     }
 }
 

@@ -158,7 +158,8 @@ fn is_by(aid: Aid, event: &AnyEvent) -> bool
 {
     match event {
         AnyEvent::Ready(_) => false,
-        AnyEvent::Record(record) => record.opcode == Opcode::PutGet && is_answer_by(aid, record.body.as_slice()),
+        AnyEvent::Record(record) => record.opcode == Opcode::PutGet
+            && is_answer_by(aid, record.body.as_slice()),
     }
 }
 
