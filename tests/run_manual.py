@@ -1,14 +1,17 @@
 #!/usr/bin/env python3
-"""Checks the page of the manual and the completions for bash that `make -C c install` makes of the program's help.
+"""Checks the examples of the program's help, and the page of the manual and the completions for bash that `make -C c
+install` makes of it.
 
-Each command, each option and each line of the help has to be in the page, under its command, and the completions have
-to offer the commands, and of each command its options and no others. Another program than that of `crates/t5250/out`
-may be named. The last line tells how many passed and how many failed, and the status is 1 where one failed.
+Each example has to end with status 0 from the top folder of the repository, `connect` and `serve` with one another. Each
+command, each option and each line of the help has to be in the page, under its command, and the completions have to
+offer the commands, and of each command its options and no others. Another program than that of `crates/t5250/out` may
+be named. The last line tells how many passed and how many failed, and the status is 1 where one failed.
 """
 import os
 import pathlib
 import re
 import shutil
+import socket
 import subprocess
 import sys
 import tempfile
@@ -63,6 +66,78 @@ def offered(file, *words):
     return set(run("bash", "--norc", "-c", OFFER, "bash", file, *words).split("\n")) - {""}
 
 
+def examples(said):
+    """The lines that a command's help gives as examples."""
+    return [line.strip() for line in said.partition("\nExamples:\n")[2].splitlines() if line.startswith("  ")]
+
+
+def has_address(address):
+    try:
+        socket.create_server((address, 0), family=socket.AF_INET6 if ":" in address else socket.AF_INET).close()
+    except OSError:
+        return False
+    return True
+
+
+class Shell:
+    """Carries out lines of a shell from the top folder, where `t5250` is the program."""
+
+    def __init__(self, folder):
+        os.symlink(PROGRAM, f"{folder}/t5250")
+        self.environment = dict(os.environ, PATH=f"{folder}:{os.environ['PATH']}")
+
+    def begin(self, line):
+        return subprocess.Popen(["bash", "-o", "pipefail", "-c", line], cwd=TOP, env=self.environment, text=True,
+                                stdin=subprocess.DEVNULL, stdout=subprocess.PIPE, stderr=subprocess.PIPE)
+
+    def end(self, process):
+        """Its status, and what it tells as a fault."""
+        try:
+            _, fault = process.communicate(timeout=30)
+        except subprocess.TimeoutExpired:
+            process.kill()
+            return None, "it doesn't end"
+        return process.returncode, fault
+
+    def both(self, connect, serve, address):
+        """A host that listens at a free port of an address, and a station that is told which."""
+        host = self.begin(serve)
+        listening = host.stdout.readline()
+        station = (None, "nobody listens")
+        if listening.startswith("listening "):
+            port = listening.strip().rpartition(":")[2]
+            station = self.end(self.begin(connect.replace(address, f"'{address.rpartition(':')[0]}:{port}'")))
+        else:
+            host.kill()
+        return station, self.end(host)
+
+    def carry_out(self, line):
+        """What a line comes to, and with `connect` and `serve` the other end too, whose script has the same name."""
+        command = line.split()[1]
+        if command not in ("connect", "serve"):
+            return [self.end(self.begin(line))]
+        at = "[::1]:0" if "[::1]" in line else "127.0.0.1:0"
+        line = re.sub(r"'\[::1\]:\d+'|\b[\w.-]+(?::\d+|\.com)\b", at, line)
+        script = re.search(r"\S+\.(?:connect|serve)\b", line)
+        name = script[0].rpartition(".")[0] if script else None
+        if command == "connect":
+            other = f"t5250 serve --wait 20{' --any' * ('--extended' in line)} '{at}' {f'{name}.serve' if name else ''}"
+            return self.both(line, other, at)
+        other = f"t5250 connect --wait 20{' --extended' * ('--any' in line)} {at} {f'{name}.connect' if name else ''}"
+        return self.both(other, line.replace(at, f"'{at}'"), at)
+
+
+def of_examples(folder):
+    shell = Shell(folder)
+    for command in COMMANDS:
+        for line in examples(run(PROGRAM, "help", command)):
+            if "[::1]" in line and not has_address("::1"):
+                print(f"left out: {line}, since there is no IPv6 here")
+                continue
+            ends = shell.carry_out(line)
+            yield f"{line} gives {ends}", all(end == (0, "") for end in ends)
+
+
 def of_page():
     page = made("page", PROGRAM, "1.2.3")
     sections = plain(page)
@@ -108,7 +183,7 @@ def of_completions(folder):
 
 def main():
     with tempfile.TemporaryDirectory() as folder:
-        found = [*of_page(), *of_completions(folder)]
+        found = [*of_page(), *of_completions(folder), *of_examples(folder)]
     wrong = [name for name, is_right in found if not is_right]
     for name in wrong:
         print(f"not so: {name}")
