@@ -1,10 +1,8 @@
 use Rattle.std.proofs.Common.{◌≡◌, ap, ◌∙◌, sym, subst, is_some}
 use Rattle.std.proofs.lemmas.Result.{err_from_is_err_and}
-use Rattle.ws_code.specs.Code.{Stands}
 use Rattle.ws_stream.specs.Elements.{allows_orders, element_rules}
 use Rattle.ws_stream.specs.declared.place.Place.{Place}
 use Rattle.ws_screen.proofs.Applies.{allows_after}
-use Rattle.ws_extended.specs.ExtendedElements.{extended_rules}
 use Rattle.ws_extended.specs.declared.extended_element.ExtendedElement.TheVariants.{Profile}
 use Rattle.ws_extended.specs.declared.extended_place.ExtendedPlace.TheVariants.{InProfile}
 use Rattle.ws_extended.proofs.OpenWrites.{finds_write}

@@ -1,4 +1,4 @@
-use Rattle.std.proofs.Common.{◌++◌, ◌∷◌, ◌∙◌, List, [], sym, subst}
+use Rattle.std.proofs.Common.{◌∷◌, ◌∙◌, List, [], sym, subst}
 use Rattle.std.proofs.lemmas.Grind.{flat_map-append}
 use Rattle.std.proofs.lemmas.List.{append-nil}
 use Rattle.ws_extended.specs.Asking.{HasAsked, ask_in, asks_in}

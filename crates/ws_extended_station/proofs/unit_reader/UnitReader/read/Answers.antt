@@ -1,4 +1,4 @@
-use Rattle.std.proofs.Common.{◌≡◌, ◌++◌, ◌∙◌, Some, sym, ap, refl}
+use Rattle.std.proofs.Common.{◌++◌, ◌∙◌, sym, ap}
 use Rattle.ws_code.specs.Run.{Reading}
 use Rattle.ws_code.proofs.DeviceLaws.{rest_from}
 use Rattle.ws_extended_station.proofs.Units.{behind_shorter, reads_none, reads_one}
