@@ -26,7 +26,7 @@ AreCarriedOut state body new (Ok heard) = (elements_fault state body ≡ None) �
     × Shows (state_after_all state body) new
 AreCarriedOut state body new (Err reason) = elements_fault state body ≡ Some reason
 
--- A body whose first elements are carried out, and this is what they bring: the bytes left spell the others, of which the
+-- A body whose first elements are carried out, and this is what they bring. The bytes left spell the others, and the
 -- next stands at this place.
 pub record IsUnderWay (state : ExtendedState) (body : List ExtendedElement) (now : ExtendedParts) (heard : Heard)
     (left : List ℕ) (place : ExtendedPlace) : Type 0 where

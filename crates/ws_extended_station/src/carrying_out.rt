@@ -61,7 +61,8 @@ fn apply_front<'a>(display: &mut ExtendedScreen, bytes: &'a [u8]) -> Result<Fron
 fn apply_rest(display: &mut ExtendedScreen, front: Front) -> Result<Heard, Reason>
     requires open_ { is_some display.old.screen.writing ≡ allows_orders front.place }
     ensures { (state : ExtendedState) (body : List AnElement)
-        → IsUnderWay state body display.old front.entry.heard front.entry.left.now (InProfile front.entry.place)
+        → IsUnderWay state body display.old front.entry.heard front.entry.left.now
+        (InProfile front.entry.place)
         → AreCarriedOut state body display.new result }
 {
     let place = ExtendedPlace::InProfile(front.place);
