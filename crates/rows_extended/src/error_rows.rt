@@ -152,6 +152,17 @@ fn what_gives_the_row_back(rt: HostRuntime) {
 }
 
 #[test]
+fn an_element_of_the_profile(rt: HostRuntime) {
+    let mut display = erring(&rt);
+    same(&rt, display.apply_profile(&Element::ClearUnit), Ok(()));
+    same(
+        &rt,
+        (display.error_stands(), front(&rt, &display, 24)),
+        (false, BLANK),
+    );
+}
+
+#[test]
 fn the_form_again(rt: HostRuntime) {
     let mut display = erring(&rt);
     takes(&rt, &mut display, &FORM);

@@ -25,6 +25,16 @@ fn alarms_are_counted(rt: HostRuntime) {
     same(&rt, station.alarms(), 3);
 }
 
+// Writes before and behind an error in one record.
+#[test]
+fn alarms_around_an_error(rt: HostRuntime) {
+    let alloc = rt.alloc();
+    let mut station = ready(&rt, alloc, &[FORM]);
+    let body = b"\x04\x11\x00\x04\xc1\x04\x21\x22\xc5\x04\x11\x00\x04\x04\x11\x00\x0c";
+    takes(&rt, alloc, &mut station, body);
+    same(&rt, station.alarms(), 3);
+}
+
 // Neither an error, nor a refused key, nor Reset, nor the row that comes back sounds.
 #[test]
 fn errors_sound_no_alarm(rt: HostRuntime) {

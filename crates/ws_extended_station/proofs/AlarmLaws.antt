@@ -1,7 +1,7 @@
 -- What sounds of what a live host sends, and what doesn't.
 use Rattle.std.proofs.Common.{◌≡◌, ℕ, ◌+◌, List, [], ◌∷◌, ◌++◌, Bool, true, false, Option, Some, None, map, refl, ap, ◌∙◌}
 use Rattle.std.proofs.Common.{arith, replicate, if◌then◌else◌}
-use Rattle.std.specs.Prelude.{cond, count_by}
+use Rattle.std.specs.Prelude.{cond}
 use Rattle.std.specs.List.{flat_map}
 use Rattle.std.proofs.lemmas.List.Sums.{sum_by-append, sum_by-cons}
 use Rattle.ws_code.specs.declared.address.TheConstants.{COLUMNS}
@@ -18,7 +18,7 @@ use Rattle.ws_screen.specs.declared.read_kind.ReadKind.{ReadKind}
 use Rattle.ws_screen.specs.declared.read_kind.ReadKind.TheVariants.{Input, Mdt, MdtAlternate}
 use Rattle.ws_extended.specs.ErrorLine.{RESETS, error_begins, error_row, given_back, put_row, row_start, shows_text}
 use Rattle.ws_extended.specs.ExtendedStates.{ExtendedState, Kept, covered, gives_back, reset_history, saved_screen}
-use Rattle.ws_extended.specs.ExtendedStates.{state_after, state_after_all, state_after_end, state_after_reset}
+use Rattle.ws_extended.specs.ExtendedStates.{state_after, state_after_all, state_after_reset}
 use Rattle.ws_extended.specs.ExtendedStates.{state_before, uncovered, uncovers}
 use Rattle.ws_extended.specs.Image.{field_image, header, home_image, image, lights, read_image}
 use Rattle.ws_extended.specs.declared.extended_element.ExtendedElement.{ExtendedElement}

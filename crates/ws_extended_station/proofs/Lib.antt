@@ -5,4 +5,5 @@ pub mod CarryingOut
 pub mod ErrorRows
 pub mod Pressing
 pub mod SavedLaws
+pub mod Units
 pub mod WrittenLaws

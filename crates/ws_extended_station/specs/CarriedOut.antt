@@ -1,11 +1,14 @@
 -- What becomes of a display to which the elements of a body are carried out.
-use Rattle.std.specs.Prelude.{◌≡◌, List, Some, None, Result, Ok, Err}
+use Rattle.std.specs.Prelude.{◌≡◌, ◌++◌, ℕ, List, Some, None, Result, Ok, Err}
+use Rattle.ws_code.specs.Code.{IsChain, spelling_of}
 use Rattle.ws_code.specs.declared.reason.Reason.{Reason}
 use Rattle.ws_record.specs.declared.opcode.Opcode.{Opcode}
 use Rattle.ws_extended.specs.Asking.{HasAsked, asks_in, first_ask}
+use Rattle.ws_extended.specs.ExtendedElements.{extended_rules}
 use Rattle.ws_extended.specs.ExtendedStates.{ExtendedState, state_after_all, state_after_end}
 use Rattle.ws_extended.specs.ExtendedViews.{ExtendedParts, Shows}
 use Rattle.ws_extended.specs.declared.extended_element.ExtendedElement.{ExtendedElement}
+use Rattle.ws_extended.specs.declared.extended_place.ExtendedPlace.{ExtendedPlace}
 use Rattle.ws_session.specs.Alarms.{alarm_count}
 use Rattle.ws_extended_station.specs.ExtendedAlarms.{extended_alarms_in}
 use Rattle.ws_extended_station.specs.ExtendedRecords.{elements_fault, record_fault, state_after_opcode}
@@ -22,6 +25,17 @@ abbrev pub AreCarriedOut : ExtendedState → List ExtendedElement → ExtendedPa
 AreCarriedOut state body new (Ok heard) = (elements_fault state body ≡ None) × HasHeard body heard
     × Shows (state_after_all state body) new
 AreCarriedOut state body new (Err reason) = elements_fault state body ≡ Some reason
+
+-- A body whose first elements are carried out, and this is what they bring. The bytes left spell the others, and the
+-- next stands at this place.
+pub record IsUnderWay (state : ExtendedState) (body : List ExtendedElement) (now : ExtendedParts) (heard : Heard)
+    (left : List ℕ) (place : ExtendedPlace) : Type 0 where
+  pub done : List ExtendedElement
+  pub others : List ExtendedElement
+  pub split : body ≡ done ++ others
+  pub carried : AreCarriedOut state done now (Ok heard)
+  pub stand : IsChain extended_rules place others
+  pub spelled : left ≡ spelling_of extended_rules others
 
 -- the record of these elements isn't refused, this is what it asks, and so many of its elements sound the alarm
 pub record HasBrought (state : ExtendedState) (body : List ExtendedElement) (heard : Heard) : Type 0 where

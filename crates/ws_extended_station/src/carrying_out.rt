@@ -1,18 +1,85 @@
 //! Records carried out on a display.
-ghost use Rattle.std.specs.Prelude.{◌≡◌, List, None, OnErr};
+ghost use Rattle.std.specs.Prelude.{◌≡◌, List, None, Some, IfOk, IfErr, OnErr, is_some};
 ghost use Rattle.ws_code.specs.Code.{IsChain, spelling_of};
+ghost use Rattle.ws_stream.specs.Elements.{allows_orders};
 ghost use Rattle.ws_extended.specs.Asking.{HasAsked, asks_in};
 ghost use Rattle.ws_extended.specs.ExtendedElements.{extended_rules};
 ghost use Rattle.ws_extended.specs.ExtendedStates.{ExtendedState};
 ghost use Rattle.ws_extended.specs.ExtendedViews.{Shows};
 ghost use Rattle.ws_extended.specs.declared.extended_element.ExtendedElement.{ExtendedElement as AnElement};
-ghost use Rattle.ws_extended_station.specs.CarriedOut.{AreCarriedOut, IsAppliedTo, IsJudged};
-ghost use Rattle.ws_extended_station.specs.ExtendedRecords.{state_after_opcode};
+ghost use Rattle.ws_extended.specs.declared.extended_place.ExtendedPlace.TheVariants.{InProfile};
+ghost use Rattle.ws_extended_station.specs.CarriedOut.{AreCarriedOut, IsAppliedTo, IsJudged, IsUnderWay};
+ghost use Rattle.ws_extended_station.specs.ExtendedRecords.{elements_fault, state_after_opcode};
 
 use crate::heard::Heard;
-use ws_code::{Code, End, Reason, Standing};
-use ws_extended::{Asked, ExtendedCommands, ExtendedElement, ExtendedScreen};
+use crate::unit_reader::UnitReader;
+use ws_code::{Code, Reason, Standing};
+use ws_extended::{Asked, ExtendedCommands, ExtendedElement, ExtendedPlace, ExtendedScreen};
 use ws_record::Opcode;
+use ws_stream::{Commands, Element, Place};
+
+// How far a body is carried out: the bytes left, where the next element stands, and what those before it bring.
+#[derive(Clone, Copy)]
+struct Front<'a> {
+    left: &'a [u8],
+    place: Place,
+    heard: Heard,
+}
+
+// Carries out the elements of the profile with which the bytes begin, up to the first that is refused. Most records
+// have no others, and the profile's machine reads them fast.
+fn apply_front<'a>(display: &mut ExtendedScreen, bytes: &'a [u8]) -> Result<Front<'a>, Reason>
+    requires closed { display.old.screen.writing ≡ None }
+    ensures open_ { IfOk result (λ front.
+        is_some display.new.screen.writing ≡ allows_orders front.place) }
+    ensures carried { IfOk result (λ front. (state : ExtendedState) (body : List AnElement)
+        → IsChain extended_rules extended_rules.first body
+        → bytes.now ≡ spelling_of extended_rules body → Shows state display.old
+        → IsUnderWay state body display.new front.heard front.left.now (InProfile front.place)) }
+    ensures refused { IfErr result (λ reason. (state : ExtendedState) (body : List AnElement)
+        → IsChain extended_rules extended_rules.first body
+        → bytes.now ≡ spelling_of extended_rules body → Shows state display.old
+        → elements_fault state body ≡ Some reason) }
+{
+    let mut reader = UnitReader::<Commands>::start(Commands::first());
+    let mut heard = Heard::new();
+    let mut left = bytes;
+    loop {
+        let mut slot: Option<Element> = None;
+        let behind = reader.read(left, &mut slot);
+        let Some(element) = &slot else {
+            let place = reader.place();
+            return Ok(Front { left, place, heard });
+        };
+        display.apply_profile(element)?;
+        heard.hear_profile(element);
+        left = behind;
+    }
+}
+
+// Carries out the elements behind a front, up to the first that is refused, and tells what all bring.
+fn apply_rest(display: &mut ExtendedScreen, front: Front) -> Result<Heard, Reason>
+    requires open_ { is_some display.old.screen.writing ≡ allows_orders front.place }
+    ensures { (state : ExtendedState) (body : List AnElement)
+        → IsUnderWay state body display.old front.entry.heard front.entry.left.now
+        (InProfile front.entry.place)
+        → AreCarriedOut state body display.new result }
+{
+    let place = ExtendedPlace::InProfile(front.place);
+    let mut reader = UnitReader::<ExtendedCommands>::start(place);
+    let mut heard = front.heard;
+    let mut left = front.left;
+    loop {
+        let mut slot: Option<ExtendedElement> = None;
+        let behind = reader.read(left, &mut slot);
+        let Some(element) = slot else {
+            return Ok(heard);
+        };
+        display.apply(&element)?;
+        heard.hear(element);
+        left = behind;
+    }
+}
 
 // Carries out the elements that the bytes spell, up to the first that is refused, and tells what they bring.
 fn apply_spelled(display: &mut ExtendedScreen, bytes: &[u8]) -> Result<Heard, Reason>
@@ -22,27 +89,8 @@ fn apply_spelled(display: &mut ExtendedScreen, bytes: &[u8]) -> Result<Heard, Re
         → bytes.now ≡ spelling_of extended_rules body → Shows state display.old
         → AreCarriedOut state body display.new result }
 {
-    let place = ExtendedCommands::first();
-    let mut machine = ExtendedCommands::start(place);
-    let mut at = Standing {
-        place,
-        is_inside: false,
-    };
-    let mut heard = Heard::new();
-    let mut used = 0;
-    while used < bytes.len() {
-        let mut slot: Option<ExtendedElement> = None;
-        let run = machine.run(&mut at, &bytes[used..], &mut slot);
-        used += run.used;
-        if let Some(element) = slot {
-            display.apply(&element)?;
-            heard.hear(element);
-        }
-        if let End::Bad(reason) = run.end {
-            return Err(reason);
-        }
-    }
-    Ok(heard)
+    let front = apply_front(display, bytes)?;
+    apply_rest(display, front)
 }
 
 // What the elements ask that the bytes spell.

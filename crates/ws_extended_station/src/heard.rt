@@ -1,11 +1,13 @@
 ghost use Rattle.std.specs.Prelude.{◌≡◌, ◌+◌, ◌++◌, ◌∷◌, [], List, true, false};
 ghost use Rattle.ws_session.specs.Alarms.{alarm_count};
 ghost use Rattle.ws_extended.specs.declared.extended_element.ExtendedElement.{ExtendedElement as AnElement};
+ghost use Rattle.ws_extended.specs.declared.extended_element.ExtendedElement.TheVariants.{Profile};
 ghost use Rattle.ws_extended_station.specs.CarriedOut.{HasHeard};
 ghost use Rattle.ws_extended_station.specs.ExtendedAlarms.{extended_sounds};
 
 use ws_code::Keep;
 use ws_extended::{Asked, ExtendedElement};
+use ws_stream::Element;
 
 /// What elements bring that were carried out: what they ask, and how many of them sound the alarm.
 #[derive(Clone, Copy)]
@@ -37,6 +39,15 @@ impl Heard {
             asked: Asked::new(),
             alarms: 0,
         }
+    }
+
+    // Is told of one more of the profile.
+    #[inline(always)]
+    pub(crate) fn hear_profile(&mut self, element: &Element)
+        ensures { (us : List AnElement) → HasHeard us self.old
+            → HasHeard (us ++ Profile element.now ∷ []) self.new }
+    {
+        self.alarms = ws_session::count_alarm(self.alarms, element);
     }
 
     // Is told of one more.

@@ -9,6 +9,7 @@ mod extended_reply;
 mod heard;
 mod laws;
 mod record_bytes;
+mod unit_reader;
 
 pub use extended_display::{ExtendedDisplay, ExtendedStation};
 pub use extended_key::ExtendedKey;

@@ -137,7 +137,7 @@ impl ExtendedCommands {
     }
 
     // Takes values, at least one: up to one with which an element of the profile is whole, else the first.
-    #[inline(never)]
+    #[inline(always)]
     fn take_some<K: Keep<ExtendedElement>>(
         &mut self,
         at: &mut Standing<ExtendedPlace>,

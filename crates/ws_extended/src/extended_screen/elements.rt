@@ -112,8 +112,9 @@ impl ExtendedScreen {
         Ok(())
     }
 
-    // Carries out an element of the profile.
-    fn apply_own(&mut self, element: &Element) -> Result<(), Reason>
+    /// Carries out an element of the profile, as `apply` does.
+    #[inline(always)]
+    pub fn apply_profile(&mut self, element: &Element) -> Result<(), Reason>
         requires { NeedsOpenWrite (Profile element.now) self.old.screen }
         ensures fault { (state : ExtendedState) → Shows state self.old
             → refusal result ≡ state_fault state (Profile element.now) }
@@ -188,7 +189,7 @@ impl ExtendedScreen {
         ensures unchanged { OnErr result (self.new ≡ self.old) }
     {
         match element {
-            ExtendedElement::Profile(element) => self.apply_own(element),
+            ExtendedElement::Profile(element) => self.apply_profile(element),
             ExtendedElement::Text(element) => self.show_text(element),
             ExtendedElement::WriteError => {
                 self.write_error();

@@ -7,7 +7,7 @@ use Rattle.ws_extended.specs.ExtendedStates.{state_before, uncovers}
 use Rattle.ws_extended.proofs.Keeping.{on_ok}
 use Rattle.ws_extended.specs.ExtendedViews.{kept_of}
 use Rattle.ws_extended.proofs.StateSteps.{own_shows, unrefused}
-use Rattle.ws_extended.proofs.extended_screen.ExtendedScreen.apply_own.Goals as goal
+use Rattle.ws_extended.proofs.extended_screen.ExtendedScreen.apply_profile.Goals as goal
 
 pub returns-then-touches_screen_alone-clause-after : goal.returns-then-touches_screen_alone-clause-after
 returns-then-touches_screen_alone-clause-after c =
