@@ -69,17 +69,21 @@ const TERMINALS: [(&[&str], ConnectAsked); 6] = [
 
 // The forms of a host.
 #[rattlefmt::skip]
-const HOSTS: [(&[&str], ConnectAsked); 5] = [
+const HOSTS: [(&[&str], ConnectAsked); 9] = [
     (&["host:65535"], ConnectAsked { host: HostPort { host: "host", port: 65_535 }, ..CONNECT }),
     (&["10.0.0.1:023"], ConnectAsked { host: HostPort { host: "10.0.0.1", port: 23 }, ..CONNECT }),
     (&["[fe80::1]"], ConnectAsked { host: HostPort { host: "fe80::1", port: 23 }, ..CONNECT }),
     (&["[::1]:992"], ConnectAsked { host: HostPort { host: "::1", port: 992 }, ..CONNECT }),
     (&["2001:db8::5250"], ConnectAsked { host: HostPort { host: "2001:db8::5250", port: 23 }, ..CONNECT }),
+    (&["[fe80::1%eth0]:992"], ConnectAsked { host: HostPort { host: "fe80::1%eth0", port: 992 }, ..CONNECT }),
+    (&["[fe80::1%2]"], ConnectAsked { host: HostPort { host: "fe80::1%2", port: 23 }, ..CONNECT }),
+    (&["fe80::1%br-lan.7"], ConnectAsked { host: HostPort { host: "fe80::1%br-lan.7", port: 23 }, ..CONNECT }),
+    (&["fe80::1%25eth0"], ConnectAsked { host: HostPort { host: "fe80::1%25eth0", port: 23 }, ..CONNECT }),
 ];
 
 // Words behind `serve`, and what they ask for.
 #[rattlefmt::skip]
-const SERVES: [(&[&str], ServeAsked); 10] = [
+const SERVES: [(&[&str], ServeAsked); 11] = [
     (&["127.0.0.1:5250"], SERVE),
     (&["--wait", "1", "127.0.0.1:5250"], ServeAsked { wait: 1, ..SERVE }),
     (&["127.0.0.1:5250", "--wait=86400"], ServeAsked { wait: 86_400, ..SERVE }),
@@ -89,6 +93,7 @@ const SERVES: [(&[&str], ServeAsked); 10] = [
     (&["127.0.0.1:5250", " a b "], ServeAsked { script: Some(" a b "), ..SERVE }),
     (&["localhost:0"], ServeAsked { address: HostPort { host: "localhost", port: 0 }, ..SERVE }),
     (&["[::]:65535"], ServeAsked { address: HostPort { host: "::", port: 65_535 }, ..SERVE }),
+    (&["[fe80::1%eth0]:0"], ServeAsked { address: HostPort { host: "fe80::1%eth0", port: 0 }, ..SERVE }),
     (&["[::ffff:10.0.0.1]:23", "--ready", "--wait", "2", "s"], ServeAsked {
         address: HostPort { host: "::ffff:10.0.0.1", port: 23 },
         wait: 2,
@@ -117,7 +122,7 @@ const WRONG_PORTS: [&[&str]; 12] = [
 
 // No address in brackets.
 #[rattlefmt::skip]
-const WRONG_BRACKETS: [&[&str]; 9] = [
+const WRONG_BRACKETS: [&[&str]; 15] = [
     &["["],
     &["[]"],
     &["[::1"],
@@ -127,6 +132,12 @@ const WRONG_BRACKETS: [&[&str]; 9] = [
     &["[host]:23"],
     &["[10.0.0.1]"],
     &["::1]:23"],
+    &["[fe80::1%]:23"],
+    &["[%eth0]:23"],
+    &["[host%eth0]:23"],
+    &["[fe80::1%eth0:1]:23"],
+    &["fe80::1%"],
+    &["fe80::1%eth0:23"],
 ];
 
 // No options.

@@ -8,7 +8,7 @@ use Rattle.std.proofs.lemmas.Bool.Decides.{eqb_tells}
 use Rattle.std.specs.Option.{option_map}
 use Rattle.std.specs.Str.Pattern.{FindsCharPrefix}
 use Rattle.std.specs.Prelude.{true, false, ◌==◌, MatchOption, Option, None, Some}
-use Rattle.ws_words.specs.Addresses.{IsV6, HasNo, IsPort, IsPortOr, IsBehind, IsBracketed, IsNamed, IsHostText}
+use Rattle.ws_words.specs.Addresses.{IsV6, IsPlainV6, IsZone, IsZonedV6, HasNo, IsPort, IsPortOr, IsBehind, IsBracketed, IsNamed, IsHostText}
 use Rattle.ws_words.specs.Addresses.{IsHostPort, IsListening}
 use Rattle.ws_words.specs.Addresses.IsHostText.{bare, bracketed, named}
 
@@ -242,3 +242,33 @@ module _ (text here digits : List ℕ) (t : IsHostText text here (Some digits))
 
   pub bad_listening : (host : List ℕ) (port : ℕ) → IsListening text host port → ⊥
   bad_listening host port n = bad_port host port (Some n.0, n.1, n.2)
+
+-- what is no address, and has no percent sign or none behind an address, has no zone
+module _ (text : List ℕ) (other : IsPlainV6 text → ⊥) where
+  pub no_percent : HasNo 37 text → IsV6 text → ⊥
+  no_percent none (inl plain) = other plain
+  no_percent none (inr zoned) = uncut 37 zoned.address zoned.zone (subst (HasNo 37) zoned.spelled none)
+
+  module _ (address zone : List ℕ) (cut : text ≡ address ++ 37 ∷ zone) (front : HasNo 37 address) where
+    same_parts : (zoned : IsZonedV6 text) → (zoned.address ≡ address) × (zoned.zone ≡ zone)
+    same_parts zoned = cut_same 37 zoned.address address zoned.zone zone zoned.front front (sym zoned.spelled ∙ cut)
+
+    pub no_plain_address : (IsPlainV6 address → ⊥) → IsV6 text → ⊥
+    no_plain_address none (inl plain) = other plain
+    no_plain_address none (inr zoned) = none (subst IsPlainV6 (same_parts zoned).0 zoned.plain)
+
+    pub no_zone : (IsZone zone → ⊥) → IsV6 text → ⊥
+    no_zone none (inl plain) = other plain
+    no_zone none (inr zoned) = none (subst IsZone (same_parts zoned).1 zoned.zoned)
+
+-- an address with a zone
+pub is_zoned : (text address zone : List ℕ) → text ≡ address ++ 37 ∷ zone → HasNo 37 address → IsPlainV6 address
+    → IsZone zone → IsV6 text
+is_zoned text address zone cut front plain zoned = inr (record {
+  address = address;
+  zone = zone;
+  spelled = cut;
+  plain = plain;
+  front = front;
+  zoned = zoned;
+})

@@ -1,13 +1,15 @@
 -- The words of a command line that name a host and a port: `HOST`, `HOST:PORT`, `[V6]`, `[V6]:PORT` and a bare `V6`, an
--- address of IPv6 (RFC 4291, 2.2; its brackets RFC 3986, 3.2.2). The bytes 91 and 93 are the brackets, 58 is the colon.
+-- address of IPv6 (RFC 4291, 2.2; its brackets RFC 3986, 3.2.2; its zone RFC 4007, 11). The bytes 91 and 93 are the
+-- brackets, 58 is the colon, 37 the percent sign.
 
-use Rattle.std.specs.Prelude.{◌≡◌, ◌≢◌, ℕ, ◌<◌, ◌^◌, List, [], ◌∷◌, ◌++◌, Option, None, Some, length, slice_index}
+use Rattle.std.specs.Prelude.{◌≡◌, ◌≢◌, ℕ, ◌<◌, ◌^◌, List, [], ◌∷◌, ◌++◌, ◌⊎◌, Option, None, Some}
+use Rattle.std.specs.Prelude.{length, slice_index}
 use Rattle.std.specs.Net.Grammar.{IsIpv6Text, IsNumber}
 use Rattle.std.specs.declared.net.ipv6_addr.Ipv6Addr.{Ipv6Addr}
 
--- the text is an address of IPv6
-abbrev pub IsV6 : List ℕ → Type 0
-IsV6 text = (address : Ipv6Addr) × IsIpv6Text text address
+-- the text is an address of IPv6 without a zone
+abbrev pub IsPlainV6 : List ℕ → Type 0
+IsPlainV6 text = (address : Ipv6Addr) × IsIpv6Text text address
 
 -- a port in decimal digits, at most 65,535
 abbrev pub IsPort : List ℕ → ℕ → Type 0
@@ -16,6 +18,23 @@ IsPort digits port = IsNumber 10 digits port × (port < 2 ^ 16)
 -- no byte of a text is this one
 abbrev pub HasNo : ℕ → List ℕ → Type 0
 HasNo byte text = (i : ℕ) → i < length text → slice_index text i ≢ byte
+
+-- a zone, the name or the number of an interface: not empty, and without a colon
+abbrev pub IsZone : List ℕ → Type 0
+IsZone zone = (zone ≢ []) × HasNo 58 zone
+
+-- an address of IPv6, and a zone behind its percent sign
+pub record IsZonedV6 (text : List ℕ) : Type 0 where
+  pub address : List ℕ
+  pub zone : List ℕ
+  pub spelled : text ≡ address ++ 37 ∷ zone
+  pub plain : IsPlainV6 address
+  pub front : HasNo 37 address
+  pub zoned : IsZone zone
+
+-- the text is an address of IPv6, with a zone or without
+abbrev pub IsV6 : List ℕ → Type 0
+IsV6 text = IsPlainV6 text ⊎ IsZonedV6 text
 
 -- what stands behind a host: nothing, or a colon and a port's text
 abbrev pub IsBehind : List ℕ → Option (List ℕ) → Type 0

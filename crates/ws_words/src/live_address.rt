@@ -1,6 +1,6 @@
 ghost use Rattle.std.specs.Prelude.{◌≡◌, ◌≢◌, ◌∷◌, ℕ, List, Option, None, Some, true, false, MatchOption};
 ghost use Rattle.std.specs.Option.{option_map};
-ghost use Rattle.ws_words.specs.Addresses.{IsV6, IsPort, IsBehind, IsBracketed, IsNamed, IsHostText, IsHostPort, IsListening};
+ghost use Rattle.ws_words.specs.Addresses.{IsPlainV6, IsV6, IsZone, IsPort, IsBehind, IsBracketed, IsNamed, IsHostText, IsHostPort, IsListening};
 
 use std::net::Ipv6Addr;
 
@@ -10,13 +10,13 @@ pub const TELNET_PORT: u16 = 23;
 /// A host by its name or its address, and a port.
 #[derive(Clone, Copy, Debug, PartialEq, Eq)]
 pub struct HostPort<'a> {
-    /// A name, or an address of IPv4 or IPv6; one of IPv6 without brackets.
+    /// A name, or an address of IPv4 or IPv6; one of IPv6 without brackets, and with its zone behind `%` if it has one.
     pub host: &'a str,
     pub port: u16,
 }
 
-/// The host and the port of `HOST`, `HOST:PORT`, `[V6]`, `[V6]:PORT` or a bare `V6`, with an address `V6` of IPv6. The
-/// port is 23 where none stands there. `None` of any other text.
+/// The host and the port of `HOST`, `HOST:PORT`, `[V6]`, `[V6]:PORT` or a bare `V6`, with an address `V6` of IPv6, maybe
+/// with a zone behind `%`. The port is 23 where none stands there. `None` of any other text.
 pub fn host_and_port(text: &str) -> Option<HostPort<'_>>
     ensures { MatchOption result
         ((host : List ℕ) (port : ℕ) → IsHostPort text.now host port → ⊥)
@@ -118,13 +118,37 @@ fn split_named(text: &str) -> Option<(&str, Option<&str>)>
     }
 }
 
+// Whether a text is an address of IPv6, with a zone or without.
 fn is_ipv6(text: &str) -> bool
     ensures is { result ≡ true → IsV6 text.now }
     ensures isnt { result ≡ false → IsV6 text.now → ⊥ }
 {
+    if is_plain_ipv6(text) {
+        return true;
+    }
+    match text.split_once('%') {
+        Some((address, zone)) => is_plain_ipv6(address) && is_zone(zone),
+        None => false,
+    }
+}
+
+fn is_plain_ipv6(text: &str) -> bool
+    ensures is { result ≡ true → IsPlainV6 text.now }
+    ensures isnt { result ≡ false → IsPlainV6 text.now → ⊥ }
+{
     match text.parse::<Ipv6Addr>() {
         Ok(_) => true,
         Err(_) => false,
+    }
+}
+
+fn is_zone(text: &str) -> bool
+    ensures is { result ≡ true → IsZone text.now }
+    ensures isnt { result ≡ false → IsZone text.now → ⊥ }
+{
+    match text.split_once(':') {
+        Some(_) => false,
+        None => !text.is_empty(),
     }
 }
 

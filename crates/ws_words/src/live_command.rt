@@ -117,7 +117,7 @@ const EXTENDED_HELP: &str =
 const ANY_HELP: &str = "Takes any terminal name and any record, for tests of emulators";
 
 const HOST_HELP: &str =
-    "A name or an address, one of IPv6 in brackets before a port; port 23 where none is named";
+    "A name or an address; one of IPv6 in brackets before a port, its zone as in fe80::1%eth0; port 23 where none is named";
 
 const ADDRESS_HELP: &str =
     "Where it listens: HOST:PORT, with an address of IPv6 in brackets; port 0 takes a free one";
