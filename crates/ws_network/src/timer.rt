@@ -43,7 +43,10 @@ impl<'a, C: Clock> Timer<'a, C> {
     /// When the time of a write is over that begins now: with the wait in which it stands, though it has a moment.
     pub fn end_of_write(&self) -> Option<Instant> {
         if self.is_waiting.get() {
-            later(self.until.get(), end_of_wait(self.clock, Duration::from_millis(MOMENT)))
+            later(
+                self.until.get(),
+                end_of_wait(self.clock, Duration::from_millis(MOMENT)),
+            )
         } else {
             end_of_wait(self.clock, self.limit)
         }

@@ -146,9 +146,12 @@ fn is_zone(text: &str) -> bool
     ensures is { result ≡ true → IsZone text.now }
     ensures isnt { result ≡ false → IsZone text.now → ⊥ }
 {
+    if text.is_empty() {
+        return false;
+    }
     match text.split_once(':') {
         Some(_) => false,
-        None => !text.is_empty(),
+        None => true,
     }
 }
 
