@@ -1,5 +1,5 @@
 //! The lines of standard input, one by one, as those of a script's file are read.
-ghost use Rattle.std.specs.Prelude.{◌≡◌, ◌≢◌, [], ℕ, OnOk, IfOk, IfErr, IfSome, MatchOption};
+ghost use Rattle.std.specs.Prelude.{◌≡◌, ℕ, OnOk, IfOk, IfErr, IfSome};
 ghost use Rattle.ws_code.specs.Device.{one_more};
 ghost use Rattle.ws_network.specs.InputLines.{IsInputFault, IsBadLine, IsMeant, IsUnreadFault, unread_fault};
 
@@ -25,7 +25,7 @@ pub fn next_line<B: BufRead + Drop, L: LiveLine>(
     let Some(raw) = input.take()? else {
         return Ok(None);
     };
-    let (line, _) = first_line(raw.as_slice());
+    let line = without_end(raw.as_slice());
     let mut inside = Vec::new(input.alloc);
     if L::opens(line) {
         input.gather(&mut inside)?;
@@ -34,6 +34,14 @@ pub fn next_line<B: BufRead + Drop, L: LiveLine>(
         Ok(line) => Ok(Some(line)),
         Err(ScriptFault::Line(at)) => Err(RunFault::Line(before.saturating_add(at))),
         Err(ScriptFault::Memory) => Err(RunFault::Memory),
+    }
+}
+
+// A line as it was read, without what ends it.
+fn without_end(raw: &[u8]) -> &[u8] {
+    match raw {
+        [] => raw,
+        _ => first_line(raw).0,
     }
 }
 
@@ -73,7 +81,6 @@ impl<B: BufRead + Drop> InputLines<B> {
     // Takes the next line, with its line feed.
     fn take(&mut self) -> Result<Option<Vec<u8>>, RunFault>
         ensures taken { OnOk result (self.new ≡ one_more self.old) }
-        ensures some { IfOk result (λ line. IfSome line (λ bytes. bytes.items ≢ [])) }
         ensures fault { IfErr result IsUnreadFault }
     {
         let line = match self.ahead.take() {
@@ -116,7 +123,6 @@ impl<B: BufRead + Drop> InputLines<B> {
     // Reads a line, with its line feed. Behind the last none is asked for again.
     fn read(&mut self) -> Result<Option<Vec<u8>>, RunFault>
         ensures untaken { self.new ≡ self.old }
-        ensures some { IfOk result (λ line. IfSome line (λ bytes. bytes.items ≢ [])) }
         ensures fault { IfErr result IsUnreadFault }
     {
         if self.is_over {

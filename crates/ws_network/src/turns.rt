@@ -1,6 +1,6 @@
 //! In which order a name's addresses are tried, and how long each.
-ghost use Rattle.std.specs.Prelude.{◌≡◌, ◌≢◌, ◌<◌, ◌==◌, ◌/◌, ◌^◌, ◌-◌, min, filter, IfOk};
-ghost use Rattle.std.specs.Time.{as_nanos};
+ghost use Rattle.std.specs.Duration.{as_nanos};
+ghost use Rattle.std.specs.Prelude.{◌≡◌, ◌<◌, ◌/◌, ◌^◌, ◌-◌, min, IfOk};
 ghost use Rattle.ws_network.specs.Turns as Spec;
 
 use std::alloc::{AllocError, Global};
@@ -15,25 +15,31 @@ pub fn by_turns(alloc: Global, found: &[SocketAddr]) -> Result<Vec<SocketAddr>, 
     let [first, ..] = found else {
         return Ok(Vec::new(alloc));
     };
-    let same = of_family(alloc, found, first.is_ipv4())?;
-    let other = of_family(alloc, found, !first.is_ipv4())?;
-    take_turns(alloc, same.as_slice(), other.as_slice())
+    let v4 = of_ipv4(alloc, found)?;
+    let v6 = of_ipv6(alloc, found)?;
+    if first.is_ipv4() {
+        take_turns(alloc, v4.as_slice(), v6.as_slice())
+    } else {
+        take_turns(alloc, v6.as_slice(), v4.as_slice())
+    }
 }
 
-// The addresses of a family, of IPv4 or of IPv6.
-fn of_family(
-    alloc: Global,
-    found: &[SocketAddr],
-    is_ipv4: bool,
-) -> Result<Vec<SocketAddr>, AllocError>
-    ensures { IfOk result (λ of. of.items ≡ Spec.of_family is_ipv4 found.now) }
+fn of_ipv4(alloc: Global, found: &[SocketAddr]) -> Result<Vec<SocketAddr>, AllocError>
+    ensures { IfOk result (λ of. of.items ≡ Spec.of_v4 found.now) }
 {
     let all = found.iter().copied();
-    all.filter(|address| address.is_ipv4() == is_ipv4)
-        .collect(alloc)
+    all.filter(|address| address.is_ipv4()).collect(alloc)
+}
+
+fn of_ipv6(alloc: Global, found: &[SocketAddr]) -> Result<Vec<SocketAddr>, AllocError>
+    ensures { IfOk result (λ of. of.items ≡ Spec.of_v6 found.now) }
+{
+    let all = found.iter().copied();
+    all.filter(|address| address.is_ipv6()).collect(alloc)
 }
 
 // One of each by turns, and then what is left of either.
+#[tactic(auto, using(crate::proofs::Turning::moved, crate::proofs::Turning::rest_follows))]
 fn take_turns(
     alloc: Global,
     one: &[SocketAddr],

@@ -4,7 +4,7 @@ use Rattle.ws_live.specs.Waits.{InTime}
 use Rattle.ws_live.specs.LiveText.{HaveRun, HasRun, ran_and, ran_by}
 use Rattle.ws_live.specs.declared.live.Ran.{Ran}
 use Rattle.ws_live.proofs.LiveRuns.{goes_on, ends_here, breaks, split_here, taken_here}
-use Rattle.ws_live.proofs.live_input.carry_script.Goals as goal
+use Rattle.ws_network.proofs.live_input.carry_script.Goals as goal
 
 pub loop-line-init : goal.loop-line-init
 loop-line-init g c = (
