@@ -1,3 +1,4 @@
 pub mod AnySessionLaws
 pub mod LiveFaults
 pub mod SessionLaws
+pub mod Turning

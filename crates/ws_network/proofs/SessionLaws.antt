@@ -1,7 +1,8 @@
 use Rattle.std.proofs.Common.{◌≡◌, ℕ, List, [], ◌∷◌, Bool, true, false, sym, subst, Bor}
-use Rattle.std.specs.Prelude.{Option, None, Some, MatchOption}
+use Rattle.std.specs.Prelude.{Option, None, Some, MatchOption, Result, IfOk}
 use Rattle.std.specs.Option.{is_none}
 use Rattle.std.proofs.lemmas.Bool.{false≢true}
+use Rattle.std.proofs.lemmas.Result.{IfOk-weaker}
 use Rattle.ws_code.specs.Code.{Rules}
 use Rattle.ws_code.specs.Device.{WentOut}
 use Rattle.ws_nego.specs.Host.{opening}
@@ -25,6 +26,10 @@ use Rattle.ws_network.specs.Sessions.{AreFromScript, IsConnected, IsServed}
 use Rattle.ws_network.specs.Times.{Reads, Writes, no_reads, no_writes, gives, takes, tells, begins}
 use Rattle.ws_words.specs.declared.live_command.ConnectAsked.{ConnectAsked}
 use Rattle.ws_words.specs.declared.live_command.ServeAsked.{ServeAsked}
+
+-- what follows from what a call gives
+pub ok_then : {T E : Type 0} (P Q : T → Type 0) (r : Result T E) → IfOk r P → ((x : T) → P x → Q x) → IfOk r Q
+ok_then P Q r given then = IfOk-weaker r P Q then given
 
 -- The lines of a session are those of the file that is named.
 

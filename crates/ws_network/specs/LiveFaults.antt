@@ -1,28 +1,15 @@
 -- Why a live session ended early, as the program's own fault.
 
 use Rattle.std.specs.Prelude.{◌≡◌, ℕ, List, ◌⊎◌, Bool, false, Result}
-use Rattle.std_io.specs.declared.io.kind.ErrorKind.{ErrorKind}
-use Rattle.std_io.specs.declared.io.kind.ErrorKind.TheVariants.{InvalidData, OutOfMemory}
-use Rattle.ws_code.specs.Device.{MayTake, MayGive, WentOut, one_more}
+use Rattle.ws_code.specs.Device.{MayTake, MayGive, WentOut}
 use Rattle.ws_code.specs.declared.fault.Fault.{Fault}
 use Rattle.ws_live.specs.LiveText.{HaveRun, IsLiveFault}
 use Rattle.ws_live.specs.ServeText.{Parts, Runs, IsAnswerOnFault}
 use Rattle.ws_live.specs.declared.live.Closing.{Closing}
 use Rattle.ws_live.specs.declared.serve_line.HostLine.{HostLine}
+use Rattle.ws_network.specs.InputLines.{IsInputFault}
 use Rattle.ws_program.specs.RunFaults.{run_fault}
 use Rattle.ws_program.specs.declared.fault.RunFault.{RunFault}
-use Rattle.ws_program.specs.declared.fault.RunFault.TheVariants.{Read, Line, Memory}
-
--- why no line was to be had of standard input behind so many, by the kind of the error: a line that isn't UTF-8 has its
--- number, and whatever else can't be read is read no further
-abbrev pub unread_fault : ℕ → ErrorKind → RunFault
-unread_fault number InvalidData = Line (one_more number)
-unread_fault number OutOfMemory = Memory
-unread_fault number kind = Read
-
--- why there is no line more: standard input can't be read, a growth was refused, or a line is bad, counted from 1
-abbrev pub IsInputFault : RunFault → Type 0
-IsInputFault told = (told ≡ Read) ⊎ ((told ≡ Memory) ⊎ ((number : ℕ) × (told ≡ Line number)))
 
 module _ {L P : Type 0} (runs : L → P → Result Closing Fault → List ℕ → P → Type 0) (ready : Bool) where
   module _ {O : Type 0} (takes : MayTake O) (failures : O → ℕ) (from to : P) (old new : O) where

@@ -7,10 +7,11 @@ ghost use Rattle.ws_any_host.specs.declared.any_line.AnyLine.TheVariants.{Await}
 ghost use Rattle.ws_network.specs.AnySessions.{IsTextAndOn, IsFaultThenOrOn, RunsAny};
 
 use crate::live_input::carry_session;
+use crate::timer::LineWatch;
 use std::rt::Runtime;
 use ws_any_host::{AnyHost, AnyLine, carry_on};
 use ws_code::{Sink, Source};
-use ws_live::{BufferedSink, Paint, Watch};
+use ws_live::{BufferedSink, Paint};
 use ws_program::RunFault;
 use ws_session::Attached;
 
@@ -30,7 +31,7 @@ where
     R: Runtime + AllocGlobal,
     S: Source,
     K: Sink,
-    W: Watch<S>,
+    W: LineWatch<S>,
     O: Sink,
     requires works { attached.old.broken ≡ false }
     requires empty { out.old.held ≡ [] }

@@ -3,10 +3,13 @@
 #![tactic(auto)]
 
 mod any_input;
+mod connecting;
+mod input_lines;
 mod live_input;
 mod live_session;
 mod timed_sink;
 mod timed_source;
 mod timer;
+mod turns;
 
 pub use live_session::run_live;

@@ -1,24 +1,22 @@
 //! The lines of a live session: those of a script, or of standard input one by one.
-ghost use Rattle.std.specs.Prelude.{◌≡◌, [], List, ℕ, false, IfOk, OnOk, IfErr, MatchOption};
-ghost use Rattle.std_io.specs.declared.io.kind.ErrorKind.{ErrorKind as AnErrorKind};
+ghost use Rattle.std.specs.Prelude.{◌≡◌, [], List, ℕ, false, IfOk, IfErr, MatchOption};
 ghost use Rattle.std.specs.Option.{is_some};
-ghost use Rattle.ws_code.specs.Device.{WentOut, one_more};
+ghost use Rattle.ws_code.specs.Device.{WentOut};
 ghost use Rattle.ws_live.specs.ConnectText.{IsConnectText, StationRuns, station_waits};
 ghost use Rattle.ws_live.specs.Waits.{InTime};
 ghost use Rattle.ws_live.specs.LiveText as Spec;
-ghost use Rattle.ws_network.specs.LiveFaults.{IsInputFault, IsServeFault, IsSessionFault, unread_fault};
+ghost use Rattle.ws_network.specs.LiveFaults.{IsServeFault, IsSessionFault};
 ghost use Rattle.ws_live.specs.ServeText.{IsServeText};
 ghost use Rattle.ws_live.specs.declared.connect_line.StationLine.{StationLine as AStationLine};
 ghost use Rattle.ws_live.specs.declared.serve_line.HostLine.{HostLine as AHostLine};
 
-use std::alloc::Global;
-use std::io::{BufRead, ErrorKind, Input, Lines};
-use std::marker::Model;
+use crate::input_lines::{InputLines, next_line};
+use crate::timer::LineWatch;
 use std::rt::Runtime;
-use ws_code::{Sink, Source};
+use ws_code::{Fault, Sink, Source};
 use ws_live::{
-    BufferedSink, HostLine, LiveLine, LiveMove, NamedKey, OperatedDisplay, Paint, Ran, ScriptFault,
-    StationLine, Watch, answer_on, carry_line, carry_lines, is_indented,
+    BufferedSink, Closing, HostLine, LiveMove, NamedKey, OperatedDisplay, Paint, Ran, StationLine,
+    answer_on, carry_line,
 };
 use ws_program::RunFault;
 use ws_session::{Attached, HostEnd, StationOn};
@@ -26,7 +24,7 @@ use ws_session::{Attached, HostEnd, StationOn};
 /// Carries out the lines of a script at a station, or without one those of standard input: true where all went well.
 /// Screens are printed in the paint.
 ///
-/// Faults as `carry_lines` has them; without a script also `Read` where standard input fails, and `Line` and `Memory`
+/// Faults as `carry_line` has them; without a script also `Read` where standard input fails, and `Line` and `Memory`
 /// where a line of it is bad, or a growth was refused in reading it.
 pub fn carry_at_station<D, R, S, K, W, O>(
     rt: &R,
@@ -43,7 +41,7 @@ where
     R: Runtime + AllocGlobal,
     S: Source,
     K: Sink,
-    W: Watch<S>,
+    W: LineWatch<S>,
     O: Sink,
     requires works { attached.old.broken ≡ false }
     requires empty { out.old.held ≡ [] }
@@ -84,7 +82,7 @@ where
     R: Runtime + AllocGlobal,
     S: Source,
     K: Sink,
-    W: Watch<S>,
+    W: LineWatch<S>,
     O: Sink,
     requires works { attached.old.broken ≡ false }
     requires empty { out.old.held ≡ [] }
@@ -125,7 +123,7 @@ pub fn carry_session<R, E, S, K, L, W, O>(
 where
     R: Runtime + AllocGlobal,
     L: LiveMove<E, S, K>,
-    W: Watch<S>,
+    W: LineWatch<S>,
     O: Sink,
     requires works { attached.old.broken ≡ false }
     requires empty { out.old.held ≡ [] }
@@ -143,9 +141,45 @@ where
     ensures held { out.new.held ≡ [] }
 {
     match script {
-        Some(lines) => Ok(carry_lines(attached, watch, lines.as_slice(), ready, paint, out)?),
+        Some(lines) => Ok(carry_script(attached, watch, lines.as_slice(), ready, paint, out)?),
         None => carry_input::<R, E, S, K, L, W, O>(rt, attached, watch, ready, paint, out),
     }
+}
+
+// Carries out the lines of a script.
+fn carry_script<E, S, K, L: LiveMove<E, S, K>, W: LineWatch<S>, O: Sink>(
+    attached: &mut Attached<E, S, K>,
+    watch: &mut W,
+    lines: &[L],
+    ready: bool,
+    paint: Paint,
+    out: &mut BufferedSink<O>,
+) -> Result<Ran, Fault>
+    requires works { attached.old.broken ≡ false }
+    requires empty { out.old.held ≡ [] }
+    ensures ran { IfOk result (Spec.HasRun
+        (InTime (L.runs W.tells paint) L.waits W.begins W.begun) ready O.takes O.failures
+        (attached.old, watch.old) (attached.new, watch.new)
+        out.old.sink out.new.sink lines.now) }
+    ensures fault { IfErr result (Spec.IsLiveFault
+        (InTime (L.runs W.tells paint) L.waits W.begins W.begun) ready O.takes O.failures
+        (attached.old, watch.old) (attached.new, watch.new)
+        out.old.sink out.new.sink lines.now) }
+    ensures works { IfOk result (λ ran. ran.is_over ≡ false → attached.new.broken ≡ false) }
+    ensures held { out.new.held ≡ [] }
+{
+    let mut ran = Ran::none();
+    for line in lines {
+        let closing = match carry_next(attached, watch, line, ready, paint, out) {
+            Ok(closing) => closing,
+            Err(fault) => return Err(fault),
+        };
+        ran = ran.and(closing.ran());
+        if ran.is_over {
+            return Ok(ran);
+        }
+    }
+    Ok(ran)
 }
 
 // Carries out each line of standard input, with those that belong to it, before it reads the next, but for the line
@@ -161,7 +195,7 @@ fn carry_input<R, E, S, K, L, W, O>(
 where
     R: Runtime + AllocGlobal,
     L: LiveMove<E, S, K>,
-    W: Watch<S>,
+    W: LineWatch<S>,
     O: Sink,
     requires works { attached.old.broken ≡ false }
     requires empty { out.old.held ≡ [] }
@@ -177,16 +211,16 @@ where
     ensures held { out.new.held ≡ [] }
 {
     let mut ran = Ran::none();
-    let mut input = InputLines::new(rt.lines(rt.alloc()));
+    let mut input = InputLines::new(rt.alloc(), rt.reader());
     for _ in 0..u64::MAX {
-        let next = match next_line::<R, L>(rt, &mut input) {
+        let next = match next_line::<R::Reader, L>(&mut input) {
             Ok(next) => next,
             Err(fault) => return Err(fault),
         };
         let Some(line) = next else {
             return Ok(ran);
         };
-        let closing = match carry_line(attached, watch, &line, ready, paint, out) {
+        let closing = match carry_next(attached, watch, &line, ready, paint, out) {
             Ok(closing) => closing,
             Err(fault) => return Err(RunFault::from(fault)),
         };
@@ -198,132 +232,29 @@ where
     Ok(ran)
 }
 
-// Reads the next line of standard input with those that belong to it; `None` behind the last.
-fn next_line<R: Input + AllocGlobal, L: LiveLine>(
-    rt: &R,
-    input: &mut InputLines<R::Reader>,
-) -> Result<Option<L>, RunFault>
-    ensures { IfErr result IsInputFault }
+// Carries out the line behind those that were carried out, whose waits are over.
+fn carry_next<E, S, K, L: LiveMove<E, S, K>, W: LineWatch<S>, O: Sink>(
+    attached: &mut Attached<E, S, K>,
+    watch: &mut W,
+    line: &L,
+    ready: bool,
+    paint: Paint,
+    out: &mut BufferedSink<O>,
+) -> Result<Closing, Fault>
+    requires works { attached.old.broken ≡ false }
+    requires empty { out.old.held ≡ [] }
+    ensures done { IfOk result (Spec.HasCarried
+        (InTime (L.runs W.tells paint) L.waits W.begins W.begun) ready O.takes O.failures
+        (attached.old, watch.old) (attached.new, watch.new)
+        out.old.sink out.new.sink line.now) }
+    ensures fault { IfErr result (Spec.IsCarryFault
+        (InTime (L.runs W.tells paint) L.waits W.begins W.begun) ready O.takes O.failures
+        (attached.old, watch.old) (attached.new, watch.new)
+        out.old.sink out.new.sink line.now) }
+    ensures works { IfOk result (λ closing.
+        Spec.stops closing ≡ false → attached.new.broken ≡ false) }
+    ensures held { out.new.held ≡ [] }
 {
-    let Some(line) = input.take()? else {
-        return Ok(None);
-    };
-    let number = input.number;
-    let mut inside = Vec::new(rt.alloc());
-    if L::opens(line.as_bytes()) {
-        input.gather(&mut inside)?;
-    }
-    match L::read(rt.alloc(), line.as_bytes(), inside.as_slice()) {
-        Ok(line) => Ok(Some(line)),
-        Err(ScriptFault::Line(at)) => {
-            let behind = at.saturating_sub(1);
-            Err(RunFault::Line(number.saturating_add(behind)))
-        }
-        Err(ScriptFault::Memory) => Err(RunFault::Memory),
-    }
-}
-
-// The lines of standard input, one by one. It is seen as the number of those that were taken.
-#[derive(Drop)]
-struct InputLines<B> {
-    lines: Lines<B, Global>,
-    // One that was read to see that it belongs to none before it.
-    ahead: Option<String>,
-    // How many were taken.
-    number: u64,
-    // There are no more.
-    is_over: bool,
-}
-
-impl<B> Model for InputLines<B> {
-    ghost Value = { ℕ };
-
-    ghost view = { λ input. input.number };
-}
-
-impl<B: BufRead + Drop> InputLines<B> {
-    fn new(lines: Lines<B, Global>) -> Self
-        ensures { result ≡ 0 }
-    {
-        InputLines {
-            lines,
-            ahead: None,
-            number: 0,
-            is_over: false,
-        }
-    }
-
-    // Takes the next line.
-    fn take(&mut self) -> Result<Option<String>, RunFault>
-        ensures taken { OnOk result (self.new ≡ one_more self.old) }
-        ensures fault { IfErr result (λ told. IsInputFault told
-            × ((kind : AnErrorKind) × (told ≡ unread_fault self.old kind))) }
-    {
-        let line = match self.ahead.take() {
-            Some(line) => Some(line),
-            None => self.read()?,
-        };
-        self.number = self.number.saturating_add(1);
-        Ok(line)
-    }
-
-    // Takes the lines that begin with two blanks, and an empty one behind them: their text, each with its line feed.
-    fn gather(&mut self, inside: &mut Vec<u8>) -> Result<(), RunFault>
-        ensures { IfErr result IsInputFault }
-    {
-        for _ in 0..u64::MAX {
-            let Some(line) = self.read()? else {
-                return Ok(());
-            };
-            if !is_indented(line.as_bytes()) {
-                self.set_ahead(line);
-                return Ok(());
-            }
-            self.number = self.number.saturating_add(1);
-            if inside.extend_from_slice(line.as_bytes()).is_err() || inside.push(b'\n').is_err() {
-                return Err(RunFault::Memory);
-            }
-        }
-        Ok(())
-    }
-
-    // Keeps a line for the next time, but for an empty one, which is taken.
-    fn set_ahead(&mut self, line: String) {
-        if line.is_empty() {
-            self.number = self.number.saturating_add(1);
-        } else {
-            self.ahead = Some(line);
-        }
-    }
-
-    // Reads a line. Behind the last none is asked for again.
-    fn read(&mut self) -> Result<Option<String>, RunFault>
-        ensures untaken { self.new ≡ self.old }
-        ensures fault { IfErr result (λ told. IsInputFault told
-            × ((kind : AnErrorKind) × (told ≡ unread_fault self.old kind))) }
-    {
-        if self.is_over {
-            return Ok(None);
-        }
-        match self.lines.next() {
-            Some(Ok(line)) => Ok(Some(line)),
-            Some(Err(error)) => Err(unread_line(error.kind(), self.number)),
-            None => {
-                self.is_over = true;
-                Ok(None)
-            }
-        }
-    }
-}
-
-// Why no line was to be had behind so many, by the kind of the error: it isn't UTF-8, or can't be read.
-fn unread_line(kind: ErrorKind, number: u64) -> RunFault
-    ensures fault { IsInputFault result }
-    ensures why { result ≡ unread_fault number kind }
-{
-    match kind {
-        ErrorKind::InvalidData => RunFault::Line(number.saturating_add(1)),
-        ErrorKind::OutOfMemory => RunFault::Memory,
-        _ => RunFault::Read,
-    }
+    watch.end_waits();
+    carry_line(attached, watch, line, ready, paint, out)
 }

@@ -9,15 +9,15 @@ ghost use Rattle.ws_network.specs.LiveSessions.{HasServedAs, HasRunLive};
 ghost use Rattle.ws_network.specs.Sessions.{HasConnected, HasConnectedOn, HasServed};
 
 use crate::any_input::carry_at_any_host;
+use crate::connecting::{connect_to, settled};
 use crate::live_input::{carry_at_host, carry_at_station};
 use crate::timed_sink::TimedSink;
 use crate::timed_source::TimedSource;
 use crate::timer::{Timer, Waits};
-use std::io::ErrorKind;
-use std::net::{Net, Shutdown, TcpListener, TcpStream, ToSocketAddrs};
+use std::fs;
+use std::net::{Net, Shutdown, TcpListener, TcpStream};
 use std::rt::{Files, Runtime};
 use std::time::{Clock, Duration};
-use std::{fs, io};
 use ws_any_host::{AnyHost, AnyLine};
 use ws_code::{Sink, Source, write_whole};
 use ws_extended_station::ExtendedDisplay;
@@ -99,15 +99,13 @@ where
     streams.suffice(script.is_none())?;
     let limit = Duration::from_secs(u64::from(asked.wait));
     let timer = Timer::new(rt, limit);
-    let Ok(stream) = connect_to(rt, asked.host, &timer) else {
-        return Err(RunFault::NoConnection);
-    };
+    let stream = connect_to(rt, rt.alloc(), asked.host, &timer)?;
     let mut attached = Attached::new(
         StationOn::<D>::new(asked.terminal),
         TimedSource::new(&stream, &timer),
         TimedSink::new(&stream, &timer),
     );
-    let all_well = carry_at_station(
+    let outcome = carry_at_station(
         rt,
         &mut attached,
         &mut Waits::new(&timer),
@@ -115,9 +113,9 @@ where
         asked.ready,
         asked.paint,
         out,
-    )?;
+    );
     close(rt, &stream);
-    Ok(all_well)
+    outcome
 }
 
 // A host for one station.
@@ -158,29 +156,23 @@ where
     let script = read_script_file::<R, HostLine>(rt, asked.script)?;
     streams.suffice(script.is_none())?;
     let limit = Duration::from_secs(u64::from(asked.wait));
-    let Ok(listener) = TcpListener::bind(rt, (asked.address.host, asked.address.port)) else {
-        return Err(RunFault::NoConnection);
-    };
-    put_listening(rt, &listener, out)?;
-    let Ok(stream) = accept(&listener) else {
-        return Err(RunFault::NoConnection);
-    };
+    let stream = take_station(rt, asked.address, out)?;
     let timer = Timer::new(rt, limit);
     let mut host = HostEnd::new(rt.alloc());
     let mut sink = TimedSink::new(&stream, &timer);
     write_whole(&mut sink, host.open().as_slice())?;
     let source = TimedSource::new(&stream, &timer);
     let mut attached = Attached::new(host, source, sink);
-    let all_well = carry_at_host(
+    let outcome = carry_at_host(
         rt,
         &mut attached,
         &mut Waits::new(&timer),
         script,
         asked.ready,
         out,
-    )?;
+    );
     close(rt, &stream);
-    Ok(all_well)
+    outcome
 }
 
 // A host that takes any record.
@@ -200,29 +192,23 @@ where
     let script = read_script_file::<R, AnyLine>(rt, asked.script)?;
     streams.suffice(script.is_none())?;
     let limit = Duration::from_secs(u64::from(asked.wait));
-    let Ok(listener) = TcpListener::bind(rt, (asked.address.host, asked.address.port)) else {
-        return Err(RunFault::NoConnection);
-    };
-    put_listening(rt, &listener, out)?;
-    let Ok(stream) = accept(&listener) else {
-        return Err(RunFault::NoConnection);
-    };
+    let stream = take_station(rt, asked.address, out)?;
     let timer = Timer::new(rt, limit);
     let mut host = AnyHost::new(rt.alloc());
     let mut sink = TimedSink::new(&stream, &timer);
     write_whole(&mut sink, host.open().as_slice())?;
     let source = TimedSource::new(&stream, &timer);
     let mut attached = Attached::new(host, source, sink);
-    let all_well = carry_at_any_host(
+    let outcome = carry_at_any_host(
         rt,
         &mut attached,
         &mut Waits::new(&timer),
         script,
         asked.ready,
         out,
-    )?;
+    );
     close(rt, &stream);
-    Ok(all_well)
+    outcome
 }
 
 // The lines of a script, where one is named.
@@ -240,32 +226,28 @@ fn read_script_file<R: Files + AllocGlobal, L: LiveLine>(
     Ok(Some(read_lines(rt.alloc(), text.as_slice())?))
 }
 
-// Tries each address of a host in turn, for as long as the wait lasts.
-fn connect_to<R: Clock + Net<Stream = TcpStream>>(
+// Listens at an address, tells that it does, and takes one station. No other waits behind it: nobody listens any more.
+fn take_station<R, O>(
     rt: &R,
-    to: HostPort<'_>,
-    timer: &Timer<'_, R>,
-) -> io::Result<TcpStream> {
-    let mut last = io::Error::from(ErrorKind::TimedOut);
-    for address in (to.host, to.port).to_socket_addrs(rt)? {
-        let Some(left) = timer.left() else {
-            return Err(last);
-        };
-        match TcpStream::connect_timeout(rt, &address, left) {
-            Ok(stream) => {
-                stream.set_nodelay(true)?;
-                return Ok(stream);
-            }
-            Err(error) => last = error,
-        }
+    at: HostPort<'_>,
+    out: &mut BufferedSink<O>,
+) -> Result<TcpStream, RunFault>
+where
+    R: AllocGlobal + Net<Listener = TcpListener, Stream = TcpStream>,
+    O: Sink,
+    requires empty { out.old.held ≡ [] }
+    ensures held { out.new.held ≡ [] }
+    ensures told { OnOk result ((line : List ℕ)
+        × WentOut O.takes O.failures out.old.sink out.new.sink line) }
+{
+    let Ok(listener) = TcpListener::bind(rt, (at.host, at.port)) else {
+        return Err(RunFault::NoConnection);
+    };
+    put_listening(rt, &listener, out)?;
+    match listener.accept() {
+        Ok((stream, _)) => settled(stream),
+        Err(_) => Err(RunFault::NoConnection),
     }
-    Err(last)
-}
-
-fn accept(listener: &TcpListener) -> io::Result<TcpStream> {
-    let (stream, _) = listener.accept()?;
-    stream.set_nodelay(true)?;
-    Ok(stream)
 }
 
 fn put_listening<R: AllocGlobal, O: Sink>(

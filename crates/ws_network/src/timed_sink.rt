@@ -10,7 +10,8 @@ use std::net::TcpStream;
 use std::time::{Clock, Instant};
 use ws_code::{DeviceFailed, Sink};
 
-/// Writes into a connection. The bytes of one text, in as many writes as it asks for, go out in the time of a wait.
+/// Writes into a connection. The bytes of one text, in as many writes as it asks for, go out in the time of the wait in
+/// which it is written, or in one of its own.
 #[derive(Drop)]
 pub struct TimedSink<'a, C> {
     stream: &'a TcpStream,
@@ -77,7 +78,7 @@ impl<'a, C: Clock> Sink for TimedSink<'a, C> {
     fn write(&mut self, bytes: &[u8]) -> Result<usize, DeviceFailed> {
         // What didn't go out of a text comes again.
         if self.unsent == 0 || self.unsent != bytes.len() {
-            self.until = self.timer.end();
+            self.until = self.timer.end_of_write();
         }
         match self.write_in_time(bytes) {
             Ok(taken) => {

@@ -9,7 +9,10 @@ use std::marker::Model;
 use std::time::{Clock, Duration, Instant};
 use ws_live::Watch;
 
-/// The time of a wait, which all its reads share, and of a write.
+// How many milliseconds a write has at least, so that what can go at once does so also when a wait's time is over.
+const MOMENT: u64 = 10;
+
+/// The time of a wait, which all that is read and written in it shares, and of a write that stands in none.
 #[derive(Drop)]
 pub struct Timer<'a, C> {
     clock: &'a C,
@@ -17,6 +20,8 @@ pub struct Timer<'a, C> {
     limit: Duration,
     /// When the wait ends. `None` where the clock can't tell, and then its time is over.
     until: Cell<Option<Instant>>,
+    /// Whether what is written stands in that wait.
+    is_waiting: Cell<bool>,
 }
 
 impl<'a, C: Clock> Timer<'a, C> {
@@ -26,6 +31,7 @@ impl<'a, C: Clock> Timer<'a, C> {
             clock,
             limit,
             until: Cell::new(end_of_wait(clock, limit)),
+            is_waiting: Cell::new(false),
         }
     }
 
@@ -34,9 +40,16 @@ impl<'a, C: Clock> Timer<'a, C> {
         self.left_until(self.until.get())
     }
 
-    /// When the time of a wait, or of a write, is over that begins now.
-    pub fn end(&self) -> Option<Instant> {
-        end_of_wait(self.clock, self.limit)
+    /// When the time of a write is over that begins now: with the wait in which it stands, though it has a moment.
+    pub fn end_of_write(&self) -> Option<Instant> {
+        if self.is_waiting.get() {
+            later(
+                self.until.get(),
+                end_of_wait(self.clock, Duration::from_millis(MOMENT)),
+            )
+        } else {
+            end_of_wait(self.clock, self.limit)
+        }
     }
 
     /// What is left until then; `None` where nothing is.
@@ -50,8 +63,21 @@ impl<'a, C: Clock> Timer<'a, C> {
 
     // A wait begins.
     fn restart(&self) {
-        self.until.set(self.end());
+        self.until.set(end_of_wait(self.clock, self.limit));
+        self.is_waiting.set(true);
     }
+
+    // What is written from now on stands in no wait.
+    fn rest(&self) {
+        self.is_waiting.set(false);
+    }
+}
+
+/// A watch that is told where the next line begins: what is written stands in no wait then, before one begins.
+pub trait LineWatch<S>: Watch<S> {
+    /// The waits before are over.
+    fn end_waits(&mut self)
+        ensures kept { self.new ≡ self.old };
 }
 
 /// The waits of a session, which have the time of a timer. It counts them, up to the greatest value of 64 bits.
@@ -90,6 +116,20 @@ impl<'a, C: Clock> Watch<TimedSource<'a, C>> for Waits<'a, C> {
 
     fn is_late(&self, source: &TimedSource<'a, C>) -> bool {
         source.is_late()
+    }
+}
+
+impl<'a, C: Clock> LineWatch<TimedSource<'a, C>> for Waits<'a, C> {
+    fn end_waits(&mut self) {
+        self.timer.rest();
+    }
+}
+
+// The later of two moments.
+fn later(one: Option<Instant>, other: Option<Instant>) -> Option<Instant> {
+    match (one, other) {
+        (Some(one), Some(other)) => Some(one.max(other)),
+        _ => other,
     }
 }
 

@@ -17,18 +17,18 @@ loop-init g c = (
   c.requires.empty,
 )
 
-pub returns-in-Err-carry_line-clause-fault : goal.returns-in-Err-carry_line-clause-fault
-returns-in-Err-carry_line-clause-fault g c =
+pub returns-in-Err-carry_next-clause-fault : goal.returns-in-Err-carry_next-clause-fault
+returns-in-Err-carry_next-clause-fault g c =
     let so_far = c.loop.invariant in
     let lines : List g.row.L.Denot = so_far.0 ++ c.in-Some.line ∷ [] in (
       lines,
       inl (
-        c.in-Err-carry_line.fault,
+        c.in-Err-carry_next.fault,
         breaks (InTime (g.L.LiveMove.runs g.W.Watch.tells c.args.paint) g.L.LiveMove.waits g.W.Watch.begins g.W.Watch.begun) c.args.ready g.O.Sink.takes
-            g.O.Sink.failures (c.args.attached.now, c.args.watch.now) (c.loop.attached, c.loop.watch) (c.carry_line.new.attached, c.carry_line.new.watch) c.args.out.now.sink
-            c.loop.out.sink c.carry_line.new.out.sink
+            g.O.Sink.failures (c.args.attached.now, c.args.watch.now) (c.loop.attached, c.loop.watch) (c.carry_next.new.attached, c.carry_next.new.watch) c.args.out.now.sink
+            c.loop.out.sink c.carry_next.new.out.sink
             so_far.0 c.in-Some.line c.loop.ran so_far.1 so_far.2 so_far.3
-            [] lines refl c.in-Err-carry_line.fault c.in-Err-carry_line.ensures.fault,
+            [] lines refl c.in-Err-carry_next.fault c.in-Err-carry_next.ensures.fault,
         c.from.ensures,
       ),
     )
@@ -38,15 +38,15 @@ returns-then-ran-clause-ran g c =
     let so_far = c.loop.invariant in
     let lines : List g.row.L.Denot = so_far.0 ++ c.in-Some.line ∷ [] in
     let runs = InTime (g.L.LiveMove.runs g.W.Watch.tells c.args.paint) g.L.LiveMove.waits g.W.Watch.begins g.W.Watch.begun in
-    let same : c.and-ran.result ≡ ran_and c.loop.ran (ran_by c.in-Ok-carry_line.closing) = c.and-ran.ensures
+    let same : c.and-ran.result ≡ ran_and c.loop.ran (ran_by c.in-Ok-carry_next.closing) = c.and-ran.ensures
     ∙ ap (λ (r : Ran). ran_and c.loop.ran r) c.ran.ensures in (
       lines,
-      subst (HasRun runs c.args.ready g.O.Sink.takes g.O.Sink.failures (c.args.attached.now, c.args.watch.now) (c.carry_line.new.attached, c.carry_line.new.watch)
-          c.args.out.now.sink c.carry_line.new.out.sink lines) (sym same)
+      subst (HasRun runs c.args.ready g.O.Sink.takes g.O.Sink.failures (c.args.attached.now, c.args.watch.now) (c.carry_next.new.attached, c.carry_next.new.watch)
+          c.args.out.now.sink c.carry_next.new.out.sink lines) (sym same)
           (ends_here runs c.args.ready g.O.Sink.takes g.O.Sink.failures (c.args.attached.now, c.args.watch.now) (c.loop.attached, c.loop.watch)
-          (c.carry_line.new.attached, c.carry_line.new.watch) c.args.out.now.sink c.loop.out.sink c.carry_line.new.out.sink
+          (c.carry_next.new.attached, c.carry_next.new.watch) c.args.out.now.sink c.loop.out.sink c.carry_next.new.out.sink
           so_far.0 c.in-Some.line c.loop.ran so_far.1 so_far.2 so_far.3
-          [] lines refl c.in-Ok-carry_line.closing c.in-Ok-carry_line.ensures.done
+          [] lines refl c.in-Ok-carry_next.closing c.in-Ok-carry_next.ensures.done
           (ap (λ (r : Ran). r.is_over) (sym same) ∙ c.if-ran.true)),
     )
 
@@ -55,19 +55,19 @@ loop-preserved g c =
     let so_far = c.loop.invariant in
     let lines : List g.row.L.Denot = so_far.0 ++ c.in-Some.line ∷ [] in
     let runs = InTime (g.L.LiveMove.runs g.W.Watch.tells c.args.paint) g.L.LiveMove.waits g.W.Watch.begins g.W.Watch.begun in
-    let same : c.and-ran.result ≡ ran_and c.loop.ran (ran_by c.in-Ok-carry_line.closing) = c.and-ran.ensures
+    let same : c.and-ran.result ≡ ran_and c.loop.ran (ran_by c.in-Ok-carry_next.closing) = c.and-ran.ensures
     ∙ ap (λ (r : Ran). ran_and c.loop.ran r) c.ran.ensures in
     let going = ap (λ (r : Ran). r.is_over) (sym same) ∙ c.if-ran.false in
     let more = goes_on runs c.args.ready g.O.Sink.takes g.O.Sink.failures (c.args.attached.now, c.args.watch.now) (c.loop.attached, c.loop.watch)
-    (c.carry_line.new.attached, c.carry_line.new.watch) c.args.out.now.sink c.loop.out.sink c.carry_line.new.out.sink
-    so_far.0 c.in-Some.line c.loop.ran so_far.1 so_far.2 so_far.3 c.in-Ok-carry_line.closing
-    c.in-Ok-carry_line.ensures.done going in (
+    (c.carry_next.new.attached, c.carry_next.new.watch) c.args.out.now.sink c.loop.out.sink c.carry_next.new.out.sink
+    so_far.0 c.in-Some.line c.loop.ran so_far.1 so_far.2 so_far.3 c.in-Ok-carry_next.closing
+    c.in-Ok-carry_next.ensures.done going in (
       lines,
       more.0,
-      subst (λ (b : Bool). HaveRun runs c.args.ready (c.args.attached.now, c.args.watch.now) lines b more.0 (c.carry_line.new.attached, c.carry_line.new.watch))
+      subst (λ (b : Bool). HaveRun runs c.args.ready (c.args.attached.now, c.args.watch.now) lines b more.0 (c.carry_next.new.attached, c.carry_next.new.watch))
           (ap (λ (r : Ran). r.all_well) (sym same)) more.1,
       more.2,
       c.if-ran.false,
-      c.in-Ok-carry_line.ensures.works going,
-      c.carry_line.ensures.held,
+      c.in-Ok-carry_next.ensures.works going,
+      c.carry_next.ensures.held,
     )

@@ -3,24 +3,24 @@ use Rattle.ws_code.proofs.DeviceLaws.{went_out_both}
 use Rattle.ws_any_host.specs.AnyLines.{IsAnyLine, OpensAnyBlock}
 use Rattle.ws_any_host.specs.AnyOptions.{new_negotiated}
 use Rattle.ws_network.proofs.AnySessionLaws.{any_served}
-use Rattle.ws_network.proofs.SessionLaws.{from_script}
+use Rattle.ws_network.proofs.SessionLaws.{ok_then, from_script}
 use Rattle.ws_network.proofs.live_session.serve_any.Goals as goal
 
 pub returns : goal.returns
 returns g c =
-    let ran = c.in_ok-all_well.ensures.ran in
-    let first = c.in_ok-put_listening.ensures.told in (
+    let first = c.in_ok-stream.ensures.told in
+    ok_then _ _ c.carry_at_any_host.result c.carry_at_any_host.ensures.ran (λ all_well ran. (
       ran.0,
       first.0,
       ran.1,
       from_script (λ v. v.items) IsAnyLine OpensAnyBlock c.args.asked.now.script c.in_ok-script.script ran.0
           c.in_ok-script.ensures ran.2,
-      any_served c.args.asked.now ran.0 c.in_ok-all_well.all_well ran.1
+      any_served c.args.asked.now ran.0 all_well ran.1
           (c.carry_at_any_host.new.attached, c.carry_at_any_host.new.watch) c.open.new.self c.new-source.result
           c.new-sink.result c.write_whole.new.sink c.as_slice.result.now c.new-attached.result c.new.result
           (c.open.ensures.opened [] [] new_negotiated c.new-host.ensures) c.in_ok-write_whole.ensures.ok
           (c.as_slice.ensures.value ∙ c.open.ensures.reply) c.new-attached.ensures c.new-source.ensures
           c.new-sink.ensures c.new.ensures ran.3,
-      went_out_both g.O.Sink.takes g.O.Sink.failures c.args.out.now.sink c.put_listening.new.out.sink
+      went_out_both g.O.Sink.takes g.O.Sink.failures c.args.out.now.sink c.take_station.new.out.sink
           c.carry_at_any_host.new.out.sink first.0 ran.1 first.1 ran.4,
-    )
+    ))

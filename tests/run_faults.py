@@ -1,0 +1,432 @@
+#!/usr/bin/env python3
+"""Looks at what `t5250 connect` and `t5250 serve` do where something goes wrong at a connection: an address that doesn't
+answer, a line that can't be read, a peer that reads nothing, a second station.
+
+Build the program first (`cd crates/t5250 && rt run -- check < stdin`), then call `python3 tests/run_faults.py` from
+anywhere; another program than that of `crates/t5250/out` may be named behind it, and `-v` tells the time of each test.
+What is left out for want of a C compiler, of IPv6 or of an address with a zone is told. The last line tells how many
+passed and how many failed, and the status is 1 where one failed.
+"""
+import contextlib
+import errno
+import os
+import shutil
+import socket
+import struct
+import subprocess
+import sys
+import tempfile
+import threading
+import time
+import traceback
+
+HERE = os.path.dirname(os.path.abspath(__file__))
+NAMED = [word for word in sys.argv[1:] if word != "-v"]
+PROGRAM = os.path.abspath(NAMED[0] if NAMED else os.path.join(HERE, "..", "crates", "t5250", "out", "t5250"))
+
+IAC, EOR, SB, SE = 0xFF, 0xEF, 0xFA, 0xF0
+WILL, DO = 0xFB, 0xFD
+BINARY, TERMINAL, END_OF_RECORD = 0, 24, 25
+OPENING = bytes([IAC, DO, TERMINAL])
+SEND_NAME = bytes([IAC, SB, TERMINAL, 1, IAC, SE])
+IS_NAME = bytes([IAC, SB, TERMINAL, 0]) + b"IBM-3179-2" + bytes([IAC, SE])
+ANSWERS = {DO: WILL, WILL: DO}
+READY = "host ready IBM-3179-2\n"
+CLEAR = bytes.fromhex("0440")
+
+
+def record(opcode, body=b""):
+    """A record as it goes over the line (RFC 1205, section 3; RFC 885)."""
+    head = struct.pack(">HHHBHB", 10 + len(body), 0x12A0, 0, 4, 0, opcode)
+    return (head + body).replace(b"\xff", b"\xff\xff") + bytes([IAC, EOR])
+
+
+class Failure(Exception):
+    pass
+
+
+class LeftOut(Exception):
+    pass
+
+
+def expect(got, wanted, what):
+    if got != wanted:
+        raise Failure("%s: got %r, and not %r" % (what, got, wanted))
+
+
+def expect_time(began, low, high, what):
+    took = time.monotonic() - began
+    if not low < took < high:
+        raise Failure("%s took %.2f s" % (what, took))
+
+
+class Run:
+    """A run of the program, with these lines on standard input, which stays open until its end is asked for."""
+
+    def __init__(self, words, text=b"", **more):
+        self.began = time.monotonic()
+        self.process = subprocess.Popen([PROGRAM] + words, stdin=subprocess.PIPE, stdout=subprocess.PIPE,
+                                        stderr=subprocess.PIPE, env=dict(os.environ, **more))
+        self.process.stdin.write(text)
+        self.process.stdin.flush()
+
+    def line(self):
+        return self.process.stdout.readline().decode()
+
+    def end(self, status, printed, error=""):
+        try:
+            text, fault = self.process.communicate(timeout=30)
+        except subprocess.TimeoutExpired:
+            self.process.kill()
+            raise Failure("it doesn't end")
+        expect(fault.decode(), error, "standard error")
+        expect(text.decode(), printed, "standard output")
+        expect(self.process.returncode, status, "status")
+
+
+class Side:
+    """A connected socket, with what was read and not yet taken."""
+
+    def __init__(self, stream):
+        self.stream = stream
+        self.stream.settimeout(15)
+        self.rest = b""
+
+    def send(self, data):
+        self.stream.sendall(data)
+
+    def take(self, wanted):
+        while len(self.rest) < len(wanted):
+            piece = self.stream.recv(4096)
+            if not piece:
+                break
+            self.rest += piece
+        got, self.rest = self.rest[:len(wanted)], self.rest[len(wanted):]
+        expect(got, wanted, "what came over the line")
+
+    def is_closed(self):
+        """Whether nothing came before the other side closed its half."""
+        return self.rest == b"" and self.stream.recv(4096) == b""
+
+    def negotiate_as_host(self):
+        """RFC 1205 and 4777: the terminal's type, end of record and binary both ways."""
+        self.send(OPENING)
+        self.take(bytes([IAC, WILL, TERMINAL]))
+        self.send(SEND_NAME)
+        self.take(IS_NAME)
+        for option in (END_OF_RECORD, BINARY):
+            self.send(bytes([IAC, DO, option, IAC, WILL, option]))
+            self.take(bytes([IAC, WILL, option, IAC, DO, option]))
+
+    def negotiate_as_station(self):
+        self.take(OPENING)
+        self.send(bytes([IAC, WILL, TERMINAL]))
+        self.take(SEND_NAME)
+        self.send(IS_NAME)
+        for _ in range(4):
+            while len(self.rest) < 3:
+                self.rest += self.stream.recv(4096)
+            command, self.rest = self.rest[:3], self.rest[3:]
+            self.send(bytes([IAC, ANSWERS[command[1]], command[2]]))
+
+
+class Host:
+    """A listening socket, at which a function plays the host in a thread of its own."""
+
+    def __init__(self, play, address="127.0.0.1", port=0, narrow=False):
+        self.listener = socket.socket(socket.AF_INET6 if ":" in address else socket.AF_INET)
+        self.listener.setsockopt(socket.SOL_SOCKET, socket.SO_REUSEADDR, 1)
+        if narrow:
+            # Little is under way then before a write has to wait.
+            self.listener.setsockopt(socket.SOL_SOCKET, socket.SO_RCVBUF, 4096)
+            self.listener.setsockopt(socket.IPPROTO_TCP, socket.TCP_MAXSEG, 536)
+        self.listener.bind((address, port))
+        self.listener.listen(5)
+        self.port = self.listener.getsockname()[1]
+        self.fault = None
+        self.thread = threading.Thread(target=self.run, args=(play,), daemon=True)
+        self.thread.start()
+
+    def run(self, play):
+        try:
+            stream, _ = self.listener.accept()
+            with stream:
+                play(Side(stream))
+        except Exception as error:
+            self.fault = error
+
+    def end(self):
+        self.thread.join(timeout=20)
+        self.listener.close()
+        if self.fault is not None:
+            raise Failure("the host met: %r" % self.fault)
+
+
+def station_at(serve):
+    """Connects to a `serve` that has begun."""
+    line = serve.line()
+    if not line.startswith("listening "):
+        raise Failure("no address: %r" % line)
+    host, port = line.split()[1].rsplit(":", 1)
+    return Side(socket.create_connection((host.strip("[]"), int(port)), timeout=15))
+
+
+@contextlib.contextmanager
+def file_of(text):
+    with tempfile.NamedTemporaryFile() as file:
+        file.write(text)
+        file.flush()
+        yield file.name
+
+
+TESTS = []
+
+
+def test(function):
+    TESTS.append(function)
+    return function
+
+
+# A name of several addresses, of which some don't answer.
+
+
+@contextlib.contextmanager
+def swallowed(addresses):
+    """A port at which these addresses answer to no connection: their queues are full."""
+    with contextlib.ExitStack() as kept:
+        port = 0
+        for address in addresses:
+            listener = kept.enter_context(socket.socket())
+            listener.bind((address, port))
+            listener.listen(0)
+            port = listener.getsockname()[1]
+            for _ in range(4):
+                filler = kept.enter_context(socket.socket())
+                filler.setblocking(False)
+                filler.connect_ex((address, port))
+        time.sleep(0.1)
+        yield port
+
+
+def connect_to_many(addresses, port, seconds):
+    """Runs `connect` at a name that has these addresses, by a library that is loaded before the program's."""
+    compiler = os.environ.get("CC", "cc")
+    if shutil.which(compiler) is None:
+        raise LeftOut("addresses that don't answer, for want of a C compiler")
+    with tempfile.TemporaryDirectory() as folder:
+        library = os.path.join(folder, "many_addresses.so")
+        source = os.path.join(HERE, "many_addresses.c")
+        subprocess.run([compiler, "-shared", "-fPIC", "-o", library, source, "-ldl"], check=True)
+        run = Run(["connect", "--wait", str(seconds), "many.test:%d" % port], LD_PRELOAD=library,
+                  ADDRESSES=",".join(addresses))
+        try:
+            run.process.stdin.close()
+            run.process.wait(timeout=30)
+        finally:
+            run.process.kill()
+        took = time.monotonic() - run.began
+        return run.process.returncode, run.process.stderr.read().decode(), took
+
+
+@test
+def addresses_share_the_time():
+    # Two that don't answer have a third and then a half of what is left, so that the last one has its part.
+    with swallowed(["127.0.0.2", "127.0.0.3"]) as port:
+        host = Host(Side.is_closed, "127.0.0.4", port)
+        status, error, took = connect_to_many(["127.0.0.2", "127.0.0.3", "127.0.0.4"], port, 3)
+        expect((status, error), (0, ""), "status and fault")
+        if not 1.8 < took < 2.9:
+            raise Failure("it took %.2f s" % took)
+        host.end()
+        # Where none answers it is over when the wait is.
+        status, error, took = connect_to_many(["127.0.0.2", "127.0.0.3"], port, 1)
+        expect((status, error), (2, "no connection\n"), "status and fault")
+        if not 0.9 < took < 1.8:
+            raise Failure("it took %.2f s" % took)
+
+
+@test
+def families_take_turns():
+    # Behind the first address of IPv4 that of IPv6 is tried, before the others of IPv4.
+    with swallowed(["127.0.0.2", "127.0.0.3", "127.0.0.4"]) as port:
+        try:
+            host = Host(Side.is_closed, "::1", port)
+        except OSError:
+            raise LeftOut("addresses of IPv4 and IPv6 by turns, for want of IPv6")
+        status, error, took = connect_to_many(["127.0.0.2", "127.0.0.3", "127.0.0.4", "::1"], port, 4)
+        expect((status, error), (0, ""), "status and fault")
+        if not 0.9 < took < 1.8:
+            raise Failure("it took %.2f s" % took)
+        host.end()
+
+
+# Lines of standard input.
+
+
+def served(text, words=()):
+    """A `serve` that carries these lines out behind its first `await`, and its station."""
+    serve = Run(["serve", "--wait", "5"] + list(words) + ["127.0.0.1:0"], b"await\n" + text)
+    side = station_at(serve)
+    side.negotiate_as_station()
+    return serve, side
+
+
+@test
+def a_return_more_in_an_element_s_line():
+    # One CR before the LF belongs to the line's end; a second one is part of the line, which is bad then.
+    text = b"send 3\r\n  CLEAR-UNIT%s\n\n"
+    for ending, number in (b"", None), (b"\r", None), (b"\r\r", 3):
+        serve, side = served(text % ending)
+        serve.process.stdin.close()
+        if number is None:
+            side.take(record(3, CLEAR))
+            side.stream.close()
+            serve.process.stdin = None
+            serve.end(0, READY)
+            continue
+        if not side.is_closed():
+            raise Failure("a bad record was sent")
+        side.stream.close()
+        serve.process.stdin = None
+        serve.end(2, READY, "script line %d\n" % number)
+        with file_of(b"await\n" + text % ending) as name:
+            Run(["serve", "127.0.0.1:0", name]).end(2, "", "script line %d\n" % number)
+
+
+@test
+def a_line_that_is_not_utf_8_behind_a_good_block():
+    for words, ready in ((), READY), (["--any"], "terminal IBM-3179-2\n"):
+        serve, side = served(b"send 3\n  CLEAR-UNIT\n\xff\n", words)
+        side.take(record(3, CLEAR))
+        serve.end(2, ready, "script line 4\n")
+        side.stream.close()
+    # Within the block it is the block's, and nothing is sent.
+    serve, side = served(b"send 3\n  CLEAR-UNIT\n  TEXT \xff\ncancel\n")
+    if not side.is_closed():
+        raise Failure("a bad record was sent")
+    serve.end(2, READY, "script line 4\n")
+    side.stream.close()
+
+
+@test
+def the_end_in_order_behind_a_bad_line():
+    def go_on(side):
+        """What comes then is taken for a moment, so that nobody is told of a fault."""
+        if not side.is_closed():
+            raise Failure("it goes on")
+        until = time.monotonic() + 0.5
+        while time.monotonic() < until:
+            side.send(bytes([IAC, 0xF1]) * 100)
+            time.sleep(0.01)
+
+    def play(side):
+        side.negotiate_as_host()
+        side.send(record(2, CLEAR) * 50)
+        go_on(side)
+    host = Host(play)
+    Run(["connect", "--wait", "5", "127.0.0.1:%d" % host.port], b"await record\nnonsense\n").end(2, "", "script line 2\n")
+    host.end()
+    for words, ready in ((), READY), (["--any"], "terminal IBM-3179-2\n"):
+        serve, side = served(b"nonsense\n", words)
+        go_on(side)
+        side.stream.close()
+        serve.end(2, ready, "script line 2\n")
+
+
+# A peer that doesn't read.
+
+
+@test
+def a_write_in_a_wait_has_the_time_of_the_wait():
+    # Each of these asks for a picture of the screen, of which the line is full soon.
+    asks = record(4, bytes.fromhex("0402")) * 2000
+    over = threading.Event()
+
+    def play(side):
+        side.negotiate_as_host()
+        time.sleep(2.5)
+        side.stream.settimeout(1)
+        with contextlib.suppress(OSError):
+            side.send(asks)
+        over.wait(15)
+    host = Host(play, narrow=True)
+    run = Run(["connect", "--extended", "--wait", "4", "127.0.0.1:%d" % host.port], b"await text none\n")
+    run.end(2, "", "cannot write\n")
+    expect_time(run.began, 3.9, 5.8, "the wait")
+    over.set()
+    host.end()
+
+
+# A second station.
+
+
+@test
+def a_second_station_is_refused():
+    serve, side = served(b"")
+    host, port = side.stream.getpeername()[:2]
+    with socket.socket() as second:
+        second.settimeout(5)
+        expect(second.connect_ex((host, port)), errno.ECONNREFUSED, "a second station")
+    side.stream.close()
+    serve.end(0, READY)
+
+
+# Addresses with a zone.
+
+
+def linked():
+    """An address of this machine that holds for one interface only, and that interface's name and number."""
+    with contextlib.suppress(OSError), open("/proc/net/if_inet6", encoding="ascii") as table:
+        for line in table:
+            digits, number, _, scope, _, name = line.split()
+            if scope == "20":
+                return socket.inet_ntop(socket.AF_INET6, bytes.fromhex(digits)), name, int(number, 16)
+    raise LeftOut("addresses with a zone, for want of one of an interface")
+
+
+@test
+def an_address_with_a_zone():
+    address, name, number = linked()
+    for zone in name, str(number):
+        serve = Run(["serve", "--wait", "5", "[%s%%%s]:0" % (address, zone)])
+        line = serve.line()
+        begin = "listening [%s%%%d]:" % (address, number)
+        expect(line[:len(begin)], begin, "where it listens")
+        port = int(line[len(begin):])
+        Run(["connect", "--wait", "1", "[%s%%%s]:%d" % (address, name, port)], b"await\n").end(1, "late\n")
+        serve.end(0, "")
+    # An interface that isn't there.
+    Run(["connect", "[%s%%none]:23" % address]).end(2, "", "no connection\n")
+    Run(["serve", "[%s%%none]:0" % address]).end(2, "", "no connection\n")
+
+
+@test
+def a_zone_by_its_number():
+    try:
+        host = Host(Side.is_closed, "::1")
+    except OSError:
+        raise LeftOut("a zone by its number, for want of IPv6")
+    Run(["connect", "--wait", "5", "[::1%%1]:%d" % host.port]).end(0, "")
+    host.end()
+
+
+def main():
+    passed = failed = 0
+    for function in TESTS:
+        began = time.monotonic()
+        try:
+            function()
+            passed += 1
+        except LeftOut as left_out:
+            print("left out: %s" % left_out)
+        except Exception as error:
+            failed += 1
+            print("%s: %s" % (function.__name__, error if isinstance(error, Failure) else traceback.format_exc()))
+        if "-v" in sys.argv:
+            print("%5.1f s  %s" % (time.monotonic() - began, function.__name__), flush=True)
+    print("%d passed, %d failed" % (passed, failed))
+    return 1 if failed else 0
+
+
+if __name__ == "__main__":
+    sys.exit(main())
