@@ -94,10 +94,10 @@ It prints one line, as one of:
   truncated at 3
 
 Examples:
-  t5250 check capture.hex
-  t5250 check --extended live.hex
-  t5250 check --answers --cut 1 < answers.hex
-  t5250 check --answers --extended station.hex";
+  t5250 check examples/inquiry.hex
+  t5250 check --extended examples/live-host.hex
+  t5250 check --answers --cut 1 < examples/inquiry-answers.hex
+  t5250 check --answers --extended examples/live-station.hex";
 
 const SHOW_EXAMPLES: &str = "\
 Each item is printed with the place of its last byte, counted from 0.
@@ -117,12 +117,12 @@ that are complete, and of a host's stream the screen that the records before
 it made; before the record's tenth byte the first line is `open record`.
 
 Examples:
-  t5250 show capture.hex
-  t5250 show --color capture.hex
-  t5250 show --extended live.hex
-  t5250 show --so-far cut.hex
-  t5250 show --answers answers.hex
-  t5250 show --answers --extended station.hex
+  t5250 show examples/inquiry.hex
+  t5250 show --color examples/inquiry.hex
+  t5250 show --extended examples/live-host.hex
+  t5250 show --so-far examples/live-host.hex
+  t5250 show --answers examples/inquiry-answers.hex
+  t5250 show --answers --extended examples/live-station.hex
   echo 000A12A0000004000001FFEF | t5250 show";
 
 const PLAY_EXAMPLES: &str = "\
@@ -136,8 +136,8 @@ A script has a line for each move, and is read before anything is run:
   key NAME     a key, such as Enter, F3, FieldExit or Tab
 
 Examples:
-  t5250 play --screen --color sign-on.script
-  t5250 play --tcp sign-on.script
+  t5250 play --screen --color examples/sign-on.script
+  t5250 play --tcp examples/sign-on.script
   echo settle | t5250 play";
 
 const MAKE_EXAMPLES: &str = "\
@@ -159,11 +159,11 @@ QUERY-REPLY with a whole reply, SAVED, SCREEN R C or IMMEDIATE R C.
 It prints a line of hex for each item.
 
 Examples:
-  t5250 make screen.text
-  t5250 make --extended live.text
-  t5250 make --answers answers.text
-  t5250 make --answers --extended station.text
-  t5250 show capture.hex | t5250 make";
+  t5250 make examples/inquiry.show
+  t5250 make --extended examples/live-host.show
+  t5250 make --answers examples/inquiry-answers.show
+  t5250 make --answers --extended examples/live-station.show
+  t5250 show examples/inquiry.hex | t5250 make";
 
 // What help says of the words of a command.
 const ANSWERS_HELP: &str = "Reads what a station sends, and not what a host sends";

@@ -69,9 +69,9 @@ Exit status:
   2  a fault, told in one line on standard error
 
 Examples:
-  t5250 connect pub400.com sign-on.connect
-  t5250 connect --color --wait 5 '[::1]:5250' < sign-on.connect
-  t5250 connect --extended pub400.com sign-on.connect
+  t5250 connect pub400.com examples/inquiry.connect
+  t5250 connect --color --wait 5 '[::1]:5250' < examples/inquiry.connect
+  t5250 connect --extended pub400.com examples/live-host.connect
   t5250 connect --ready --terminal IBM-5251-11 127.0.0.1:5250";
 
 const SERVE_EXAMPLES: &str = "\
@@ -106,9 +106,9 @@ that key; there is no `cancel`, `await answer` or `show`.
 Exit status: as of connect.
 
 Examples:
-  t5250 serve 127.0.0.1:5250 sign-on.serve
+  t5250 serve 127.0.0.1:5250 examples/inquiry.serve
   t5250 serve --ready --wait 5 '[::1]:0'
-  t5250 serve --any 127.0.0.1:5250 live-host.serve";
+  t5250 serve --any 127.0.0.1:5250 examples/live-host.serve";
 
 // What help says of the words of a command.
 /// Of the flag for screens in colour.
