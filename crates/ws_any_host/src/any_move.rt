@@ -37,7 +37,8 @@ impl<S: Source, K: Sink> LiveMove<AnyHost, S, K> for AnyLine {
                 hear_event(attached, watch, out, output)
             }
             AnyLine::AwaitKey(aid) => {
-                watch.begin(attached.source());
+                let source = attached.source();
+                watch.begin(source);
                 hear_key(attached, watch, *aid, out, output)
             }
         }

@@ -127,7 +127,7 @@ pub fn make_file<R: AllocGlobal + Files<File = File>>(
     for number in 1..NAMES_TRIED {
         match made {
             Err(error) if error.kind() == ErrorKind::AlreadyExists => {}
-            outcome => return opened(outcome),
+            file => return opened(file),
         }
         let Ok(next) = format!(in rt.alloc(); "{name}-{number}") else {
             return Err(RunFault::Memory);
