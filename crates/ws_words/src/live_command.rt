@@ -55,18 +55,23 @@ one a line of standard input is carried out before the next is read:
   field N TEXT the cursor goes to field N, as fields counts, and fills it
   erase        empties the field from the cursor on
   await        goes on until the keyboard is unlocked
-  await record, await text TEXT
-               until one more record was applied, or a row shows TEXT
-  show         prints the screen
+  await record, await text TEXT, await at R C TEXT
+               until one more record was applied, a row shows TEXT, or it begins
+               at that cell
+  show         prints the screen; show R C LENGTH the text of so many cells
   fields       prints each field: field ROW COLUMN LENGTH FORMAT TEXT
+  cells R      prints a row's bytes and attributes
+  status       prints `status unlocked ready 6 53 field 1 records 3 bytes 128`
+  note TEXT    prints TEXT
 
-A refused key is told as `key refused REASON`. A wait that runs out prints
-`late`, and the session goes on; one whose host has closed prints `ended`.
+A refused key is told as `key refused REASON`, behind it a character that it
+enters. A wait that runs out prints `late`, and the session goes on; one whose
+host has closed prints `ended`.
 `station refused at P: reason K NAME` is the last line.
 
-With --record, FILE has a line `MILLISECONDS host|station HEX` for each piece that
-crossed the connection. It holds what was typed into hidden fields, passwords
-too, so none but its owner can read it.
+With --record, FILE has a line `MILLISECONDS host|station HEX` for each piece
+that crossed the connection. It holds what was typed into hidden fields,
+passwords too, so none but its owner can read it.
 
 With --extended, `key Reset` takes an error away that a host shows. Until then
 `await` goes on too, and `show` ends with `error row R`.
@@ -106,9 +111,9 @@ A refused send is told as `send refused REASON`. A wait that runs out prints
 `host refused at P: reason K NAME` is the last line. Behind the last line of a
 script it answers on until the station closes, or the wait is over.
 
-With --record, FILE has a line `MILLISECONDS host|station HEX` for each piece that
-crossed the connection. It holds what was typed into hidden fields, passwords
-too, so none but its owner can read it.
+With --record, FILE has a line `MILLISECONDS host|station HEX` for each piece
+that crossed the connection. It holds what was typed into hidden fields,
+passwords too, so none but its owner can read it.
 
 With --any, for tests of emulators, it judges no terminal name and no record. It
 prints `terminal NAME` and `record flags FFFF opcode K HEX`; `send K` takes any
