@@ -8,6 +8,15 @@ from live.records import (
 )
 from live.runner import test
 
+# The sign-on and a price, as the host keeps them: what was typed isn't there, and the answer has locked the keyboard.
+SERVED_SCREEN = """screen
+ 1                                     Sign On
+ 5  Price  . . . .   12.50
+ 6                 User  . . . . . . . . . . . . .
+ 7                 Password  . . . . . . . . . . .
+cursor 6 53, locked, message off, blink off, fields 2
+"""
+
 
 @test
 def a_station_at_a_served_script():
@@ -32,6 +41,34 @@ def a_station_at_a_served_script():
                   "  field 7 53 E2C5C3D9C5E3\nok\nok\nanswer 3 24 35\n"
                   "  field 3 20 F4F7F1F1\nok\nok\nattention\nok\nok\ncancelled\nok\nok\n"
                   "system request\nok\n")
+
+
+@test
+def waits_for_an_answer():
+    """What comes before the answer that is awaited is printed too; the screen that the host keeps is the sign-on's."""
+    serve = Run(["serve", "--wait", "10", "127.0.0.1:0"],
+                "await\nsend 3 %s\nawait answer\nsend 3 %s\nawait F5\nshow\n" % (SIGN_ON, PRICE))
+    side = station_at(serve)
+    negotiate_as_station(side)
+    side.take(record(3, hexed(SIGN_ON)))
+    side.send(record(0, b"", 0x4000) + record(3, hexed("0735F1" "110635D8")))
+    side.take(record(3, hexed(PRICE)))
+    side.send(record(0, b"", 0x0400) + record(3, hexed("010135")))
+    side.close()
+    serve.end(0, "host ready IBM-3179-2\nattention\nanswer 7 53 F1\n  field 6 53 D8\nsystem request\nanswer 1 1 35\n"
+              + SERVED_SCREEN)
+
+
+@test
+def a_wait_for_another_key():
+    """With --any the answer of another key goes by, and so does one that is too short."""
+    serve = Run(["serve", "--any", "--wait", "10", "127.0.0.1:0"], "await\nawait F3\n")
+    side = station_at(serve)
+    negotiate_as_station(side)
+    side.send(record(3, hexed("0101F1")) + record(3, hexed("33")) + record(3, hexed("010133")))
+    side.close()
+    serve.end(0, "terminal IBM-3179-2\nrecord flags 0000 opcode 3 0101F1\nrecord flags 0000 opcode 3 33\n"
+              "record flags 0000 opcode 3 010133\n")
 
 
 @test
