@@ -189,6 +189,7 @@ static void go_on(session *s, dial_state state)
     s->dial.line = -1;
     dial_end(&s->dial);
     s->phase = PHASE_OPEN;
+    s->begun = session_clock();
     if (!line_begin(&s->line, socket))
         session_over(s, 1, "The line can't be used: %s.", strerror(errno));
 }
@@ -199,7 +200,6 @@ session *session_new(void)
     if (s == NULL)
         return NULL;
     s->dial.pipe = s->dial.line = s->line.socket = -1;
-    s->begun = session_clock();
     return s;
 }
 

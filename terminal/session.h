@@ -26,7 +26,7 @@ typedef struct {
     size_t taken;
     bool has_rest; /* of that, or of its answers */
     bool has_part; /* of an answer went out, and perhaps not all of it */
-    uint64_t begun; /* milliseconds of the system's clock */
+    uint64_t begun; /* the connection, in milliseconds of the system's clock */
     kept kept;
     telnet scanned;          /* of what the host sends */
     uint8_t said[SAID_ROOM]; /* the first bytes of its records */

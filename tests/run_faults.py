@@ -10,6 +10,7 @@ passed and how many failed, and the status is 1 where one failed.
 import contextlib
 import errno
 import os
+import re
 import shutil
 import socket
 import struct
@@ -91,16 +92,22 @@ class Side:
         self.stream = stream
         self.stream.settimeout(15)
         self.rest = b""
+        self.sent = self.heard = b""
 
     def send(self, data):
+        self.sent += data
         self.stream.sendall(data)
+
+    def note(self, piece):
+        self.rest += piece
+        self.heard += piece
 
     def take(self, wanted):
         while len(self.rest) < len(wanted):
             piece = self.stream.recv(4096)
             if not piece:
                 break
-            self.rest += piece
+            self.note(piece)
         got, self.rest = self.rest[:len(wanted)], self.rest[len(wanted):]
         expect(got, wanted, "what came over the line")
 
@@ -125,7 +132,7 @@ class Side:
         self.send(IS_NAME)
         for _ in range(4):
             while len(self.rest) < 3:
-                self.rest += self.stream.recv(4096)
+                self.note(self.stream.recv(4096))
             command, self.rest = self.rest[:3], self.rest[3:]
             self.send(bytes([IAC, ANSWERS[command[1]], command[2]]))
 
@@ -408,6 +415,106 @@ def a_zone_by_its_number():
         raise LeftOut("a zone by its number, for want of IPv6")
     Run(["connect", "--wait", "5", "[::1%%1]:%d" % host.port]).end(0, "")
     host.end()
+
+
+# Recordings.
+
+# A field to be typed into, and one whose cells are hidden; then a Read MDT Fields.
+FORM = bytes.fromhex("0440" "04110008" "110502" "1D400020000A" "110602" "1D400027000A" "04520000")
+
+
+def read_recording(name):
+    """What each end sent by a recording, whose lines are looked at."""
+    expect(os.stat(name).st_mode & 0o777, 0o600, "who can read it")
+    with open(name, encoding="ascii") as file:
+        lines = file.read().splitlines()
+    sent = {"host": b"", "station": b""}
+    times = []
+    for line in lines:
+        if not re.fullmatch("[0-9]+ (host|station) ([0-9A-F]{2})+", line):
+            raise Failure("a line of the recording: %r" % line)
+        milliseconds, sender, digits = line.split()
+        times.append(int(milliseconds))
+        sent[sender] += bytes.fromhex(digits)
+    expect(times, sorted(times), "its times")
+    return sent["host"], sent["station"], times
+
+
+@test
+def a_recording_of_connect():
+    seen = {}
+
+    def play(side):
+        seen["side"] = side
+        side.negotiate_as_host()
+        time.sleep(0.3)
+        side.send(record(3, FORM))
+        while piece := side.stream.recv(4096):
+            side.note(piece)
+    with tempfile.TemporaryDirectory() as folder:
+        name = os.path.join(folder, "session.rec")
+        host = Host(play)
+        words = ["connect", "--wait", "5", "--record", name, "127.0.0.1:%d" % host.port]
+        Run(words, b"await\nfield 2 SECRET\nkey Enter\n").end(0, "")
+        host.end()
+        by_host, by_station, times = read_recording(name)
+        expect(by_host, seen["side"].sent, "what the host sent")
+        expect(by_station, seen["side"].heard, "what the station sent")
+        # Its name in code page 037.
+        if bytes.fromhex("E2C5C3D9C5E3") not in by_station:
+            raise Failure("what was typed isn't there")
+        if not (times[0] < 300 <= times[-1] < 5000):
+            raise Failure("its times: %r" % times)
+        # A file that is there stays as it is.
+        with open(name, "rb") as file:
+            first = file.read()
+        host = Host(Side.is_closed)
+        words[-1] = "127.0.0.1:%d" % host.port
+        Run(words).end(0, "")
+        host.end()
+        expect(read_recording(name + "-1")[:2], (b"", b""), "a second recording")
+        with open(name, "rb") as file:
+            expect(file.read(), first, "the first recording")
+
+
+@test
+def a_recording_of_serve():
+    for words, told in ([], READY), (["--any"], "terminal IBM-3179-2\n"):
+        with tempfile.TemporaryDirectory() as folder:
+            name = os.path.join(folder, "session.rec")
+            serve, side = served(b"send 2 0440\n", ["--record", name] + words)
+            side.take(record(2, CLEAR))
+            side.stream.shutdown(socket.SHUT_WR)
+            serve.end(0, told)
+            by_host, by_station, _ = read_recording(name)
+            expect(by_host, side.heard, "what the host sent")
+            expect(by_station, side.sent, "what the station sent")
+            side.stream.close()
+
+
+@test
+def recordings_that_can_not_be_written():
+    # It is told before anything is connected or listened at.
+    Run(["connect", "--record", "/nowhere/at/all", "127.0.0.1:1"]).end(2, "", "cannot write\n")
+    Run(["serve", "--record", "/nowhere/at/all", "127.0.0.1:0"]).end(2, "", "cannot write\n")
+    Run(["connect", "--record", "", "127.0.0.1:1"]).end(2, "", "cannot write\n")
+    if not os.path.exists("/dev/full"):
+        raise LeftOut("a recording on a full disk, for want of /dev/full")
+    host = Host(Side.negotiate_as_host)
+    run = Run(["connect", "--wait", "5", "--record", "/dev/full", "127.0.0.1:%d" % host.port], b"await\n")
+    run.end(2, "", "cannot write\n")
+    serve = Run(["serve", "--wait", "5", "--record", "/dev/full", "127.0.0.1:0"], b"await\n")
+    side = station_at(serve)
+    serve.end(2, "", "cannot write\n")
+    side.stream.close()
+
+
+@test
+def help_tells_what_a_recording_holds():
+    for command in "connect", "serve":
+        told = subprocess.run([PROGRAM, "help", command], capture_output=True, text=True, check=True).stdout
+        if "--record" not in told or "hidden" not in told:
+            raise Failure("help %s" % command)
 
 
 def main():

@@ -90,6 +90,8 @@ def recordings():
                 lines = file.read().splitlines()
             heads = [line.split()[:2] for line in lines]
             check(all(time.isdigit() and side in ("host", "station") for time, side in heads), "its lines")
+            times = [int(time) for time, _ in heads]
+            check(times == sorted(times), "the times of its lines", times)
             check(os.stat(name).st_mode & 0o777 == 0o600, "others can't read it")
         host.close()
         pipe = os.path.join(folder, "pipe")

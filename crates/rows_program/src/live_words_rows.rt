@@ -18,6 +18,7 @@ const CONNECT: ConnectAsked = ConnectAsked {
     ready: false,
     paint: Paint::Plain,
     extended: false,
+    record: None,
     script: None,
 };
 
@@ -30,12 +31,13 @@ const SERVE: ServeAsked = ServeAsked {
     wait: 30,
     ready: false,
     any: false,
+    record: None,
     script: None,
 };
 
 // Words behind `connect`, and what they ask for.
 #[rattlefmt::skip]
-const CONNECTS: [(&[&str], ConnectAsked); 10] = [
+const CONNECTS: [(&[&str], ConnectAsked); 12] = [
     (&["host"], CONNECT),
     (&["--wait", "1", "host"], ConnectAsked { wait: 1, ..CONNECT }),
     (&["host", "--wait", "86400"], ConnectAsked { wait: 86_400, ..CONNECT }),
@@ -43,6 +45,8 @@ const CONNECTS: [(&[&str], ConnectAsked); 10] = [
     (&["--ready", "host"], ConnectAsked { ready: true, ..CONNECT }),
     (&["--color", "host"], ConnectAsked { paint: Paint::Color, ..CONNECT }),
     (&["--extended", "host"], ConnectAsked { extended: true, ..CONNECT }),
+    (&["--record", "a.rec", "host"], ConnectAsked { record: Some("a.rec"), ..CONNECT }),
+    (&["host", "--record=-"], ConnectAsked { record: Some("-"), ..CONNECT }),
     (&["host", "a.connect"], ConnectAsked { script: Some("a.connect"), ..CONNECT }),
     (&["host", " a b "], ConnectAsked { script: Some(" a b "), ..CONNECT }),
     (&["host", "--", "--ready"], ConnectAsked { script: Some("--ready"), ..CONNECT }),
@@ -63,6 +67,7 @@ const TERMINALS: [(&[&str], ConnectAsked); 6] = [
         ready: true,
         paint: Paint::Color,
         extended: false,
+        record: None,
         script: Some("s"),
     }),
 ];
@@ -83,12 +88,13 @@ const HOSTS: [(&[&str], ConnectAsked); 9] = [
 
 // Words behind `serve`, and what they ask for.
 #[rattlefmt::skip]
-const SERVES: [(&[&str], ServeAsked); 11] = [
+const SERVES: [(&[&str], ServeAsked); 12] = [
     (&["127.0.0.1:5250"], SERVE),
     (&["--wait", "1", "127.0.0.1:5250"], ServeAsked { wait: 1, ..SERVE }),
     (&["127.0.0.1:5250", "--wait=86400"], ServeAsked { wait: 86_400, ..SERVE }),
     (&["--ready", "127.0.0.1:5250"], ServeAsked { ready: true, ..SERVE }),
     (&["--any", "127.0.0.1:5250"], ServeAsked { any: true, ..SERVE }),
+    (&["--record", "a.rec", "127.0.0.1:5250"], ServeAsked { record: Some("a.rec"), ..SERVE }),
     (&["127.0.0.1:5250", "a.serve"], ServeAsked { script: Some("a.serve"), ..SERVE }),
     (&["127.0.0.1:5250", " a b "], ServeAsked { script: Some(" a b "), ..SERVE }),
     (&["localhost:0"], ServeAsked { address: HostPort { host: "localhost", port: 0 }, ..SERVE }),
@@ -99,6 +105,7 @@ const SERVES: [(&[&str], ServeAsked); 11] = [
         wait: 2,
         ready: true,
         any: false,
+        record: None,
         script: Some("s"),
     }),
 ];

@@ -10,10 +10,11 @@
 mod standard_streams;
 
 use crate::standard_streams::StandardStreams;
+use std::fs::File;
 use std::io;
 use std::net::{Net, TcpListener, TcpStream};
 use std::process::ExitCode;
-use std::rt::Runtime;
+use std::rt::{Files, Runtime};
 use ws_code::WriteSink;
 use ws_live::BufferedSink;
 use ws_network::run_live;
@@ -23,10 +24,10 @@ use ws_program::{
 use ws_words::{Task, read_words};
 
 // Reads the command line and the input, and writes what is asked for: true where all was accepted.
-fn run<R: Runtime + AllocGlobal + Net<Listener = TcpListener, Stream = TcpStream>>(
-    rt: &R,
-    streams: OpenStreams,
-) -> Result<bool, CommandFault> {
+fn run<R>(rt: &R, streams: OpenStreams) -> Result<bool, CommandFault>
+where
+    R: Runtime + AllocGlobal + Files<File = File> + Net<Listener = TcpListener, Stream = TcpStream>,
+{
     let words = given_words(rt)?;
     let asked = read_words(rt.alloc(), words.as_slice())?;
     let mut sink = BufferedSink::new(WriteSink::new(io::writer(rt)));

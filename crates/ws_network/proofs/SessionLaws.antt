@@ -1,8 +1,8 @@
 use Rattle.std.proofs.Common.{◌≡◌, ℕ, List, [], ◌∷◌, Bool, true, false, sym, subst, Bor}
-use Rattle.std.specs.Prelude.{Option, None, Some, MatchOption, Result, IfOk}
+use Rattle.std.specs.Prelude.{Option, None, Some, MatchOption, Result, IfOk, Ok}
 use Rattle.std.specs.Option.{is_none}
 use Rattle.std.proofs.lemmas.Bool.{false≢true}
-use Rattle.std.proofs.lemmas.Result.{IfOk-weaker}
+use Rattle.std.proofs.lemmas.Result.{IfOk-weaker, IfOk-at_ok}
 use Rattle.ws_code.specs.Code.{Rules}
 use Rattle.ws_code.specs.Device.{WentOut}
 use Rattle.ws_nego.specs.Host.{opening}
@@ -27,9 +27,11 @@ use Rattle.ws_network.specs.Times.{Reads, Writes, no_reads, no_writes, gives, ta
 use Rattle.ws_words.specs.declared.live_command.ConnectAsked.{ConnectAsked}
 use Rattle.ws_words.specs.declared.live_command.ServeAsked.{ServeAsked}
 
--- what follows from what a call gives
-pub ok_then : {T E : Type 0} (P Q : T → Type 0) (r : Result T E) → IfOk r P → ((x : T) → P x → Q x) → IfOk r Q
-ok_then P Q r given then = IfOk-weaker r P Q then given
+-- what follows from what a session came to, of what is told of it
+pub judged : {T E : Type 0} (P Q : T → Type 0) (outcome told : Result T E) → IfOk outcome P
+    → IfOk told (λ x. outcome ≡ Ok x) → ((x : T) → P x → Q x) → IfOk told Q
+judged P Q outcome told given same then =
+    IfOk-weaker told (λ x. outcome ≡ Ok x) Q (λ x is. then x (IfOk-at_ok P is given)) same
 
 -- The lines of a session are those of the file that is named.
 

@@ -7,6 +7,7 @@ mod connecting;
 mod input_lines;
 mod live_input;
 mod live_session;
+mod recording;
 mod timed_sink;
 mod timed_source;
 mod timer;

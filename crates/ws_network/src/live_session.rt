@@ -11,10 +11,12 @@ ghost use Rattle.ws_network.specs.Sessions.{HasConnected, HasConnectedOn, HasSer
 use crate::any_input::carry_at_any_host;
 use crate::connecting::{connect_to, settled};
 use crate::live_input::{carry_at_host, carry_at_station};
+use crate::recording::{Recording, Sender, make_file};
 use crate::timed_sink::TimedSink;
 use crate::timed_source::TimedSource;
 use crate::timer::{Timer, Waits};
 use std::fs;
+use std::fs::File;
 use std::net::{Net, Shutdown, TcpListener, TcpStream};
 use std::rt::{Files, Runtime};
 use std::time::{Clock, Duration};
@@ -37,8 +39,8 @@ const LINGER: u64 = 1;
 /// # Errors
 ///
 /// In this order: `Read` where a script is named that can't be read, and `Line` and `Memory` as `read_lines` has them;
-/// `Read` where standard input is to be read and is closed, and `Write` where standard output is; `NoConnection`. Then
-/// those met in running.
+/// `Read` where standard input is to be read and is closed, and `Write` where standard output is; `Write` where the file
+/// of a recording can't be made; `NoConnection`. Then those met in running, `Write` too where that file can't be written.
 pub fn run_live<R, O>(
     rt: &R,
     asked: Live<'_>,
@@ -46,7 +48,7 @@ pub fn run_live<R, O>(
     out: &mut BufferedSink<O>,
 ) -> Result<bool, RunFault>
 where
-    R: Runtime + AllocGlobal + Net<Listener = TcpListener, Stream = TcpStream>,
+    R: Runtime + AllocGlobal + Files<File = File> + Net<Listener = TcpListener, Stream = TcpStream>,
     O: Sink,
     requires empty { out.old.held ≡ [] }
     ensures { IfOk result
@@ -66,7 +68,7 @@ fn connect<R, O>(
     out: &mut BufferedSink<O>,
 ) -> Result<bool, RunFault>
 where
-    R: Runtime + AllocGlobal + Net<Listener = TcpListener, Stream = TcpStream>,
+    R: Runtime + AllocGlobal + Files<File = File> + Net<Listener = TcpListener, Stream = TcpStream>,
     O: Sink,
     requires empty { out.old.held ≡ [] }
     ensures { IfOk result
@@ -89,7 +91,7 @@ fn connect_on<D, R, O>(
 where
     D: OperatedDisplay,
     D::Key: NamedKey,
-    R: Runtime + AllocGlobal + Net<Listener = TcpListener, Stream = TcpStream>,
+    R: Runtime + AllocGlobal + Files<File = File> + Net<Listener = TcpListener, Stream = TcpStream>,
     O: Sink,
     requires empty { out.old.held ≡ [] }
     ensures { IfOk result (HasConnectedOn O.takes O.failures out.old.sink out.new.sink
@@ -97,13 +99,15 @@ where
 {
     let script = read_script_file::<R, StationLine<D::Key>>(rt, asked.script)?;
     streams.suffice(script.is_none())?;
+    let file = make_record(rt, asked.record)?;
     let limit = Duration::from_secs(u64::from(asked.wait));
     let timer = Timer::new(rt, limit);
     let stream = connect_to(rt, rt.alloc(), asked.host, &timer)?;
+    let recording = Recording::new(rt, file.as_ref());
     let mut attached = Attached::new(
         StationOn::<D>::new(asked.terminal),
-        TimedSource::new(&stream, &timer),
-        TimedSink::new(&stream, &timer),
+        TimedSource::new(&stream, &timer, &recording, Sender::Host),
+        TimedSink::new(&stream, &timer, &recording, Sender::Station),
     );
     let outcome = carry_at_station(
         rt,
@@ -114,8 +118,8 @@ where
         asked.paint,
         out,
     );
-    close(rt, &stream);
-    outcome
+    close(rt, &stream, &recording, Sender::Host);
+    recording.judge(outcome)
 }
 
 // A host for one station.
@@ -126,7 +130,7 @@ fn serve<R, O>(
     out: &mut BufferedSink<O>,
 ) -> Result<bool, RunFault>
 where
-    R: Runtime + AllocGlobal + Net<Listener = TcpListener, Stream = TcpStream>,
+    R: Runtime + AllocGlobal + Files<File = File> + Net<Listener = TcpListener, Stream = TcpStream>,
     O: Sink,
     requires empty { out.old.held ≡ [] }
     ensures { IfOk result (HasServedAs O.takes O.failures out.old.sink out.new.sink
@@ -147,7 +151,7 @@ fn serve_profile<R, O>(
     out: &mut BufferedSink<O>,
 ) -> Result<bool, RunFault>
 where
-    R: Runtime + AllocGlobal + Net<Listener = TcpListener, Stream = TcpStream>,
+    R: Runtime + AllocGlobal + Files<File = File> + Net<Listener = TcpListener, Stream = TcpStream>,
     O: Sink,
     requires empty { out.old.held ≡ [] }
     ensures { IfOk result
@@ -155,13 +159,14 @@ where
 {
     let script = read_script_file::<R, HostLine>(rt, asked.script)?;
     streams.suffice(script.is_none())?;
-    let limit = Duration::from_secs(u64::from(asked.wait));
+    let file = make_record(rt, asked.record)?;
     let stream = take_station(rt, asked.address, out)?;
-    let timer = Timer::new(rt, limit);
+    let recording = Recording::new(rt, file.as_ref());
+    let timer = Timer::new(rt, Duration::from_secs(u64::from(asked.wait)));
     let mut host = HostEnd::new(rt.alloc());
-    let mut sink = TimedSink::new(&stream, &timer);
+    let mut sink = TimedSink::new(&stream, &timer, &recording, Sender::Host);
     write_whole(&mut sink, host.open().as_slice())?;
-    let source = TimedSource::new(&stream, &timer);
+    let source = TimedSource::new(&stream, &timer, &recording, Sender::Station);
     let mut attached = Attached::new(host, source, sink);
     let outcome = carry_at_host(
         rt,
@@ -171,8 +176,8 @@ where
         asked.ready,
         out,
     );
-    close(rt, &stream);
-    outcome
+    close(rt, &stream, &recording, Sender::Station);
+    recording.judge(outcome)
 }
 
 // A host that takes any record.
@@ -183,7 +188,7 @@ fn serve_any<R, O>(
     out: &mut BufferedSink<O>,
 ) -> Result<bool, RunFault>
 where
-    R: Runtime + AllocGlobal + Net<Listener = TcpListener, Stream = TcpStream>,
+    R: Runtime + AllocGlobal + Files<File = File> + Net<Listener = TcpListener, Stream = TcpStream>,
     O: Sink,
     requires empty { out.old.held ≡ [] }
     ensures { IfOk result
@@ -191,13 +196,14 @@ where
 {
     let script = read_script_file::<R, AnyLine>(rt, asked.script)?;
     streams.suffice(script.is_none())?;
-    let limit = Duration::from_secs(u64::from(asked.wait));
+    let file = make_record(rt, asked.record)?;
     let stream = take_station(rt, asked.address, out)?;
-    let timer = Timer::new(rt, limit);
+    let recording = Recording::new(rt, file.as_ref());
+    let timer = Timer::new(rt, Duration::from_secs(u64::from(asked.wait)));
     let mut host = AnyHost::new(rt.alloc());
-    let mut sink = TimedSink::new(&stream, &timer);
+    let mut sink = TimedSink::new(&stream, &timer, &recording, Sender::Host);
     write_whole(&mut sink, host.open().as_slice())?;
-    let source = TimedSource::new(&stream, &timer);
+    let source = TimedSource::new(&stream, &timer, &recording, Sender::Station);
     let mut attached = Attached::new(host, source, sink);
     let outcome = carry_at_any_host(
         rt,
@@ -207,8 +213,8 @@ where
         asked.ready,
         out,
     );
-    close(rt, &stream);
-    outcome
+    close(rt, &stream, &recording, Sender::Station);
+    recording.judge(outcome)
 }
 
 // The lines of a script, where one is named.
@@ -224,6 +230,17 @@ fn read_script_file<R: Files + AllocGlobal, L: LiveLine>(
     };
     let text = fs::read(rt, path)?;
     Ok(Some(read_lines(rt.alloc(), text.as_slice())?))
+}
+
+// The file of a recording, where one is named.
+fn make_record<R: AllocGlobal + Files<File = File>>(
+    rt: &R,
+    record: Option<&str>,
+) -> Result<Option<File>, RunFault> {
+    match record {
+        Some(name) => Ok(Some(make_file(rt, name)?)),
+        None => Ok(None),
+    }
 }
 
 // Listens at an address, tells that it does, and takes one station. No other waits behind it: nobody listens any more.
@@ -275,12 +292,12 @@ fn put_listening<R: AllocGlobal, O: Sink>(
 
 // Ends a connection in order: nothing more is written, and what the other side still sends is taken for a moment, so
 // that it isn't told of a fault.
-fn close<R: Clock>(rt: &R, stream: &TcpStream) {
+fn close<R: Clock>(rt: &R, stream: &TcpStream, recording: &Recording<'_, R>, sender: Sender) {
     if stream.shutdown(Shutdown::Write).is_err() {
         return;
     }
     let timer = Timer::new(rt, Duration::from_secs(LINGER));
-    let mut rest = TimedSource::new(stream, &timer);
+    let mut rest = TimedSource::new(stream, &timer, recording, sender);
     let mut piece = [0u8; 4096];
     for _ in 0..u32::MAX {
         match rest.read(&mut piece) {

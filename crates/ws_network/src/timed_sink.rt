@@ -2,6 +2,7 @@ ghost use Rattle.std.specs.Io.{WritesAtMost};
 ghost use Rattle.std.specs.Prelude.{◌≡◌};
 ghost use Rattle.ws_network.specs.Times as Spec;
 
+use crate::recording::{Recording, Sender};
 use crate::timer::{Timer, no_time};
 use std::io;
 use std::io::{ErrorKind, Write};
@@ -11,11 +12,13 @@ use std::time::{Clock, Instant};
 use ws_code::{DeviceFailed, Sink};
 
 /// Writes into a connection. The bytes of one text, in as many writes as it asks for, go out in the time of the wait in
-/// which it is written, or in one of its own.
+/// which it is written, or in one of its own. What goes out is recorded.
 #[derive(Drop)]
 pub struct TimedSink<'a, C> {
     stream: &'a TcpStream,
     timer: &'a Timer<'a, C>,
+    recording: &'a Recording<'a, C>,
+    sender: Sender,
     failures: u64,
     // How many bytes of the text didn't go out yet, and when its time is over.
     unsent: usize,
@@ -31,13 +34,20 @@ impl<'a, C> Model for TimedSink<'a, C> {
 }
 
 impl<'a, C: Clock> TimedSink<'a, C> {
-    /// No write has failed.
-    pub fn new(stream: &'a TcpStream, timer: &'a Timer<'a, C>) -> Self
+    /// No write has failed. What is written comes from this sender.
+    pub fn new(
+        stream: &'a TcpStream,
+        timer: &'a Timer<'a, C>,
+        recording: &'a Recording<'a, C>,
+        sender: Sender,
+    ) -> Self
         ensures { result ≡ Spec.no_writes }
     {
         TimedSink {
             stream,
             timer,
+            recording,
+            sender,
             failures: 0,
             unsent: 0,
             until: None,
@@ -68,6 +78,15 @@ impl<'a, C: Clock> TimedSink<'a, C> {
         }
         Err(no_time())
     }
+
+    // Writes a piece, and has it recorded.
+    fn write_piece(&self, bytes: &[u8]) -> io::Result<usize>
+        ensures { WritesAtMost result bytes.now }
+    {
+        let taken = self.write_in_time(bytes)?;
+        self.recording.keep(self.sender, &bytes[..taken])?;
+        Ok(taken)
+    }
 }
 
 impl<'a, C: Clock> Sink for TimedSink<'a, C> {
@@ -80,7 +99,7 @@ impl<'a, C: Clock> Sink for TimedSink<'a, C> {
         if self.unsent == 0 || self.unsent != bytes.len() {
             self.until = self.timer.end_of_write();
         }
-        match self.write_in_time(bytes) {
+        match self.write_piece(bytes) {
             Ok(taken) => {
                 self.unsent = bytes.len().saturating_sub(taken);
                 Ok(taken)

@@ -4,6 +4,7 @@ ghost use Rattle.std_io.specs.IoError.{error_kind};
 ghost use Rattle.ws_code.specs.Device.{one_more};
 ghost use Rattle.ws_network.specs.Times as Spec;
 
+use crate::recording::{Recording, Sender};
 use crate::timer::{Timer, no_time};
 use std::io;
 use std::io::{ErrorKind, Read};
@@ -12,11 +13,13 @@ use std::net::TcpStream;
 use std::time::Clock;
 use ws_code::{DeviceFailed, Source};
 
-/// Reads from a connection for as long as the wait lasts.
+/// Reads from a connection for as long as the wait lasts, and has what it reads recorded.
 #[derive(Drop)]
 pub struct TimedSource<'a, C> {
     stream: &'a TcpStream,
     timer: &'a Timer<'a, C>,
+    recording: &'a Recording<'a, C>,
+    sender: Sender,
     failures: u64,
     // Of what kind the error of the last read that failed was.
     failure: Option<ErrorKind>,
@@ -31,13 +34,20 @@ impl<'a, C> Model for TimedSource<'a, C> {
 }
 
 impl<'a, C: Clock> TimedSource<'a, C> {
-    /// No read has failed.
-    pub fn new(stream: &'a TcpStream, timer: &'a Timer<'a, C>) -> Self
+    /// No read has failed. What is read comes from this sender.
+    pub fn new(
+        stream: &'a TcpStream,
+        timer: &'a Timer<'a, C>,
+        recording: &'a Recording<'a, C>,
+        sender: Sender,
+    ) -> Self
         ensures { result ≡ Spec.no_reads }
     {
         TimedSource {
             stream,
             timer,
+            recording,
+            sender,
             failures: 0,
             failure: None,
         }
@@ -78,6 +88,15 @@ impl<'a, C: Clock> TimedSource<'a, C> {
         Err(no_time())
     }
 
+    // Reads a piece, and has it recorded.
+    fn read_piece(&self, into: &mut [u8]) -> io::Result<usize>
+        ensures { ReadsAtMost result into.new }
+    {
+        let given = self.read_in_time(into)?;
+        self.recording.keep(self.sender, &into[..given])?;
+        Ok(given)
+    }
+
     // Keeps why a read failed.
     fn note(&mut self, outcome: io::Result<usize>) -> Result<usize, DeviceFailed>
         ensures ok { IfOk outcome (λ given. (result ≡ Ok given) × (self.new ≡ self.old)) }
@@ -104,7 +123,7 @@ impl<'a, C: Clock> Source for TimedSource<'a, C> {
     ghost failures = { λ source. source.failures };
 
     fn read(&mut self, into: &mut [u8]) -> Result<usize, DeviceFailed> {
-        let outcome = self.read_in_time(into);
+        let outcome = self.read_piece(into);
         self.note(outcome)
     }
 }

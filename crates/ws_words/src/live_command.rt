@@ -25,6 +25,8 @@ pub struct ConnectAsked<'a> {
     pub paint: Paint,
     /// Whether its display also takes what live hosts send beside the profile.
     pub extended: bool,
+    /// The file of a recording; without it, none is made.
+    pub record: Option<&'a str>,
     /// The file of a script; without it, standard input is read.
     pub script: Option<&'a str>,
 }
@@ -38,6 +40,8 @@ pub struct ServeAsked<'a> {
     pub ready: bool,
     /// Whether it takes any terminal name and any record, and judges none.
     pub any: bool,
+    /// The file of a recording; without it, none is made.
+    pub record: Option<&'a str>,
     /// The file of a script; without it, standard input is read.
     pub script: Option<&'a str>,
 }
@@ -59,6 +63,10 @@ one a line of standard input is carried out before the next is read:
 A refused key is told as `key refused REASON`. A wait that runs out prints
 `late`, and the session goes on; one whose host has closed prints `ended`.
 `station refused at P: reason K NAME` is the last line.
+
+With --record, FILE has a line `MILLISECONDS host|station HEX` for each piece that
+crossed the connection. It holds what was typed into hidden fields, passwords
+too, so none but its owner can read it.
 
 With --extended, `key Reset` takes an error away that a host shows. Until then
 `await` goes on too, and `show` ends with `error row R`.
@@ -94,6 +102,10 @@ A refused send is told as `send refused REASON`. A wait that runs out prints
 `late`, and the session goes on; one whose station has closed prints `ended`.
 `host refused at P: reason K NAME` is the last line. Behind the last line of a
 script it answers on until the station closes, or the wait is over.
+
+With --record, FILE has a line `MILLISECONDS host|station HEX` for each piece that
+crossed the connection. It holds what was typed into hidden fields, passwords
+too, so none but its owner can read it.
 
 With --any, for tests of emulators, it judges no terminal name and no record. It
 prints `terminal NAME` and `record flags FFFF opcode K HEX`; `send K` takes any
@@ -176,12 +188,21 @@ pub fn paint_asked(words: &ArgMatches<'_>) -> Paint {
     }
 }
 
-// What both sessions take: the time of a wait, whether `ok` is told, and a script.
+// What both sessions take: the time of a wait, whether `ok` is told, a recording, and a script.
 fn with_script<'a>(alloc: Global, command: CommandParts<'a>) -> CommandParts<'a> {
     command
         .word(wait(alloc))
         .word(flag(alloc, "ready", READY_HELP))
+        .word(record(alloc))
         .word(place(alloc, "SCRIPT", SCRIPT_HELP, false))
+}
+
+fn record<'a>(alloc: Global) -> Arg<'a> {
+    Arg::new(alloc, "record")
+        .long("record")
+        .value_name("FILE")
+        .help("Records what both ends send; FILE-1, FILE-2 .. where FILE is there already")
+        .action(ArgAction::Set)
 }
 
 fn wait<'a>(alloc: Global) -> Arg<'a> {
@@ -225,6 +246,7 @@ pub fn connect_asked<'a>(
         ready: words.get_flag("ready"),
         paint: paint_asked(words),
         extended: words.get_flag("extended"),
+        record: words.get_str("record"),
         script: words.get_str("SCRIPT"),
     })
 }
@@ -246,6 +268,7 @@ pub fn serve_asked<'a>(
         wait: seconds(words),
         ready: words.get_flag("ready"),
         any: words.get_flag("any"),
+        record: words.get_str("record"),
         script: words.get_str("SCRIPT"),
     })
 }

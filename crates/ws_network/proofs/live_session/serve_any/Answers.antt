@@ -3,13 +3,14 @@ use Rattle.ws_code.proofs.DeviceLaws.{went_out_both}
 use Rattle.ws_any_host.specs.AnyLines.{IsAnyLine, OpensAnyBlock}
 use Rattle.ws_any_host.specs.AnyOptions.{new_negotiated}
 use Rattle.ws_network.proofs.AnySessionLaws.{any_served}
-use Rattle.ws_network.proofs.SessionLaws.{ok_then, from_script}
+use Rattle.ws_network.proofs.SessionLaws.{judged, from_script}
 use Rattle.ws_network.proofs.live_session.serve_any.Goals as goal
 
 pub returns : goal.returns
 returns g c =
     let first = c.in_ok-stream.ensures.told in
-    ok_then _ _ c.carry_at_any_host-outcome.result c.carry_at_any_host-outcome.ensures.ran (λ all_well ran. (
+    judged _ _ c.carry_at_any_host-outcome.result c.judge.result c.carry_at_any_host-outcome.ensures.ran c.judge.ensures
+    (λ all_well ran. (
       ran.0,
       first.0,
       ran.1,

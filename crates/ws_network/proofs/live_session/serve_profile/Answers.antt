@@ -2,13 +2,14 @@ use Rattle.std.proofs.Common.{◌∙◌, []}
 use Rattle.ws_code.proofs.DeviceLaws.{went_out_both}
 use Rattle.ws_session.specs.HostLeads.{unopened_host_side}
 use Rattle.ws_live.specs.ServeLines.{IsHostLine, OpensHostBlock}
-use Rattle.ws_network.proofs.SessionLaws.{ok_then, from_script, served}
+use Rattle.ws_network.proofs.SessionLaws.{judged, from_script, served}
 use Rattle.ws_network.proofs.live_session.serve_profile.Goals as goal
 
 pub returns : goal.returns
 returns g c =
     let first = c.in_ok-stream.ensures.told in
-    ok_then _ _ c.carry_at_host-outcome.result c.carry_at_host-outcome.ensures.ran (λ all_well ran. (
+    judged _ _ c.carry_at_host-outcome.result c.judge.result c.carry_at_host-outcome.ensures.ran c.judge.ensures
+    (λ all_well ran. (
       ran.0,
       first.0,
       ran.1,
