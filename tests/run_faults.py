@@ -68,8 +68,10 @@ class Run:
         self.began = time.monotonic()
         self.process = subprocess.Popen([PROGRAM] + words, stdin=subprocess.PIPE, stdout=subprocess.PIPE,
                                         stderr=subprocess.PIPE, env=dict(os.environ, **more))
-        self.process.stdin.write(text)
-        self.process.stdin.flush()
+        # It may have ended before it reads its input.
+        with contextlib.suppress(BrokenPipeError):
+            self.process.stdin.write(text)
+            self.process.stdin.flush()
 
     def line(self):
         return self.process.stdout.readline().decode()
