@@ -1,8 +1,8 @@
-use Rattle.std.proofs.Common.{◌≡◌, ℕ, suc, ◌+◌, ◌<◌, min, List, [], ◌∷◌, ◌++◌, ◌⊎◌, length, drop, get_or, refl, sym, ap, ◌∙◌}
-use Rattle.std.proofs.Common.{append_assoc, arith, inl, inr}
+use Rattle.std.proofs.Common.{◌≡◌, ℕ, suc, ◌+◌, ◌<◌, min, List, [], ◌∷◌, ◌++◌, ◌⊎◌, length, take, drop, get_or, refl, sym, ap, ◌∙◌}
+use Rattle.std.proofs.Common.{◌-◌, append_assoc, arith, inl, inr}
 use Rattle.std.proofs.Math.Seq.{drop-cons}
 use Rattle.std.proofs.lemmas.Bool.{cases_lt}
-use Rattle.std.proofs.lemmas.List.{append-nil, drop_all}
+use Rattle.std.proofs.lemmas.List.{append-nil, drop_all, take_all, length-drop}
 use Rattle.ws_network.specs.Turns.{turns}
 
 -- Two lists whose items take turns.
@@ -43,3 +43,13 @@ module _ {A : Type 0} where
       ] in
       append_assoc order (drop n xs) (drop n ys)
       ∙ ap (λ z. order ++ z) (sym (either_over (drop n xs) (drop n ys) over)) ∙ before
+
+  -- what is left of a list, cut out of it
+  cut_rest : (zs : List A) (n : ℕ) → take (length zs - n) (drop n zs) ≡ drop n zs
+  cut_rest zs n = let long = length-drop n zs in take_all (length zs - n) (drop n zs) (omega (arith, long))
+
+  pub cut_follows : (xs ys order : List A) (n : ℕ) → n ≡ min (length xs) (length ys)
+      → order ++ turns (drop n xs) (drop n ys) ≡ turns xs ys
+      → (order ++ take (length xs - n) (drop n xs)) ++ take (length ys - n) (drop n ys) ≡ turns xs ys
+  cut_follows xs ys order n shared before = ap (λ z. (order ++ z) ++ take (length ys - n) (drop n ys)) (cut_rest xs n)
+      ∙ ap (λ z. (order ++ drop n xs) ++ z) (cut_rest ys n) ∙ rest_follows xs ys order n shared before

@@ -1,4 +1,6 @@
 //! Connecting to a name's addresses, which share the time of a wait.
+ghost use Rattle.std.specs.Iterator.{IsFinite};
+
 use crate::timer::Timer;
 use crate::turns::{by_turns, share};
 use std::alloc::{AllocError, Global};
@@ -47,7 +49,9 @@ pub fn settled(stream: TcpStream) -> Result<TcpStream, RunFault> {
 fn in_order<I: Iterator<Item = SocketAddr> + Drop>(
     alloc: Global,
     found: I,
-) -> Result<Vec<SocketAddr>, AllocError> {
+) -> Result<Vec<SocketAddr>, AllocError>
+    requires { I.can_next found × IsFinite (I.remaining found) }
+{
     let mut addresses = Vec::new(alloc);
     for address in found {
         addresses.push(address)?;

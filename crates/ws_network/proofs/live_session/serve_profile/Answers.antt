@@ -8,18 +8,18 @@ use Rattle.ws_network.proofs.live_session.serve_profile.Goals as goal
 pub returns : goal.returns
 returns g c =
     let first = c.in_ok-stream.ensures.told in
-    judged _ _ c.carry_at_host.result c.judge.result c.carry_at_host.ensures.ran c.judge.ensures
+    judged _ _ c.carry_at_host-outcome.result c.judge.result c.carry_at_host-outcome.ensures.ran c.judge.ensures
     (λ all_well ran. (
       ran.0,
       first.0,
       ran.1,
       from_script (λ v. v.items) IsHostLine OpensHostBlock c.args.asked.now.script c.in_ok-script.script ran.0
           c.in_ok-script.ensures ran.2,
-      served c.args.asked.now ran.0 all_well ran.1 (c.carry_at_host.new.attached, c.carry_at_host.new.watch)
+      served c.args.asked.now ran.0 all_well ran.1 (c.carry_at_host-outcome.new.attached, c.carry_at_host-outcome.new.watch)
           c.open.new.self c.new-source.result c.new-sink.result c.write_whole.new.sink c.as_slice.result.now
           c.new-attached.result c.new.result (c.open.ensures.opened [] [] unopened_host_side c.new-host.ensures)
           c.in_ok-write_whole.ensures.ok (c.as_slice.ensures.value ∙ c.open.ensures.reply) c.new-attached.ensures
           c.new-source.ensures c.new-sink.ensures c.new.ensures ran.3,
       went_out_both g.O.Sink.takes g.O.Sink.failures c.args.out.now.sink c.take_station.new.out.sink
-          c.carry_at_host.new.out.sink first.0 ran.1 first.1 ran.4,
+          c.carry_at_host-outcome.new.out.sink first.0 ran.1 first.1 ran.4,
     ))
