@@ -179,15 +179,14 @@ fn waits_for_keys(rt: HostRuntime) {
         same_at(
             &rt,
             script,
-            runs(&rt, bytes.as_slice(), script, printed),
+            runs(&rt, rt.alloc(), bytes.as_slice(), script, printed),
             *well,
         );
     }
 }
 
 // Whether all went well with a script at a host to which these bytes come, and behind it; what is printed is this.
-fn runs(rt: &HostRuntime, bytes: &[u8], script: &str, printed: &str) -> bool {
-    let alloc = rt.alloc();
+fn runs(rt: &impl Abort, alloc: Global, bytes: &[u8], script: &str, printed: &str) -> bool {
     let mut attached = host_given(alloc, bytes);
     let lines = read_lines::<AnyLine>(alloc, script.as_bytes()).expect(rt, "a script");
     let mut watch = Counter { begun: 0 };
@@ -230,7 +229,7 @@ fn scripts(rt: HostRuntime) {
         same_at(
             &rt,
             script,
-            runs(&rt, bytes.as_slice(), script, printed),
+            runs(&rt, rt.alloc(), bytes.as_slice(), script, printed),
             *well,
         );
     }
