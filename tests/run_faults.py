@@ -1,5 +1,5 @@
 #!/usr/bin/env python3
-"""Looks at what `t5250 connect` and `t5250 serve` do where something goes wrong at a connection: an address that doesn't
+"""Looks at what `t5250 connect` and `serve` do where something goes wrong at a connection: an address that doesn't
 answer, a line that can't be read, a peer that reads nothing, a second station.
 
 Build the program first (`cd crates/t5250 && rt run -- check < stdin`), then call `python3 tests/run_faults.py` from
@@ -13,46 +13,19 @@ import os
 import re
 import shutil
 import socket
-import struct
 import subprocess
 import sys
 import tempfile
 import threading
 import time
-import traceback
 
-HERE = os.path.dirname(os.path.abspath(__file__))
-NAMED = [word for word in sys.argv[1:] if word != "-v"]
-PROGRAM = os.path.abspath(NAMED[0] if NAMED else os.path.join(HERE, "..", "crates", "t5250", "out", "t5250"))
+from live.program import expect, Failure
+from live.records import IAC, record
+from live.runner import LeftOut, run_tests, test
+from live.tapped import Host, Run, Side, station_at
 
-IAC, EOR, SB, SE = 0xFF, 0xEF, 0xFA, 0xF0
-WILL, DO = 0xFB, 0xFD
-BINARY, TERMINAL, END_OF_RECORD = 0, 24, 25
-OPENING = bytes([IAC, DO, TERMINAL])
-SEND_NAME = bytes([IAC, SB, TERMINAL, 1, IAC, SE])
-IS_NAME = bytes([IAC, SB, TERMINAL, 0]) + b"IBM-3179-2" + bytes([IAC, SE])
-ANSWERS = {DO: WILL, WILL: DO}
 READY = "host ready IBM-3179-2\n"
 CLEAR = bytes.fromhex("0440")
-
-
-def record(opcode, body=b""):
-    """A record as it goes over the line (RFC 1205, section 3; RFC 885)."""
-    head = struct.pack(">HHHBHB", 10 + len(body), 0x12A0, 0, 4, 0, opcode)
-    return (head + body).replace(b"\xff", b"\xff\xff") + bytes([IAC, EOR])
-
-
-class Failure(Exception):
-    pass
-
-
-class LeftOut(Exception):
-    pass
-
-
-def expect(got, wanted, what):
-    if got != wanted:
-        raise Failure("%s: got %r, and not %r" % (what, got, wanted))
 
 
 def expect_time(began, low, high, what):
@@ -61,139 +34,12 @@ def expect_time(began, low, high, what):
         raise Failure("%s took %.2f s" % (what, took))
 
 
-class Run:
-    """A run of the program, with these lines on standard input, which stays open until its end is asked for."""
-
-    def __init__(self, words, text=b"", **more):
-        self.began = time.monotonic()
-        self.process = subprocess.Popen([PROGRAM] + words, stdin=subprocess.PIPE, stdout=subprocess.PIPE,
-                                        stderr=subprocess.PIPE, env=dict(os.environ, **more))
-        # It may have ended before it reads its input.
-        with contextlib.suppress(BrokenPipeError):
-            self.process.stdin.write(text)
-            self.process.stdin.flush()
-
-    def line(self):
-        return self.process.stdout.readline().decode()
-
-    def end(self, status, printed, error=""):
-        try:
-            text, fault = self.process.communicate(timeout=30)
-        except subprocess.TimeoutExpired:
-            self.process.kill()
-            raise Failure("it doesn't end")
-        expect(fault.decode(), error, "standard error")
-        expect(text.decode(), printed, "standard output")
-        expect(self.process.returncode, status, "status")
-
-
-class Side:
-    """A connected socket, with what was read and not yet taken."""
-
-    def __init__(self, stream):
-        self.stream = stream
-        self.stream.settimeout(15)
-        self.rest = b""
-        self.sent = self.heard = b""
-
-    def send(self, data):
-        self.sent += data
-        self.stream.sendall(data)
-
-    def note(self, piece):
-        self.rest += piece
-        self.heard += piece
-
-    def take(self, wanted):
-        while len(self.rest) < len(wanted):
-            piece = self.stream.recv(4096)
-            if not piece:
-                break
-            self.note(piece)
-        got, self.rest = self.rest[:len(wanted)], self.rest[len(wanted):]
-        expect(got, wanted, "what came over the line")
-
-    def is_closed(self):
-        """Whether nothing came before the other side closed its half."""
-        return self.rest == b"" and self.stream.recv(4096) == b""
-
-    def negotiate_as_host(self):
-        """RFC 1205 and 4777: the terminal's type, end of record and binary both ways."""
-        self.send(OPENING)
-        self.take(bytes([IAC, WILL, TERMINAL]))
-        self.send(SEND_NAME)
-        self.take(IS_NAME)
-        for option in (END_OF_RECORD, BINARY):
-            self.send(bytes([IAC, DO, option, IAC, WILL, option]))
-            self.take(bytes([IAC, WILL, option, IAC, DO, option]))
-
-    def negotiate_as_station(self):
-        self.take(OPENING)
-        self.send(bytes([IAC, WILL, TERMINAL]))
-        self.take(SEND_NAME)
-        self.send(IS_NAME)
-        for _ in range(4):
-            while len(self.rest) < 3:
-                self.note(self.stream.recv(4096))
-            command, self.rest = self.rest[:3], self.rest[3:]
-            self.send(bytes([IAC, ANSWERS[command[1]], command[2]]))
-
-
-class Host:
-    """A listening socket, at which a function plays the host in a thread of its own."""
-
-    def __init__(self, play, address="127.0.0.1", port=0, narrow=False):
-        self.listener = socket.socket(socket.AF_INET6 if ":" in address else socket.AF_INET)
-        self.listener.setsockopt(socket.SOL_SOCKET, socket.SO_REUSEADDR, 1)
-        if narrow:
-            # Little is under way then before a write has to wait.
-            self.listener.setsockopt(socket.SOL_SOCKET, socket.SO_RCVBUF, 4096)
-            self.listener.setsockopt(socket.IPPROTO_TCP, socket.TCP_MAXSEG, 536)
-        self.listener.bind((address, port))
-        self.listener.listen(5)
-        self.port = self.listener.getsockname()[1]
-        self.fault = None
-        self.thread = threading.Thread(target=self.run, args=(play,), daemon=True)
-        self.thread.start()
-
-    def run(self, play):
-        try:
-            stream, _ = self.listener.accept()
-            with stream:
-                play(Side(stream))
-        except Exception as error:
-            self.fault = error
-
-    def end(self):
-        self.thread.join(timeout=20)
-        self.listener.close()
-        if self.fault is not None:
-            raise Failure("the host met: %r" % self.fault)
-
-
-def station_at(serve):
-    """Connects to a `serve` that has begun."""
-    line = serve.line()
-    if not line.startswith("listening "):
-        raise Failure("no address: %r" % line)
-    host, port = line.split()[1].rsplit(":", 1)
-    return Side(socket.create_connection((host.strip("[]"), int(port)), timeout=15))
-
-
 @contextlib.contextmanager
 def file_of(text):
     with tempfile.NamedTemporaryFile() as file:
         file.write(text)
         file.flush()
         yield file.name
-
-
-TESTS = []
-
-
-def test(function):
-    TESTS.append(function)
-    return function
 
 
 # A name of several addresses, of which some don't answer.
@@ -224,7 +70,7 @@ def connect_to_many(addresses, port, seconds):
         raise LeftOut("addresses that don't answer, for want of a C compiler")
     with tempfile.TemporaryDirectory() as folder:
         library = os.path.join(folder, "many_addresses.so")
-        source = os.path.join(HERE, "many_addresses.c")
+        source = os.path.join(os.path.dirname(os.path.abspath(__file__)), "many_addresses.c")
         subprocess.run([compiler, "-shared", "-fPIC", "-o", library, source, "-ldl"], check=True)
         run = Run(["connect", "--wait", str(seconds), "many.test:%d" % port], LD_PRELOAD=library,
                   ADDRESSES=",".join(addresses))
@@ -333,7 +179,8 @@ def the_end_in_order_behind_a_bad_line():
         side.send(record(2, CLEAR) * 50)
         go_on(side)
     host = Host(play)
-    Run(["connect", "--wait", "5", "127.0.0.1:%d" % host.port], b"await record\nnonsense\n").end(2, "", "script line 2\n")
+    run = Run(["connect", "--wait", "5", "127.0.0.1:%d" % host.port], b"await record\nnonsense\n")
+    run.end(2, "", "script line 2\n")
     host.end()
     for words, ready in ((), READY), (["--any"], "terminal IBM-3179-2\n"):
         serve, side = served(b"nonsense\n", words)
@@ -514,27 +361,16 @@ def recordings_that_can_not_be_written():
 @test
 def help_tells_what_a_recording_holds():
     for command in "connect", "serve":
-        told = subprocess.run([PROGRAM, "help", command], capture_output=True, text=True, check=True).stdout
+        told = subprocess.run([Run.program, "help", command], capture_output=True, text=True, check=True).stdout
         if "--record" not in told or "hidden" not in told:
             raise Failure("help %s" % command)
 
 
 def main():
-    passed = failed = 0
-    for function in TESTS:
-        began = time.monotonic()
-        try:
-            function()
-            passed += 1
-        except LeftOut as left_out:
-            print("left out: %s" % left_out)
-        except Exception as error:
-            failed += 1
-            print("%s: %s" % (function.__name__, error if isinstance(error, Failure) else traceback.format_exc()))
-        if "-v" in sys.argv:
-            print("%5.1f s  %s" % (time.monotonic() - began, function.__name__), flush=True)
-    print("%d passed, %d failed" % (passed, failed))
-    return 1 if failed else 0
+    named = [word for word in sys.argv[1:] if word != "-v"]
+    if named:
+        Run.program = os.path.abspath(named[0])
+    return 0 if run_tests("-v" in sys.argv) else 1
 
 
 if __name__ == "__main__":

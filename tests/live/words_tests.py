@@ -24,8 +24,8 @@ def wrong_lines():
             # Nothing is connected: there is no host.
             Run(["connect", "--wait", "1", "127.0.0.1:1", script.name]).end(2, "", "script line 3\n")
     words = ["wait", "await record", "await ", "  CLEAR-UNIT", "send", "send ", "send x", "send 3 ", "send 3 0",
-             "send 10", "send 256", "send 3 0440F3", "type A", "key Enter", "show x", "await enter", "cancel ", "down all",
-             "settle"]
+             "send 10", "send 256", "send 3 0440F3", "type A", "key Enter", "show x", "await enter", "cancel ",
+             "down all", "settle"]
     for line in words:
         with script_file(".serve", "cancel\n# no line\n%s\n" % line) as script:
             Run(["serve", "--wait", "1", "127.0.0.1:0", script.name]).end(2, "", "script line 3\n")
