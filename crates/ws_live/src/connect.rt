@@ -81,9 +81,8 @@ fn press_keys<D: OperatedDisplay, S: Source, K: Sink, O: Sink>(
 where
     D::Key: NamedKey,
     requires works { attached.old.broken ≡ false }
-    ensures runs { (text : List ℕ) × Spec.KeysRun D.Commands.rules D.does K.takes K.failures S.gives S.failures
-        D.Key.words keys.now
-        attached.old result.outcome text attached.new
+    ensures runs { (text : List ℕ) × Spec.KeysRun D.Commands.rules D.does K.takes K.failures
+        S.gives S.failures D.Key.words keys.now attached.old result.outcome text attached.new
         × Prints O.takes O.failures out.old out.new output result.output text }
     ensures works { IfOk result.outcome (λ closing. attached.new.broken ≡ false) }
 {
