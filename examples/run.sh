@@ -34,6 +34,21 @@ compare_made() {
     count $? "differs: make ${*:2} $1.show"
 }
 
+# compare_raw NAME OPTION..: the bytes that `make` writes of NAME.show check as NAME.hex does.
+compare_raw() {
+    "$program" make --raw "${@:2}" "$1.show" | "$program" check --raw "${@:2}" | cmp -s - "$1.check"
+    count $? "differs: make --raw ${*:2} $1.show"
+}
+
+# compare_end END OPTION..: what is shown of an end's side of a recording makes the bytes that its lines have.
+compare_end() {
+    local made wanted
+    wanted=$(sed -n "s/^[0-9]* $1 //p" inquiry.recording | tr -d '\n')
+    made=$("$program" show --of "$1" "${@:2}" inquiry.recording | "$program" make "${@:2}" | tr -d '\n')
+    [ -n "$wanted" ] && [ "$made" = "$wanted" ]
+    count $? "differs: show --of $1"
+}
+
 for script in *.script; do
     name=${script%.script}
     compare "$name.out" play --screen "$script"
@@ -42,6 +57,7 @@ for script in *.script; do
     compare "$name.check" check --cut 1 "$name.hex"
     compare "$name.show" show "$name.hex"
     compare_made "$name"
+    compare_raw "$name"
 done
 
 for hex in *-answers.hex; do
@@ -50,6 +66,7 @@ for hex in *-answers.hex; do
     compare "$name.check" check --answers --cut 1 "$hex"
     compare "$name.show" show --answers "$hex"
     compare_made "$name" --answers
+    compare_raw "$name" --answers
 done
 
 # What a live host sends, beside the profile too.
@@ -57,11 +74,17 @@ compare live-host.check check --extended live-host.hex
 compare live-host.check check --extended --cut 1 live-host.hex
 compare live-host.show show --extended live-host.hex
 compare_made live-host --extended
+compare_raw live-host --extended
 
 # What its station sends, and what that tells at once.
 compare live-station.check check --answers --extended live-station.hex
 compare live-station.check check --answers --extended --cut 1 live-station.hex
 compare live-station.show show --answers --extended live-station.hex
 compare_made live-station --answers --extended
+compare_raw live-station --answers --extended
+
+# A recording of the session of inquiry.connect and inquiry.serve.
+compare_end host
+compare_end station --answers
 echo "$passed passed, $failed failed"
 [ $failed -eq 0 ]

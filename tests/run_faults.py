@@ -95,7 +95,7 @@ def addresses_share_the_time():
         host.end()
         # Where none answers it is over when the wait is.
         status, error, took = connect_to_many(["127.0.0.2", "127.0.0.3"], port, 1)
-        expect((status, error), (2, "no connection\n"), "status and fault")
+        expect((status, error), (2, "no connection: late\n"), "status and fault")
         if not 0.9 < took < 1.8:
             raise Failure("it took %.2f s" % took)
 
@@ -143,9 +143,10 @@ def a_return_more_in_an_element_s_line():
             raise Failure("a bad record was sent")
         side.stream.close()
         serve.process.stdin = None
-        serve.end(2, READY, "script line %d\n" % number)
+        wanted = "script line %d: unknown word `CLEAR-UNIT\\0D`\n" % number
+        serve.end(2, READY, wanted)
         with file_of(b"await\n" + text % ending) as name:
-            Run(["serve", "127.0.0.1:0", name]).end(2, "", "script line %d\n" % number)
+            Run(["serve", "127.0.0.1:0", name]).end(2, "", wanted)
 
 
 @test
@@ -153,13 +154,13 @@ def a_line_that_is_not_utf_8_behind_a_good_block():
     for words, ready in ((), READY), (["--any"], "terminal IBM-3179-2\n"):
         serve, side = served(b"send 3\n  CLEAR-UNIT\n\xff\n", words)
         side.take(record(3, CLEAR))
-        serve.end(2, ready, "script line 4\n")
+        serve.end(2, ready, "script line 4: not UTF-8\n")
         side.stream.close()
     # Within the block it is the block's, and nothing is sent.
     serve, side = served(b"send 3\n  CLEAR-UNIT\n  TEXT \xff\ncancel\n")
     if not side.is_closed():
         raise Failure("a bad record was sent")
-    serve.end(2, READY, "script line 4\n")
+    serve.end(2, READY, "script line 4: not UTF-8\n")
     side.stream.close()
 
 
@@ -180,13 +181,13 @@ def the_end_in_order_behind_a_bad_line():
         go_on(side)
     host = Host(play)
     run = Run(["connect", "--wait", "5", "127.0.0.1:%d" % host.port], b"await record\nnonsense\n")
-    run.end(2, "", "script line 2\n")
+    run.end(2, "", "script line 2: unknown word `nonsense`\n")
     host.end()
     for words, ready in ((), READY), (["--any"], "terminal IBM-3179-2\n"):
         serve, side = served(b"nonsense\n", words)
         go_on(side)
         side.stream.close()
-        serve.end(2, ready, "script line 2\n")
+        serve.end(2, ready, "script line 2: unknown word `nonsense`\n")
 
 
 # A peer that doesn't read.
@@ -252,8 +253,8 @@ def an_address_with_a_zone():
         Run(["connect", "--wait", "1", "[%s%%%s]:%d" % (address, name, port)], b"await\n").end(1, "late\n")
         serve.end(0, "")
     # An interface that isn't there.
-    Run(["connect", "[%s%%none]:23" % address]).end(2, "", "no connection\n")
-    Run(["serve", "[%s%%none]:0" % address]).end(2, "", "no connection\n")
+    Run(["connect", "[%s%%none]:23" % address]).end(2, "", "no connection: unknown name\n")
+    Run(["serve", "[%s%%none]:0" % address]).end(2, "", "no connection: unknown name\n")
 
 
 @test

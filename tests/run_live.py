@@ -14,7 +14,8 @@ import sys
 from live.program import Run
 from live.runner import run_tests
 
-SUBJECTS = ["both", "station", "host", "send", "words", "script", "wait", "stuck", "stream", "c"]
+SUBJECTS = ["both", "station", "host", "send", "words", "bad_lines", "script", "wait", "taking", "wire", "sessions", "stuck",
+            "stream", "c"]
 
 
 def main():

@@ -87,7 +87,7 @@ class Session:
                     run.tell(line)
             except BrokenPipeError:
                 return
-            if lines[0] == "" or lines[0].startswith("#"):
+            if lines[0] in ("", "end") or lines[0].startswith("#"):
                 continue
             told = self.answer_of(run)
             if told == "late\nok\n":
@@ -108,7 +108,7 @@ class Session:
     def compare(self, run):
         model = self.plan.model
         rows = [("printed", self.printed, model.printed), ("status", run.process.returncode, model.status),
-                ("fault", run.fault, self.plan.error), ("sent", self.peer.came.hex(), model.sent.hex())]
+                ("fault", run.fault.partition(":")[0].rstrip("\n"), self.plan.error), ("sent", self.peer.came.hex(), model.sent.hex())]
         wrong = [f"{what}: got {got!r}\n{' ' * len(what)}  not {wanted!r}"
                  for what, got, wanted in rows if got != wanted]
         if wrong:

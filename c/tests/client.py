@@ -173,7 +173,7 @@ def texts(library, source):
                  for name, number in re.findall(r"RIBBON_REASON_(\w+) = (\d+)", header)}
     check(constants.pop("None", None) == 0 and constants == numbers, "the header's constants are the crate's numbers")
     table = (top / "docs/PROFILE.md").read_text(encoding="utf-8").partition("## Reasons\n")[2].partition("\n## ")[0]
-    check({name: int(number) for number, name in re.findall(r"^\| (\d+) (\w+) \|", table, re.M)} == numbers,
+    check({name: int(number) for number, name in re.findall(r"^(\d+) (\w+) \|", table, re.M)} == numbers,
           "the table of docs/PROFILE.md has the crate's numbers and names")
     for byte in range(0x40, 0xFF):
         character, back = c_uint32(), c_uint8()

@@ -50,10 +50,10 @@ class ExamplesTest(unittest.TestCase):
         self.assertEqual(
             typed,
             [
-                "  field 6 53 D8E4E2C5D9",
-                "  field 7 53 E2C5C3D9C5E3",
-                "  field 3 20 F4F7F1F1",
-                "  field 3 20 F1F2",
+                "  field 6 53 D8E4E2C5D9 QUSER",
+                "  field 7 53 E2C5C3D9C5E3 SECRET",
+                "  field 3 20 F4F7F1F1 4711",
+                "  field 3 20 F1F2 12",
             ],
         )
 

@@ -67,7 +67,7 @@ class ServeTest(unittest.TestCase):
                 session.insert("O")
                 self.assertEqual(session.field(1).text, "BOO")
                 session.press(Key.F1)
-        self.assertEqual(serve.printed.splitlines()[1:], ["answer 6 55 31", "  field 6 53 C2D6D6"])
+        self.assertEqual(serve.printed.splitlines()[1:], ["answer 6 55 31", "  field 6 53 C2D6D6 BOO"])
 
 
 class SocketTest(unittest.TestCase):

@@ -32,7 +32,7 @@ def both_line_by_line():
     serve = Run(["serve", "--ready", "--wait", "10", "127.0.0.1:0"])
     address = serve.line().split()[1]
     connect = Run(["connect", "--ready", "--terminal", "ibm-5251-11", "--wait", "10", address])
-    # The station takes what comes only while it waits.
+    # The station takes what comes only in a line that takes it.
     connect.tell("await")
     expect(serve.asked("await"), "host ready IBM-5251-11\n", "await")
     expect(serve.asked("send 3 " + SIGN_ON), "", "send")
@@ -45,7 +45,7 @@ def both_line_by_line():
     # A hidden field's text isn't shown.
     expect(connect.asked("fields"), "field 6 53 10 4800 QUSER\nfield 7 53 10 4800\n", "fields")
     expect(connect.asked("key Enter"), "", "key")
-    expect(serve.asked("await"), "answer 7 59 F1\n  field 6 53 D8E4E2C5D9\n  field 7 53 E2C5C3D9C5E3\n", "await")
+    expect(serve.asked("await"), "answer 7 59 F1\n  field 6 53 D8E4E2C5D9 QUSER\n  field 7 53 E2C5C3D9C5E3 SECRET\n", "await")
     connect.tell("await text Item inquiry")
     expect(serve.asked("send 3 " + INQUIRY), "", "send")
     expect(connect.line(), "ok\n", "await text")
@@ -53,7 +53,7 @@ def both_line_by_line():
     expect(connect.asked("key Home"), "", "key")
     expect(connect.asked("insert 47"), "", "insert")
     expect(connect.asked("key F5"), "", "key")
-    expect(serve.asked("await"), "answer 3 22 35\n  field 3 20 F4F7F1F1\n", "await")
+    expect(serve.asked("await"), "answer 3 22 35\n  field 3 20 F4F7F1F1 4711\n", "await")
     connect.tell("await record")
     expect(serve.asked("send 3 " + PRICE), "", "send")
     expect(connect.line(), "ok\n", "await record")
@@ -84,4 +84,4 @@ def serve_prints_what_it_is_told_behind_its_script():
     side.send(record(3, hexed("0634F1" "110635C2D6C2")))
     time.sleep(0.2)
     side.close()
-    serve.end(0, "host ready IBM-3179-2\nanswer 6 52 F1\n  field 6 53 C2D6C2\n")
+    serve.end(0, "host ready IBM-3179-2\nanswer 6 52 F1\n  field 6 53 C2D6C2 BOB\n")

@@ -37,9 +37,9 @@ def a_station_at_a_served_script():
         side.take(record(1))
         side.send(record(0, b"", 0x0400), pieces)
         side.close()
-        serve.end(0, "host ready IBM-3179-2\nok\nok\nanswer 7 59 F1\n  field 6 53 D8E4E2C5D9\n"
-                  "  field 7 53 E2C5C3D9C5E3\nok\nok\nanswer 3 24 35\n"
-                  "  field 3 20 F4F7F1F1\nok\nok\nattention\nok\nok\ncancelled\nok\nok\n"
+        serve.end(0, "host ready IBM-3179-2\nok\nok\nanswer 7 59 F1\n  field 6 53 D8E4E2C5D9 QUSER\n"
+                  "  field 7 53 E2C5C3D9C5E3 SECRET\nok\nok\nanswer 3 24 35\n"
+                  "  field 3 20 F4F7F1F1 4711\nok\nok\nattention\nok\nok\ncancelled\nok\nok\n"
                   "system request\nok\n")
 
 
@@ -55,7 +55,7 @@ def waits_for_an_answer():
     side.take(record(3, hexed(PRICE)))
     side.send(record(0, b"", 0x0400) + record(3, hexed("010135")))
     side.close()
-    serve.end(0, "host ready IBM-3179-2\nattention\nanswer 7 53 F1\n  field 6 53 D8\nsystem request\nanswer 1 1 35\n"
+    serve.end(0, "host ready IBM-3179-2\nattention\nanswer 7 53 F1\n  field 6 53 D8 Q\nsystem request\nanswer 1 1 35\n"
               + SERVED_SCREEN)
 
 

@@ -2,6 +2,7 @@
 import contextlib
 import os
 import queue
+import re
 import subprocess
 import tempfile
 import threading
@@ -97,7 +98,7 @@ class Run:
             text += line
         self.fault = self.process.stderr.read().decode()
         if error is not None:
-            expect(self.fault, error, "standard error")
+            expect(as_wanted(self.fault, error), error, "standard error")
         if printed is not None:
             expect(text, printed, "standard output")
         if status is not None:
@@ -107,6 +108,13 @@ class Run:
     def stop(self):
         self.process.kill()
         self.process.wait()
+
+
+def as_wanted(fault, wanted):
+    """A fault, of a bad line without the cause where its number alone is wanted."""
+    if re.fullmatch(r"script line \d+\n", wanted):
+        return re.sub(r"^(script line \d+): .*\n$", r"\1\n", fault)
+    return fault
 
 
 def timed(low, high, began, what):

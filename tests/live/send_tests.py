@@ -69,9 +69,10 @@ def sends_in_words_line_by_line():
     serve.tell("  CLEAR-UNIT")
     expect(serve.asked("# none"), "", "send")
     side.take(record(3, hexed("0440")))
-    serve.tell("  CLEAR-UNIT")
-    serve.end(2, "", "script line 23\n")
+    told = "bad line: two blanks in front, but it belongs to no line\n"
+    expect(serve.asked("  CLEAR-UNIT"), told, "a line that belongs to nothing")
     side.close()
+    serve.end(1, "")
 
 
 @test

@@ -85,10 +85,9 @@ def what_a_station_tells():
         side.send(record(3, hexed(SIGN_ON)))
         if not side.closed():
             raise Failure("the station goes on")
-    script = "status\nawait\nstatus\nfield 1 QUSER\nshow 6 17 45\ncells 24\nnote typed\nstatus\n"
+    script = "await\nstatus\nfield 1 QUSER\nshow 6 17 45\ncells 24\nnote typed\nstatus\n"
     taken = len(OPENING + SEND_NAME) + 4 * 3 + len(record(3, hexed(SIGN_ON)))
     at_host(play, ["--wait", "5"], script, 0, (
-        "status locked negotiating 1 1 records 0 bytes 0\n"
         "status unlocked ready 6 53 field 1 records 1 bytes %d\n"
         "User  . . . . . . . . . . . . .     QUSER\n"
         "cells 24 %s %s\ntyped\n"
@@ -177,7 +176,7 @@ def a_host_that_closes_inside_a_record():
         negotiate_as_host(side)
         side.send(record(3, hexed(SIGN_ON))[:30])
     at_host(play, ["--ready", "--wait", "5"], "await\nawait\nshow\n", 1,
-            "ended\nok\nended\nok\nscreen\ncursor 1 1, locked, message off, blink off, fields 0\nok\n")
+            "ended\nok\nended\nok\nscreen\ncursor 1 1, locked, message off, blink off, fields 0\nended\nok\n")
 
 
 @test

@@ -73,12 +73,13 @@ def no_connection():
     gone.bind(("127.0.0.1", 0))
     port = gone.getsockname()[1]
     # It is bound, and nobody listens.
-    Run(["connect", "--wait", "5", "127.0.0.1:%d" % port], "await\n").end(2, "", "no connection\n")
-    Run(["serve", "127.0.0.1:%d" % port], "").end(2, "", "no connection\n")
+    Run(["connect", "--wait", "5", "127.0.0.1:%d" % port], "await\n").end(2, "", "no connection: refused\n")
+    Run(["serve", "127.0.0.1:%d" % port], "").end(2, "", "no connection: address in use\n")
     gone.close()
-    Run(["connect", "--wait", "5", "no-such-host.invalid"], "await\n").end(2, "", "no connection\n")
+    Run(["connect", "--wait", "5", "no-such-host.invalid"], "await\n").end(2, "", "no connection: unknown name\n")
+    Run(["serve", "no-such-host.invalid:0"], "").end(2, "", "no connection: unknown name\n")
     # Not one of this machine's addresses.
-    Run(["serve", "192.0.2.1:0"], "").end(2, "", "no connection\n")
+    Run(["serve", "192.0.2.1:0"], "").end(2, "", "no connection: no address of this machine\n")
     Run(["connect", "127.0.0.1", "no such file"], "").end(2, "", "cannot read\n")
 
 
@@ -96,7 +97,7 @@ def a_time_out_while_connecting():
         kept.append(filler)
     time.sleep(0.1)
     run = Run(["connect", "--wait", "1", "127.0.0.1:%d" % port], "")
-    run.end(2, "", "no connection\n")
+    run.end(2, "", "no connection: late\n")
     took = time.monotonic() - run.began
     for one in kept:
         one.close()

@@ -15,7 +15,8 @@ class Over(Exception):
 
 
 class Connect:
-    """A station. `came` is what its host has sent by now, and `is_closed` whether that is all."""
+    """A station. `came` is what its host has sent by now, and `is_closed` whether that is all. A line that shows
+    something finds all of it taken."""
 
     refused = Refused
 
@@ -26,6 +27,11 @@ class Connect:
         self.stream = Stream(extended_elements if is_extended else elements)
         self.came, self.is_closed, self.taken, self.applied = b"", False, 0, 0
         self.printed, self.sent, self.status = "", b"", 0
+        self.has_ended = False
+
+    def is_settled(self):
+        """All that came is taken, and that the host has closed is known, if it has."""
+        return self.taken == len(self.came) and self.is_closed == self.has_ended
 
     def line(self, line):
         """Carries out a line of the script. True where it has waited in vain, and the host hasn't closed."""
@@ -56,6 +62,10 @@ class Connect:
 
     def wait(self, what):
         applied = self.applied
+        if what.startswith("quiet "):
+            self.take_all()
+            self.end()
+            return
         if what == "":
             is_met = lambda: not self.screen.locked or self.screen.covered is not None
         elif what == "record":
@@ -65,8 +75,16 @@ class Connect:
             is_met = lambda: any(text in row for row in self.screen.rows())
         while not is_met():
             if not self.take_item():
-                self.print("ended\n" if self.is_closed else "late\n")
+                if not self.end():
+                    self.print("late\n")
                 return
+
+    def end(self):
+        """Tells that the host has closed, if it has."""
+        if self.is_closed:
+            self.has_ended = True
+            self.print("ended\n")
+        return self.is_closed
 
     def take_item(self):
         """Takes bytes up to the end of an item. False where there aren't so many."""
@@ -107,9 +125,11 @@ class Connect:
 
     def show(self, _):
         self.printed += self.screen.lines(self.is_colored)
+        self.end()
 
     def fields(self, _):
         self.printed += self.screen.field_lines()
+        self.end()
 
     # Keys.
 

@@ -57,7 +57,7 @@ class Peer:
         """What is sent, each as soon as it may be; parts that needn't wait are joined at random. None: it closes."""
         data = b""
         for part in self.parts:
-            is_free = part.lates <= self.lates and not self.is_patient
+            is_free = part.lates <= self.lates and not self.is_patient and part.must <= len(self.came)
             if data and not (is_free and self.random.randrange(3)):
                 yield data
                 data = b""
@@ -75,7 +75,8 @@ class Peer:
     def await_turn(self, part):
         """Waits until a part may be sent; False where the session has ended before."""
         def is_turn():
-            return part.lates <= self.lates and (not self.is_patient or part.behind <= len(self.came))
+            behind = part.behind if self.is_patient else part.must
+            return part.lates <= self.lates and behind <= len(self.came)
         with self.changed:
             self.changed.wait_for(lambda: is_turn() or self.has_ended, SECONDS)
             return is_turn()

@@ -1,7 +1,8 @@
 """Random sessions of `connect` and `serve`, with what the program is to do in each.
 
 A plan has steps: what the other side sends, and lines of the script. What it sends isn't taken before a line waits, so
-it may come long before its step. Only behind a line that waits in vain it has to come later.
+it may come long before its step. Only behind a line that waits in vain it has to come later, and behind one that takes
+all that has come: that stands only where all is taken, and what comes next waits for bytes behind it.
 """
 import random
 
@@ -15,10 +16,11 @@ FORMS = ["file", "lines", "asked"]
 
 
 class Part:
-    """What the other side sends at once, or that it closes; it may wait for bytes, and for lines that wait in vain."""
+    """What the other side sends at once, or that it closes; it may wait for bytes, which it must have seen before or
+    not, and for lines that wait in vain."""
 
-    def __init__(self, data, behind, lates):
-        self.data, self.behind, self.lates = data, behind, lates
+    def __init__(self, data, behind, lates, must):
+        self.data, self.behind, self.lates, self.must = data, behind, lates, must
 
 
 class Plan:
@@ -34,6 +36,8 @@ class Plan:
         self.is_slow = self.chance.one_in(20)
         self.wait = LATE if self.is_slow else PRESENT
         self.lates, self.is_silent, self.is_over = 0, False, False
+        # How many bytes had gone out at the last line that took all that had come.
+        self.looked = -1
         self.steps, self.parts, self.error = [], [], ""
         self.choose()
         self.model = self.new_model()
@@ -57,14 +61,21 @@ class Plan:
         return model
 
     def sends(self, data):
-        self.steps.append(("sends", data))
-        self.parts.append(Part(data, len(self.model.sent), self.lates))
-        self.do(self.model, self.steps[-1])
+        """The other side sends this, but not where the line before could take it or not."""
+        self.comes("sends", data)
 
     def closes(self):
-        self.steps.append(("closes", None))
-        self.parts.append(Part(None, len(self.model.sent), self.lates))
-        self.do(self.model, self.steps[-1])
+        self.comes("closes", None)
+
+    def comes(self, kind, data):
+        if self.looked < len(self.model.sent):
+            self.steps.append((kind, data))
+            self.parts.append(Part(data, len(self.model.sent), self.lates, self.looked + 1))
+            self.do(self.model, self.steps[-1])
+
+    def looks(self, line):
+        """Whether a line takes all that has come."""
+        return isinstance(line, str) and line.startswith(self.looking)
 
     def takes(self, data):
         """Whether the end takes this too, behind all that was sent; it need not once the session is over."""
@@ -111,11 +122,15 @@ class Plan:
         is_late = self.late(line)
         if is_late and (not self.is_slow or self.lates):
             return
+        if self.looks(line) and not self.model.is_settled():
+            return
         self.steps.append(("line", line))
         try:
             self.do(self.model, self.steps[-1])
         except Over:
             self.is_over = True
+        if self.looks(line):
+            self.looked = len(self.model.sent)
         if is_late:
             self.lates += 1
             # Without `ok` nothing tells the other side when to go on: it is silent from then on.
@@ -136,9 +151,9 @@ class Plan:
         if self.is_over:
             # Lines that are never carried out.
             self.steps += [("line", self.never) for _ in self.chance.some(0, 2)]
-        elif self.form != "file" and self.chance.one_in(20):
+        elif self.form != "file" and not self.is_ready and self.chance.one_in(20):
             self.steps.append(("line", "nonsense"))
-            self.error, self.model.status = f"script line {len(self.script())}\n", 2
+            self.error, self.model.status = f"script line {len(self.script())}", 2
         else:
             self.finish()
 

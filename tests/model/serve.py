@@ -2,7 +2,7 @@
 from live.records import record
 from model.connect import Over
 from model.options import Host, UnsupportedTerminal
-from model.screen import COLUMNS, Faulty, Screen
+from model.screen import COLUMNS, character, Faulty, Screen
 from model.wire import Record, Refused, Stream, answers, elements
 
 
@@ -25,7 +25,7 @@ class Serve:
 
     def line(self, line):
         """Carries out a line. True where it has waited in vain, and the station hasn't closed."""
-        if line == "" or line.startswith("#"):
+        if line in ("", "end") or line.startswith("#"):
             return False
         before = len(self.printed)
         try:
@@ -33,6 +33,8 @@ class Serve:
                 self.wait()
             elif line == "cancel":
                 self.cancel()
+            elif line in ("telnet NOP", "raw FFF1"):
+                self.sent += b"\xff\xf1"
         except SendRefused as refused:
             self.fail(f"send refused {refused.args[0]}\n")
         except Refused as refused:
@@ -116,7 +118,8 @@ class Serve:
         self.printed += f"answer {row + 1} {column + 1} {item.items[0][2]:02X}\n"
         for start, content in fields:
             row, column = divmod(start, COLUMNS)
-            self.printed += f"  field {row + 1} {column + 1} {content.hex().upper()}".rstrip(" ") + "\n"
+            text = "".join(character(byte, 0x20) for byte in content).rstrip(" ")
+            self.printed += f"  field {row + 1} {column + 1} {content.hex().upper()} {text}".rstrip(" ") + "\n"
         self.end_read()
 
     def read_fields(self, item):

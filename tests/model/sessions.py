@@ -11,6 +11,7 @@ from model.serve import Serve
 
 class ConnectPlan(Plan):
     never = "show"
+    looking = ("show", "fields", "await quiet")
 
     def choose(self):
         self.terminal = self.random.choice(TERMINALS) if self.chance.one_in(3) else None
@@ -38,7 +39,8 @@ class ConnectPlan(Plan):
     def any_line(self):
         if self.chance.one_in(3):
             text = self.random.choice(TEXTS).strip()
-            return self.random.choice(["await", "await", "await record", f"await text {text}"])
+            quiet = "await quiet 400" if self.chance.one_in(20) else "await"
+            return self.random.choice([quiet, "await", "await record", f"await text {text}"])
         return self.chance.line_of_station(self.is_other)
 
     def fill_in(self):
@@ -77,19 +79,20 @@ class ConnectPlan(Plan):
 
 
 class Send:
-    """A line `send K` at a host, with its body as one number or as lines behind it, and perhaps an empty one."""
+    """A line `send K` at a host, with its body as one number or as lines behind it, and perhaps one that ends them."""
 
-    def __init__(self, opcode, body, words, is_ended):
-        self.opcode, self.body, self.words, self.is_ended = opcode, body, words, is_ended
+    def __init__(self, opcode, body, words, ends):
+        self.opcode, self.body, self.words, self.ends = opcode, body, words, ends
 
     def text(self):
         if self.words is None and self.body:
             return [f"send {self.opcode} {self.body.hex().upper()}"]
-        return [f"send {self.opcode}", *(self.words or []), *[""] * self.is_ended]
+        return [f"send {self.opcode}", *(self.words or []), *self.ends]
 
 
 class ServePlan(Plan):
     never = "await"
+    looking = ()
 
     def choose(self):
         names = [b"IBM-3477-FC", b"", b"a \\\x80\xff~"] if self.chance.one_in(4 if self.is_other else 25) else NAMES
@@ -168,7 +171,8 @@ class ServePlan(Plan):
         if self.is_other and not has_words and self.chance.one_in(4):
             body = bytes(self.random.randrange(256) for _ in self.chance.some(1, 9))
         words = words_of(body, self.chance) if has_words else None
-        return Send(opcode, body, words, self.form == "asked" or self.chance.one_in(2))
+        is_ended = self.form == "asked" or self.chance.one_in(2)
+        return Send(opcode, body, words, [self.random.choice(["", "end"])] * is_ended)
 
     def any_line(self):
         match self.random.randrange(8):
@@ -177,7 +181,7 @@ class ServePlan(Plan):
             case 3:
                 return "await" if self.is_other else "cancel"
             case 4:
-                return self.random.choice(["", "# no line"])
+                return self.random.choice(["", "# no line", "end", "pause 3", "telnet NOP", "raw FFF1"])
             case _:
                 return "await"
 

@@ -7,7 +7,9 @@ use std::alloc::Global;
 use std::process::Abort;
 use ws_any_host::{AnyHost, AnyLine, carry_on};
 use ws_code::{SliceSource, VecSink};
-use ws_live::{BufferedSink, Paint, ScriptFault, Watch, carry_lines, read_lines};
+use ws_live::{
+    BufferedSink, LiveLine, Paint, Ran, ScriptFault, WaitSpan, Watch, carry_lines, read_lines,
+};
 use ws_record::Record;
 use ws_session::Attached;
 
@@ -30,7 +32,24 @@ const SAME: [(&[u8], &[u8]); 8] = [
 ];
 
 // Scripts, and their first bad line.
-const BAD: [(&[u8], u64); 17] = [
+const BAD: [(&[u8], u64); 34] = [
+    (b"raw", 1),
+    (b"raw ", 1),
+    (b"raw 0", 1),
+    (b"raw 0g", 1),
+    (b"raw 00 00", 1),
+    (b"raw 00\n  CLEAR-UNIT", 2),
+    (b"telnet", 1),
+    (b"telnet DO", 1),
+    (b"telnet DO 256", 1),
+    (b"telnet NOP 39", 1),
+    (b"telnet SB 24 0", 1),
+    (b"pause", 1),
+    (b"pause 0", 1),
+    (b"pause 3600001", 1),
+    (b"pause 1 ms", 1),
+    (b"close now", 1),
+    (b"send 3\n  CLEAR-UNIT\nend 3", 3),
     (b"await answer", 1),
     (b"await Tab", 1),
     (b"await ", 1),
@@ -83,19 +102,27 @@ struct Counter {
 }
 
 impl<S> Watch<S> for Counter {
-    ghost begins = { λ from source to. Unit {0} };
+    ghost begins = { λ from source span to. Unit {0} };
 
     ghost begun = { λ counter. counter.begun };
 
     ghost tells = { λ source late. Unit {0} };
 
-    fn begin(&mut self, _source: &S) {
+    ghost rests = { λ source quiet. Unit {0} };
+
+    fn begin(&mut self, _source: &S, _span: WaitSpan) {
         self.begun = self.begun.saturating_add(1);
     }
 
     fn is_late(&self, _source: &S) -> bool {
         false
     }
+
+    fn is_quiet(&self, _source: &S) -> bool {
+        false
+    }
+
+    fn pause(&mut self, _milliseconds: u32) {}
 }
 
 // A host that has asked for the terminal type, and is given these bytes.
@@ -109,7 +136,7 @@ fn host_given<'a>(alloc: Global, bytes: &'a [u8]) -> Attached<AnyHost, SliceSour
 
 // Scripts at a host to which the opening comes, and behind it one record; what they print, and behind them what is
 // told; and whether all went well.
-const HOSTS: [(&str, &str, bool); 6] = [
+const HOSTS: [(&str, &str, bool); 7] = [
     (
         "",
         "terminal IBM-3477-FC\nrecord flags 0000 opcode 3 FF\n",
@@ -134,6 +161,11 @@ const HOSTS: [(&str, &str, bool); 6] = [
         "await\nawait\nawait\n",
         "terminal IBM-3477-FC\nrecord flags 0000 opcode 3 FF\nended\n",
         false,
+    ),
+    (
+        "await\nend\nraw FF\npause 1\n",
+        "terminal IBM-3477-FC\nrecord flags 0000 opcode 3 FF\n",
+        true,
     ),
     (
         "await\nsend 10\n  CLEAR-UNIT\n",
@@ -190,9 +222,11 @@ fn runs(rt: &impl Abort, alloc: Global, bytes: &[u8], script: &str, printed: &st
     let mut attached = host_given(alloc, bytes);
     let lines = read_lines::<AnyLine>(alloc, script.as_bytes()).expect(rt, "a script");
     let mut watch = Counter { begun: 0 };
+    let mut ahead = 0;
     let mut out = BufferedSink::new(VecSink::new(alloc));
     let ran = carry_lines(
         &mut attached,
+        &mut ahead,
         &mut watch,
         lines.as_slice(),
         false,
@@ -203,7 +237,13 @@ fn runs(rt: &impl Abort, alloc: Global, bytes: &[u8], script: &str, printed: &st
         Ok(ran) => {
             same_at(rt, script, ran.is_over, false);
             if !ran.is_over {
-                let on = carry_on(&mut attached, &mut watch, &AnyLine::Await, &mut out);
+                let on = carry_on(
+                    &mut attached,
+                    &mut ahead,
+                    &mut watch,
+                    &AnyLine::Await,
+                    &mut out,
+                );
                 same_at(rt, script, on, Ok(true));
             }
             same_at(rt, script, out.into_inner().as_slice(), printed.as_bytes());
@@ -242,9 +282,11 @@ fn what_is_sent(rt: HostRuntime) {
     let mut attached = host_given(alloc, OPENED);
     let lines = read_lines::<AnyLine>(alloc, b"await\nsend 10 FF").expect(&rt, "a script");
     let mut watch = Counter { begun: 0 };
+    let mut ahead = 0;
     let mut out = BufferedSink::new(VecSink::new(alloc));
     let ran = carry_lines(
         &mut attached,
+        &mut ahead,
         &mut watch,
         lines.as_slice(),
         false,
@@ -261,4 +303,111 @@ fn what_is_sent(rt: HostRuntime) {
         .extend_from_slice(b"\x00\x0b\x12\xa0\x00\x00\x04\x00\x00\x0a\xff\xff\xff\xef")
         .expect(&rt, "memory");
     same(&rt, attached.sink().as_slice(), wanted.as_slice());
+}
+
+// What came of lines that work on the connection: what they wrote and printed, with `ok` behind each that is carried
+// out; and whether all went well and the session is over.
+#[derive(Drop)]
+struct Outcome {
+    sent: Vec<u8>,
+    printed: Vec<u8>,
+    ran: Ran,
+}
+
+fn carried(rt: &impl Abort, alloc: Global, lines: &[AnyLine]) -> Outcome {
+    let mut attached = host_given(alloc, b"");
+    let mut watch = Counter { begun: 0 };
+    let mut ahead = 0;
+    let mut out = BufferedSink::new(VecSink::new(alloc));
+    let ran = carry_lines(
+        &mut attached,
+        &mut ahead,
+        &mut watch,
+        lines,
+        true,
+        Paint::Plain,
+        &mut out,
+    );
+    same(rt, watch.begun, 0);
+    let mut sent = Vec::new(alloc);
+    sent.extend_from_slice(attached.sink().as_slice())
+        .expect(rt, "memory");
+    Outcome {
+        sent,
+        printed: out.into_inner().into_inner(),
+        ran: match ran {
+            Ok(ran) => ran,
+            Err(fault) => panic!(rt; "{fault:?}"),
+        },
+    }
+}
+
+// Lines that work on the connection, before a record is allowed: what goes out (RFC 854: an IAC isn't doubled, and the
+// command is spelled), what is printed, and whether the session is over.
+const WIRES: [(&[u8], &[u8], &[u8], bool); 9] = [
+    (b"raw 00fF\n", b"\x00\xff", b"ok\n", false),
+    (b"raw FF\nraw F0\n", b"\xff\xf0", b"ok\nok\n", false),
+    (b"telnet DO 39\n", b"\xff\xfd\x27", b"ok\n", false),
+    (b"telnet AYT\n", b"\xff\xf6", b"ok\n", false),
+    (
+        b"telnet SB 24 01FF\n",
+        b"\xff\xfa\x18\x01\xff\xff\xff\xf0",
+        b"ok\n",
+        false,
+    ),
+    (b"pause 1\npause 3600000\n", b"", b"ok\nok\n", false),
+    (b"end\n", b"", b"", false),
+    (b"close\nraw 00\n", b"", b"ok\n", true),
+    (b"raw 00\nclose\n", b"\x00", b"ok\nok\n", true),
+];
+
+#[test]
+fn lines_at_the_connection(rt: HostRuntime) {
+    for (script, sent, printed, over) in &WIRES {
+        let lines = read_lines::<AnyLine>(rt.alloc(), script).expect(&rt, "a script");
+        let came = carried(&rt, rt.alloc(), lines.as_slice());
+        same_at(&rt, *script, came.sent.as_slice(), *sent);
+        same_at(&rt, *script, came.printed.as_slice(), *printed);
+        same_at(
+            &rt,
+            *script,
+            (came.ran.all_well, came.ran.is_over),
+            (true, *over),
+        );
+    }
+}
+
+// A bad line tells its cause, and those behind it are carried out.
+#[test]
+fn a_bad_line_is_told(rt: HostRuntime) {
+    let alloc = rt.alloc();
+    let cause = String::from_str(alloc, "no such line").expect(&rt, "memory");
+    let mut lines = Vec::new(alloc);
+    lines.push(AnyLine::bad(cause)).expect(&rt, "memory");
+    lines.push(AnyLine::Nothing).expect(&rt, "memory");
+    let came = carried(&rt, alloc, lines.as_slice());
+    same(&rt, came.sent.as_slice(), b"".as_slice());
+    same(
+        &rt,
+        came.printed.as_slice(),
+        b"bad line: no such line\nok\n".as_slice(),
+    );
+    same(&rt, (came.ran.all_well, came.ran.is_over), (false, false));
+}
+
+// A line that closes the connection isn't carried out again, and all is well then.
+#[test]
+fn a_close_is_not_carried_on(rt: HostRuntime) {
+    let alloc = rt.alloc();
+    let lines = read_lines::<AnyLine>(alloc, b"close").expect(&rt, "a script");
+    let mut attached = host_given(alloc, b"");
+    let mut watch = Counter { begun: 0 };
+    let mut ahead = 0;
+    let mut out = BufferedSink::new(VecSink::new(alloc));
+    let on = match lines.as_slice() {
+        [close] => carry_on(&mut attached, &mut ahead, &mut watch, close, &mut out),
+        _ => panic!(rt; "a line"),
+    };
+    same(&rt, on, Ok(true));
+    same(&rt, out.into_inner().as_slice(), b"".as_slice());
 }

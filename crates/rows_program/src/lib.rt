@@ -10,6 +10,8 @@ mod buffered_rows;
 #[cfg(test)]
 mod extended_rows;
 #[cfg(test)]
+mod form_rows;
+#[cfg(test)]
 mod live_words_rows;
 #[cfg(test)]
 mod make_rows;

@@ -31,6 +31,7 @@ const SERVE: ServeAsked = ServeAsked {
     wait: 30,
     ready: false,
     any: false,
+    sessions: None,
     record: None,
     script: None,
 };
@@ -88,12 +89,17 @@ const HOSTS: [(&[&str], ConnectAsked); 9] = [
 
 // Words behind `serve`, and what they ask for.
 #[rattlefmt::skip]
-const SERVES: [(&[&str], ServeAsked); 12] = [
+const SERVES: [(&[&str], ServeAsked); 13] = [
     (&["127.0.0.1:5250"], SERVE),
     (&["--wait", "1", "127.0.0.1:5250"], ServeAsked { wait: 1, ..SERVE }),
     (&["127.0.0.1:5250", "--wait=86400"], ServeAsked { wait: 86_400, ..SERVE }),
     (&["--ready", "127.0.0.1:5250"], ServeAsked { ready: true, ..SERVE }),
     (&["--any", "127.0.0.1:5250"], ServeAsked { any: true, ..SERVE }),
+    (&["--sessions", "1000000", "127.0.0.1:5250", "s"], ServeAsked {
+        sessions: Some(1_000_000),
+        script: Some("s"),
+        ..SERVE
+    }),
     (&["--record", "a.rec", "127.0.0.1:5250"], ServeAsked { record: Some("a.rec"), ..SERVE }),
     (&["127.0.0.1:5250", "a.serve"], ServeAsked { script: Some("a.serve"), ..SERVE }),
     (&["127.0.0.1:5250", " a b "], ServeAsked { script: Some(" a b "), ..SERVE }),
@@ -105,6 +111,7 @@ const SERVES: [(&[&str], ServeAsked); 12] = [
         wait: 2,
         ready: true,
         any: false,
+        sessions: None,
         record: None,
         script: Some("s"),
     }),
@@ -163,8 +170,11 @@ const WRONG_OPTIONS: [&[&str]; 9] = [
 
 // Words behind `serve` that ask for nothing.
 #[rattlefmt::skip]
-const WRONG_SERVES: [&[&str]; 14] = [
+const WRONG_SERVES: [&[&str]; 17] = [
     &[],
+    &["--sessions", "0", "127.0.0.1:0", "s"],
+    &["--sessions", "1000001", "127.0.0.1:0", "s"],
+    &["--sessions", "2", "127.0.0.1:0"],
     &["127.0.0.1"],
     &["localhost"],
     &["::1"],

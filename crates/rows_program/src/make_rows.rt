@@ -162,6 +162,7 @@ fn made_within_memory(rt: HostRuntime) {
     let asked = Asked::Make {
         file: None,
         from: Sender::Host,
+        raw: false,
     };
     let text = b"telnet NOP\nrecord opcode 1".as_slice();
     match answer(&rt, rt.alloc(), asked, text, &mut sink) {

@@ -9,7 +9,7 @@ use ws_live::Paint;
 use ws_program::{RunFault, TextFault, check_to, hex_bytes, status};
 use ws_record::RawBody;
 use ws_text::TextFault as ItemsFault;
-use ws_words::{Asked, Sender, Task, read_words};
+use ws_words::{Asked, Sender, StreamForm, Task, read_words};
 
 fn expect_bytes(rt: &impl Abort, alloc: Global, text: &[u8], bytes: &[u8]) {
     let read = hex_bytes(alloc, text).expect(rt, "bytes");
@@ -31,9 +31,12 @@ fn hex_texts(rt: HostRuntime) {
 
 const FILE: Option<&str> = Some("a.hex");
 
+const HEX: StreamForm = StreamForm::Hex;
+
 // What is asked of a check without any word.
 const CHECK: Asked = Asked::Check {
     file: None,
+    form: HEX,
     cut: NonZeroU16::MAX,
     from: Sender::Host,
 };
@@ -42,32 +45,34 @@ const CHECK: Asked = Asked::Check {
 #[rattlefmt::skip]
 const COMMAND_LINES: [(&[&str], Asked); 19] = [
     (&["t5250", "check"], CHECK),
-    (&["t5250", "check", "a.hex"], Asked::Check { file: FILE, cut: NonZeroU16::MAX, from: Sender::Host }),
-    (&["t5250", "check", "--cut", "1"], Asked::Check { file: None, cut: NonZeroU16::MIN, from: Sender::Host }),
+    (&["t5250", "check", "a.hex"], Asked::Check { file: FILE, form: HEX, cut: NonZeroU16::MAX, from: Sender::Host }),
+    (&["t5250", "check", "--cut", "1"],
+        Asked::Check { file: None, form: HEX, cut: NonZeroU16::MIN, from: Sender::Host }),
     (&["t5250", "check", "--cut=65535", "a.hex"],
-        Asked::Check { file: FILE, cut: NonZeroU16::MAX, from: Sender::Host }),
-    (&["t5250", "check", "--answers"], Asked::Check { file: None, cut: NonZeroU16::MAX, from: Sender::Station }),
+        Asked::Check { file: FILE, form: HEX, cut: NonZeroU16::MAX, from: Sender::Host }),
+    (&["t5250", "check", "--answers"],
+        Asked::Check { file: None, form: HEX, cut: NonZeroU16::MAX, from: Sender::Station }),
     (&["t5250", "check", "--", "--answers"],
-        Asked::Check { file: Some("--answers"), cut: NonZeroU16::MAX, from: Sender::Host }),
-    (&["t5250", "show"], Asked::Show { file: None, from: Sender::Host, paint: Paint::Plain, so_far: false }),
+        Asked::Check { file: Some("--answers"), form: HEX, cut: NonZeroU16::MAX, from: Sender::Host }),
+    (&["t5250", "show"], Asked::Show { file: None, form: HEX, from: Sender::Host, paint: Paint::Plain, so_far: false }),
     (&["t5250", "show", "--answers", "a.hex"],
-        Asked::Show { file: FILE, from: Sender::Station, paint: Paint::Plain, so_far: false }),
+        Asked::Show { file: FILE, form: HEX, from: Sender::Station, paint: Paint::Plain, so_far: false }),
     (&["t5250", "show", "--extended", "--answers"],
-        Asked::Show { file: None, from: Sender::ExtendedStation, paint: Paint::Plain, so_far: false }),
+        Asked::Show { file: None, form: HEX, from: Sender::ExtendedStation, paint: Paint::Plain, so_far: false }),
     (&["t5250", "play"], Asked::Play { file: None, screen: false, tcp: false, paint: Paint::Plain }),
     (&["t5250", "play", "a.hex"], Asked::Play { file: FILE, screen: false, tcp: false, paint: Paint::Plain }),
     (&["t5250", "play", "--screen", "a.hex"],
         Asked::Play { file: FILE, screen: true, tcp: false, paint: Paint::Plain }),
     (&["t5250", "play", "a.hex", "--tcp"], Asked::Play { file: FILE, screen: false, tcp: true, paint: Paint::Plain }),
     (&["t5250", "show", "--color", "a.hex"],
-        Asked::Show { file: FILE, from: Sender::Host, paint: Paint::Color, so_far: false }),
+        Asked::Show { file: FILE, form: HEX, from: Sender::Host, paint: Paint::Color, so_far: false }),
     (&["t5250", "show", "--so-far", "--answers"],
-        Asked::Show { file: None, from: Sender::Station, paint: Paint::Plain, so_far: true }),
+        Asked::Show { file: None, form: HEX, from: Sender::Station, paint: Paint::Plain, so_far: true }),
     (&["t5250", "play", "--color", "--screen"],
         Asked::Play { file: None, screen: true, tcp: false, paint: Paint::Color }),
-    (&["t5250", "make"], Asked::Make { file: None, from: Sender::Host }),
-    (&["t5250", "make", "--answers", "a.hex"], Asked::Make { file: FILE, from: Sender::Station }),
-    (&["t5250", "make", "--extended"], Asked::Make { file: None, from: Sender::ExtendedHost }),
+    (&["t5250", "make"], Asked::Make { file: None, from: Sender::Host, raw: false }),
+    (&["t5250", "make", "--answers", "a.hex"], Asked::Make { file: FILE, from: Sender::Station, raw: false }),
+    (&["t5250", "make", "--extended"], Asked::Make { file: None, from: Sender::ExtendedHost, raw: false }),
 ];
 
 // Words that ask for pieces of seven bytes, and of which sender.
@@ -111,6 +116,7 @@ fn command_lines(rt: HostRuntime) {
     for (words, from) in &SEVENS {
         let asked = Asked::Check {
             file: FILE,
+            form: HEX,
             cut,
             from: *from,
         };
@@ -118,6 +124,7 @@ fn command_lines(rt: HostRuntime) {
     }
     let show = Asked::Show {
         file: FILE,
+        form: HEX,
         from: Sender::Host,
         paint: Paint::Plain,
         so_far: false,

@@ -3,7 +3,7 @@ use crate::{holds, same_at};
 use ws_code::VecSink;
 use ws_live::Paint;
 use ws_program::{RunFault, answer};
-use ws_words::{Asked, Sender};
+use ws_words::{Asked, Sender, StreamForm};
 
 // What it is of, the words, a hex text, what is written, and whether the stream is accepted.
 type Row<'a> = (&'a str, &'a [&'a str], &'a str, &'a str, bool);
@@ -213,6 +213,7 @@ fn so_far_lines(rt: HostRuntime) {
 fn so_far_within_memory(rt: HostRuntime) {
     let asked = Asked::Show {
         file: None,
+        form: StreamForm::Hex,
         from: Sender::Host,
         paint: Paint::Plain,
         so_far: true,

@@ -125,6 +125,19 @@ fn a_host_end_at_its_line(rt: HostRuntime) {
     host_hears(&rt, &mut line, Ok(None));
 }
 
+// Bytes beside what a station writes: they stand between its answers, and it isn't told of them.
+#[test]
+fn bytes_beside_a_station(rt: HostRuntime) {
+    let beside = b"\xff\xf1";
+    let source = SliceSource::new(OPENING);
+    let mut line = Attached::new(new_station(), source, VecSink::new(rt.alloc()));
+    same(&rt, line.write(beside), Ok(()));
+    station_hears(&rt, &mut line, Ok(None));
+    same(&rt, line.write(beside), Ok(()));
+    let wanted = joined(&rt, rt.alloc(), &[beside, OPENED, beside]);
+    same(&rt, line.sink().as_slice(), wanted.as_slice());
+}
+
 // A station whose sink takes so many bytes, and then fails.
 fn breaks_behind(rt: &impl Abort, alloc: Global, calls: usize) {
     let sink = FailingSink::new(alloc, calls as u64);
@@ -133,6 +146,17 @@ fn breaks_behind(rt: &impl Abort, alloc: Global, calls: usize) {
     same(rt, Some(line.sink().as_slice()), OPENED.get(..calls));
     station_hears(rt, &mut line, Err(Fault::Failed));
     presses(rt, &mut line, Key::Char('B'), Err(Fault::Failed));
+    same(rt, line.write(b"\xff\xf1"), Err(Fault::Failed));
+}
+
+// One that takes so many of the bytes beside what a station writes.
+fn breaks_beside(rt: &impl Abort, alloc: Global, calls: usize) {
+    let beside = b"\xff\xf1";
+    let sink = FailingSink::new(alloc, calls as u64);
+    let mut line = Attached::new(new_station(), SliceSource::new(OPENING), sink);
+    same(rt, line.write(beside), Err(Fault::Write));
+    same(rt, Some(line.sink().as_slice()), beside.get(..calls));
+    station_hears(rt, &mut line, Err(Fault::Failed));
 }
 
 // A host end that refuses a byte.
@@ -152,6 +176,9 @@ fn breaks_at_a_refusal(rt: &impl Abort, alloc: Global) {
 fn lines_that_break(rt: HostRuntime) {
     for calls in 0..OPENED.len() {
         breaks_behind(&rt, rt.alloc(), calls);
+    }
+    for calls in 0..2 {
+        breaks_beside(&rt, rt.alloc(), calls);
     }
     breaks_at_a_refusal(&rt, rt.alloc());
 }

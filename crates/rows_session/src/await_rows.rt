@@ -5,7 +5,7 @@ use crate::{same, same_at};
 use ws_keys::Key;
 use ws_live::{ScriptFault, StationLine, read_lines};
 
-// A station behind the opening and a form of one field. A wait that isn't met ends with the source.
+// A station behind the opening and a form of one field. A wait that isn't met is late.
 const SCRIPT: &str = "\
 await
 type B. \u{fc}Q
@@ -31,20 +31,20 @@ ok
 ok
 ok
 ok
-ended
+late
 ok
-ended
+late
 ok
-ended
-ok
-ok
-ok
-ended
-ok
-ended
+late
 ok
 ok
-ended
+ok
+late
+ok
+late
+ok
+ok
+late
 ok
 ";
 
@@ -66,7 +66,7 @@ fn texts_awaited(rt: HostRuntime) {
 }
 
 // Lines that are none, by what stands behind the command.
-const BAD: [&str; 11] = [
+const BAD: [&str; 17] = [
     "await text",
     "await text ",
     "await at",
@@ -78,6 +78,12 @@ const BAD: [&str; 11] = [
     "await at 25 1 A",
     "await at 1 81 A",
     "await at  1 1 A",
+    "await quiet",
+    "await quiet ",
+    "await quiet 0",
+    "await quiet 3600001",
+    "await quiet 5ms",
+    "await quiet  5",
 ];
 
 #[test]

@@ -2,7 +2,7 @@
 use crate::end_rows::{OPENING_AND_BOB, joined};
 use crate::live_rows::{Came, carried};
 use crate::same;
-use ws_code::{SliceSource, VecSink};
+use ws_code::{FailingSource, VecSink};
 use ws_extended_station::{ExtendedKey, ExtendedStation};
 use ws_live::StationLine;
 use ws_nego::TerminalType;
@@ -42,7 +42,7 @@ fn lines_where_an_error_stands(rt: HostRuntime) {
     let alloc = rt.alloc();
     let bytes = joined(&rt, alloc, &[OPENING_AND_BOB, ERROR_RECORD]);
     let station = ExtendedStation::new(TerminalType::Ibm3179Model2);
-    let source = SliceSource::new(bytes.as_slice());
+    let source = FailingSource::new(bytes.as_slice(), bytes.len() as u64);
     let mut attached = Attached::new(station, source, VecSink::new(alloc));
     let came = carried::<HostRuntime, _, _, _, StationLine<ExtendedKey>>(
         &rt,
@@ -53,7 +53,7 @@ fn lines_where_an_error_stands(rt: HostRuntime) {
     let wanted = Came {
         all_well: false,
         is_over: false,
-        waits: 3,
+        waits: 5,
     };
     same(&rt, came, wanted);
 }

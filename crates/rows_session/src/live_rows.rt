@@ -6,34 +6,44 @@ use crate::end_rows::{ATTENTION, BOB_ANSWER, OPENED, OPENING_AND_BOB, joined, ne
 use crate::{same, same_at};
 use std::alloc::Global;
 use std::process::Abort;
-use ws_code::{SliceSource, VecSink, write_whole};
+use ws_code::{FailingSource, SliceSource, VecSink, write_whole};
 use ws_keys::Key;
 use ws_live::{
-    BufferedSink, HostLine, LiveMove, Paint, StationLine, Watch, answer_on, carry_lines, read_lines,
+    BufferedSink, HostLine, LiveMove, Paint, StationLine, WaitSpan, Watch, answer_on, carry_lines,
+    read_lines,
 };
 use ws_session::{Attached, HostEnd, Station};
 
-// A watch that counts, and says of each failed read whether it was late.
+// A watch that counts, and says of each failed read whether it was late, and whether nothing had come.
 #[derive(Drop)]
 struct Counter {
     begun: u64,
     late: bool,
+    quiet: bool,
 }
 
 impl<S> Watch<S> for Counter {
-    ghost begins = { λ from source to. Unit {0} };
+    ghost begins = { λ from source span to. Unit {0} };
 
     ghost begun = { λ counter. counter.begun };
 
     ghost tells = { λ source late. Unit {0} };
 
-    fn begin(&mut self, _source: &S) {
+    ghost rests = { λ source quiet. Unit {0} };
+
+    fn begin(&mut self, _source: &S, _span: WaitSpan) {
         self.begun = self.begun.saturating_add(1);
     }
 
     fn is_late(&self, _source: &S) -> bool {
         self.late
     }
+
+    fn is_quiet(&self, _source: &S) -> bool {
+        self.quiet
+    }
+
+    fn pause(&mut self, _milliseconds: u32) {}
 }
 
 // What came of the lines of a session.
@@ -57,10 +67,13 @@ pub(crate) fn carried<R: Abort + AllocGlobal, E, S, K, L: LiveMove<E, S, K>>(
     let mut watch = Counter {
         begun: 0,
         late: true,
+        quiet: false,
     };
+    let mut ahead = 0;
     let mut out = BufferedSink::new(VecSink::new(rt.alloc()));
     let ran = carry_lines(
         attached,
+        &mut ahead,
         &mut watch,
         lines.as_slice(),
         true,
@@ -78,19 +91,19 @@ pub(crate) fn carried<R: Abort + AllocGlobal, E, S, K, L: LiveMove<E, S, K>>(
     }
 }
 
-// A station that is given these bytes.
+// A station that is given these bytes, one a read, and behind them nothing in time.
 pub(crate) fn station_given<'a>(
     alloc: Global,
     bytes: &'a [u8],
-) -> Attached<Station, SliceSource<'a>, VecSink>
+) -> Attached<Station, FailingSource<'a>, VecSink>
     ensures { result.broken ≡ false }
 {
-    Attached::new(new_station(), SliceSource::new(bytes), VecSink::new(alloc))
+    let source = FailingSource::new(bytes, bytes.len() as u64);
+    Attached::new(new_station(), source, VecSink::new(alloc))
 }
 
-// Scripts for a station behind the opening and a form, what they print, and what came of them. Behind the form the
-// source ends.
-const STATIONS: [(&str, &str, Came); 8] = [
+// Scripts for a station behind the opening and a form, what they print, and what came of them.
+const STATIONS: [(&str, &str, Came); 12] = [
     (
         "",
         "",
@@ -101,8 +114,8 @@ const STATIONS: [(&str, &str, Came); 8] = [
         },
     ),
     (
-        "# none\n\nfields\n",
-        "ok\n",
+        "# none\n\nnote A\n",
+        "A\nok\n",
         Came {
             all_well: true,
             is_over: false,
@@ -124,12 +137,12 @@ const STATIONS: [(&str, &str, Came); 8] = [
         Came {
             all_well: true,
             is_over: false,
-            waits: 1,
+            waits: 2,
         },
     ),
     (
         "await\nawait\nawait record\nawait text A\n",
-        "ok\nok\nended\nok\nended\nok\n",
+        "ok\nok\nlate\nok\nlate\nok\n",
         Came {
             all_well: false,
             is_over: false,
@@ -162,6 +175,78 @@ const STATIONS: [(&str, &str, Came); 8] = [
         Came {
             all_well: false,
             is_over: false,
+            waits: 2,
+        },
+    ),
+    // A line that shows takes what has come, and the record is ahead, up to a line that waits or presses a key.
+    (
+        "fields\nnote A\nawait record\nawait record\n",
+        "field 6 53 10 4000\nok\nA\nok\nok\nlate\nok\n",
+        Came {
+            all_well: false,
+            is_over: false,
+            waits: 3,
+        },
+    ),
+    (
+        "show 6 53 1\ntype A\nawait record\n",
+        "\nok\nok\nlate\nok\n",
+        Came {
+            all_well: false,
+            is_over: false,
+            waits: 2,
+        },
+    ),
+    (
+        "cells 24\nawait\nawait record\n",
+        "cells 24 00000000000000000000000000000000000000000000000000000000000000000000000000000000\
+         00000000000000000000000000000000000000000000000000000000000000000000000000000000 \
+         20202020202020202020202020202020202020202020202020202020202020202020202020202020\
+         20202020202020202020202020202020202020202020202020202020202020202020202020202020\n\
+         ok\nok\nlate\nok\n",
+        Came {
+            all_well: false,
+            is_over: false,
+            waits: 3,
+        },
+    ),
+    (
+        "await quiet 5\nawait record\n",
+        "late\nok\nlate\nok\n",
+        Came {
+            all_well: false,
+            is_over: false,
+            waits: 2,
+        },
+    ),
+];
+
+// The same where the source ends behind the form: the text first, and behind it that the host has closed.
+const CLOSED: [(&str, &str, Came); 3] = [
+    (
+        "fields\nnote A\nawait record\n",
+        "field 6 53 10 4000\nended\nok\nA\nok\nok\n",
+        Came {
+            all_well: false,
+            is_over: false,
+            waits: 2,
+        },
+    ),
+    (
+        "await\nawait record\nshow 6 53 1\n",
+        "ok\nended\nok\n\nended\nok\n",
+        Came {
+            all_well: false,
+            is_over: false,
+            waits: 3,
+        },
+    ),
+    (
+        "await quiet 5\n",
+        "ended\nok\n",
+        Came {
+            all_well: false,
+            is_over: false,
             waits: 1,
         },
     ),
@@ -171,6 +256,17 @@ const STATIONS: [(&str, &str, Came); 8] = [
 fn lines_at_a_station(rt: HostRuntime) {
     for (script, printed, wanted) in &STATIONS {
         let mut attached = station_given(rt.alloc(), OPENING_AND_BOB);
+        let came = carried::<HostRuntime, _, _, _, StationLine<Key>>(
+            &rt,
+            &mut attached,
+            script,
+            printed,
+        );
+        same_at(&rt, *script, came, *wanted);
+    }
+    for (script, printed, wanted) in &CLOSED {
+        let source = SliceSource::new(OPENING_AND_BOB);
+        let mut attached = Attached::new(new_station(), source, VecSink::new(rt.alloc()));
         let came = carried::<HostRuntime, _, _, _, StationLine<Key>>(
             &rt,
             &mut attached,
@@ -196,7 +292,7 @@ fn host_given<'a>(
 }
 
 // Scripts for a host whose station answers the opening and presses Attention, and then ends.
-const HOSTS: [(&str, &str, Came); 4] = [
+const HOSTS: [(&str, &str, Came); 5] = [
     (
         "# none\n",
         "",
@@ -233,6 +329,16 @@ const HOSTS: [(&str, &str, Came); 4] = [
             waits: 2,
         },
     ),
+    // Behind a line that closes the connection no line is carried out.
+    (
+        "await\nend\npause 1\nclose\nawait\n",
+        "host ready IBM-3179-2\nok\nok\nok\n",
+        Came {
+            all_well: true,
+            is_over: true,
+            waits: 1,
+        },
+    ),
 ];
 
 #[test]
@@ -250,7 +356,7 @@ fn lines_at_a_host(rt: HostRuntime) {
 const ANSWERED: [(&str, &str, Came); 5] = [
     (
         "await\nsend 3 0440041100081106341d400020000a04520000\nawait answer\nawait\n",
-        "host ready IBM-3179-2\nok\nok\nattention\nanswer 6 56 F1\n  field 6 53 C2D6C2\nok\nattention\nok\n",
+        "host ready IBM-3179-2\nok\nok\nattention\nanswer 6 56 F1\n  field 6 53 C2D6C2 BOB\nok\nattention\nok\n",
         Came {
             all_well: true,
             is_over: false,
@@ -259,7 +365,7 @@ const ANSWERED: [(&str, &str, Came); 5] = [
     ),
     (
         "await\nsend 3 0440041100081106341d400020000a04520000\nawait Enter\n",
-        "host ready IBM-3179-2\nok\nok\nattention\nanswer 6 56 F1\n  field 6 53 C2D6C2\nok\n",
+        "host ready IBM-3179-2\nok\nok\nattention\nanswer 6 56 F1\n  field 6 53 C2D6C2 BOB\nok\n",
         Came {
             all_well: true,
             is_over: false,
@@ -268,7 +374,7 @@ const ANSWERED: [(&str, &str, Came); 5] = [
     ),
     (
         "await\nsend 3 0440041100081106341d400020000a04520000\nawait F3\n",
-        "host ready IBM-3179-2\nok\nok\nattention\nanswer 6 56 F1\n  field 6 53 C2D6C2\nattention\nended\nok\n",
+        "host ready IBM-3179-2\nok\nok\nattention\nanswer 6 56 F1\n  field 6 53 C2D6C2 BOB\nattention\nended\nok\n",
         Came {
             all_well: false,
             is_over: false,
@@ -313,14 +419,38 @@ fn a_host_answers_on(rt: HostRuntime) {
     let mut watch = Counter {
         begun: 0,
         late: true,
+        quiet: false,
     };
+    let mut ahead = 0;
     let mut out = BufferedSink::new(VecSink::new(rt.alloc()));
     same(
         &rt,
-        answer_on(&mut attached, &mut watch, &mut out),
+        answer_on(&mut attached, &mut ahead, &mut watch, &mut out),
         Ok(true),
     );
     same(&rt, watch.begun, 4);
     let wanted = b"host ready IBM-3179-2\nattention\nattention\n".as_slice();
     same(&rt, out.into_inner().as_slice(), wanted);
+}
+
+// Bytes that are written as they are, in hex and in words (RFC 854, RFC 855), behind the first token of a host end.
+#[test]
+fn raw_bytes_are_written(rt: HostRuntime) {
+    let mut attached = host_given(&rt, rt.alloc(), OPENED);
+    let script = "raw 00fF\ntelnet NOP\ntelnet DO 39\ntelnet SB 24 01FF\nend\n";
+    let came = carried::<HostRuntime, _, _, _, HostLine>(
+        &rt,
+        &mut attached,
+        script,
+        "ok\nok\nok\nok\n",
+    );
+    let wanted = Came {
+        all_well: true,
+        is_over: false,
+        waits: 0,
+    };
+    same(&rt, came, wanted);
+    let written =
+        b"\xff\xfd\x18\x00\xff\xff\xf1\xff\xfd\x27\xff\xfa\x18\x01\xff\xff\xff\xf0".as_slice();
+    same(&rt, attached.sink().as_slice(), written);
 }

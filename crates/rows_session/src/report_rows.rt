@@ -5,10 +5,8 @@ use crate::{same, same_at};
 use ws_keys::Key;
 use ws_live::{ScriptFault, StationLine, read_lines};
 
-// A station before the opening, behind a form of one field, and with its cursor outside the field.
+// A station behind a form of one field, which it takes itself, and with its cursor outside the field.
 const SCRIPT: &str = "\
-status
-await
 status
 type BO
 show 6 53 10
@@ -21,9 +19,6 @@ status
 ";
 
 const PRINTED: &str = "\
-status locked negotiating 1 1 records 0 bytes 0
-ok
-ok
 status unlocked ready 6 53 field 1 records 1 bytes 52
 ok
 ok
@@ -53,6 +48,18 @@ fn reports_of_a_station(rt: HostRuntime) {
         &mut attached,
         SCRIPT,
         PRINTED,
+    );
+    let wanted = Came {
+        all_well: true,
+        is_over: false,
+        waits: 6,
+    };
+    same(&rt, came, wanted);
+    // Before the opening.
+    let mut fresh = station_given(rt.alloc(), b"");
+    let printed = "status locked negotiating 1 1 records 0 bytes 0\nok\n";
+    let came = carried::<HostRuntime, _, _, _, StationLine<Key>>(
+        &rt, &mut fresh, "status\n", printed,
     );
     let wanted = Came {
         all_well: true,

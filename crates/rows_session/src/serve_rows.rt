@@ -27,7 +27,7 @@ const SAME: [(&[u8], &[u8]); 8] = [
 ];
 
 // Scripts for a host, and their first bad line.
-const BAD: [(&[u8], u64); 37] = [
+const BAD: [(&[u8], u64); 51] = [
     (b"await answer ", 1),
     (b"await Left", 1),
     (b"await Attention", 1),
@@ -35,6 +35,20 @@ const BAD: [(&[u8], u64); 37] = [
     (b"await  Enter", 1),
     (b"show 1", 1),
     (b"Show", 1),
+    (b"raw", 1),
+    (b"raw ", 1),
+    (b"raw 0", 1),
+    (b"raw 0G", 1),
+    (b"raw 00 00", 1),
+    (b"telnet", 1),
+    (b"telnet ", 1),
+    (b"telnet do 39", 1),
+    (b"telnet DO 256", 1),
+    (b"telnet NOP 1", 1),
+    (b"pause 0", 1),
+    (b"pause 3600001", 1),
+    (b"close 1", 1),
+    (b"end 1\n", 1),
     (b"  CLEAR-UNIT", 1),
     (b"\n  CLEAR-UNIT", 2),
     (b"# send 3\n  CLEAR-UNIT", 2),

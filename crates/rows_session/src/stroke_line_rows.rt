@@ -71,7 +71,7 @@ fn strokes_at_a_station(rt: HostRuntime) {
     let wanted = Came {
         all_well: false,
         is_over: false,
-        waits: 1,
+        waits: 6,
     };
     same(&rt, came, wanted);
 }

@@ -19,11 +19,13 @@ use ws_code::WriteSink;
 use ws_live::BufferedSink;
 use ws_network::run_live;
 use ws_program::{
-    CommandFault, OpenStreams, RunFault, answer_openly, given_words, read_input, status,
+    CommandFault, OpenStreams, RunFault, ToldFault, answer_openly, check_file, given_words,
+    read_input, status, with_cause,
 };
-use ws_words::{Task, read_words};
+use ws_words::{Asked, StreamForm, Task, read_words};
 
-// Reads the command line and the input, and writes what is asked for: true where all was accepted.
+// Reads the command line and the input, and writes what is asked for: true where all was accepted. All of the input is
+// read first, but for a check of raw bytes, which holds none of them.
 fn run<R>(rt: &R, streams: OpenStreams) -> Result<bool, CommandFault>
 where
     R: Runtime + AllocGlobal + Files<File = File> + Net<Listener = TcpListener, Stream = TcpStream>,
@@ -35,8 +37,20 @@ where
         Task::Live(asked) => return Ok(run_live(rt, asked, streams, &mut sink)?),
         Task::Input(asked) => asked,
     };
+    if let Asked::Check {
+        file,
+        form,
+        cut,
+        from,
+    } = asked
+    {
+        if let StreamForm::Raw = form {
+            return Ok(check_file(rt, file, cut, from, streams, &mut sink)?);
+        }
+    }
     let text = read_input(rt, asked.file())?;
-    Ok(answer_openly(rt, rt.alloc(), asked, text.as_slice(), streams, &mut sink)?)
+    let outcome = answer_openly(rt, rt.alloc(), asked, text.as_slice(), streams, &mut sink);
+    Ok(with_cause(rt.alloc(), asked, text.as_slice(), outcome)?)
 }
 
 // The same, with no standard stream's descriptor free, as long as it runs.
@@ -51,16 +65,17 @@ fn tell(rt: &HostRuntime, fault: CommandFault) -> Result<bool, CommandFault> {
     match fault {
         CommandFault::Words(words) => match words.print(rt) {
             Ok(()) if !words.use_stderr() => Ok(true),
-            Err(_) if !words.use_stderr() => tell_run(rt, RunFault::Write),
+            Err(_) if !words.use_stderr() => tell_told(rt, ToldFault::Run(RunFault::Write)),
             _ => Err(CommandFault::Words(words)),
         },
-        CommandFault::Run(fault) => tell_run(rt, fault),
+        CommandFault::Run(fault) => tell_told(rt, ToldFault::Run(fault)),
+        CommandFault::Told(fault) => tell_told(rt, fault),
     }
 }
 
-fn tell_run(rt: &HostRuntime, fault: RunFault) -> Result<bool, CommandFault> {
+fn tell_told(rt: &HostRuntime, fault: ToldFault) -> Result<bool, CommandFault> {
     let _ = eprintln!(rt; "{fault}");
-    Err(CommandFault::Run(fault))
+    Err(CommandFault::Told(fault))
 }
 
 fn main(rt: HostRuntime) -> ExitCode {

@@ -11,12 +11,15 @@ use Rattle.ws_live.specs.LiveScript.{IsBlockFault}
 use Rattle.ws_live.specs.ScriptFaults.{has_no_blank}
 use Rattle.ws_live.specs.declared.script.ScriptFault.{ScriptFault}
 use Rattle.ws_live.specs.declared.script.ScriptFault.TheVariants.{Line, Memory}
+use Rattle.ws_live.specs.WireLines.{MeansWire}
+use Rattle.ws_live.specs.declared.wire_line.WireLine.{WireLine}
+use Rattle.ws_live.specs.declared.wire_line.WireLine.TheVariants.{Raw, Pause, Close}
 use Rattle.ws_live.proofs.ScriptWords.{blank_inside, split_unique, digits_have_no_blank}
 use Rattle.ws_any_host.specs.AnyLines.{AreBadAt, BeginsAnyLine, IsAnyLine, IsBadAnyLineAt, IsFault, IsLineBegun}
 use Rattle.ws_any_host.specs.AnyLines.{IsOpcode, IsSendBegun, IsSendText, IsWordFault, Means, OpensAnyBlock}
 use Rattle.ws_any_host.specs.AnyLines.{SayBytes, SendsAlone}
 use Rattle.ws_any_host.specs.declared.any_line.AnyLine.{AnyLine}
-use Rattle.ws_any_host.specs.declared.any_line.AnyLine.TheVariants.{Nothing, Send, Await, AwaitKey}
+use Rattle.ws_any_host.specs.declared.any_line.AnyLine.TheVariants.{Nothing, Send, Await, AwaitKey, Wire, Bad}
 
 -- What the lines of a script for a host that takes any record can't mean.
 
@@ -44,21 +47,32 @@ abbrev begins_with_s : List ℕ → Bool
 begins_with_s [] = false
 begins_with_s (x ∷ xs) = x == 115
 
--- and nothing else
+-- a line that works on the connection doesn't
+no_wire : (line : List ℕ) (wire : WireLine) → MeansWire line wire → begins_with_s line ≡ false
+no_wire line (Raw bytes) (inl m) = ap begins_with_s m.1
+no_wire line (Raw bytes) (inr m) = ap begins_with_s m.0.1
+no_wire line (Pause time) m = ap begins_with_s m.1
+no_wire line Close m = ap begins_with_s m
+
+-- a line that sends means nothing else
 sends_only : (line words : List ℕ) → line ≡ codes "send " ++ words → ((r : Record ℕ) → IsSendText words r → ⊥)
     → (read : AnyLine) → Means line read → ⊥
-sends_only line words e none Nothing (inl m) = false≢true (ap begins_with_s (sym m ∙ e))
-sends_only line words e none Nothing (inr m) = false≢true (ap begins_with_s (sym m.1 ∙ e))
+sends_only line words e none Nothing (inl (inl m)) = false≢true (ap begins_with_s (sym m ∙ e))
+sends_only line words e none Nothing (inl (inr m)) = false≢true (ap begins_with_s (sym m.1 ∙ e))
+sends_only line words e none Nothing (inr m) = false≢true (ap begins_with_s (sym m ∙ e))
 sends_only line words e none (Send r) m =
     none r (subst (λ (z : List ℕ). IsSendText z r) (same_words line words m.0 e m.1) m.2)
 sends_only line words e none Await m = false≢true (ap begins_with_s (sym m ∙ e))
 sends_only line words e none (AwaitKey aid) m = false≢true (ap begins_with_s (sym m.1 ∙ e))
+sends_only line words e none (Wire wire) m =
+    false≢true (sym (no_wire line wire m) ∙ ap begins_with_s e)
+sends_only line words e none (Bad cause) m = m
 
 -- the fault of its words is the line's
 pub line_fault : (line words : List ℕ) → line ≡ codes "send " ++ words → (fault : ScriptFault)
     → IsFault (IsSendText words) (IsSendBegun words) fault → IsFault (Means line) (IsLineBegun line) fault
 line_fault line words e (Line at) f = (f.0, sends_only line words e f.1)
-line_fault line words e Memory f = (words, e, f)
+line_fault line words e Memory f = inl (words, e, f)
 
 -- a line says one opcode
 one_opcode : (line m n : List ℕ) (o p : Opcode) → SendsAlone line m o → SendsAlone line n p → p ≡ o

@@ -1,5 +1,5 @@
 use Rattle.std.proofs.Common.{◌≡◌, ℕ, ◌+◌, List, [], ◌∷◌, ◌++◌, true, false, inl, inr, refl, ap, subst}
-use Rattle.std.specs.Prelude.{Bool, Result, Ok, Err, not, replicate}
+use Rattle.std.specs.Prelude.{Bool, Result, Ok, Err, replicate}
 use Rattle.std.proofs.lemmas.Bool.{false≢true}
 use Rattle.std.proofs.lemmas.List.{append-nil, replicate-append-replicate}
 use Rattle.ws_code.specs.Device.{MayTake, WentOut, most_reads}
@@ -13,9 +13,9 @@ use Rattle.ws_text.specs.declared.output.Output.TheVariants.{Open, Failed as Unw
 use Rattle.ws_live.specs.LiveText.{HaveRun, stops}
 use Rattle.ws_live.specs.ServeText.{is_told}
 use Rattle.ws_live.specs.declared.live.Closing.{Closing}
-use Rattle.ws_live.specs.declared.live.Closing.TheVariants.{Nothing, Done, Declined, Late, Ended, Stopped}
+use Rattle.ws_live.specs.declared.live.Closing.TheVariants.{Nothing, Done, Declined, Late, Ended, Stopped, Closed}
 use Rattle.ws_live.proofs.LiveRuns.{run_more}
-use Rattle.ws_any_host.specs.CarryingOn.{CarriesOn, HasCarriedOnce, IsOnceFault, HasCarriedOn, IsCarryOnFault}
+use Rattle.ws_any_host.specs.CarryingOn.{CarriesOn, HasCarriedOnce, IsOnceFault, HasCarriedOn, IsCarryOnFault, goes_well}
 
 -- A line that is carried out again and again.
 
@@ -26,6 +26,7 @@ told_done Declined e = absurd (false≢true e)
 told_done Late e = absurd (false≢true e)
 told_done Ended e = absurd (false≢true e)
 told_done Stopped e = absurd (false≢true e)
+told_done Closed e = absurd (false≢true e)
 
 -- one that closed with something that was told stops nothing
 pub told_goes : (closing : Closing) → is_told closing ≡ true → stops closing ≡ false
@@ -65,7 +66,7 @@ module _ {L P : Type 0} (runs : L → P → Result Closing Fault → List ℕ �
 
     pub none_told : (closing : Closing) (well : Bool)
         → HasCarriedOnce runs line prints misprints mid to between new closing → is_told closing ≡ false
-        → well ≡ not (stops closing) → HasCarriedOn runs line prints misprints from to old new well
+        → well ≡ goes_well closing → HasCarriedOn runs line prints misprints from to old new well
     none_told closing well one untold e = (
       printed ++ one.0,
       (closing, came_to (Ok closing) one.0 one.1, untold, e),
@@ -99,5 +100,9 @@ module _ {L P : Type 0} (runs : L → P → Result Closing Fault → List ℕ �
   too_much_told prints misprints from to old new printed count h out all =
       inr (inr (
         refl,
-        (printed, subst (λ (n : ℕ). HaveRun runs false from (replicate n line) true printed to) all h, out),
+        (
+          printed,
+          record { ran = subst (λ (n : ℕ). HaveRun runs false from (replicate n line) true printed to) all h },
+          out,
+        ),
       ))

@@ -13,12 +13,13 @@ use Rattle.ws_text.specs.ExtendedWords.{extended_wording}
 use Rattle.ws_text.specs.Words.{IsNumber, IsHex}
 use Rattle.ws_text.specs.declared.items.TextFault.{TextFault}
 use Rattle.ws_text.specs.declared.items.TextFault.TheVariants as items
-use Rattle.ws_live.specs.ConnectLines.{IsNothing}
 use Rattle.ws_live.specs.KeyNames.{aid_named}
+use Rattle.ws_live.specs.ServeLines.{IsIdle}
+use Rattle.ws_live.specs.WireLines.{IsWireBegun, MeansWire}
 use Rattle.ws_live.specs.declared.script.ScriptFault.{ScriptFault}
 use Rattle.ws_live.specs.declared.script.ScriptFault.TheVariants.{Line, Memory}
 use Rattle.ws_any_host.specs.declared.any_line.AnyLine.{AnyLine}
-use Rattle.ws_any_host.specs.declared.any_line.AnyLine.TheVariants.{Nothing, Send, Await, AwaitKey}
+use Rattle.ws_any_host.specs.declared.any_line.AnyLine.TheVariants.{Nothing, Send, Await, AwaitKey, Wire, Bad}
 
 -- a record that a script sends: its flags are all off
 abbrev pub sent : Opcode → List ℕ → Record ℕ
@@ -38,12 +39,14 @@ abbrev pub IsSendText : List ℕ → Record ℕ → Type 0
 IsSendText words r = (opcode : Opcode) × (body : List ℕ) × (r ≡ sent opcode body)
     × ((IsOpcode words opcode × (body ≡ [])) ⊎ IsBodyText words opcode body)
 
--- what a line means by itself
+-- what a line means by itself; none means one that is bad
 abbrev pub Means : List ℕ → AnyLine → Type 0
-Means line Nothing = IsNothing line
+Means line Nothing = IsIdle line
 Means line (Send r) = (words : List ℕ) × (line ≡ codes "send " ++ words) × IsSendText words r
 Means line Await = line ≡ codes "await"
 Means line (AwaitKey aid) = (name : List ℕ) × (line ≡ codes "await " ++ name) × (aid_named name ≡ Some aid)
+Means line (Wire wire) = MeansWire line wire
+Means line (Bad cause) = ⊥
 
 -- a line by itself, which is UTF-8
 abbrev pub IsOneLine : List ℕ → AnyLine → Type 0
@@ -54,9 +57,9 @@ abbrev pub IsSendBegun : List ℕ → Type 0
 IsSendBegun words = (number : List ℕ) × (hex : List ℕ) × (opcode : Opcode) × (words ≡ (number ++ codes " ") ++ hex)
     × IsOpcode number opcode
 
--- a line that sends one is good up to its body
+-- the lines that take memory: one that sends a record, up to its body, or works on the connection
 abbrev pub IsLineBegun : List ℕ → Type 0
-IsLineBegun line = (words : List ℕ) × (line ≡ codes "send " ++ words) × IsSendBegun words
+IsLineBegun line = ((words : List ℕ) × (line ≡ codes "send " ++ words) × IsSendBegun words) ⊎ IsWireBegun line
 
 -- a line that sends a record, and says no more of it than its opcode
 abbrev pub SendsAlone : List ℕ → List ℕ → Opcode → Type 0
@@ -86,7 +89,7 @@ abbrev pub IsAnyLine : List ℕ → List (List ℕ) → AnyLine → Type 0
 IsAnyLine line elements read = ((elements ≡ []) × IsOneLine line read)
     ⊎ ((elements ≢ []) × SendsInWords line elements read)
 
--- a line that sends a record, up to the record's body
+-- a line up to what takes memory
 abbrev pub BeginsAnyLine : List ℕ → Type 0
 BeginsAnyLine line = (IsUtf8 line × IsLineBegun line) ⊎ OpensAnyBlock line
 

@@ -1,7 +1,7 @@
 -- What a line of a script does at a host that takes any record, and what it prints.
 
 use Rattle.std.specs.Prelude.{◌≡◌, ℕ, List, [], ◌∷◌, ◌++◌, ◌⊎◌, Bool, true, false, not, ◌&&◌, ◌==◌, nat_lt, length, codes}
-use Rattle.std.specs.Prelude.{Option, None, Some, IfSome, IfNone, Result, Ok, Err, if◌then◌else◌}
+use Rattle.std.specs.Prelude.{Option, None, Some, IfSome, IfNone, Result, Ok, Err, if◌then◌else◌, string_bytes}
 use Rattle.std.specs.List.{flat_map}
 use Rattle.std.specs.Fmt.{decimal}
 use Rattle.hex.specs.Hex.{encode_upper}
@@ -14,14 +14,18 @@ use Rattle.ws_session.specs.Acts.{Did}
 use Rattle.ws_session.specs.Attachments.{AttachedParts, HaveLed, IsSendFailure, HasHeard, IsHearFault}
 use Rattle.ws_session.specs.declared.send_fault.SendFault.{SendFault}
 use Rattle.ws_text.specs.ItemLines.{hex_behind_blank}
+use Rattle.ws_live.specs.LiveText.{bad_outcome, bad_text}
 use Rattle.ws_live.specs.ServeText.{given_outcome, given_text, unheard_outcome, unheard_text}
+use Rattle.ws_live.specs.WireLines.{WireRuns}
 use Rattle.ws_live.specs.declared.live.Closing.{Closing}
 use Rattle.ws_live.specs.declared.live.Closing.TheVariants.{Nothing, Done, Ended}
+use Rattle.ws_live.specs.declared.watch.WaitSpan.{WaitSpan}
+use Rattle.ws_live.specs.declared.watch.WaitSpan.TheVariants.{Whole}
 use Rattle.ws_any_host.specs.AnyLeads.{AnyParts, AnyGoes, AnyRefuses, IsAnySendRefusal, IsAnySendTaken}
 use Rattle.ws_any_host.specs.declared.any_event.AnyEvent.{AnyEvent}
 use Rattle.ws_any_host.specs.declared.any_event.AnyEvent.TheVariants.{Ready, Record as Came}
 use Rattle.ws_any_host.specs.declared.any_line.AnyLine.{AnyLine}
-use Rattle.ws_any_host.specs.declared.any_line.AnyLine.TheVariants.{Nothing as NoLine, Send, Await, AwaitKey}
+use Rattle.ws_any_host.specs.declared.any_line.AnyLine.TheVariants.{Nothing as NoLine, Send, Await, AwaitKey, Wire, Bad}
 
 -- a byte of a name that stands for itself: it prints (ASCII), and is neither a blank nor `\`
 abbrev pub is_plain : ℕ → Bool
@@ -52,11 +56,11 @@ abbrev pub is_by : ℕ → AnyEvent → Bool
 is_by aid (Ready name) = false
 is_by aid (Came r) = (opcode_byte r.opcode == 3) && is_answer_by aid r.body
 
--- the lines that wait
-abbrev pub any_waits : AnyLine → Bool
-any_waits Await = true
-any_waits (AwaitKey aid) = true
-any_waits line = false
+-- how long a line waits, if it does
+abbrev pub any_waits : AnyLine → Option WaitSpan
+any_waits Await = Some Whole
+any_waits (AwaitKey aid) = Some Whole
+any_waits line = None
 
 module _ {S K : Type 0} (takes : MayTake K) (failures : K → ℕ) (gives : MayGive S) (misses : S → ℕ) where
   -- such a host on a source and a sink
@@ -121,10 +125,21 @@ module _ {S K : Type 0} (takes : MayTake K) (failures : K → ℕ) (gives : MayG
       pub came : KeyComes aid (length told) mid outcome last to
       pub all : text ≡ flat_map any_event_text told ++ last
 
-    -- a line at such a host, how it closed, and what it printed
-    abbrev pub AnyRuns : AnyLine → Parts → Result Closing Fault → List ℕ → Parts → Type 0
-    AnyRuns NoLine from outcome text to = (to ≡ from) × (outcome ≡ Ok Nothing) × (text ≡ [])
-    AnyRuns (Send r) from outcome text to = (given : Result (Option SendFault) Fault) × IsGiven r from given to
+    -- what a line does at such a host, how it closed, and what it printed
+    abbrev pub AnyDoes : AnyLine → Parts → Result Closing Fault → List ℕ → Parts → Type 0
+    AnyDoes NoLine from outcome text to = (to ≡ from) × (outcome ≡ Ok Nothing) × (text ≡ [])
+    AnyDoes (Send r) from outcome text to = (given : Result (Option SendFault) Fault) × IsGiven r from given to
         × (outcome ≡ given_outcome given) × (text ≡ given_text given)
-    AnyRuns Await from outcome text to = HearsOne from outcome text to
-    AnyRuns (AwaitKey aid) from outcome text to = HearsKey aid from outcome text to
+    AnyDoes Await from outcome text to = HearsOne from outcome text to
+    AnyDoes (AwaitKey aid) from outcome text to = HearsKey aid from outcome text to
+    AnyDoes (Wire line) from outcome text to = WireRuns takes failures line from outcome to × (text ≡ [])
+    AnyDoes (Bad cause) from outcome text to = (to ≡ from) × (outcome ≡ bad_outcome)
+        × (text ≡ bad_text (string_bytes cause))
+
+    -- such a host, of which so many records are ahead, which none of its lines takes
+    abbrev pub Ends : Type 0
+    Ends = Parts × ℕ
+
+    -- a line at it, how it closed, and what it printed
+    abbrev pub AnyRuns : AnyLine → Ends → Result Closing Fault → List ℕ → Ends → Type 0
+    AnyRuns line from outcome text to = AnyDoes line from.0 outcome text to.0 × (to.1 ≡ from.1)

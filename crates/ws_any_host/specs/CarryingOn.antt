@@ -1,14 +1,20 @@
 -- A line that is carried out again and again, for as long as it closes with something that was told.
 
-use Rattle.std.specs.Prelude.{◌≡◌, ℕ, List, ◌++◌, ◌⊎◌, Bool, true, false, not, replicate, Result, Ok, Err}
+use Rattle.std.specs.Prelude.{◌≡◌, ℕ, List, ◌++◌, ◌⊎◌, Bool, true, false, replicate, Result, Ok, Err}
 use Rattle.ws_code.specs.Device.{MayTake, WentOut, FailedWithin, most_reads}
 use Rattle.ws_code.specs.declared.fault.Fault.{Fault}
 use Rattle.ws_code.specs.declared.fault.Fault.TheVariants as fault
 use Rattle.ws_text.specs.Printing.{IsOut}
 use Rattle.ws_text.specs.declared.output.Output.{Output}
-use Rattle.ws_live.specs.LiveText.{HaveRun, stops}
+use Rattle.ws_live.specs.LiveText.{HaveRun}
 use Rattle.ws_live.specs.ServeText.{is_told}
 use Rattle.ws_live.specs.declared.live.Closing.{Closing}
+use Rattle.ws_live.specs.declared.live.Closing.TheVariants.{Stopped}
+
+-- what a line that is carried on comes to: all is well unless the end refused a byte
+abbrev pub goes_well : Closing → Bool
+goes_well Stopped = false
+goes_well closing = true
 
 -- what the line does
 module _ {L P : Type 0} (runs : L → P → Result Closing Fault → List ℕ → P → Type 0) (line : L) where
@@ -22,11 +28,14 @@ module _ {L P : Type 0} (runs : L → P → Result Closing Fault → List ℕ �
     pub came : runs line mid outcome last to
     pub all : text ≡ printed ++ last
 
-  -- what is printed by a line that is carried out up to the first time that nothing is told; all is well where that
-  -- stops nothing
+  -- what is printed by a line that is carried out up to the first time that nothing is told
   abbrev pub IsCarriedText : P → Bool → List ℕ → P → Type 0
   IsCarriedText from all_well text to = (closing : Closing) × CarriesOn from to (Ok closing) text
-      × (is_told closing ≡ false) × (all_well ≡ not (stops closing))
+      × (is_told closing ≡ false) × (all_well ≡ goes_well closing)
+
+  -- the line was carried out as often as one wait reads, and went well each time
+  pub record CarriesOnFor (from to : P) (text : List ℕ) : Type 0 where
+    pub ran : HaveRun runs false from (replicate most_reads line) true text to
 
   module _ {O : Type 0} (prints : MayTake O) (misprints : O → ℕ) (from to : P) (old new : O) where
     -- once more, and what it printed is out
@@ -54,6 +63,4 @@ module _ {L P : Type 0} (runs : L → P → Result Closing Fault → List ℕ �
         × IsOut prints misprints old new output text)
         ⊎ (((why ≡ fault.Write) × ((closing : Closing) × (text : List ℕ) × CarriesOn from to (Ok closing) text
         × FailedWithin prints misprints old new text))
-        ⊎ ((why ≡ fault.Read) × ((text : List ℕ)
-        × HaveRun runs false from (replicate most_reads line) true text to
-        × WentOut prints misprints old new text)))
+        ⊎ ((why ≡ fault.Read) × ((text : List ℕ) × CarriesOnFor from to text × WentOut prints misprints old new text)))

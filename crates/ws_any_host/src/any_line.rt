@@ -7,6 +7,7 @@ ghost use Rattle.ws_text.specs.Words.{IsHex};
 ghost use Rattle.std.specs.Str.Lines.{lines};
 ghost use Rattle.ws_any_host.specs.AnyLines.{BeginsAnyLine, IsAnyLine, IsBadAnyLineAt, OpensAnyBlock};
 ghost use Rattle.ws_any_host.specs.AnyLines as Spec;
+ghost use Rattle.ws_any_host.specs.declared.any_line.AnyLine.TheVariants.{Bad};
 
 use arrayvec::ArrayVec;
 use hex::FromHexError;
@@ -14,14 +15,14 @@ use std::alloc::{AllocError, Global};
 use std::str;
 use ws_code::{Aid, Body, List};
 use ws_extended::{ExtendedCommands, ExtendedElement};
-use ws_live::{LiveLine, ScriptFault, aid_named};
+use ws_live::{LineFault, LiveLine, ScriptFault, WireLine, aid_named, read_wire};
 use ws_record::{Opcode, Record};
 use ws_text::{TextFault, read_extended_elements, read_number};
 
 /// A line of a script for a host that takes any record.
 #[derive(Drop)]
 pub enum AnyLine {
-    /// An empty line or a comment.
+    /// An empty line, a comment, or the end of the lines that belong to the one before.
     Nothing,
     /// The host sends this record.
     Send(Record<u8>),
@@ -29,6 +30,10 @@ pub enum AnyLine {
     Await,
     /// The host takes what the station sends, until it tells a record of this key.
     AwaitKey(Aid),
+    /// Something is done at the connection itself.
+    Wire(WireLine),
+    /// A line that is bad for this cause, which is told.
+    Bad(String),
 }
 
 impl LiveLine for AnyLine {
@@ -39,6 +44,8 @@ impl LiveLine for AnyLine {
     ghost opener = { OpensAnyBlock };
 
     ghost bad_at = { IsBadAnyLineAt };
+
+    ghost bad_line = { λ cause. Bad cause };
 
     fn opens(line: &[u8]) -> bool {
         sent_alone(line).is_some()
@@ -56,6 +63,10 @@ impl LiveLine for AnyLine {
             },
             None => Err(ScriptFault::Line(1)),
         }
+    }
+
+    fn bad(cause: String) -> Self {
+        AnyLine::Bad(cause)
     }
 }
 
@@ -127,7 +138,7 @@ fn read_text(alloc: Global, text: &str) -> Result<AnyLine, ScriptFault>
             Ok(record) => Ok(AnyLine::Send(record)),
             Err(fault) => Err(fault),
         },
-        None => read_word(text),
+        None => read_word(alloc, text),
     }
 }
 
@@ -140,23 +151,38 @@ fn sent_words(text: &str) -> Option<&str>
 }
 
 // A line that sends nothing.
-fn read_word(word: &str) -> Result<AnyLine, ScriptFault>
-    requires some { 0 < length word.now }
-    requires no_comment { IsNoComment word.now }
-    requires no_send { (words : Seq ℕ) → word.now ≡ codes "send " ++ words → ⊥ }
-    ensures line { IfOk result (Spec.Means word.now) }
-    ensures fault { IfErr result (Spec.IsFault (Spec.Means word.now) ⊥) }
+fn read_word(alloc: Global, line: &str) -> Result<AnyLine, ScriptFault>
+    requires some { 0 < length line.now }
+    requires no_comment { IsNoComment line.now }
+    requires no_send { (words : Seq ℕ) → line.now ≡ codes "send " ++ words → ⊥ }
+    ensures line { IfOk result (Spec.Means line.now) }
+    ensures fault { IfErr result (Spec.IsFault (Spec.Means line.now) (Spec.IsLineBegun line.now)) }
 {
-    if word == "await" {
+    if line == "await" {
         return Ok(AnyLine::Await);
     }
-    let Some(name) = word.strip_prefix("await ") else {
-        return Err(ScriptFault::Line(1));
-    };
-    match aid_named(name) {
-        Some(aid) => Ok(AnyLine::AwaitKey(aid)),
-        None => Err(ScriptFault::Line(1)),
+    if line == "end" {
+        return Ok(AnyLine::Nothing);
     }
+    match key_words(line) {
+        Some(name) => match aid_named(name) {
+            Some(aid) => Ok(AnyLine::AwaitKey(aid)),
+            None => Err(ScriptFault::Line(1)),
+        },
+        None => match read_wire(alloc, line) {
+            Ok(wire) => Ok(AnyLine::Wire(wire)),
+            Err(LineFault::Bad) => Err(ScriptFault::Line(1)),
+            Err(LineFault::Memory) => Err(ScriptFault::Memory),
+        },
+    }
+}
+
+// What stands behind `await `.
+fn key_words(text: &str) -> Option<&str>
+    ensures { MatchOption result ((name : Seq ℕ) → text.now ≡ codes "await " ++ name → ⊥)
+        (λ name. text.now ≡ codes "await " ++ name.now) }
+{
+    text.strip_prefix("await ")
 }
 
 // A record to be sent: its opcode, and its body in hex where it has one.

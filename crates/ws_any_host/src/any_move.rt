@@ -8,19 +8,21 @@ ghost use Rattle.ws_any_host.specs.AnyText as Spec;
 use crate::any_text::put_any_event;
 use crate::{AnyEvent, AnyHost, AnyLine};
 use ws_code::{Aid, Fault, Sink, Source};
-use ws_live::{Carried, Closing, LiveMove, Paint, Watch, put_event};
+use ws_live::{Carried, Closing, LiveMove, Paint, WaitSpan, Watch, carry_wire, put_bad, put_event};
 use ws_record::{Opcode, Record};
 use ws_session::{Attached, Event, SendFault};
 use ws_text::Output;
 
 impl<S: Source, K: Sink> LiveMove<AnyHost, S, K> for AnyLine {
-    ghost runs = { λ tells paint. Spec.AnyRuns K.takes K.failures S.gives S.failures tells };
+    ghost runs = { λ tells rests paint.
+        Spec.AnyRuns K.takes K.failures S.gives S.failures tells };
 
     ghost waits = { Spec.any_waits };
 
     fn carry_out<W: Watch<S>, O: Sink>(
         &self,
         attached: &mut Attached<AnyHost, S, K>,
+        _ahead: &mut u64,
         watch: &mut W,
         _paint: Paint,
         out: &mut O,
@@ -33,14 +35,19 @@ impl<S: Source, K: Sink> LiveMove<AnyHost, S, K> for AnyLine {
             },
             AnyLine::Send(record) => put_given(out, output, give(attached, record)),
             AnyLine::Await => {
-                watch.begin(attached.source());
+                watch.begin(attached.source(), WaitSpan::Whole);
                 hear_event(attached, watch, out, output)
             }
             AnyLine::AwaitKey(aid) => {
                 let source = attached.source();
-                watch.begin(source);
+                watch.begin(source, WaitSpan::Whole);
                 hear_key(attached, watch, *aid, out, output)
             }
+            AnyLine::Wire(line) => Carried {
+                output,
+                outcome: carry_wire(attached, watch, line),
+            },
+            AnyLine::Bad(cause) => put_bad(out, output, cause.as_str()),
         }
     }
 }

@@ -17,6 +17,7 @@ use ws_text::Output;
 /// 4,294,967,296 things were told; `Memory` where a growth was refused.
 pub fn carry_on<E, S, K, L: LiveMove<E, S, K>, W: Watch<S>, O: Sink>(
     attached: &mut Attached<E, S, K>,
+    ahead: &mut u64,
     watch: &mut W,
     line: &L,
     out: &mut BufferedSink<O>,
@@ -24,19 +25,22 @@ pub fn carry_on<E, S, K, L: LiveMove<E, S, K>, W: Watch<S>, O: Sink>(
     requires works { attached.old.broken ≡ false }
     requires empty { out.old.held ≡ [] }
     ensures carried { IfOk result (Spec.HasCarriedOn
-        (InTime (L.runs W.tells Paint.Plain) L.waits W.begins W.begun) line.now
+        (InTime (L.runs W.tells W.rests Paint.Plain) L.waits W.begins W.begun) line.now
         O.takes O.failures
-        (attached.old, watch.old) (attached.new, watch.new) out.old.sink out.new.sink) }
+        ((attached.old, ahead.old), watch.old) ((attached.new, ahead.new), watch.new)
+        out.old.sink out.new.sink) }
     ensures fault { IfErr result (Spec.IsCarryOnFault
-        (InTime (L.runs W.tells Paint.Plain) L.waits W.begins W.begun) line.now
+        (InTime (L.runs W.tells W.rests Paint.Plain) L.waits W.begins W.begun) line.now
         O.takes O.failures
-        (attached.old, watch.old) (attached.new, watch.new) out.old.sink out.new.sink) }
+        ((attached.old, ahead.old), watch.old) ((attached.new, ahead.new), watch.new)
+        out.old.sink out.new.sink) }
+    ensures held { out.new.held ≡ [] }
 {
     for _ in 0..4_294_967_296u64 {
-        match carry_once(attached, watch, line, out) {
+        match carry_once(attached, ahead, watch, line, out) {
             Ok(closing) => {
                 if !is_told(closing) {
-                    return Ok(!closing.ran().is_over);
+                    return Ok(goes_well(closing));
                 }
             }
             Err(fault) => return Err(fault),
@@ -48,6 +52,7 @@ pub fn carry_on<E, S, K, L: LiveMove<E, S, K>, W: Watch<S>, O: Sink>(
 // Carries a line out, and prints what it tells: how it closed.
 fn carry_once<E, S, K, L: LiveMove<E, S, K>, W: Watch<S>, O: Sink>(
     attached: &mut Attached<E, S, K>,
+    ahead: &mut u64,
     watch: &mut W,
     line: &L,
     out: &mut BufferedSink<O>,
@@ -55,18 +60,20 @@ fn carry_once<E, S, K, L: LiveMove<E, S, K>, W: Watch<S>, O: Sink>(
     requires works { attached.old.broken ≡ false }
     requires empty { out.old.held ≡ [] }
     ensures carried { IfOk result (Spec.HasCarriedOnce
-        (InTime (L.runs W.tells Paint.Plain) L.waits W.begins W.begun) line.now
+        (InTime (L.runs W.tells W.rests Paint.Plain) L.waits W.begins W.begun) line.now
         O.takes O.failures
-        (attached.old, watch.old) (attached.new, watch.new) out.old.sink out.new.sink) }
+        ((attached.old, ahead.old), watch.old) ((attached.new, ahead.new), watch.new)
+        out.old.sink out.new.sink) }
     ensures fault { IfErr result (Spec.IsOnceFault
-        (InTime (L.runs W.tells Paint.Plain) L.waits W.begins W.begun) line.now
+        (InTime (L.runs W.tells W.rests Paint.Plain) L.waits W.begins W.begun) line.now
         O.takes O.failures
-        (attached.old, watch.old) (attached.new, watch.new) out.old.sink out.new.sink) }
+        ((attached.old, ahead.old), watch.old) ((attached.new, ahead.new), watch.new)
+        out.old.sink out.new.sink) }
     ensures works { IfOk result (λ closing.
         stops closing ≡ false → attached.new.broken ≡ false) }
     ensures held { out.new.held ≡ [] }
 {
-    let carried = line.carry_out(attached, watch, Paint::Plain, out, Output::Open);
+    let carried = line.carry_out(attached, ahead, watch, Paint::Plain, out, Output::Open);
     let output = hand_on(out, carried.output);
     match carried.outcome {
         Ok(closing) => match output {
@@ -82,4 +89,11 @@ fn is_told(closing: Closing) -> bool
     ensures { result ≡ Told.is_told closing }
 {
     matches!(closing, Closing::Done)
+}
+
+// Whether all is well at the end of a line that was carried on.
+fn goes_well(closing: Closing) -> bool
+    ensures { result ≡ Spec.goes_well closing }
+{
+    !matches!(closing, Closing::Stopped)
 }

@@ -1,20 +1,20 @@
 //! What a station tells at once, where a record asks for it.
 ghost use Rattle.std.specs.Prelude.{◌≡◌, ◌++◌, [], None};
+ghost use Rattle.ws_keys.specs.Contents.{answer_bytes};
 ghost use Rattle.ws_extended.specs.ExtendedStates.{ExtendedState};
 ghost use Rattle.ws_extended.specs.ExtendedViews.{Shows};
 ghost use Rattle.ws_extended.specs.QueryReply as Reply;
 ghost use Rattle.ws_extended.specs.Telling.{told_bytes, told_head, told_of};
 
-mod fields;
 mod saved;
 
 use crate::replies::query_reply;
 use crate::{Ask, ExtendedScreen};
 use arrayvec::ArrayVec;
-use fields::{put_input, put_modified};
 use saved::put_saved;
+use ws_keys::spell_with_data;
 use ws_nego::TerminalType;
-use ws_screen::Screen;
+use ws_screen::{ReadKind, Screen};
 
 /// The most bytes that the body of such an answer has: a saved screen's.
 pub const MOST_TOLD_BYTES: usize = 4254;
@@ -51,6 +51,15 @@ fn put_cells(screen: &Screen, told: &mut ArrayVec<u8, MOST_TOLD_BYTES>)
     told.try_extend_from_slice(screen.cells()).unwrap();
 }
 
+// What a read sends of the fields, where no key was pressed.
+fn put_fields(screen: &Screen, kind: ReadKind, told: &mut ArrayVec<u8, MOST_TOLD_BYTES>)
+    requires { told.old.items ≡ [] }
+    ensures { told.new.items ≡ answer_bytes kind screen.now NO_KEY }
+{
+    let bytes = spell_with_data(screen, kind, NO_KEY);
+    told.try_extend_from_slice(bytes.as_slice()).unwrap();
+}
+
 // What is told of a screen whose error line is such a row.
 fn put_of(
     ask: Ask,
@@ -66,8 +75,8 @@ fn put_of(
         Ask::Query => put_reply(terminal, told),
         Ask::SaveScreen => put_saved(screen, row, told),
         Ask::ReadScreen => put_cells(screen, told),
-        Ask::ReadImmediate => put_input(screen, told),
-        Ask::ReadImmediateAlternate => put_modified(screen, told),
+        Ask::ReadImmediate => put_fields(screen, ReadKind::Input, told),
+        Ask::ReadImmediateAlternate => put_fields(screen, ReadKind::MdtAlternate, told),
     }
 }
 

@@ -1,6 +1,7 @@
 -- A unit that a machine between two reads from bytes into an empty slot.
 use Rattle.std.proofs.Common.{◌≡◌, ◌≢◌, ◌<◌, ℕ, List, [], ◌∷◌, ◌++◌, Option, Some, None, refl, sym, ap, ◌∙◌, subst}
-use Rattle.std.proofs.Common.{append_assoc, arith, drop, length, length-append, take, take-append-drop}
+use Rattle.std.proofs.Common.{append_assoc, arith, drop, length, length-append, slice_index, take, take-append-drop}
+use Rattle.std.proofs.Common.{◌==◌, false, IfSome, SomeIff, unwrap_or}
 use Rattle.std.proofs.lemmas.List.{append-nil, take_all}
 use Rattle.ws_code.specs.Code.{Rules, Stands, IsChain, IsPrefix, IsPrefixFree, IsUnfinished, spelling_of}
 use Rattle.ws_code.specs.Run.{Reading, IsAt}
@@ -8,6 +9,10 @@ use Rattle.ws_code.specs.declared.run.End.{End}
 use Rattle.ws_code.specs.declared.run.End.TheVariants.{More, Enough, NoMemory, Bad}
 use Rattle.ws_code.specs.declared.run.Standing.{Standing}
 use Rattle.ws_code.proofs.CodeLaws.{Begins, cut_bad, one_cut}
+use Rattle.ws_stream.specs.Elements.{element_rules}
+use Rattle.ws_stream.specs.declared.element.Element.{Element}
+use Rattle.ws_stream.specs.declared.element.Element.TheVariants.{Put}
+use Rattle.ws_stream.specs.declared.place.Place.{Place as APlace}
 use Rattle.ws_extended.proofs.SlotRuns.{IsSlotRun, SlotStop, is_whole, not_whole, runs_on}
 
 pub empty : {U : Type 0} (slot : Option U) → ((unit : U) → slot ≡ Some unit → ⊥) → slot ≡ None
@@ -18,6 +23,24 @@ empty (Some unit) none = absurd (none unit refl)
 pub behind_shorter : (xs ys zs : List ℕ) → xs ≢ [] → zs ≡ xs ++ ys → length ys < length zs
 behind_shorter [] ys zs some e = absurd (some refl)
 behind_shorter (x ∷ xs) ys zs some e = omega (arith, ap length e, length-append xs ys)
+
+-- where the bytes begin with a data byte, the first unit is that byte
+pub starts_with : (byte : Option ℕ) (P : Type 0) (xs : List ℕ) → (length xs == 0) ≡ false
+    → SomeIff byte P (slice_index xs 0) → IfSome byte (λ b. xs ≡ b ∷ drop 1 xs)
+starts_with None P xs some is = tt
+starts_with (Some b) P [] some is = absurd (cc)
+starts_with (Some b) P (x ∷ xs) some is = ap (λ n. n ∷ xs) (sym is.1)
+
+pub reads_data : (at place : APlace) (b : ℕ) (bytes behind : List ℕ) (unit : Element) → place ≡ at
+    → Stands element_rules place (Put b) → place ≡ element_rules.after (Put b) → bytes ≡ b ∷ behind
+    → Some (Put b) ≡ Some unit → Stands element_rules at unit × (bytes ≡ element_rules.spelling unit ++ behind)
+    × (length behind < length bytes) × (at ≡ element_rules.after unit)
+reads_data at place b bytes behind unit same stands after first some =
+    let shorter : length behind < length bytes = omega (arith, ap length first) in
+    subst (λ (u : Element). Stands element_rules at u × (bytes ≡ element_rules.spelling u ++ behind)
+    × (length behind < length bytes) × (at ≡ element_rules.after u))
+    (ap (λ (o : Option Element). unwrap_or o unit) some)
+    (subst (λ (p : APlace). Stands element_rules p (Put b)) same stands, first, shorter, sym same ∙ after)
 
 module _ {Place U : Type 0} (rules : Rules Place U) (reading : Reading Place) (bytes : List ℕ) (used : ℕ)
     (to : Reading Place) (standing : Standing Place) (slot : Option U) (fresh : reading.begun ≡ []) where

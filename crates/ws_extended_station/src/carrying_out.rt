@@ -46,7 +46,7 @@ fn apply_front<'a>(display: &mut ExtendedScreen, bytes: &'a [u8]) -> Result<Fron
     let mut left = bytes;
     loop {
         let mut slot: Option<Element> = None;
-        let behind = reader.read(left, &mut slot);
+        let behind = reader.read_element(left, &mut slot);
         let Some(element) = &slot else {
             let place = reader.place();
             return Ok(Front { left, place, heard });

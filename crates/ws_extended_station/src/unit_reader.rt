@@ -1,8 +1,12 @@
-ghost use Rattle.std.specs.Prelude.{◌≡◌, ◌<◌, ◌++◌, [], List, None, Some, length};
+ghost use Rattle.std.specs.Prelude.{◌≡◌, ◌<◌, ◌++◌, ◌∷◌, [], List, None, Some, IfSome, drop, length};
 ghost use Rattle.ws_code.specs.Code.{IsChain, Stands, spelling_of};
+ghost use Rattle.ws_stream.specs.Elements.{element_rules};
+ghost use Rattle.ws_stream.specs.declared.element.Element.{Element as AnElement};
+ghost use Rattle.ws_stream.specs.declared.element.Element.TheVariants.{Put};
 
 use std::marker::Model;
-use ws_code::{Body, Standing};
+use ws_code::{Body, DataByte, Standing};
+use ws_stream::{Commands, Element, Place};
 
 /// Reads units one by one, each from the bytes that begin with it. It is seen as the place where the next one stands.
 #[derive(Drop)]
@@ -68,5 +72,48 @@ impl<B: Body> UnitReader<B> {
                 bytes
             }
         }
+    }
+}
+
+// The data byte with which the bytes begin, where data may stand.
+#[inline(always)]
+fn first_data(place: Place, bytes: &[u8]) -> Option<DataByte>
+    ensures stands { IfSome result (λ byte. Stands element_rules place (Put byte)) }
+    ensures behind { IfSome result (λ byte. place ≡ element_rules.after (Put byte)) }
+    ensures first { IfSome result (λ byte. bytes.now ≡ byte ∷ drop 1 bytes.now) }
+{
+    if bytes.is_empty() {
+        return None;
+    }
+    match place {
+        Place::Anything => DataByte::new(bytes[0]),
+        Place::CommandsOnly => None,
+    }
+}
+
+impl UnitReader<Commands> {
+    /// As `read`. Most elements of a long body are data bytes, so a byte is first looked at as one.
+    #[inline(always)]
+    pub(crate) fn read_element<'a>(
+        &mut self,
+        bytes: &'a [u8],
+        slot: &mut Option<Element>,
+    ) -> &'a [u8]
+        requires { slot.old ≡ None }
+        ensures some { (unit : AnElement) → slot.new ≡ Some unit
+            → Stands element_rules self.old unit
+            × (bytes.now ≡ element_rules.spelling unit ++ result.now)
+            × (length result.now < length bytes.now)
+            × (self.new ≡ element_rules.after unit) }
+        ensures none { slot.new ≡ None → (units : List AnElement)
+            → IsChain element_rules self.old units
+            → bytes.now ≡ spelling_of element_rules units → units ≡ [] }
+        ensures stays { slot.new ≡ None → self.new ≡ self.old }
+    {
+        if let Some(byte) = first_data(self.place(), bytes) {
+            *slot = Some(Element::Put(byte));
+            return &bytes[1..];
+        }
+        self.read(bytes, slot)
     }
 }

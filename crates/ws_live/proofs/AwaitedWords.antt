@@ -1,9 +1,10 @@
-use Rattle.std.proofs.Common.{◌≡◌, ℕ, List, [], ◌∷◌, ◌++◌, Bool, true, false, refl, sym, ap, ◌∙◌, subst}
-use Rattle.std.specs.Prelude.{codes, string_bytes, ◌==◌}
+use Rattle.std.proofs.Common.{◌≡◌, ℕ, List, [], ◌∷◌, ◌++◌, Bool, false, refl, sym, ap, ◌∙◌, subst}
+use Rattle.std.specs.Prelude.{codes, string_bytes, ◌==◌, Option, None, Some, MatchOption}
 use Rattle.std.proofs.lemmas.Bool.{false≢true}
-use Rattle.ws_live.specs.ConnectLines.{IsAwaited, IsPlaced, IsPlacedText, IsSomeText, IsTextAnywhere, IsTextAt}
+use Rattle.ws_live.specs.ConnectLines.{IsAwaited, IsMilliseconds, IsPlaced, IsPlacedText, IsQuietAwaited, IsSomeText}
+use Rattle.ws_live.specs.ConnectLines.{IsTextAnywhere, IsTextAt}
 use Rattle.ws_live.specs.declared.connect_line.Awaited.{Awaited}
-use Rattle.ws_live.specs.declared.connect_line.Awaited.TheVariants.{Turn, Record, Text, At}
+use Rattle.ws_live.specs.declared.connect_line.Awaited.TheVariants.{Turn, Record, Text, At, Quiet}
 use Rattle.ws_live.proofs.ReportWords.{one_rest}
 
 -- The words of a line that waits.
@@ -19,6 +20,15 @@ same_text t text e = cc
 same_placed : (p placed : List ℕ) → codes "at " ++ p ≡ codes "at " ++ placed → p ≡ placed
 same_placed p placed e = cc
 
+same_quiet : (w word : List ℕ) → codes "quiet " ++ w ≡ codes "quiet " ++ word → w ≡ word
+same_quiet w word e = cc
+
+-- nothing was found
+pub behind_none : {X A : Type 0} (B : X → Type 0) (found : Option X) → MatchOption found A B
+    → ((x : X) → found ≡ Some x → ⊥) → A
+behind_none B None h other = h
+behind_none B (Some x) h other = absurd (other x refl)
+
 pub no_text_behind : (words text : List ℕ) → words ≡ codes "text " ++ text
     → ((a : Awaited) → IsTextAnywhere text a → ⊥) → (awaited : Awaited) → IsAwaited words awaited → ⊥
 no_text_behind words text e none_is Turn m = m
@@ -26,6 +36,7 @@ no_text_behind words text e none_is Record m = false≢true (ap (begins 114) (sy
 no_text_behind words text e none_is (Text t) m =
     none_is (Text t) (same_text (string_bytes t) text (sym m.0 ∙ e), m.1)
 no_text_behind words text e none_is (At cell t) m = false≢true (ap (begins 97) (sym e ∙ m.1))
+no_text_behind words text e none_is (Quiet time) m = false≢true (ap (begins 113) (sym e ∙ m.1))
 
 -- what stands behind `text ` is awaited
 pub text_awaited : (words text : List ℕ) → words ≡ codes "text " ++ text → (awaited : Awaited)
@@ -34,6 +45,7 @@ text_awaited words text e (Text t) m = (e ∙ ap (λ z. codes "text " ++ z) (sym
 text_awaited words text e Turn m = absurd m
 text_awaited words text e Record m = absurd m
 text_awaited words text e (At cell t) m = absurd m
+text_awaited words text e (Quiet time) m = absurd m
 
 -- the words of a text are one
 pub anywhere_none : (text : List ℕ) → ((t : List ℕ) → IsSomeText text t → ⊥) → (awaited : Awaited)
@@ -42,6 +54,7 @@ anywhere_none text none_is (Text t) m = none_is (string_bytes t) m
 anywhere_none text none_is Turn m = m
 anywhere_none text none_is Record m = m
 anywhere_none text none_is (At cell t) m = m
+anywhere_none text none_is (Quiet time) m = m
 
 pub at_none : (cell : ℕ) (text : List ℕ) → ((t : List ℕ) → IsSomeText text t → ⊥) → (awaited : Awaited)
     → IsTextAt cell text awaited → ⊥
@@ -49,21 +62,52 @@ at_none cell text none_is (At c t) m = none_is (string_bytes t) m.1
 at_none cell text none_is Turn m = m
 at_none cell text none_is Record m = m
 at_none cell text none_is (Text t) m = m
+at_none cell text none_is (Quiet time) m = m
 
 pub no_placed_behind : (words placed : List ℕ) → words ≡ codes "at " ++ placed
     → ((a : Awaited) → IsPlacedText placed a → ⊥) → (awaited : Awaited) → IsAwaited words awaited → ⊥
 no_placed_behind words placed e none_is Turn m = m
 no_placed_behind words placed e none_is Record m = false≢true (ap (begins 114) (sym e ∙ m))
 no_placed_behind words placed e none_is (Text t) m = false≢true (ap (begins 116) (sym e ∙ m.0))
+no_placed_behind words placed e none_is (Quiet time) m = false≢true (ap (begins 113) (sym e ∙ m.1))
 no_placed_behind words placed e none_is (At cell t) m =
     none_is (At cell t) (subst (λ z. IsPlacedText z (At cell t)) (same_placed m.0 placed (sym m.1 ∙ e)) m.2)
 
+-- no record, no text and no quiet is awaited
 pub no_awaited : (words : List ℕ) → (words ≡ codes "record" → ⊥) → ((t : List ℕ) → words ≡ codes "text " ++ t → ⊥)
-    → ((p : List ℕ) → words ≡ codes "at " ++ p → ⊥) → (awaited : Awaited) → IsAwaited words awaited → ⊥
-no_awaited words nr nt na Turn m = m
-no_awaited words nr nt na Record m = nr m
-no_awaited words nr nt na (Text t) m = nt (string_bytes t) m.0
-no_awaited words nr nt na (At cell t) m = na m.0 m.1
+    → ((p : List ℕ) → words ≡ codes "at " ++ p → ⊥) → ((a : Awaited) → IsQuietAwaited words a → ⊥)
+    → (awaited : Awaited) → IsAwaited words awaited → ⊥
+no_awaited words nr nt na nq Turn m = m
+no_awaited words nr nt na nq Record m = nr m
+no_awaited words nr nt na nq (Text t) m = nt (string_bytes t) m.0
+no_awaited words nr nt na nq (At cell t) m = na m.0 m.1
+no_awaited words nr nt na nq (Quiet time) m = nq (Quiet time) m
+
+-- quiet is awaited
+pub quiet_awaited : (words : List ℕ) (awaited : Awaited) → IsQuietAwaited words awaited → IsAwaited words awaited
+quiet_awaited words (Quiet time) m = m
+quiet_awaited words Turn m = absurd m
+quiet_awaited words Record m = absurd m
+quiet_awaited words (Text t) m = absurd m
+quiet_awaited words (At cell t) m = absurd m
+
+-- what stands behind `quiet ` is no time
+pub no_quiet_time : (words word : List ℕ) → words ≡ codes "quiet " ++ word
+    → ((time : ℕ) → IsMilliseconds word time → ⊥) → (awaited : Awaited) → IsQuietAwaited words awaited → ⊥
+no_quiet_time words word e none_is (Quiet time) m =
+    none_is time (subst (λ z. IsMilliseconds z time) (same_quiet m.0 word (sym m.1 ∙ e)) m.2)
+no_quiet_time words word e none_is Turn m = m
+no_quiet_time words word e none_is Record m = m
+no_quiet_time words word e none_is (Text t) m = m
+no_quiet_time words word e none_is (At cell t) m = m
+
+pub no_quiet : (words : List ℕ) → ((word : List ℕ) → words ≡ codes "quiet " ++ word → ⊥) → (awaited : Awaited)
+    → IsQuietAwaited words awaited → ⊥
+no_quiet words other (Quiet time) m = other m.0 m.1
+no_quiet words other Turn m = m
+no_quiet words other Record m = m
+no_quiet words other (Text t) m = m
+no_quiet words other (At cell t) m = m
 
 -- what stands behind `at ` is awaited
 pub placed_awaited : (words placed : List ℕ) → words ≡ codes "at " ++ placed → (awaited : Awaited)
@@ -71,6 +115,7 @@ pub placed_awaited : (words placed : List ℕ) → words ≡ codes "at " ++ plac
 placed_awaited words placed e Turn m = m
 placed_awaited words placed e Record m = absurd m
 placed_awaited words placed e (Text t) m = absurd m
+placed_awaited words placed e (Quiet time) m = absurd m
 placed_awaited words placed e (At cell t) m = (placed, e, m)
 
 -- no cell with something behind it, and no text behind the cell
@@ -80,6 +125,7 @@ no_placed_text words none_is (At cell t) m = none_is cell (string_bytes t) m.0
 no_placed_text words none_is Turn m = m
 no_placed_text words none_is Record m = m
 no_placed_text words none_is (Text t) m = m
+no_placed_text words none_is (Quiet time) m = m
 
 pub no_text_placed : (words : List ℕ) (at : ℕ) (rest : List ℕ) → IsPlaced words at rest
     → ((a : Awaited) → IsTextAt at rest a → ⊥) → (awaited : Awaited) → IsPlacedText words awaited → ⊥
@@ -88,6 +134,7 @@ no_text_placed words at rest placed none_is (At cell t) m =
 no_text_placed words at rest placed none_is Turn m = m
 no_text_placed words at rest placed none_is Record m = m
 no_text_placed words at rest placed none_is (Text t) m = m
+no_text_placed words at rest placed none_is (Quiet time) m = m
 
 -- a text behind its cell is awaited there
 pub placed_text : (words : List ℕ) (at : ℕ) (rest : List ℕ) → IsPlaced words at rest → (awaited : Awaited)
@@ -100,3 +147,4 @@ placed_text words at rest placed (At cell t) m = (
 placed_text words at rest placed Turn m = absurd m
 placed_text words at rest placed Record m = absurd m
 placed_text words at rest placed (Text t) m = absurd m
+placed_text words at rest placed (Quiet time) m = absurd m

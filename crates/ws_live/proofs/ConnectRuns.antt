@@ -6,7 +6,7 @@ use Rattle.std.proofs.Math.Seq.{drop-cons}
 use Rattle.std.proofs.lemmas.Bool.{cases_lt}
 use Rattle.std.proofs.lemmas.List.{append-nil, take_more}
 use Rattle.ws_code.specs.Code.{Rules}
-use Rattle.ws_code.specs.Device.{MayTake, MayGive}
+use Rattle.ws_code.specs.Device.{MayTake, MayGive, one_more}
 use Rattle.ws_code.specs.declared.fault.Fault.{Fault}
 use Rattle.ws_code.specs.declared.fault.Fault.TheVariants as fault
 use Rattle.ws_session.specs.Attachments.{AttachedParts}
@@ -21,6 +21,12 @@ use Rattle.ws_live.specs.declared.connect_line.Awaited.{Awaited}
 use Rattle.ws_live.specs.declared.connect_line.Awaited.TheVariants as awaits
 use Rattle.ws_live.specs.ConnectText.{refused_text, pressed, closing_of_both, IsMet, IsPressed, KeyRuns, ArePressed}
 use Rattle.ws_live.specs.ConnectText.{KeysRun, Hears, HasWaited, HearsOne, HearsNone, WaitsFor, IsWaited, IsUnwritten}
+use Rattle.ws_live.specs.ConnectText.{IsWorking, Reports, Shows, more_ahead, report_waits, rested}
+use Rattle.ws_live.specs.declared.watch.WaitSpan.TheVariants.{AtOnce}
+use Rattle.ws_live.specs.ReportLines.{IsReportText}
+use Rattle.ws_live.specs.declared.report.Report.{Report}
+use Rattle.ws_live.specs.declared.report.Report.TheVariants as reported
+use Rattle.ws_nego.specs.Station.{station_allows_records}
 use Rattle.ws_live.specs.KeyWords.{KeyWords}
 use Rattle.ws_live.specs.Operating.{OperatedOn}
 
@@ -39,6 +45,35 @@ ok_same a b e = cc
 
 ok_no_err : (a : Closing) (why : Fault) → ◌≡◌ {A = Result Closing Fault} (Ok a) (Err why) → ⊥
 ok_no_err a why e = cc
+
+-- a wait that is only to rest
+pub rested_other : (rests : Bool) (ended : Waited) → (ended ≡ waits.Late → ⊥) → ended ≡ rested rests ended
+rested_other rests waits.Met other = refl
+rested_other rests waits.Late other = absurd (other refl)
+rested_other rests waits.Ended other = refl
+rested_other rests (waits.Failed why) other = refl
+
+pub works_rested : (rests : Bool) (ended : Waited) (broken : Bool) → IsWorking ended broken
+    → IsWorking (rested rests ended) broken
+works_rested rests waits.Met broken h = h
+works_rested true waits.Late broken h = h
+works_rested false waits.Late broken h = h
+works_rested rests waits.Ended broken h = h
+works_rested rests (waits.Failed why) broken h = h
+
+-- one record more is ahead
+pub ahead_more : (ahead : ℕ) (told : List Applied) (one : Applied)
+    → one_more (more_ahead ahead told) ≡ more_ahead ahead (told ++ one ∷ [])
+ahead_more ahead [] one = refl
+ahead_more ahead (first ∷ told) one = ahead_more (one_more ahead) told one
+
+-- how long a report waits that is no note
+pub report_span : (report : Report) → ((note : List ℕ) → report ≡ reported.Note note → ⊥)
+    → report_waits report ≡ Some AtOnce
+report_span reported.Status other = refl
+report_span (reported.Cells cell) other = refl
+report_span (reported.Text span) other = refl
+report_span (reported.Note note) other = absurd (other note refl)
 
 both_pressed : (a b : Bool) → closing_of_both (pressed a) (pressed b) ≡ pressed (a && b)
 both_pressed true b = refl
@@ -137,14 +172,27 @@ module _ {D P U H PlaceV V Q R S K : Type 0} (rules : Rules P U) (d : DisplayOf 
   abbrev Parts : Type 0
   Parts = AttachedParts (PartsOn D P) S K
 
-  pub is_waited : (tells : S → Bool → Type 0) (operated : OperatedOn D) (from to : Parts) (awaited : Awaited)
-      (waited : Waited) → (awaited ≡ awaits.Record → ⊥)
+  pub is_waited : (tells rests : S → Bool → Type 0) (operated : OperatedOn D) (from to : Parts) (ahead : ℕ)
+      (awaited : Awaited) (waited : Waited) → (awaited ≡ awaits.Record → ⊥)
+      → ((time : ℕ) → awaited ≡ awaits.Quiet time → ⊥)
       → WaitsFor rules d takes failures gives misses tells (IsMet d.shown operated awaited) from waited to
-      → IsWaited rules d takes failures gives misses tells operated awaited from waited to
-  is_waited tells operated from to awaits.Turn waited other h = h
-  is_waited tells operated from to (awaits.Text text) waited other h = h
-  is_waited tells operated from to (awaits.At cell text) waited other h = h
-  is_waited tells operated from to awaits.Record waited other h = absurd (other refl)
+      → IsWaited rules d takes failures gives misses tells rests operated awaited (from, ahead) waited to
+  is_waited tells rests operated from to ahead awaits.Turn waited other loud h = h
+  is_waited tells rests operated from to ahead (awaits.Text text) waited other loud h = h
+  is_waited tells rests operated from to ahead (awaits.At cell text) waited other loud h = h
+  is_waited tells rests operated from to ahead awaits.Record waited other loud h = absurd (other refl)
+  is_waited tells rests operated from to ahead (awaits.Quiet time) waited other loud h = absurd (loud time refl)
+
+  -- a report that is no note
+  pub reports : (tells : S → Bool → Type 0) (report : Report) (from to : Parts × ℕ) (outcome : Result Closing Fault)
+      (text : List ℕ) → ((note : List ℕ) → report ≡ reported.Note note → ⊥)
+      → Shows rules d takes failures gives misses tells (λ station. IsReportText (d.shown station.screen)
+      (station_allows_records station.options) station.records station.live.taken report) from outcome text to
+      → Reports rules d takes failures gives misses tells report from outcome text to
+  reports tells reported.Status from to outcome text other h = h
+  reports tells (reported.Cells cell) from to outcome text other h = h
+  reports tells (reported.Text span) from to outcome text other h = h
+  reports tells (reported.Note note) from to outcome text other h = absurd (other note refl)
 
   module _ (Met : D → Type 0) where
     pub waited_more : (from mid to : Parts) (told : List Applied) (one : Applied)

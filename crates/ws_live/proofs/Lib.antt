@@ -20,3 +20,5 @@ pub mod ShownTexts
 pub mod StationLines
 pub mod StrokeRuns
 pub mod StrokeWords
+pub mod ToldTexts
+pub mod WireWords

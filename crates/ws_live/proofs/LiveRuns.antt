@@ -6,11 +6,9 @@ use Rattle.std.proofs.Math.Seq.{drop-cons}
 use Rattle.std.proofs.lemmas.List.{append-nil, take_more}
 use Rattle.ws_code.specs.Device.{MayTake, WentOut, FailedWithin}
 use Rattle.ws_code.specs.declared.fault.Fault.{Fault}
-use Rattle.std.proofs.lemmas.Bool.{false≢true}
 use Rattle.ws_code.proofs.DeviceLaws.{went_out_both}
 use Rattle.ws_code.proofs.Parts.{fails_last}
 use Rattle.ws_live.specs.declared.live.Closing.{Closing}
-use Rattle.ws_live.specs.declared.live.Closing.TheVariants.{Nothing, Done, Declined, Late, Ended, Stopped}
 use Rattle.ws_live.specs.declared.live.Ran.{Ran}
 use Rattle.ws_text.specs.declared.output.Output.{Output}
 use Rattle.ws_text.specs.declared.output.Output.TheVariants.{Open, Failed as Unwritten}
@@ -27,29 +25,6 @@ and_true false = refl
 and_assoc : (a b c : Bool) → ((a && b) && c) ≡ (a && (b && c))
 and_assoc true b c = refl
 and_assoc false b c = refl
-
-and_false : (b : Bool) → (b && false) ≡ false
-and_false true = refl
-and_false false = refl
-
--- a line that ends the session stopped it, and nothing was well then
-pub stopped_ran : (ran : Ran) (closing : Closing) → (ran_and ran (ran_by closing)).is_over ≡ true → (closing ≡ Stopped)
-    × (ran_and ran (ran_by closing) ≡ ran_by Stopped)
-stopped_ran ran Nothing over = absurd (false≢true over)
-stopped_ran ran Done over = absurd (false≢true over)
-stopped_ran ran Declined over = absurd (false≢true over)
-stopped_ran ran Late over = absurd (false≢true over)
-stopped_ran ran Ended over = absurd (false≢true over)
-stopped_ran ran Stopped over = (
-  refl,
-  ap (λ (b : Bool). let r : Ran = record { all_well = b; is_over = true } in r)
-      (and_false ran.all_well),
-)
-
--- nothing stands behind it
-stop_text : (ready : Bool) → closing_text ready Stopped ≡ []
-stop_text true = refl
-stop_text false = refl
 
 module _ {L P : Type 0} (runs : L → P → Result Closing Fault → List ℕ → P → Type 0) (ready : Bool) where
   pub run_none : (from : P) → HaveRun runs ready from [] true [] from
@@ -124,18 +99,20 @@ module _ {L P : Type 0} (runs : L → P → Result Closing Fault → List ℕ �
           → (ran_and ran (ran_by closing)).is_over
           ≡ true
           → HasRun runs ready takes failures from to old new lines (ran_and ran (ran_by closing))
-      ends_here after lines split closing one over =
-          let is = stopped_ran ran closing over in
-          let stopped : runs line mid (Ok Stopped) one.0 to = subst (λ (k : Closing). runs line mid (Ok k) one.0 to)
-          is.0
-          one.1 in
-          let text : one.0 ++ closing_text ready closing ≡ one.0 = ap (λ k. one.0 ++ closing_text ready k) is.0
-          ∙ ap (λ z. one.0 ++ z) (stop_text ready) ∙ append-nil one.0 in (
-            printed ++ one.0,
-            inr (stopped_at after lines split (Ok Stopped) one.0 stopped, is.1),
-            subst (λ (z : List ℕ). WentOut takes failures old new (printed ++ z)) text
-                (went_out_both takes failures old between new printed (one.0 ++ closing_text ready closing) out one.2),
-          )
+      unfolding stopped_at
+      ends_here after lines split closing one over = (
+        (printed ++ one.0) ++ closing_text ready closing,
+        inr (record {
+          closing = closing;
+          last = printed ++ one.0;
+          at = stopped_at after lines split (Ok closing) one.0 one.1;
+          over = over;
+          came = ap (λ (b : Bool). let r : Ran = record { all_well = ran.all_well && is_well closing; is_over = b } in r) over;
+          all = refl;
+        }),
+        subst (WentOut takes failures old new) (sym (append_assoc printed one.0 (closing_text ready closing)))
+            (went_out_both takes failures old between new printed (one.0 ++ closing_text ready closing) out one.2),
+      )
 
       out_both : (output : Output) (last : List ℕ) → IsOut takes failures between new output last
           → IsOut takes failures old new output (printed ++ last)

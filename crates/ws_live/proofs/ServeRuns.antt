@@ -30,11 +30,12 @@ use Rattle.ws_text.specs.Printing.{IsOut}
 use Rattle.ws_text.specs.declared.output.Output.{Output}
 use Rattle.ws_text.specs.declared.output.Output.TheVariants.{Open, Failed as Unwritten}
 use Rattle.ws_live.specs.declared.live.Closing.{Closing}
-use Rattle.ws_live.specs.declared.live.Closing.TheVariants.{Nothing, Done, Declined, Late, Ended, Stopped}
+use Rattle.ws_live.specs.declared.live.Closing.TheVariants.{Nothing, Done, Declined, Late, Ended, Stopped, Closed}
 use Rattle.ws_live.specs.declared.live.Ran.{Ran}
 use Rattle.ws_live.specs.declared.serve_line.AnswerAwaited.{AnswerAwaited}
 use Rattle.ws_live.specs.declared.serve_line.HostLine.{HostLine}
 use Rattle.ws_live.specs.declared.serve_line.HostLine.TheVariants.{Await}
+use Rattle.ws_live.specs.declared.watch.WaitSpan.{WaitSpan}
 use Rattle.ws_live.proofs.LiveRuns.{run_more}
 
 -- A host's lines, and what is told behind them.
@@ -60,6 +61,7 @@ told_done Declined e = absurd (false≢true e)
 told_done Late e = absurd (false≢true e)
 told_done Ended e = absurd (false≢true e)
 told_done Stopped e = absurd (false≢true e)
+told_done Closed e = absurd (false≢true e)
 
 -- a wait with something that was told stops nothing
 pub told_goes : (closing : Closing) → is_told closing ≡ true → stops closing ≡ false
@@ -68,6 +70,9 @@ told_goes closing e = ap stops (told_done closing e)
 module _ {S K : Type 0} (takes : MayTake K) (failures : K → ℕ) (gives : MayGive S) (misses : S → ℕ) where
   abbrev Parts : Type 0
   Parts = AttachedParts HostParts S K
+
+  abbrev Ends : Type 0
+  Ends = Parts × ℕ
 
   module _ (order deed : Order) (is : deed_of order ≡ deed) (from to : Parts) where
     abbrev Unsent : Order → Fault → Type 0
@@ -113,12 +118,12 @@ module _ {S K : Type 0} (takes : MayTake K) (failures : K → ℕ) (gives : MayG
   told_behind awaited from mid to (first ∷ told) one h heard other =
       (h.0, h.1, h.2, told_behind awaited h.0 mid to told one h.3 heard other)
 
-  module _ {W : Type 0} (tells : S → Bool → Type 0) (begins : W → S → W → Type 0) (begun : W → ℕ) where
-    abbrev Runs : HostLine → (Parts × W) → Result Closing Fault → List ℕ → (Parts × W) → Type 0
+  module _ {W : Type 0} (tells : S → Bool → Type 0) (begins : W → S → WaitSpan → W → Type 0) (begun : W → ℕ) where
+    abbrev Runs : HostLine → (Ends × W) → Result Closing Fault → List ℕ → (Ends × W) → Type 0
     Runs = InTime (HostRuns takes failures gives misses tells) host_waits begins begun
 
     -- one thing more is told
-    pub told_more : (from mid to : Parts × W) (count : ℕ) (printed last : List ℕ) → HaveRun Runs false from
+    pub told_more : (from mid to : Ends × W) (count : ℕ) (printed last : List ℕ) → HaveRun Runs false from
         (replicate count Await) true printed mid → Hears takes failures gives misses tells begins begun mid (Ok Done) last to
         → HaveRun Runs false from (replicate (count + 1) Await) true (printed ++ last) to
     told_more from mid to count printed last h r =
@@ -130,7 +135,7 @@ module _ {S K : Type 0} (takes : MayTake K) (failures : K → ℕ) (gives : MayG
         (run_more Runs false from mid to (replicate count Await) Await true printed last Done h r refl))
 
     -- things were told and printed, and what came then
-    module _ {O : Type 0} (prints : MayTake O) (misprints : O → ℕ) (from mid to : Parts × W) (old between new : O)
+    module _ {O : Type 0} (prints : MayTake O) (misprints : O → ℕ) (from mid to : Ends × W) (old between new : O)
         (count : ℕ) (printed : List ℕ)
         (h : HaveRun Runs false from (replicate count Await) true printed mid)
         (out : WentOut prints misprints old between printed) where
@@ -189,7 +194,7 @@ module _ {S K : Type 0} (takes : MayTake K) (failures : K → ℕ) (gives : MayG
             ),
           ))
 
-    module _ {O : Type 0} (prints : MayTake O) (misprints : O → ℕ) (from to : Parts × W) (old new : O)
+    module _ {O : Type 0} (prints : MayTake O) (misprints : O → ℕ) (from to : Ends × W) (old new : O)
         (printed : List ℕ) where
       pub too_much_told : (count : ℕ) → HaveRun Runs false from (replicate count Await) true printed to
           → WentOut prints misprints old new printed → count ≡ most_reads
@@ -205,22 +210,22 @@ module _ {S K : Type 0} (takes : MayTake K) (failures : K → ℕ) (gives : MayG
             ),
           ))
 
-    module _ (ready : Bool) (from mid : Parts × W) (lines : List HostLine) (ran : Ran) (printed : List ℕ)
+    module _ (ready : Bool) (from mid : Ends × W) (lines : List HostLine) (ran : Ran) (printed : List ℕ)
         (h : IsLiveText Runs ready from lines ran printed mid) where
       pub stopped_text : ran.is_over ≡ true → IsServeText takes failures gives misses tells begins begun ready from lines
           ran.all_well printed mid
       stopped_text over = elim h [
         | inl all ↦ absurd (false≢true (sym all.1 ∙ over))
-        | inr at ↦ inr (at.0, ap (λ r. r.all_well) at.1)
+        | inr at ↦ inr (ran, at, refl)
       ]
 
       pub all_run : ran.is_over ≡ false → HaveRun Runs ready from lines ran.all_well printed mid
       all_run going = elim h [
         | inl all ↦ all.0
-        | inr at ↦ absurd (false≢true (sym going ∙ ap (λ r. r.is_over) at.1))
+        | inr at ↦ absurd (false≢true (sym going ∙ ap (λ r. r.is_over) at.came))
       ]
 
-      pub answered_text : (to : Parts × W) (is_well : Bool) (told : List ℕ) → ran.is_over ≡ false
+      pub answered_text : (to : Ends × W) (is_well : Bool) (told : List ℕ) → ran.is_over ≡ false
           → IsAnsweringText takes failures gives misses tells begins begun mid is_well told to
           → IsServeText takes failures gives misses tells begins begun ready from lines (ran.all_well && is_well)
           (printed ++ told) to

@@ -16,7 +16,6 @@ use Rattle.ws_text.proofs.LineEnds.{some_lines}
 use Rattle.ws_live.specs.LiveScript.{IsBlockFault}
 use Rattle.ws_live.specs.ServeLines.{AreBadAt, BeginsHostLine, IsBadHostLineAt, IsHostLine, OpensHostBlock, SendsAlone}
 use Rattle.ws_live.specs.declared.script.ScriptFault.TheVariants.{Line}
-use Rattle.ws_live.specs.declared.serve_line.HostLine.{HostLine}
 
 -- Records that are told in words.
 

@@ -1,8 +1,8 @@
-use Rattle.std.proofs.Common.{◌≡◌, ℕ, ◌+◌, ◌-◌, ◌*◌, ◌/◌, ◌%◌, ◌<◌, ◌≤◌, List, [], ◌∷◌, ◌++◌, Bool, true, false, All, Some, None}
-use Rattle.std.proofs.Common.{Option, length, get_or, map, cond, nat_lt, if◌then◌else◌, unwrap_or, slice_index, inl, inr}
+use Rattle.std.proofs.Common.{◌≡◌, ℕ, ◌+◌, ◌-◌, ◌*◌, ◌/◌, ◌%◌, ◌<◌, ◌≤◌, List, [], ◌∷◌, ◌++◌, Bool, true, false, Some, None}
+use Rattle.std.proofs.Common.{Option, length, map, cond, nat_lt, if◌then◌else◌, unwrap_or, slice_index, inl, inr}
 use Rattle.std.proofs.Common.{refl, sym, ap, ◌∙◌, subst, arith}
 use Rattle.std.specs.Char.{encode_utf8}
-use Rattle.std.specs.Prelude.{◌==◌, ◌||◌, slice_range}
+use Rattle.std.specs.Prelude.{◌==◌, ◌||◌}
 use Rattle.std.specs.List.{Contains, range_with_len}
 use Rattle.std.specs.Str.{encode_utf8_all}
 use Rattle.std.specs.Str.Iter.{HasSubslice}
@@ -14,7 +14,7 @@ use Rattle.std.proofs.lemmas.List.FromFn.{get_or-map-range_with_len, length-map-
 use Rattle.ws_code.specs.Ebcdic.{char_of}
 use Rattle.ws_stream.specs.FieldOrder.{is_attribute}
 use Rattle.ws_screen.specs.Attributes.{is_hidden}
-use Rattle.ws_screen.specs.Lines.{attribute_at, row_chars, shown_at, shown_char, shown_row, shown_under}
+use Rattle.ws_screen.specs.Lines.{attribute_at, row_chars, shown_at, shown_row, shown_under}
 use Rattle.ws_screen.specs.declared.lines.TheConstants.{DUP}
 use Rattle.ws_live.specs.ReportLines.{row_bytes}
 use Rattle.ws_live.specs.ShownTexts.{IsNeededBy, IsOnlyFor}

@@ -13,7 +13,7 @@ use Rattle.ws_live.specs.KeyWords.{KeyWords}
 use Rattle.ws_live.specs.Script.{typed_key}
 use Rattle.ws_live.specs.ScriptFaults.{IsNoComment, has_no_blank}
 use Rattle.ws_live.specs.declared.connect_line.StationLine.{StationLine}
-use Rattle.ws_live.specs.declared.connect_line.StationLine.TheVariants.{Nothing, Press, Await, Fields, Show}
+use Rattle.ws_live.specs.declared.connect_line.StationLine.TheVariants.{Nothing, Press, Await, Fields, Show, Bad}
 use Rattle.ws_live.specs.declared.connect_line.StationLine.TheVariants.{Stroke as StrokeLine, Report as ReportLine}
 use Rattle.ws_live.specs.declared.report.Report.{Report}
 use Rattle.ws_live.specs.declared.report.Report.TheVariants.{Status, Cells, Text as ShownText, Note}
@@ -70,6 +70,7 @@ module _ {Q : Type 0} (w : KeyWords Q) where
   no_station_word word some free plain na ne nn nf ns nt (Await awaited) m = no_wait word awaited free na m
   no_station_word word some free plain na ne nn nf ns nt Fields m = nf m
   no_station_word word some free plain na ne nn nf ns nt Show m = ns m
+  no_station_word word some free plain na ne nn nf ns nt (Bad cause) m = m
   no_station_word word some free plain na ne nn nf ns nt (ReportLine report) m = no_report word report free nt m
 
   -- what a command and its words say
@@ -139,6 +140,7 @@ module _ {Q : Type 0} (w : KeyWords Q) where
   says command words free plain (Await awaited) m = waits_say command words awaited free m
   says command words free plain Fields m = blank_inside command words (ap has_no_blank m)
   says command words free plain Show m = blank_inside command words (ap has_no_blank m)
+  says command words free plain (Bad cause) m = m
   says command words free plain (ReportLine report) m = report_says command words report free m
 
   -- THE COMMANDS OF A LINE
@@ -177,6 +179,7 @@ module _ {Q : Type 0} (w : KeyWords Q) where
   by_command command words (Await awaited) h = by_word (Await awaited) command (codes "await") h.0 refl
   by_command command words Fields h = absurd h
   by_command command words Show h = absurd h
+  by_command command words (Bad cause) h = absurd h
   by_command command words (ReportLine Status) h = absurd h
   by_command command words (ReportLine (Cells cell)) h =
       by_word (ReportLine (Cells cell)) command (codes "cells") h.0 refl
@@ -203,6 +206,7 @@ module _ {Q : Type 0} (w : KeyWords Q) where
   other_says command words other Nothing h = h
   other_says command words other Fields h = h
   other_says command words other Show h = h
+  other_says command words other (Bad cause) h = h
   other_says command words other (ReportLine Status) h = h
   other_says command words other (ReportLine (Cells cell)) h = other.6 h.0
   other_says command words other (ReportLine (ShownText span)) h = other.7 h.0

@@ -10,7 +10,7 @@ use Rattle.ws_text.specs.Words.{IsCell, IsNumber, IsSmall}
 use Rattle.ws_live.specs.KeyWords.{KeyWords}
 use Rattle.ws_live.specs.Script.{typed_key}
 use Rattle.ws_live.specs.declared.connect_line.StationLine.{StationLine}
-use Rattle.ws_live.specs.declared.connect_line.StationLine.TheVariants.{Nothing, Press, Await, Fields, Show}
+use Rattle.ws_live.specs.declared.connect_line.StationLine.TheVariants.{Nothing, Press, Await, Fields, Show, Bad}
 use Rattle.ws_live.specs.declared.connect_line.StationLine.TheVariants.{Stroke as StrokeLine}
 use Rattle.ws_live.specs.declared.connect_line.StationLine.TheVariants.{Report as ReportLine}
 use Rattle.ws_live.specs.declared.report.Report.{Report}
@@ -20,7 +20,7 @@ use Rattle.ws_live.specs.declared.stroke.Filling.{Filling}
 use Rattle.ws_live.specs.declared.stroke.Stroke.{Stroke}
 use Rattle.ws_live.specs.declared.stroke.Stroke.TheVariants.{Cursor, NewLine, EraseEof, Fill}
 use Rattle.ws_live.specs.declared.connect_line.Awaited.{Awaited}
-use Rattle.ws_live.specs.declared.connect_line.Awaited.TheVariants.{Turn, Record, Text, At}
+use Rattle.ws_live.specs.declared.connect_line.Awaited.TheVariants.{Turn, Record, Text, At, Quiet}
 
 -- an empty line, or a comment
 abbrev pub IsNothing : List ℕ → Type 0
@@ -53,6 +53,18 @@ abbrev pub IsPlacedText : List ℕ → Awaited → Type 0
 IsPlacedText words (At cell text) = IsPlaced words cell (string_bytes text) × (string_bytes text ≢ [])
 IsPlacedText words awaited = ⊥
 
+-- a time in milliseconds, up to an hour
+abbrev pub IsMilliseconds : List ℕ → ℕ → Type 0
+IsMilliseconds word time = IsNumber word time × (1 ≤ time) × (time ≤ 3600000)
+
+-- the words of a wait for quiet
+abbrev pub IsQuiet : List ℕ → ℕ → Type 0
+IsQuiet words time = (word : List ℕ) × (words ≡ codes "quiet " ++ word) × IsMilliseconds word time
+
+abbrev pub IsQuietAwaited : List ℕ → Awaited → Type 0
+IsQuietAwaited words (Quiet time) = IsQuiet words time
+IsQuietAwaited words awaited = ⊥
+
 -- what is awaited by the words behind `await`
 abbrev pub IsAwaited : List ℕ → Awaited → Type 0
 IsAwaited words Turn = ⊥
@@ -60,6 +72,7 @@ IsAwaited words Record = words ≡ codes "record"
 IsAwaited words (Text text) = (words ≡ codes "text " ++ string_bytes text) × (string_bytes text ≢ [])
 IsAwaited words (At cell text) = (placed : List ℕ) × (words ≡ codes "at " ++ placed)
     × IsPlacedText placed (At cell text)
+IsAwaited words (Quiet time) = IsQuiet words time
 
 -- the lines that wait
 abbrev pub MeansWait : List ℕ → Awaited → Type 0
@@ -145,7 +158,7 @@ module _ {Q : Type 0} (w : KeyWords Q) where
   MeansStroke line EraseEof = line ≡ codes "erase"
   MeansStroke line (Fill filling) = (words : List ℕ) × (line ≡ codes "field " ++ words) × IsFilling words filling
 
-  -- what a line means
+  -- what a line means; none means one that is bad
   abbrev pub Means : List ℕ → StationLine Q → Type 0
   Means line Nothing = IsNothing line
   Means line (Press keys) = MeansKeys line keys
@@ -154,6 +167,7 @@ module _ {Q : Type 0} (w : KeyWords Q) where
   Means line Fields = line ≡ codes "fields"
   Means line Show = line ≡ codes "show"
   Means line (ReportLine report) = MeansReport line report
+  Means line (Bad cause) = ⊥
 
   -- a line of such a script, which is UTF-8
   abbrev pub IsStationLine : List ℕ → StationLine Q → Type 0

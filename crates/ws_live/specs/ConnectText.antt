@@ -1,10 +1,10 @@
 -- What a line of a script for a station does there, and what it prints, by the station's display.
 
-use Rattle.std.specs.Prelude.{◌≡◌, ◌≢◌, ℕ, List, [], ◌∷◌, ◌++◌, ◌⊎◌, Bool, true, false, ◌&&◌, Option, None, Some}
-use Rattle.std.specs.Prelude.{IfSome, IfNone, is_none}
+use Rattle.std.specs.Prelude.{◌≡◌, ◌≢◌, ℕ, ◌<◌, List, [], ◌∷◌, ◌++◌, ◌⊎◌, Bool, true, false, ◌&&◌, Option, None}
+use Rattle.std.specs.Prelude.{Some, IfSome, IfNone, is_none}
 use Rattle.std.specs.Prelude.{Result, Ok, Err, string_bytes, length, if◌then◌else◌, codes, encode_utf8}
 use Rattle.ws_code.specs.Code.{Rules}
-use Rattle.ws_code.specs.Device.{MayTake, MayGive, most_reads}
+use Rattle.ws_code.specs.Device.{MayTake, MayGive, most_reads, one_more}
 use Rattle.ws_code.specs.declared.fault.Fault.{Fault}
 use Rattle.ws_code.specs.declared.fault.Fault.TheVariants as fault
 use Rattle.ws_nego.specs.Station.{station_allows_records}
@@ -19,18 +19,20 @@ use Rattle.ws_session.specs.declared.key_fault.KeyFault.{KeyFault}
 use Rattle.ws_session.specs.declared.world.Event.TheVariants.{StationRefused}
 use Rattle.ws_live.specs.FieldLines.{AreFieldLines}
 use Rattle.ws_live.specs.PlayLines.{event_text, key_fault_name}
-use Rattle.ws_live.specs.ReportLines.{IsReportText}
+use Rattle.ws_live.specs.ReportLines.{IsReportText, note_line}
 use Rattle.ws_live.specs.ScreenLines.{IsDisplayText}
 use Rattle.ws_live.specs.ShownTexts.{BeginsAt, ShowsText}
 use Rattle.ws_live.specs.declared.connect.Waited.{Waited}
 use Rattle.ws_live.specs.declared.connect.Waited.TheVariants.{Met, Late as WasLate, Ended as HasEnded, Failed}
 use Rattle.ws_live.specs.declared.connect_line.StationLine.{StationLine}
 use Rattle.ws_live.specs.declared.connect_line.StationLine.TheVariants.{Nothing as NoLine, Press, Stroke, Await}
-use Rattle.ws_live.specs.declared.connect_line.StationLine.TheVariants.{Fields, Show, Report}
+use Rattle.ws_live.specs.declared.connect_line.StationLine.TheVariants.{Fields, Show, Report, Bad}
 use Rattle.ws_live.specs.declared.connect_line.Awaited.{Awaited}
-use Rattle.ws_live.specs.declared.connect_line.Awaited.TheVariants.{Turn, Record, Text, At}
+use Rattle.ws_live.specs.declared.connect_line.Awaited.TheVariants.{Turn, Record, Text, At, Quiet}
+use Rattle.ws_live.specs.declared.report.Report.{Report as AReport}
+use Rattle.ws_live.specs.declared.report.Report.TheVariants.{Note}
 use Rattle.ws_live.specs.KeyWords.{KeyWords}
-use Rattle.ws_live.specs.LiveText.{IsLiveText}
+use Rattle.ws_live.specs.LiveText.{IsLiveText, bad_outcome, bad_text}
 use Rattle.ws_live.specs.Operating.{OperatedOn}
 use Rattle.ws_live.specs.Stroking.{no_field_text, stroke_keys}
 use Rattle.ws_live.specs.Waits.{InTime}
@@ -38,11 +40,26 @@ use Rattle.ws_live.specs.declared.live.Ran.{Ran}
 use Rattle.ws_live.specs.declared.live.Closing.{Closing}
 use Rattle.ws_live.specs.declared.paint.Paint.{Paint}
 use Rattle.ws_live.specs.declared.live.Closing.TheVariants.{Nothing, Done, Declined, Late, Ended, Stopped}
+use Rattle.ws_live.specs.declared.watch.WaitSpan.{WaitSpan}
+use Rattle.ws_live.specs.declared.watch.WaitSpan.TheVariants.{Whole, AtOnce, Quiet as UntilQuiet}
 
--- the line is one that waits
-abbrev pub station_waits : {Q : Type 0} → StationLine Q → Bool
-station_waits (Await awaited) = true
-station_waits line = false
+-- how long a wait for this lasts
+abbrev pub span_of : Awaited → WaitSpan
+span_of (Quiet time) = UntilQuiet time
+span_of awaited = Whole
+
+-- how long a line waits that reports: not at all where it only prints a note
+abbrev pub report_waits : AReport → Option WaitSpan
+report_waits (Note note) = None
+report_waits report = Some AtOnce
+
+-- how long a line waits, if it does: one that shows something takes what has come
+abbrev pub station_waits : {Q : Type 0} → StationLine Q → Option WaitSpan
+station_waits (Await awaited) = Some (span_of awaited)
+station_waits Fields = Some AtOnce
+station_waits Show = Some AtOnce
+station_waits (Report report) = report_waits report
+station_waits line = None
 
 -- how a line that waits closes
 abbrev pub waited_outcome : Waited → Result Closing Fault
@@ -60,6 +77,11 @@ waited_text waited = []
 -- what becomes of a wait at which a read failed, late or not
 abbrev pub unread_by : Bool → Waited
 unread_by late = if late then WasLate else Failed fault.Read
+
+-- a wait that only has to rest is met where its time was over since nothing came
+abbrev pub rested : Bool → Waited → Waited
+rested rests WasLate = if rests then Met else WasLate
+rested rests waited = waited
 
 -- after a wait that no fault ended the end goes on
 abbrev pub IsWorking : Waited → Bool → Type 0
@@ -89,12 +111,18 @@ abbrev pub closing_of_both : Closing → Closing → Closing
 closing_of_both Done next = next
 closing_of_both closing next = closing
 
--- what is awaited holds of a display, which shows this screen; a record is awaited by itself
+-- how many records are ahead behind these: one more for each, as far as 64 bits count
+abbrev pub more_ahead : ℕ → List Applied → ℕ
+more_ahead ahead [] = ahead
+more_ahead ahead (one ∷ told) = more_ahead (one_more ahead) told
+
+-- what is awaited holds of a display, which shows this screen; a record is awaited by itself, and so is quiet
 abbrev pub IsMet : {D : Type 0} → (D → ScreenParts) → OperatedOn D → Awaited → D → Type 0
 IsMet shown operated Turn display = operated.IsTurn display
 IsMet shown operated (Text text) display = ShowsText (shown display).cells (string_bytes text)
 IsMet shown operated (At cell text) display = BeginsAt (shown display).cells cell (string_bytes text)
 IsMet shown operated Record display = Unit {0}
+IsMet shown operated (Quiet time) display = ⊥
 
 module _ {D P U H PlaceV V Q R : Type 0} (rules : Rules P U) (d : DisplayOf D U H PlaceV V Q R) where
   module _ {S K : Type 0} (takes : MayTake K) (failures : K → ℕ) (gives : MayGive S) (misses : S → ℕ) where
@@ -192,36 +220,77 @@ module _ {D P U H PlaceV V Q R : Type 0} (rules : Rules P U) (d : DisplayOf D U 
           ⊎ ((told : List Applied) × HasWaited Met' from told to × (length told ≡ most_reads)
           × (waited ≡ Failed fault.Read)))
 
-      -- Lines of an operator at it.
-      module _ (operated : OperatedOn D) where
-        -- what is awaited: one more record, or a display by which it is met
-        abbrev pub IsWaited : Awaited → Parts → Waited → Parts → Type 0
-        IsWaited Record from waited to = HearsOne from waited to
-        IsWaited awaited from waited to = WaitsFor (IsMet d.shown operated awaited) from waited to
+      -- all records that came in a wait were applied, and this ended it
+      abbrev pub TakesAll : Parts → List Applied → Waited → Parts → Type 0
+      TakesAll from told ended to = (mid : Parts) × HasWaited (λ display. ⊥) from told mid
+          × (HearsNone mid ended to ⊎ ((length told ≡ most_reads) × (to ≡ mid) × (ended ≡ Failed fault.Read)))
 
-        -- and of keys by these words
-        module _ (w : KeyWords Q) where
-          -- a line at a station, how it closed, and what it printed, with screens in a paint; the keys of a stroke are
-          -- those at the screen that the station then has
-          abbrev pub StationRuns : Paint → StationLine Q → Parts → Result Closing Fault → List ℕ → Parts → Type 0
-          StationRuns paint NoLine from outcome text to = (to ≡ from) × (outcome ≡ Ok Nothing) × (text ≡ [])
-          StationRuns paint (Press keys) from outcome text to = KeysRun w keys from outcome text to
-          StationRuns paint (Stroke stroke) from outcome text to =
-              StrokeRuns w (stroke_keys w (d.shown from.end.screen) stroke) from outcome text to
-          StationRuns paint (Await awaited) from outcome text to = (waited : Waited) × IsWaited awaited from waited to
-              × (outcome ≡ waited_outcome waited) × (text ≡ waited_text waited)
-          StationRuns paint Fields from outcome text to = (to ≡ from) × (outcome ≡ Ok Done)
-              × AreFieldLines (d.shown from.end.screen) text
-          StationRuns paint Show from outcome text to = (to ≡ from) × (outcome ≡ Ok Done)
-              × IsDisplayText paint (d.shown from.end.screen) (operated.behind from.end.screen) text
-          StationRuns paint (Report report) from outcome text to = (to ≡ from) × (outcome ≡ Ok Done)
-              × IsReportText (d.shown from.end.screen) (station_allows_records from.end.options) from.end.records
-              from.end.live.taken report text
+      -- A line that shows something of a station: the records that have come are applied first, and are ahead then;
+      -- behind its text stands what there was behind them, if not only that no more has come.
+      pub record Shows (IsText : PartsOn D P → List ℕ → Type 0) (from : Parts × ℕ) (outcome : Result Closing Fault)
+          (text : List ℕ) (to : Parts × ℕ) : Type 0 where
+        pub told : List Applied
+        pub ended : Waited
+        pub taken : TakesAll from.0 told ended to.0
+        pub ahead : to.1 ≡ more_ahead from.1 told
+        pub shown : List ℕ
+        pub is : IsText to.0.end shown
+        pub closes : outcome ≡ waited_outcome (rested true ended)
+        pub all : text ≡ shown ++ waited_text (rested true ended)
 
-          -- what the lines of a script at a station print, and whether all went well
-          module _ {W : Type 0} (begins : W → S → W → Type 0) (begun : W → ℕ) where
-            abbrev pub IsConnectText : Paint → Bool → (Parts × W) → List (StationLine Q) → Bool → List ℕ → (Parts × W)
-                → Type 0
-            IsConnectText paint ready from lines all_well text to = (ran : Ran)
-                × IsLiveText (InTime (StationRuns paint) station_waits begins begun) ready from lines ran text to
-                × (all_well ≡ ran.all_well)
+      -- a line that reports: a note is printed as it is
+      abbrev pub Reports : AReport → (Parts × ℕ) → Result Closing Fault → List ℕ → (Parts × ℕ) → Type 0
+      Reports (Note note) from outcome text to = (to ≡ from) × (outcome ≡ Ok Done) × (text ≡ note_line note)
+      Reports report from outcome text to = Shows (λ station. IsReportText (d.shown station.screen)
+          (station_allows_records station.options) station.records station.live.taken report) from outcome text to
+
+      -- a wait for a record is met at once where one is ahead
+      abbrev pub IsNext : ℕ → Parts → Waited → Parts → Type 0
+      IsNext ahead from waited to = ((0 < ahead) × (to ≡ from) × (waited ≡ Met))
+          ⊎ ((ahead ≡ 0) × HearsOne from waited to)
+
+      -- The same watch tells whether nothing had come for the time of a quiet wait.
+      module _ (rests : S → Bool → Type 0) where
+        -- a wait for quiet takes all records, and is met where it was over since nothing came
+        abbrev pub IsQuieted : Parts → Waited → Parts → Type 0
+        IsQuieted from waited to = (told : List Applied) × (ended : Waited) × (quiet : Bool)
+            × TakesAll from told ended to × rests to.source quiet × (waited ≡ rested quiet ended)
+
+        -- Lines of an operator at it.
+        module _ (operated : OperatedOn D) where
+          -- what is awaited: one more record, quiet, or a display by which it is met
+          abbrev pub IsWaited : Awaited → (Parts × ℕ) → Waited → Parts → Type 0
+          IsWaited Record from waited to = IsNext from.1 from.0 waited to
+          IsWaited (Quiet time) from waited to = IsQuieted from.0 waited to
+          IsWaited awaited from waited to = WaitsFor (IsMet d.shown operated awaited) from.0 waited to
+
+          -- and of keys by these words
+          module _ (w : KeyWords Q) where
+            -- A line at a station, how it closed, and what it printed, with screens in a paint; the keys of a stroke
+            -- are those at the screen that the station then has. Behind a line that waits or presses keys no record is
+            -- ahead.
+            abbrev pub StationRuns : Paint → StationLine Q → (Parts × ℕ) → Result Closing Fault → List ℕ
+                → (Parts × ℕ) → Type 0
+            StationRuns paint NoLine from outcome text to = (to ≡ from) × (outcome ≡ Ok Nothing) × (text ≡ [])
+            StationRuns paint (Press keys) from outcome text to = KeysRun w keys from.0 outcome text to.0 × (to.1 ≡ 0)
+            StationRuns paint (Stroke stroke) from outcome text to =
+                StrokeRuns w (stroke_keys w (d.shown from.0.end.screen) stroke) from.0 outcome text to.0 × (to.1 ≡ 0)
+            StationRuns paint (Await awaited) from outcome text to = (waited : Waited)
+                × IsWaited awaited from waited to.0 × (outcome ≡ waited_outcome waited) × (text ≡ waited_text waited)
+                × (to.1 ≡ 0)
+            StationRuns paint Fields from outcome text to =
+                Shows (λ station. AreFieldLines (d.shown station.screen)) from outcome text to
+            StationRuns paint Show from outcome text to =
+                Shows (λ station. IsDisplayText paint (d.shown station.screen) (operated.behind station.screen)) from
+                outcome text to
+            StationRuns paint (Report report) from outcome text to = Reports report from outcome text to
+            StationRuns paint (Bad cause) from outcome text to = (to ≡ from) × (outcome ≡ bad_outcome)
+                × (text ≡ bad_text (string_bytes cause))
+
+            -- what the lines of a script at a station print, and whether all went well
+            module _ {W : Type 0} (begins : W → S → WaitSpan → W → Type 0) (begun : W → ℕ) where
+              abbrev pub IsConnectText : Paint → Bool → ((Parts × ℕ) × W) → List (StationLine Q) → Bool → List ℕ
+                  → ((Parts × ℕ) × W) → Type 0
+              IsConnectText paint ready from lines all_well text to = (ran : Ran)
+                  × IsLiveText (InTime (StationRuns paint) station_waits begins begun) ready from lines ran text to
+                  × (all_well ≡ ran.all_well)

@@ -20,4 +20,6 @@ pub mod ServeLines
 pub mod ServeText
 pub mod ShownTexts
 pub mod Stroking
+pub mod ToldLines
 pub mod Waits
+pub mod WireLines

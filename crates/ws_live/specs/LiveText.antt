@@ -6,7 +6,7 @@ use Rattle.ws_code.specs.declared.fault.Fault.{Fault}
 use Rattle.ws_code.specs.declared.fault.Fault.TheVariants.{Write}
 use Rattle.ws_text.specs.Printing.{IsOut}
 use Rattle.ws_live.specs.declared.live.Closing.{Closing}
-use Rattle.ws_live.specs.declared.live.Closing.TheVariants.{Nothing, Done, Declined, Late, Ended, Stopped}
+use Rattle.ws_live.specs.declared.live.Closing.TheVariants.{Nothing, Done, Declined, Late, Ended, Stopped, Closed}
 use Rattle.ws_live.specs.declared.live.Ran.{Ran}
 use Rattle.ws_text.specs.declared.output.Output.{Output}
 
@@ -18,6 +18,7 @@ closing_word Declined = []
 closing_word Late = codes "late\n"
 closing_word Ended = codes "ended\n"
 closing_word Stopped = []
+closing_word Closed = []
 
 -- what tells a program that a line is carried out
 abbrev pub ready_word : Bool → Closing → List ℕ
@@ -30,15 +31,17 @@ ready_word true closing = codes "ok\n"
 abbrev pub closing_text : Bool → Closing → List ℕ
 closing_text ready closing = closing_word closing ++ ready_word ready closing
 
--- the line went well: it was in time, and nothing was refused
+-- the line went well: it was in time, the other side was there, and nothing was refused
 abbrev pub is_well : Closing → Bool
 is_well Nothing = true
 is_well Done = true
+is_well Closed = true
 is_well closing = false
 
--- the line stops the session
+-- the line stops the session: a byte was refused, or it closes the connection
 abbrev pub stops : Closing → Bool
 stops Stopped = true
+stops Closed = true
 stops closing = false
 
 -- what a run has come to before its first line: all well, and not over
@@ -52,6 +55,14 @@ ran_by closing = record { all_well = is_well closing; is_over = stops closing }
 -- what two runs have come to, one behind the other
 abbrev pub ran_and : Ran → Ran → Ran
 ran_and a b = record { all_well = a.all_well && b.all_well; is_over = b.is_over }
+
+-- what is told of a line that is bad for this cause
+abbrev pub bad_text : List ℕ → List ℕ
+bad_text cause = codes "bad line: " ++ cause ++ codes "\n"
+
+-- how such a line closes: as one at which something was refused
+abbrev pub bad_outcome : Result Closing Fault
+bad_outcome = Ok Declined
 
 module _ {L P : Type 0} (runs : L → P → Result Closing Fault → List ℕ → P → Type 0) (ready : Bool) where
   -- the lines were carried out one after another, none stopped the session, and they printed this
@@ -77,11 +88,20 @@ module _ {L P : Type 0} (runs : L → P → Result Closing Fault → List ℕ �
     pub stopped : runs line mid outcome last to
     pub all : text ≡ printed ++ last
 
-  -- what lines came to, and what they printed: all of them were carried out, or those up to the first at which the end
-  -- refused a byte
+  -- lines were carried out, and the next stopped the session: what they came to, and what all of them printed
+  pub record IsOverAt (from : P) (lines : List L) (ran : Ran) (text : List ℕ) (to : P) : Type 0 where
+    pub closing : Closing
+    pub last : List ℕ
+    pub at : IsStoppedAt from lines (Ok closing) last to
+    pub over : stops closing ≡ true
+    pub came : ran ≡ record { all_well = at.well && is_well closing; is_over = true }
+    pub all : text ≡ last ++ closing_text ready closing
+
+  -- what lines came to, and what they printed: all of them were carried out, or those up to the first that stopped the
+  -- session
   abbrev pub IsLiveText : P → List L → Ran → List ℕ → P → Type 0
   IsLiveText from lines ran text to = (HaveRun from lines ran.all_well text to × (ran.is_over ≡ false))
-      ⊎ (IsStoppedAt from lines (Ok Stopped) text to × (ran ≡ ran_by Stopped))
+      ⊎ IsOverAt from lines ran text to
 
   module _ {O : Type 0} (takes : MayTake O) (failures : O → ℕ) (from to : P) (old new : O) where
     -- a line was carried out, and what it printed went out
@@ -98,8 +118,8 @@ module _ {L P : Type 0} (runs : L → P → Result Closing Fault → List ℕ �
         ⊎ ((text : List ℕ) × (output : Output) × runs line from (Err fault) text to
         × IsOut takes failures old new output text)
 
-    -- the lines were carried out one after another, up to the first at which the end refused a byte, and what they
-    -- printed went out
+    -- the lines were carried out one after another, up to the first that stopped the session, and what they printed
+    -- went out
     abbrev pub HasRun : List L → Ran → Type 0
     HasRun lines ran = (text : List ℕ) × IsLiveText from lines ran text to × WentOut takes failures old new text
 

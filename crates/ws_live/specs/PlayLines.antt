@@ -11,6 +11,7 @@ use Rattle.ws_screen.specs.ScreenParts.{ScreenParts}
 use Rattle.ws_keys.specs.declared.key.KeyRefusal.{KeyRefusal}
 use Rattle.ws_keys.specs.declared.key.KeyRefusal.TheVariants.{Locked, Protected, WrongCharacter, DupNotAllowed, NoRoom}
 use Rattle.ws_keys.specs.declared.key.KeyRefusal.TheVariants.{NoReadPending, MandatoryEnter}
+use Rattle.ws_keys.specs.declared.host_answer.HostAnswer.{HostAnswer}
 use Rattle.ws_keys.specs.declared.host_answer.ReadField.{ReadField}
 use Rattle.ws_session.specs.declared.key_fault.KeyFault.{KeyFault}
 use Rattle.ws_session.specs.declared.key_fault.KeyFault.TheVariants.{Failed as KeyFailed, NotReady, Key}
@@ -34,11 +35,15 @@ use Rattle.ws_live.specs.declared.paint.Paint.TheVariants.{Plain}
 abbrev pub read_field_text : ReadField → List ℕ
 read_field_text field = codes "  field " ++ cell_text field.address ++ hex_behind_blank field.content ++ codes "\n"
 
--- what a host end tells; an answer has its cursor and AID, and a line for each field
+-- an answer's cursor and AID
+abbrev pub answer_line : HostAnswer → List ℕ
+answer_line answer = codes "answer " ++ cell_text answer.cursor ++ codes " " ++ encode_upper (answer.aid ∷ [])
+    ++ codes "\n"
+
+-- what a host end tells; an answer has a line for each field
 abbrev pub host_event_text : HostEvent → List ℕ
 host_event_text (Ready terminal) = codes "host ready " ++ terminal_name terminal ++ codes "\n"
-host_event_text (Answer answer) = codes "answer " ++ cell_text answer.cursor ++ codes " "
-    ++ encode_upper (answer.aid ∷ []) ++ codes "\n" ++ flat_map read_field_text answer.fields
+host_event_text (Answer answer) = answer_line answer ++ flat_map read_field_text answer.fields
 host_event_text Attention = codes "attention\n"
 host_event_text SystemRequest = codes "system request\n"
 host_event_text Cancelled = codes "cancelled\n"

@@ -14,33 +14,44 @@ use Rattle.ws_live.specs.ConnectLines.{IsNothing}
 use Rattle.ws_live.specs.KeyNames.{aid_named}
 use Rattle.ws_live.specs.Script.{IsOpcodeText, IsRecordText}
 use Rattle.ws_live.specs.ScriptFaults.{IsSendLine}
+use Rattle.ws_live.specs.WireLines.{IsWireBegun, MeansWire}
 use Rattle.ws_live.specs.declared.serve_line.AnswerAwaited.{AnswerAwaited}
 use Rattle.ws_live.specs.declared.serve_line.AnswerAwaited.TheVariants.{Any, By}
 use Rattle.ws_live.specs.declared.serve_line.HostLine.{HostLine}
-use Rattle.ws_live.specs.declared.serve_line.HostLine.TheVariants.{Nothing, Give, Await, AwaitAnswer, Show}
+use Rattle.ws_live.specs.declared.serve_line.HostLine.TheVariants.{Nothing, Give, Await, AwaitAnswer, Show, Wire, Bad}
 
 -- the answer that the words behind `await` are for: any, or one by the key of a name
 abbrev pub IsAnswerAwaited : List ℕ → AnswerAwaited → Type 0
 IsAnswerAwaited words Any = words ≡ codes "answer"
 IsAnswerAwaited words (By aid) = aid_named words ≡ Some aid
 
--- what a line means by itself
+-- an empty line, a comment, or `end`, which ends the lines that belong to the one before
+abbrev pub IsIdle : List ℕ → Type 0
+IsIdle line = IsNothing line ⊎ (line ≡ codes "end")
+
+-- what a line means by itself; none means one that is bad
 abbrev pub Means : List ℕ → HostLine → Type 0
-Means line Nothing = IsNothing line
+Means line Nothing = IsIdle line
 Means line (Give (Send opcode body)) = (words : List ℕ) × (line ≡ codes "send " ++ words)
     × IsRecordText words opcode body
 Means line (Give Cancel) = line ≡ codes "cancel"
 Means line Await = line ≡ codes "await"
 Means line (AwaitAnswer awaited) = (words : List ℕ) × (line ≡ codes "await " ++ words) × IsAnswerAwaited words awaited
 Means line Show = line ≡ codes "show"
+Means line (Wire wire) = MeansWire line wire
+Means line (Bad cause) = ⊥
 
 -- a line by itself, which is UTF-8
 abbrev pub IsOneLine : List ℕ → HostLine → Type 0
 IsOneLine line read = IsUtf8 line × Means line read
 
--- a line that sends a record, up to the record's body; or a whole line
+-- the lines that take memory: one that sends a record, up to the record's body, or works on the connection
+abbrev pub IsHostBegun : List ℕ → Type 0
+IsHostBegun line = IsSendLine line ⊎ IsWireBegun line
+
+-- such a line; or a whole line
 abbrev pub IsOneSoFar : List ℕ → Type 0
-IsOneSoFar line = ((read : HostLine) × IsOneLine line read) ⊎ (IsUtf8 line × IsSendLine line)
+IsOneSoFar line = ((read : HostLine) × IsOneLine line read) ⊎ (IsUtf8 line × IsHostBegun line)
 
 -- a line that sends a record, and says no more of it than its opcode
 abbrev pub SendsAlone : List ℕ → List ℕ → Opcode → Type 0
@@ -61,9 +72,9 @@ abbrev pub IsHostLine : List ℕ → List (List ℕ) → HostLine → Type 0
 IsHostLine line elements read = ((elements ≡ []) × IsOneLine line read)
     ⊎ ((elements ≢ []) × SendsInWords line elements read)
 
--- a line that sends a record, up to the record's body
+-- a line up to what takes memory
 abbrev pub BeginsHostLine : List ℕ → Type 0
-BeginsHostLine line = (IsUtf8 line × IsSendLine line) ⊎ OpensHostBlock line
+BeginsHostLine line = (IsUtf8 line × IsHostBegun line) ⊎ OpensHostBlock line
 
 -- where elements are bad behind their line, which is the first: at the first line that adds none to the record, counted
 -- as far as 64 bits count

@@ -1,7 +1,7 @@
 -- What a line of a script for a host does there, and what it prints, by what the host end is told.
 
 use Rattle.std.specs.Prelude.{◌≡◌, ℕ, List, [], ◌∷◌, ◌++◌, ◌⊎◌, Bool, true, false, Option, None, Some}
-use Rattle.std.specs.Prelude.{IfSome, IfNone, not, ◌&&◌, ◌==◌, length, replicate}
+use Rattle.std.specs.Prelude.{IfSome, IfNone, not, ◌&&◌, ◌==◌, length, replicate, string_bytes}
 use Rattle.std.specs.List.{flat_map}
 use Rattle.std.specs.Prelude.{Result, Ok, Err}
 use Rattle.ws_code.specs.Device.{MayTake, MayGive, WentOut, FailedWithin, most_reads}
@@ -18,19 +18,25 @@ use Rattle.ws_session.specs.declared.end_step.Order.TheVariants.{Send, Cancel}
 use Rattle.ws_session.specs.declared.host_event.HostEvent.{HostEvent}
 use Rattle.ws_session.specs.declared.host_event.HostEvent.TheVariants.{Answer}
 use Rattle.ws_session.specs.declared.send_fault.SendFault.{SendFault}
-use Rattle.ws_session.specs.declared.world.Event.TheVariants.{Host, SendRefused, HostRefused}
-use Rattle.ws_live.specs.LiveText.{HaveRun, IsStoppedAt, stops}
+use Rattle.ws_session.specs.declared.world.Event.TheVariants.{SendRefused, HostRefused}
+use Rattle.ws_live.specs.LiveText.{HaveRun, IsOverAt, bad_outcome, bad_text, stops}
 use Rattle.ws_live.specs.Waits.{InTime}
-use Rattle.ws_live.specs.PlayLines.{event_text, host_event_text}
+use Rattle.ws_live.specs.PlayLines.{event_text}
+use Rattle.ws_live.specs.ToldLines.{told_text}
 use Rattle.ws_live.specs.ScreenLines.{IsScreenText}
+use Rattle.ws_live.specs.WireLines.{WireRuns}
 use Rattle.ws_text.specs.Printing.{IsOut}
 use Rattle.ws_live.specs.declared.serve_line.AnswerAwaited.{AnswerAwaited}
 use Rattle.ws_live.specs.declared.serve_line.AnswerAwaited.TheVariants.{Any, By}
 use Rattle.ws_live.specs.declared.serve_line.HostLine.{HostLine}
-use Rattle.ws_live.specs.declared.serve_line.HostLine.TheVariants.{Nothing as NoLine, Give, Await, AwaitAnswer, Show}
+use Rattle.ws_live.specs.declared.serve_line.HostLine.TheVariants.{Nothing as NoLine, Give, Await, AwaitAnswer}
+use Rattle.ws_live.specs.declared.serve_line.HostLine.TheVariants.{Show, Wire, Bad}
 use Rattle.ws_text.specs.declared.output.Output.{Output}
 use Rattle.ws_live.specs.declared.live.Closing.{Closing}
+use Rattle.ws_live.specs.declared.live.Ran.{Ran}
 use Rattle.ws_live.specs.declared.paint.Paint.TheVariants.{Plain}
+use Rattle.ws_live.specs.declared.watch.WaitSpan.{WaitSpan}
+use Rattle.ws_live.specs.declared.watch.WaitSpan.TheVariants.{Whole}
 use Rattle.ws_live.specs.declared.live.Closing.TheVariants.{Nothing, Done, Declined, Late, Ended, Stopped}
 
 -- how a send or a cancel closes, and what it prints
@@ -55,11 +61,11 @@ unheard_outcome late (fault.Refused place reason) = Ok Stopped
 unheard_outcome true fault.Read = Ok Late
 unheard_outcome late why = Err why
 
--- the line is one that waits
-abbrev pub host_waits : HostLine → Bool
-host_waits Await = true
-host_waits (AwaitAnswer awaited) = true
-host_waits line = false
+-- how long a line waits, if it does
+abbrev pub host_waits : HostLine → Option WaitSpan
+host_waits Await = Some Whole
+host_waits (AwaitAnswer awaited) = Some Whole
+host_waits line = None
 
 -- the answer is the one that a wait is for
 abbrev pub is_answer : AnswerAwaited → ℕ → Bool
@@ -90,6 +96,10 @@ module _ {S K : Type 0} (takes : MayTake K) (failures : K → ℕ) (gives : MayG
   -- a host end on a source and a sink
   abbrev pub Parts : Type 0
   Parts = AttachedParts HostParts S K
+
+  -- the same with the number of records that are ahead, which no line of a host takes
+  abbrev pub Ends : Type 0
+  Ends = Parts × ℕ
 
   -- the host end did this: it was written, or refused, and nothing is changed; no byte was read or taken
   pub record IsDone (order : Order) (from : Parts) (refused : Option SendFault) (to : Parts) : Type 0 where
@@ -128,7 +138,7 @@ module _ {S K : Type 0} (takes : MayTake K) (failures : K → ℕ) (gives : MayG
     abbrev pub HearsOne : Parts → Result Closing Fault → List ℕ → Parts → Type 0
     HearsOne from outcome text to =
         ((event : HostEvent) × HasHeard HostGoes HostRefuses takes failures gives misses from to (Some event)
-        × (outcome ≡ Ok Done) × (text ≡ event_text (Host event)))
+        × (outcome ≡ Ok Done) × (text ≡ told_text event))
         ⊎ HearsNone from outcome text to
 
     -- Waits for this answer.
@@ -137,7 +147,7 @@ module _ {S K : Type 0} (takes : MayTake K) (failures : K → ℕ) (gives : MayG
       abbrev pub AnswerComes : ℕ → Parts → Result Closing Fault → List ℕ → Parts → Type 0
       AnswerComes told from outcome text to =
           ((event : HostEvent) × HasHeard HostGoes HostRefuses takes failures gives misses from to (Some event)
-          × (is_awaited awaited event ≡ true) × (outcome ≡ Ok Done) × (text ≡ host_event_text event))
+          × (is_awaited awaited event ≡ true) × (outcome ≡ Ok Done) × (text ≡ told_text event))
           ⊎ (HearsNone from outcome text to
           ⊎ ((told ≡ most_reads) × (to ≡ from) × (outcome ≡ Err fault.Read) × (text ≡ [])))
 
@@ -148,31 +158,38 @@ module _ {S K : Type 0} (takes : MayTake K) (failures : K → ℕ) (gives : MayG
         pub before : HaveTold awaited from told mid
         pub last : List ℕ
         pub came : AnswerComes (length told) mid outcome last to
-        pub all : text ≡ flat_map host_event_text told ++ last
+        pub all : text ≡ flat_map told_text told ++ last
 
-    -- a line at a host, how it closed, and what it printed
-    abbrev pub HostRuns : HostLine → Parts → Result Closing Fault → List ℕ → Parts → Type 0
-    HostRuns NoLine from outcome text to = (to ≡ from) × (outcome ≡ Ok Nothing) × (text ≡ [])
-    HostRuns (Give order) from outcome text to = (given : Result (Option SendFault) Fault) × IsGiven order from given to
+    -- what a line does at a host end, how it closed, and what it printed
+    abbrev pub HostDoes : HostLine → Parts → Result Closing Fault → List ℕ → Parts → Type 0
+    HostDoes NoLine from outcome text to = (to ≡ from) × (outcome ≡ Ok Nothing) × (text ≡ [])
+    HostDoes (Give order) from outcome text to = (given : Result (Option SendFault) Fault) × IsGiven order from given to
         × (outcome ≡ given_outcome given) × (text ≡ given_text given)
-    HostRuns Await from outcome text to = HearsOne from outcome text to
-    HostRuns (AwaitAnswer awaited) from outcome text to = HearsAnswer awaited from outcome text to
-    HostRuns Show from outcome text to = (to ≡ from) × (outcome ≡ Ok Done) × IsScreenText Plain from.end.screen text
+    HostDoes Await from outcome text to = HearsOne from outcome text to
+    HostDoes (AwaitAnswer awaited) from outcome text to = HearsAnswer awaited from outcome text to
+    HostDoes Show from outcome text to = (to ≡ from) × (outcome ≡ Ok Done) × IsScreenText Plain from.end.screen text
+    HostDoes (Wire line) from outcome text to = WireRuns takes failures line from outcome to × (text ≡ [])
+    HostDoes (Bad cause) from outcome text to = (to ≡ from) × (outcome ≡ bad_outcome)
+        × (text ≡ bad_text (string_bytes cause))
 
-    module _ {W : Type 0} (begins : W → S → W → Type 0) (begun : W → ℕ) where
+    -- a line at it, how it closed, and what it printed
+    abbrev pub HostRuns : HostLine → Ends → Result Closing Fault → List ℕ → Ends → Type 0
+    HostRuns line from outcome text to = HostDoes line from.0 outcome text to.0 × (to.1 ≡ from.1)
+
+    module _ {W : Type 0} (begins : W → S → WaitSpan → W → Type 0) (begun : W → ℕ) where
       -- a line at a host and a watch, how it closed, and what it printed
-      abbrev pub Runs : HostLine → (Parts × W) → Result Closing Fault → List ℕ → (Parts × W) → Type 0
+      abbrev pub Runs : HostLine → (Ends × W) → Result Closing Fault → List ℕ → (Ends × W) → Type 0
       Runs = InTime HostRuns host_waits begins begun
 
       -- a wait for the next thing, which begins then
-      abbrev pub Hears : (Parts × W) → Result Closing Fault → List ℕ → (Parts × W) → Type 0
+      abbrev pub Hears : (Ends × W) → Result Closing Fault → List ℕ → (Ends × W) → Type 0
       Hears from outcome text to = Runs Await from outcome text to
 
       -- what the host end tells behind a script: things were told and printed, and then this came
-      pub record AnswersOn (from to : Parts × W) (outcome : Result Closing Fault) (text : List ℕ) : Type 0 where
+      pub record AnswersOn (from to : Ends × W) (outcome : Result Closing Fault) (text : List ℕ) : Type 0 where
         pub count : ℕ
         pub printed : List ℕ
-        pub mid : Parts × W
+        pub mid : Ends × W
         pub ran : HaveRun Runs false from (replicate count Await) true printed mid
         pub last : List ℕ
         pub came : Hears mid outcome last to
@@ -180,20 +197,20 @@ module _ {S K : Type 0} (takes : MayTake K) (failures : K → ℕ) (gives : MayG
 
       -- what is printed behind a script, up to the first thing that isn't told: the station closed, the wait was over,
       -- or a byte was refused
-      abbrev pub IsAnsweringText : (Parts × W) → Bool → List ℕ → (Parts × W) → Type 0
+      abbrev pub IsAnsweringText : (Ends × W) → Bool → List ℕ → (Ends × W) → Type 0
       IsAnsweringText from all_well text to = (closing : Closing) × AnswersOn from to (Ok closing) text
           × (is_told closing ≡ false) × (all_well ≡ not (stops closing))
 
       -- What the lines of a script at a host print, and behind them what the host end is told, and whether all went well:
       -- where a line stopped the session, nothing stands behind it.
-      abbrev pub IsServeText : Bool → (Parts × W) → List HostLine → Bool → List ℕ → (Parts × W) → Type 0
+      abbrev pub IsServeText : Bool → (Ends × W) → List HostLine → Bool → List ℕ → (Ends × W) → Type 0
       IsServeText ready from lines all_well text to =
-          ((well : Bool) × (mid : Parts × W) × (printed : List ℕ) × (answers_well : Bool) × (told : List ℕ)
+          ((well : Bool) × (mid : Ends × W) × (printed : List ℕ) × (answers_well : Bool) × (told : List ℕ)
           × HaveRun Runs ready from lines well printed mid × IsAnsweringText mid answers_well told to
           × (all_well ≡ well && answers_well) × (text ≡ printed ++ told))
-          ⊎ (IsStoppedAt Runs ready from lines (Ok Stopped) text to × (all_well ≡ false))
+          ⊎ ((ran : Ran) × IsOverAt Runs ready from lines ran text to × (all_well ≡ ran.all_well))
 
-      module _ {O : Type 0} (prints : MayTake O) (misprints : O → ℕ) (from to : Parts × W) (old new : O) where
+      module _ {O : Type 0} (prints : MayTake O) (misprints : O → ℕ) (from to : Ends × W) (old new : O) where
         -- the next thing that the host end tells is printed, or none came
         abbrev pub HasAnsweredOnce : Closing → Type 0
         HasAnsweredOnce closing = (text : List ℕ) × Hears from (Ok closing) text to

@@ -1,19 +1,24 @@
 ghost use Rattle.std.specs.Prelude.{◌≡◌, List, ℕ, Bool, true, false, IfOk};
+ghost use Rattle.ws_session.specs.declared.end_step.Applied.{Applied};
 ghost use Rattle.ws_live.specs.ConnectText as Spec;
-ghost use Rattle.ws_live.specs.Waits.{HasBegun};
+ghost use Rattle.ws_live.specs.LiveText.{stops};
+ghost use Rattle.ws_live.specs.Waits.{HasBegun, HasBegunIf};
+ghost use Rattle.ws_live.specs.declared.watch.WaitSpan.TheVariants.{AtOnce};
 ghost use Rattle.ws_text.specs.Printing.{Prints};
 
 use crate::connect_line::{Awaited, StationLine};
 use crate::field_lines::put_field_lines;
-use crate::live::{Carried, Closing, LiveMove, Watch};
+use crate::live::{Carried, Closing, LiveMove, put_bad};
 use crate::named_key::NamedKey;
 use crate::operated_display::OperatedDisplay;
 use crate::paint::Paint;
 use crate::play::put_event;
 use crate::pressing::{press_key, press_stroke};
-use crate::report_lines::put_report;
+use crate::report::Report;
+use crate::report_lines::{put_note, put_report};
 use crate::screen_lines::put_display;
 use crate::shown_text::{begins_at, shows};
+use crate::watch::{WaitSpan, Watch};
 use ws_code::{Fault, Sink, Source};
 use ws_session::{Attached, Event, StationOn};
 use ws_text::Output;
@@ -31,14 +36,15 @@ impl<D: OperatedDisplay, S: Source, K: Sink> LiveMove<StationOn<D>, S, K> for St
 where
     D::Key: NamedKey,
 {
-    ghost runs = { λ tells. Spec.StationRuns D.Commands.rules D.does
-        K.takes K.failures S.gives S.failures tells D.operated D.Key.words };
+    ghost runs = { λ tells rests. Spec.StationRuns D.Commands.rules D.does
+        K.takes K.failures S.gives S.failures tells rests D.operated D.Key.words };
 
     ghost waits = { Spec.station_waits };
 
     fn carry_out<W: Watch<S>, O: Sink>(
         &self,
         attached: &mut Attached<StationOn<D>, S, K>,
+        ahead: &mut u64,
         watch: &mut W,
         paint: Paint,
         out: &mut O,
@@ -49,24 +55,63 @@ where
                 output,
                 outcome: Ok(Closing::Nothing),
             },
-            StationLine::Press(keys) => press_keys(attached, keys.as_slice(), out, output),
-            StationLine::Stroke(stroke) => press_stroke(attached, stroke, out, output),
+            StationLine::Press(keys) => {
+                *ahead = 0;
+                press_keys(attached, keys.as_slice(), out, output)
+            }
+            StationLine::Stroke(stroke) => {
+                *ahead = 0;
+                press_stroke(attached, stroke, out, output)
+            }
             StationLine::Await(awaited) => {
-                let waited = wait(attached, watch, awaited);
+                let waited = wait(attached, *ahead, watch, awaited);
+                *ahead = 0;
                 put_waited(out, output, waited)
             }
-            StationLine::Fields => Carried {
-                output: put_field_lines(out, output, attached.end().screen()),
-                outcome: Ok(Closing::Done),
-            },
-            StationLine::Show => Carried {
-                output: put_display(out, output, paint, attached.end().display()),
-                outcome: Ok(Closing::Done),
-            },
-            StationLine::Report(report) => Carried {
-                output: put_report(out, output, attached.end(), report),
-                outcome: Ok(Closing::Done),
-            },
+            StationLine::Fields => {
+                let ended = take_what_came(attached, ahead, watch);
+                let output = put_field_lines(out, output, attached.end().screen());
+                put_waited(out, output, ended)
+            }
+            StationLine::Show => {
+                let ended = take_what_came(attached, ahead, watch);
+                let output = put_display(out, output, paint, attached.end().display());
+                put_waited(out, output, ended)
+            }
+            StationLine::Report(report) => put_what(attached, ahead, watch, report, out, output),
+            StationLine::Bad(cause) => put_bad(out, output, cause.as_str()),
+        }
+    }
+}
+
+// Prints what a line reports.
+fn put_what<D: OperatedDisplay, S: Source, K: Sink, W: Watch<S>, O: Sink>(
+    attached: &mut Attached<StationOn<D>, S, K>,
+    ahead: &mut u64,
+    watch: &mut W,
+    report: &Report,
+    out: &mut O,
+    output: Output,
+) -> Carried
+    requires works { attached.old.broken ≡ false }
+    ensures runs { (text : List ℕ) × Spec.Reports D.Commands.rules D.does K.takes K.failures
+        S.gives S.failures W.tells report.now
+        (attached.old, ahead.old) result.outcome text (attached.new, ahead.new)
+        × Prints O.takes O.failures out.old out.new output result.output text }
+    ensures begun { HasBegunIf W.begins W.begun (Spec.report_waits report.now)
+        attached.old.source watch.old watch.new }
+    ensures works { IfOk result.outcome (λ closing.
+        stops closing ≡ false → attached.new.broken ≡ false) }
+{
+    match report {
+        Report::Note(note) => Carried {
+            output: put_note(out, output, note.as_slice()),
+            outcome: Ok(Closing::Done),
+        },
+        _ => {
+            let ended = take_what_came(attached, ahead, watch);
+            let output = put_report(out, output, attached.end(), report);
+            put_waited(out, output, ended)
         }
     }
 }
@@ -115,23 +160,123 @@ fn closing_of_both(closing: Closing, next: Closing) -> Closing
     }
 }
 
-// Takes what the host sends, until what is awaited holds.
+// Takes what the host sends, until what is awaited holds, where so many records are ahead.
 fn wait<D: OperatedDisplay, S: Source, K: Sink, W: Watch<S>>(
     attached: &mut Attached<StationOn<D>, S, K>,
+    ahead: u64,
     watch: &mut W,
     awaited: &Awaited,
 ) -> Waited
     requires works { attached.old.broken ≡ false }
     ensures waited { Spec.IsWaited D.Commands.rules D.does K.takes K.failures S.gives S.failures
-        W.tells D.operated awaited.now attached.old result attached.new }
-    ensures begun { HasBegun W.begins W.begun attached.old.source watch.old watch.new }
+        W.tells W.rests D.operated awaited.now (attached.old, ahead) result attached.new }
+    ensures begun { HasBegun W.begins W.begun attached.old.source (Spec.span_of awaited.now)
+        watch.old watch.new }
     ensures works { Spec.IsWorking result attached.new.broken }
 {
-    watch.begin(attached.source());
+    watch.begin(attached.source(), span_of(awaited));
     match awaited {
-        Awaited::Record => hear_record(attached, watch),
+        Awaited::Record => hear_next(attached, ahead, watch),
+        Awaited::Quiet(_) => wait_for_quiet(attached, watch),
         _ => wait_for(attached, watch, awaited),
     }
+}
+
+// How long a wait for this lasts.
+fn span_of(awaited: &Awaited) -> WaitSpan
+    ensures { result ≡ Spec.span_of awaited.now }
+{
+    match awaited {
+        Awaited::Quiet(milliseconds) => WaitSpan::Quiet(*milliseconds),
+        _ => WaitSpan::Whole,
+    }
+}
+
+// Takes one record more, unless one is ahead.
+fn hear_next<D: OperatedDisplay, S: Source, K: Sink, W: Watch<S>>(
+    attached: &mut Attached<StationOn<D>, S, K>,
+    ahead: u64,
+    watch: &W,
+) -> Waited
+    requires works { attached.old.broken ≡ false }
+    ensures waited { Spec.IsNext D.Commands.rules D.does K.takes K.failures S.gives S.failures
+        W.tells ahead attached.old result attached.new }
+    ensures works { Spec.IsWorking result attached.new.broken }
+{
+    if ahead > 0 {
+        return Waited::Met;
+    }
+    hear_record(attached, watch)
+}
+
+// Takes records, until nothing comes.
+fn wait_for_quiet<D: OperatedDisplay, S: Source, K: Sink, W: Watch<S>>(
+    attached: &mut Attached<StationOn<D>, S, K>,
+    watch: &W,
+) -> Waited
+    requires works { attached.old.broken ≡ false }
+    ensures waited { Spec.IsQuieted D.Commands.rules D.does K.takes K.failures S.gives S.failures
+        W.tells W.rests attached.old result attached.new }
+    ensures works { Spec.IsWorking result attached.new.broken }
+{
+    let mut ahead = 0;
+    let ended = take_all(attached, &mut ahead, watch);
+    rested(watch.is_quiet(attached.source()), ended)
+}
+
+// Takes the records that have come, and counts them as ahead: what there is behind them, which is none where it is only
+// that no more has come.
+fn take_what_came<D: OperatedDisplay, S: Source, K: Sink, W: Watch<S>>(
+    attached: &mut Attached<StationOn<D>, S, K>,
+    ahead: &mut u64,
+    watch: &mut W,
+) -> Waited
+    requires works { attached.old.broken ≡ false }
+    ensures taken { (told : List Applied) × (ended : Waited)
+        × Spec.TakesAll D.Commands.rules D.does K.takes K.failures S.gives S.failures
+        W.tells attached.old told ended attached.new
+        × (ahead.new ≡ Spec.more_ahead ahead.old told) × (result ≡ Spec.rested true ended) }
+    ensures begun { HasBegun W.begins W.begun attached.old.source AtOnce watch.old watch.new }
+    ensures works { Spec.IsWorking result attached.new.broken }
+{
+    watch.begin(attached.source(), WaitSpan::AtOnce);
+    rested(true, take_all(attached, ahead, watch))
+}
+
+// What a wait comes to that only has to rest, and whether it did.
+fn rested(rests: bool, ended: Waited) -> Waited
+    ensures { result ≡ Spec.rested rests ended }
+{
+    match ended {
+        Waited::Late => {
+            if rests {
+                return Waited::Met;
+            }
+            Waited::Late
+        }
+        other => other,
+    }
+}
+
+// Takes records, as long as any come, and counts them as ahead.
+fn take_all<D: OperatedDisplay, S: Source, K: Sink, W: Watch<S>>(
+    attached: &mut Attached<StationOn<D>, S, K>,
+    ahead: &mut u64,
+    watch: &W,
+) -> Waited
+    requires works { attached.old.broken ≡ false }
+    ensures taken { (told : List Applied) × Spec.TakesAll D.Commands.rules D.does
+        K.takes K.failures S.gives S.failures W.tells attached.old told result attached.new
+        × (ahead.new ≡ Spec.more_ahead ahead.old told) }
+    ensures works { Spec.IsWorking result attached.new.broken }
+{
+    for _ in 0..4_294_967_296u64 {
+        match hear_record(attached, watch) {
+            Waited::Met => *ahead = ahead.saturating_add(1),
+            other => return other,
+        }
+    }
+    Waited::Failed(Fault::Read)
 }
 
 // Takes records, until what is awaited holds.
@@ -171,6 +316,7 @@ fn is_met<D: OperatedDisplay>(display: &D, awaited: &Awaited) -> bool
         Awaited::Text(text) => shows(display.screen(), text.as_str()),
         Awaited::At(cell, text) => begins_at(display.screen(), *cell, text.as_str()),
         Awaited::Record => true,
+        Awaited::Quiet(_) => false,
     }
 }
 

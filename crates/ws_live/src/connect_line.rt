@@ -3,6 +3,7 @@ ghost use Rattle.std.specs.Prelude.{IfOk, IfErr, MatchOption};
 ghost use Rattle.ws_live.specs.ConnectLines as Spec;
 ghost use Rattle.ws_live.specs.ConnectLines.{BeginsStationLine, IsStationLine, IsStationSoFar};
 ghost use Rattle.ws_live.specs.ScriptFaults.{IsLineFault, IsNoComment, has_no_blank};
+ghost use Rattle.ws_live.specs.declared.connect_line.StationLine.TheVariants.{Bad};
 
 use crate::key_line::{named_key, typed_keys};
 use crate::live_line::LiveLine;
@@ -14,6 +15,7 @@ use crate::script_line::LineFault;
 use crate::script_move::split_word;
 use crate::stroke::Stroke;
 use crate::stroke_words::{read_cell, read_filling};
+use crate::wire_words::read_milliseconds;
 use std::alloc::Global;
 use std::str;
 use ws_code::{Address, List};
@@ -35,6 +37,8 @@ pub enum StationLine<Q> {
     Show,
     /// What this asks for is printed.
     Report(Report),
+    /// A line that is bad for this cause, which is told.
+    Bad(String),
 }
 
 /// What a station waits for.
@@ -48,6 +52,8 @@ pub enum Awaited {
     Text(String),
     /// This text begins at this cell, and ends in its row.
     At(Address, String),
+    /// Nothing has come for so many milliseconds.
+    Quiet(u32),
 }
 
 impl<Q: NamedKey> LiveLine for StationLine<Q> {
@@ -58,6 +64,8 @@ impl<Q: NamedKey> LiveLine for StationLine<Q> {
     ghost opener = { λ line. ⊥ };
 
     ghost bad_at = { λ line inside at. at ≡ 1 };
+
+    ghost bad_line = { λ cause. Bad cause };
 
     fn opens(_line: &[u8]) -> bool {
         false
@@ -72,6 +80,10 @@ impl<Q: NamedKey> LiveLine for StationLine<Q> {
             Err(LineFault::Bad) => Err(ScriptFault::Line(1)),
             Err(LineFault::Memory) => Err(ScriptFault::Memory),
         }
+    }
+
+    fn bad(cause: String) -> Self {
+        StationLine::Bad(cause)
     }
 }
 
@@ -142,7 +154,7 @@ fn read_command<Q: NamedKey>(
     }
 }
 
-// What is waited for: a record, or a text of one character at least, anywhere or at a cell.
+// What is waited for: a record, quiet, or a text of one character at least, anywhere or at a cell.
 fn read_awaited(alloc: Global, words: &str) -> Result<Awaited, LineFault>
     ensures awaited { IfOk result (Spec.IsAwaited words.now) }
     ensures fault { IfErr result (IsLineFault (Spec.IsAwaited words.now)
@@ -156,6 +168,20 @@ fn read_awaited(alloc: Global, words: &str) -> Result<Awaited, LineFault>
     }
     match behind_at(words) {
         Some(placed) => read_placed_text(alloc, placed),
+        None => read_quiet(words),
+    }
+}
+
+// How long nothing is to have come.
+fn read_quiet(words: &str) -> Result<Awaited, LineFault>
+    ensures awaited { IfOk result (Spec.IsQuietAwaited words.now) }
+    ensures fault { IfErr result (IsLineFault (Spec.IsQuietAwaited words.now) ⊥) }
+{
+    match behind_quiet(words) {
+        Some(word) => match read_milliseconds(word) {
+            Ok(time) => Ok(Awaited::Quiet(time)),
+            Err(fault) => Err(fault),
+        },
         None => Err(LineFault::Bad),
     }
 }
@@ -174,6 +200,14 @@ fn behind_at(words: &str) -> Option<&str>
         (λ placed. words.now ≡ codes "at " ++ placed.now) }
 {
     words.strip_prefix("at ")
+}
+
+// What stands behind `quiet `.
+fn behind_quiet(words: &str) -> Option<&str>
+    ensures { MatchOption result ((word : Seq ℕ) → words.now ≡ codes "quiet " ++ word → ⊥)
+        (λ word. words.now ≡ codes "quiet " ++ word.now) }
+{
+    words.strip_prefix("quiet ")
 }
 
 // A text that is awaited anywhere.

@@ -1,16 +1,18 @@
-ghost use Rattle.std.specs.Prelude.{◌≡◌, [], false, Bool, List, ℕ, Result, IfOk, IfErr};
+ghost use Rattle.std.specs.Prelude.{◌≡◌, [], false, Bool, List, ℕ, Option, Result, IfOk, IfErr};
 ghost use Rattle.ws_code.specs.declared.fault.Fault.{Fault as AFault};
 ghost use Rattle.ws_session.specs.Attachments.{AttachedParts};
 ghost use Rattle.ws_live.specs.Buffering.{Buffering, buffered_takes};
 ghost use Rattle.ws_text.specs.Printing.{IsOut, Prints};
 ghost use Rattle.ws_live.specs.LiveText as Spec;
-ghost use Rattle.ws_live.specs.Waits.{HasBegun, HasBegunIf, InTime};
+ghost use Rattle.ws_live.specs.Waits.{HasBegunIf, InTime};
 ghost use Rattle.ws_live.specs.declared.live.Closing.{Closing as AClosing};
 ghost use Rattle.ws_live.specs.declared.paint.Paint.{Paint as APaint};
+ghost use Rattle.ws_live.specs.declared.watch.WaitSpan.{WaitSpan as ASpan};
 
 use crate::buffered_sink::BufferedSink;
 use crate::live_line::LiveLine;
 use crate::paint::Paint;
+use crate::watch::Watch;
 use ws_code::{Fault, Sink};
 use ws_session::Attached;
 use ws_text::{Output, put_text};
@@ -30,6 +32,8 @@ pub enum Closing {
     Ended,
     /// The end refused a byte. No line is carried out behind it.
     Stopped,
+    /// It was carried out, and closes the connection. No line is carried out behind it.
+    Closed,
 }
 
 /// What the lines of a live session came to.
@@ -37,7 +41,7 @@ pub enum Closing {
 pub struct Ran {
     /// None closed late or ended, and nothing was refused.
     pub all_well: bool,
-    /// The end refused a byte.
+    /// The last has stopped the session: the end refused a byte, or the line closed the connection.
     pub is_over: bool,
 }
 
@@ -69,8 +73,8 @@ impl Closing {
         ensures { result ≡ Spec.ran_by self }
     {
         Ran {
-            all_well: matches!(self, Closing::Nothing | Closing::Done),
-            is_over: self == Closing::Stopped,
+            all_well: matches!(self, Closing::Nothing | Closing::Done | Closing::Closed),
+            is_over: matches!(self, Closing::Stopped | Closing::Closed),
         }
     }
 }
@@ -82,41 +86,23 @@ pub struct Carried {
     pub outcome: Result<Closing, Fault>,
 }
 
-/// What tells the time of the waits for a source. It counts them, up to the greatest value of 64 bits.
-pub trait Watch<S> {
-    // What the beginning of a wait does to it, where the source is this.
-    ghost begins: { Self → S → Self → Type 0 };
-
-    // How many waits have begun.
-    ghost begun: { Self → ℕ };
-
-    // What it may tell of a source at which a read has failed: whether that was for want of time.
-    ghost tells: { S → Bool → Type 0 };
-
-    /// A wait begins. What is read from the source from now on has its time.
-    fn begin(&mut self, source: &S)
-        ensures { HasBegun begins begun source.now self.old self.new };
-
-    /// Whether the last read from the source, which failed, did so for want of time.
-    fn is_late(&self, source: &S) -> bool
-        ensures { tells source.now result };
-}
-
 /// A line that is carried out at an end with these devices.
 pub trait LiveMove<E, S, K>: LiveLine {
-    // At a watch that may tell this, and with screens in this paint, the line came to this at the one state, printed
-    // this text, and left the other.
-    ghost runs: { (S → Bool → Type 0) → APaint → Self → AttachedParts E S K
-        → Result AClosing AFault → List ℕ
-        → AttachedParts E S K → Type 0 };
+    // At a watch that may tell this of its waits, and with screens in this paint, the line came to this at the one state,
+    // printed this text, and left the other. A state is that of the end, and how many records are ahead: that lines which
+    // show something have taken.
+    ghost runs: { (S → Bool → Type 0) → (S → Bool → Type 0) → APaint → Self
+        → (AttachedParts E S K × ℕ) → Result AClosing AFault → List ℕ
+        → (AttachedParts E S K × ℕ) → Type 0 };
 
-    // Whether it waits.
-    ghost waits: { Self → Bool };
+    // How long the wait lasts that it begins, if it begins one.
+    ghost waits: { Self → Option ASpan };
 
     /// Carries the line out, and prints what it tells. A line that waits begins a wait before it reads.
     fn carry_out<W: Watch<S>, O: Sink>(
         &self,
         attached: &mut Attached<E, S, K>,
+        ahead: &mut u64,
         watch: &mut W,
         paint: Paint,
         out: &mut O,
@@ -124,7 +110,8 @@ pub trait LiveMove<E, S, K>: LiveLine {
     ) -> Carried
         requires works { attached.old.broken ≡ false }
         ensures runs { (text : List ℕ)
-            × runs W.tells paint self.now attached.old result.outcome text attached.new
+            × runs W.tells W.rests paint self.now
+            (attached.old, ahead.old) result.outcome text (attached.new, ahead.new)
             × Prints O.takes O.failures out.old out.new output result.output text }
         ensures begun { HasBegunIf W.begins W.begun (waits self.now)
             attached.old.source watch.old watch.new }
@@ -132,14 +119,16 @@ pub trait LiveMove<E, S, K>: LiveLine {
             Spec.stops closing ≡ false → attached.new.broken ≡ false) };
 }
 
-/// Carries lines out one after another, up to the first at which the end refuses a byte. What each prints is out before
-/// the next; behind it comes a line `late` or `ended` where it closed so, and `ok` with `ready`. Screens are printed in
-/// the paint.
+/// Carries lines out one after another, up to the first that stops the session: at which the end refuses a byte, or that
+/// closes the connection. What each prints is out before the next; behind it comes a line `late` or `ended` where it
+/// closed so, and `ok` with `ready`. Screens are printed in the paint. So many records are ahead, that lines which show
+/// something have taken.
 ///
 /// `Write` where the sink or the connection failed, `Read` where a read failed, though not for want of time, `Memory`
 /// where a growth was refused.
 pub fn carry_lines<E, S, K, L: LiveMove<E, S, K>, W: Watch<S>, O: Sink>(
     attached: &mut Attached<E, S, K>,
+    ahead: &mut u64,
     watch: &mut W,
     lines: &[L],
     ready: bool,
@@ -149,19 +138,19 @@ pub fn carry_lines<E, S, K, L: LiveMove<E, S, K>, W: Watch<S>, O: Sink>(
     requires works { attached.old.broken ≡ false }
     requires empty { out.old.held ≡ [] }
     ensures ran { IfOk result (Spec.HasRun
-        (InTime (L.runs W.tells paint) L.waits W.begins W.begun) ready O.takes O.failures
-        (attached.old, watch.old) (attached.new, watch.new)
+        (InTime (L.runs W.tells W.rests paint) L.waits W.begins W.begun) ready O.takes O.failures
+        ((attached.old, ahead.old), watch.old) ((attached.new, ahead.new), watch.new)
         out.old.sink out.new.sink lines.now) }
     ensures fault { IfErr result (Spec.IsLiveFault
-        (InTime (L.runs W.tells paint) L.waits W.begins W.begun) ready O.takes O.failures
-        (attached.old, watch.old) (attached.new, watch.new)
+        (InTime (L.runs W.tells W.rests paint) L.waits W.begins W.begun) ready O.takes O.failures
+        ((attached.old, ahead.old), watch.old) ((attached.new, ahead.new), watch.new)
         out.old.sink out.new.sink lines.now) }
     ensures works { IfOk result (λ ran. ran.is_over ≡ false → attached.new.broken ≡ false) }
     ensures held { out.new.held ≡ [] }
 {
     let mut ran = Ran::none();
     for line in lines {
-        let closing = match carry_line(attached, watch, line, ready, paint, out) {
+        let closing = match carry_line(attached, ahead, watch, line, ready, paint, out) {
             Ok(closing) => closing,
             Err(fault) => return Err(fault),
         };
@@ -176,6 +165,7 @@ pub fn carry_lines<E, S, K, L: LiveMove<E, S, K>, W: Watch<S>, O: Sink>(
 /// Carries a line out, as `carry_lines` does.
 pub fn carry_line<E, S, K, L: LiveMove<E, S, K>, W: Watch<S>, O: Sink>(
     attached: &mut Attached<E, S, K>,
+    ahead: &mut u64,
     watch: &mut W,
     line: &L,
     ready: bool,
@@ -185,18 +175,18 @@ pub fn carry_line<E, S, K, L: LiveMove<E, S, K>, W: Watch<S>, O: Sink>(
     requires works { attached.old.broken ≡ false }
     requires empty { out.old.held ≡ [] }
     ensures done { IfOk result (Spec.HasCarried
-        (InTime (L.runs W.tells paint) L.waits W.begins W.begun) ready O.takes O.failures
-        (attached.old, watch.old) (attached.new, watch.new)
+        (InTime (L.runs W.tells W.rests paint) L.waits W.begins W.begun) ready O.takes O.failures
+        ((attached.old, ahead.old), watch.old) ((attached.new, ahead.new), watch.new)
         out.old.sink out.new.sink line.now) }
     ensures fault { IfErr result (Spec.IsCarryFault
-        (InTime (L.runs W.tells paint) L.waits W.begins W.begun) ready O.takes O.failures
-        (attached.old, watch.old) (attached.new, watch.new)
+        (InTime (L.runs W.tells W.rests paint) L.waits W.begins W.begun) ready O.takes O.failures
+        ((attached.old, ahead.old), watch.old) ((attached.new, ahead.new), watch.new)
         out.old.sink out.new.sink line.now) }
     ensures works { IfOk result (λ closing.
         Spec.stops closing ≡ false → attached.new.broken ≡ false) }
     ensures held { out.new.held ≡ [] }
 {
-    let carried = line.carry_out(attached, watch, paint, out, Output::Open);
+    let carried = line.carry_out(attached, ahead, watch, paint, out, Output::Open);
     match carried.outcome {
         Ok(closing) => {
             let output = put_closing(out, carried.output, ready, closing);
@@ -253,5 +243,19 @@ fn ready_word(ready: bool, closing: Closing) -> &'static str
     match closing {
         Closing::Nothing | Closing::Stopped => "",
         _ => "ok\n",
+    }
+}
+
+/// Prints why a line is bad that can't be carried out.
+pub fn put_bad<O: Sink>(out: &mut O, output: Output, cause: &str) -> Carried
+    ensures outcome { result.outcome ≡ Spec.bad_outcome }
+    ensures text { Prints O.takes O.failures out.old out.new output result.output
+        (Spec.bad_text cause.now) }
+{
+    let output = put_text(out, output, "bad line: ");
+    let output = put_text(out, output, cause);
+    Carried {
+        output: put_text(out, output, "\n"),
+        outcome: Ok(Closing::Declined),
     }
 }

@@ -1,4 +1,5 @@
-ghost use Rattle.std.specs.Prelude.{◌≡◌, true, false, IfOk, IfErr, List, ℕ};
+ghost use Rattle.std.specs.Prelude.{◌≡◌, true, false, IfOk, IfErr, List, String as AString, ℕ};
+ghost use Rattle.std.specs.declared.alloc.Global.{Global as AGlobal};
 ghost use Rattle.std.specs.Str.Lines.{lines};
 ghost use Rattle.ws_live.specs.LiveScript as Spec;
 ghost use Rattle.ws_live.specs.LiveScript.{AreLiveLines, HasBlock, HasInside, IsBlockFault, IsReadingFault};
@@ -23,6 +24,9 @@ pub trait LiveLine: Drop {
     // A line that means nothing with those that belong to it is bad here, counted from 1 for itself.
     ghost bad_at: { List ℕ → List (List ℕ) → ℕ → Type 0 };
 
+    // What stands for a line that is bad for this cause.
+    ghost bad_line: { AString AGlobal → Self };
+
     /// Whether lines may belong to this one.
     fn opens(line: &[u8]) -> bool
         ensures begins { result ≡ true → begins line.now }
@@ -38,6 +42,10 @@ pub trait LiveLine: Drop {
         ensures line { IfOk result (means line.now (lines inside.now)) }
         ensures fault { IfErr result
             (IsBlockFault means begins bad_at line.now (lines inside.now)) };
+
+    /// What stands for a line that is bad for this cause. No line means it. It is carried out by telling the cause.
+    fn bad(cause: String) -> Self
+        ensures { result ≡ bad_line cause };
 }
 
 /// The lines of a script, in order.

@@ -135,12 +135,20 @@ fn put_answer<S: Sink>(sink: &mut S, output: Output, answer: &HostAnswer) -> Out
     ensures { Prints S.takes S.failures sink.old sink.new output result
         (Spec.host_event_text (HostEvent.Answer answer.now)) }
 {
+    let output = put_answer_line(sink, output, answer);
+    put_fields(sink, output, answer.fields.as_slice())
+}
+
+/// Writes an answer's cursor and AID.
+pub fn put_answer_line<S: Sink>(sink: &mut S, output: Output, answer: &HostAnswer) -> Output
+    ensures { Prints S.takes S.failures sink.old sink.new output result
+        (Spec.answer_line answer.now) }
+{
     let output = put_text(sink, output, "answer ");
     let output = put_cell(sink, output, answer.cursor);
     let output = put_text(sink, output, " ");
     let output = put_hex(sink, output, &[answer.aid.byte()]);
-    let output = put_text(sink, output, "\n");
-    put_fields(sink, output, answer.fields.as_slice())
+    put_text(sink, output, "\n")
 }
 
 fn put_fields<S: Sink>(sink: &mut S, output: Output, fields: &[ReadField]) -> Output

@@ -154,7 +154,8 @@ fn put_text_at<O: Sink>(out: &mut O, output: Output, screen: &Screen, span: Span
     put_text(out, output, "\n")
 }
 
-fn put_note<O: Sink>(out: &mut O, output: Output, note: &[u8]) -> Output
+/// Writes a note.
+pub fn put_note<O: Sink>(out: &mut O, output: Output, note: &[u8]) -> Output
     ensures { Prints O.takes O.failures out.old out.new output result (Spec.note_line note.now) }
 {
     let output = put(out, output, note);

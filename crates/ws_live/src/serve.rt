@@ -5,11 +5,14 @@ ghost use Rattle.ws_live.specs.LiveText.{stops};
 ghost use Rattle.ws_text.specs.Printing.{Prints};
 
 use crate::buffered_sink::BufferedSink;
-use crate::live::{Carried, Closing, LiveMove, Watch, hand_on};
+use crate::live::{Carried, Closing, LiveMove, hand_on, put_bad};
 use crate::paint::Paint;
-use crate::play::{put_event, put_host_event};
+use crate::play::put_event;
 use crate::screen_lines::put_screen;
 use crate::serve_line::{AnswerAwaited, HostLine};
+use crate::told_event::put_told;
+use crate::watch::{WaitSpan, Watch};
+use crate::wire_line::carry_wire;
 use ws_code::{Fault, Sink, Source};
 use ws_record::Opcode;
 use ws_session::{Attached, Event, HostEnd, HostEvent, Order, SendFault};
@@ -17,13 +20,15 @@ use ws_stream::Element;
 use ws_text::Output;
 
 impl<S: Source, K: Sink> LiveMove<HostEnd, S, K> for HostLine {
-    ghost runs = { λ tells paint. Spec.HostRuns K.takes K.failures S.gives S.failures tells };
+    ghost runs = { λ tells rests paint.
+        Spec.HostRuns K.takes K.failures S.gives S.failures tells };
 
     ghost waits = { Spec.host_waits };
 
     fn carry_out<W: Watch<S>, O: Sink>(
         &self,
         attached: &mut Attached<HostEnd, S, K>,
+        _ahead: &mut u64,
         watch: &mut W,
         _paint: Paint,
         out: &mut O,
@@ -36,18 +41,23 @@ impl<S: Source, K: Sink> LiveMove<HostEnd, S, K> for HostLine {
             },
             HostLine::Give(order) => put_given(out, output, give(attached, order)),
             HostLine::Await => {
-                watch.begin(attached.source());
+                watch.begin(attached.source(), WaitSpan::Whole);
                 hear_event(attached, watch, out, output)
             }
             HostLine::AwaitAnswer(awaited) => {
                 let source = attached.source();
-                watch.begin(source);
+                watch.begin(source, WaitSpan::Whole);
                 hear_answer(attached, watch, awaited, out, output)
             }
             HostLine::Show => Carried {
                 output: put_screen(out, output, Paint::Plain, attached.end().screen()),
                 outcome: Ok(Closing::Done),
             },
+            HostLine::Wire(line) => Carried {
+                output,
+                outcome: carry_wire(attached, watch, line),
+            },
+            HostLine::Bad(cause) => put_bad(out, output, cause.as_str()),
         }
     }
 }
@@ -126,7 +136,7 @@ fn hear_event<S: Source, K: Sink, W: Watch<S>, O: Sink>(
 {
     match attached.hear() {
         Ok(Some(event)) => Carried {
-            output: put_event(out, output, &Event::Host(event)),
+            output: put_told(out, output, &event),
             outcome: Ok(Closing::Done),
         },
         Ok(None) => Carried {
@@ -156,7 +166,7 @@ fn hear_answer<S: Source, K: Sink, W: Watch<S>, O: Sink>(
     for _ in 0..4_294_967_296u64 {
         match attached.hear() {
             Ok(Some(event)) => {
-                output = put_host_event(out, output, &event);
+                output = put_told(out, output, &event);
                 if is_awaited(awaited, &event) {
                     return Carried {
                         output,
@@ -238,6 +248,7 @@ fn unread<S, W: Watch<S>>(watch: &W, source: &S) -> Result<Closing, Fault>
 /// 4,294,967,296 things were told; `Memory` where a growth was refused.
 pub fn answer_on<S: Source, K: Sink, W: Watch<S>, O: Sink>(
     attached: &mut Attached<HostEnd, S, K>,
+    ahead: &mut u64,
     watch: &mut W,
     out: &mut BufferedSink<O>,
 ) -> Result<bool, Fault>
@@ -245,13 +256,16 @@ pub fn answer_on<S: Source, K: Sink, W: Watch<S>, O: Sink>(
     requires empty { out.old.held ≡ [] }
     ensures answered { IfOk result (Spec.HasAnsweredOn K.takes K.failures S.gives S.failures
         W.tells W.begins W.begun O.takes O.failures
-        (attached.old, watch.old) (attached.new, watch.new) out.old.sink out.new.sink) }
+        ((attached.old, ahead.old), watch.old) ((attached.new, ahead.new), watch.new)
+        out.old.sink out.new.sink) }
     ensures fault { IfErr result (Spec.IsAnswerOnFault K.takes K.failures S.gives S.failures
         W.tells W.begins W.begun O.takes O.failures
-        (attached.old, watch.old) (attached.new, watch.new) out.old.sink out.new.sink) }
+        ((attached.old, ahead.old), watch.old) ((attached.new, ahead.new), watch.new)
+        out.old.sink out.new.sink) }
+    ensures held { out.new.held ≡ [] }
 {
     for _ in 0..4_294_967_296u64 {
-        match answer_once(attached, watch, out) {
+        match answer_once(attached, ahead, watch, out) {
             Ok(closing) => {
                 if !is_told(closing) {
                     return Ok(!closing.ran().is_over);
@@ -266,6 +280,7 @@ pub fn answer_on<S: Source, K: Sink, W: Watch<S>, O: Sink>(
 // Takes what the station sends up to the next thing that the host end tells, and prints it: how the wait closed.
 fn answer_once<S: Source, K: Sink, W: Watch<S>, O: Sink>(
     attached: &mut Attached<HostEnd, S, K>,
+    ahead: &mut u64,
     watch: &mut W,
     out: &mut BufferedSink<O>,
 ) -> Result<Closing, Fault>
@@ -273,15 +288,24 @@ fn answer_once<S: Source, K: Sink, W: Watch<S>, O: Sink>(
     requires empty { out.old.held ≡ [] }
     ensures answered { IfOk result (Spec.HasAnsweredOnce K.takes K.failures S.gives S.failures
         W.tells W.begins W.begun O.takes O.failures
-        (attached.old, watch.old) (attached.new, watch.new) out.old.sink out.new.sink) }
+        ((attached.old, ahead.old), watch.old) ((attached.new, ahead.new), watch.new)
+        out.old.sink out.new.sink) }
     ensures fault { IfErr result (Spec.IsAnswerFault K.takes K.failures S.gives S.failures
         W.tells W.begins W.begun O.takes O.failures
-        (attached.old, watch.old) (attached.new, watch.new) out.old.sink out.new.sink) }
+        ((attached.old, ahead.old), watch.old) ((attached.new, ahead.new), watch.new)
+        out.old.sink out.new.sink) }
     ensures works { IfOk result (λ closing.
         stops closing ≡ false → attached.new.broken ≡ false) }
     ensures held { out.new.held ≡ [] }
 {
-    let carried = HostLine::Await.carry_out(attached, watch, Paint::Plain, out, Output::Open);
+    let carried = HostLine::Await.carry_out(
+        attached,
+        ahead,
+        watch,
+        Paint::Plain,
+        out,
+        Output::Open,
+    );
     let output = hand_on(out, carried.output);
     match carried.outcome {
         Ok(closing) => match output {

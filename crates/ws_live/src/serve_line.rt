@@ -4,13 +4,16 @@ ghost use Rattle.ws_live.specs.LiveScript.{IsBlockFault};
 ghost use Rattle.ws_live.specs.ServeLines.{BeginsHostLine, IsBadHostLineAt, IsHostLine, IsOneLine, OpensHostBlock};
 ghost use Rattle.ws_live.specs.ServeLines as Spec;
 ghost use Rattle.ws_live.specs.ServeLines.{IsAnswerAwaited};
-ghost use Rattle.ws_live.specs.ScriptFaults.{IsLineFault, IsNoComment, IsSendLine, has_no_blank};
+ghost use Rattle.ws_live.specs.ScriptFaults.{IsLineFault, IsNoComment, has_no_blank};
+ghost use Rattle.ws_live.specs.declared.serve_line.HostLine.TheVariants.{Bad};
 
 use crate::key_name::aid_named;
 use crate::live_line::LiveLine;
 use crate::script::ScriptFault;
 use crate::script_line::LineFault;
 use crate::script_move::{read_move, read_opcode, split_word};
+use crate::wire_line::WireLine;
+use crate::wire_words::read_wire;
 use std::alloc::Global;
 use std::str;
 use ws_code::Aid;
@@ -30,7 +33,7 @@ pub enum AnswerAwaited {
 /// A line of a script for a host of one station.
 #[derive(Drop)]
 pub enum HostLine {
-    /// An empty line or a comment.
+    /// An empty line, a comment, or the end of the lines that belong to the one before.
     Nothing,
     /// The host end is told to send a record, or to cancel its read.
     Give(Order),
@@ -40,6 +43,10 @@ pub enum HostLine {
     AwaitAnswer(AnswerAwaited),
     /// The screen that the host end keeps is printed.
     Show,
+    /// Something is done at the connection itself.
+    Wire(WireLine),
+    /// A line that is bad for this cause, which is told.
+    Bad(String),
 }
 
 impl LiveLine for HostLine {
@@ -50,6 +57,8 @@ impl LiveLine for HostLine {
     ghost opener = { OpensHostBlock };
 
     ghost bad_at = { IsBadHostLineAt };
+
+    ghost bad_line = { λ cause. Bad cause };
 
     fn opens(line: &[u8]) -> bool {
         sent_alone(line).is_some()
@@ -67,6 +76,10 @@ impl LiveLine for HostLine {
             },
             None => Err(ScriptFault::Line(1)),
         }
+    }
+
+    fn bad(cause: String) -> Self {
+        HostLine::Bad(cause)
     }
 }
 
@@ -100,7 +113,7 @@ fn read_line(alloc: Global, line: &[u8]) -> Result<HostLine, LineFault>
     }
     match split_word(text) {
         None => read_word(text),
-        Some((command, words)) => read_command(alloc, command, words),
+        Some((command, words)) => read_command(alloc, text, command, words),
     }
 }
 
@@ -115,19 +128,28 @@ fn read_word(word: &str) -> Result<HostLine, LineFault>
     match word {
         "await" => Ok(HostLine::Await),
         "cancel" => Ok(HostLine::Give(Order::Cancel)),
+        "close" => Ok(HostLine::Wire(WireLine::Close)),
+        "end" => Ok(HostLine::Nothing),
         "show" => Ok(HostLine::Show),
         _ => Err(LineFault::Bad),
     }
 }
 
-// A command with words behind its blank: a record to be sent, as in a script of both ends, or a wait for an answer.
-fn read_command(alloc: Global, command: &str, words: &str) -> Result<HostLine, LineFault>
+// A command with words behind its blank: a record to be sent, as in a script of both ends, a wait for an answer, or what
+// is done at the connection.
+fn read_command(
+    alloc: Global,
+    line: &str,
+    command: &str,
+    words: &str,
+) -> Result<HostLine, LineFault>
+    requires is { line.now ≡ command.now ++ codes " " ++ words.now }
     requires no_blank { has_no_blank command.now ≡ true }
     requires no_comment { IsNoComment (command.now ++ codes " " ++ words.now) }
     ensures line { IfOk result (Spec.Means (command.now ++ codes " " ++ words.now)) }
     ensures fault { IfErr result
         (IsLineFault (Spec.Means (command.now ++ codes " " ++ words.now))
-        (IsSendLine (command.now ++ codes " " ++ words.now))) }
+        (Spec.IsHostBegun (command.now ++ codes " " ++ words.now))) }
 {
     match command {
         "send" => match read_move(alloc, command, words) {
@@ -139,7 +161,10 @@ fn read_command(alloc: Global, command: &str, words: &str) -> Result<HostLine, L
             Ok(awaited) => Ok(HostLine::AwaitAnswer(awaited)),
             Err(fault) => Err(fault),
         },
-        _ => Err(LineFault::Bad),
+        _ => match read_wire(alloc, line) {
+            Ok(wire) => Ok(HostLine::Wire(wire)),
+            Err(fault) => Err(fault),
+        },
     }
 }
 

@@ -19,8 +19,8 @@ use Rattle.ws_any_host.specs.declared.any_line.AnyLine.TheVariants.{Await}
 use Rattle.ws_network.specs.AnySessions.{IsAnyServed, IsTextAndOn, IsFaultThenOrOn, RunsAny}
 use Rattle.ws_network.specs.Times.{Reads, Writes, no_reads, no_writes, gives, takes, tells, begins}
 use Rattle.ws_network.proofs.SessionLaws.{new_at}
-use Rattle.ws_program.specs.RunFaults.{run_fault}
-use Rattle.ws_program.specs.declared.fault.RunFault.{RunFault}
+use Rattle.ws_program.specs.RunFaults.{told_fault}
+use Rattle.ws_program.specs.declared.fault.ToldFault.{ToldFault}
 use Rattle.ws_words.specs.declared.live_command.ServeAsked.{ServeAsked}
 
 -- A session at a host that takes any record.
@@ -32,13 +32,13 @@ module _ {L P : Type 0} (runs : L → P → Result Closing Fault → List ℕ �
   pub stopped_text : ran.is_over ≡ true → IsTextAndOn runs on ready from lines ran.all_well printed mid
   stopped_text over = elim h [
     | inl all ↦ absurd (false≢true (sym all.1 ∙ over))
-    | inr at ↦ inr (at.0, ap (λ r. r.all_well) at.1)
+    | inr at ↦ inr (ran, at, refl)
   ]
 
   all_run : ran.is_over ≡ false → HaveRun runs ready from lines ran.all_well printed mid
   all_run going = elim h [
     | inl all ↦ all.0
-    | inr at ↦ absurd (false≢true (sym going ∙ ap (λ r. r.is_over) at.1))
+    | inr at ↦ absurd (false≢true (sym going ∙ ap (λ r. r.is_over) at.came))
   ]
 
   pub carried_text : (to : P) (well : Bool) (told : List ℕ) → ran.is_over ≡ false
@@ -49,7 +49,7 @@ module _ {L P : Type 0} (runs : L → P → Result Closing Fault → List ℕ �
 
   -- what was told behind the lines didn't go out, or a device or memory failed
   pub uncarried : {O : Type 0} (prints : MayTake O) (misprints : O → ℕ) (to : P) (old between new : O)
-      (has_script : Bool) (told : RunFault) (why : Fault) → told ≡ run_fault why → ran.is_over ≡ false
+      (has_script : Bool) (told : ToldFault) (why : Fault) → told ≡ told_fault why → ran.is_over ≡ false
       → WentOut prints misprints old between printed → IsCarryOnFault runs on prints misprints mid to between new why
       → IsFaultThenOrOn runs on ready prints misprints from to old new has_script lines told
   uncarried prints misprints to old between new has_script told why is going out fault =
@@ -57,10 +57,10 @@ module _ {L P : Type 0} (runs : L → P → Result Closing Fault → List ℕ �
 
 -- a host whose opening went out has carried the lines out
 module _ (asked : ServeAsked) (lines : List AnyLine) (all_well : Bool) (text : List ℕ)
-    (to : AttachedParts AnyParts Reads Writes × ℕ) where
+    (to : (AttachedParts AnyParts Reads Writes × ℕ) × ℕ) where
   abbrev RanAny : AttachedParts AnyParts Reads Writes → ℕ → Type 0
   RanAny attached begun = IsTextAndOn (RunsAny takes (λ s. s.failures) gives (λ s. s.failures) tells begins (λ n. n))
-      Await asked.ready (attached, begun) lines all_well text to
+      Await asked.ready ((attached, 0), begun) lines all_well text to
 
   abbrev Told : Writes → Writes → List ℕ → Type 0
   Told from sink bytes = WentOut takes (λ s. s.failures) from sink bytes

@@ -1,4 +1,4 @@
-use Rattle.std.proofs.Common.{◌≡◌, ℕ, List, [], ◌∷◌, Bool, true, false, sym, subst, Bor}
+use Rattle.std.proofs.Common.{◌≡◌, ℕ, List, [], ◌∷◌, Bool, true, false, sym, subst, ◌∙◌, Bor}
 use Rattle.std.specs.Prelude.{Option, None, Some, MatchOption, Result, IfOk, Ok}
 use Rattle.std.specs.Option.{is_none}
 use Rattle.std.proofs.lemmas.Bool.{false≢true}
@@ -23,7 +23,7 @@ use Rattle.ws_live.specs.ServeText.{IsServeText}
 use Rattle.ws_live.specs.declared.connect_line.StationLine.{StationLine}
 use Rattle.ws_live.specs.declared.serve_line.HostLine.{HostLine}
 use Rattle.ws_network.specs.Sessions.{AreFromScript, IsConnected, IsServed}
-use Rattle.ws_network.specs.Times.{Reads, Writes, no_reads, no_writes, gives, takes, tells, begins}
+use Rattle.ws_network.specs.Times.{Reads, Writes, no_reads, no_writes, gives, takes, tells, rests, begins}
 use Rattle.ws_words.specs.declared.live_command.ConnectAsked.{ConnectAsked}
 use Rattle.ws_words.specs.declared.live_command.ServeAsked.{ServeAsked}
 
@@ -37,14 +37,22 @@ judged P Q outcome told given same then =
 
 module _ {L V : Type 0} (items : V → List L) (means : List ℕ → List (List ℕ) → L → Type 0)
     (opener : List ℕ → Type 0) where
-  pub from_script : (script : Option (Bor (List ℕ))) (read : Option V) (lines : List L)
+  -- the lines of a slice are those that were read
+  abbrev pub IsSliceOf : Option V → Option (Bor (List L)) → Type 0
+  IsSliceOf read slice = MatchOption read (is_none slice ≡ true)
+      (λ v. MatchOption slice ⊥ (λ s. s.now ≡ items v))
+
+  pub from_script : (script : Option (Bor (List ℕ))) (read : Option V) (slice : Option (Bor (List L)))
+      (lines : List L)
       → MatchOption read (is_none script ≡ true) (λ v. (file : List ℕ) × AreLiveLines means opener file (items v))
-      → MatchOption read (Unit {0}) (λ v. lines ≡ items v) → AreFromScript means opener script lines
-  from_script None read lines file all = tt
-  from_script (Some path) None lines none all = absurd (false≢true none)
-  from_script (Some path) (Some v) lines file all = (
+      → IsSliceOf read slice → MatchOption slice (Unit {0}) (λ s. lines ≡ s.now)
+      → AreFromScript means opener script lines
+  from_script None read slice lines file is all = tt
+  from_script (Some path) None slice lines none is all = absurd (false≢true none)
+  from_script (Some path) (Some v) None lines file is all = absurd is
+  from_script (Some path) (Some v) (Some s) lines file is all = (
     file.0,
-    subst (λ z. AreLiveLines means opener file.0 z) (sym all) file.1,
+    subst (λ z. AreLiveLines means opener file.0 z) (sym (all ∙ is)) file.1,
   )
 
 -- an end at a connection, where the devices are new
@@ -54,10 +62,10 @@ new_at end source sink = record { end = end; source = source; sink = sink; waiti
 -- a station that is new at a connection has carried the lines out
 module _ {D P U H PlaceV V Q R : Type 0} (rules : Rules P U) (d : DisplayOf D U H PlaceV V Q R)
     (operated : OperatedOn D) (words : KeyWords Q) (asked : ConnectAsked) (lines : List (StationLine Q)) (all_well : Bool) (text : List ℕ)
-    (to : AttachedParts (PartsOn D P) Reads Writes × ℕ) where
+    (to : (AttachedParts (PartsOn D P) Reads Writes × ℕ) × ℕ) where
   abbrev Ran : AttachedParts (PartsOn D P) Reads Writes → ℕ → Type 0
-  Ran attached begun = IsConnectText rules d takes (λ s. s.failures) gives (λ s. s.failures) tells operated words begins
-      (λ n. n) asked.paint asked.ready (attached, begun) lines all_well text to
+  Ran attached begun = IsConnectText rules d takes (λ s. s.failures) gives (λ s. s.failures) tells rests operated words
+      begins (λ n. n) asked.paint asked.ready ((attached, 0), begun) lines all_well text to
 
   pub connected : (station : PartsOn D P) (source : Reads) (sink : Writes)
       (attached : AttachedParts (PartsOn D P) Reads Writes) (begun : ℕ)
@@ -74,10 +82,10 @@ module _ {D P U H PlaceV V Q R : Type 0} (rules : Rules P U) (d : DisplayOf D U 
 
 -- a host end whose opening went out has carried the lines out
 module _ (asked : ServeAsked) (lines : List HostLine) (all_well : Bool) (text : List ℕ)
-    (to : AttachedParts HostParts Reads Writes × ℕ) where
+    (to : (AttachedParts HostParts Reads Writes × ℕ) × ℕ) where
   abbrev RanServe : AttachedParts HostParts Reads Writes → ℕ → Type 0
   RanServe attached begun = IsServeText takes (λ s. s.failures) gives (λ s. s.failures) tells begins (λ n. n)
-      asked.ready (attached, begun) lines all_well text to
+      asked.ready ((attached, 0), begun) lines all_well text to
 
   abbrev Told : Writes → Writes → List ℕ → Type 0
   Told from sink bytes = WentOut takes (λ s. s.failures) from sink bytes

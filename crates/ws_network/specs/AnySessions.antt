@@ -8,22 +8,22 @@ use Rattle.ws_record.specs.Encode.{plain_spelling}
 use Rattle.ws_record.specs.RawBody.{raw_rules}
 use Rattle.ws_record.specs.declared.record.Item.TheVariants.{Telnet}
 use Rattle.ws_session.specs.Attachments.{AttachedParts}
-use Rattle.ws_live.specs.LiveText.{HaveRun, IsStoppedAt}
+use Rattle.ws_live.specs.LiveText.{HaveRun, IsOverAt}
 use Rattle.ws_live.specs.Waits.{InTime}
 use Rattle.ws_live.specs.declared.live.Closing.{Closing}
-use Rattle.ws_live.specs.declared.live.Closing.TheVariants.{Stopped}
+use Rattle.ws_live.specs.declared.live.Ran.{Ran}
+use Rattle.ws_live.specs.declared.watch.WaitSpan.{WaitSpan}
 use Rattle.ws_any_host.specs.AnyLeads.{AnyParts, AnyLeads}
-use Rattle.ws_any_host.specs.AnyLines.{IsAnyLine, OpensAnyBlock}
 use Rattle.ws_any_host.specs.AnyOptions.{new_negotiated, once_opened}
 use Rattle.ws_any_host.specs.AnyText.{AnyRuns, any_waits}
 use Rattle.ws_any_host.specs.CarryingOn.{IsCarriedText, IsCarryOnFault}
 use Rattle.ws_any_host.specs.declared.any_line.AnyLine.{AnyLine}
 use Rattle.ws_any_host.specs.declared.any_line.AnyLine.TheVariants.{Await}
 use Rattle.ws_network.specs.LiveFaults.{IsSessionFault}
-use Rattle.ws_network.specs.Sessions.{AreFromScript, at_connection}
+use Rattle.ws_network.specs.Sessions.{at_connection}
 use Rattle.ws_network.specs.Times.{Reads, Writes, no_writes, gives, takes, tells, begins}
-use Rattle.ws_program.specs.RunFaults.{run_fault}
-use Rattle.ws_program.specs.declared.fault.RunFault.{RunFault}
+use Rattle.ws_program.specs.RunFaults.{told_fault}
+use Rattle.ws_program.specs.declared.fault.ToldFault.{ToldFault}
 use Rattle.ws_words.specs.declared.live_command.ServeAsked.{ServeAsked}
 
 -- lines, and behind them one that is carried out again and again
@@ -34,22 +34,22 @@ module _ {L P : Type 0} (runs : L → P → Result Closing Fault → List ℕ �
       ((well : Bool) × (mid : P) × (printed : List ℕ) × (on_well : Bool) × (told : List ℕ)
       × HaveRun runs ready from lines well printed mid × IsCarriedText runs on mid on_well told to
       × (all_well ≡ well && on_well) × (text ≡ printed ++ told))
-      ⊎ (IsStoppedAt runs ready from lines (Ok Stopped) text to × (all_well ≡ false))
+      ⊎ ((ran : Ran) × IsOverAt runs ready from lines ran text to × (all_well ≡ ran.all_well))
 
   module _ {O : Type 0} (prints : MayTake O) (misprints : O → ℕ) (from to : P) (old new : O) where
     -- why a session ended early: in its lines, or behind them, when what they print is out
-    abbrev pub IsFaultThenOrOn : Bool → List L → RunFault → Type 0
+    abbrev pub IsFaultThenOrOn : Bool → List L → ToldFault → Type 0
     IsFaultThenOrOn has_script lines told =
         IsSessionFault runs ready prints misprints from to old new has_script lines told
         ⊎ ((well : Bool) × (printed : List ℕ) × (mid : P) × (between : O)
         × HaveRun runs ready from lines well printed mid × WentOut prints misprints old between printed
-        × ((why : Fault) × IsCarryOnFault runs on prints misprints mid to between new why × (told ≡ run_fault why)))
+        × ((why : Fault) × IsCarryOnFault runs on prints misprints mid to between new why × (told ≡ told_fault why)))
 
 module _ {S K W : Type 0} (writes : MayTake K) (failures : K → ℕ) (reads : MayGive S) (misses : S → ℕ)
-    (says : S → Bool → Type 0) (starts : W → S → W → Type 0) (begun : W → ℕ) where
+    (says : S → Bool → Type 0) (starts : W → S → WaitSpan → W → Type 0) (begun : W → ℕ) where
   -- what a line does at a host that takes any record, and a watch
-  abbrev pub RunsAny : AnyLine → (AttachedParts AnyParts S K × W) → Result Closing Fault → List ℕ
-      → (AttachedParts AnyParts S K × W) → Type 0
+  abbrev pub RunsAny : AnyLine → ((AttachedParts AnyParts S K × ℕ) × W) → Result Closing Fault → List ℕ
+      → ((AttachedParts AnyParts S K × ℕ) × W) → Type 0
   RunsAny = InTime (AnyRuns writes failures reads misses says) any_waits starts begun
 
 -- a host whose opening went out carried out the lines, and then took what came
@@ -58,13 +58,6 @@ pub record IsAnyServed (asked : ServeAsked) (lines : List AnyLine) (all_well : B
   pub opened : AnyLeads host [] [] (once_opened new_negotiated)
   pub sink : Writes
   pub told : WentOut takes (λ s. s.failures) no_writes sink (plain_spelling raw_rules (Telnet opening ∷ []))
-  pub to : AttachedParts AnyParts Reads Writes × ℕ
+  pub to : (AttachedParts AnyParts Reads Writes × ℕ) × ℕ
   pub ran : IsTextAndOn (RunsAny takes (λ s. s.failures) gives (λ s. s.failures) tells begins (λ begun. begun)) Await
-      asked.ready (at_connection host sink, 0) lines all_well text to
-
--- what a session of a host that takes any record came to: its lines were carried out, and what they printed went out
--- behind what tells the address
-abbrev pub HasAnyServed : {O : Type 0} → MayTake O → (O → ℕ) → O → O → ServeAsked → Bool → Type 0
-HasAnyServed prints misprints old new asked all_well = (lines : List AnyLine) × (first : List ℕ) × (text : List ℕ)
-    × AreFromScript IsAnyLine OpensAnyBlock asked.script lines × IsAnyServed asked lines all_well text
-    × WentOut prints misprints old new (first ++ text)
+      asked.ready ((at_connection host sink, 0), 0) lines all_well text to

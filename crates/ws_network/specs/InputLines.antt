@@ -1,33 +1,55 @@
 -- The lines of standard input, and why there is none more.
 
-use Rattle.std.specs.Prelude.{◌≡◌, ℕ, ◌+◌, ◌-◌, ◌^◌, List, ◌⊎◌, min}
+use Rattle.std.specs.Prelude.{◌≡◌, ℕ, ◌+◌, ◌-◌, ◌^◌, List, ◌∷◌, ◌⊎◌, Bool, true, false, String, string_bytes, min}
+use Rattle.std.specs.Global.{Global}
 use Rattle.std_io.specs.declared.io.kind.ErrorKind.{ErrorKind}
 use Rattle.std_io.specs.declared.io.kind.ErrorKind.TheVariants.{OutOfMemory}
-use Rattle.ws_program.specs.declared.fault.RunFault.{RunFault}
-use Rattle.ws_program.specs.declared.fault.RunFault.TheVariants.{Read, Line, Memory}
+use Rattle.ws_program.specs.ToldFaults.{TellsCause}
+use Rattle.ws_program.specs.declared.fault.RunFault.TheVariants.{Read, Memory}
+use Rattle.ws_program.specs.declared.fault.ToldFault.{ToldFault}
+use Rattle.ws_program.specs.declared.fault.ToldFault.TheVariants.{Run, Line}
+use Rattle.ws_program.specs.declared.vocabulary.Vocabulary.{Vocabulary}
 
 -- why no line was to be had, by the kind of the error
-abbrev pub unread_fault : ErrorKind → RunFault
-unread_fault OutOfMemory = Memory
-unread_fault kind = Read
+abbrev pub unread_fault : ErrorKind → ToldFault
+unread_fault OutOfMemory = Run Memory
+unread_fault kind = Run Read
 
 -- standard input can't be read, or a growth was refused
-abbrev pub IsUnreadFault : RunFault → Type 0
-IsUnreadFault told = (told ≡ Read) ⊎ (told ≡ Memory)
+abbrev pub IsUnreadFault : ToldFault → Type 0
+IsUnreadFault told = (told ≡ Run Read) ⊎ (told ≡ Run Memory)
 
--- why there is no line more: standard input can't be read, a growth was refused, or a line is bad, counted from 1
-abbrev pub IsInputFault : RunFault → Type 0
-IsInputFault told = (told ≡ Read) ⊎ ((told ≡ Memory) ⊎ ((number : ℕ) × (told ≡ Line number)))
+-- Why there is no line more: standard input can't be read, a growth was refused, or a line is bad, counted from 1. A
+-- session that tells when it is ready goes on behind a bad line.
+abbrev pub IsInputFault : Bool → ToldFault → Type 0
+IsInputFault ready told = IsUnreadFault told
+    ⊎ ((ready ≡ false) × ((number : ℕ) × (cause : String Global) × (told ≡ Line number cause)))
 
 module _ {L : Type 0} (means : List ℕ → List (List ℕ) → L → Type 0) where
+  -- a line with those that belong to it means nothing
+  abbrev pub IsMeaningless : List ℕ → List (List ℕ) → Type 0
+  IsMeaningless line inside = (read : L) → means line inside read → ⊥
+
   -- a line that was read, and those that belong to it, mean this
   abbrev pub IsMeant : L → Type 0
   IsMeant read = (line : List ℕ) × (inside : List (List ℕ)) × means line inside read
 
-  -- Where a line is told as bad behind so many, it means nothing with those that belong to it, and the number is that
-  -- of the bad one, as far as 64 bits count.
-  abbrev pub IsBadLine : (List ℕ → List (List ℕ) → ℕ → Type 0) → ℕ → RunFault → Type 0
-  IsBadLine bad_at before (Line number) = (line : List ℕ) × (inside : List (List ℕ))
-      × ((read : L) → means line inside read → ⊥)
-      × ((at : ℕ) × bad_at line inside at × (number ≡ min (before + at) (2 ^ 64 - 1)))
-  IsBadLine bad_at before told = Unit {0}
+  module _ (bad_at : List ℕ → List (List ℕ) → ℕ → Type 0) (vocabulary : Vocabulary) where
+    -- A line with those that belong to it means nothing, and this tells why, of the bad one among them.
+    abbrev pub TellsWhyBad : List ℕ → List (List ℕ) → ℕ → List ℕ → Type 0
+    TellsWhyBad line inside at text = IsMeaningless line inside × bad_at line inside at
+        × TellsCause vocabulary (line ∷ inside) at text
+
+    -- What comes of a line that was read: what it means, or where a session tells when it is ready what stands for a bad
+    -- line, with its cause.
+    abbrev pub IsNextLine : (String Global → L) → Bool → L → Type 0
+    IsNextLine bad_line ready next = IsMeant next ⊎ ((ready ≡ true) × ((cause : String Global) × (next ≡ bad_line cause)
+        × ((line : List ℕ) × (inside : List (List ℕ)) × ((at : ℕ)
+        × TellsWhyBad line inside at (string_bytes cause)))))
+
+    -- Where a line is told as bad behind so many, it means nothing with those that belong to it, and the number is that
+    -- of the bad one, as far as 64 bits count.
+    abbrev pub IsBadLine : ℕ → ToldFault → Type 0
+    IsBadLine before (Line number cause) = (line : List ℕ) × (inside : List (List ℕ)) × ((at : ℕ)
+        × TellsWhyBad line inside at (string_bytes cause) × (number ≡ min (before + at) (2 ^ 64 - 1)))
+    IsBadLine before told = Unit {0}

@@ -24,11 +24,10 @@ use Rattle.ws_live.specs.ExtendedKeyNames.{extended_words}
 use Rattle.ws_live.specs.KeyWords.{KeyWords, profile_words}
 use Rattle.ws_live.specs.LiveScript.{AreLiveLines}
 use Rattle.ws_live.specs.Operating.{OperatedOn, operated_profile}
-use Rattle.ws_live.specs.ServeLines.{IsHostLine, OpensHostBlock}
 use Rattle.ws_live.specs.ServeText.{IsServeText}
 use Rattle.ws_live.specs.declared.connect_line.StationLine.{StationLine}
 use Rattle.ws_live.specs.declared.serve_line.HostLine.{HostLine}
-use Rattle.ws_network.specs.Times.{Reads, Writes, no_reads, no_writes, gives, takes, tells, begins}
+use Rattle.ws_network.specs.Times.{Reads, Writes, no_reads, no_writes, gives, takes, tells, rests, begins}
 use Rattle.ws_words.specs.declared.live_command.ConnectAsked.{ConnectAsked}
 use Rattle.ws_words.specs.declared.live_command.ServeAsked.{ServeAsked}
 
@@ -54,9 +53,9 @@ module _ {D P U H PlaceV V Q R : Type 0} (rules : Rules P U) (d : DisplayOf D U 
       : Type 0 where
     pub station : PartsOn D P
     pub new : LeadsOn rules d station [] [] (new_side_on d asked.terminal)
-    pub to : AttachedParts (PartsOn D P) Reads Writes × ℕ
-    pub ran : IsConnectText rules d takes (λ s. s.failures) gives (λ s. s.failures) tells operated words begins
-        (λ begun. begun) asked.paint asked.ready (at_connection station no_writes, 0) lines all_well text to
+    pub to : (AttachedParts (PartsOn D P) Reads Writes × ℕ) × ℕ
+    pub ran : IsConnectText rules d takes (λ s. s.failures) gives (λ s. s.failures) tells rests operated words
+        begins (λ begun. begun) asked.paint asked.ready ((at_connection station no_writes, 0), 0) lines all_well text to
 
 -- a host end whose opening went out carried out the lines and answered on
 pub record IsServed (asked : ServeAsked) (lines : List HostLine) (all_well : Bool) (text : List ℕ) : Type 0 where
@@ -65,9 +64,9 @@ pub record IsServed (asked : ServeAsked) (lines : List HostLine) (all_well : Boo
   pub sink : Writes
   pub told : WentOut takes (λ s. s.failures) no_writes sink
       (plain_spelling element_rules (Telnet opening ∷ []))
-  pub to : AttachedParts HostParts Reads Writes × ℕ
+  pub to : (AttachedParts HostParts Reads Writes × ℕ) × ℕ
   pub ran : IsServeText takes (λ s. s.failures) gives (λ s. s.failures) tells begins (λ begun. begun) asked.ready
-      (at_connection host sink, 0) lines all_well text to
+      ((at_connection host sink, 0), 0) lines all_well text to
 
 module _ {O : Type 0} (prints : MayTake O) (misprints : O → ℕ) (old new : O) where
   module _ {D P U H PlaceV V Q R : Type 0} (rules : Rules P U) (d : DisplayOf D U H PlaceV V Q R)
@@ -90,9 +89,3 @@ module _ {O : Type 0} (prints : MayTake O) (misprints : O → ℕ) (old new : O)
   -- what a session of `connect` came to, at the display that was asked for
   abbrev pub HasConnected : ConnectAsked → Bool → Type 0
   HasConnected asked all_well = HasConnectedAs asked.extended asked all_well
-
-  -- what a session of `serve` came to, behind what tells the address at which it listens
-  abbrev pub HasServed : ServeAsked → Bool → Type 0
-  HasServed asked all_well = (lines : List HostLine) × (first : List ℕ) × (text : List ℕ)
-      × AreFromScript IsHostLine OpensHostBlock asked.script lines × IsServed asked lines all_well text
-      × WentOut prints misprints old new (first ++ text)

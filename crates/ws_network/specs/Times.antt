@@ -3,16 +3,19 @@
 use Rattle.std.specs.Prelude.{◌≡◌, ℕ, List, Bool, true, false, Option, None, Some, IfNone}
 use Rattle.std.specs.Option.{is_some}
 use Rattle.std_io.specs.declared.io.kind.ErrorKind.{ErrorKind}
+use Rattle.ws_live.specs.declared.watch.WaitSpan.{WaitSpan}
 use Rattle.std_io.specs.declared.io.kind.ErrorKind.TheVariants.{WouldBlock, TimedOut}
 
--- what is known of the reads from a connection: how many failed, and of what kind the error of the last of these was
+-- what is known of the reads from a connection: how many failed, of what kind the error of the last of these was, and
+-- whether the time that was over then, if one was, was that in which nothing had come
 pub record Reads : Type 0 where
   pub failures : ℕ
   pub failure : Option ErrorKind
+  pub rested : Bool
 
 -- no read has failed
 abbrev pub no_reads : Reads
-no_reads = record { failures = 0; failure = None }
+no_reads = record { failures = 0; failure = None; rested = false }
 
 -- what is known of the writes to a connection: how many failed
 pub record Writes : Type 0 where
@@ -49,6 +52,10 @@ was_late reads = is_late reads.failure
 abbrev pub tells : Reads → Bool → Type 0
 tells reads late = late ≡ was_late reads
 
+-- what is told of a read that has failed for want of time: whether that was since nothing had come
+abbrev pub rests : Reads → Bool → Type 0
+rests reads quiet = quiet ≡ reads.rested
+
 -- What the beginning of a wait does at a timer isn't known: no contract says what a clock tells.
-abbrev pub begins : ℕ → Reads → ℕ → Type 0
-begins from reads to = Unit {0}
+abbrev pub begins : ℕ → Reads → WaitSpan → ℕ → Type 0
+begins from reads span to = Unit {0}

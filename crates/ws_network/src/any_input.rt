@@ -12,7 +12,7 @@ use std::rt::Runtime;
 use ws_any_host::{AnyHost, AnyLine, carry_on};
 use ws_code::{Sink, Source};
 use ws_live::{BufferedSink, Paint};
-use ws_program::RunFault;
+use ws_program::{ToldFault, Vocabulary};
 use ws_session::Attached;
 
 /// Carries out the lines of a script at a host that takes any record, or without one those of standard input, and then
@@ -22,11 +22,12 @@ use ws_session::Attached;
 pub fn carry_at_any_host<R, S, K, W, O>(
     rt: &R,
     attached: &mut Attached<AnyHost, S, K>,
+    ahead: &mut u64,
     watch: &mut W,
-    script: Option<Vec<AnyLine>>,
+    script: Option<&[AnyLine]>,
     ready: bool,
     out: &mut BufferedSink<O>,
-) -> Result<bool, RunFault>
+) -> Result<bool, ToldFault>
 where
     R: Runtime + AllocGlobal,
     S: Source,
@@ -36,25 +37,38 @@ where
     requires works { attached.old.broken ≡ false }
     requires empty { out.old.held ≡ [] }
     ensures ran { IfOk result (λ all_well. (lines : List AnAnyLine) × (text : List ℕ)
-        × MatchOption script (Unit {0}) (λ asked. lines ≡ asked.items)
+        × MatchOption script.entry (Unit {0}) (λ asked. lines ≡ asked.now)
         × IsTextAndOn (RunsAny K.takes K.failures S.gives S.failures W.tells W.begins W.begun)
-        Await ready (attached.old, watch.old) lines all_well text (attached.new, watch.new)
+        Await ready ((attached.old, ahead.old), watch.old) lines all_well text
+        ((attached.new, ahead.new), watch.new)
         × WentOut O.takes O.failures out.old.sink out.new.sink text) }
+    ensures held { out.new.held ≡ [] }
     ensures fault { IfErr result (λ fault. (lines : List AnAnyLine)
-        × MatchOption script (Unit {0}) (λ asked. lines ≡ asked.items)
+        × MatchOption script.entry (Unit {0}) (λ asked. lines ≡ asked.now)
         × IsFaultThenOrOn (RunsAny K.takes K.failures S.gives S.failures W.tells W.begins W.begun)
-        Await ready O.takes O.failures (attached.old, watch.old) (attached.new, watch.new)
-        out.old.sink out.new.sink (is_some script) lines fault) }
+        Await ready O.takes O.failures ((attached.old, ahead.old), watch.old)
+        ((attached.new, ahead.new), watch.new)
+        out.old.sink out.new.sink (is_some script.entry) lines fault) }
 {
-    let ran = match carry_session(rt, attached, watch, script, ready, Paint::Plain, out) {
+    let ran = match carry_session(
+        rt,
+        attached,
+        ahead,
+        watch,
+        script,
+        Vocabulary::AnyHost,
+        ready,
+        Paint::Plain,
+        out,
+    ) {
         Ok(ran) => ran,
         Err(fault) => return Err(fault),
     };
     if ran.is_over {
         return Ok(ran.all_well);
     }
-    match carry_on(attached, watch, &AnyLine::Await, out) {
+    match carry_on(attached, ahead, watch, &AnyLine::Await, out) {
         Ok(is_well) => Ok(ran.all_well && is_well),
-        Err(fault) => Err(RunFault::from(fault)),
+        Err(fault) => Err(ToldFault::from(fault)),
     }
 }

@@ -1,48 +1,63 @@
 //! Connecting to a name's addresses, which share the time of a wait.
 ghost use Rattle.std.specs.Iterator.{IsFinite};
+ghost use Rattle.std.specs.Prelude.{◌≡◌};
+ghost use Rattle.std_io.specs.IoError.{error_kind};
+ghost use Rattle.ws_program.specs.RunFaults.{unconnected_by};
+ghost use Rattle.ws_program.specs.declared.fault.ToldFault.TheVariants as told;
 
 use crate::timer::Timer;
 use crate::turns::{by_turns, share};
 use std::alloc::{AllocError, Global};
+use std::io;
 use std::net::{Net, SocketAddr, TcpStream, ToSocketAddrs};
 use std::time::Clock;
-use ws_program::RunFault;
+use ws_program::{RunFault, ToldFault, Unconnected, no_connection};
 use ws_words::HostPort;
 
 /// Tries the addresses of a host one after another, for as long as the wait lasts. Each has its part of what is left of
 /// it then, so that one that doesn't answer leaves time for the others.
 ///
-/// `NoConnection` where the host isn't found or none connects in time, `Memory` where a growth was refused.
+/// `NoConnection` where the host isn't found or none connects in time, with the cause of the last that was tried; `Memory`
+/// where a growth was refused.
 pub fn connect_to<R: Clock + Net<Stream = TcpStream>>(
     rt: &R,
     alloc: Global,
     to: HostPort<'_>,
     timer: &Timer<'_, R>,
-) -> Result<TcpStream, RunFault> {
+) -> Result<TcpStream, ToldFault> {
     let Ok(found) = (to.host, to.port).to_socket_addrs(rt) else {
-        return Err(RunFault::NoConnection);
+        return Err(ToldFault::NoConnection(Unconnected::UnknownName));
     };
     let Ok(addresses) = in_order(alloc, found) else {
-        return Err(RunFault::Memory);
+        return Err(ToldFault::Run(RunFault::Memory));
     };
+    let mut why = Unconnected::UnknownName;
     for at in 0..addresses.len() {
         let Some(left) = timer.left() else {
-            return Err(RunFault::NoConnection);
+            return Err(ToldFault::NoConnection(Unconnected::Late));
         };
         let part = share(left, addresses.len() - at);
-        if let Ok(stream) = TcpStream::connect_timeout(rt, &addresses[at], part) {
-            return settled(stream);
+        match TcpStream::connect_timeout(rt, &addresses[at], part) {
+            Ok(stream) => return settled(stream),
+            Err(error) => why = no_connection(error.kind()),
         }
     }
-    Err(RunFault::NoConnection)
+    Err(ToldFault::NoConnection(why))
 }
 
 /// A connection on which small pieces are sent at once.
-pub fn settled(stream: TcpStream) -> Result<TcpStream, RunFault> {
+pub fn settled(stream: TcpStream) -> Result<TcpStream, ToldFault> {
     match stream.set_nodelay(true) {
         Ok(()) => Ok(stream),
-        Err(_) => Err(RunFault::NoConnection),
+        Err(error) => Err(failed(error)),
     }
+}
+
+/// No connection, since a call failed by this error.
+pub fn failed(error: io::Error) -> ToldFault
+    ensures { result ≡ told.NoConnection (unconnected_by (error_kind error)) }
+{
+    ToldFault::NoConnection(no_connection(error.kind()))
 }
 
 // The addresses that a name has, in the order in which they are tried.

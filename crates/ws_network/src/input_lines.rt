@@ -1,25 +1,30 @@
 //! The lines of standard input, one by one, as those of a script's file are read.
 ghost use Rattle.std.specs.Prelude.{◌≡◌, ℕ, OnOk, IfOk, IfErr, IfSome};
+ghost use Rattle.std.specs.Str.Lines.{lines};
 ghost use Rattle.ws_code.specs.Device.{one_more};
-ghost use Rattle.ws_network.specs.InputLines.{IsInputFault, IsBadLine, IsMeant, IsUnreadFault, unread_fault};
+ghost use Rattle.ws_network.specs.InputLines.{IsInputFault, IsBadLine, IsNextLine, IsUnreadFault, unread_fault};
 
 use std::alloc::Global;
 use std::io::{BufRead, ErrorKind};
 use std::marker::Model;
 use ws_live::{LiveLine, ScriptFault, is_indented};
-use ws_program::RunFault;
+use ws_program::{RunFault, ToldFault, Vocabulary, cause_in_block, cause_text};
 use ws_text::first_line;
 
-/// Reads the next line of standard input with those that belong to it; `None` behind the last.
+/// Reads the next line of standard input with those that belong to it; `None` behind the last. Where the session tells
+/// when it is ready, what stands for a bad line comes in its place.
 ///
-/// `Line` where it is bad with those that belong to it, `Read` where standard input can't be read, `Memory` where a
-/// growth was refused.
+/// `Line` where it is bad with those that belong to it, and the session doesn't tell so; `Read` where standard input
+/// can't be read, `Memory` where a growth was refused.
 pub fn next_line<B: BufRead + Drop, L: LiveLine>(
     input: &mut InputLines<B>,
-) -> Result<Option<L>, RunFault>
-    ensures line { IfOk result (λ next. IfSome next (IsMeant L.means)) }
-    ensures fault { IfErr result IsInputFault }
-    ensures bad { IfErr result (IsBadLine L.means L.bad_at input.old) }
+    vocabulary: Vocabulary,
+    ready: bool,
+) -> Result<Option<L>, ToldFault>
+    ensures line { IfOk result (λ next. IfSome next
+        (IsNextLine L.means L.bad_at vocabulary L.bad_line ready)) }
+    ensures fault { IfErr result (IsInputFault ready) }
+    ensures bad { IfErr result (IsBadLine L.means L.bad_at vocabulary input.old) }
 {
     let before = input.number;
     let Some(raw) = input.take()? else {
@@ -32,9 +37,24 @@ pub fn next_line<B: BufRead + Drop, L: LiveLine>(
     }
     match L::read(input.alloc, line, inside.as_slice()) {
         Ok(line) => Ok(Some(line)),
-        Err(ScriptFault::Line(at)) => Err(RunFault::Line(before.saturating_add(at))),
-        Err(ScriptFault::Memory) => Err(RunFault::Memory),
+        Err(ScriptFault::Memory) => Err(ToldFault::Run(RunFault::Memory)),
+        Err(ScriptFault::Line(at)) => {
+            let why = cause_in_block(line, inside.as_slice(), at, vocabulary);
+            let Ok(cause) = cause_text(input.alloc, why) else {
+                return Err(ToldFault::Run(RunFault::Memory));
+            };
+            if ready {
+                return Ok(Some(L::bad(cause)));
+            }
+            let number = before.saturating_add(at);
+            Err(ToldFault::Line { number, cause })
+        }
     }
+}
+
+// Whether a line ends the lines that belong to one before it, and does nothing else: an empty one, or `end`.
+fn ends_block(line: &[u8]) -> bool {
+    matches!(without_end(line), [] | [b'e', b'n', b'd'])
 }
 
 // A line as it was read, without what ends it.
@@ -79,7 +99,7 @@ impl<B: BufRead + Drop> InputLines<B> {
     }
 
     // Takes the next line, with its line feed.
-    fn take(&mut self) -> Result<Option<Vec<u8>>, RunFault>
+    fn take(&mut self) -> Result<Option<Vec<u8>>, ToldFault>
         ensures taken { OnOk result (self.new ≡ one_more self.old) }
         ensures fault { IfErr result IsUnreadFault }
     {
@@ -91,8 +111,8 @@ impl<B: BufRead + Drop> InputLines<B> {
         Ok(line)
     }
 
-    // Takes the lines that begin with two blanks, and an empty one behind them: their text, as it stands.
-    fn gather(&mut self, inside: &mut Vec<u8>) -> Result<(), RunFault>
+    // Takes the lines that begin with two blanks, and behind them an empty one or `end`: their text, as it stands.
+    fn gather(&mut self, inside: &mut Vec<u8>) -> Result<(), ToldFault>
         ensures { IfErr result IsUnreadFault }
     {
         for _ in 0..u64::MAX {
@@ -105,15 +125,15 @@ impl<B: BufRead + Drop> InputLines<B> {
             }
             self.number = self.number.saturating_add(1);
             if inside.extend_from_slice(line.as_slice()).is_err() {
-                return Err(RunFault::Memory);
+                return Err(ToldFault::Run(RunFault::Memory));
             }
         }
         Ok(())
     }
 
-    // Keeps a line for the next time, but for an empty one, which is taken.
+    // Keeps a line for the next time, but for one that ends a block, which is taken.
     fn set_ahead(&mut self, line: Vec<u8>) {
-        if matches!(line.as_slice(), [b'\n'] | [b'\r', b'\n']) {
+        if ends_block(line.as_slice()) {
             self.number = self.number.saturating_add(1);
         } else {
             self.ahead = Some(line);
@@ -121,7 +141,7 @@ impl<B: BufRead + Drop> InputLines<B> {
     }
 
     // Reads a line, with its line feed. Behind the last none is asked for again.
-    fn read(&mut self) -> Result<Option<Vec<u8>>, RunFault>
+    fn read(&mut self) -> Result<Option<Vec<u8>>, ToldFault>
         ensures untaken { self.new ≡ self.old }
         ensures fault { IfErr result IsUnreadFault }
     {
@@ -140,12 +160,12 @@ impl<B: BufRead + Drop> InputLines<B> {
     }
 }
 
-// Why no line was to be had, by the kind of the error.
-fn unread_line(kind: ErrorKind) -> RunFault
+/// Why no line was to be had, by the kind of the error.
+pub fn unread_line(kind: ErrorKind) -> ToldFault
     ensures { result ≡ unread_fault kind }
 {
-    match kind {
+    ToldFault::Run(match kind {
         ErrorKind::OutOfMemory => RunFault::Memory,
         _ => RunFault::Read,
-    }
+    })
 }

@@ -4,10 +4,13 @@
 
 mod any_input;
 mod connecting;
+mod files;
 mod input_lines;
+mod listening;
 mod live_input;
 mod live_session;
 mod recording;
+mod serving;
 mod timed_sink;
 mod timed_source;
 mod timer;

@@ -12,13 +12,14 @@ ghost use Rattle.ws_live.specs.declared.serve_line.HostLine.{HostLine as AHostLi
 
 use crate::input_lines::{InputLines, next_line};
 use crate::timer::LineWatch;
+use std::io::BufReader;
 use std::rt::Runtime;
 use ws_code::{Fault, Sink, Source};
 use ws_live::{
     BufferedSink, Closing, HostLine, LiveMove, NamedKey, OperatedDisplay, Paint, Ran, StationLine,
     answer_on, carry_line,
 };
-use ws_program::RunFault;
+use ws_program::{RunFault, ToldFault, Vocabulary};
 use ws_session::{Attached, HostEnd, StationOn};
 
 /// Carries out the lines of a script at a station, or without one those of standard input: true where all went well.
@@ -29,12 +30,14 @@ use ws_session::{Attached, HostEnd, StationOn};
 pub fn carry_at_station<D, R, S, K, W, O>(
     rt: &R,
     attached: &mut Attached<StationOn<D>, S, K>,
+    ahead: &mut u64,
     watch: &mut W,
-    script: Option<Vec<StationLine<D::Key>>>,
+    script: Option<&[StationLine<D::Key>]>,
+    vocabulary: Vocabulary,
     ready: bool,
     paint: Paint,
     out: &mut BufferedSink<O>,
-) -> Result<bool, RunFault>
+) -> Result<bool, ToldFault>
 where
     D: OperatedDisplay,
     D::Key: NamedKey,
@@ -46,21 +49,24 @@ where
     requires works { attached.old.broken ≡ false }
     requires empty { out.old.held ≡ [] }
     ensures ran { IfOk result (λ all_well. (lines : List (AStationLine D.Key)) × (text : List ℕ)
-        × MatchOption script (Unit {0}) (λ asked. lines ≡ asked.items)
+        × MatchOption script.entry (Unit {0}) (λ asked. lines ≡ asked.now)
         × IsConnectText D.Commands.rules D.does K.takes K.failures S.gives S.failures
-        W.tells D.operated D.Key.words W.begins W.begun
-        paint ready (attached.old, watch.old) lines all_well text (attached.new, watch.new)
+        W.tells W.rests D.operated D.Key.words W.begins W.begun
+        paint ready ((attached.old, ahead.old), watch.old) lines all_well text
+        ((attached.new, ahead.new), watch.new)
         × WentOut O.takes O.failures out.old.sink out.new.sink text) }
     ensures fault { IfErr result (λ fault. (lines : List (AStationLine D.Key))
-        × MatchOption script (Unit {0}) (λ asked. lines ≡ asked.items)
+        × MatchOption script.entry (Unit {0}) (λ asked. lines ≡ asked.now)
         × IsSessionFault
         (InTime (StationRuns D.Commands.rules D.does K.takes K.failures S.gives S.failures
-        W.tells D.operated D.Key.words paint)
+        W.tells W.rests D.operated D.Key.words paint)
         station_waits W.begins W.begun) ready O.takes O.failures
-        (attached.old, watch.old) (attached.new, watch.new) out.old.sink out.new.sink
-        (is_some script) lines fault) }
+        ((attached.old, ahead.old), watch.old) ((attached.new, ahead.new), watch.new) out.old.sink out.new.sink
+        (is_some script.entry) lines fault) }
 {
-    match carry_session(rt, attached, watch, script, ready, paint, out) {
+    match carry_session(
+        rt, attached, ahead, watch, script, vocabulary, ready, paint, out,
+    ) {
         Ok(ran) => Ok(ran.all_well),
         Err(fault) => Err(fault),
     }
@@ -73,11 +79,12 @@ where
 pub fn carry_at_host<R, S, K, W, O>(
     rt: &R,
     attached: &mut Attached<HostEnd, S, K>,
+    ahead: &mut u64,
     watch: &mut W,
-    script: Option<Vec<HostLine>>,
+    script: Option<&[HostLine]>,
     ready: bool,
     out: &mut BufferedSink<O>,
-) -> Result<bool, RunFault>
+) -> Result<bool, ToldFault>
 where
     R: Runtime + AllocGlobal,
     S: Source,
@@ -87,26 +94,38 @@ where
     requires works { attached.old.broken ≡ false }
     requires empty { out.old.held ≡ [] }
     ensures ran { IfOk result (λ all_well. (lines : List AHostLine) × (text : List ℕ)
-        × MatchOption script (Unit {0}) (λ asked. lines ≡ asked.items)
+        × MatchOption script.entry (Unit {0}) (λ asked. lines ≡ asked.now)
         × IsServeText K.takes K.failures S.gives S.failures W.tells W.begins W.begun
-        ready (attached.old, watch.old) lines all_well text (attached.new, watch.new)
+        ready ((attached.old, ahead.old), watch.old) lines all_well text
+        ((attached.new, ahead.new), watch.new)
         × WentOut O.takes O.failures out.old.sink out.new.sink text) }
+    ensures held { out.new.held ≡ [] }
     ensures fault { IfErr result (λ fault. (lines : List AHostLine)
-        × MatchOption script (Unit {0}) (λ asked. lines ≡ asked.items)
+        × MatchOption script.entry (Unit {0}) (λ asked. lines ≡ asked.now)
         × IsServeFault K.takes K.failures S.gives S.failures W.tells W.begins W.begun
-        O.takes O.failures ready (attached.old, watch.old) (attached.new, watch.new)
-        out.old.sink out.new.sink (is_some script) lines fault) }
+        O.takes O.failures ready ((attached.old, ahead.old), watch.old) ((attached.new, ahead.new), watch.new)
+        out.old.sink out.new.sink (is_some script.entry) lines fault) }
 {
-    let ran = match carry_session(rt, attached, watch, script, ready, Paint::Plain, out) {
+    let ran = match carry_session(
+        rt,
+        attached,
+        ahead,
+        watch,
+        script,
+        Vocabulary::Host,
+        ready,
+        Paint::Plain,
+        out,
+    ) {
         Ok(ran) => ran,
         Err(fault) => return Err(fault),
     };
     if ran.is_over {
         return Ok(ran.all_well);
     }
-    match answer_on(attached, watch, out) {
+    match answer_on(attached, ahead, watch, out) {
         Ok(is_well) => Ok(ran.all_well && is_well),
-        Err(fault) => Err(RunFault::from(fault)),
+        Err(fault) => Err(ToldFault::from(fault)),
     }
 }
 
@@ -114,12 +133,14 @@ where
 pub fn carry_session<R, E, S, K, L, W, O>(
     rt: &R,
     attached: &mut Attached<E, S, K>,
+    ahead: &mut u64,
     watch: &mut W,
-    script: Option<Vec<L>>,
+    script: Option<&[L]>,
+    vocabulary: Vocabulary,
     ready: bool,
     paint: Paint,
     out: &mut BufferedSink<O>,
-) -> Result<Ran, RunFault>
+) -> Result<Ran, ToldFault>
 where
     R: Runtime + AllocGlobal,
     L: LiveMove<E, S, K>,
@@ -128,27 +149,32 @@ where
     requires works { attached.old.broken ≡ false }
     requires empty { out.old.held ≡ [] }
     ensures ran { IfOk result (λ ran. (lines : List L)
-        × MatchOption script (Unit {0}) (λ asked. lines ≡ asked.items)
-        × Spec.HasRun (InTime (L.runs W.tells paint) L.waits W.begins W.begun) ready
-        O.takes O.failures (attached.old, watch.old) (attached.new, watch.new)
+        × MatchOption script.entry (Unit {0}) (λ asked. lines ≡ asked.now)
+        × Spec.HasRun (InTime (L.runs W.tells W.rests paint) L.waits W.begins W.begun) ready
+        O.takes O.failures ((attached.old, ahead.old), watch.old) ((attached.new, ahead.new), watch.new)
         out.old.sink out.new.sink lines ran) }
     ensures fault { IfErr result (λ fault. (lines : List L)
-        × MatchOption script (Unit {0}) (λ asked. lines ≡ asked.items)
-        × IsSessionFault (InTime (L.runs W.tells paint) L.waits W.begins W.begun) ready
-        O.takes O.failures (attached.old, watch.old) (attached.new, watch.new)
-        out.old.sink out.new.sink (is_some script) lines fault) }
+        × MatchOption script.entry (Unit {0}) (λ asked. lines ≡ asked.now)
+        × IsSessionFault (InTime (L.runs W.tells W.rests paint) L.waits W.begins W.begun) ready
+        O.takes O.failures ((attached.old, ahead.old), watch.old) ((attached.new, ahead.new), watch.new)
+        out.old.sink out.new.sink (is_some script.entry) lines fault) }
     ensures works { IfOk result (λ ran. ran.is_over ≡ false → attached.new.broken ≡ false) }
     ensures held { out.new.held ≡ [] }
 {
     match script {
-        Some(lines) => Ok(carry_script(attached, watch, lines.as_slice(), ready, paint, out)?),
-        None => carry_input::<R, E, S, K, L, W, O>(rt, attached, watch, ready, paint, out),
+        Some(lines) => Ok(carry_script(attached, ahead, watch, lines, ready, paint, out)?),
+        None => {
+            carry_input::<R, E, S, K, L, W, O>(
+                rt, attached, ahead, watch, vocabulary, ready, paint, out,
+            )
+        },
     }
 }
 
 // Carries out the lines of a script.
 fn carry_script<E, S, K, L: LiveMove<E, S, K>, W: LineWatch<S>, O: Sink>(
     attached: &mut Attached<E, S, K>,
+    ahead: &mut u64,
     watch: &mut W,
     lines: &[L],
     ready: bool,
@@ -158,19 +184,19 @@ fn carry_script<E, S, K, L: LiveMove<E, S, K>, W: LineWatch<S>, O: Sink>(
     requires works { attached.old.broken ≡ false }
     requires empty { out.old.held ≡ [] }
     ensures ran { IfOk result (Spec.HasRun
-        (InTime (L.runs W.tells paint) L.waits W.begins W.begun) ready O.takes O.failures
-        (attached.old, watch.old) (attached.new, watch.new)
+        (InTime (L.runs W.tells W.rests paint) L.waits W.begins W.begun) ready O.takes O.failures
+        ((attached.old, ahead.old), watch.old) ((attached.new, ahead.new), watch.new)
         out.old.sink out.new.sink lines.now) }
     ensures fault { IfErr result (Spec.IsLiveFault
-        (InTime (L.runs W.tells paint) L.waits W.begins W.begun) ready O.takes O.failures
-        (attached.old, watch.old) (attached.new, watch.new)
+        (InTime (L.runs W.tells W.rests paint) L.waits W.begins W.begun) ready O.takes O.failures
+        ((attached.old, ahead.old), watch.old) ((attached.new, ahead.new), watch.new)
         out.old.sink out.new.sink lines.now) }
     ensures works { IfOk result (λ ran. ran.is_over ≡ false → attached.new.broken ≡ false) }
     ensures held { out.new.held ≡ [] }
 {
     let mut ran = Ran::none();
     for line in lines {
-        let closing = match carry_next(attached, watch, line, ready, paint, out) {
+        let closing = match carry_next(attached, ahead, watch, line, ready, paint, out) {
             Ok(closing) => closing,
             Err(fault) => return Err(fault),
         };
@@ -187,11 +213,13 @@ fn carry_script<E, S, K, L: LiveMove<E, S, K>, W: LineWatch<S>, O: Sink>(
 fn carry_input<R, E, S, K, L, W, O>(
     rt: &R,
     attached: &mut Attached<E, S, K>,
+    ahead: &mut u64,
     watch: &mut W,
+    vocabulary: Vocabulary,
     ready: bool,
     paint: Paint,
     out: &mut BufferedSink<O>,
-) -> Result<Ran, RunFault>
+) -> Result<Ran, ToldFault>
 where
     R: Runtime + AllocGlobal,
     L: LiveMove<E, S, K>,
@@ -200,29 +228,33 @@ where
     requires works { attached.old.broken ≡ false }
     requires empty { out.old.held ≡ [] }
     ensures ran { IfOk result (λ ran. (lines : List L)
-        × Spec.HasRun (InTime (L.runs W.tells paint) L.waits W.begins W.begun) ready
-        O.takes O.failures (attached.old, watch.old) (attached.new, watch.new)
+        × Spec.HasRun (InTime (L.runs W.tells W.rests paint) L.waits W.begins W.begun) ready
+        O.takes O.failures ((attached.old, ahead.old), watch.old) ((attached.new, ahead.new), watch.new)
         out.old.sink out.new.sink lines ran) }
     ensures fault { IfErr result (λ fault. (lines : List L)
-        × IsSessionFault (InTime (L.runs W.tells paint) L.waits W.begins W.begun) ready
-        O.takes O.failures (attached.old, watch.old) (attached.new, watch.new)
+        × IsSessionFault (InTime (L.runs W.tells W.rests paint) L.waits W.begins W.begun) ready
+        O.takes O.failures ((attached.old, ahead.old), watch.old) ((attached.new, ahead.new), watch.new)
         out.old.sink out.new.sink false lines fault) }
     ensures works { IfOk result (λ ran. ran.is_over ≡ false → attached.new.broken ≡ false) }
     ensures held { out.new.held ≡ [] }
 {
     let mut ran = Ran::none();
-    let mut input = InputLines::new(rt.alloc(), rt.reader());
+    // A reader by itself reads a byte a call, so that it takes nothing of the lines that it isn't asked for.
+    let Ok(reader) = BufReader::new(rt.alloc(), rt.reader()) else {
+        return Err(ToldFault::Run(RunFault::Memory));
+    };
+    let mut input = InputLines::new(rt.alloc(), reader);
     for _ in 0..u64::MAX {
-        let next = match next_line::<R::Reader, L>(&mut input) {
+        let next = match next_line::<BufReader<R::Reader>, L>(&mut input, vocabulary, ready) {
             Ok(next) => next,
             Err(fault) => return Err(fault),
         };
         let Some(line) = next else {
             return Ok(ran);
         };
-        let closing = match carry_next(attached, watch, &line, ready, paint, out) {
+        let closing = match carry_next(attached, ahead, watch, &line, ready, paint, out) {
             Ok(closing) => closing,
-            Err(fault) => return Err(RunFault::from(fault)),
+            Err(fault) => return Err(ToldFault::from(fault)),
         };
         ran = ran.and(closing.ran());
         if ran.is_over {
@@ -235,6 +267,7 @@ where
 // Carries out the line behind those that were carried out, whose waits are over.
 fn carry_next<E, S, K, L: LiveMove<E, S, K>, W: LineWatch<S>, O: Sink>(
     attached: &mut Attached<E, S, K>,
+    ahead: &mut u64,
     watch: &mut W,
     line: &L,
     ready: bool,
@@ -244,17 +277,17 @@ fn carry_next<E, S, K, L: LiveMove<E, S, K>, W: LineWatch<S>, O: Sink>(
     requires works { attached.old.broken ≡ false }
     requires empty { out.old.held ≡ [] }
     ensures done { IfOk result (Spec.HasCarried
-        (InTime (L.runs W.tells paint) L.waits W.begins W.begun) ready O.takes O.failures
-        (attached.old, watch.old) (attached.new, watch.new)
+        (InTime (L.runs W.tells W.rests paint) L.waits W.begins W.begun) ready O.takes O.failures
+        ((attached.old, ahead.old), watch.old) ((attached.new, ahead.new), watch.new)
         out.old.sink out.new.sink line.now) }
     ensures fault { IfErr result (Spec.IsCarryFault
-        (InTime (L.runs W.tells paint) L.waits W.begins W.begun) ready O.takes O.failures
-        (attached.old, watch.old) (attached.new, watch.new)
+        (InTime (L.runs W.tells W.rests paint) L.waits W.begins W.begun) ready O.takes O.failures
+        ((attached.old, ahead.old), watch.old) ((attached.new, ahead.new), watch.new)
         out.old.sink out.new.sink line.now) }
     ensures works { IfOk result (λ closing.
         Spec.stops closing ≡ false → attached.new.broken ≡ false) }
     ensures held { out.new.held ≡ [] }
 {
     watch.end_waits();
-    carry_line(attached, watch, line, ready, paint, out)
+    carry_line(attached, ahead, watch, line, ready, paint, out)
 }

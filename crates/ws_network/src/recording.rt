@@ -1,5 +1,7 @@
 //! Recordings of what both ends sent: a line `MILLISECONDS host|station HEX` for each piece.
-ghost use Rattle.std.specs.Prelude.{◌≡◌, IfOk, Ok};
+ghost use Rattle.std.specs.Prelude.{◌≡◌, ◌⊎◌, IfOk, IfErr, Ok, Err};
+ghost use Rattle.ws_program.specs.declared.fault.RunFault.TheVariants as run;
+ghost use Rattle.ws_program.specs.declared.fault.ToldFault.TheVariants as told;
 ghost use Rattle.ws_network.specs.Recordings as Spec;
 ghost use Rattle.ws_text.specs.Printing.{Prints};
 
@@ -12,7 +14,7 @@ use std::time::{Clock, Instant};
 use std::{fs, io};
 use ws_code::{Sink, WriteSink};
 use ws_live::{BufferedSink, hand_on};
-use ws_program::RunFault;
+use ws_program::{RunFault, ToldFault};
 use ws_text::{Output, put_hex, put_number, put_text};
 
 // How many names are tried for a file that isn't there yet.
@@ -46,11 +48,12 @@ impl<'a, C: Clock> Recording<'a, C> {
     }
 
     /// What a session came to, whose pieces were recorded: `Write` where the file couldn't be written.
-    pub fn judge(&self, outcome: Result<bool, RunFault>) -> Result<bool, RunFault>
-        ensures { IfOk result (λ all_well. outcome ≡ Ok all_well) }
+    pub fn judge(&self, outcome: Result<bool, ToldFault>) -> Result<bool, ToldFault>
+        ensures done { IfOk result (λ all_well. outcome ≡ Ok all_well) }
+        ensures fault { IfErr result (λ fault. (fault ≡ told.Run run.Write) ⊎ (outcome ≡ Err fault)) }
     {
         if self.has_failed.get() {
-            return Err(RunFault::Write);
+            return Err(ToldFault::Run(RunFault::Write));
         }
         outcome
     }

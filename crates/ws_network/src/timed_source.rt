@@ -9,9 +9,12 @@ use crate::timer::{Timer, no_time};
 use std::io;
 use std::io::{ErrorKind, Read};
 use std::marker::Model;
-use std::net::TcpStream;
-use std::time::Clock;
+use std::net::{Shutdown, TcpStream};
+use std::time::{Clock, Duration};
 use ws_code::{DeviceFailed, Source};
+
+// How many seconds the end of a connection may take.
+const LINGER: u64 = 1;
 
 /// Reads from a connection for as long as the wait lasts, and has what it reads recorded.
 #[derive(Drop)]
@@ -21,8 +24,10 @@ pub struct TimedSource<'a, C> {
     recording: &'a Recording<'a, C>,
     sender: Sender,
     failures: u64,
-    // Of what kind the error of the last read that failed was.
+    // Of what kind the error of the last read that failed was, and whether the time that was over then was that in which
+    // nothing had come.
     failure: Option<ErrorKind>,
+    rested: bool,
 }
 
 impl<'a, C> Model for TimedSource<'a, C> {
@@ -30,7 +35,7 @@ impl<'a, C> Model for TimedSource<'a, C> {
 
     ghost Value = { Reads };
 
-    ghost view = { λ s. record { failures = s.failures; failure = s.failure } };
+    ghost view = { λ s. record { failures = s.failures; failure = s.failure; rested = s.rested } };
 }
 
 impl<'a, C: Clock> TimedSource<'a, C> {
@@ -50,6 +55,7 @@ impl<'a, C: Clock> TimedSource<'a, C> {
             sender,
             failures: 0,
             failure: None,
+            rested: false,
         }
     }
 
@@ -63,16 +69,37 @@ impl<'a, C: Clock> TimedSource<'a, C> {
         }
     }
 
+    /// Whether the time that was over at the last read that failed was that in which nothing had come.
+    pub fn is_at_rest(&self) -> bool
+        ensures { result ≡ self.now.rested }
+    {
+        self.rested
+    }
+
     // Reads once.
     fn read_once(&self, into: &mut [u8]) -> io::Result<usize>
         ensures { ReadsAtMost result into.new }
     {
-        let Some(left) = self.timer.left() else {
+        let Some(left) = self.timer.left_to_read() else {
             return Err(no_time());
         };
+        if self.timer.is_at_once() {
+            return self.read_at_once(into);
+        }
         self.stream.set_read_timeout(Some(left))?;
         let mut stream = self.stream;
         stream.read(into)
+    }
+
+    // Reads what has come. The connection waits again behind it.
+    fn read_at_once(&self, into: &mut [u8]) -> io::Result<usize>
+        ensures { ReadsAtMost result into.new }
+    {
+        self.stream.set_nonblocking(true)?;
+        let mut stream = self.stream;
+        let outcome = stream.read(into);
+        self.stream.set_nonblocking(false)?;
+        outcome
     }
 
     // Reads, and again where a signal came.
@@ -93,6 +120,7 @@ impl<'a, C: Clock> TimedSource<'a, C> {
         ensures { ReadsAtMost result into.new }
     {
         let given = self.read_in_time(into)?;
+        self.timer.note_bytes();
         self.recording.keep(self.sender, &into[..given])?;
         Ok(given)
     }
@@ -101,15 +129,14 @@ impl<'a, C: Clock> TimedSource<'a, C> {
     fn note(&mut self, outcome: io::Result<usize>) -> Result<usize, DeviceFailed>
         ensures ok { IfOk outcome (λ given. (result ≡ Ok given) × (self.new ≡ self.old)) }
         ensures err { IfErr outcome (λ error. IsErr result
-            × (self.new ≡ record {
-              failures = one_more self.old.failures;
-              failure = Some (error_kind error);
-            })) }
+            × (self.new.failures ≡ one_more self.old.failures)
+            × (self.new.failure ≡ Some (error_kind error))) }
     {
         match outcome {
             Ok(given) => Ok(given),
             Err(error) => {
                 self.failure = Some(error.kind());
+                self.rested = self.timer.is_at_rest();
                 self.failures = self.failures.saturating_add(1);
                 Err(DeviceFailed)
             }
@@ -133,4 +160,21 @@ fn is_want_of_time(kind: ErrorKind) -> bool
     ensures { result ≡ Spec.is_want_of_time kind }
 {
     matches!(kind, ErrorKind::WouldBlock | ErrorKind::TimedOut)
+}
+
+/// Ends a connection in order: nothing more is written, and what the other side still sends is taken for a moment, so
+/// that it isn't told of a fault.
+pub fn close<R: Clock>(rt: &R, stream: &TcpStream, recording: &Recording<'_, R>, sender: Sender) {
+    if stream.shutdown(Shutdown::Write).is_err() {
+        return;
+    }
+    let timer = Timer::new(rt, Duration::from_secs(LINGER));
+    let mut rest = TimedSource::new(stream, &timer, recording, sender);
+    let mut piece = [0u8; 4096];
+    for _ in 0..u32::MAX {
+        match rest.read(&mut piece) {
+            Ok(0) | Err(_) => return,
+            Ok(_) => {}
+        }
+    }
 }

@@ -3,11 +3,11 @@ ghost use Rattle.ws_network.specs.Times as Spec;
 
 use crate::timed_source::TimedSource;
 use std::cell::Cell;
-use std::io;
 use std::io::ErrorKind;
 use std::marker::Model;
 use std::time::{Clock, Duration, Instant};
-use ws_live::Watch;
+use std::{io, thread};
+use ws_live::{WaitSpan, Watch};
 
 // How many milliseconds a write has at least, so that what can go at once does so also when a wait's time is over.
 const MOMENT: u64 = 10;
@@ -22,6 +22,10 @@ pub struct Timer<'a, C> {
     until: Cell<Option<Instant>>,
     /// Whether what is written stands in that wait.
     is_waiting: Cell<bool>,
+    /// How long that wait lasts.
+    span: Cell<WaitSpan>,
+    /// When nothing has come for the time of a quiet wait. `None` where the clock can't tell.
+    rests_at: Cell<Option<Instant>>,
 }
 
 impl<'a, C: Clock> Timer<'a, C> {
@@ -32,12 +36,45 @@ impl<'a, C: Clock> Timer<'a, C> {
             limit,
             until: Cell::new(end_of_wait(clock, limit)),
             is_waiting: Cell::new(false),
+            span: Cell::new(WaitSpan::Whole),
+            rests_at: Cell::new(None),
         }
     }
 
     /// What is left of the wait; `None` where its time is over.
     pub fn left(&self) -> Option<Duration> {
         self.left_until(self.until.get())
+    }
+
+    /// What is left of it for a read; `None` where its time is over, or nothing has come for the time of a quiet one.
+    pub fn left_to_read(&self) -> Option<Duration> {
+        match self.span.get() {
+            WaitSpan::Quiet(_) => {
+                self.left_until(earlier(self.until.get(), self.rests_at.get()))
+            }
+            WaitSpan::Whole | WaitSpan::AtOnce => self.left(),
+        }
+    }
+
+    /// Whether a read takes only what has already come.
+    pub fn is_at_once(&self) -> bool {
+        matches!(self.span.get(), WaitSpan::AtOnce)
+    }
+
+    /// Whether the wait is over since nothing has come, where it is over.
+    pub fn is_at_rest(&self) -> bool {
+        match (self.span.get(), self.rests_at.get(), self.until.get()) {
+            (WaitSpan::Quiet(_), Some(rests_at), Some(until)) => rests_at <= until,
+            _ => false,
+        }
+    }
+
+    /// Bytes came. A quiet wait goes on for its time from now on.
+    pub fn note_bytes(&self) {
+        if let WaitSpan::Quiet(milliseconds) = self.span.get() {
+            let time = Duration::from_millis(u64::from(milliseconds));
+            self.rests_at.set(end_of_wait(self.clock, time));
+        }
     }
 
     /// When the time of a write is over that begins now: with the wait in which it stands, though it has a moment.
@@ -61,10 +98,12 @@ impl<'a, C: Clock> Timer<'a, C> {
         if left.is_zero() { None } else { Some(left) }
     }
 
-    // A wait begins.
-    fn restart(&self) {
+    // A wait of this span begins.
+    fn restart(&self, span: WaitSpan) {
         self.until.set(end_of_wait(self.clock, self.limit));
         self.is_waiting.set(true);
+        self.span.set(span);
+        self.note_bytes();
     }
 
     // What is written from now on stands in no wait.
@@ -109,13 +148,26 @@ impl<'a, C: Clock> Watch<TimedSource<'a, C>> for Waits<'a, C> {
 
     ghost tells = { Spec.tells };
 
-    fn begin(&mut self, _source: &TimedSource<'a, C>) {
+    ghost rests = { Spec.rests };
+
+    fn begin(&mut self, _source: &TimedSource<'a, C>, span: WaitSpan) {
         self.begun = self.begun.saturating_add(1);
-        self.timer.restart();
+        self.timer.restart(span);
     }
 
     fn is_late(&self, source: &TimedSource<'a, C>) -> bool {
         source.is_late()
+    }
+
+    fn is_quiet(&self, source: &TimedSource<'a, C>) -> bool {
+        source.is_at_rest()
+    }
+
+    fn pause(&mut self, milliseconds: u32) {
+        thread::sleep(
+            self.timer.clock,
+            Duration::from_millis(u64::from(milliseconds)),
+        );
     }
 }
 
@@ -130,6 +182,14 @@ fn later(one: Option<Instant>, other: Option<Instant>) -> Option<Instant> {
     match (one, other) {
         (Some(one), Some(other)) => Some(one.max(other)),
         _ => other,
+    }
+}
+
+// The earlier of two moments.
+fn earlier(one: Option<Instant>, other: Option<Instant>) -> Option<Instant> {
+    match (one, other) {
+        (Some(one), Some(other)) => Some(one.min(other)),
+        _ => None,
     }
 }
 

@@ -3,6 +3,7 @@ use Rattle.std.proofs.Common.{arith, inl, inr}
 use Rattle.std.specs.Prelude.{Bool, true, false}
 use Rattle.ws_code.specs.Code.{Rules}
 use Rattle.ws_code.specs.Device.{MayTake, WentOut, FailedWithin}
+use Rattle.ws_code.specs.declared.fault.Fault.{Fault}
 use Rattle.ws_code.specs.declared.fault.Fault.TheVariants as device
 use Rattle.ws_live.specs.Buffering.{Buffering, buffered_takes}
 use Rattle.ws_live.proofs.Buffers.{flushed_out, fails_behind}
@@ -17,18 +18,20 @@ use Rattle.ws_text.specs.ExtendedAnswerWords.{told_wording}
 use Rattle.ws_text.specs.ExtendedWords.{extended_wording}
 use Rattle.ws_text.specs.Shown.{Shows, ShowsAnswers, ShowsExtended, ShowsTold}
 use Rattle.ws_text.specs.Wording.{Wording}
-use Rattle.ws_program.specs.Answering.{HasAnswered, HasChecked, HasCheckedHex, HasShown, IsAnswerFault, IsHexFault}
-use Rattle.ws_program.specs.Answering.{IsCheckHexFault}
+use Rattle.ws_program.specs.Answering.{HasAnswered, HasChecked, HasCheckedBy, HasShown, HasShownBy, IsAnswerFault}
+use Rattle.ws_program.specs.Answering.{IsBytesFault, IsCheckFaultBy, IsShowFaultBy}
 use Rattle.ws_program.specs.Checking.{IsCheckFault}
 use Rattle.ws_program.specs.Making.{HasMade, IsMakeFault}
 use Rattle.ws_program.specs.SoFar.{IsShowFaultWith}
 use Rattle.ws_program.specs.StreamText.{View}
 use Rattle.ws_program.specs.ExtendedView.{extended_view}
 use Rattle.ws_program.specs.Views.{painted_host_view, answer_view, told_view}
+use Rattle.ws_live.specs.declared.paint.Paint.{Paint}
 use Rattle.ws_words.specs.declared.command_line.Asked.{Asked}
 use Rattle.ws_words.specs.declared.command_line.Asked.TheVariants.{Check, Show, Play, Make}
 use Rattle.ws_words.specs.declared.command_line.Sender.{Sender}
 use Rattle.ws_words.specs.declared.command_line.Sender.TheVariants.{Host, ExtendedHost, Station, ExtendedStation}
+use Rattle.ws_words.specs.declared.command_line.StreamForm.{StreamForm}
 use Rattle.ws_program.specs.declared.fault.RunFault.{RunFault}
 use Rattle.ws_program.specs.declared.fault.RunFault.TheVariants.{Read, NotHex, Line, Memory}
 use Rattle.ws_program.specs.declared.fault.RunFault.TheVariants.{Write, NoConnection, Refused}
@@ -52,14 +55,13 @@ module _ {S : Type 0} (takes : MayTake S) (failures : S → ℕ) (count : Buffer
     check_flushed rules bytes accepted h =
         (h.0, h.1, h.2, flushed_out takes failures count from empty mid to _ h.3 out)
 
-    check_hex_flushed : (sender : Sender) (input : List ℕ) (accepted : Bool)
-        → HasCheckedHex (buffered_takes takes failures) count from mid sender input accepted
-        → HasCheckedHex takes failures from.sink to sender input accepted
-    check_hex_flushed Host input accepted h = (h.0, h.1, check_flushed element_rules h.0 accepted h.2)
-    check_hex_flushed ExtendedHost input accepted h = (h.0, h.1, check_flushed extended_rules h.0 accepted h.2)
-    check_hex_flushed Station input accepted h = (h.0, h.1, check_flushed answer_rules h.0 accepted h.2)
-    check_hex_flushed ExtendedStation input accepted h =
-        (h.0, h.1, check_flushed extended_answer_rules h.0 accepted h.2)
+    pub check_by_flushed : (sender : Sender) (bytes : List ℕ) (accepted : Bool)
+        → HasCheckedBy (buffered_takes takes failures) count from mid sender bytes accepted
+        → HasCheckedBy takes failures from.sink to sender bytes accepted
+    check_by_flushed Host bytes accepted h = check_flushed element_rules bytes accepted h
+    check_by_flushed ExtendedHost bytes accepted h = check_flushed extended_rules bytes accepted h
+    check_by_flushed Station bytes accepted h = check_flushed answer_rules bytes accepted h
+    check_by_flushed ExtendedStation bytes accepted h = check_flushed extended_answer_rules bytes accepted h
 
     -- what is shown
     show_flushed : {Place U : Type 0} (rules : Rules Place U) (view : View U) (so_far : Bool) (bytes : List ℕ)
@@ -68,42 +70,46 @@ module _ {S : Type 0} (takes : MayTake S) (failures : S → ℕ) (count : Buffer
     show_flushed rules view so_far bytes accepted h =
         (h.0, h.1, flushed_out takes failures count from empty mid to h.0 h.2 out)
 
+    show_by_flushed : (paint : Paint) (so_far : Bool) (sender : Sender) (bytes : List ℕ) (accepted : Bool)
+        → HasShownBy (buffered_takes takes failures) count from mid paint so_far sender bytes accepted
+        → HasShownBy takes failures from.sink to paint so_far sender bytes accepted
+    show_by_flushed paint so_far Host bytes accepted h =
+        show_flushed element_rules (painted_host_view paint) so_far bytes accepted h
+    show_by_flushed paint so_far ExtendedHost bytes accepted h =
+        show_flushed extended_rules (extended_view paint) so_far bytes accepted h
+    show_by_flushed paint so_far Station bytes accepted h = show_flushed answer_rules answer_view so_far bytes accepted h
+    show_by_flushed paint so_far ExtendedStation bytes accepted h =
+        show_flushed extended_answer_rules told_view so_far bytes accepted h
+
     -- what is made
     make_flushed : {Place U : Type 0} (rules : Rules Place U) (w : Wording U)
-        (Showing : List ℕ → List (Item U) → Type 0)
-        (input : List ℕ) (accepted : Bool)
-        → HasMade rules w Showing (buffered_takes takes failures) count from mid input accepted
-        → HasMade rules w Showing takes failures from.sink to input accepted
-    make_flushed rules w Showing input accepted h =
+        (Showing : List ℕ → List (Item U) → Type 0) (raw : Bool) (input : List ℕ) (accepted : Bool)
+        → HasMade rules w Showing (buffered_takes takes failures) count from mid raw input accepted
+        → HasMade rules w Showing takes failures from.sink to raw input accepted
+    make_flushed rules w Showing raw input accepted h =
         (h.0, h.1, flushed_out takes failures count from empty mid to _ h.2 out, h.3)
 
     -- all that it did
     pub done_flushed : (asked : Asked) (input : List ℕ) (accepted : Bool)
         → HasAnswered (buffered_takes takes failures) count from mid asked input accepted
         → HasAnswered takes failures from.sink to asked input accepted
-    done_flushed (Check file cut sender) input accepted h = check_hex_flushed sender input accepted h
-    done_flushed (Show file Host paint so_far) input accepted h =
-        (h.0, h.1, show_flushed element_rules (painted_host_view paint) so_far h.0 accepted h.2)
-    done_flushed (Show file ExtendedHost paint so_far) input accepted h =
-        (h.0, h.1, show_flushed extended_rules (extended_view paint) so_far h.0 accepted h.2)
-    done_flushed (Show file Station paint so_far) input accepted h =
-        (h.0, h.1, show_flushed answer_rules answer_view so_far h.0 accepted h.2)
-    done_flushed (Show file ExtendedStation paint so_far) input accepted h =
-        (h.0, h.1, show_flushed extended_answer_rules told_view so_far h.0 accepted h.2)
+    done_flushed (Check file form cut sender) input accepted h = (h.0, h.1, check_by_flushed sender h.0 accepted h.2)
+    done_flushed (Show file form sender paint so_far) input accepted h =
+        (h.0, h.1, show_by_flushed paint so_far sender h.0 accepted h.2)
     done_flushed (Play file screen false paint) input accepted h =
         (h.0, h.1, h.2, h.3, flushed_out takes failures count from empty mid to h.2 h.4 out, h.5)
     done_flushed (Play file screen true paint) input accepted h =
         (h.0, h.1, h.2, h.3, flushed_out takes failures count from empty mid to h.2 h.4 out)
-    done_flushed (Make file Host) input accepted h =
-        make_flushed element_rules element_wording Shows input accepted h
-    done_flushed (Make file ExtendedHost) input accepted h =
-        make_flushed extended_rules extended_wording ShowsExtended input accepted h
-    done_flushed (Make file Station) input accepted h =
-        make_flushed answer_rules answer_wording ShowsAnswers input accepted h
-    done_flushed (Make file ExtendedStation) input accepted h =
-        make_flushed extended_answer_rules told_wording ShowsTold input accepted h
+    done_flushed (Make file Host raw) input accepted h =
+        make_flushed element_rules element_wording Shows raw input accepted h
+    done_flushed (Make file ExtendedHost raw) input accepted h =
+        make_flushed extended_rules extended_wording ShowsExtended raw input accepted h
+    done_flushed (Make file Station raw) input accepted h =
+        make_flushed answer_rules answer_wording ShowsAnswers raw input accepted h
+    done_flushed (Make file ExtendedStation raw) input accepted h =
+        make_flushed extended_answer_rules told_wording ShowsTold raw input accepted h
 
-    unchanged : mid ≡ from → to ≡ from.sink
+    pub unchanged : mid ≡ from → to ≡ from.sink
     unchanged same = idle (none_held same) ∙ ap (λ (b : Buffering S). b.sink) same
 
     fails_too : (text : List ℕ) → FailedWithin (buffered_takes takes failures) count from mid text
@@ -113,28 +119,23 @@ module _ {S : Type 0} (takes : MayTake S) (failures : S → ℕ) (count : Buffer
         subst (λ (s : S). FailedWithin takes failures from.sink s text) (sym (idle g.1)) g.0
 
     -- or its fault: of a check
-    check_fault_flushed : {Place U : Type 0} (rules : Rules Place U) (input : List ℕ) (fault : RunFault)
-        → IsHexFault (buffered_takes takes failures) count from mid
-        (IsCheckFault rules (buffered_takes takes failures) count from mid) input fault
-        → IsHexFault takes failures from.sink to (IsCheckFault rules takes failures from.sink to) input fault
-    check_fault_flushed rules input NotHex f = (unchanged f.0, f.1)
-    check_fault_flushed rules input Memory (b, h, inl e) = (b, h, inl (unchanged e))
-    check_fault_flushed rules input Memory (b, h, inr e) = (b, h, inl (unchanged e))
-    check_fault_flushed rules input Write f = (f.0, f.1, (f.2.0, f.2.1, fails_too f.2.0 f.2.2))
-    check_fault_flushed rules input Read f = absurd f
-    check_fault_flushed rules input (Refused place reason) f = absurd f
-    check_fault_flushed rules input (Truncated n) f = absurd f
-    check_fault_flushed rules input NoConnection f = absurd f
-    check_fault_flushed rules input Failed f = absurd f
-    check_fault_flushed rules input (Line number) f = absurd f
+    check_fault_flushed : {Place U : Type 0} (rules : Rules Place U) (bytes : List ℕ) (met : Fault)
+        → IsCheckFault rules (buffered_takes takes failures) count from mid bytes met
+        → IsCheckFault rules takes failures from.sink to bytes met
+    check_fault_flushed rules bytes device.Memory f = unchanged f
+    check_fault_flushed rules bytes device.Write f = (f.0, f.1, fails_too f.0 f.2)
+    check_fault_flushed rules bytes (device.Refused place reason) f = absurd f
+    check_fault_flushed rules bytes (device.Truncated n) f = absurd f
+    check_fault_flushed rules bytes device.Read f = absurd f
+    check_fault_flushed rules bytes device.Failed f = absurd f
 
-    check_hex_fault_flushed : (sender : Sender) (input : List ℕ) (fault : RunFault)
-        → IsCheckHexFault (buffered_takes takes failures) count from mid sender input fault
-        → IsCheckHexFault takes failures from.sink to sender input fault
-    check_hex_fault_flushed Host input fault f = check_fault_flushed element_rules input fault f
-    check_hex_fault_flushed ExtendedHost input fault f = check_fault_flushed extended_rules input fault f
-    check_hex_fault_flushed Station input fault f = check_fault_flushed answer_rules input fault f
-    check_hex_fault_flushed ExtendedStation input fault f = check_fault_flushed extended_answer_rules input fault f
+    pub check_fault_by_flushed : (sender : Sender) (bytes : List ℕ) (met : Fault)
+        → IsCheckFaultBy (buffered_takes takes failures) count from mid sender bytes met
+        → IsCheckFaultBy takes failures from.sink to sender bytes met
+    check_fault_by_flushed Host bytes met f = check_fault_flushed element_rules bytes met f
+    check_fault_by_flushed ExtendedHost bytes met f = check_fault_flushed extended_rules bytes met f
+    check_fault_by_flushed Station bytes met f = check_fault_flushed answer_rules bytes met f
+    check_fault_by_flushed ExtendedStation bytes met f = check_fault_flushed extended_answer_rules bytes met f
 
     -- of what is shown
     show_memory_flushed : {Place U : Type 0} (rules : Rules Place U) (view : View U) (so_far : Bool) (bytes : List ℕ)
@@ -153,58 +154,73 @@ module _ {S : Type 0} (takes : MayTake S) (failures : S → ℕ) (count : Buffer
     show_write_flushed rules view false bytes f = (f.0, f.1, fails_too f.0 f.2)
     show_write_flushed rules view true bytes f = (f.0, f.1, fails_too f.0 f.2)
 
-    show_fault_flushed : {Place U : Type 0} (rules : Rules Place U) (view : View U) (so_far : Bool) (input : List ℕ)
-        (fault : RunFault) → IsHexFault (buffered_takes takes failures) count from mid
-        (IsShowFaultWith (buffered_takes takes failures) count from mid rules view so_far) input fault
-        → IsHexFault takes failures from.sink to (IsShowFaultWith takes failures from.sink to rules view so_far)
-        input fault
-    show_fault_flushed rules view so_far input NotHex f = (unchanged f.0, f.1)
-    show_fault_flushed rules view so_far input Memory (b, h, inl e) = (b, h, inl (unchanged e))
-    show_fault_flushed rules view so_far input Memory (b, h, inr e) =
-        (b, h, inr (show_memory_flushed rules view so_far b e))
-    show_fault_flushed rules view so_far input Write f = (f.0, f.1, show_write_flushed rules view so_far f.0 f.2)
-    show_fault_flushed rules view so_far input Read f = absurd f
-    show_fault_flushed rules view so_far input (Refused place reason) f = absurd f
-    show_fault_flushed rules view so_far input (Truncated n) f = absurd f
-    show_fault_flushed rules view so_far input NoConnection f = absurd f
-    show_fault_flushed rules view so_far input Failed f = absurd f
-    show_fault_flushed rules view so_far input (Line number) f = absurd f
+    show_fault_flushed : {Place U : Type 0} (rules : Rules Place U) (view : View U) (so_far : Bool) (bytes : List ℕ)
+        (met : Fault) → IsShowFaultWith (buffered_takes takes failures) count from mid rules view so_far bytes met
+        → IsShowFaultWith takes failures from.sink to rules view so_far bytes met
+    show_fault_flushed rules view so_far bytes device.Memory f = show_memory_flushed rules view so_far bytes f
+    show_fault_flushed rules view so_far bytes device.Write f = show_write_flushed rules view so_far bytes f
+    show_fault_flushed rules view false bytes (device.Refused place reason) f = absurd f
+    show_fault_flushed rules view true bytes (device.Refused place reason) f = absurd f
+    show_fault_flushed rules view false bytes (device.Truncated n) f = absurd f
+    show_fault_flushed rules view true bytes (device.Truncated n) f = absurd f
+    show_fault_flushed rules view false bytes device.Read f = absurd f
+    show_fault_flushed rules view true bytes device.Read f = absurd f
+    show_fault_flushed rules view false bytes device.Failed f = absurd f
+    show_fault_flushed rules view true bytes device.Failed f = absurd f
+
+    show_fault_by_flushed : (paint : Paint) (so_far : Bool) (sender : Sender) (bytes : List ℕ) (met : Fault)
+        → IsShowFaultBy (buffered_takes takes failures) count from mid paint so_far sender bytes met
+        → IsShowFaultBy takes failures from.sink to paint so_far sender bytes met
+    show_fault_by_flushed paint so_far Host bytes met f =
+        show_fault_flushed element_rules (painted_host_view paint) so_far bytes met f
+    show_fault_by_flushed paint so_far ExtendedHost bytes met f =
+        show_fault_flushed extended_rules (extended_view paint) so_far bytes met f
+    show_fault_by_flushed paint so_far Station bytes met f =
+        show_fault_flushed answer_rules answer_view so_far bytes met f
+    show_fault_by_flushed paint so_far ExtendedStation bytes met f =
+        show_fault_flushed extended_answer_rules told_view so_far bytes met f
+
+    -- of either
+    bytes_fault_flushed : (form : StreamForm) (Old New : List ℕ → Fault → Type 0)
+        → ((bytes : List ℕ) (met : Fault) → Old bytes met → New bytes met) → (input : List ℕ) (fault : RunFault)
+        → IsBytesFault (buffered_takes takes failures) count from mid form Old input fault
+        → IsBytesFault takes failures from.sink to form New input fault
+    bytes_fault_flushed form Old New on input fault (inl f) = inl (unchanged f.0, f.1)
+    bytes_fault_flushed form Old New on input fault (inr f) = inr (f.0, f.1, f.2, on f.0 f.1 f.3, f.4)
 
     -- of what is made
     make_fault_flushed : {Place U : Type 0} (rules : Rules Place U) (w : Wording U)
-        (Showing : List ℕ → List (Item U) → Type 0)
-        (input : List ℕ) (fault : RunFault)
-        → IsMakeFault rules w Showing (buffered_takes takes failures) count from mid input fault
-        → IsMakeFault rules w Showing takes failures from.sink to input fault
-    make_fault_flushed rules w Showing input (Line number) f = (unchanged f.0, f.1)
-    make_fault_flushed rules w Showing input Memory f = (unchanged f.0, f.1)
-    make_fault_flushed rules w Showing input Write f = (f.0, f.1, fails_too _ f.2)
-    make_fault_flushed rules w Showing input NotHex f = absurd f
-    make_fault_flushed rules w Showing input Read f = absurd f
-    make_fault_flushed rules w Showing input (Refused place reason) f = absurd f
-    make_fault_flushed rules w Showing input (Truncated n) f = absurd f
-    make_fault_flushed rules w Showing input NoConnection f = absurd f
-    make_fault_flushed rules w Showing input Failed f = absurd f
+        (Showing : List ℕ → List (Item U) → Type 0) (raw : Bool) (input : List ℕ) (fault : RunFault)
+        → IsMakeFault rules w Showing (buffered_takes takes failures) count from mid raw input fault
+        → IsMakeFault rules w Showing takes failures from.sink to raw input fault
+    make_fault_flushed rules w Showing raw input (Line number) f = (unchanged f.0, f.1)
+    make_fault_flushed rules w Showing raw input Memory f = (unchanged f.0, f.1)
+    make_fault_flushed rules w Showing raw input Write f = (f.0, f.1, fails_too _ f.2)
+    make_fault_flushed rules w Showing raw input NotHex f = absurd f
+    make_fault_flushed rules w Showing raw input Read f = absurd f
+    make_fault_flushed rules w Showing raw input (Refused place reason) f = absurd f
+    make_fault_flushed rules w Showing raw input (Truncated n) f = absurd f
+    make_fault_flushed rules w Showing raw input NoConnection f = absurd f
+    make_fault_flushed rules w Showing raw input Failed f = absurd f
 
     pub fault_flushed : (asked : Asked) (input : List ℕ) (fault : RunFault)
         → IsAnswerFault (buffered_takes takes failures) count from mid asked input fault
         → IsAnswerFault takes failures from.sink to asked input fault
-    fault_flushed (Check file cut sender) input fault f = check_hex_fault_flushed sender input fault f
-    fault_flushed (Show file Host paint so_far) input fault f =
-        show_fault_flushed element_rules (painted_host_view paint) so_far input fault f
-    fault_flushed (Show file ExtendedHost paint so_far) input fault f =
-        show_fault_flushed extended_rules (extended_view paint) so_far input fault f
-    fault_flushed (Show file Station paint so_far) input fault f =
-        show_fault_flushed answer_rules answer_view so_far input fault f
-    fault_flushed (Show file ExtendedStation paint so_far) input fault f =
-        show_fault_flushed extended_answer_rules told_view so_far input fault f
-    fault_flushed (Make file Host) input fault f = make_fault_flushed element_rules element_wording Shows input fault f
-    fault_flushed (Make file ExtendedHost) input fault f =
-        make_fault_flushed extended_rules extended_wording ShowsExtended input fault f
-    fault_flushed (Make file Station) input fault f =
-        make_fault_flushed answer_rules answer_wording ShowsAnswers input fault f
-    fault_flushed (Make file ExtendedStation) input fault f =
-        make_fault_flushed extended_answer_rules told_wording ShowsTold input fault f
+    fault_flushed (Check file form cut sender) input fault f = bytes_fault_flushed form
+        (IsCheckFaultBy (buffered_takes takes failures) count from mid sender)
+        (IsCheckFaultBy takes failures from.sink to sender) (check_fault_by_flushed sender) input fault f
+    fault_flushed (Show file form sender paint so_far) input fault f = bytes_fault_flushed form
+        (IsShowFaultBy (buffered_takes takes failures) count from mid paint so_far sender)
+        (IsShowFaultBy takes failures from.sink to paint so_far sender) (show_fault_by_flushed paint so_far sender)
+        input fault f
+    fault_flushed (Make file Host raw) input fault f =
+        make_fault_flushed element_rules element_wording Shows raw input fault f
+    fault_flushed (Make file ExtendedHost raw) input fault f =
+        make_fault_flushed extended_rules extended_wording ShowsExtended raw input fault f
+    fault_flushed (Make file Station raw) input fault f =
+        make_fault_flushed answer_rules answer_wording ShowsAnswers raw input fault f
+    fault_flushed (Make file ExtendedStation raw) input fault f =
+        make_fault_flushed extended_answer_rules told_wording ShowsTold raw input fault f
     fault_flushed (Play file screen false paint) input (Line number) f = (unchanged f.0, f.1)
     fault_flushed (Play file screen false paint) input Memory f = (unchanged f.0, f.1)
     fault_flushed (Play file screen false paint) input Write f = (f.0, f.1, f.2, f.3, fails_too f.2 f.4)

@@ -1,5 +1,5 @@
 use Rattle.std.proofs.Common.{◌≡◌, ℕ, ◌+◌, ◌-◌, ◌<◌, ◌≤◌, ◌^◌, List, [], ◌∷◌, ◌++◌, Some, length, take, drop, refl, sym}
-use Rattle.std.proofs.Common.{ap, ◌∙◌, subst, arith, length-append}
+use Rattle.std.proofs.Common.{ap, ◌∙◌, subst, arith, length-append, append_assoc}
 use Rattle.std.proofs.Math.Seq.{take-add}
 use Rattle.std.proofs.lemmas.List.{take-append-drop}
 use Rattle.ws_code.specs.Code.{Rules}
@@ -140,3 +140,25 @@ refused_on rules bytes front n place reason e r =
     subst (λ (x : List ℕ). IsRefused rules x place reason) (take-append-drop n bytes)
     (refused_append rules (take n bytes) (drop n bytes) place reason
     (subst (λ (x : List ℕ). IsRefused rules x place reason) e r))
+
+-- a front of a piece, behind bytes and the front before it
+pub front_behind : (bytes piece : List ℕ) (at used : ℕ) → used ≤ length (take (length piece - at) (drop at piece))
+    → (bytes ++ take at piece) ++ take used (take (length piece - at) (drop at piece)) ≡ bytes ++ take (at + used) piece
+front_behind bytes piece at used within =
+    append_assoc bytes (take at piece) (take used (take (length piece - at) (drop at piece)))
+    ∙ ap (λ x. bytes ++ x) (front_on piece at (length piece) used within)
+
+-- a byte that is refused at the end of a front is refused behind the whole piece
+pub refused_behind : {Place U : Type 0} (rules : Rules Place U) (bytes piece : List ℕ) (n place : ℕ) (reason : Reason)
+    → IsRefused rules (bytes ++ take n piece) place reason → IsRefused rules (bytes ++ piece) place reason
+refused_behind rules bytes piece n place reason r =
+    subst (λ (x : List ℕ). IsRefused rules x place reason)
+    (append_assoc bytes (take n piece) (drop n piece) ∙ ap (λ x. bytes ++ x) (take-append-drop n piece))
+    (refused_append rules (bytes ++ take n piece) (drop n piece) place reason r)
+
+-- a piece of a list, behind what stands before it
+pub piece_on : (bytes : List ℕ) (at end : ℕ) → at ≤ end → take at bytes ++ take (end - at) (drop at bytes)
+    ≡ take end bytes
+piece_on bytes at end h =
+    let same : at + (end - at) ≡ end = omega (arith, h) in
+    sym (take-add at (end - at) bytes) ∙ ap (λ n. take n bytes) same

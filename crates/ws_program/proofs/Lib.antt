@@ -10,7 +10,11 @@ pub mod Plays
 pub mod Shows
 pub mod SoFarShows
 pub mod SoFarTexts
+pub mod SourceAnswers
+pub mod SourceReads
 pub mod UnflushedBuffers
 pub mod ViewLaws
 pub mod ReadBack
+pub mod Recordings
 pub mod WholeItems
+pub mod CauseTexts

@@ -3,6 +3,7 @@ use Rattle.std.proofs.Common.{inl, inr}
 use Rattle.std.specs.Prelude.{Bool, true, false, None, Result, Ok, Err, IfOk, IfErr}
 use Rattle.ws_code.specs.Code.{Rules}
 use Rattle.ws_code.specs.Device.{MayTake, FailedWithin}
+use Rattle.ws_code.specs.declared.fault.Fault.{Fault}
 use Rattle.ws_code.specs.declared.fault.Fault.TheVariants as device
 use Rattle.ws_live.specs.Buffering.{Buffering, buffered_takes}
 use Rattle.ws_live.proofs.Buffers.{flush_fails, fails_behind}
@@ -17,18 +18,20 @@ use Rattle.ws_text.specs.ExtendedAnswerWords.{told_wording}
 use Rattle.ws_text.specs.ExtendedWords.{extended_wording}
 use Rattle.ws_text.specs.Shown.{Shows, ShowsAnswers, ShowsExtended, ShowsTold}
 use Rattle.ws_text.specs.Wording.{Wording}
-use Rattle.ws_program.specs.Answering.{HasAnswered, HasChecked, HasCheckedHex, HasShown, IsAnswerFault, IsHexFault}
-use Rattle.ws_program.specs.Answering.{IsCheckHexFault}
+use Rattle.ws_program.specs.Answering.{HasAnswered, HasChecked, HasCheckedBy, HasShown, HasShownBy, IsAnswerFault}
+use Rattle.ws_program.specs.Answering.{IsBytesFault, IsCheckFaultBy, IsShowFaultBy}
 use Rattle.ws_program.specs.Checking.{IsCheckFault}
 use Rattle.ws_program.specs.Making.{HasMade, IsMakeFault}
 use Rattle.ws_program.specs.SoFar.{IsShowFaultWith}
 use Rattle.ws_program.specs.StreamText.{View, Placed, lines_of, AreShown, AreFirstLines}
 use Rattle.ws_program.specs.ExtendedView.{extended_view}
 use Rattle.ws_program.specs.Views.{painted_host_view, answer_view, told_view}
+use Rattle.ws_live.specs.declared.paint.Paint.{Paint}
 use Rattle.ws_words.specs.declared.command_line.Asked.{Asked}
 use Rattle.ws_words.specs.declared.command_line.Asked.TheVariants.{Check, Show, Play, Make}
 use Rattle.ws_words.specs.declared.command_line.Sender.{Sender}
 use Rattle.ws_words.specs.declared.command_line.Sender.TheVariants.{Host, ExtendedHost, Station, ExtendedStation}
+use Rattle.ws_words.specs.declared.command_line.StreamForm.{StreamForm}
 use Rattle.ws_program.proofs.Buffers.{none_held, none_fails}
 use Rattle.ws_program.specs.declared.fault.RunFault.{RunFault}
 use Rattle.ws_program.specs.declared.fault.RunFault.TheVariants.{Read, NotHex, Line, Memory}
@@ -51,14 +54,13 @@ module _ {S : Type 0} (takes : MayTake S) (failures : S → ℕ) (count : Buffer
     check_unflushed rules bytes accepted h =
         (_, (h.0, h.1, refl), flush_fails takes failures count from empty mid to _ h.3 none)
 
-    check_hex_unflushed : (sender : Sender) (input : List ℕ) (accepted : Bool)
-        → HasCheckedHex (buffered_takes takes failures) count from mid sender input accepted
-        → IsCheckHexFault takes failures from.sink to sender input Write
-    check_hex_unflushed Host input accepted h = (h.0, h.1, check_unflushed element_rules h.0 accepted h.2)
-    check_hex_unflushed ExtendedHost input accepted h = (h.0, h.1, check_unflushed extended_rules h.0 accepted h.2)
-    check_hex_unflushed Station input accepted h = (h.0, h.1, check_unflushed answer_rules h.0 accepted h.2)
-    check_hex_unflushed ExtendedStation input accepted h =
-        (h.0, h.1, check_unflushed extended_answer_rules h.0 accepted h.2)
+    pub check_by_unflushed : (sender : Sender) (bytes : List ℕ) (accepted : Bool)
+        → HasCheckedBy (buffered_takes takes failures) count from mid sender bytes accepted
+        → IsCheckFaultBy takes failures from.sink to sender bytes device.Write
+    check_by_unflushed Host bytes accepted h = check_unflushed element_rules bytes accepted h
+    check_by_unflushed ExtendedHost bytes accepted h = check_unflushed extended_rules bytes accepted h
+    check_by_unflushed Station bytes accepted h = check_unflushed answer_rules bytes accepted h
+    check_by_unflushed ExtendedStation bytes accepted h = check_unflushed extended_answer_rules bytes accepted h
 
     show_unflushed : {Place U : Type 0} (rules : Rules Place U) (view : View U) (so_far : Bool) (bytes : List ℕ)
         (accepted : Bool) → HasShown (buffered_takes takes failures) count from mid rules view so_far bytes accepted
@@ -68,40 +70,46 @@ module _ {S : Type 0} (takes : MayTake S) (failures : S → ℕ) (count : Buffer
     show_unflushed rules view true bytes accepted h =
         (h.0, inr (accepted, h.1), flush_fails takes failures count from empty mid to h.0 h.2 none)
 
+    show_by_unflushed : (paint : Paint) (so_far : Bool) (sender : Sender) (bytes : List ℕ) (accepted : Bool)
+        → HasShownBy (buffered_takes takes failures) count from mid paint so_far sender bytes accepted
+        → IsShowFaultBy takes failures from.sink to paint so_far sender bytes device.Write
+    show_by_unflushed paint so_far Host bytes accepted h =
+        show_unflushed element_rules (painted_host_view paint) so_far bytes accepted h
+    show_by_unflushed paint so_far ExtendedHost bytes accepted h =
+        show_unflushed extended_rules (extended_view paint) so_far bytes accepted h
+    show_by_unflushed paint so_far Station bytes accepted h =
+        show_unflushed answer_rules answer_view so_far bytes accepted h
+    show_by_unflushed paint so_far ExtendedStation bytes accepted h =
+        show_unflushed extended_answer_rules told_view so_far bytes accepted h
+
     make_unflushed : {Place U : Type 0} (rules : Rules Place U) (w : Wording U)
-        (Showing : List ℕ → List (Item U) → Type 0)
-        (input : List ℕ) (accepted : Bool)
-        → HasMade rules w Showing (buffered_takes takes failures) count from mid input accepted
-        → IsMakeFault rules w Showing takes failures from.sink to input Write
-    make_unflushed rules w Showing input accepted h =
+        (Showing : List ℕ → List (Item U) → Type 0) (raw : Bool) (input : List ℕ) (accepted : Bool)
+        → HasMade rules w Showing (buffered_takes takes failures) count from mid raw input accepted
+        → IsMakeFault rules w Showing takes failures from.sink to raw input Write
+    make_unflushed rules w Showing raw input accepted h =
         (h.0, h.1, flush_fails takes failures count from empty mid to _ h.2 none)
 
     done_unflushed : (asked : Asked) (input : List ℕ) (accepted : Bool)
         → HasAnswered (buffered_takes takes failures) count from mid asked input accepted
         → IsAnswerFault takes failures from.sink to asked input Write
-    done_unflushed (Check file cut sender) input accepted h = check_hex_unflushed sender input accepted h
-    done_unflushed (Show file Host paint so_far) input accepted h =
-        (h.0, h.1, show_unflushed element_rules (painted_host_view paint) so_far h.0 accepted h.2)
-    done_unflushed (Show file ExtendedHost paint so_far) input accepted h =
-        (h.0, h.1, show_unflushed extended_rules (extended_view paint) so_far h.0 accepted h.2)
-    done_unflushed (Show file Station paint so_far) input accepted h =
-        (h.0, h.1, show_unflushed answer_rules answer_view so_far h.0 accepted h.2)
-    done_unflushed (Show file ExtendedStation paint so_far) input accepted h =
-        (h.0, h.1, show_unflushed extended_answer_rules told_view so_far h.0 accepted h.2)
+    done_unflushed (Check file form cut sender) input accepted h =
+        inr (h.0, device.Write, h.1, check_by_unflushed sender h.0 accepted h.2, refl)
+    done_unflushed (Show file form sender paint so_far) input accepted h =
+        inr (h.0, device.Write, h.1, show_by_unflushed paint so_far sender h.0 accepted h.2, refl)
     done_unflushed (Play file screen false paint) input accepted h =
         (h.0, h.1, h.2, h.3, flush_fails takes failures count from empty mid to h.2 h.4 none)
     done_unflushed (Play file screen true paint) input accepted h =
         (h.0, h.1, inr (accepted, h.2, h.3, flush_fails takes failures count from empty mid to h.2 h.4 none))
-    done_unflushed (Make file Host) input accepted h =
-        make_unflushed element_rules element_wording Shows input accepted h
-    done_unflushed (Make file ExtendedHost) input accepted h =
-        make_unflushed extended_rules extended_wording ShowsExtended input accepted h
-    done_unflushed (Make file Station) input accepted h =
-        make_unflushed answer_rules answer_wording ShowsAnswers input accepted h
-    done_unflushed (Make file ExtendedStation) input accepted h =
-        make_unflushed extended_answer_rules told_wording ShowsTold input accepted h
+    done_unflushed (Make file Host raw) input accepted h =
+        make_unflushed element_rules element_wording Shows raw input accepted h
+    done_unflushed (Make file ExtendedHost raw) input accepted h =
+        make_unflushed extended_rules extended_wording ShowsExtended raw input accepted h
+    done_unflushed (Make file Station raw) input accepted h =
+        make_unflushed answer_rules answer_wording ShowsAnswers raw input accepted h
+    done_unflushed (Make file ExtendedStation raw) input accepted h =
+        make_unflushed extended_answer_rules told_wording ShowsTold raw input accepted h
 
-    unheld : {X : Type 0} → mid ≡ from → X
+    pub unheld : {X : Type 0} → mid ≡ from → X
     unheld same = absurd (none_fails takes failures count from mid empty to
         (none_held takes failures count from mid empty to same) none)
 
@@ -110,28 +118,23 @@ module _ {S : Type 0} (takes : MayTake S) (failures : S → ℕ) (count : Buffer
         (fails_behind takes failures count from empty mid text f).1 none)
 
     -- behind a fault neither
-    check_fault_unflushed : {Place U : Type 0} (rules : Rules Place U) (input : List ℕ) (fault : RunFault)
-        → IsHexFault (buffered_takes takes failures) count from mid
-        (IsCheckFault rules (buffered_takes takes failures) count from mid) input fault
-        → IsHexFault takes failures from.sink to (IsCheckFault rules takes failures from.sink to) input Write
-    check_fault_unflushed rules input NotHex f = unheld f.0
-    check_fault_unflushed rules input Memory (b, h, inl e) = unheld e
-    check_fault_unflushed rules input Memory (b, h, inr e) = unheld e
-    check_fault_unflushed rules input Write f = unfailed f.2.0 f.2.2
-    check_fault_unflushed rules input Read f = absurd f
-    check_fault_unflushed rules input (Refused place reason) f = absurd f
-    check_fault_unflushed rules input (Truncated n) f = absurd f
-    check_fault_unflushed rules input NoConnection f = absurd f
-    check_fault_unflushed rules input Failed f = absurd f
-    check_fault_unflushed rules input (Line number) f = absurd f
+    check_fault_unflushed : {Place U : Type 0} (rules : Rules Place U) (bytes : List ℕ) (met : Fault)
+        → IsCheckFault rules (buffered_takes takes failures) count from mid bytes met
+        → IsCheckFault rules takes failures from.sink to bytes device.Write
+    check_fault_unflushed rules bytes device.Memory f = unheld f
+    check_fault_unflushed rules bytes device.Write f = unfailed f.0 f.2
+    check_fault_unflushed rules bytes (device.Refused place reason) f = absurd f
+    check_fault_unflushed rules bytes (device.Truncated n) f = absurd f
+    check_fault_unflushed rules bytes device.Read f = absurd f
+    check_fault_unflushed rules bytes device.Failed f = absurd f
 
-    check_hex_fault_unflushed : (sender : Sender) (input : List ℕ) (fault : RunFault)
-        → IsCheckHexFault (buffered_takes takes failures) count from mid sender input fault
-        → IsCheckHexFault takes failures from.sink to sender input Write
-    check_hex_fault_unflushed Host input fault f = check_fault_unflushed element_rules input fault f
-    check_hex_fault_unflushed ExtendedHost input fault f = check_fault_unflushed extended_rules input fault f
-    check_hex_fault_unflushed Station input fault f = check_fault_unflushed answer_rules input fault f
-    check_hex_fault_unflushed ExtendedStation input fault f = check_fault_unflushed extended_answer_rules input fault f
+    pub check_fault_by_unflushed : (sender : Sender) (bytes : List ℕ) (met : Fault)
+        → IsCheckFaultBy (buffered_takes takes failures) count from mid sender bytes met
+        → IsCheckFaultBy takes failures from.sink to sender bytes device.Write
+    check_fault_by_unflushed Host bytes met f = check_fault_unflushed element_rules bytes met f
+    check_fault_by_unflushed ExtendedHost bytes met f = check_fault_unflushed extended_rules bytes met f
+    check_fault_by_unflushed Station bytes met f = check_fault_unflushed answer_rules bytes met f
+    check_fault_by_unflushed ExtendedStation bytes met f = check_fault_unflushed extended_answer_rules bytes met f
 
     show_memory_unflushed : {Place U : Type 0} (rules : Rules Place U) (view : View U) (so_far : Bool)
         (bytes : List ℕ)
@@ -145,58 +148,73 @@ module _ {S : Type 0} (takes : MayTake S) (failures : S → ℕ) (count : Buffer
         (_, inl (first_lines e.0 e.2), flush_fails takes failures count from empty mid to _ e.4 none)
 
     show_fault_unflushed : {Place U : Type 0} (rules : Rules Place U) (view : View U) (so_far : Bool)
-        (input : List ℕ) (fault : RunFault) → IsHexFault (buffered_takes takes failures) count from mid
-        (IsShowFaultWith (buffered_takes takes failures) count from mid rules view so_far) input fault
-        → IsHexFault takes failures from.sink to (IsShowFaultWith takes failures from.sink to rules view so_far)
-        input Write
-    show_fault_unflushed rules view so_far input NotHex f = unheld f.0
-    show_fault_unflushed rules view so_far input Memory (b, h, inl e) = unheld e
-    show_fault_unflushed rules view so_far input Memory (b, h, inr e) =
-        (b, h, show_memory_unflushed rules view so_far b e)
-    show_fault_unflushed rules view false input Write f = unfailed f.2.0 f.2.2
-    show_fault_unflushed rules view true input Write f = unfailed f.2.0 f.2.2
-    show_fault_unflushed rules view so_far input Read f = absurd f
-    show_fault_unflushed rules view so_far input (Refused place reason) f = absurd f
-    show_fault_unflushed rules view so_far input (Truncated n) f = absurd f
-    show_fault_unflushed rules view so_far input NoConnection f = absurd f
-    show_fault_unflushed rules view so_far input Failed f = absurd f
-    show_fault_unflushed rules view so_far input (Line number) f = absurd f
+        (bytes : List ℕ) (met : Fault)
+        → IsShowFaultWith (buffered_takes takes failures) count from mid rules view so_far bytes met
+        → IsShowFaultWith takes failures from.sink to rules view so_far bytes device.Write
+    show_fault_unflushed rules view so_far bytes device.Memory f = show_memory_unflushed rules view so_far bytes f
+    show_fault_unflushed rules view false bytes device.Write f = unfailed f.0 f.2
+    show_fault_unflushed rules view true bytes device.Write f = unfailed f.0 f.2
+    show_fault_unflushed rules view false bytes (device.Refused place reason) f = absurd f
+    show_fault_unflushed rules view true bytes (device.Refused place reason) f = absurd f
+    show_fault_unflushed rules view false bytes (device.Truncated n) f = absurd f
+    show_fault_unflushed rules view true bytes (device.Truncated n) f = absurd f
+    show_fault_unflushed rules view false bytes device.Read f = absurd f
+    show_fault_unflushed rules view true bytes device.Read f = absurd f
+    show_fault_unflushed rules view false bytes device.Failed f = absurd f
+    show_fault_unflushed rules view true bytes device.Failed f = absurd f
+
+    show_fault_by_unflushed : (paint : Paint) (so_far : Bool) (sender : Sender) (bytes : List ℕ) (met : Fault)
+        → IsShowFaultBy (buffered_takes takes failures) count from mid paint so_far sender bytes met
+        → IsShowFaultBy takes failures from.sink to paint so_far sender bytes device.Write
+    show_fault_by_unflushed paint so_far Host bytes met f =
+        show_fault_unflushed element_rules (painted_host_view paint) so_far bytes met f
+    show_fault_by_unflushed paint so_far ExtendedHost bytes met f =
+        show_fault_unflushed extended_rules (extended_view paint) so_far bytes met f
+    show_fault_by_unflushed paint so_far Station bytes met f =
+        show_fault_unflushed answer_rules answer_view so_far bytes met f
+    show_fault_by_unflushed paint so_far ExtendedStation bytes met f =
+        show_fault_unflushed extended_answer_rules told_view so_far bytes met f
+
+    bytes_fault_unflushed : (form : StreamForm) (Old New : List ℕ → Fault → Type 0)
+        → ((bytes : List ℕ) (met : Fault) → Old bytes met → New bytes device.Write) → (input : List ℕ)
+        (fault : RunFault) → IsBytesFault (buffered_takes takes failures) count from mid form Old input fault
+        → IsBytesFault takes failures from.sink to form New input Write
+    bytes_fault_unflushed form Old New on input fault (inl f) = unheld f.0
+    bytes_fault_unflushed form Old New on input fault (inr f) =
+        inr (f.0, device.Write, f.2, on f.0 f.1 f.3, refl)
 
     make_fault_unflushed : {Place U : Type 0} (rules : Rules Place U) (w : Wording U)
-        (Showing : List ℕ → List (Item U) → Type 0)
-        (input : List ℕ) (fault : RunFault)
-        → IsMakeFault rules w Showing (buffered_takes takes failures) count from mid input fault
-        → IsMakeFault rules w Showing takes failures from.sink to input Write
-    make_fault_unflushed rules w Showing input (Line number) f = unheld f.0
-    make_fault_unflushed rules w Showing input Memory f = unheld f.0
-    make_fault_unflushed rules w Showing input Write f = unfailed _ f.2
-    make_fault_unflushed rules w Showing input NotHex f = absurd f
-    make_fault_unflushed rules w Showing input Read f = absurd f
-    make_fault_unflushed rules w Showing input (Refused place reason) f = absurd f
-    make_fault_unflushed rules w Showing input (Truncated n) f = absurd f
-    make_fault_unflushed rules w Showing input NoConnection f = absurd f
-    make_fault_unflushed rules w Showing input Failed f = absurd f
+        (Showing : List ℕ → List (Item U) → Type 0) (raw : Bool) (input : List ℕ) (fault : RunFault)
+        → IsMakeFault rules w Showing (buffered_takes takes failures) count from mid raw input fault
+        → IsMakeFault rules w Showing takes failures from.sink to raw input Write
+    make_fault_unflushed rules w Showing raw input (Line number) f = unheld f.0
+    make_fault_unflushed rules w Showing raw input Memory f = unheld f.0
+    make_fault_unflushed rules w Showing raw input Write f = unfailed _ f.2
+    make_fault_unflushed rules w Showing raw input NotHex f = absurd f
+    make_fault_unflushed rules w Showing raw input Read f = absurd f
+    make_fault_unflushed rules w Showing raw input (Refused place reason) f = absurd f
+    make_fault_unflushed rules w Showing raw input (Truncated n) f = absurd f
+    make_fault_unflushed rules w Showing raw input NoConnection f = absurd f
+    make_fault_unflushed rules w Showing raw input Failed f = absurd f
 
     fault_unflushed : (asked : Asked) (input : List ℕ) (fault : RunFault)
         → IsAnswerFault (buffered_takes takes failures) count from mid asked input fault
         → IsAnswerFault takes failures from.sink to asked input Write
-    fault_unflushed (Check file cut sender) input fault f = check_hex_fault_unflushed sender input fault f
-    fault_unflushed (Show file Host paint so_far) input fault f =
-        show_fault_unflushed element_rules (painted_host_view paint) so_far input fault f
-    fault_unflushed (Show file ExtendedHost paint so_far) input fault f =
-        show_fault_unflushed extended_rules (extended_view paint) so_far input fault f
-    fault_unflushed (Show file Station paint so_far) input fault f =
-        show_fault_unflushed answer_rules answer_view so_far input fault f
-    fault_unflushed (Show file ExtendedStation paint so_far) input fault f =
-        show_fault_unflushed extended_answer_rules told_view so_far input fault f
-    fault_unflushed (Make file Host) input fault f =
-        make_fault_unflushed element_rules element_wording Shows input fault f
-    fault_unflushed (Make file ExtendedHost) input fault f =
-        make_fault_unflushed extended_rules extended_wording ShowsExtended input fault f
-    fault_unflushed (Make file Station) input fault f =
-        make_fault_unflushed answer_rules answer_wording ShowsAnswers input fault f
-    fault_unflushed (Make file ExtendedStation) input fault f =
-        make_fault_unflushed extended_answer_rules told_wording ShowsTold input fault f
+    fault_unflushed (Check file form cut sender) input fault f = bytes_fault_unflushed form
+        (IsCheckFaultBy (buffered_takes takes failures) count from mid sender)
+        (IsCheckFaultBy takes failures from.sink to sender) (check_fault_by_unflushed sender) input fault f
+    fault_unflushed (Show file form sender paint so_far) input fault f = bytes_fault_unflushed form
+        (IsShowFaultBy (buffered_takes takes failures) count from mid paint so_far sender)
+        (IsShowFaultBy takes failures from.sink to paint so_far sender) (show_fault_by_unflushed paint so_far sender)
+        input fault f
+    fault_unflushed (Make file Host raw) input fault f =
+        make_fault_unflushed element_rules element_wording Shows raw input fault f
+    fault_unflushed (Make file ExtendedHost raw) input fault f =
+        make_fault_unflushed extended_rules extended_wording ShowsExtended raw input fault f
+    fault_unflushed (Make file Station raw) input fault f =
+        make_fault_unflushed answer_rules answer_wording ShowsAnswers raw input fault f
+    fault_unflushed (Make file ExtendedStation raw) input fault f =
+        make_fault_unflushed extended_answer_rules told_wording ShowsTold raw input fault f
     fault_unflushed (Play file screen false paint) input (Line number) f = unheld f.0
     fault_unflushed (Play file screen false paint) input Memory f = unheld f.0
     fault_unflushed (Play file screen false paint) input Write f = unfailed f.2 f.4

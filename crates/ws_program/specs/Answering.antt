@@ -1,16 +1,13 @@
 -- What the program makes of an input: what it writes, and what it answers where that isn't all.
 
-use Rattle.std.specs.Prelude.{◌≡◌, ℕ, List, Bool, true, false, Result, Ok, Err, IsErr, ◌⊎◌, length}
-use Rattle.hex.specs.Hex.{decode_of}
+use Rattle.std.specs.Prelude.{◌≡◌, ℕ, List, Bool, true, false, Result, Ok, Err, ◌⊎◌, length}
 use Rattle.ws_code.specs.Code.{Rules}
 use Rattle.ws_code.specs.Device.{MayTake, WentOut, FailedWithin}
 use Rattle.ws_code.specs.declared.fault.Fault.{Fault}
-use Rattle.ws_code.specs.declared.fault.Fault.TheVariants as device
 use Rattle.ws_extended.specs.ExtendedAnswers.{extended_answer_rules}
 use Rattle.ws_extended.specs.ExtendedElements.{extended_rules}
 use Rattle.ws_stream.specs.Elements.{element_rules}
 use Rattle.ws_stream.specs.AnswerParts.{answer_rules}
-use Rattle.ws_program.specs.HexText.{IsHexOf, without_blanks}
 use Rattle.ws_program.specs.CheckLine.{IsVerdict, is_accepted, line_of}
 use Rattle.ws_program.specs.Checking.{IsCheckFault}
 use Rattle.ws_text.specs.AnswerWords.{answer_wording}
@@ -19,7 +16,9 @@ use Rattle.ws_text.specs.ExtendedAnswerWords.{told_wording}
 use Rattle.ws_text.specs.ExtendedWords.{extended_wording}
 use Rattle.ws_text.specs.Shown.{Shows, ShowsAnswers, ShowsExtended, ShowsTold}
 use Rattle.ws_program.specs.Making.{HasMade, IsMakeFault}
+use Rattle.ws_program.specs.RunFaults.{run_fault}
 use Rattle.ws_program.specs.SoFar.{IsShownWith, IsShowFaultWith}
+use Rattle.ws_program.specs.StreamBytes.{AreBytesOf, IsFormFault}
 use Rattle.ws_program.specs.StreamText.{View}
 use Rattle.ws_program.specs.ExtendedView.{extended_view}
 use Rattle.ws_program.specs.Views.{painted_host_view, answer_view, told_view}
@@ -28,8 +27,9 @@ use Rattle.ws_words.specs.declared.command_line.Asked.{Asked}
 use Rattle.ws_words.specs.declared.command_line.Asked.TheVariants.{Check, Show, Play, Make}
 use Rattle.ws_words.specs.declared.command_line.Sender.{Sender}
 use Rattle.ws_words.specs.declared.command_line.Sender.TheVariants.{Host, ExtendedHost, Station, ExtendedStation}
+use Rattle.ws_words.specs.declared.command_line.StreamForm.{StreamForm}
 use Rattle.ws_program.specs.declared.fault.RunFault.{RunFault}
-use Rattle.ws_program.specs.declared.fault.RunFault.TheVariants.{Read, NotHex, Line, Memory, Write, NoConnection}
+use Rattle.ws_program.specs.declared.fault.RunFault.TheVariants.{Read, Line, Memory, Write, NoConnection}
 use Rattle.ws_program.specs.declared.verdict.Verdict.{Verdict}
 use Rattle.ws_nego.specs.declared.terminal.TerminalType.TheVariants.{Ibm3179Model2}
 use Rattle.ws_session.specs.declared.world.Move.{Move}
@@ -82,84 +82,80 @@ module _ {S : Type 0} (takes : MayTake S) (failures : S → ℕ) (from to : S) w
   HasPlayedByTcp paint screen script all_well = (moves : List Move) × IsScript script moves
       × (text : List ℕ) × IsToldText paint moves screen all_well text × WentOut takes failures from to text
 
-  -- the line of a check of the bytes that a hex text tells went out: as the commands of a host, of the profile alone or
-  -- also beside it, or as a station's answers, alone or with what is told at once
-  abbrev pub HasCheckedHex : Sender → List ℕ → Bool → Type 0
-  HasCheckedHex Host input accepted = (bytes : List ℕ) × IsHexOf bytes input × HasChecked element_rules bytes accepted
-  HasCheckedHex ExtendedHost input accepted = (bytes : List ℕ) × IsHexOf bytes input
-      × HasChecked extended_rules bytes accepted
-  HasCheckedHex Station input accepted = (bytes : List ℕ) × IsHexOf bytes input × HasChecked answer_rules bytes accepted
-  HasCheckedHex ExtendedStation input accepted = (bytes : List ℕ) × IsHexOf bytes input
-      × HasChecked extended_answer_rules bytes accepted
+  -- the line of a check of the bytes of a sender went out: as the commands of a host, of the profile alone or also
+  -- beside it, or as a station's answers, alone or with what is told at once
+  abbrev pub HasCheckedBy : Sender → List ℕ → Bool → Type 0
+  HasCheckedBy Host bytes accepted = HasChecked element_rules bytes accepted
+  HasCheckedBy ExtendedHost bytes accepted = HasChecked extended_rules bytes accepted
+  HasCheckedBy Station bytes accepted = HasChecked answer_rules bytes accepted
+  HasCheckedBy ExtendedStation bytes accepted = HasChecked extended_answer_rules bytes accepted
 
-  -- what is shown of the bytes that a hex text tells went out; a station's answers have no screen
-  abbrev pub HasShownHex : Paint → Bool → Sender → List ℕ → Bool → Type 0
-  HasShownHex paint so_far Host input accepted = (bytes : List ℕ) × IsHexOf bytes input
-      × HasShown element_rules (painted_host_view paint) so_far bytes accepted
-  HasShownHex paint so_far ExtendedHost input accepted = (bytes : List ℕ) × IsHexOf bytes input
-      × HasShown extended_rules (extended_view paint) so_far bytes accepted
-  HasShownHex paint so_far Station input accepted = (bytes : List ℕ) × IsHexOf bytes input
-      × HasShown answer_rules answer_view so_far bytes accepted
-  HasShownHex paint so_far ExtendedStation input accepted = (bytes : List ℕ) × IsHexOf bytes input
-      × HasShown extended_answer_rules told_view so_far bytes accepted
+  -- what is shown of the bytes of a sender went out; a station's answers have no screen
+  abbrev pub HasShownBy : Paint → Bool → Sender → List ℕ → Bool → Type 0
+  HasShownBy paint so_far Host bytes accepted =
+      HasShown element_rules (painted_host_view paint) so_far bytes accepted
+  HasShownBy paint so_far ExtendedHost bytes accepted =
+      HasShown extended_rules (extended_view paint) so_far bytes accepted
+  HasShownBy paint so_far Station bytes accepted = HasShown answer_rules answer_view so_far bytes accepted
+  HasShownBy paint so_far ExtendedStation bytes accepted =
+      HasShown extended_answer_rules told_view so_far bytes accepted
 
-  -- the stream of the items that a text spells went out, as those of a sender
-  abbrev pub HasMadeBy : Sender → List ℕ → Bool → Type 0
-  HasMadeBy Host input accepted =
-      HasMade element_rules element_wording Shows takes failures from to input accepted
-  HasMadeBy ExtendedHost input accepted =
-      HasMade extended_rules extended_wording ShowsExtended takes failures from to input accepted
-  HasMadeBy Station input accepted =
-      HasMade answer_rules answer_wording ShowsAnswers takes failures from to input accepted
-  HasMadeBy ExtendedStation input accepted =
-      HasMade extended_answer_rules told_wording ShowsTold takes failures from to input accepted
+  -- the stream of the items that a text spells went out, as those of a sender, in bytes or in hex
+  abbrev pub HasMadeBy : Bool → Sender → List ℕ → Bool → Type 0
+  HasMadeBy raw Host input accepted =
+      HasMade element_rules element_wording Shows takes failures from to raw input accepted
+  HasMadeBy raw ExtendedHost input accepted =
+      HasMade extended_rules extended_wording ShowsExtended takes failures from to raw input accepted
+  HasMadeBy raw Station input accepted =
+      HasMade answer_rules answer_wording ShowsAnswers takes failures from to raw input accepted
+  HasMadeBy raw ExtendedStation input accepted =
+      HasMade extended_answer_rules told_wording ShowsTold takes failures from to raw input accepted
 
-  -- the program did what it was asked for with its input: with the commands of a host, or the answers of a
-  -- station, that a hex text tells, with a script, or with items as text
+  -- the program did what it was asked for with its input: with the bytes that it tells, with a script, or with items as
+  -- text
   abbrev pub HasAnswered : Asked → List ℕ → Bool → Type 0
-  HasAnswered (Check file cut sender) input accepted = HasCheckedHex sender input accepted
-  HasAnswered (Show file sender paint so_far) input accepted = HasShownHex paint so_far sender input accepted
+  HasAnswered (Check file form cut sender) input accepted = (bytes : List ℕ) × AreBytesOf form bytes input
+      × HasCheckedBy sender bytes accepted
+  HasAnswered (Show file form sender paint so_far) input accepted = (bytes : List ℕ) × AreBytesOf form bytes input
+      × HasShownBy paint so_far sender bytes accepted
   HasAnswered (Play file screen false paint) input accepted = HasPlayed paint screen input accepted
   HasAnswered (Play file screen true paint) input accepted = HasPlayedByTcp paint screen input accepted
-  HasAnswered (Make file sender) input accepted = HasMadeBy sender input accepted
+  HasAnswered (Make file sender raw) input accepted = HasMadeBy raw sender input accepted
 
-  -- what is answered of a hex text by a command that answers so of its bytes
-  abbrev pub IsHexFault : (List ℕ → Fault → Type 0) → List ℕ → RunFault → Type 0
-  IsHexFault IsFault input NotHex = (to ≡ from) × IsErr (decode_of (without_blanks input))
-  IsHexFault IsFault input Memory = (bytes : List ℕ) × IsHexOf bytes input
-      × ((to ≡ from) ⊎ IsFault bytes device.Memory)
-  IsHexFault IsFault input Write = (bytes : List ℕ) × IsHexOf bytes input × IsFault bytes device.Write
-  IsHexFault IsFault input fault = ⊥
+  -- what is answered of an input by a command that meets such faults with its bytes: it gives none, before anything was
+  -- written; or the command met one
+  abbrev pub IsBytesFault : StreamForm → (List ℕ → Fault → Type 0) → List ℕ → RunFault → Type 0
+  IsBytesFault form IsFault input fault = ((to ≡ from) × IsFormFault form input fault)
+      ⊎ ((bytes : List ℕ) × (met : Fault) × AreBytesOf form bytes input × IsFault bytes met × (fault ≡ run_fault met))
 
-  -- what is answered of a hex text where the line of its check doesn't go out
-  abbrev pub IsCheckHexFault : Sender → List ℕ → RunFault → Type 0
-  IsCheckHexFault Host input fault = IsHexFault (IsCheckFault element_rules takes failures from to) input fault
-  IsCheckHexFault ExtendedHost input fault = IsHexFault (IsCheckFault extended_rules takes failures from to) input fault
-  IsCheckHexFault Station input fault = IsHexFault (IsCheckFault answer_rules takes failures from to) input fault
-  IsCheckHexFault ExtendedStation input fault = IsHexFault
-      (IsCheckFault extended_answer_rules takes failures from to) input fault
+  -- where the line of a check of the bytes of a sender doesn't go out
+  abbrev pub IsCheckFaultBy : Sender → List ℕ → Fault → Type 0
+  IsCheckFaultBy Host bytes fault = IsCheckFault element_rules takes failures from to bytes fault
+  IsCheckFaultBy ExtendedHost bytes fault = IsCheckFault extended_rules takes failures from to bytes fault
+  IsCheckFaultBy Station bytes fault = IsCheckFault answer_rules takes failures from to bytes fault
+  IsCheckFaultBy ExtendedStation bytes fault = IsCheckFault extended_answer_rules takes failures from to bytes fault
 
-  -- what is answered of a hex text where what is shown of it doesn't go out
-  abbrev pub IsShowHexFault : Paint → Bool → Sender → List ℕ → RunFault → Type 0
-  IsShowHexFault paint so_far Host input fault = IsHexFault
-      (IsShowFaultWith takes failures from to element_rules (painted_host_view paint) so_far) input fault
-  IsShowHexFault paint so_far ExtendedHost input fault = IsHexFault
-      (IsShowFaultWith takes failures from to extended_rules (extended_view paint) so_far) input fault
-  IsShowHexFault paint so_far Station input fault = IsHexFault
-      (IsShowFaultWith takes failures from to answer_rules answer_view so_far) input fault
-  IsShowHexFault paint so_far ExtendedStation input fault = IsHexFault
-      (IsShowFaultWith takes failures from to extended_answer_rules told_view so_far) input fault
+  -- where not all that is shown of the bytes of a sender goes out
+  abbrev pub IsShowFaultBy : Paint → Bool → Sender → List ℕ → Fault → Type 0
+  IsShowFaultBy paint so_far Host bytes fault =
+      IsShowFaultWith takes failures from to element_rules (painted_host_view paint) so_far bytes fault
+  IsShowFaultBy paint so_far ExtendedHost bytes fault =
+      IsShowFaultWith takes failures from to extended_rules (extended_view paint) so_far bytes fault
+  IsShowFaultBy paint so_far Station bytes fault =
+      IsShowFaultWith takes failures from to answer_rules answer_view so_far bytes fault
+  IsShowFaultBy paint so_far ExtendedStation bytes fault =
+      IsShowFaultWith takes failures from to extended_answer_rules told_view so_far bytes fault
 
   -- what is answered of items as text whose stream doesn't go out
-  abbrev pub IsMakeFaultBy : Sender → List ℕ → RunFault → Type 0
-  IsMakeFaultBy Host input fault =
-      IsMakeFault element_rules element_wording Shows takes failures from to input fault
-  IsMakeFaultBy ExtendedHost input fault =
-      IsMakeFault extended_rules extended_wording ShowsExtended takes failures from to input fault
-  IsMakeFaultBy Station input fault =
-      IsMakeFault answer_rules answer_wording ShowsAnswers takes failures from to input fault
-  IsMakeFaultBy ExtendedStation input fault =
-      IsMakeFault extended_answer_rules told_wording ShowsTold takes failures from to input fault
+  abbrev pub IsMakeFaultBy : Bool → Sender → List ℕ → RunFault → Type 0
+  IsMakeFaultBy raw Host input fault =
+      IsMakeFault element_rules element_wording Shows takes failures from to raw input fault
+  IsMakeFaultBy raw ExtendedHost input fault =
+      IsMakeFault extended_rules extended_wording ShowsExtended takes failures from to raw input fault
+  IsMakeFaultBy raw Station input fault =
+      IsMakeFault answer_rules answer_wording ShowsAnswers takes failures from to raw input fault
+  IsMakeFaultBy raw ExtendedStation input fault =
+      IsMakeFault extended_answer_rules told_wording ShowsTold takes failures from to raw input fault
 
   -- what is answered of a script that isn't played, or whose lines don't go out
   abbrev pub IsPlayFault : Paint → Bool → List ℕ → RunFault → Type 0
@@ -185,11 +181,12 @@ module _ {S : Type 0} (takes : MayTake S) (failures : S → ℕ) (from to : S) w
 
   -- what the program answers where it didn't do all that it was asked for
   abbrev pub IsAnswerFault : Asked → List ℕ → RunFault → Type 0
-  IsAnswerFault (Check file cut sender) input fault = IsCheckHexFault sender input fault
-  IsAnswerFault (Show file sender paint so_far) input fault = IsShowHexFault paint so_far sender input fault
+  IsAnswerFault (Check file form cut sender) input fault = IsBytesFault form (IsCheckFaultBy sender) input fault
+  IsAnswerFault (Show file form sender paint so_far) input fault =
+      IsBytesFault form (IsShowFaultBy paint so_far sender) input fault
   IsAnswerFault (Play file screen false paint) input fault = IsPlayFault paint screen input fault
   IsAnswerFault (Play file screen true paint) input fault = IsTcpPlayFault paint screen input fault
-  IsAnswerFault (Make file sender) input fault = IsMakeFaultBy sender input fault
+  IsAnswerFault (Make file sender raw) input fault = IsMakeFaultBy raw sender input fault
 
 -- the exit status: 0 where all was accepted, 1 where it wasn't, 2 on a fault
 abbrev pub status_of : {E : Type 0} → Result Bool E → ℕ

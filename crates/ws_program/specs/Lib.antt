@@ -4,9 +4,16 @@ pub mod Checking
 pub mod ExtendedView
 pub mod HexText
 pub mod OpenParts
+pub mod Recorded
 pub mod RunFaults
 pub mod SoFar
+pub mod SourceChecks
+pub mod StreamBytes
 pub mod StreamText
 pub mod Streams
 pub mod Views
 pub mod Making
+pub mod Vocabularies
+pub mod Causes
+pub mod CauseTexts
+pub mod ToldFaults

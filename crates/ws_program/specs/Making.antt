@@ -1,6 +1,6 @@
--- A stream as hex text: what `make` writes of the items that a text spells.
+-- A stream of items, as hex text or as bytes: what `make` writes of the items that a text spells.
 
-use Rattle.std.specs.Prelude.{◌≡◌, ℕ, List, [], ◌∷◌, ◌++◌, Bool, true}
+use Rattle.std.specs.Prelude.{◌≡◌, ℕ, List, [], ◌∷◌, ◌++◌, Bool, true, false}
 use Rattle.std.specs.List.{flat_map}
 use Rattle.hex.specs.Hex.{encode_upper}
 use Rattle.ws_code.specs.Code.{Rules}
@@ -22,6 +22,11 @@ module _ {Place U : Type 0} (rules : Rules Place U) where
   abbrev pub made_text : List (Item U) → List ℕ
   made_text items = flat_map made_line items
 
+  -- the stream of items: its bytes, or the lines in hex
+  abbrev pub made_stream : Bool → List (Item U) → List ℕ
+  made_stream true items = plain_spelling rules items
+  made_stream false items = made_text items
+
 -- Of an end whose units are written so: texts may show its items, as `show` prints them.
 module _ {Place U : Type 0} (rules : Rules Place U) (w : Wording U) (IsShowing : List ℕ → List (Item U) → Type 0) where
   -- the items that a text spells; where it shows items, they are these
@@ -34,16 +39,16 @@ module _ {Place U : Type 0} (rules : Rules Place U) (w : Wording U) (IsShowing :
       × ((shown : List (Item U)) → ¬ IsShowing text shown)
 
   module _ {S : Type 0} (takes : MayTake S) (failures : S → ℕ) (from to : S) where
-    -- the stream of the items that a text spells went out in hex
-    abbrev pub HasMade : List ℕ → Bool → Type 0
-    HasMade text accepted = (items : List (Item U)) × AreTold text items
-        × WentOut takes failures from to (made_text rules items) × (accepted ≡ true)
+    -- the stream of the items that a text spells went out, in bytes or in hex
+    abbrev pub HasMade : Bool → List ℕ → Bool → Type 0
+    HasMade raw text accepted = (items : List (Item U)) × AreTold text items
+        × WentOut takes failures from to (made_stream rules raw items) × (accepted ≡ true)
 
     -- Why no stream went out: a bad line, or want of memory for a text that spells items, before anything was written;
     -- or the sink failed.
-    abbrev pub IsMakeFault : List ℕ → RunFault → Type 0
-    IsMakeFault text (Line number) = (to ≡ from) × IsBadLine text number
-    IsMakeFault text Memory = (to ≡ from) × ((items : List (Item U)) × AreItems rules w text items)
-    IsMakeFault text Write = (items : List (Item U)) × AreTold text items
-        × FailedWithin takes failures from to (made_text rules items)
-    IsMakeFault text fault = ⊥
+    abbrev pub IsMakeFault : Bool → List ℕ → RunFault → Type 0
+    IsMakeFault raw text (Line number) = (to ≡ from) × IsBadLine text number
+    IsMakeFault raw text Memory = (to ≡ from) × ((items : List (Item U)) × AreItems rules w text items)
+    IsMakeFault raw text Write = (items : List (Item U)) × AreTold text items
+        × FailedWithin takes failures from to (made_stream rules raw items)
+    IsMakeFault raw text fault = ⊥

@@ -6,8 +6,16 @@ use Rattle.ws_program.specs.declared.fault.RunFault.{RunFault}
 use Rattle.ws_program.specs.declared.fault.RunFault.TheVariants.{Read, NotHex, Line, Memory}
 use Rattle.ws_program.specs.declared.fault.RunFault.TheVariants.{Write, NoConnection, Refused}
 use Rattle.ws_program.specs.declared.fault.RunFault.TheVariants.{Truncated, Failed}
+use Rattle.ws_program.specs.declared.fault.ToldFault.{ToldFault}
+use Rattle.ws_program.specs.declared.fault.ToldFault.TheVariants.{Run}
+use Rattle.ws_program.specs.declared.fault.Unconnected.{Unconnected}
+use Rattle.ws_program.specs.declared.fault.Unconnected.TheVariants as why
+use Rattle.std_io.specs.declared.io.kind.ErrorKind.{ErrorKind}
+use Rattle.std_io.specs.declared.io.kind.ErrorKind.TheVariants as kind
 use Rattle.ws_program.specs.declared.hex_text.TextFault.{TextFault}
 use Rattle.ws_program.specs.declared.hex_text.TextFault.TheVariants as texts
+use Rattle.ws_program.specs.declared.recorded.RecordingFault.{RecordingFault}
+use Rattle.ws_program.specs.declared.recorded.RecordingFault.TheVariants as recordings
 use Rattle.ws_live.specs.declared.script.ScriptFault.{ScriptFault}
 use Rattle.ws_live.specs.declared.script.ScriptFault.TheVariants as scripts
 use Rattle.ws_text.specs.declared.items.TextFault.{TextFault as ItemsFault}
@@ -24,10 +32,34 @@ run_fault device.Read = Read
 run_fault device.Write = Write
 run_fault device.Failed = Failed
 
+-- the same where causes are told
+abbrev pub told_fault : Fault → ToldFault
+told_fault fault = Run (run_fault fault)
+
+-- why there is no connection, by the kind of the error of a call that opens one
+abbrev pub unconnected_by : ErrorKind → Unconnected
+unconnected_by kind.ConnectionRefused = why.Refused
+unconnected_by kind.AddrInUse = why.AddressInUse
+unconnected_by kind.AddrNotAvailable = why.OtherAddress
+unconnected_by kind.TimedOut = why.Late
+unconnected_by kind.WouldBlock = why.Late
+unconnected_by kind.HostUnreachable = why.Unreachable
+unconnected_by kind.NetworkUnreachable = why.Unreachable
+unconnected_by kind.NetworkDown = why.Unreachable
+unconnected_by kind.PermissionDenied = why.NotAllowed
+unconnected_by kind.ConnectionReset = why.Reset
+unconnected_by kind.ConnectionAborted = why.Reset
+unconnected_by any = why.Failed
+
 -- a fault of hex text as the program's own
 abbrev pub text_run_fault : TextFault → RunFault
 text_run_fault texts.NotHex = NotHex
 text_run_fault texts.Memory = Memory
+
+-- a fault of a recording as the program's own
+abbrev pub recording_run_fault : RecordingFault → RunFault
+recording_run_fault (recordings.Line number) = Line number
+recording_run_fault recordings.Memory = Memory
 
 -- a fault of a script as the program's own
 abbrev pub script_run_fault : ScriptFault → RunFault

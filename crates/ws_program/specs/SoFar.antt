@@ -30,12 +30,17 @@ abbrev pub begun_line : Bool → List ℕ
 begun_line true = codes "open record" ++ 10 ∷ []
 begun_line false = []
 
+-- a text that begins with a front, with another one in its place
+abbrev pub with_front : List ℕ → List ℕ → List ℕ → List ℕ
+with_front new front text = new ++ drop (length front) text
+
 module _ {U : Type 0} where
   -- The lines of an open record: before its tenth byte (RFC 1205, section 3) one, and then those of a record of which
   -- these units are the body, with `open` where that has `at 0`.
   abbrev pub open_lines : View U → Option Head → List U → List ℕ
   open_lines view None units = begun_line true
-  open_lines view (Some head) units = codes "open" ++ drop 4 (view.lines 0 (RecordItem (record_of head units)))
+  open_lines view (Some head) units =
+      with_front (codes "open") (codes "at 0") (view.lines 0 (RecordItem (record_of head units)))
 
   -- the lines of a record of which these bytes have come: none where no byte has
   abbrev pub lines_so_far : View U → List ℕ → Option Head → List U → List ℕ

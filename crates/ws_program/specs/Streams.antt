@@ -16,10 +16,10 @@ missing open_ reads_input = if reads_input && not open_.input then Some Read
 
 -- what is asked for, without a connection
 abbrev pub in_one_place : Asked → Asked
-in_one_place (Check file cut answers) = Check file cut answers
-in_one_place (Show file answers paint so_far) = Show file answers paint so_far
+in_one_place (Check file form cut sender) = Check file form cut sender
+in_one_place (Show file form sender paint so_far) = Show file form sender paint so_far
 in_one_place (Play file screen tcp paint) = Play file screen false paint
-in_one_place (Make file answers) = Make file answers
+in_one_place (Make file sender raw) = Make file sender raw
 
 module _ {S : Type 0} (takes : MayTake S) (failures : S → ℕ) (from to : S) (has_output : Bool) where
   -- the program did what it was asked for, and had an output for it

@@ -1,5 +1,7 @@
 ghost use Rattle.std.specs.Prelude.{◌≡◌};
 ghost use Rattle.ws_program.specs.RunFaults.{run_fault, text_run_fault, script_run_fault, items_run_fault, tcp_run_fault};
+ghost use Rattle.ws_program.specs.RunFaults.{told_fault, unconnected_by};
+ghost use Rattle.ws_program.specs.declared.fault.ToldFault.TheVariants as told_variant;
 
 use crate::hex_text::TextFault;
 use crate::tcp::TcpFault;
@@ -36,12 +38,70 @@ pub enum RunFault {
     Failed,
 }
 
+/// The same with its cause, where a script, items as text or a connection is at fault.
+#[derive(Debug, PartialEq, Eq, Drop, Error)]
+pub enum ToldFault {
+    #[error("{0}")]
+    Run(RunFault),
+    /// The first bad line of a script, or of items as text, counted from 1, and why it is bad.
+    #[error("script line {number}: {cause}")]
+    Line { number: u64, cause: String },
+    #[error("no connection: {0}")]
+    NoConnection(Unconnected),
+}
+
+/// Why there is no connection. Each has a word or some.
+#[derive(Clone, Copy, Debug, PartialEq, Eq, Drop, Error)]
+pub enum Unconnected {
+    #[error("refused")]
+    Refused,
+    /// Nothing has this name, or names couldn't be looked up.
+    #[error("unknown name")]
+    UnknownName,
+    #[error("address in use")]
+    AddressInUse,
+    /// No network of this machine has it.
+    #[error("no address of this machine")]
+    OtherAddress,
+    #[error("late")]
+    Late,
+    #[error("unreachable")]
+    Unreachable,
+    #[error("not allowed")]
+    NotAllowed,
+    /// The other side ended it at once.
+    #[error("reset")]
+    Reset,
+    #[error("failed")]
+    Failed,
+}
+
+/// Why there is no connection, by the kind of the error of a call that opens one.
+pub fn no_connection(kind: io::ErrorKind) -> Unconnected
+    ensures { result ≡ unconnected_by kind }
+{
+    match kind {
+        io::ErrorKind::ConnectionRefused => Unconnected::Refused,
+        io::ErrorKind::AddrInUse => Unconnected::AddressInUse,
+        io::ErrorKind::AddrNotAvailable => Unconnected::OtherAddress,
+        io::ErrorKind::TimedOut | io::ErrorKind::WouldBlock => Unconnected::Late,
+        io::ErrorKind::HostUnreachable
+        | io::ErrorKind::NetworkUnreachable
+        | io::ErrorKind::NetworkDown => Unconnected::Unreachable,
+        io::ErrorKind::PermissionDenied => Unconnected::NotAllowed,
+        io::ErrorKind::ConnectionReset | io::ErrorKind::ConnectionAborted => Unconnected::Reset,
+        _ => Unconnected::Failed,
+    }
+}
+
 /// What ends the program before it runs, or in running.
 #[derive(Drop)]
 pub enum CommandFault {
     /// The command line asks for nothing that the program knows, or for help.
     Words(clap::Error),
     Run(RunFault),
+    /// The same, with its cause where it has one.
+    Told(ToldFault),
 }
 
 impl From<clap::Error> for CommandFault {
@@ -58,6 +118,28 @@ impl From<clap::Error> for CommandFault {
 impl From<RunFault> for CommandFault {
     fn from(fault: RunFault) -> Self {
         CommandFault::Run(fault)
+    }
+}
+
+impl From<ToldFault> for CommandFault {
+    fn from(fault: ToldFault) -> Self {
+        CommandFault::Told(fault)
+    }
+}
+
+impl From<RunFault> for ToldFault {
+    ghost from_gives = { λ fault told. told ≡ told_variant.Run fault };
+
+    fn from(fault: RunFault) -> Self {
+        ToldFault::Run(fault)
+    }
+}
+
+impl From<Fault> for ToldFault {
+    ghost from_gives = { λ fault told. told ≡ told_fault fault };
+
+    fn from(fault: Fault) -> Self {
+        ToldFault::Run(RunFault::from(fault))
     }
 }
 

@@ -22,7 +22,7 @@ fn is_blank(byte: u8) -> bool
 }
 
 // Whether the text is hex. It goes on behind a wrong byte, since a loop with no way out looks at many bytes at once.
-fn is_hex(text: &[u8]) -> bool
+pub(crate) fn is_hex(text: &[u8]) -> bool
     ensures yes { result ≡ true → (bytes : List ℕ) × IsHexOf bytes text.now }
     ensures no { result ≡ false → IsErr (decode_of (without_blanks text.now)) }
 {

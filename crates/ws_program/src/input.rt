@@ -1,8 +1,16 @@
+ghost use Rattle.std.specs.Prelude.{◌≡◌, []};
+
 use crate::fault::{CommandFault, RunFault};
+use crate::open_streams::OpenStreams;
+use crate::source_check::check_source_openly;
+use std::fs::File;
 use std::io::Read;
+use std::num::NonZeroU16;
 use std::rt::{Env, Files};
 use std::{env, fs, io};
-use ws_words::no_text;
+use ws_code::{ReadSource, Sink};
+use ws_live::BufferedSink;
+use ws_words::{Sender, no_text};
 
 /// The words of the command line, the program's name first.
 pub fn given_words<R: Env + AllocGlobal>(rt: &R) -> Result<Vec<String>, CommandFault> {
@@ -27,6 +35,29 @@ pub fn read_input<R: Files + Input + AllocGlobal>(
             let mut text = Vec::new(rt.alloc());
             rt.reader().read_to_end(&mut text)?;
             Ok(text)
+        }
+    }
+}
+
+/// Checks the bytes of the file, or of standard input where none is named, while they are read.
+pub fn check_file<R: Files<File = File> + Input, S: Sink>(
+    rt: &R,
+    file: Option<&str>,
+    cut: NonZeroU16,
+    from: Sender,
+    streams: OpenStreams,
+    sink: &mut BufferedSink<S>,
+) -> Result<bool, RunFault>
+    requires empty { sink.old.held ≡ [] }
+{
+    match file {
+        Some(path) => {
+            let mut source = ReadSource::new(File::open(rt, path)?);
+            check_source_openly(cut, from, streams, &mut source, sink)
+        }
+        None => {
+            let mut source = ReadSource::new(rt.reader());
+            check_source_openly(cut, from, streams, &mut source, sink)
         }
     }
 }

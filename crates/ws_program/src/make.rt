@@ -1,13 +1,13 @@
-ghost use Rattle.std.specs.Prelude.{◌≡◌, ◌∷◌, [], IfOk, IfErr, OnOk};
+ghost use Rattle.std.specs.Prelude.{◌≡◌, IfOk, IfErr, OnOk};
 ghost use Rattle.ws_code.specs.Device.{WentOut};
-ghost use Rattle.ws_record.specs.Encode.{CanBeEncoded, CanAllBeEncoded, plain_spelling};
-ghost use Rattle.ws_program.specs.Making.{made_text};
+ghost use Rattle.ws_record.specs.Encode.{CanAllBeEncoded, plain_spelling};
+ghost use Rattle.ws_program.specs.Making.{made_text, made_stream};
 ghost use Rattle.ws_text.specs.Printing.{IsTextFault};
 
 use std::alloc::Global;
 use std::slice;
 use ws_code::{Body, Fault, Sink};
-use ws_record::{EncodeFault, Item, encode};
+use ws_record::{Item, encode};
 use ws_text::{Output, put};
 
 /// Writes a stream as hex text: for each item a line, its plain spelling in upper case hex (RFC 1205, section
@@ -34,6 +34,49 @@ pub fn make_to<B: Body, S: Sink>(
     }
 }
 
+/// Writes a stream: with `raw` the bytes of its items' plain spelling, else as `make_to` does.
+///
+/// `Memory` and `Write` are as there.
+pub fn make_stream_to<B: Body, S: Sink>(
+    alloc: Global,
+    items: &[Item<B::Unit>],
+    raw: bool,
+    sink: &mut S,
+) -> Result<(), Fault>
+    requires { CanAllBeEncoded B.rules items.now }
+    ensures ok { OnOk result
+        (WentOut S.takes S.failures sink.old sink.new (made_stream B.rules raw items.now)) }
+    ensures fault { IfErr result
+        (IsTextFault S.takes S.failures sink.old sink.new
+        (λ text. text ≡ made_stream B.rules raw items.now)) }
+{
+    if raw {
+        make_bytes_to::<B, S>(alloc, items, sink)
+    } else {
+        make_to::<B, S>(alloc, items, sink)
+    }
+}
+
+// Writes the bytes of items.
+fn make_bytes_to<B: Body, S: Sink>(
+    alloc: Global,
+    items: &[Item<B::Unit>],
+    sink: &mut S,
+) -> Result<(), Fault>
+    requires { CanAllBeEncoded B.rules items.now }
+    ensures ok { OnOk result
+        (WentOut S.takes S.failures sink.old sink.new (plain_spelling B.rules items.now)) }
+    ensures fault { IfErr result
+        (IsTextFault S.takes S.failures sink.old sink.new
+        (λ text. text ≡ plain_spelling B.rules items.now)) }
+{
+    let bytes = spelling::<B>(alloc, items)?;
+    match put(sink, Output::Open, bytes.as_slice()) {
+        Output::Open => Ok(()),
+        Output::Failed => Err(Fault::Write),
+    }
+}
+
 // The lines of items.
 fn hex_lines<B: Body>(alloc: Global, items: &[Item<B::Unit>]) -> Result<Vec<u8>, Fault>
     requires { CanAllBeEncoded B.rules items.now }
@@ -42,7 +85,7 @@ fn hex_lines<B: Body>(alloc: Global, items: &[Item<B::Unit>]) -> Result<Vec<u8>,
 {
     let mut text = Vec::new(alloc);
     for item in items {
-        let bytes = spelling::<B>(alloc, item)?;
+        let bytes = spelling::<B>(alloc, slice::from_ref(item))?;
         let digits = hex::encode_upper(alloc, bytes).map_err(|_| Fault::Memory)?;
         text.extend_from_slice(digits.as_bytes())
             .map_err(|_| Fault::Memory)?;
@@ -51,16 +94,12 @@ fn hex_lines<B: Body>(alloc: Global, items: &[Item<B::Unit>]) -> Result<Vec<u8>,
     Ok(text)
 }
 
-// The bytes of an item.
-fn spelling<B: Body>(alloc: Global, item: &Item<B::Unit>) -> Result<Vec<u8>, Fault>
-    requires { CanBeEncoded B.rules item.now }
-    ensures ok { IfOk result
-        (λ bytes. bytes.items ≡ plain_spelling B.rules (item.now ∷ [])) }
+// The bytes of items.
+fn spelling<B: Body>(alloc: Global, items: &[Item<B::Unit>]) -> Result<Vec<u8>, Fault>
+    requires { CanAllBeEncoded B.rules items.now }
+    ensures ok { IfOk result (λ bytes. bytes.items ≡ plain_spelling B.rules items.now) }
     ensures fault { IfErr result (λ fault. fault ≡ Fault.Memory) }
 {
-    match encode::<B>(alloc, slice::from_ref(item)) {
-        Ok(bytes) => Ok(bytes),
-        Err(EncodeFault::Memory) => Err(Fault::Memory),
-        Err(_) => unreachable!(),
-    }
+    // Of such items no other fault comes.
+    encode::<B>(alloc, items).map_err(|_| Fault::Memory)
 }

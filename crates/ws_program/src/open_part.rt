@@ -1,8 +1,9 @@
 //! Which record is open behind bytes.
-ghost use Rattle.std.specs.Prelude.{◌≡◌, ◌≢◌, ◌++◌, ◌∷◌, [], List, ℕ, true, false, IfOk, IfErr};
+ghost use Rattle.std.specs.Prelude.{◌≡◌, ◌≢◌, ◌++◌, ◌∷◌, [], List, ℕ, true, false, IfOk, IfErr, IsErr};
 ghost use Rattle.std.specs.List.{AllByRecursion};
 ghost use Rattle.ws_code.specs.Code.{IsCut};
 ghost use Rattle.ws_program.specs.OpenParts.{open_behind};
+ghost use Rattle.ws_program.specs.SourceChecks.{HasRefusal};
 ghost use Rattle.ws_record.specs.Live.{HoldsPart};
 ghost use Rattle.ws_record.specs.declared.record.Item.{Item as AnItem};
 ghost use Rattle.ws_telnet.specs.Streams.{HasNoEor, carried, joined};
@@ -44,11 +45,12 @@ impl<U: Drop> OpenPart<U> {
 
 /// What has come of the record that is open behind the bytes, of which none is refused.
 ///
-/// `Memory` is the only fault: a growth for a unit was refused. Behind a refused byte nothing is told either.
+/// `Memory` is the only fault: a growth for a unit was refused. It comes where a byte is refused too.
 pub fn read_open<B: Body>(alloc: Global, bytes: &[u8]) -> Result<OpenPart<B::Unit>, Fault>
     ensures ok { IfOk result (λ part. (items : List (AnItem B.Unit))
         × HoldsPart B.rules bytes.now items part.head part.units.items) }
     ensures err { IfErr result (λ fault. fault ≡ Fault.Memory) }
+    ensures refused { HasRefusal B.rules bytes.now → IsErr result }
 {
     let mut live = Live::<B>::new();
     let mut part = OpenPart {

@@ -1,10 +1,9 @@
 ghost use Rattle.std.specs.Prelude.{◌≡◌, ◌≢◌, [], IfOk, IfErr};
 ghost use Rattle.ws_stream.specs.AnswerParts.{answer_rules};
 ghost use Rattle.ws_stream.specs.Elements.{element_rules};
-ghost use Rattle.ws_program.specs.Answering.{HasAnswered, HasChecked, HasCheckedHex, IsCheckHexFault, HasShown};
-ghost use Rattle.ws_program.specs.Answering.{HasShownHex, IsShowHexFault, HasMadeBy, IsMakeFaultBy};
-ghost use Rattle.ws_program.specs.Answering.{HasPlayed, HasPlayedByTcp, IsAnswerFault, IsHexFault, IsPlayFault};
-ghost use Rattle.ws_program.specs.Answering.{IsTcpPlayFault, status_of};
+ghost use Rattle.ws_program.specs.Answering.{HasAnswered, HasCheckedBy, HasShownBy, HasMadeBy, HasPlayed, HasPlayedByTcp};
+ghost use Rattle.ws_program.specs.Answering.{IsAnswerFault, IsBytesFault, IsCheckFaultBy, IsShowFaultBy, IsMakeFaultBy};
+ghost use Rattle.ws_program.specs.Answering.{IsPlayFault, IsTcpPlayFault, status_of};
 ghost use Rattle.ws_text.specs.AnswerWords.{answer_wording};
 ghost use Rattle.ws_text.specs.ElementWords.{element_wording};
 ghost use Rattle.ws_extended.specs.ExtendedAnswers.{extended_answer_rules};
@@ -12,40 +11,36 @@ ghost use Rattle.ws_extended.specs.ExtendedElements.{extended_rules};
 ghost use Rattle.ws_text.specs.ExtendedAnswerWords.{told_wording};
 ghost use Rattle.ws_text.specs.ExtendedWords.{extended_wording};
 ghost use Rattle.ws_text.specs.Shown.{Shows, ShowsAnswers, ShowsExtended, ShowsTold};
-ghost use Rattle.ws_program.specs.HexText.{IsHexOf};
-ghost use Rattle.ws_program.specs.Checking.{IsCheckFault};
 ghost use Rattle.ws_program.specs.Making.{HasMade, IsMakeFault};
-ghost use Rattle.ws_program.specs.SoFar.{IsShowFaultWith};
+ghost use Rattle.ws_program.specs.StreamBytes.{AreBytesOf};
 ghost use Rattle.ws_program.specs.Streams.{HasAnsweredOpenly, IsOpenFault, in_one_place as without_connection};
-ghost use Rattle.ws_program.specs.Views.{in_paint};
 ghost use Rattle.std.specs.Prelude.{List as Seq, ℕ};
 
 use crate::check::check_to;
 use crate::fault::RunFault;
-use crate::hex_text::hex_bytes;
-use crate::make::make_to;
+use crate::make::make_stream_to;
 use crate::open_streams::OpenStreams;
 use crate::show::show_with;
-use crate::shown::Shown;
+use crate::stream_bytes::bytes_of;
 use crate::tcp::play_tcp;
 use std::alloc::Global;
 use std::net::{Net, TcpListener, TcpStream};
-use ws_code::{Body, Sink};
+use ws_code::{Fault, Sink};
 use ws_extended::{ExtendedAnswers, ExtendedCommands};
 use ws_live::{BufferedSink, Paint, play_painted_to, read_script};
 use ws_nego::TerminalType;
 use ws_session::World;
 use ws_stream::{Answers, Commands};
 use ws_text::{read_answer_items, read_extended_answer_items, read_extended_items, read_items};
-use ws_words::{Asked, Sender};
+use ws_words::{Asked, Sender, StreamForm};
 
 /// Does what the program was asked for with the whole of its input: true where all was accepted.
 ///
 /// What is asked for by `asked` is written to the sink; a file that it names was read before. `NotHex` comes
-/// where the input had to be hex text and isn't, `Line` where a line of a script or of items as text is bad,
-/// `NoConnection` or `Read` where a script was to be played over a connection and can't, and then nothing was
-/// written; `Memory` where a growth was refused, and then the input is hex text, or a script that is good as far as it
-/// was read, or spells items; `Write` where the sink failed, or the connection. Where a stream was to be shown, the
+/// where the input had to be hex text and isn't, `Line` where a line of a recording, of a script or of items as text is
+/// bad, `NoConnection` or `Read` where a script was to be played over a connection and can't, and then nothing was
+/// written; `Memory` where a growth was refused, and then the input is hex text, a recording, a script that is good as
+/// far as it was read, or spells items; `Write` where the sink failed, or the connection. Where a stream was to be shown, the
 /// first lines may have gone out before `Memory`; before `Write` the first part of any text may have.
 pub fn answer<R: Net<Listener = TcpListener, Stream = TcpStream>, S: Sink>(
     rt: &R,
@@ -60,13 +55,19 @@ pub fn answer<R: Net<Listener = TcpListener, Stream = TcpStream>, S: Sink>(
         IsAnswerFault S.takes S.failures sink.old sink.new asked.entry text.now fault) }
 {
     match asked {
-        Asked::Check { cut, from, .. } => check_sent(alloc, text, cut.get(), from, sink),
+        Asked::Check {
+            form,
+            cut,
+            from,
+            ..
+        } => check_input(alloc, form, text, cut.get(), from, sink),
         Asked::Show {
+            form,
             from,
             paint,
             so_far,
             ..
-        } => show_sent(alloc, text, paint, so_far, from, sink),
+        } => show_input(alloc, form, text, paint, so_far, from, sink),
         Asked::Play {
             screen,
             tcp,
@@ -79,7 +80,7 @@ pub fn answer<R: Net<Listener = TcpListener, Stream = TcpStream>, S: Sink>(
                 play_script(alloc, text, screen, paint, sink)
             }
         }
-        Asked::Make { from, .. } => make_sent(alloc, text, from, sink),
+        Asked::Make { from, raw, .. } => make_sent(alloc, text, from, raw, sink),
     }
 }
 
@@ -151,86 +152,88 @@ fn in_one_place(asked: Asked<'_>) -> Asked<'_>
     }
 }
 
-// Writes the line of a check of the bytes that a hex text tells, as those of a sender.
+// Writes the line of a check of the bytes that an input tells, as those of a sender.
+fn check_input<S: Sink>(
+    alloc: Global,
+    form: StreamForm,
+    input: &[u8],
+    cut: u16,
+    from: Sender,
+    sink: &mut S,
+) -> Result<bool, RunFault>
+    requires { cut ≢ 0 }
+    ensures done { IfOk result (λ accepted. (bytes : Seq ℕ) × AreBytesOf form bytes input.now
+        × HasCheckedBy S.takes S.failures sink.old sink.new from bytes accepted) }
+    ensures fault { IfErr result (λ fault. IsBytesFault S.takes S.failures sink.old sink.new form
+        (IsCheckFaultBy S.takes S.failures sink.old sink.new from) input.now fault) }
+{
+    let bytes = bytes_of(alloc, form, input)?;
+    Ok(check_sent(alloc, bytes.as_slice(), cut, from, sink)?)
+}
+
+// The same of bytes.
 fn check_sent<S: Sink>(
     alloc: Global,
-    text: &[u8],
+    bytes: &[u8],
     cut: u16,
     from: Sender,
     sink: &mut S,
-) -> Result<bool, RunFault>
+) -> Result<bool, Fault>
     requires { cut ≢ 0 }
     ensures done { IfOk result (λ accepted.
-        HasCheckedHex S.takes S.failures sink.old sink.new from text.now accepted) }
+        HasCheckedBy S.takes S.failures sink.old sink.new from bytes.now accepted) }
     ensures fault { IfErr result (λ fault.
-        IsCheckHexFault S.takes S.failures sink.old sink.new from text.now fault) }
+        IsCheckFaultBy S.takes S.failures sink.old sink.new from bytes.now fault) }
 {
     match from {
-        Sender::Host => check_text::<Commands, S>(alloc, text, cut, sink),
-        Sender::ExtendedHost => check_text::<ExtendedCommands, S>(alloc, text, cut, sink),
-        Sender::Station => check_text::<Answers, S>(alloc, text, cut, sink),
-        Sender::ExtendedStation => check_text::<ExtendedAnswers, S>(alloc, text, cut, sink),
+        Sender::Host => check_to::<Commands, S>(alloc, bytes, cut, sink),
+        Sender::ExtendedHost => check_to::<ExtendedCommands, S>(alloc, bytes, cut, sink),
+        Sender::Station => check_to::<Answers, S>(alloc, bytes, cut, sink),
+        Sender::ExtendedStation => check_to::<ExtendedAnswers, S>(alloc, bytes, cut, sink),
     }
 }
 
-// The same, as units of a body.
-fn check_text<B: Body, S: Sink>(
+// Writes what is shown of the bytes that an input tells, as those of a sender.
+fn show_input<S: Sink>(
     alloc: Global,
-    text: &[u8],
-    cut: u16,
+    form: StreamForm,
+    input: &[u8],
+    paint: Paint,
+    so_far: bool,
+    from: Sender,
     sink: &mut S,
 ) -> Result<bool, RunFault>
-    requires { cut ≢ 0 }
-    ensures done { IfOk result (λ accepted. (bytes : Seq ℕ) × IsHexOf bytes text.now
-        × HasChecked S.takes S.failures sink.old sink.new B.rules bytes accepted) }
-    ensures fault { IfErr result (IsHexFault S.takes S.failures sink.old sink.new
-        (IsCheckFault B.rules S.takes S.failures sink.old sink.new) text.now) }
+    ensures done { IfOk result (λ accepted. (bytes : Seq ℕ) × AreBytesOf form bytes input.now
+        × HasShownBy S.takes S.failures sink.old sink.new paint so_far from bytes accepted) }
+    ensures fault { IfErr result (λ fault. IsBytesFault S.takes S.failures sink.old sink.new form
+        (IsShowFaultBy S.takes S.failures sink.old sink.new paint so_far from) input.now fault) }
 {
-    let bytes = hex_bytes(alloc, text)?;
-    Ok(check_to::<B, S>(alloc, bytes.as_slice(), cut, sink)?)
+    let bytes = bytes_of(alloc, form, input)?;
+    Ok(show_sent(alloc, bytes.as_slice(), paint, so_far, from, sink)?)
 }
 
-// Writes what is shown of the bytes that a hex text tells, as those of a sender.
+// The same of bytes.
 fn show_sent<S: Sink>(
     alloc: Global,
-    text: &[u8],
+    bytes: &[u8],
     paint: Paint,
     so_far: bool,
     from: Sender,
     sink: &mut S,
-) -> Result<bool, RunFault>
+) -> Result<bool, Fault>
     ensures done { IfOk result (λ accepted.
-        HasShownHex S.takes S.failures sink.old sink.new paint so_far from text.now accepted) }
+        HasShownBy S.takes S.failures sink.old sink.new paint so_far from bytes.now accepted) }
     ensures fault { IfErr result (λ fault.
-        IsShowHexFault S.takes S.failures sink.old sink.new paint so_far from text.now fault) }
+        IsShowFaultBy S.takes S.failures sink.old sink.new paint so_far from bytes.now fault) }
 {
     match from {
-        Sender::Host => show_text::<Commands, S>(alloc, text, paint, so_far, sink),
-        Sender::ExtendedHost => show_text::<ExtendedCommands, S>(alloc, text, paint, so_far, sink),
-        Sender::Station => show_text::<Answers, S>(alloc, text, paint, so_far, sink),
+        Sender::Host => show_with::<Commands, S>(alloc, paint, so_far, bytes, sink),
+        Sender::ExtendedHost => show_with::<ExtendedCommands, S>(alloc, paint, so_far, bytes, sink),
+        Sender::Station => show_with::<Answers, S>(alloc, paint, so_far, bytes, sink),
         Sender::ExtendedStation => {
-            show_text::<ExtendedAnswers, S>(alloc, text, paint, so_far, sink)
+            show_with::<ExtendedAnswers, S>(alloc, paint, so_far, bytes, sink)
         }
     }
-}
-
-// The same, as items of a body.
-fn show_text<B: Shown, S: Sink>(
-    alloc: Global,
-    text: &[u8],
-    paint: Paint,
-    so_far: bool,
-    sink: &mut S,
-) -> Result<bool, RunFault>
-    ensures done { IfOk result (λ accepted. (bytes : Seq ℕ) × IsHexOf bytes text.now
-        × HasShown S.takes S.failures sink.old sink.new
-        B.rules (in_paint B.view B.Ends paint) so_far bytes accepted) }
-    ensures fault { IfErr result (IsHexFault S.takes S.failures sink.old sink.new
-        (IsShowFaultWith S.takes S.failures sink.old sink.new
-        B.rules (in_paint B.view B.Ends paint) so_far) text.now) }
-{
-    let bytes = hex_bytes(alloc, text)?;
-    Ok(show_with::<B, S>(alloc, paint, so_far, bytes.as_slice(), sink)?)
 }
 
 // Plays a script, and writes what its session tells.
@@ -275,54 +278,70 @@ fn make_sent<S: Sink>(
     alloc: Global,
     text: &[u8],
     from: Sender,
+    raw: bool,
     sink: &mut S,
 ) -> Result<bool, RunFault>
     ensures done { IfOk result (λ accepted.
-        HasMadeBy S.takes S.failures sink.old sink.new from text.now accepted) }
+        HasMadeBy S.takes S.failures sink.old sink.new raw from text.now accepted) }
     ensures fault { IfErr result (λ fault.
-        IsMakeFaultBy S.takes S.failures sink.old sink.new from text.now fault) }
+        IsMakeFaultBy S.takes S.failures sink.old sink.new raw from text.now fault) }
 {
     match from {
-        Sender::Host => make_stream(alloc, text, sink),
-        Sender::ExtendedHost => make_extended_stream(alloc, text, sink),
-        Sender::Station => make_answers_stream(alloc, text, sink),
-        Sender::ExtendedStation => make_extended_answers_stream(alloc, text, sink),
+        Sender::Host => make_stream(alloc, text, raw, sink),
+        Sender::ExtendedHost => make_extended_stream(alloc, text, raw, sink),
+        Sender::Station => make_answers_stream(alloc, text, raw, sink),
+        Sender::ExtendedStation => make_extended_answers_stream(alloc, text, raw, sink),
     }
 }
 
 // Writes the stream of a host whose items a text spells.
-fn make_stream<S: Sink>(alloc: Global, text: &[u8], sink: &mut S) -> Result<bool, RunFault>
+fn make_stream<S: Sink>(
+    alloc: Global,
+    text: &[u8],
+    raw: bool,
+    sink: &mut S,
+) -> Result<bool, RunFault>
     ensures done { IfOk result (HasMade element_rules element_wording Shows
-        S.takes S.failures sink.old sink.new text.now) }
+        S.takes S.failures sink.old sink.new raw text.now) }
     ensures fault { IfErr result (IsMakeFault element_rules element_wording Shows
-        S.takes S.failures sink.old sink.new text.now) }
+        S.takes S.failures sink.old sink.new raw text.now) }
 {
     let items = read_items(alloc, text)?;
-    make_to::<Commands, S>(alloc, items.as_slice(), sink)?;
+    make_stream_to::<Commands, S>(alloc, items.as_slice(), raw, sink)?;
     Ok(true)
 }
 
 // The same of a live host.
-fn make_extended_stream<S: Sink>(alloc: Global, text: &[u8], sink: &mut S) -> Result<bool, RunFault>
+fn make_extended_stream<S: Sink>(
+    alloc: Global,
+    text: &[u8],
+    raw: bool,
+    sink: &mut S,
+) -> Result<bool, RunFault>
     ensures done { IfOk result (HasMade extended_rules extended_wording ShowsExtended
-        S.takes S.failures sink.old sink.new text.now) }
+        S.takes S.failures sink.old sink.new raw text.now) }
     ensures fault { IfErr result (IsMakeFault extended_rules extended_wording ShowsExtended
-        S.takes S.failures sink.old sink.new text.now) }
+        S.takes S.failures sink.old sink.new raw text.now) }
 {
     let items = read_extended_items(alloc, text)?;
-    make_to::<ExtendedCommands, S>(alloc, items.as_slice(), sink)?;
+    make_stream_to::<ExtendedCommands, S>(alloc, items.as_slice(), raw, sink)?;
     Ok(true)
 }
 
 // The same of a station.
-fn make_answers_stream<S: Sink>(alloc: Global, text: &[u8], sink: &mut S) -> Result<bool, RunFault>
+fn make_answers_stream<S: Sink>(
+    alloc: Global,
+    text: &[u8],
+    raw: bool,
+    sink: &mut S,
+) -> Result<bool, RunFault>
     ensures done { IfOk result (HasMade answer_rules answer_wording ShowsAnswers
-        S.takes S.failures sink.old sink.new text.now) }
+        S.takes S.failures sink.old sink.new raw text.now) }
     ensures fault { IfErr result (IsMakeFault answer_rules answer_wording ShowsAnswers
-        S.takes S.failures sink.old sink.new text.now) }
+        S.takes S.failures sink.old sink.new raw text.now) }
 {
     let items = read_answer_items(alloc, text)?;
-    make_to::<Answers, S>(alloc, items.as_slice(), sink)?;
+    make_stream_to::<Answers, S>(alloc, items.as_slice(), raw, sink)?;
     Ok(true)
 }
 
@@ -330,15 +349,16 @@ fn make_answers_stream<S: Sink>(alloc: Global, text: &[u8], sink: &mut S) -> Res
 fn make_extended_answers_stream<S: Sink>(
     alloc: Global,
     text: &[u8],
+    raw: bool,
     sink: &mut S,
 ) -> Result<bool, RunFault>
     ensures done { IfOk result (HasMade extended_answer_rules told_wording ShowsTold
-        S.takes S.failures sink.old sink.new text.now) }
+        S.takes S.failures sink.old sink.new raw text.now) }
     ensures fault { IfErr result (IsMakeFault extended_answer_rules told_wording ShowsTold
-        S.takes S.failures sink.old sink.new text.now) }
+        S.takes S.failures sink.old sink.new raw text.now) }
 {
     let items = read_extended_answer_items(alloc, text)?;
-    make_to::<ExtendedAnswers, S>(alloc, items.as_slice(), sink)?;
+    make_stream_to::<ExtendedAnswers, S>(alloc, items.as_slice(), raw, sink)?;
     Ok(true)
 }
 

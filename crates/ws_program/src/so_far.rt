@@ -88,6 +88,7 @@ fn headed_lines<B: Shown>(alloc: Global, head: Head, units: Vec<B::Unit>) -> Res
     });
     let lines = record_lines::<B>(alloc, &item)?;
     let lines = lines.as_slice();
+    // In place of `at 0`.
     joined(alloc, b"open", &lines[lines.len().min(4)..])
 }
 

@@ -1,14 +1,14 @@
 use Rattle.ws_session.proofs.Common as C
 use C.{element_prefix_free, bytes_to_station, byte_to_station, station_at_item, plain_spelling, StationRefused, as_list}
-use C.{element_begins, StationRefuses, length-take-le, length-take, station_manner, element_bytes, station_takes, ◌^◌}
-use C.{element_rules, if◌then◌else◌, StationParts, station_gets, host_at_item, StationLeads, answer_rules, IsHostPushed}
-use C.{AreDelivered, byte_to_host, TerminalType, host_manner, HostRefused, HostRefuses, StationGoes, events_with, false}
-use C.{station_did, StationSide, AreWritable, WorldParts, host_takes, false≢true, append-nil, HostOutput, AnswerPart, ℕ}
-use C.{down_bytes, ending_at, HostParts, HostLeads, nat_tests, HasMemory, host_gets, ToStation, HostEvent, WireParts}
-use C.{up_bytes, flat_map, flat_map-append, append_assoc, HostSide, Reaction, host_did, IsPushed, HostGoes, Refuses, Applied}
-use C.{goes_on, arrived, Element, length, ToHost, subst₂, Failed, GoesOn, Option, nat_lt, Memory, Bool, bytes_to_host}
-use C.{get_or, World, arith, subst, ◌++◌, Some, None, Runs, RunsWith, true, Item, Host, List, take, refl, ◌≤◌, ◌∷◌, Refusal}
-use C.{min, ◌+◌, Err, ◌<◌, ◌∙◌, ◌≡◌, sym, inl, inr, At, ap, [], Event, IsSome, HoldsItems, Arrives}
+use C.{element_begins, StationRefuses, length-take, station_manner, element_bytes, station_takes, element_rules}
+use C.{if◌then◌else◌, StationParts, station_gets, host_at_item, StationLeads, answer_rules, IsHostPushed, AreDelivered}
+use C.{byte_to_host, TerminalType, host_manner, HostRefused, HostRefuses, StationGoes, events_with, false, station_did}
+use C.{StationSide, AreWritable, WorldParts, host_takes, false≢true, append-nil, HostOutput, AnswerPart, ℕ, down_bytes}
+use C.{ending_at, HostParts, HostLeads, nat_tests, HasMemory, host_gets, ToStation, HostEvent, WireParts, up_bytes}
+use C.{flat_map, HostSide, Reaction, host_did, IsPushed, HostGoes, Refuses, Applied, goes_on, arrived, Element, length}
+use C.{ToHost, subst₂, Failed, GoesOn, Option, nat_lt, Memory, Bool, bytes_to_host, get_or, World, arith, subst, ◌++◌}
+use C.{Some, None, Runs, RunsWith, true, Item, Host, List, take, refl, ◌≤◌, ◌∷◌, Refusal, min, ◌+◌, Err, ◌<◌, ◌∙◌, ◌≡◌}
+use C.{sym, inl, inr, At, ap, [], Event, IsSome, HoldsItems, Arrives}
 use Rattle.ws_session.specs.Manners.{IsHostShut}
 use Rattle.ws_session.specs.StationActs.{IsShutOn}
 use Rattle.ws_session.proofs.OneByOne.{Later, gone_first, delivered, many_on, stop}

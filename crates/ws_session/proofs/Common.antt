@@ -7,9 +7,9 @@ pub use Rattle.std.proofs.Common.{length-take, ◌≢◌, if◌then◌else◌, u
 pub use Rattle.std.proofs.Common.{nat_lt, ◌-◌, IsSome, Err, Ok, ◌==◌, Result, add-suc, replicate, ◌*◌, rules, Vec}
 pub use Rattle.std.proofs.Common.{Global, ap₂, subst₂}
 pub use Rattle.std.specs.List.{AllByRecursion}
-pub use Rattle.std.proofs.lemmas.List.{length-take-le, append-nil, take_all, get_or-drop, take-append-le, take-take}
-pub use Rattle.std.proofs.lemmas.List.{drop-append-le, drop_all, drop-drop, take_more, map-append}
-pub use Rattle.std.specs.Prelude.{flat_map, ◌||◌, filter, ◌&&◌, not, is_ok, is_err, OnOk, IfOk, IfErr, IfNone, OnErr}
+pub use Rattle.std.proofs.lemmas.List.{length-take-le, append-nil, take_all, take-append-le, take-take}
+pub use Rattle.std.proofs.lemmas.List.{drop-append-le, drop_all, drop-drop, map-append}
+pub use Rattle.std.specs.Prelude.{flat_map, ◌||◌, filter, ◌&&◌, not, is_ok, is_err, OnOk, IfOk, IfErr, IfNone}
 pub use Rattle.std.proofs.lemmas.Bool.{cases_lt, ltb-true, both_ways, false≢true, ltb-false}
 pub use Rattle.std.proofs.lemmas.Grind.{flat_map-append}
 pub use Rattle.std.proofs.lemmas.Bool.Decides.{nat_tests, eqb_tells}
@@ -98,7 +98,7 @@ pub use Rattle.ws_session.specs.World.{host_sends, after_press, after_send}
 pub use Rattle.ws_session.specs.Runs.{AreWritable, WorldParts, RunsWith, Runs, IsKey}
 pub use Rattle.ws_session.specs.declared.refusal.Refusal.{Refusal}
 pub use Rattle.ws_session.specs.declared.world.Event.{Event}
-pub use Rattle.ws_session.specs.Acts.{Doing, Act, Came, all_came, Did, Happening, Does, doing, items_of, HasGone}
+pub use Rattle.ws_session.specs.Acts.{Doing, Act, all_came, Did, Happening, Does, doing, items_of, HasGone}
 pub use Rattle.ws_session.specs.Acts.{Arrives, as_list, Manner, AllTaken, Happen, HoldsItems, Goes}
 pub use Rattle.ws_session.specs.Through.{HasRefusedIn, Through}
 pub use Rattle.ws_session.specs.Wires.{WireParts, reported, HasMemory, Comes, AreDelivered}
@@ -133,9 +133,9 @@ pub use Rattle.ws_session.specs.declared.key_fault.KeyFault.TheVariants.{Failed 
 pub use Rattle.ws_session.specs.declared.world.Move.TheVariants.{ToStation, ToHost, Cancel, Key as Press}
 pub use Rattle.ws_session.specs.declared.world.Move.TheVariants.{Send as SendMove}
 pub use Rattle.ws_session.specs.Refusals.{is_refusal, refusals_in}
-pub use Rattle.ws_session.specs.HostLeads.{HostLeads, HostParts, IsSent, IsSendFault, IsHostPushed, HostStands}
+pub use Rattle.ws_session.specs.HostLeads.{AtHost, HostLeads, HostParts, IsSent, IsSendFault, IsHostPushed, HostStands}
 pub use Rattle.ws_session.specs.HostLeads.{IsReacted, unopened_host_side}
-pub use Rattle.ws_session.specs.StationLeads.{StationParts, StationLeads, IsPushed, IsKeyed, IsTaken}
+pub use Rattle.ws_session.specs.StationLeads.{AtStation, StationParts, StationLeads, IsPushed, IsKeyed}
 pub use Rattle.ws_session.specs.StationLeads.{is_record, records_in, keeps_body}
 pub use Rattle.ws_session.specs.Manners.{station_at_item, StationRefuses, station_manner, station_at_key, host_at_send}
 pub use Rattle.ws_session.specs.Manners.{host_at_item, IsKeyRefusal, StationGoes, host_manner, HostGoes, HostRefuses}
@@ -149,7 +149,7 @@ pub use Rattle.ws_session.specs.declared.send_fault.SendFault.{SendFault}
 pub use Rattle.ws_session.specs.declared.host_event.HostStep.{HostStep}
 pub use Rattle.ws_session.specs.declared.station.StationStep.{StationStep}
 pub use Rattle.ws_session.specs.declared.end_step.Order.{Order}
-pub use Rattle.ws_session.specs.HostFeeds.{HasHostFed, IsHostSilent, EndsAt, HasHostRefused}
+pub use Rattle.ws_session.specs.HostFeeds.{HasHostFed, IsHostSilent, EndsAt}
 pub use Rattle.ws_session.specs.HostFronts.{IsHostFronted, quiet, DoesItem, IsHostNewsTaken}
 pub use Rattle.ws_session.specs.TwoLines.{ends_of, TwoEnds, key_told, send_told, order_of, HasOrdered, Orders}
 pub use Rattle.ws_session.specs.TwoLines.{all_read, HasMoved, HaveMoved, HasRun, StationIsLed, HostIsLed, all_sent}
@@ -163,14 +163,3 @@ pub use Rattle.ws_session.specs.Moments.{at_item, at_moment, AreTaken, one_recor
 pub use Rattle.ws_session.specs.Playing.{HasCome, HasDone, records_from, keys_left_from}
 pub use Rattle.ws_session.specs.StationRun.{IsRunFault, IsRun, refusal_count, behind, run_text, RunUnwritten}
 pub use Rattle.ws_session.specs.Reports.{IsReport, IsOpened}
-pub use Rattle.ws_session.specs.StationFeeds.{HasFed, IsSilent}
-
--- whatever bytes, items and side led to the station
-abbrev pub AtStation : StationParts → (List ℕ → List (Item Element) → StationSide → Type 0) → Type 0
-AtStation station Then = (bytes : List ℕ) (items : List (Item Element)) (side : StationSide)
-    → StationLeads station bytes items side → Then bytes items side
-
--- and to the host end
-abbrev pub AtHost : HostParts → (List ℕ → List (Item AnswerPart) → HostSide → Type 0) → Type 0
-AtHost host Then = (bytes : List ℕ) (items : List (Item AnswerPart)) (side : HostSide)
-    → HostLeads host bytes items side → Then bytes items side

@@ -2,8 +2,8 @@ use Rattle.ws_session.proofs.Common as C
 use C.{take-append-drop, length-append, append_assoc, AreDelivered, HasRefusedIn, length-take, length-drop, append-nil}
 use C.{drop-cons, HasMemory, WireParts, reported, flat_map, flat_map-append, cases_lt, add-zero, add-suc, Refusal}
 use C.{Reason, add-one, get_or, length, arith, Through, Event, World, subst, zero, None, List, ℕ, refl, Some, Option}
-use C.{drop, min, ◌++◌, ◌≡◌, ◌^◌, ◌≤◌, sym, suc, ◌∷◌, ◌<◌, ◌∙◌, ◌-◌, inl, inr, ◌+◌, [], ap, all_came, drop-drop}
-use C.{HasGone, Item, Rules, Manner, Arrives, HoldsItems, Happening, Happen, AllTaken, plain_spelling, doing, items_of}
+use C.{drop, min, ◌++◌, ◌≡◌, ◌^◌, ◌≤◌, sym, suc, ◌∷◌, ◌<◌, ◌∙◌, inl, inr, ◌+◌, [], ap, all_came, drop-drop, HasGone}
+use C.{Item, Rules, Manner, Arrives, HoldsItems, Happening, Happen, AllTaken, plain_spelling, doing, items_of}
 use C.{bytes_came, item_spelling, Goes, subst₂, true, ◌⊎◌, drop-append_seam}
 use Rattle.ws_session.specs.Acts.{bytes_of}
 use Rattle.ws_session.proofs.EndSteps.{gone_none}

@@ -1,19 +1,20 @@
 use Rattle.ws_session.proofs.Common as C
-use C.{failed_within_both, take-append-drop, new_station_side, outcome_of_both, keys_left_from, StationRefuses, Outcome}
-use C.{went_out_both, went_out_none, length-append, refusal_count, RunUnwritten, TerminalType, take_more}
-use C.{StationLeads, records_from, append_assoc, moments_from, FailedWithin, idle_outcome, StationParts, StationGoes, ℕ}
-use C.{StationSide, applied_by, IsRunFault, one_record, TelnetItem, append-nil, RecordItem, AtStation, Fault}
-use C.{IsUnheard, at_moment, fault_of, run_text, AreTaken, Applied, MayTake, HasDone, HasCome, Element, at_item, Moment}
-use C.{WentOut, Refused, Presses, Refusal, outcome, IsTaken, moments, behind, nat_lt, length, get_or, Player}
-use C.{arith, subst, subst₂, Write, later, take, drop, refl, Item, Came, List, ◌++◌, ◌∙◌, min, ◌^◌, sym, ◌≡◌}
+use C.{failed_within_both, length-take-le, take-append-drop, take, new_station_side, outcome_of_both, keys_left_from, Outcome, StationStep, is_record}
+use C.{went_out_both, went_out_none, length-append, refusal_count, RunUnwritten, TerminalType, HoldsItems}
+use C.{StationLeads, records_from, append_assoc, moments_from, FailedWithin, idle_outcome, StationParts, element_rules, ℕ}
+use C.{StationSide, IsRunFault, one_record, TelnetItem, append-nil, RecordItem, AtStation, Fault, Bool, true, false}
+use C.{at_moment, fault_of, run_text, AreTaken, MayTake, HasDone, HasCome, Element, at_item, Moment, Ok, Err}
+use C.{WentOut, Refused, Presses, Refusal, outcome, moments, behind, nat_lt, length, Player}
+use C.{arith, subst, Write, later, drop, refl, Item, List, ◌++◌, ◌∙◌, min, ◌^◌, sym, ◌≡◌}
 use C.{◌<◌, ◌∷◌, Key, inl, ◌-◌, ◌+◌, inr, due, ◌≤◌, [], At, ap}
 use Rattle.ws_session.specs.Moments.{goes_on, Arrives}
-use Rattle.ws_session.proofs.EndSteps.{station_went, Went, gone_none}
-use Rattle.ws_session.proofs.StationFeedings.{same_end}
+use Rattle.ws_session.specs.StationNews.{IsFrontedOn}
+use Rattle.ws_session.specs.StationSide.{profile}
+use Rattle.ws_session.specs.Stations.{TakesItemOn}
 use Rattle.ws_session.proofs.Plays.{outcome_append, text_append, later_by, none_due, text_of}
 use Rattle.std.proofs.lemmas.Bool.{cases_Bool}
 
--- What a byte makes of a run's player.
+-- What a front of a piece makes of a run's player.
 
 -- ---- the moments of one item more
 
@@ -63,23 +64,27 @@ keys_taken s n (k ∷ ks) = elim (cases_Bool (nat_lt n k.0)) [
   | inr e ↦ rw e (refl, keys_taken (at_moment s (Presses k.1)).side n ks)
 ]
 
--- a record is told, and nothing else
-one_of : (item : Item Element) → [] ≡ applied_by item → one_record item ≡ 0
-one_of (RecordItem r) e = cc
-one_of (TelnetItem token) e = refl
+-- one record is counted, and no Telnet command
+one_of : (item : Item Element) (ends : Bool) → ends ≡ is_record item → ends ≡ false → one_record item ≡ 0
+one_of (RecordItem r) ends is e = (let h : true ≡ false = sym is ∙ e in cc)
+one_of (TelnetItem token) ends is e = refl
 
-one_of_record : (item : Item Element) (event : Applied) → event ∷ [] ≡ applied_by item → one_record item ≡ 1
-one_of_record (RecordItem r) event e = refl
-one_of_record (TelnetItem token) event e = cc
+one_of_record : (item : Item Element) (ends : Bool) → ends ≡ is_record item → ends ≡ true → one_record item ≡ 1
+one_of_record (RecordItem r) ends is e = refl
+one_of_record (TelnetItem token) ends is e = (let h : false ≡ true = sym is ∙ e in cc)
 
 module _ {S : Type 0} (takes : MayTake S) (failures : S → ℕ) (t : TerminalType) (keys : List (ℕ × Key))
     (start now : S) (old : Player) (before : StationParts) (bytes : List ℕ) (items : List (Item Element))
-    (byte : ℕ) (c : HasCome takes failures t keys start (record old { station = before }) now bytes items) where
+    (piece : List ℕ) (used : ℕ) (within : used ≤ length piece) (some : 0 < used)
+    (c : HasCome takes failures t keys start (record old { station = before }) now bytes items) where
   abbrev so_far : Outcome
   so_far = behind t keys items
 
   abbrev longer : List ℕ
-  longer = bytes ++ byte ∷ []
+  longer = bytes ++ take used piece
+
+  size : length longer ≡ length bytes + used
+  size = omega (arith, length-append bytes (take used piece), length-take-le used piece within)
 
   -- no item is complete
   inside_comes : (reply : List ℕ) (to : S) → reply ≡ [] → StationLeads old.station longer items so_far.side
@@ -89,12 +94,13 @@ module _ {S : Type 0} (takes : MayTake S) (failures : S → ℕ) (t : TerminalTy
     refused = c.refused;
     records = c.records;
     left = c.left;
-    few = omega (arith, c.few, length-append bytes (byte ∷ []));
+    few = omega (arith, c.few, size);
     wrote = rw (← (ap (λ z. run_text t keys items ++ z) silent ∙ append-nil (run_text t keys items)))
         (went_out_both takes failures start now to (run_text t keys items) reply c.wrote went);
   }
 
-  module _ (reply : List ℕ) (taken : IsTaken old.station bytes items so_far.side byte reply) where
+  module _ (reply : List ℕ)
+      (taken : TakesItemOn element_rules profile old.station longer items so_far.side reply) where
     abbrev more : List (Item Element)
     more = items ++ taken.item ∷ []
 
@@ -137,18 +143,18 @@ module _ {S : Type 0} (takes : MayTake S) (failures : S → ℕ) (t : TerminalTy
           ∙ ap (λ (o : Outcome). refusal_count o.refused) (sym one_more);
       records = done.records ∙ is ∙ ap (λ n. n + one_record taken.item) c.records ∙ sym (records_more 0 items _);
       left = left ∙ sym (left_more 0 keys items _);
-      few = omega (arith, done.records, is, one, c.few, length-append bytes (byte ∷ []));
+      few = omega (arith, done.records, is, one, c.few, some, size);
       wrote = rw (← text_more)
           (went_out_both takes failures start now to (run_text t keys items) (reply ++ text_of keyed.written) c.wrote
           (went_out_both takes failures now mid to reply (text_of keyed.written) went done.wrote));
     }
 
     unwritten : (to : S) → FailedWithin takes failures start to (run_text t keys more)
-        → RunUnwritten t keys takes failures start to longer
+        → RunUnwritten t keys takes failures start to (bytes ++ piece)
     unwritten to failed = record {
       before = longer;
-      after = [];
-      split = sym (append-nil longer);
+      after = drop used piece;
+      split = ap (λ z. bytes ++ z) (sym (take-append-drop used piece)) ∙ sym (append_assoc bytes _ _);
       items = more;
       so_far = taken.leads.leads.0;
       begun = old.station.live.begun;
@@ -158,12 +164,12 @@ module _ {S : Type 0} (takes : MayTake S) (failures : S → ℕ) (t : TerminalTy
     }
 
     reply_unwritten : (to : S) → FailedWithin takes failures now to reply
-        → RunUnwritten t keys takes failures start to longer
+        → RunUnwritten t keys takes failures start to (bytes ++ piece)
     reply_unwritten to failed = unwritten to (rw (← text_more) (failed_within_both takes failures start now to
         (run_text t keys items) reply (text_of keyed.written) c.wrote failed))
 
     keys_unwritten : (mid to : S) → WentOut takes failures now mid reply → FailedWithin takes failures mid to
-        (text_of keyed.written) → RunUnwritten t keys takes failures start to longer
+        (text_of keyed.written) → RunUnwritten t keys takes failures start to (bytes ++ piece)
     keys_unwritten mid to went failed =
         let xs = run_text t keys items in
         let ys = text_of keyed.written in
@@ -172,30 +178,29 @@ module _ {S : Type 0} (takes : MayTake S) (failures : S → ℕ) (t : TerminalTy
         unwritten to (rw (← text) (failed_within_both takes failures start mid to
         (xs ++ reply) ys [] (went_out_both takes failures start now mid xs reply c.wrote went) failed))
 
-  -- ---- by what the byte has done
-  module _ (few : length bytes + 2 < 2 ^ 64) where
-    module _ (reply : List ℕ) (told : List Applied)
-        (goes : StationGoes before (Came byte ∷ []) reply told old.station) where
-      went_by : Went old.station bytes items so_far.side byte reply told
-      went_by = station_went _ bytes items _ byte reply told (goes.led bytes items _ c.is_behind.leads
-          (omega (arith, few)))
+  -- ---- by what the front has done
+  module _ (few : length bytes + length piece + 1 < 2 ^ 64) where
+    room : length longer + 1 < 2 ^ 64
+    room = omega (arith, few, size, within)
 
+    module _ (step : StationStep (List ℕ))
+        (fronted : IsFrontedOn element_rules profile before old.station longer items so_far.side (Ok step)) where
       -- the reply isn't written
-      reply_fails : (to : S) → FailedWithin takes failures now to reply
-          → RunUnwritten t keys takes failures start to longer
-      reply_fails to failed = elim went_by [
-        | inl i ↦ (let none = rw i.0 at failed in
+      pub reply_fails : (to : S) → FailedWithin takes failures now to step.reply
+          → RunUnwritten t keys takes failures start to (bytes ++ piece)
+      reply_fails to failed = elim fronted [
+        | inl i ↦ (let none = rw i.0.silent at failed in
             absurd (let e : 0 < 0 = omega (arith, none.within) in omega (arith, e)))
-        | inr taken ↦ reply_unwritten reply taken.0 to failed
+        | inr taken ↦ reply_unwritten step.reply taken.0 to failed
       ]
 
       -- it ends no record
-      pub no_record : (to : S) → told ≡ [] → WentOut takes failures now to reply
+      pub no_record : (to : S) → step.ends_record ≡ false → WentOut takes failures now to step.reply
           → (next : List (Item Element)) × HasCome takes failures t keys start old to longer next
-      no_record to e went = elim went_by [
-        | inl i ↦ (items, inside_comes reply to i.0 i.2 went)
+      no_record to e went = elim fronted [
+        | inl i ↦ (items, inside_comes step.reply to i.0.silent i.0.leads went)
         | inr taken ↦ (let item : Item Element = taken.0.item in
-            let one : one_record item ≡ 0 = one_of item (sym e ∙ taken.1) in
+            let one : one_record item ≡ 0 = one_of item step.ends_record taken.1 e in
             let same : records_from 0 items + one_record item ≡ records_from 0 items = omega (arith, one) in
             let settled = left_settled 0 keys items in
             let none : due (records_from 0 items + one_record item)
@@ -209,7 +214,7 @@ module _ {S : Type 0} (takes : MayTake S) (failures : S → ℕ) (t : TerminalTy
               wrote = went_out_none takes failures to;
             } in (
               items ++ item ∷ [],
-              item_comes reply taken.0 _ old to to (omega (arith, one)) went
+              item_comes step.reply taken.0 _ old to to (omega (arith, one)) went
                   (subst (λ (ms : List Moment). HasDone takes failures longer (items ++ item ∷ [])
                   (record old { records = old.records }) old to to (outcome side ms)) (sym none) done) (c.left
                   ∙ sym settled.1 ∙ ap (λ n. later n (keys_left_from 0 keys items)) (sym same)) (omega (arith, one)),
@@ -217,17 +222,17 @@ module _ {S : Type 0} (takes : MayTake S) (failures : S → ℕ) (t : TerminalTy
       ]
 
       -- it ends one
-      module _
-          (event : Applied) (ends : told ≡ event ∷ []) (records : ℕ) (is : records ≡ min (old.records + 1) (2 ^ 64 - 1))
-          (mid : S) (went : WentOut takes failures now mid reply) where
-        counts : (item : Item Element) → told ≡ applied_by item → (one_record item ≡ 1)
+      module _ (ends : step.ends_record ≡ true) (records : ℕ) (is : records ≡ min (old.records + 1) (2 ^ 64 - 1))
+          (mid : S) (went : WentOut takes failures now mid step.reply) where
+        counts : (item : Item Element) → step.ends_record ≡ is_record item → (one_record item ≡ 1)
             × (records ≡ old.records + one_record item) × (records ≡ records_from 0 items + one_record item)
         counts item e =
-            let one : one_record item ≡ 1 = one_of_record item event (sym ends ∙ e) in
-            let f : records ≡ old.records + one_record item = omega (arith, one, is, c.few, few) in
+            let one : one_record item ≡ 1 = one_of_record item step.ends_record e ends in
+            let f : records ≡ old.records + one_record item =
+            omega (arith, one, is, c.few, few) in
             (one, f, f ∙ ap (λ n. n + one_record item) c.records)
 
-        now_due : (item : Item Element) → told ≡ applied_by item → due records (drop old.pressed keys)
+        now_due : (item : Item Element) → step.ends_record ≡ is_record item → due records (drop old.pressed keys)
             ≡ due (records_from 0 items + one_record item) (keys_left_from 0 keys items)
         now_due item e = ap (λ z. due z (drop old.pressed keys)) (counts item e).2
             ∙ ap (due (records_from 0 items + one_record item)) c.left
@@ -236,13 +241,13 @@ module _ {S : Type 0} (takes : MayTake S) (failures : S → ℕ) (t : TerminalTy
             < 2 ^ 64 → HasDone takes failures bytes items (record old { records = records }) new mid to (outcome side
             (due records (drop old.pressed keys)))) → drop new.pressed keys ≡ later records (drop old.pressed keys)
             → (next : List (Item Element)) × HasCome takes failures t keys start new to longer next
-        record_comes new to done left = elim went_by [
-          | inl i ↦ absurd (let e : event ∷ [] ≡ [] = sym ends ∙ i.1 in cc)
+        record_comes new to done left = elim fronted [
+          | inl i ↦ absurd (let e : true ≡ false = sym ends ∙ i.1 in cc)
           | inr taken ↦ (let item : Item Element = taken.0.item in
               let n = counts item taken.1 in (
                 items ++ item ∷ [],
-                item_comes reply taken.0 _ new mid to n.1 went (rw (← now_due item taken.1) (done longer (items
-                    ++ item ∷ []) taken.0.next taken.0.leads (omega (arith, few, length-append bytes (byte ∷ [])))))
+                item_comes step.reply taken.0 _ new mid to n.1 went (rw (← now_due item taken.1) (done longer (items
+                    ++ item ∷ []) taken.0.next taken.0.leads room))
                     (left ∙ ap (λ z. later z (drop old.pressed keys)) n.2
                     ∙ ap (later (records_from 0 items + one_record item)) c.left) (omega (arith, n.0)),
               ))
@@ -250,83 +255,60 @@ module _ {S : Type 0} (takes : MayTake S) (failures : S → ℕ) (t : TerminalTy
 
         pub keys_fail : (to : S) → AtStation old.station (λ bytes items side. length bytes + 1 < 2 ^ 64 → FailedWithin
             takes failures mid to (text_of (outcome side (due records (drop old.pressed keys))).written))
-            → RunUnwritten t keys takes failures start to longer
-        keys_fail to failed = elim went_by [
-          | inl i ↦ absurd (let e : event ∷ [] ≡ [] = sym ends ∙ i.1 in cc)
-          | inr taken ↦ keys_unwritten reply taken.0 mid to went
+            → RunUnwritten t keys takes failures start to (bytes ++ piece)
+        keys_fail to failed = elim fronted [
+          | inl i ↦ absurd (let e : true ≡ false = sym ends ∙ i.1 in cc)
+          | inr taken ↦ keys_unwritten step.reply taken.0 mid to went
               (rw (← now_due taken.0.item taken.1) (failed longer (items ++ taken.0.item ∷ [])
-              taken.0.next taken.0.leads (omega (arith, few, length-append bytes (byte ∷ [])))))
+              taken.0.next taken.0.leads room))
         ]
 
-    -- the byte is refused, or its item
-    refused_as : (to : S) → to ≡ now → (refusal : Refusal) → StationRefuses before [] byte refusal old.station
-        → IsRunFault t keys takes failures start to (length bytes) longer (fault_of refusal)
-    refused_as to unwritten (At place reason) refuses =
-        let is = gone_none (refuses.led bytes items so_far.side c.is_behind.leads (omega (arith, few))) in
-        record {
-          before = bytes;
-          byte = byte;
-          after = [];
-          split = refl;
-          at_place = is.0;
-          prompt = omega (arith, is.0);
-          items = items;
-          station = before;
-          is_behind = c.is_behind;
-          why = is.2;
-          wrote = rw unwritten c.wrote;
-        }
-    refused_as to unwritten why refuses =
-        gone_none (refuses.led bytes items so_far.side c.is_behind.leads (omega (arith, few)))
+-- the byte behind a front is refused, or its item
+pub refused_as : {S : Type 0} (takes : MayTake S) (failures : S → ℕ) (t : TerminalType) (keys : List (ℕ × Key))
+    (start now : S) (old : Player) (new : StationParts) (bytes : List ℕ) (items : List (Item Element))
+    → HasCome takes failures t keys start old now bytes items → (piece front : List ℕ) (byte : ℕ) (rest : List ℕ)
+    → piece ≡ front ++ byte ∷ rest → HoldsItems element_rules (bytes ++ front) items → (refusal : Refusal)
+    → IsFrontedOn element_rules profile old.station new (bytes ++ (front ++ byte ∷ [])) items (behind t keys items).side
+    (Err refusal) → IsRunFault t keys takes failures start now (length bytes) (bytes ++ piece) (fault_of refusal)
+refused_as takes failures t keys start now old new bytes items c piece front byte rest split held (At place reason) f =
+    let upto : (bytes ++ front) ++ byte ∷ [] ≡ bytes ++ (front ++ byte ∷ []) = append_assoc bytes front (byte ∷ []) in
+    let at : place ≡ length (bytes ++ front) =
+    omega (arith, f.0, ap length upto, length-append (bytes ++ front) (byte ∷ [])) in
+    record {
+      before = bytes;
+      front = front;
+      byte = byte;
+      after = rest;
+      split = ap (λ z. bytes ++ z) split ∙ sym (append_assoc bytes front (byte ∷ rest));
+      at_place = at;
+      prompt = omega (arith, at, length-append bytes front);
+      items = items;
+      station = old.station;
+      is_behind = c.is_behind;
+      inside = held;
+      why = rw upto f.2;
+      wrote = c.wrote;
+    }
+refused_as takes failures t keys start now old new bytes items c piece front byte rest split held why f = f
 
-    -- it doesn't come through
-    pub byte_fails : (to : S) (fault : Fault) → IsUnheard StationGoes StationRefuses takes failures
-        before old.station now to (byte ∷ []) fault → IsRunFault t keys takes failures start to (length bytes) longer fault
-    byte_fails to fault (front, last, split, inl h) =
-        rw h.0 (reply_fails h.1.written h.1.told h.1.led to h.1.failed)
-    byte_fails to fault (front, last, split, inr h) =
-        let one = same_end [] front byte last split in
-        rw h.is (refused_as to h.unwritten h.refusal
-        (subst₂ (λ (f : List ℕ) (x : ℕ). StationRefuses before f x h.refusal old.station) (sym one.0) (sym one.1)
-        h.refused))
-
--- a fault within some bytes is one within more
+-- a fault of a last read is one where that read began earlier
 pub fault_within : (t : TerminalType) (keys : List (ℕ × Key)) {S : Type 0} (takes : MayTake S) (failures : S → ℕ)
-    (start now : S) (first first' : ℕ) (bytes more : List ℕ) (fault : Fault) → first' ≤ first → IsRunFault t keys
-    takes failures start now first bytes fault → IsRunFault t keys takes failures start now first' (bytes ++ more) fault
-fault_within t keys takes failures start now first first' bytes more (Refused place reason) le f = record {
+    (start now : S) (first first' : ℕ) (bytes : List ℕ) (fault : Fault) → first' ≤ first → IsRunFault t keys
+    takes failures start now first bytes fault → IsRunFault t keys takes failures start now first' bytes fault
+fault_within t keys takes failures start now first first' bytes (Refused place reason) le f = record {
   before = f.before;
+  front = f.front;
   byte = f.byte;
-  after = f.after ++ more;
-  split = ap (λ z. z ++ more) f.split ∙ append_assoc f.before (f.byte ∷ f.after) more;
+  after = f.after;
+  split = f.split;
   at_place = f.at_place;
   prompt = omega (arith, le, f.prompt);
   items = f.items;
   station = f.station;
   is_behind = f.is_behind;
+  inside = f.inside;
   why = f.why;
   wrote = f.wrote;
 }
-fault_within t keys takes failures start now first first' bytes more Write le f = record {
-  before = f.before;
-  after = f.after ++ more;
-  split = ap (λ z. z ++ more) f.split ∙ append_assoc f.before f.after more;
-  items = f.items;
-  so_far = f.so_far;
-  begun = f.begun;
-  holds = f.holds;
-  taken = f.taken;
-  failed = f.failed;
-}
-fault_within t keys takes failures start now first first' bytes more fault le f = absurd f
-
--- the bytes of a piece, one after another
-pub next_byte : (bytes piece : List ℕ) (i : ℕ) → i < length piece → (bytes ++ take i piece) ++ get_or piece i 0 ∷ []
-    ≡ bytes ++ take (i + 1) piece
-next_byte bytes piece i lt = append_assoc bytes (take i piece) (get_or piece i 0 ∷ []) ∙ ap (λ x. bytes ++ x)
-    (sym (take_more piece i 0 lt))
-
-pub rest_of : (bytes piece : List ℕ) (i : ℕ) → i < length piece → ((bytes ++ take i piece) ++ get_or piece i 0 ∷ [])
-    ++ drop (i + 1) piece ≡ bytes ++ piece
-rest_of bytes piece i lt = ap (λ z. z ++ drop (i + 1) piece) (next_byte bytes piece i lt) ∙ append_assoc bytes
-    (take (i + 1) piece) (drop (i + 1) piece) ∙ ap (λ z. bytes ++ z) (take-append-drop (i + 1) piece)
+fault_within t keys takes failures start now first first' bytes Write le f = f
+fault_within t keys takes failures start now first first' bytes fault le f = absurd f

@@ -8,7 +8,7 @@ use C.{◌^◌, ◌+◌, ◌≤◌, Err, inl, inr, sym, ◌<◌, [], Ok, ap, ℕ
 use C.{Rules}
 use Rattle.ws_session.specs.Displays.{DisplayOf, SideOn}
 use Rattle.ws_session.specs.PartsOn.{PartsOn}
-use Rattle.ws_session.specs.Stations.{LeadsOn, IsPushedOn}
+use Rattle.ws_session.specs.Stations.{AtStationOn, LeadsOn, IsPushedOn}
 use Rattle.ws_session.specs.StationActs.{HasFedOn, HasTakenAllOn}
 use Rattle.ws_session.specs.HostFeeds.{HasHostTakenAll}
 use Rattle.ws_session.proofs.Common.{suc, ◌-◌}
@@ -21,11 +21,6 @@ use Rattle.ws_record.specs.Taking.{EndIn}
 -- What a front of a piece gives a station.
 
 module _ {D P U H PlaceV V K R : Type 0} (rules : Rules P U) (d : DisplayOf D U H PlaceV V K R) where
-  -- whatever bytes, items and side led to the station
-  abbrev pub AtOn : PartsOn D P → (List ℕ → List (Item U) → SideOn H → Type 0) → Type 0
-  AtOn station Then = (bytes : List ℕ) (items : List (Item U)) (side : SideOn H)
-      → LeadsOn rules d station bytes items side → Then bytes items side
-
   module _ (old new : PartsOn D P)
       (bytes : List ℕ) (items : List (Item U)) (side : SideOn H) (left : List ℕ) (used : ℕ)
       (within : used ≤ length left) (some : 0 < used) (held : AreHeld rules K bytes items left used) where
@@ -52,8 +47,8 @@ module _ {D P U H PlaceV V K R : Type 0} (rules : Rules P U) (d : DisplayOf D U 
       (now : PartsOn D P) (before : HasFedOn rules d now bytes items side (take i piece) [] false) where
     -- a front more is fed
     pub fed_on : (new : PartsOn D P) (k : ℕ) (step : StationStep R)
-        → k ≤ length (left_of piece i) → 0 < k → AtOn now (λ b its s. length b + length (left_of piece i) < 2 ^ 64
-        → IsFrontedOn rules d now new (b ++ take k (left_of piece i)) its s (Ok step)) → AtOn now
+        → k ≤ length (left_of piece i) → 0 < k → AtStationOn rules d now (λ b its s. length b + length (left_of piece i) < 2 ^ 64
+        → IsFrontedOn rules d now new (b ++ take k (left_of piece i)) its s (Ok step)) → AtStationOn rules d now
         (λ b its s. AreHeld rules K b its (left_of piece i) k) → length bytes + length piece < 2 ^ 64
         → i ≤ length piece
         → HasFedOn rules d new bytes items side (take (i + k) piece) (d.written new.screen step.reply) step.ends_record
@@ -65,9 +60,9 @@ module _ {D P U H PlaceV V K R : Type 0} (rules : Rules P U) (d : DisplayOf D U 
     pub refused_on : (old new : PartsOn D P) (k byte : ℕ) (refusal : Refusal) → now.screen ≡ old.screen
         → k ≤ length (left_of piece i)
         → take (suc (k - 1)) (left_of piece i) ≡ take (k - 1) (left_of piece i) ++ byte ∷ []
-        → ((refusal ≡ Failed → ⊥) → 0 < k) → AtOn now (λ b its s. length b + length
+        → ((refusal ≡ Failed → ⊥) → 0 < k) → AtStationOn rules d now (λ b its s. length b + length
         (left_of piece i) < 2 ^ 64 → IsFrontedOn rules d now new (b ++ take k (left_of piece i)) its s (Err refusal))
-        → AtOn now (λ b its s. AreHeld rules K b its (left_of piece i) k)
+        → AtStationOn rules d now (λ b its s. AreHeld rules K b its (left_of piece i) k)
         → length bytes + length piece < 2 ^ 64 → i ≤ length piece
         → HasTakenAllOn rules d (λ b its s. IsPushedOn rules d old new b its s byte (Err refusal)) bytes items side
         (take (i + (k - 1)) piece) [] []

@@ -10,7 +10,7 @@ use Rattle.ws_session.specs.declared.host_event.HostEvent.{HostEvent}
 use Rattle.ws_session.specs.declared.refusal.Refusal.{Refusal}
 use Rattle.ws_session.specs.Acts.{all_came, as_list, HasGone}
 use Rattle.ws_session.specs.Manners.{host_manner, IsHostShut}
-use Rattle.ws_session.specs.HostLeads.{HostParts, HostLeads, IsHostPushed}
+use Rattle.ws_session.specs.HostLeads.{AtHost, HostParts, HostLeads, IsHostPushed}
 use Rattle.ws_session.specs.HostSide.{HostSide}
 
 -- Behind these bytes others come, one after another: the host end refuses none of their items, writes and tells this,
@@ -32,8 +32,7 @@ IsHostSilent bytes items side came = HasHostTakenAll (λ bytes' items' side'. Un
 
 -- The host end takes these bytes, and writes and tells nothing at them. One that is shut takes none.
 pub record HostStaysSilent (old : HostParts) (came : List ℕ) : Type 0 where
-  pub led : (bytes : List ℕ) (items : List (Item AnswerPart)) (side : HostSide) → HostLeads old bytes items side
-      → length bytes + length came + 1 < 2 ^ 64 → IsHostSilent bytes items side came
+  pub led : AtHost old (λ bytes items side. length bytes + length came + 1 < 2 ^ 64 → IsHostSilent bytes items side came)
   pub shut : IsHostShut old → came ≡ []
 
 -- the host end takes no byte behind this one, for which it fails as it does for that byte alone
@@ -57,6 +56,5 @@ pub record HostStopsWithin (old new : HostParts) (piece : List ℕ) (used : ℕ)
   pub byte : ℕ
   pub rest : List ℕ
   pub split : piece ≡ take used piece ++ byte ∷ rest
-  pub refused : (bytes : List ℕ) (items : List (Item AnswerPart)) (side : HostSide) → HostLeads old bytes items side
-      → length bytes + length piece < 2 ^ 64
-      → HasHostTakenAll (EndsAt old new byte why) bytes items side (take used piece) [] []
+  pub refused : AtHost old (λ bytes items side. length bytes + length piece < 2 ^ 64
+      → HasHostTakenAll (EndsAt old new byte why) bytes items side (take used piece) [] [])

@@ -1,6 +1,6 @@
 -- How far a run has come
 
-use Rattle.std.specs.Prelude.{◌≡◌, ℕ, ◌+◌, ◌≤◌, List, [], ◌∷◌, length, drop}
+use Rattle.std.specs.Prelude.{◌≡◌, ℕ, ◌+◌, ◌≤◌, ◌<◌, ◌^◌, List, [], ◌∷◌, length, drop}
 use Rattle.ws_code.specs.Device.{MayTake, WentOut}
 use Rattle.ws_nego.specs.declared.terminal.TerminalType.{TerminalType}
 use Rattle.ws_record.specs.declared.record.Item.{Item}
@@ -42,3 +42,16 @@ module _ {S : Type 0} (takes : MayTake S) (failures : S → ℕ) where
     pub left : drop player.pressed keys ≡ keys_left_from 0 keys items
     pub few : player.records ≤ length bytes
     pub wrote : WentOut takes failures start now (run_text terminal keys items)
+
+  -- this holds of whatever brought the player here, where so many bytes more can be counted: from where the sink
+  -- began, the terminal, and the bytes
+  abbrev pub AtPlayer : List (ℕ × Key) → Player → S → ℕ → (S → TerminalType → List ℕ → Type 0) → Type 0
+  AtPlayer keys player now more Holds =
+      (start : S) (terminal : TerminalType) (bytes : List ℕ) (items : List (Item Element))
+      → HasCome terminal keys start player now bytes items → length bytes + more + 1 < 2 ^ 64
+      → Holds start terminal bytes
+
+  -- the bytes have brought it here, whatever items they hold
+  abbrev pub IsBrought : TerminalType → List (ℕ × Key) → S → Player → S → List ℕ → Type 0
+  IsBrought terminal keys start player now bytes =
+      (items : List (Item Element)) × HasCome terminal keys start player now bytes items

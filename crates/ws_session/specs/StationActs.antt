@@ -14,7 +14,7 @@ use Rattle.ws_session.specs.Acts.{Act, Goes, all_came, as_list, HasGone}
 use Rattle.ws_session.specs.Displays.{DisplayOf, SideOn, RefusesKey}
 use Rattle.ws_session.specs.PartsOn.{PartsOn}
 use Rattle.ws_session.specs.StationManners.{told_by, key_on, manner_on}
-use Rattle.ws_session.specs.Stations.{LeadsOn, IsPushedOn}
+use Rattle.ws_session.specs.Stations.{AtStationOn, LeadsOn, IsPushedOn}
 
 -- the station takes no more
 abbrev pub IsShutOn : {D P : Type 0} → PartsOn D P → Type 0
@@ -56,29 +56,25 @@ module _ {D P U H PlaceV V K R : Type 0} (rules : Rules P U) (d : DisplayOf D U 
   -- that byte alone. Where it is shut, it refuses the first, for that alone.
   pub record RefusesOn (old : PartsOn D P) (front : List ℕ) (byte : ℕ) (refusal : Refusal) (new : PartsOn D P)
       : Type 0 where
-    pub led : (bytes : List ℕ) (items : List (Item U)) (side : SideOn H)
-        → LeadsOn rules d old bytes items side → length bytes + length front + 1 < 2 ^ 64
+    pub led : AtStationOn rules d old (λ bytes items side. length bytes + length front + 1 < 2 ^ 64
         → HasTakenAllOn (λ bytes' items' side'. IsPushedOn rules d old new bytes' items' side' byte (Err refusal))
-        bytes items side front [] []
+        bytes items side front [] [])
     pub shut : IsShutOn old → (front ≡ []) × (refusal ≡ Failed) × (new.screen ≡ old.screen)
 
   -- The station takes these bytes, and writes and tells nothing at them. One that is shut takes none.
   pub record StaysSilentOn (old : PartsOn D P) (came : List ℕ) : Type 0 where
-    pub led : (bytes : List ℕ) (items : List (Item U)) (side : SideOn H)
-        → LeadsOn rules d old bytes items side → length bytes + length came + 1 < 2 ^ 64
-        → IsSilentOn bytes items side came
+    pub led : AtStationOn rules d old (λ bytes items side. length bytes + length came + 1 < 2 ^ 64
+        → IsSilentOn bytes items side came)
     pub shut : IsShutOn old → came ≡ []
 
   -- the station refuses the key, for this reason, by all that came and was pressed before, or since it is shut
   pub record IsKeyRefusalOn (station : PartsOn D P) (key : K) (fault : KeyFault) : Type 0 where
-    pub led : (bytes : List ℕ) (items : List (Item U)) (side : SideOn H)
-        → LeadsOn rules d station bytes items side → length bytes + 1 < 2 ^ 64
-        → key_on d side key ≡ RefusesKey fault
+    pub led : AtStationOn rules d station (λ bytes items side. length bytes + 1 < 2 ^ 64
+        → key_on d side key ≡ RefusesKey fault)
     pub shut : IsShutOn station → fault ≡ KeyFailed
 
   -- the station has no reason to refuse the key, and isn't shut
   pub record IsKeyTakenOn (station : PartsOn D P) (key : K) : Type 0 where
-    pub led : (bytes : List ℕ) (items : List (Item U)) (side : SideOn H)
-        → LeadsOn rules d station bytes items side → length bytes + 1 < 2 ^ 64
-        → (fault : KeyFault) → key_on d side key ≡ RefusesKey fault → ⊥
+    pub led : AtStationOn rules d station (λ bytes items side. length bytes + 1 < 2 ^ 64
+        → (fault : KeyFault) → key_on d side key ≡ RefusesKey fault → ⊥)
     pub works : IsShutOn station → ⊥

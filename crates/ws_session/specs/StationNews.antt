@@ -19,7 +19,7 @@ use Rattle.ws_session.specs.declared.station.StationStep.{StationStep}
 use Rattle.ws_session.specs.Displays.{DisplayOf, SideOn}
 use Rattle.ws_session.specs.StationCounts.{is_record}
 use Rattle.ws_session.specs.PartsOn.{PartsOn}
-use Rattle.ws_session.specs.Stations.{StaysInsideOn, TakesItemOn, RefusesItemOn, IsClosedOn, HasStoppedOn, LeadsOn}
+use Rattle.ws_session.specs.Stations.{StaysInsideOn, TakesItemOn, RefusesItemOn, IsClosedOn, HasStoppedOn, AtStationOn}
 use Rattle.ws_session.specs.Stations.{IsPushedOn}
 use Rattle.ws_session.specs.StationActs.{HasTakenAllOn}
 
@@ -58,10 +58,9 @@ module _ {D P U H PlaceV V K R : Type 0} (rules : Rules P U) (d : DisplayOf D U 
     pub byte : ℕ
     pub rest : List ℕ
     pub split : piece ≡ take used piece ++ byte ∷ rest
-    pub refused : (bytes : List ℕ) (items : List (Item U)) (side : SideOn H) → LeadsOn rules d old bytes items side
-        → length bytes + length piece < 2 ^ 64
+    pub refused : AtStationOn rules d old (λ bytes items side. length bytes + length piece < 2 ^ 64
         → HasTakenAllOn rules d (λ bytes' items' side'. IsPushedOn rules d old new bytes' items' side' byte (Err why))
-        bytes items side (take used piece) [] []
+        bytes items side (take used piece) [] [])
 
   -- what the last of these bytes gives, where no item is complete before it
   abbrev pub IsFrontedOn : PartsOn D P → PartsOn D P → List ℕ → List (Item U) → SideOn H

@@ -15,6 +15,7 @@ use Rattle.ws_stream.specs.Elements.{element_rules}
 use Rattle.ws_stream.specs.declared.element.Element.{Element}
 use Rattle.ws_keys.specs.declared.key.Key.{Key}
 use Rattle.ws_session.specs.declared.run.Played.{Played}
+use Rattle.ws_session.specs.Acts.{HoldsItems}
 use Rattle.ws_session.specs.Moments.{Outcome, outcome, AreTaken, moments}
 use Rattle.ws_session.specs.StationLeads.{StationParts, StationLeads, IsItemRefused}
 use Rattle.ws_session.specs.StationSide.{new_station_side}
@@ -38,19 +39,22 @@ module _ (terminal : TerminalType) (keys : List (ℕ × Key)) where
     pub taken : AreTaken (new_station_side terminal) (moments keys items)
 
   module _ {S : Type 0} (takes : MayTake S) (failures : S → ℕ) (from to : S) where
-    -- A byte of these is refused, and not one of the first so many; all that was to be written before it went out.
+    -- A byte of these is refused, and not one of the first so many; all that was to be written before it went out. The
+    -- station stood behind a front of the bytes before it, and no item is complete with the others.
     pub record RunRefuses (first : ℕ) (bytes : List ℕ) (place : ℕ) (reason : Reason) : Type 0 where
       pub before : List ℕ
+      pub front : List ℕ
       pub byte : ℕ
       pub after : List ℕ
-      pub split : bytes ≡ before ++ byte ∷ after
-      pub at_place : place ≡ length before
+      pub split : bytes ≡ (before ++ front) ++ byte ∷ after
+      pub at_place : place ≡ length (before ++ front)
       pub prompt : first ≤ place
       pub items : List (Item Element)
       pub station : StationParts
       pub is_behind : IsBehind before items station
-      pub why : IsRefused element_rules (before ++ byte ∷ []) place reason
-          ⊎ IsItemRefused before items (behind items).side byte reason
+      pub inside : HoldsItems element_rules (before ++ front) items
+      pub why : IsRefused element_rules ((before ++ front) ++ byte ∷ []) place reason
+          ⊎ IsItemRefused (before ++ front) items (behind items).side byte reason
       pub wrote : WentOut takes failures from to (run_text items)
 
     -- A write failed, in what was to be written behind items of these bytes.

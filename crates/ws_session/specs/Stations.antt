@@ -42,6 +42,11 @@ module _ {D P U H PlaceV V K R : Type 0} (rules : Rules P U) (d : DisplayOf D U 
     pub counted : station.records ≡ records_in items
     pub works : station.ended ≡ None
 
+  -- this holds of whatever led to the station: the bytes, their items, and the side on which they left it
+  abbrev pub AtStationOn : PartsOn D P → (List ℕ → List (Item U) → SideOn H → Type 0) → Type 0
+  AtStationOn station Holds = (bytes : List ℕ) (items : List (Item U)) (side : SideOn H)
+      → LeadsOn station bytes items side → Holds bytes items side
+
   -- the station has taken no byte and no key
   pub record FreshOn (station : PartsOn D P) : Type 0 where
     pub terminal : TerminalType

@@ -29,12 +29,12 @@ use Rattle.ws_session.specs.declared.world.Move.{Move}
 use Rattle.ws_session.specs.declared.world.Move.TheVariants.{Send, Cancel, ToStation, ToHost, Key as Press}
 use Rattle.ws_session.specs.Acts.{Act, Did}
 use Rattle.ws_session.specs.Crossings.{Crossing}
-use Rattle.ws_session.specs.HostLeads.{HostParts, HostLeads}
+use Rattle.ws_session.specs.HostLeads.{AtHost, HostParts, HostLeads}
 use Rattle.ws_session.specs.HostSide.{HostSide, new_host_side, host_cancel, SendReaction, RefusesSend}
 use Rattle.ws_session.specs.StationActs.{IsShutOn}
 use Rattle.ws_session.specs.Manners.{StationGoes, StationRefuses, HostGoes, HostRefuses, IsHostShut}
 use Rattle.ws_session.specs.Runs.{WorldParts}
-use Rattle.ws_session.specs.StationLeads.{StationParts, StationLeads}
+use Rattle.ws_session.specs.StationLeads.{AtStation, StationParts, StationLeads}
 use Rattle.ws_session.specs.StationSide.{StationSide, new_station_side, station_key, KeyReaction, RefusesKey}
 use Rattle.ws_session.specs.Wires.{WireParts, Comes, AreDelivered}
 use Rattle.ws_session.specs.World.{host_sends}
@@ -121,16 +121,14 @@ order_of opcode body = Sending opcode body
 pub record HasPressed (old : StationParts) (key : Key) (new : StationParts) (written : List ℕ)
     (told : List Event) : Type 0 where
   pub led : StationGoes old (Did key ∷ []) written [] new
-  pub tells : (bytes : List ℕ) (items : List (Item Element)) (side : StationSide) → StationLeads old bytes items side
-      → length bytes + 1 < 2 ^ 64 → told ≡ key_told (station_key side key)
+  pub tells : AtStation old (λ bytes items side. length bytes + 1 < 2 ^ 64 → told ≡ key_told (station_key side key))
   pub stays : IsShutOn old → (new ≡ old) × (written ≡ []) × (told ≡ KeyRefused KeyFailed ∷ [])
 
 -- A send or a cancel at the host end: what it writes and what is told. A host end that is shut stays as it is.
 pub record HasOrdered (old : HostParts) (order : Order) (new : HostParts) (written : List ℕ)
     (told : List Event) : Type 0 where
   pub led : HostGoes old (Did order ∷ []) written [] new
-  pub tells : (bytes : List ℕ) (items : List (Item AnswerPart)) (side : HostSide) → HostLeads old bytes items side
-      → length bytes + 1 < 2 ^ 64 → told ≡ send_told (host_orders side order)
+  pub tells : AtHost old (λ bytes items side. length bytes + 1 < 2 ^ 64 → told ≡ send_told (host_orders side order))
   pub stays : IsHostShut old → (new ≡ old) × (written ≡ []) × (told ≡ SendRefused SendFailed ∷ [])
 
 -- What each act makes of both ends: what an end writes is in flight to the other, behind what was.

@@ -1,4 +1,4 @@
-ghost use Rattle.std.specs.Prelude.{refl, ◌≡◌, List, ℕ};
+ghost use Rattle.std.specs.Prelude.{refl, ◌≡◌};
 ghost use Rattle.ws_screen.specs.Events.{History};
 ghost use Rattle.ws_stream.specs.declared.answer_part.AnswerPart.{AnswerPart};
 ghost use Rattle.ws_stream.specs.declared.answer_place.AnswerPlace.{AnswerPlace};

@@ -1,4 +1,4 @@
-// What an end does at a byte or a key, and writes at once into a sink: the steps of `Attached` and of `run_station`.
+// What an end does at bytes or a key, and writes at once into a sink: the steps of `Attached` and of `run_station`.
 
 ghost use Rattle.std.specs.Prelude.{◌≡◌, ◌<◌, ◌≤◌, ◌∷◌, [], true, length, take, IfOk, IfErr, IfSome, IfNone};
 ghost use Rattle.ws_session.specs.Acts.{Did, all_came, as_list};
@@ -55,23 +55,8 @@ pub(crate) fn hear_piece<E: End, K: Sink>(
     }
 }
 
-// Takes a byte, and writes what the end answers.
-pub(crate) fn take_byte<E: End, K: Sink>(
-    end: &mut E,
-    sink: &mut K,
-    byte: u8,
-) -> Result<Option<E::Event>, Fault>
-    ensures taken { IfOk result (λ told. HasWritten E.goes K.takes K.failures
-        end.old end.new sink.old sink.new (all_came (byte ∷ [])) (as_list told)) }
-    ensures fault { IfErr result (IsUnheard E.goes E.refuses K.takes K.failures
-        end.old end.new sink.old sink.new (byte ∷ [])) }
-    ensures breaks { IfErr result (λ fault. breaks fault ≡ true) }
-{
-    hear_piece(end, sink, &[byte]).told
-}
-
 // A refusal as a fault.
-fn fault_of(refusal: Refusal) -> Fault
+pub(crate) fn fault_of(refusal: Refusal) -> Fault
     ensures { result ≡ spec.fault_of refusal }
 {
     match refusal {

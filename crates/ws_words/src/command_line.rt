@@ -1,4 +1,9 @@
 use crate::command_parts::{CommandParts, fault, flag, place};
+use crate::input_help::{
+    ANSWERS_HELP, CHECK_EXAMPLES, EXTENDED_HELP, HEX_AND_STATUS, ITEMS_HELP, MAKE_EXAMPLES,
+    OF_HELP, PLAY_EXAMPLES, RAW_HELP, RAW_OUT_HELP, SCREEN_HELP, SCRIPT_HELP, SHOW_EXAMPLES,
+    SO_FAR_HELP, STREAM_HELP, TCP_HELP,
+};
 use crate::live_command::{
     COLOR_HELP, Live, connect_asked, connect_command, paint_asked, serve_asked, serve_command,
 };
@@ -31,19 +36,40 @@ pub enum Sender {
     ExtendedStation,
 }
 
+/// Whose lines of a recording are read.
+#[derive(Clone, Copy, Debug, PartialEq, Eq)]
+pub enum RecordedEnd {
+    Host,
+    Station,
+}
+
+/// How an input tells the bytes of a stream.
+#[derive(Clone, Copy, Debug, PartialEq, Eq)]
+pub enum StreamForm {
+    /// As hex text.
+    Hex,
+    /// As a recording, a line a piece, of which one end's pieces are the stream.
+    Recorded(RecordedEnd),
+    /// It is the bytes.
+    Raw,
+}
+
 /// What is asked for of an input.
 #[derive(Clone, Copy, Debug, PartialEq, Eq)]
 pub enum Asked<'a> {
-    /// To check the bytes of a hex text, in pieces of `cut` bytes: as a host's commands, or as a station's answers.
+    /// To check the bytes that an input tells in a form, in pieces of `cut` bytes: as a host's commands, or as a
+    /// station's answers.
     Check {
         file: Option<&'a str>,
+        form: StreamForm,
         cut: NonZeroU16,
         from: Sender,
     },
-    /// To show the items of a hex text: as a host's commands, with the screen that they make in a paint, or as a
+    /// To show the items of such bytes: as a host's commands, with the screen that they make in a paint, or as a
     /// station's answers. With `so_far` also what has come of the record that is open where the bytes stop.
     Show {
         file: Option<&'a str>,
+        form: StreamForm,
         from: Sender,
         paint: Paint,
         so_far: bool,
@@ -56,10 +82,12 @@ pub enum Asked<'a> {
         tcp: bool,
         paint: Paint,
     },
-    /// To write the stream whose items a text spells: as a host's commands, or as a station's answers.
+    /// To write the stream whose items a text spells: as a host's commands, or as a station's answers; with `raw` its
+    /// bytes, else as hex text.
     Make {
         file: Option<&'a str>,
         from: Sender,
+        raw: bool,
     },
 }
 
@@ -74,116 +102,6 @@ impl<'a> Asked<'a> {
         }
     }
 }
-
-// What `--help` prints behind the options.
-const HEX_AND_STATUS: &str = "\
-A stream is read as hex text: two hex digits for each byte, in either case.
-Blanks, tabs and line ends don't count.
-
-Exit status:
-  0  the whole stream is accepted, and in play no end refuses a byte
-  1  it is refused at a byte, or ends too early
-  2  a fault, told in one line on standard error: cannot read, not hex,
-     script line N, memory, cannot write, no connection; or a wrong
-     command line";
-
-const CHECK_EXAMPLES: &str = "\
-It prints one line, as one of:
-  accepted: 1 records, 0 commands, 12 bytes
-  refused at 11: reason 30 StructuredField
-  truncated at 3
-
-Examples:
-  t5250 check examples/inquiry.hex
-  t5250 check --extended examples/live-host.hex
-  t5250 check --answers --cut 1 < examples/inquiry-answers.hex
-  t5250 check --answers --extended examples/live-station.hex";
-
-const SHOW_EXAMPLES: &str = "\
-Each item is printed with the place of its last byte, counted from 0.
-Where the stream isn't accepted, the line of `check` is the last.
-
-A station's answers (--answers) have no screen. With --extended they have lines
-more for what a live host's station tells at once:
-    QUERY-REPLY HEX   the reply to a query, its 61 bytes
-    SAVED             a saved screen, whose elements follow
-    SCREEN R C        the cursor; a byte for each cell follows
-    IMMEDIATE R C     the cursor; the fields that were read at once follow
-Of a host's stream the last line is then `error row R` where an error stands.
-
-With --so-far, where a stream is refused or ends too early in a record, before
-the last line come `open record flags FFFF opcode K`, lines for the elements
-that are complete, and of a host's stream the screen that the records before
-it made; before the record's tenth byte the first line is `open record`.
-
-Examples:
-  t5250 show examples/inquiry.hex
-  t5250 show --color examples/inquiry.hex
-  t5250 show --extended examples/live-host.hex
-  t5250 show --so-far examples/live-host.hex
-  t5250 show --answers examples/inquiry-answers.hex
-  t5250 show --answers --extended examples/live-station.hex
-  echo 000A12A0000004000001FFEF | t5250 show";
-
-const PLAY_EXAMPLES: &str = "\
-A script has a line for each move, and is read before anything is run:
-  send K HEX   the host end sends a record of opcode K; HEX may be absent
-  cancel       the host end cancels its read
-  down N       N bytes arrive at the station; all is all of them
-  up N         N bytes arrive at the host end
-  settle       four times down all and up all
-  type TEXT    keys for the characters; insert TEXT inserts them
-  key NAME     a key, such as Enter, F3, FieldExit or Tab
-
-Examples:
-  t5250 play --screen --color examples/sign-on.script
-  t5250 play --tcp examples/sign-on.script
-  echo settle | t5250 play";
-
-const MAKE_EXAMPLES: &str = "\
-A text has the lines that `show` prints, and is read before anything is written:
-  record opcode K   a record of opcode K; flags FFFF may stand before opcode
-  telnet DO 24      a Telnet command; so too telnet NOP, telnet SB 24 HEX
-    WRITE 00 08     an element of the record, behind two blanks
-    TEXT Sign On    characters for cells
-A place (at P) counts for nothing, nor does an empty line or one that begins
-with #. A line screen ends the text.
-
-A station's answers (--answers) have the lines that `show --answers` prints:
-    HEAD 6 53 F1    the cursor's row and column, and the key
-    AT 6 53         the cell of a field, and
-    BYTES C1C2      its bytes; so too TEXT AB
-With --extended they have also those of `show --answers --extended`: a line
-QUERY-REPLY with a whole reply, SAVED, SCREEN R C or IMMEDIATE R C.
-
-It prints a line of hex for each item.
-
-Examples:
-  t5250 make examples/inquiry.show
-  t5250 make --extended examples/live-host.show
-  t5250 make --answers examples/inquiry-answers.show
-  t5250 make --answers --extended examples/live-station.show
-  t5250 show examples/inquiry.hex | t5250 make";
-
-// What help says of the words of a command.
-const ANSWERS_HELP: &str = "Reads what a station sends, and not what a host sends";
-
-const EXTENDED_HELP: &str =
-    "Takes also what live hosts send beside the profile, or with --answers what their stations tell";
-
-const SO_FAR_HELP: &str =
-    "Prints also what has come of the record that is open where the stream isn't accepted";
-
-const HEX_HELP: &str = "A hex text; without it, standard input is read";
-
-const SCREEN_HELP: &str = "Prints the station's screen at the end";
-
-const TCP_HELP: &str =
-    "Carries the bytes over a TCP connection on 127.0.0.1; what is printed stays the same";
-
-const SCRIPT_HELP: &str = "A script; without it, standard input is read";
-
-const ITEMS_HELP: &str = "Items as text; without it, standard input is read";
 
 // The commands that the program knows.
 fn program<'a>(alloc: Global) -> Result<Command<'a>, AllocError> {
@@ -215,7 +133,9 @@ fn check_command<'a>(alloc: Global) -> CommandParts<'a> {
     .word(flag(alloc, "answers", ANSWERS_HELP))
     .word(flag(alloc, "extended", EXTENDED_HELP))
     .word(cut(alloc))
-    .word(place(alloc, "FILE", HEX_HELP, false))
+    .word(of(alloc))
+    .made_word(raw(alloc))
+    .word(place(alloc, "FILE", STREAM_HELP, false))
 }
 
 fn show_command<'a>(alloc: Global) -> CommandParts<'a> {
@@ -229,7 +149,9 @@ fn show_command<'a>(alloc: Global) -> CommandParts<'a> {
     .word(flag(alloc, "extended", EXTENDED_HELP))
     .word(flag(alloc, "color", COLOR_HELP))
     .word(flag(alloc, "so-far", SO_FAR_HELP))
-    .word(place(alloc, "FILE", HEX_HELP, false))
+    .word(of(alloc))
+    .made_word(raw(alloc))
+    .word(place(alloc, "FILE", STREAM_HELP, false))
 }
 
 fn play_command<'a>(alloc: Global) -> CommandParts<'a> {
@@ -254,6 +176,7 @@ fn make_command<'a>(alloc: Global) -> CommandParts<'a> {
     )
     .word(flag(alloc, "answers", ANSWERS_HELP))
     .word(flag(alloc, "extended", EXTENDED_HELP))
+    .word(flag(alloc, "raw", RAW_OUT_HELP))
     .word(place(alloc, "FILE", ITEMS_HELP, false))
 }
 
@@ -264,6 +187,23 @@ fn cut<'a>(alloc: Global) -> Arg<'a> {
         .help("Reads the bytes in pieces of N, from 1 to 65535; the line stays the same")
         .value_parser(value_parser!(u16).range(1..=65535))
         .action(ArgAction::Set)
+}
+
+// The ends by name, the host first.
+const ENDS: [&str; 2] = ["host", "station"];
+
+fn of<'a>(alloc: Global) -> Arg<'a> {
+    Arg::new(alloc, "of")
+        .long("of")
+        .value_name("END")
+        .help(OF_HELP)
+        .value_parser(ENDS.as_slice())
+        .action(ArgAction::Set)
+}
+
+// An input is no recording and raw bytes at once.
+fn raw<'a>(alloc: Global) -> Result<Arg<'a>, AllocError> {
+    flag(alloc, "raw", RAW_HELP).conflicts_with("of")
 }
 
 /// The fault of words that the program can't even take as text.
@@ -313,8 +253,21 @@ fn check_asked<'a>(words: &ArgMatches<'a>) -> Asked<'a> {
     let cut = words.get_one::<u16>("cut").unwrap_or(u16::MAX);
     Asked::Check {
         file: words.get_str("FILE"),
+        form: form_asked(words),
         cut: NonZeroU16::new(cut).unwrap_or(NonZeroU16::MAX),
         from: sender_asked(words),
+    }
+}
+
+// How the input tells the bytes. The parser of `--of` lets no other name through, and none beside `--raw`.
+fn form_asked(words: &ArgMatches<'_>) -> StreamForm {
+    if words.get_flag("raw") {
+        return StreamForm::Raw;
+    }
+    match words.get_str("of") {
+        None => StreamForm::Hex,
+        Some("host") => StreamForm::Recorded(RecordedEnd::Host),
+        Some(_) => StreamForm::Recorded(RecordedEnd::Station),
     }
 }
 
@@ -331,6 +284,7 @@ fn sender_asked(words: &ArgMatches<'_>) -> Sender {
 fn show_asked<'a>(words: &ArgMatches<'a>) -> Asked<'a> {
     Asked::Show {
         file: words.get_str("FILE"),
+        form: form_asked(words),
         from: sender_asked(words),
         paint: paint_asked(words),
         so_far: words.get_flag("so-far"),
@@ -350,5 +304,6 @@ fn make_asked<'a>(words: &ArgMatches<'a>) -> Asked<'a> {
     Asked::Make {
         file: words.get_str("FILE"),
         from: sender_asked(words),
+        raw: words.get_flag("raw"),
     }
 }

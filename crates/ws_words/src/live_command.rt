@@ -2,7 +2,7 @@ use crate::command_parts::{CommandParts, fault, flag, place};
 use crate::live_address::{HostPort, host_and_port, listening_address};
 use clap::error::ErrorKind;
 use clap::{Arg, ArgAction, ArgMatches, Command, value_parser};
-use std::alloc::Global;
+use std::alloc::{AllocError, Global};
 use ws_live::Paint;
 use ws_nego::TerminalType;
 
@@ -31,7 +31,7 @@ pub struct ConnectAsked<'a> {
     pub script: Option<&'a str>,
 }
 
-/// A host for one station.
+/// A host for one station, or for some one after another.
 #[derive(Clone, Copy, Debug, PartialEq, Eq)]
 pub struct ServeAsked<'a> {
     pub address: HostPort<'a>,
@@ -40,6 +40,8 @@ pub struct ServeAsked<'a> {
     pub ready: bool,
     /// Whether it takes any terminal name and any record, and judges none.
     pub any: bool,
+    /// How many stations it serves one after another, 1 to 1,000,000; without it one. Then a script is named.
+    pub sessions: Option<u32>,
     /// The file of a recording; without it, none is made.
     pub record: Option<&'a str>,
     /// The file of a script; without it, standard input is read.
@@ -58,11 +60,17 @@ one a line of standard input is carried out before the next is read:
   await record, await text TEXT, await at R C TEXT
                until one more record was applied, a row shows TEXT, or it begins
                at that cell
+  await quiet MS
+               until nothing has come for MS milliseconds, at most 3600000
   show         prints the screen; show R C LENGTH the text of so many cells
   fields       prints each field: field ROW COLUMN LENGTH FORMAT TEXT
   cells R      prints a row's bytes and attributes
   status       prints `status unlocked ready 6 53 field 1 records 3 bytes 128`
   note TEXT    prints TEXT
+Those that show something first take what has come.
+
+A bad line is `bad line: CAUSE` with --ready, and the session goes on; else it
+ends, as a script with one does, by `script line N: CAUSE`.
 
 A refused key is told as `key refused REASON`, behind it a character that it
 enters. A wait that runs out prints `late`, and the session goes on; one whose
@@ -78,7 +86,7 @@ With --extended, `key Reset` takes an error away that a host shows. Until then
 
 Exit status:
   0  every line was carried out, none was late or ended, nothing was refused
-  1  one was, or the station refused a byte
+  1  one was, or bad, or the station refused a byte
   2  a fault, told in one line on standard error
 
 Examples:
@@ -102,9 +110,15 @@ Without one a line of standard input is carried out before the next is read:
   await answer, await KEY
                until it has answered, or answered by that key, such as F3
   show         prints the screen that the host keeps
+  raw HEX      writes these bytes as they are
+  telnet WORDS writes a Telnet command, as `make` reads it: telnet DO 39
+  pause MS     lets MS milliseconds go by, at most 3600000
+  close        closes the connection; no line is carried out behind it
+  end          ends the lines of a `send K`
 
 On standard input `send K` is carried out when the next line comes that doesn't
-begin with two blanks; an empty one belongs to it, and has no `ok` of its own.
+begin with two blanks; `end` or an empty one belongs to it, and has no `ok` of
+its own. Bad lines are told as connect tells them.
 
 A refused send is told as `send refused REASON`. A wait that runs out prints
 `late`, and the session goes on; one whose station has closed prints `ended`.
@@ -114,6 +128,9 @@ script it answers on until the station closes, or the wait is over.
 With --record, FILE has a line `MILLISECONDS host|station HEX` for each piece
 that crossed the connection. It holds what was typed into hidden fields,
 passwords too, so none but its owner can read it.
+
+With --sessions it serves so many stations one after another, each by the script
+from its first line on, with a line `session N` between them.
 
 With --any, for tests of emulators, it judges no terminal name and no record. It
 prints `terminal NAME` and `record flags FFFF opcode K HEX`; `send K` takes any
@@ -174,6 +191,7 @@ pub fn serve_command<'a>(alloc: Global) -> CommandParts<'a> {
         alloc,
         serve
             .word(flag(alloc, "any", ANY_HELP))
+            .made_word(sessions(alloc))
             .word(place(alloc, "ADDRESS", ADDRESS_HELP, true)),
     )
 }
@@ -204,6 +222,16 @@ fn with_script<'a>(alloc: Global, command: CommandParts<'a>) -> CommandParts<'a>
         .word(flag(alloc, "ready", READY_HELP))
         .word(record(alloc))
         .word(place(alloc, "SCRIPT", SCRIPT_HELP, false))
+}
+
+fn sessions<'a>(alloc: Global) -> Result<Arg<'a>, AllocError> {
+    Arg::new(alloc, "sessions")
+        .long("sessions")
+        .value_name("N")
+        .help("Serves N stations one after another by the script, N from 1 to 1000000")
+        .value_parser(value_parser!(u32).range(1..=1_000_000))
+        .action(ArgAction::Set)
+        .requires_arg("SCRIPT")
 }
 
 fn record<'a>(alloc: Global) -> Arg<'a> {
@@ -277,6 +305,7 @@ pub fn serve_asked<'a>(
         wait: seconds(words),
         ready: words.get_flag("ready"),
         any: words.get_flag("any"),
+        sessions: words.get_one::<u32>("sessions"),
         record: words.get_str("record"),
         script: words.get_str("SCRIPT"),
     })

@@ -1,12 +1,9 @@
 //! What a host end makes of a piece of bytes.
 ghost use Rattle.std.specs.Prelude.{◌≡◌, ◌<◌, ◌≤◌, ◌+◌, ◌^◌, ◌++◌, ◌∷◌, [], List, ℕ, None, Some, Err, length, take, IsSome, IfOk, IfErr, OnOk, OnErr};
-ghost use Rattle.ws_record.specs.declared.record.Item.{Item as AnItem};
-ghost use Rattle.ws_stream.specs.declared.answer_part.AnswerPart.{AnswerPart as APart};
 ghost use Rattle.ws_session.specs.Acts.{all_came, as_list};
 ghost use Rattle.ws_session.specs.Ends.{CountsUpTo};
 ghost use Rattle.ws_session.specs.HostFeeds.{HasHostFed, IsHostSilent, HostStaysSilent, HostStopsWithin};
-ghost use Rattle.ws_session.specs.HostLeads.{HostLeads};
-ghost use Rattle.ws_session.specs.HostSide.{HostSide};
+ghost use Rattle.ws_session.specs.HostLeads.{AtHost};
 ghost use Rattle.ws_session.specs.Manners.{HostGoes, HostRefuses};
 
 use super::{HostFront, silence};
@@ -20,14 +17,13 @@ impl HostEnd {
         ensures some { IfOk result.step (λ step. 0 < length piece.now → 0 < result.used) }
         ensures whole { IfOk result.step (λ step. step.reply ≡ [] → step.event ≡ None
             → result.used ≡ length piece.now) }
-        ensures fed { IfOk result.step (λ step.
-            (bytes : List ℕ) (items : List (AnItem APart)) (side : HostSide)
-            → HostLeads self.old bytes items side → length bytes + length piece.now < 2 ^ 64
-            → HasHostFed self.new bytes items side (take result.used piece.now) step.reply step.event) }
-        ensures first { IfOk result.step (λ step.
-            (bytes : List ℕ) (items : List (AnItem APart)) (side : HostSide)
-            → HostLeads self.old bytes items side → length bytes + length piece.now < 2 ^ 64
-            → (n : ℕ) → n < result.used → IsHostSilent bytes items side (take n piece.now)) }
+        ensures fed { IfOk result.step (λ step. AtHost self.old (λ bytes items side.
+            length bytes + length piece.now < 2 ^ 64
+            → HasHostFed self.new bytes items side (take result.used piece.now) step.reply
+            step.event)) }
+        ensures first { IfOk result.step (λ step. AtHost self.old (λ bytes items side.
+            length bytes + length piece.now < 2 ^ 64 → (n : ℕ) → n < result.used
+            → IsHostSilent bytes items side (take n piece.now))) }
         ensures refused { IfErr result.step
             (HostStopsWithin self.old self.new piece.now result.used) }
         ensures counted { IfOk result.step (λ step.

@@ -1,8 +1,6 @@
 //! What a host end sends.
-ghost use Rattle.std.specs.Prelude.{◌≡◌, ◌≢◌, ◌<◌, ◌+◌, ◌^◌, List, ℕ, Err, length, IsSome, OnErr, MatchResult};
-ghost use Rattle.ws_record.specs.declared.record.Item.{Item as AnItem};
-ghost use Rattle.ws_stream.specs.declared.answer_part.AnswerPart.{AnswerPart as APart};
-ghost use Rattle.ws_session.specs.HostLeads.{HostStands, HostLeads, IsSent, IsSendFault};
+ghost use Rattle.std.specs.Prelude.{◌≡◌, ◌≢◌, ◌<◌, ◌+◌, ◌^◌, Err, length, IsSome, OnErr, MatchResult};
+ghost use Rattle.ws_session.specs.HostLeads.{AtHost, HostStands, IsSent, IsSendFault};
 ghost use Rattle.ws_session.specs.HostSide.{HostSide, RefusesSend, host_send, host_cancel, is_outstanding};
 
 use crate::apply::CANCEL;
@@ -22,11 +20,10 @@ impl HostEnd {
     /// The first of `SendFault`'s that applies; nothing is then changed.
     pub fn send(&mut self, opcode: Opcode, body: &[Element]) -> Result<Vec<u8>, SendFault>
         requires other { opcode ≢ Opcode.CancelInvite }
-        ensures sent { (bytes : List ℕ) (items : List (AnItem APart)) (side : HostSide)
-            → HostLeads self.old bytes items side → length bytes + 1 < 2 ^ 64
-            → MatchResult result
-            (λ sent. IsSent self.new bytes items (host_send side opcode body.now) sent.items)
-            (IsSendFault (host_send side opcode body.now)) }
+        ensures sent { AtHost self.old (λ bytes items side. length bytes + 1 < 2 ^ 64
+            → MatchResult result (λ sent.
+            IsSent self.new bytes items (host_send side opcode body.now) sent.items) (IsSendFault
+            (host_send side opcode body.now))) }
         ensures same { OnErr result (self.new ≡ self.old) }
         ensures full { self.old.receiver.live.taken + 1 ≡ 2 ^ 64
             → result ≡ Err SendFault.Failed }
@@ -74,11 +71,10 @@ impl HostEnd {
     ///
     /// `Failed`, `NotAllowed`, or `NoReadToCancel`; nothing is then changed.
     pub fn cancel(&mut self) -> Result<ArrayVec<u8, 12>, SendFault>
-        ensures sent { (bytes : List ℕ) (items : List (AnItem APart)) (side : HostSide)
-            → HostLeads self.old bytes items side → length bytes + 1 < 2 ^ 64
-            → MatchResult result
-            (λ sent. IsSent self.new bytes items (host_cancel side) sent.items)
-            (λ fault. host_cancel side ≡ RefusesSend fault) }
+        ensures sent { AtHost self.old (λ bytes items side. length bytes + 1 < 2 ^ 64
+            → MatchResult result (λ sent.
+            IsSent self.new bytes items (host_cancel side) sent.items) (λ fault.
+            host_cancel side ≡ RefusesSend fault)) }
         ensures same { OnErr result (self.new ≡ self.old) }
         ensures full { self.old.receiver.live.taken + 1 ≡ 2 ^ 64
             → result ≡ Err SendFault.Failed }

@@ -1,12 +1,10 @@
 //! What a station makes of a piece of bytes.
-ghost use Rattle.std.specs.Prelude.{◌≡◌, ◌<◌, ◌≤◌, ◌+◌, ◌^◌, ◌++◌, ◌∷◌, [], List, ℕ, None, Some, Err, false, length, take, IsSome, IfOk, IfErr, OnOk, OnErr};
-ghost use Rattle.ws_record.specs.declared.record.Item.{Item};
-ghost use Rattle.ws_session.specs.Displays.{SideOn};
+ghost use Rattle.std.specs.Prelude.{◌≡◌, ◌<◌, ◌≤◌, ◌+◌, ◌^◌, ◌++◌, ◌∷◌, [], List, ℕ, Some, Err, false, length, take, IsSome, IfOk, IfErr, OnOk, OnErr};
 ghost use Rattle.ws_session.specs.Ends.{CountsUpTo};
 ghost use Rattle.ws_session.specs.StationActs.{GoesOnDisplay, HasFedOn, IsSilentOn, RefusesOn, StaysSilentOn};
 ghost use Rattle.ws_session.specs.StationManners.{told_by};
 ghost use Rattle.ws_session.specs.StationNews.{StopsWithinOn};
-ghost use Rattle.ws_session.specs.Stations.{LeadsOn};
+ghost use Rattle.ws_session.specs.Stations.{AtStationOn};
 ghost use Rattle.ws_session.specs.Acts.{all_came, as_list};
 
 use super::{StationStep, silence};
@@ -22,17 +20,14 @@ impl<D: StationDisplay> StationOn<D> {
         ensures whole { IfOk result.step (λ step. D.does.written self.new.screen step.reply ≡ []
             → step.ends_record ≡ false → result.used ≡ length piece.now) }
         ensures fed { IfOk result.step (λ step.
-            (bytes : List ℕ) (items : List (Item D.Commands.Unit)) (side : SideOn D.Happened)
-            → LeadsOn D.Commands.rules D.does self.old bytes items side
-            → length bytes + length piece.now < 2 ^ 64
-            → HasFedOn D.Commands.rules D.does self.new bytes items side (take result.used piece.now)
-            (D.does.written self.new.screen step.reply) step.ends_record) }
+            AtStationOn D.Commands.rules D.does self.old (λ bytes items side.
+            length bytes + length piece.now < 2 ^ 64
+            → HasFedOn D.Commands.rules D.does self.new bytes items side (take result.used
+            piece.now) (D.does.written self.new.screen step.reply) step.ends_record)) }
         ensures first { IfOk result.step (λ step.
-            (bytes : List ℕ) (items : List (Item D.Commands.Unit)) (side : SideOn D.Happened)
-            → LeadsOn D.Commands.rules D.does self.old bytes items side
-            → length bytes + length piece.now < 2 ^ 64
-            → (n : ℕ) → n < result.used
-            → IsSilentOn D.Commands.rules D.does bytes items side (take n piece.now)) }
+            AtStationOn D.Commands.rules D.does self.old (λ bytes items side.
+            length bytes + length piece.now < 2 ^ 64 → (n : ℕ) → n < result.used
+            → IsSilentOn D.Commands.rules D.does bytes items side (take n piece.now))) }
         ensures refused { IfErr result.step
             (StopsWithinOn D.Commands.rules D.does self.old self.new piece.now result.used) }
         ensures counted { IfOk result.step (λ step. self.old.live.taken + result.used < 2 ^ 64

@@ -3,7 +3,7 @@ ghost use Rattle.std.specs.Prelude.{◌≡◌, List, ℕ, length};
 ghost use Rattle.ws_nego.specs.Station.{station_allows_records};
 ghost use Rattle.ws_record.specs.declared.record.Item.{Item};
 ghost use Rattle.ws_session.specs.Alarms.{alarm_count};
-ghost use Rattle.ws_session.specs.Stations.{LeadsOn, HasStoppedOn};
+ghost use Rattle.ws_session.specs.Stations.{AtStationOn, HasStoppedOn};
 ghost use Rattle.ws_session.specs.StationCounts.{records_in};
 ghost use Rattle.ws_session.specs.Ends.{refused_byte};
 ghost use Rattle.ws_session.specs.Displays.{SideOn};
@@ -37,10 +37,8 @@ impl<D: StationDisplay> StationOn<D> {
     /// How many records it has applied to its screen.
     pub fn records(&self) -> u64
         ensures count { result ≡ self.now.records }
-        ensures applied { (bytes : List ℕ) (items : List (Item D.Commands.Unit))
-            (side : SideOn D.Happened)
-            → LeadsOn D.Commands.rules D.does self.now bytes items side
-            → result ≡ records_in items }
+        ensures applied { AtStationOn D.Commands.rules D.does self.now (λ bytes items side.
+            result ≡ records_in items) }
     {
         self.records
     }
@@ -50,10 +48,8 @@ impl<D: StationDisplay> StationOn<D> {
     /// station's whole life, and stops at 18,446,744,073,709,551,615.
     pub fn alarms(&self) -> u64
         ensures count { result ≡ D.does.sounded self.now.screen }
-        ensures sounded { (bytes : List ℕ) (items : List (Item D.Commands.Unit))
-            (side : SideOn D.Happened)
-            → LeadsOn D.Commands.rules D.does self.now bytes items side
-            → result ≡ alarm_count (D.does.sounds side.happened) }
+        ensures sounded { AtStationOn D.Commands.rules D.does self.now (λ bytes items side.
+            result ≡ alarm_count (D.does.sounds side.happened)) }
         // So too behind a byte that it refused.
         ensures stopped { (taken : ℕ) (items : List (Item D.Commands.Unit))
             (side : SideOn D.Happened)
@@ -66,10 +62,8 @@ impl<D: StationDisplay> StationOn<D> {
     /// How many bytes it has taken, one that it refused among them.
     pub fn taken(&self) -> u64
         ensures count { result ≡ self.now.live.taken }
-        ensures led { (bytes : List ℕ) (items : List (Item D.Commands.Unit))
-            (side : SideOn D.Happened)
-            → LeadsOn D.Commands.rules D.does self.now bytes items side
-            → result ≡ length bytes }
+        ensures led { AtStationOn D.Commands.rules D.does self.now (λ bytes items side.
+            result ≡ length bytes) }
     {
         self.live.taken()
     }

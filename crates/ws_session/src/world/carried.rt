@@ -1,13 +1,13 @@
 //! A session whose bytes go over a connection.
-ghost use Rattle.std.specs.Prelude.{◌≡◌, ◌<◌, ◌^◌, ◌≤◌, ◌+◌, ◌⊎◌, ◌∷◌, [], List as Seq, length, take, vec_len, IfOk, IfErr, OnOk};
+ghost use Rattle.std.specs.Prelude.{◌≡◌, ◌≤◌, ◌+◌, ◌∷◌, [], List as Seq, length, take, IfOk, IfErr, OnOk};
 ghost use Rattle.ws_nego.specs.declared.terminal.TerminalType.{TerminalType as ATerminal};
 ghost use Rattle.ws_session.specs.BrokenOff.{IsCut, CutsDown, CutsUp, BreaksOff, HasEndedEarly};
+ghost use Rattle.ws_session.specs.Carried.{HasRunOver};
 ghost use Rattle.ws_session.specs.Crossings.{Crossing, AreFaithful, HaveCrossed, IsEnded, AreEnded};
-ghost use Rattle.ws_session.specs.Reports.{IsReport};
 ghost use Rattle.ws_session.specs.Runs.{Runs};
-ghost use Rattle.ws_session.specs.TwoLines.{ends_of, all_read, HasMoved, HasRun, StationIsLed, HostIsLed, ComesDown, ComesUp};
+ghost use Rattle.ws_session.specs.TwoLines.{ends_of, HasMoved, ComesDown, ComesUp};
 ghost use Rattle.ws_session.specs.World as spec;
-ghost use Rattle.ws_session.specs.World.{World as AWorld, new_world, after_move, after_moves};
+ghost use Rattle.ws_session.specs.World.{World as AWorld, after_move};
 
 use super::{Move, Report, World};
 use crate::{Line, carry};
@@ -34,23 +34,10 @@ impl World {
         down: &mut Line<S, R>,
         up: &mut Line<T, Q>,
     ) -> Result<Report, Fault>
-        // Pieces crossed the lines. What came out of a line is what arrived at its end, whatever was written: each
-        // move did what the definition of a session over two lines says, and these bytes lead to the end, or it has
-        // refused one. Where what was read is what was written, the session is that of `run`.
-        ensures done { IfOk result (λ r. (downs ups : Seq Crossing)
-            × HaveCrossed S.takes S.failures R.gives R.failures down.old downs down.new
-            × HaveCrossed T.takes T.failures Q.gives Q.failures up.old ups up.new
-            × HasRun terminal moves.now downs ups (record {
-              station = r.station;
-              host = r.host;
-              to_station = r.to_station;
-              to_host = r.to_host;
-              events = r.events;
-            })
-            × (length (all_read downs) + 1 < 2 ^ 64 → StationIsLed r.station (all_read downs))
-            × (length (all_read ups) + 1 < 2 ^ 64 → HostIsLed r.host (all_read ups))
-            × (AreFaithful downs → AreFaithful ups → IsReport r.events r.station r.host
-            r.to_station r.to_host (after_moves (new_world terminal) moves.now))) }
+        // What came out of a line is what arrived at its end, whatever was written.
+        ensures done { IfOk result (HasRunOver terminal moves.now
+            (λ downs. HaveCrossed S.takes S.failures R.gives R.failures down.old downs down.new)
+            (λ ups. HaveCrossed T.takes T.failures Q.gives Q.failures up.old ups up.new)) }
         ensures fault { IfErr result (AreEnded S.takes S.failures R.gives R.failures
             T.takes T.failures Q.gives Q.failures down.old down.new up.old up.new) }
         // What went into the lines before it is what the session of a front of the moves writes.

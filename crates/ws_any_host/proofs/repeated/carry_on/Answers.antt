@@ -1,10 +1,8 @@
-use Rattle.std.proofs.Common.{◌≡◌, [], true, false, refl, sym, ap, ◌∙◌, arith}
-use Rattle.std.specs.Prelude.{not}
+use Rattle.std.proofs.Common.{◌≡◌, [], true, false, refl, sym, ◌∙◌, arith}
 use Rattle.ws_code.specs.Device.{most_reads}
 use Rattle.ws_code.proofs.DeviceLaws.{went_out_none}
 use Rattle.ws_live.specs.ServeText.{is_told}
 use Rattle.ws_live.specs.Waits.{InTime}
-use Rattle.ws_live.specs.declared.live.Ran.{Ran}
 use Rattle.ws_live.specs.declared.paint.Paint.TheVariants.{Plain}
 use Rattle.ws_any_host.proofs.CarryOns.{one_told, none_told, once_fails, too_much_told, told_goes}
 use Rattle.ws_any_host.proofs.repeated.carry_on.Goals as goal
@@ -22,37 +20,42 @@ pub returns-then-not-is_told-clause-carried : goal.returns-then-not-is_told-clau
 returns-then-not-is_told-clause-carried g c =
     let so_far = c.loop.invariant in
     let untold : is_told c.in-Ok.closing ≡ false = sym c.is_told.ensures ∙ c.if-not-is_told.true in
-    none_told (InTime (g.L.LiveMove.runs g.W.Watch.tells Plain) g.L.LiveMove.waits g.W.Watch.begins g.W.Watch.begun)
-    c.args.line.now g.O.Sink.takes g.O.Sink.failures (c.args.attached.now, c.args.watch.now)
-    (c.loop.attached, c.loop.watch) (c.carry_once.new.attached, c.carry_once.new.watch) c.args.out.now.sink
-    c.loop.out.sink c.carry_once.new.out.sink c.loop.counter so_far.0 so_far.1 so_far.2 c.in-Ok.closing
-    (not c.ran.result.is_over) c.in-Ok.ensures.carried untold (ap (λ (r : Ran). not r.is_over) c.ran.ensures)
+    let runs = InTime (g.L.LiveMove.runs g.W.Watch.tells g.W.Watch.rests Plain) g.L.LiveMove.waits g.W.Watch.begins
+    g.W.Watch.begun in
+    none_told runs c.args.line.now g.O.Sink.takes g.O.Sink.failures
+    ((c.args.attached.now, c.args.ahead.now), c.args.watch.now) ((c.loop.attached, c.loop.ahead), c.loop.watch)
+    ((c.carry_once.new.attached, c.carry_once.new.ahead), c.carry_once.new.watch) c.args.out.now.sink c.loop.out.sink
+    c.carry_once.new.out.sink c.loop.counter so_far.0 so_far.1 so_far.2 c.in-Ok.closing c.goes_well.result
+    c.in-Ok.ensures.carried untold c.goes_well.ensures
 
 pub returns-in-Err-clause-fault : goal.returns-in-Err-clause-fault
 returns-in-Err-clause-fault g c =
     let so_far = c.loop.invariant in
-    once_fails (InTime (g.L.LiveMove.runs g.W.Watch.tells Plain) g.L.LiveMove.waits g.W.Watch.begins g.W.Watch.begun)
-    c.args.line.now g.O.Sink.takes g.O.Sink.failures (c.args.attached.now, c.args.watch.now)
-    (c.loop.attached, c.loop.watch) (c.carry_once.new.attached, c.carry_once.new.watch) c.args.out.now.sink
-    c.loop.out.sink c.carry_once.new.out.sink c.loop.counter so_far.0 so_far.1 so_far.2 c.in-Err.fault
-    c.in-Err.ensures.fault
+    let runs = InTime (g.L.LiveMove.runs g.W.Watch.tells g.W.Watch.rests Plain) g.L.LiveMove.waits g.W.Watch.begins
+    g.W.Watch.begun in
+    once_fails runs c.args.line.now g.O.Sink.takes g.O.Sink.failures
+    ((c.args.attached.now, c.args.ahead.now), c.args.watch.now) ((c.loop.attached, c.loop.ahead), c.loop.watch)
+    ((c.carry_once.new.attached, c.carry_once.new.ahead), c.carry_once.new.watch) c.args.out.now.sink c.loop.out.sink
+    c.carry_once.new.out.sink c.loop.counter so_far.0 so_far.1 so_far.2 c.in-Err.fault c.in-Err.ensures.fault
 
 pub loop-preserved : goal.loop-preserved
 loop-preserved g c =
     let so_far = c.loop.invariant in
     let told : is_told c.in-Ok.closing ≡ true = sym c.is_told.ensures ∙ c.if-not-is_told.false in
-    let more = one_told
-    (InTime (g.L.LiveMove.runs g.W.Watch.tells Plain) g.L.LiveMove.waits g.W.Watch.begins g.W.Watch.begun)
-    c.args.line.now g.O.Sink.takes g.O.Sink.failures (c.args.attached.now, c.args.watch.now)
-    (c.loop.attached, c.loop.watch) (c.carry_once.new.attached, c.carry_once.new.watch) c.args.out.now.sink
-    c.loop.out.sink c.carry_once.new.out.sink c.loop.counter so_far.0 so_far.1 so_far.2 c.in-Ok.closing
-    c.in-Ok.ensures.carried told in
+    let runs = InTime (g.L.LiveMove.runs g.W.Watch.tells g.W.Watch.rests Plain) g.L.LiveMove.waits g.W.Watch.begins
+    g.W.Watch.begun in
+    let more = one_told runs c.args.line.now g.O.Sink.takes g.O.Sink.failures
+    ((c.args.attached.now, c.args.ahead.now), c.args.watch.now) ((c.loop.attached, c.loop.ahead), c.loop.watch)
+    ((c.carry_once.new.attached, c.carry_once.new.ahead), c.carry_once.new.watch) c.args.out.now.sink c.loop.out.sink
+    c.carry_once.new.out.sink c.loop.counter so_far.0 so_far.1 so_far.2 c.in-Ok.closing c.in-Ok.ensures.carried told in
     (more.0, more.1, more.2, c.in-Ok.ensures.works (told_goes c.in-Ok.closing told), c.carry_once.ensures.held)
 
 pub returns-clause-fault : goal.returns-clause-fault
 returns-clause-fault g c =
     let so_far = c.loop.invariant in
     let all : c.loop.counter ≡ most_reads = omega (arith, c.loop-test.false, c.loop.auto.counter-end) in
-    too_much_told (InTime (g.L.LiveMove.runs g.W.Watch.tells Plain) g.L.LiveMove.waits g.W.Watch.begins
-    g.W.Watch.begun) c.args.line.now g.O.Sink.takes g.O.Sink.failures (c.args.attached.now, c.args.watch.now)
-    (c.loop.attached, c.loop.watch) c.args.out.now.sink c.loop.out.sink so_far.0 c.loop.counter so_far.1 so_far.2 all
+    let runs = InTime (g.L.LiveMove.runs g.W.Watch.tells g.W.Watch.rests Plain) g.L.LiveMove.waits g.W.Watch.begins
+    g.W.Watch.begun in
+    too_much_told runs c.args.line.now g.O.Sink.takes g.O.Sink.failures
+    ((c.args.attached.now, c.args.ahead.now), c.args.watch.now) ((c.loop.attached, c.loop.ahead), c.loop.watch)
+    c.args.out.now.sink c.loop.out.sink so_far.0 c.loop.counter so_far.1 so_far.2 all

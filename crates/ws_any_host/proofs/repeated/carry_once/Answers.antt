@@ -13,8 +13,9 @@ returns-in-Open-clause-carried g c =
     let e = c.carry_out-carried.ensures.runs in (
       e.0,
       (
-        subst (λ (o : Result Closing Fault). g.L.LiveMove.runs g.W.Watch.tells Plain c.args.line.now
-            c.args.attached.now o e.0 c.carry_out-carried.new.attached) c.in-Ok.is e.1,
+        subst (λ (o : Result Closing Fault). g.L.LiveMove.runs g.W.Watch.tells g.W.Watch.rests Plain c.args.line.now
+            (c.args.attached.now, c.args.ahead.now) o e.0
+            (c.carry_out-carried.new.attached, c.carry_out-carried.new.ahead)) c.in-Ok.is e.1,
         c.carry_out-carried.ensures.begun,
       ),
       subst (λ (o : Output). IsOut g.O.Sink.takes g.O.Sink.failures c.args.out.now.sink c.hand_on-output.new.out.sink o
@@ -31,8 +32,9 @@ returns-in-Failed-clause-fault g c =
         c.in-Ok.closing,
         e.0,
         (
-          subst (λ (o : Result Closing Fault). g.L.LiveMove.runs g.W.Watch.tells Plain c.args.line.now
-              c.args.attached.now o e.0 c.carry_out-carried.new.attached) c.in-Ok.is e.1,
+          subst (λ (o : Result Closing Fault). g.L.LiveMove.runs g.W.Watch.tells g.W.Watch.rests Plain c.args.line.now
+              (c.args.attached.now, c.args.ahead.now) o e.0
+              (c.carry_out-carried.new.attached, c.carry_out-carried.new.ahead)) c.in-Ok.is e.1,
           c.carry_out-carried.ensures.begun,
         ),
         subst (λ (o : Output). IsOut g.O.Sink.takes g.O.Sink.failures c.args.out.now.sink c.hand_on-output.new.out.sink
@@ -48,8 +50,9 @@ returns-in-Err-clause-fault g c =
       e.0,
       c.hand_on-output.result,
       (
-        subst (λ (o : Result Closing Fault). g.L.LiveMove.runs g.W.Watch.tells Plain c.args.line.now
-            c.args.attached.now o e.0 c.carry_out-carried.new.attached) c.in-Err.is e.1,
+        subst (λ (o : Result Closing Fault). g.L.LiveMove.runs g.W.Watch.tells g.W.Watch.rests Plain c.args.line.now
+            (c.args.attached.now, c.args.ahead.now) o e.0
+            (c.carry_out-carried.new.attached, c.carry_out-carried.new.ahead)) c.in-Err.is e.1,
         c.carry_out-carried.ensures.begun,
       ),
       c.hand_on-output.ensures.out c.args.out.now e.0 c.requires.empty (whole_out e.2),

@@ -1,15 +1,17 @@
-use Rattle.std.proofs.Common.{ℕ, List, ap, subst, sym}
-use Rattle.std.proofs.lemmas.Bool.{false≢true}
-use Rattle.std.specs.Prelude.{is_err}
-use Rattle.ws_session.specs.HostLeads.{IsSent}
-use Rattle.ws_session.specs.HostSide.{host_cancel}
 use Rattle.ws_c.proofs.host_send.cancel_read.Goals as goal
 
 pub returns-in-Ok : goal.returns-in-Ok
-returns-in-Ok c = record {
-  sent = λ bytes items side leads few. subst (λ (z : List ℕ). IsSent c.cancel.new.self bytes items (host_cancel side) z)
-      (sym c.of.ensures) (c.in-Ok.ensures.sent bytes items side leads few);
+returns-in-Ok c = rw c.of.ensures (record {
+  sent = λ bytes items side led few. c.in-Ok.ensures.sent bytes items side led few;
   same = tt;
-  full = λ f. absurd (false≢true (ap is_err (c.in-Ok.ensures.full f)));
-  failed = λ f. absurd (false≢true (ap is_err (c.in-Ok.ensures.failed f)));
+  full = λ e. (let f : _ = c.in-Ok.ensures.full e in cc);
+  failed = λ e. (let f : _ = c.in-Ok.ensures.failed e in cc);
+})
+
+pub returns-in-Err : goal.returns-in-Err
+returns-in-Err c = record {
+  sent = λ bytes items side led few. c.in-Err.ensures.sent bytes items side led few;
+  same = c.in-Err.ensures.same;
+  full = λ e. (let f : _ = c.in-Err.ensures.full e in cc);
+  failed = λ e. (let f : _ = c.in-Err.ensures.failed e in cc);
 }

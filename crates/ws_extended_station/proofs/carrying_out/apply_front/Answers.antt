@@ -25,12 +25,12 @@ pub apply_profile-requires : goal.apply_profile-requires
 apply_profile-requires c =
     let now = c.loop-element in
     finds_write (Profile c.in-Some.element) (InProfile now.reader) now.display.screen
-    (c.read-behind.ensures.some c.in-Some.element c.in-Some.is).0.may_follow now.invariant.open_
+    (c.read_element-behind.ensures.some c.in-Some.element c.in-Some.is).0.may_follow now.invariant.open_
 
 pub loop-element-preserved : goal.loop-element-preserved
 loop-element-preserved c =
     let now = c.loop-element in
-    let read = c.read-behind in
+    let read = c.read_element-behind in
     let e = c.in-Some.element in
     let one = read.ensures.some e c.in-Some.is in
     let behind : read.new.self ≡ element_rules.after e = one.3 in
@@ -49,7 +49,7 @@ pub returns-in_err-apply_profile-clause-refused : goal.returns-in_err-apply_prof
 returns-in_err-apply_profile-clause-refused c =
     let p = err_from_is_err_and c.from_residual.result c.from_residual.ensures.1 in
     let now = c.loop-element in
-    let read = c.read-behind in
+    let read = c.read_element-behind in
     let e = c.in-Some.element in
     let one = read.ensures.some e c.in-Some.is in
     rw (p.1, p.2) (λ state body chain same shows.
@@ -60,12 +60,12 @@ returns-in_err-apply_profile-clause-refused c =
 
 pub returns-in_default-clause-open_ : goal.returns-in_default-clause-open_
 returns-in_default-clause-open_ c =
-    let same = c.place-place.ensures ∙ c.read-behind.ensures.stays (empty _ c.in_default.not-Some) in
+    let same = c.place-place.ensures ∙ c.read_element-behind.ensures.stays (empty _ c.in_default.not-Some) in
     c.loop-element.invariant.open_ ∙ ap allows_orders (sym same)
 
 pub returns-in_default-clause-carried : goal.returns-in_default-clause-carried
 returns-in_default-clause-carried c = λ state body chain same shows.
     let now = c.loop-element in
-    let at = c.place-place.ensures ∙ c.read-behind.ensures.stays (empty _ c.in_default.not-Some) in
+    let at = c.place-place.ensures ∙ c.read_element-behind.ensures.stays (empty _ c.in_default.not-Some) in
     subst (λ (p : Place). IsUnderWay state body now.display now.heard now.left.now (InProfile p)) (sym at)
     (now.invariant.way state body chain same shows)

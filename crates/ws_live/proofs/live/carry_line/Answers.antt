@@ -14,8 +14,9 @@ returns-in-Open-clause-done g c =
     let text : List ℕ = e.0 ++ closing_text c.args.ready c.in-Ok.closing in (
       e.0,
       (
-        subst (λ (o : Result Closing Fault). g.L.LiveMove.runs g.W.Watch.tells c.args.paint c.args.line.now
-            c.args.attached.now o e.0 c.carry_out-carried.new.attached) c.in-Ok.is e.1,
+        subst (λ (o : Result Closing Fault). g.L.LiveMove.runs g.W.Watch.tells g.W.Watch.rests c.args.paint c.args.line.now
+            (c.args.attached.now, c.args.ahead.now) o e.0
+            (c.carry_out-carried.new.attached, c.carry_out-carried.new.ahead)) c.in-Ok.is e.1,
         c.carry_out-carried.ensures.begun,
       ),
       subst (λ (o : Output). IsOut g.O.Sink.takes g.O.Sink.failures c.args.out.now.sink c.hand_on.new.out.sink o text)
@@ -34,8 +35,9 @@ returns-in-Failed-clause-fault g c =
         c.in-Ok.closing,
         e.0,
         (
-          subst (λ (o : Result Closing Fault). g.L.LiveMove.runs g.W.Watch.tells c.args.paint c.args.line.now
-              c.args.attached.now o e.0 c.carry_out-carried.new.attached) c.in-Ok.is e.1,
+          subst (λ (o : Result Closing Fault). g.L.LiveMove.runs g.W.Watch.tells g.W.Watch.rests c.args.paint c.args.line.now
+              (c.args.attached.now, c.args.ahead.now) o e.0
+              (c.carry_out-carried.new.attached, c.carry_out-carried.new.ahead)) c.in-Ok.is e.1,
           c.carry_out-carried.ensures.begun,
         ),
         subst (λ (o : Output). IsOut g.O.Sink.takes g.O.Sink.failures c.args.out.now.sink c.hand_on.new.out.sink o
@@ -52,8 +54,9 @@ returns-in-Err-clause-fault g c =
       e.0,
       c.hand_on-in-Err.result,
       (
-        subst (λ (o : Result Closing Fault). g.L.LiveMove.runs g.W.Watch.tells c.args.paint c.args.line.now
-            c.args.attached.now o e.0 c.carry_out-carried.new.attached) c.in-Err.is e.1,
+        subst (λ (o : Result Closing Fault). g.L.LiveMove.runs g.W.Watch.tells g.W.Watch.rests c.args.paint c.args.line.now
+            (c.args.attached.now, c.args.ahead.now) o e.0
+            (c.carry_out-carried.new.attached, c.carry_out-carried.new.ahead)) c.in-Err.is e.1,
         c.carry_out-carried.ensures.begun,
       ),
       c.hand_on-in-Err.ensures.out c.args.out.now e.0 c.requires.empty (whole_out e.2),

@@ -22,9 +22,9 @@ returns-in-Err-clause-fault g c =
     let lines = c.args.lines.now in
     let i = c.loop-line.line-index in
     let line = c.line-item.result in
-    breaks (InTime (g.L.LiveMove.runs g.W.Watch.tells c.args.paint) g.L.LiveMove.waits g.W.Watch.begins g.W.Watch.begun)
+    breaks (InTime (g.L.LiveMove.runs g.W.Watch.tells g.W.Watch.rests c.args.paint) g.L.LiveMove.waits g.W.Watch.begins g.W.Watch.begun)
     c.args.ready g.O.Sink.takes
-    g.O.Sink.failures (c.args.attached.now, c.args.watch.now) (c.loop-line.attached, c.loop-line.watch) (c.carry_line.new.attached, c.carry_line.new.watch) c.args.out.now.sink
+    g.O.Sink.failures ((c.args.attached.now, c.args.ahead.now), c.args.watch.now) ((c.loop-line.attached, c.loop-line.ahead), c.loop-line.watch) ((c.carry_line.new.attached, c.carry_line.new.ahead), c.carry_line.new.watch) c.args.out.now.sink
     c.loop-line.out.sink c.carry_line.new.out.sink
     (take i lines) line c.loop-line.ran so_far.0 so_far.1 so_far.2 (drop (i + 1) lines) lines
     (split_here lines i line c.loop-line-test.true c.line-item.is) c.in-Err.fault c.in-Err.ensures.fault
@@ -35,13 +35,13 @@ returns-then-ran-clause-ran g c =
     let lines = c.args.lines.now in
     let i = c.loop-line.line-index in
     let line = c.line-item.result in
-    let runs = InTime (g.L.LiveMove.runs g.W.Watch.tells c.args.paint) g.L.LiveMove.waits g.W.Watch.begins g.W.Watch.begun in
+    let runs = InTime (g.L.LiveMove.runs g.W.Watch.tells g.W.Watch.rests c.args.paint) g.L.LiveMove.waits g.W.Watch.begins g.W.Watch.begun in
     let same : c.and-ran.result ≡ ran_and c.loop-line.ran (ran_by c.in-Ok.closing) = c.and-ran.ensures
     ∙ ap (λ (r : Ran). ran_and c.loop-line.ran r) c.ran.ensures in
-    subst (HasRun runs c.args.ready g.O.Sink.takes g.O.Sink.failures (c.args.attached.now, c.args.watch.now) (c.carry_line.new.attached, c.carry_line.new.watch)
+    subst (HasRun runs c.args.ready g.O.Sink.takes g.O.Sink.failures ((c.args.attached.now, c.args.ahead.now), c.args.watch.now) ((c.carry_line.new.attached, c.carry_line.new.ahead), c.carry_line.new.watch)
     c.args.out.now.sink c.carry_line.new.out.sink lines) (sym same)
-    (ends_here runs c.args.ready g.O.Sink.takes g.O.Sink.failures (c.args.attached.now, c.args.watch.now) (c.loop-line.attached, c.loop-line.watch)
-    (c.carry_line.new.attached, c.carry_line.new.watch) c.args.out.now.sink c.loop-line.out.sink c.carry_line.new.out.sink
+    (ends_here runs c.args.ready g.O.Sink.takes g.O.Sink.failures ((c.args.attached.now, c.args.ahead.now), c.args.watch.now) ((c.loop-line.attached, c.loop-line.ahead), c.loop-line.watch)
+    ((c.carry_line.new.attached, c.carry_line.new.ahead), c.carry_line.new.watch) c.args.out.now.sink c.loop-line.out.sink c.carry_line.new.out.sink
     (take i lines) line c.loop-line.ran so_far.0 so_far.1 so_far.2 (drop (i + 1) lines) lines
     (split_here lines i line c.loop-line-test.true c.line-item.is) c.in-Ok.closing c.in-Ok.ensures.done
     (ap (λ (r : Ran). r.is_over) (sym same) ∙ c.if-ran.true))
@@ -52,20 +52,20 @@ loop-line-preserved g c =
     let lines = c.args.lines.now in
     let i = c.loop-line.line-index in
     let line = c.line-item.result in
-    let runs = InTime (g.L.LiveMove.runs g.W.Watch.tells c.args.paint) g.L.LiveMove.waits g.W.Watch.begins g.W.Watch.begun in
+    let runs = InTime (g.L.LiveMove.runs g.W.Watch.tells g.W.Watch.rests c.args.paint) g.L.LiveMove.waits g.W.Watch.begins g.W.Watch.begun in
     let same : c.and-ran.result ≡ ran_and c.loop-line.ran (ran_by c.in-Ok.closing) = c.and-ran.ensures
     ∙ ap (λ (r : Ran). ran_and c.loop-line.ran r) c.ran.ensures in
     let going = ap (λ (r : Ran). r.is_over) (sym same) ∙ c.if-ran.false in
-    let more = goes_on runs c.args.ready g.O.Sink.takes g.O.Sink.failures (c.args.attached.now, c.args.watch.now) (c.loop-line.attached, c.loop-line.watch)
-    (c.carry_line.new.attached, c.carry_line.new.watch) c.args.out.now.sink c.loop-line.out.sink c.carry_line.new.out.sink
+    let more = goes_on runs c.args.ready g.O.Sink.takes g.O.Sink.failures ((c.args.attached.now, c.args.ahead.now), c.args.watch.now) ((c.loop-line.attached, c.loop-line.ahead), c.loop-line.watch)
+    ((c.carry_line.new.attached, c.carry_line.new.ahead), c.carry_line.new.watch) c.args.out.now.sink c.loop-line.out.sink c.carry_line.new.out.sink
     (take i lines) line c.loop-line.ran so_far.0 so_far.1 so_far.2 c.in-Ok.closing c.in-Ok.ensures.done going in
     let well = ap (λ (r : Ran). r.all_well) (sym same) in
     let next = taken_here lines i line c.loop-line-test.true c.line-item.is in (
       more.0,
-      subst (λ (b : Bool). HaveRun runs c.args.ready (c.args.attached.now, c.args.watch.now)
-          (take (i + 1) lines) b more.0 (c.carry_line.new.attached, c.carry_line.new.watch)) well
-          (subst (λ (z : List g.row.L.Denot). HaveRun runs c.args.ready (c.args.attached.now, c.args.watch.now) z
-          (ran_and c.loop-line.ran (ran_by c.in-Ok.closing)).all_well more.0 (c.carry_line.new.attached, c.carry_line.new.watch)) next
+      subst (λ (b : Bool). HaveRun runs c.args.ready ((c.args.attached.now, c.args.ahead.now), c.args.watch.now)
+          (take (i + 1) lines) b more.0 ((c.carry_line.new.attached, c.carry_line.new.ahead), c.carry_line.new.watch)) well
+          (subst (λ (z : List g.row.L.Denot). HaveRun runs c.args.ready ((c.args.attached.now, c.args.ahead.now), c.args.watch.now) z
+          (ran_and c.loop-line.ran (ran_by c.in-Ok.closing)).all_well more.0 ((c.carry_line.new.attached, c.carry_line.new.ahead), c.carry_line.new.watch)) next
           more.1),
       more.2,
       c.if-ran.false,

@@ -1,14 +1,9 @@
-use Rattle.std.proofs.Common.{ap, [], ◌∷◌}
+use Rattle.std.proofs.Common.{ap}
 use Rattle.std.specs.List.{flat_map}
-use Rattle.hex.specs.Hex.{encode_upper}
 use Rattle.ws_live.specs.PlayLines.{read_field_text}
 use Rattle.ws_text.proofs.Prints.{prints_both, prints_same}
 use Rattle.ws_live.proofs.play.put_answer.Goals as goal
 
 pub returns : goal.returns
-returns g c =
-    let cursor = prints_both c.put_text-output.ensures c.put_cell-output.ensures in
-    let aid = prints_both (prints_both cursor c.put_text-output-2.ensures)
-    (prints_same (ap (λ n. encode_upper (n ∷ [])) c.byte.ensures.value) c.put_hex-output.ensures) in
-    prints_both (prints_both aid c.put_text-output-3.ensures)
+returns g c = prints_both c.put_answer_line-output.ensures
     (prints_same (ap (flat_map read_field_text) c.as_slice.ensures) c.put_fields.ensures)

@@ -2,8 +2,9 @@ use Rattle.std.proofs.Common.{inl, inr, refl, subst}
 use Rattle.std.specs.Prelude.{Result}
 use Rattle.ws_code.specs.declared.fault.Fault.{Fault}
 use Rattle.ws_text.specs.Printing.{IsOut}
-use Rattle.ws_live.specs.ServeText.{HearsOne}
+use Rattle.ws_live.specs.ServeText.{HostRuns}
 use Rattle.ws_live.specs.declared.live.Closing.{Closing}
+use Rattle.ws_live.specs.declared.serve_line.HostLine.TheVariants.{Await}
 use Rattle.ws_text.specs.declared.output.Output.{Output}
 use Rattle.ws_text.proofs.Prints.{whole_out}
 use Rattle.ws_live.proofs.serve.answer_once.Goals as goal
@@ -13,9 +14,9 @@ returns-in-Open-clause-answered g c =
     let e = c.carry_out-carried.ensures.runs in (
       e.0,
       (
-        subst (λ (o : Result Closing Fault). HearsOne g.K.Sink.takes g.K.Sink.failures g.S.Source.gives
-            g.S.Source.failures g.W.Watch.tells c.args.attached.now o e.0
-            c.carry_out-carried.new.attached) c.in-Ok.is e.1,
+        subst (λ (o : Result Closing Fault). HostRuns g.K.Sink.takes g.K.Sink.failures g.S.Source.gives
+            g.S.Source.failures g.W.Watch.tells Await (c.args.attached.now, c.args.ahead.now) o e.0
+            (c.carry_out-carried.new.attached, c.carry_out-carried.new._ahead)) c.in-Ok.is e.1,
         c.carry_out-carried.ensures.begun,
       ),
       subst (λ (o : Output). IsOut g.O.Sink.takes g.O.Sink.failures c.args.out.now.sink c.hand_on-output.new.out.sink o
@@ -32,9 +33,9 @@ returns-in-Failed-clause-fault g c =
         c.in-Ok.closing,
         e.0,
         (
-          subst (λ (o : Result Closing Fault). HearsOne g.K.Sink.takes g.K.Sink.failures g.S.Source.gives
-              g.S.Source.failures g.W.Watch.tells c.args.attached.now o e.0
-              c.carry_out-carried.new.attached) c.in-Ok.is e.1,
+          subst (λ (o : Result Closing Fault). HostRuns g.K.Sink.takes g.K.Sink.failures g.S.Source.gives
+              g.S.Source.failures g.W.Watch.tells Await (c.args.attached.now, c.args.ahead.now) o e.0
+              (c.carry_out-carried.new.attached, c.carry_out-carried.new._ahead)) c.in-Ok.is e.1,
           c.carry_out-carried.ensures.begun,
         ),
         subst (λ (o : Output). IsOut g.O.Sink.takes g.O.Sink.failures c.args.out.now.sink c.hand_on-output.new.out.sink
@@ -50,9 +51,9 @@ returns-in-Err-clause-fault g c =
       e.0,
       c.hand_on-output.result,
       (
-        subst (λ (o : Result Closing Fault). HearsOne g.K.Sink.takes g.K.Sink.failures g.S.Source.gives
-            g.S.Source.failures g.W.Watch.tells c.args.attached.now o e.0
-            c.carry_out-carried.new.attached) c.in-Err.is e.1,
+        subst (λ (o : Result Closing Fault). HostRuns g.K.Sink.takes g.K.Sink.failures g.S.Source.gives
+            g.S.Source.failures g.W.Watch.tells Await (c.args.attached.now, c.args.ahead.now) o e.0
+            (c.carry_out-carried.new.attached, c.carry_out-carried.new._ahead)) c.in-Err.is e.1,
         c.carry_out-carried.ensures.begun,
       ),
       c.hand_on-output.ensures.out c.args.out.now e.0 c.requires.empty (whole_out e.2),

@@ -1,8 +1,8 @@
-use Rattle.std.proofs.Common.{◌≡◌, ◌+◌, ◌++◌, ◌∷◌, [], length, true, false, refl, sym, ◌∙◌, subst, inl, inr, arith}
+use Rattle.std.proofs.Common.{◌≡◌, ◌++◌, ◌∷◌, [], length, true, false, refl, sym, ◌∙◌, subst, inl, inr, arith}
 use Rattle.std.specs.List.{flat_map}
 use Rattle.std.proofs.lemmas.List.{append-nil, flat_map_more, length-append}
 use Rattle.ws_code.specs.Device.{most_reads}
-use Rattle.ws_live.specs.PlayLines.{host_event_text}
+use Rattle.ws_live.specs.ToldLines.{told_text}
 use Rattle.ws_live.specs.ServeText.{is_awaited, unheard_text}
 use Rattle.ws_text.proofs.Prints.{prints_none, prints_both, prints_same}
 use Rattle.ws_live.proofs.ServeRuns.{told_behind}
@@ -23,22 +23,22 @@ returns-then-is_awaited-clause-heard g c =
     let event = c.in-Ok-Some.event in
     let heard = rw c.in-Ok-Some.field-0-is at c.in-Ok-Some.ensures.heard in
     let awaited : is_awaited c.args.awaited.now event ≡ true = sym c.is_awaited.ensures ∙ c.if-is_awaited.true in (
-      flat_map host_event_text so_far.0 ++ host_event_text event,
+      flat_map told_text so_far.0 ++ told_text event,
       record {
         told = so_far.0;
         mid = c.loop.attached;
         before = so_far.1;
-        last = host_event_text event;
+        last = told_text event;
         came = inl (event, heard, awaited, refl, refl);
         all = refl;
       },
-      prints_both so_far.3 c.put_host_event-output.ensures,
+      prints_both so_far.3 c.put_told-output.ensures,
     )
 
 pub returns-in-Ok-None-clause-heard : goal.returns-in-Ok-None-clause-heard
 returns-in-Ok-None-clause-heard g c =
     let so_far = c.loop.invariant in
-    let printed = flat_map host_event_text so_far.0 in (
+    let printed = flat_map told_text so_far.0 in (
       printed ++ [],
       record {
         told = so_far.0;
@@ -56,7 +56,7 @@ returns-in-Err-clause-heard g c =
     let so_far = c.loop.invariant in
     let unheard = c.put_unheard.ensures in
     let fault = c.in-Err.fault in (
-      flat_map host_event_text so_far.0 ++ unheard_text fault,
+      flat_map told_text so_far.0 ++ unheard_text fault,
       record {
         told = so_far.0;
         mid = c.loop.attached;
@@ -85,15 +85,15 @@ loop-preserved g c =
       told_behind g.K.Sink.takes g.K.Sink.failures g.S.Source.gives g.S.Source.failures c.args.awaited.now
           c.args.attached.now c.loop.attached c.hear.new.self so_far.0 event so_far.1 heard other,
       omega (arith, so_far.2, length-append so_far.0 (event ∷ [])),
-      prints_same (flat_map_more host_event_text [] so_far.0 event)
-          (prints_both so_far.3 c.put_host_event-output.ensures),
+      prints_same (flat_map_more told_text [] so_far.0 event)
+          (prints_both so_far.3 c.put_told-output.ensures),
       c.in-Ok-Some.ensures.works,
     )
 
 pub returns-clause-heard : goal.returns-clause-heard
 returns-clause-heard g c =
     let so_far = c.loop.invariant in
-    let printed = flat_map host_event_text so_far.0 in
+    let printed = flat_map told_text so_far.0 in
     let all : length so_far.0 ≡ most_reads = omega (arith, so_far.2, c.loop-test.false, c.loop.auto.counter-end) in (
       printed ++ [],
       record {

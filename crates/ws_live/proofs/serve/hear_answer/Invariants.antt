@@ -1,7 +1,7 @@
 use Rattle.std.proofs.Common.{◌≡◌, List, length, false}
 use Rattle.std.specs.List.{flat_map}
 use Rattle.ws_session.specs.declared.host_event.HostEvent.{HostEvent}
-use Rattle.ws_live.specs.PlayLines.{host_event_text}
+use Rattle.ws_live.specs.ToldLines.{told_text}
 use Rattle.ws_live.specs.ServeText.{HaveTold}
 use Rattle.ws_text.specs.Printing.{Prints}
 use Rattle.ws_live.proofs.serve.hear_answer.Given as goal
@@ -11,5 +11,5 @@ abbrev pub invariant-loop : goal.invariant-loop
 invariant-loop g l = (told : List HostEvent)
     × HaveTold g.K.Sink.takes g.K.Sink.failures g.S.Source.gives g.S.Source.failures l.awaited l.fn.attached told l.attached
     × (length told ≡ l.counter)
-    × Prints g.O.Sink.takes g.O.Sink.failures l.fn.out l.out l.fn.output l.output (flat_map host_event_text told)
+    × Prints g.O.Sink.takes g.O.Sink.failures l.fn.out l.out l.fn.output l.output (flat_map told_text told)
     × (l.attached.broken ≡ false)

@@ -1,8 +1,8 @@
-use Rattle.std.proofs.Common.{◌++◌, List, ℕ, sym, ◌∙◌, subst, inr}
+use Rattle.std.proofs.Common.{◌++◌, List, ℕ, sym, ◌∙◌, subst, inl, inr}
 use Rattle.std.specs.Prelude.{codes}
 use Rattle.std.proofs.lemmas.Result.{IfOk-weaker, IfErr-weaker}
-use Rattle.ws_live.specs.ServeLines.{Means, IsOneLine, IsOneSoFar}
-use Rattle.ws_live.specs.ScriptFaults.{IsLineFault, IsSendLine}
+use Rattle.ws_live.specs.ServeLines.{IsHostBegun, Means, IsOneLine, IsOneSoFar}
+use Rattle.ws_live.specs.ScriptFaults.{IsLineFault}
 use Rattle.ws_live.proofs.LiveLines.{host_so_far}
 use Rattle.ws_live.proofs.Scripts.{fault_on}
 use Rattle.ws_live.proofs.ScriptWords.{comment_text, is_no_comment}
@@ -12,7 +12,7 @@ pub returns-then-is_some-clause-line : goal.returns-then-is_some-clause-line
 returns-then-is_some-clause-line c =
     let found = comment_text c.in-Ok.text.now c.strip_prefix.result c.strip_prefix.ensures.cases (sym c.is_some.ensures
     ∙ c.if-is_some.true) in
-    (c.in-Ok.ensures.cases.1, inr (found.0, sym c.in-Ok.ensures.cases.0 ∙ found.1))
+    (c.in-Ok.ensures.cases.1, inl (inr (found.0, sym c.in-Ok.ensures.cases.0 ∙ found.1)))
 
 pub read_word-requires-clause-no_comment : goal.read_word-requires-clause-no_comment
 read_word-requires-clause-no_comment c =
@@ -51,7 +51,7 @@ returns-in-Some-clause-fault c =
     let text : List ℕ = (c.in-Some.command.now ++ codes " ") ++ c.in-Some.words.now in
     let line = c.args.line.now in
     let same = sym c.in-Some.ensures.0 ∙ c.in-Ok.ensures.cases.0 in
-    IfErr-weaker c.read_command.result (IsLineFault (Means text) (IsSendLine text)) (IsLineFault (IsOneLine line)
+    IfErr-weaker c.read_command.result (IsLineFault (Means text) (IsHostBegun text)) (IsLineFault (IsOneLine line)
     (IsOneSoFar line))
     (λ fault h. fault_on (Means text) (IsOneLine line) fault (λ none_is read l. none_is read
     (subst (λ (z : List ℕ). Means z read) (sym same) l.1)) (host_so_far line text same c.in-Ok.ensures.cases.1) h)

@@ -1,7 +1,6 @@
 use Rattle.std.proofs.Common.{ℕ, List, All, get_or, sym, ap, ◌∙◌, subst}
 use Rattle.std.specs.List.{Contains}
 use Rattle.std.proofs.lemmas.List.Elements.{All-push, Contains-get_or}
-use Rattle.arrayvec.specs.ArrayVec.{ArrayVec}
 use Rattle.ws_live.specs.ShownTexts.{IsNeededBy}
 use Rattle.ws_live.proofs.shown_text.needed_bytes.Goals.{in-Some, in_default}
 use Rattle.ws_live.proofs.shown_text.needed_bytes.Goals as goal

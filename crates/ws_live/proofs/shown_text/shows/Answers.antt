@@ -1,4 +1,4 @@
-use Rattle.std.proofs.Common.{List, ℕ, sym, ◌∙◌, subst, arith, append_assoc}
+use Rattle.std.proofs.Common.{sym, ◌∙◌, arith, append_assoc}
 use Rattle.std.specs.Str.{encode_utf8_all}
 use Rattle.std.specs.Str.Iter.{HasSubslice}
 use Rattle.ws_screen.specs.Lines.{row_chars}

@@ -17,8 +17,8 @@ returns-then-ran-clause-ran g c =
       e.0,
       e.2.0,
       e.1,
-      stopped_text runs Await c.args.ready (c.args.attached.now, c.args.watch.now)
-          (c.carry_session.new.attached, c.carry_session.new.watch) e.0 c.in-Ok.ran e.2.0 e.2.1 c.if-ran.true,
+      stopped_text runs Await c.args.ready ((c.args.attached.now, c.args.ahead.now), c.args.watch.now)
+          ((c.carry_session.new.attached, c.carry_session.new.ahead), c.carry_session.new.watch) e.0 c.in-Ok.ran e.2.0 e.2.1 c.if-ran.true,
       e.2.2,
     )
 
@@ -33,11 +33,11 @@ returns-then-ran-2-clause-ran g c =
       e.0,
       text,
       e.1,
-      subst (λ (b : Bool). IsTextAndOn runs Await c.args.ready (c.args.attached.now, c.args.watch.now) e.0 b text
-          (c.carry_on.new.attached, c.carry_on.new.watch)) (ap (λ (b : Bool). b && well) c.if-ran-2.true)
-          (carried_text runs Await c.args.ready (c.args.attached.now, c.args.watch.now)
-          (c.carry_session.new.attached, c.carry_session.new.watch) e.0 c.in-Ok.ran e.2.0 e.2.1
-          (c.carry_on.new.attached, c.carry_on.new.watch) well a.0 c.if-ran.false a.1),
+      subst (λ (b : Bool). IsTextAndOn runs Await c.args.ready ((c.args.attached.now, c.args.ahead.now), c.args.watch.now) e.0 b text
+          ((c.carry_on.new.attached, c.carry_on.new.ahead), c.carry_on.new.watch)) (ap (λ (b : Bool). b && well) c.if-ran-2.true)
+          (carried_text runs Await c.args.ready ((c.args.attached.now, c.args.ahead.now), c.args.watch.now)
+          ((c.carry_session.new.attached, c.carry_session.new.ahead), c.carry_session.new.watch) e.0 c.in-Ok.ran e.2.0 e.2.1
+          ((c.carry_on.new.attached, c.carry_on.new.ahead), c.carry_on.new.watch) well a.0 c.if-ran.false a.1),
       went_out_both g.O.Sink.takes g.O.Sink.failures c.args.out.now.sink c.carry_session.new.out.sink
           c.carry_on.new.out.sink e.2.0 a.0 e.2.2 a.2,
     )
@@ -53,12 +53,12 @@ returns-else-ran-2-clause-ran g c =
       e.0,
       text,
       e.1,
-      subst (λ (b : Bool). IsTextAndOn runs Await c.args.ready (c.args.attached.now, c.args.watch.now) e.0 b text
-          (c.carry_on.new.attached, c.carry_on.new.watch))
+      subst (λ (b : Bool). IsTextAndOn runs Await c.args.ready ((c.args.attached.now, c.args.ahead.now), c.args.watch.now) e.0 b text
+          ((c.carry_on.new.attached, c.carry_on.new.ahead), c.carry_on.new.watch))
           (ap (λ (b : Bool). b && well) c.if-ran-2.false ∙ sym c.if-ran-2.false)
-          (carried_text runs Await c.args.ready (c.args.attached.now, c.args.watch.now)
-          (c.carry_session.new.attached, c.carry_session.new.watch) e.0 c.in-Ok.ran e.2.0 e.2.1
-          (c.carry_on.new.attached, c.carry_on.new.watch) well a.0 c.if-ran.false a.1),
+          (carried_text runs Await c.args.ready ((c.args.attached.now, c.args.ahead.now), c.args.watch.now)
+          ((c.carry_session.new.attached, c.carry_session.new.ahead), c.carry_session.new.watch) e.0 c.in-Ok.ran e.2.0 e.2.1
+          ((c.carry_on.new.attached, c.carry_on.new.ahead), c.carry_on.new.watch) well a.0 c.if-ran.false a.1),
       went_out_both g.O.Sink.takes g.O.Sink.failures c.args.out.now.sink c.carry_session.new.out.sink
           c.carry_on.new.out.sink e.2.0 a.0 e.2.2 a.2,
     )
@@ -70,9 +70,9 @@ returns-in-Err-carry_on-clause-fault g c =
     let e = c.in-Ok.ensures.ran in (
       e.0,
       e.1,
-      uncarried runs Await c.args.ready (c.args.attached.now, c.args.watch.now)
-          (c.carry_session.new.attached, c.carry_session.new.watch) e.0 c.in-Ok.ran e.2.0 e.2.1 g.O.Sink.takes
-          g.O.Sink.failures (c.carry_on.new.attached, c.carry_on.new.watch) c.args.out.now.sink
+      uncarried runs Await c.args.ready ((c.args.attached.now, c.args.ahead.now), c.args.watch.now)
+          ((c.carry_session.new.attached, c.carry_session.new.ahead), c.carry_session.new.watch) e.0 c.in-Ok.ran e.2.0 e.2.1 g.O.Sink.takes
+          g.O.Sink.failures ((c.carry_on.new.attached, c.carry_on.new.ahead), c.carry_on.new.watch) c.args.out.now.sink
           c.carry_session.new.out.sink c.carry_on.new.out.sink (is_some c.args.script) c.from.result
           c.in-Err-carry_on.fault c.from.ensures c.if-ran.false e.2.2 c.in-Err-carry_on.ensures.fault,
     )

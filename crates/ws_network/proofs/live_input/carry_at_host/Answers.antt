@@ -16,7 +16,7 @@ returns-then-ran-clause-ran g c =
       e.2.0,
       e.1,
       stopped_text g.K.Sink.takes g.K.Sink.failures g.S.Source.gives g.S.Source.failures
-          g.W.Watch.tells g.W.Watch.begins g.W.Watch.begun c.args.ready (c.args.attached.now, c.args.watch.now) (c.carry_session.new.attached, c.carry_session.new.watch) e.0
+          g.W.Watch.tells g.W.Watch.begins g.W.Watch.begun c.args.ready ((c.args.attached.now, c.args.ahead.now), c.args.watch.now) ((c.carry_session.new.attached, c.carry_session.new.ahead), c.carry_session.new.watch) e.0
           c.in-Ok.ran e.2.0 e.2.1 c.if-ran.true,
       e.2.2,
     )
@@ -31,11 +31,11 @@ returns-then-ran-2-clause-ran g c =
       text,
       e.1,
       subst (λ (b : Bool). IsServeText g.K.Sink.takes g.K.Sink.failures g.S.Source.gives g.S.Source.failures
-          g.W.Watch.tells g.W.Watch.begins g.W.Watch.begun c.args.ready (c.args.attached.now, c.args.watch.now) e.0 b text (c.answer_on.new.attached, c.answer_on.new.watch))
+          g.W.Watch.tells g.W.Watch.begins g.W.Watch.begun c.args.ready ((c.args.attached.now, c.args.ahead.now), c.args.watch.now) e.0 b text ((c.answer_on.new.attached, c.answer_on.new.ahead), c.answer_on.new.watch))
           (ap (λ (b : Bool). b && well) c.if-ran-2.true)
           (answered_text g.K.Sink.takes g.K.Sink.failures g.S.Source.gives g.S.Source.failures
-          g.W.Watch.tells g.W.Watch.begins g.W.Watch.begun c.args.ready (c.args.attached.now, c.args.watch.now) (c.carry_session.new.attached, c.carry_session.new.watch) e.0
-          c.in-Ok.ran e.2.0 e.2.1 (c.answer_on.new.attached, c.answer_on.new.watch) well a.0 c.if-ran.false a.1),
+          g.W.Watch.tells g.W.Watch.begins g.W.Watch.begun c.args.ready ((c.args.attached.now, c.args.ahead.now), c.args.watch.now) ((c.carry_session.new.attached, c.carry_session.new.ahead), c.carry_session.new.watch) e.0
+          c.in-Ok.ran e.2.0 e.2.1 ((c.answer_on.new.attached, c.answer_on.new.ahead), c.answer_on.new.watch) well a.0 c.if-ran.false a.1),
       went_out_both g.O.Sink.takes g.O.Sink.failures c.args.out.now.sink c.carry_session.new.out.sink
           c.answer_on.new.out.sink e.2.0 a.0 e.2.2 a.2,
     )
@@ -50,11 +50,11 @@ returns-else-ran-2-clause-ran g c =
       text,
       e.1,
       subst (λ (b : Bool). IsServeText g.K.Sink.takes g.K.Sink.failures g.S.Source.gives g.S.Source.failures
-          g.W.Watch.tells g.W.Watch.begins g.W.Watch.begun c.args.ready (c.args.attached.now, c.args.watch.now) e.0 b text (c.answer_on.new.attached, c.answer_on.new.watch))
+          g.W.Watch.tells g.W.Watch.begins g.W.Watch.begun c.args.ready ((c.args.attached.now, c.args.ahead.now), c.args.watch.now) e.0 b text ((c.answer_on.new.attached, c.answer_on.new.ahead), c.answer_on.new.watch))
           (ap (λ (b : Bool). b && well) c.if-ran-2.false ∙ sym c.if-ran-2.false)
           (answered_text g.K.Sink.takes g.K.Sink.failures g.S.Source.gives g.S.Source.failures
-          g.W.Watch.tells g.W.Watch.begins g.W.Watch.begun c.args.ready (c.args.attached.now, c.args.watch.now) (c.carry_session.new.attached, c.carry_session.new.watch) e.0
-          c.in-Ok.ran e.2.0 e.2.1 (c.answer_on.new.attached, c.answer_on.new.watch) well a.0 c.if-ran.false a.1),
+          g.W.Watch.tells g.W.Watch.begins g.W.Watch.begun c.args.ready ((c.args.attached.now, c.args.ahead.now), c.args.watch.now) ((c.carry_session.new.attached, c.carry_session.new.ahead), c.carry_session.new.watch) e.0
+          c.in-Ok.ran e.2.0 e.2.1 ((c.answer_on.new.attached, c.answer_on.new.ahead), c.answer_on.new.watch) well a.0 c.if-ran.false a.1),
       went_out_both g.O.Sink.takes g.O.Sink.failures c.args.out.now.sink c.carry_session.new.out.sink
           c.answer_on.new.out.sink e.2.0 a.0 e.2.2 a.2,
     )
@@ -65,8 +65,8 @@ returns-in-Err-answer_on-clause-fault g c =
       e.0,
       e.1,
       unanswered g.K.Sink.takes g.K.Sink.failures g.S.Source.gives g.S.Source.failures
-          g.W.Watch.tells g.W.Watch.begins g.W.Watch.begun c.args.ready (c.args.attached.now, c.args.watch.now) (c.carry_session.new.attached, c.carry_session.new.watch) e.0
-          c.in-Ok.ran e.2.0 e.2.1 g.O.Sink.takes g.O.Sink.failures (c.answer_on.new.attached, c.answer_on.new.watch) c.args.out.now.sink
+          g.W.Watch.tells g.W.Watch.begins g.W.Watch.begun c.args.ready ((c.args.attached.now, c.args.ahead.now), c.args.watch.now) ((c.carry_session.new.attached, c.carry_session.new.ahead), c.carry_session.new.watch) e.0
+          c.in-Ok.ran e.2.0 e.2.1 g.O.Sink.takes g.O.Sink.failures ((c.answer_on.new.attached, c.answer_on.new.ahead), c.answer_on.new.watch) c.args.out.now.sink
           c.carry_session.new.out.sink c.answer_on.new.out.sink
           (is_some c.args.script) c.from.result c.in-Err-answer_on.fault c.from.ensures c.if-ran.false e.2.2
           c.in-Err-answer_on.ensures.fault,

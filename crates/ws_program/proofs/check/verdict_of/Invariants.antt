@@ -6,8 +6,7 @@ use Rattle.ws_program.proofs.check.verdict_of.Given as goal
 abbrev pub invariant-loop-at : goal.invariant-loop-at
 invariant-loop-at g l = record {
   within : l.at ≤ length l.bytes;
-  end : l.end ≤ length l.bytes;
-  counts : Counts g.B.Code.rules l.live l.tally (take l.at l.bytes);
+  counts : Counts g.B.Code.rules l.checker.live l.checker.tally (take l.at l.bytes);
 }
 
 abbrev pub decreases-loop-at : goal.decreases-loop-at

@@ -5,6 +5,7 @@ use Rattle.ws_record.specs.Live.{HoldsPart}
 use Rattle.ws_program.specs.OpenParts.{head_after, units_after}
 use Rattle.ws_program.proofs.CheckLemmas.{front_on}
 use Rattle.ws_program.proofs.OpenParts.{FollowsOpen, follows_front, follows_all, not_failed}
+use Rattle.ws_program.proofs.SourceReads.{unrefused}
 use Rattle.ws_program.proofs.open_part.read_open.Goals as goal
 
 pub loop-at-preserved : goal.loop-at-preserved
@@ -54,3 +55,11 @@ returns-clause-ok g c =
     let f = subst (λ (x : List ℕ). FollowsOpen g.B.Code.rules c.loop-at.live c.loop-at.part.head
     c.loop-at.part.units.items x) all c.loop-at.invariant.follows in
     (f.items, follows_all f)
+
+pub returns-clause-refused : goal.returns-clause-refused
+returns-clause-refused g c = λ refused.
+    let bytes = c.args.bytes.now in
+    let all : take c.loop-at.at bytes ≡ bytes = take_all c.loop-at.at bytes (omega (arith, c.loop-at-test.false)) in
+    let f = subst (λ (x : List ℕ). FollowsOpen g.B.Code.rules c.loop-at.live c.loop-at.part.head
+    c.loop-at.part.units.items x) all c.loop-at.invariant.follows in
+    absurd (unrefused g.B.Code.rules bytes f.leads.opened refused)

@@ -1,5 +1,4 @@
-use Rattle.ws_session.proofs.Common.{◌≡◌, ◌++◌, Ok, Err, [], ◌∷◌, ap, ◌∙◌, sym, refl, Failed, length, take}
-use Rattle.ws_session.proofs.Common.{take_all, arith, Refusal}
+use Rattle.ws_session.proofs.Common.{◌≡◌, ◌++◌, Ok, Err, ap, ◌∙◌, refl, Failed, length, take, take_all, arith, Refusal}
 use Rattle.ws_session.proofs.Arriving.{goes_come, refused_come}
 use Rattle.ws_session.proofs.world.delivery.come.Goals as goal
 

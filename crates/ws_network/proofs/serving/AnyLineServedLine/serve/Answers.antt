@@ -1,0 +1,21 @@
+use Rattle.std.proofs.Common.{◌∙◌, []}
+use Rattle.ws_any_host.specs.AnyOptions.{new_negotiated}
+use Rattle.ws_network.proofs.AnySessionLaws.{any_served}
+use Rattle.ws_network.proofs.SessionLaws.{judged}
+use Rattle.ws_network.proofs.serving.AnyLineServedLine.serve.Goals as goal
+
+pub returns-clause-served : goal.returns-clause-served
+returns-clause-served g c =
+    judged _ _ c.carry_at_any_host-outcome.result c.judge.result c.carry_at_any_host-outcome.ensures.ran c.judge.ensures.done
+    (λ all_well ran. (
+      ran.0,
+      ran.1,
+      ran.2,
+      any_served c.args.asked.now ran.0 all_well ran.1
+          ((c.carry_at_any_host-outcome.new.attached, c.carry_at_any_host-outcome.new.ahead), c.carry_at_any_host-outcome.new.watch)
+          c.open.new.self c.new-source.result c.new-sink.result c.write_whole.new.sink c.as_slice.result.now
+          c.new-attached.result c.new.result (c.open.ensures.opened [] [] new_negotiated c.new-host.ensures)
+          c.in_ok-write_whole.ensures.ok (c.as_slice.ensures.value ∙ c.open.ensures.reply) c.new-attached.ensures
+          c.new-source.ensures c.new-sink.ensures c.new.ensures ran.3,
+      ran.4,
+    ))

@@ -1,0 +1,20 @@
+use Rattle.std.proofs.Common.{◌∙◌, []}
+use Rattle.ws_session.specs.HostLeads.{unopened_host_side}
+use Rattle.ws_network.proofs.SessionLaws.{judged, served}
+use Rattle.ws_network.proofs.serving.HostLineServedLine.serve.Goals as goal
+
+pub returns-clause-served : goal.returns-clause-served
+returns-clause-served g c =
+    judged _ _ c.carry_at_host-outcome.result c.judge.result c.carry_at_host-outcome.ensures.ran c.judge.ensures.done
+    (λ all_well ran. (
+      ran.0,
+      ran.1,
+      ran.2,
+      served c.args.asked.now ran.0 all_well ran.1
+          ((c.carry_at_host-outcome.new.attached, c.carry_at_host-outcome.new.ahead), c.carry_at_host-outcome.new.watch)
+          c.open.new.self c.new-source.result c.new-sink.result c.write_whole.new.sink c.as_slice.result.now
+          c.new-attached.result c.new.result (c.open.ensures.opened [] [] unopened_host_side c.new-host.ensures)
+          c.in_ok-write_whole.ensures.ok (c.as_slice.ensures.value ∙ c.open.ensures.reply) c.new-attached.ensures
+          c.new-source.ensures c.new-sink.ensures c.new.ensures ran.3,
+      ran.4,
+    ))

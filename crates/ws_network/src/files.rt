@@ -1,0 +1,65 @@
+//! The files of a live session: its script, and its recording.
+ghost use Rattle.std.specs.Prelude.{◌≡◌, ℕ, List, true, IfOk, IfErr, MatchOption};
+ghost use Rattle.std.specs.Option.{is_none};
+ghost use Rattle.ws_live.specs.LiveScript.{AreLiveLines};
+ghost use Rattle.ws_network.specs.ScriptFiles.{IsFileFault};
+
+use crate::input_lines::unread_line;
+use crate::recording::make_file;
+use std::fs;
+use std::fs::File;
+use std::rt::Files;
+use ws_live::{LiveLine, ScriptFault, read_lines};
+use ws_program::{RunFault, ToldFault, Vocabulary, bad_line};
+
+/// The lines of a script, where one is named.
+///
+/// `Read` where its file can't be read, `Line` and `Memory` as `read_lines` has them.
+pub fn read_script_file<R: Files + AllocGlobal, L: LiveLine>(
+    rt: &R,
+    script: Option<&str>,
+    vocabulary: Vocabulary,
+) -> Result<Option<Vec<L>>, ToldFault>
+    ensures lines { IfOk result (λ read. MatchOption read (is_none script.entry ≡ true) (λ lines.
+        (file : List ℕ) × AreLiveLines L.means L.opener file lines.items)) }
+    ensures named { IfOk result (λ read. is_none read ≡ is_none script.entry) }
+    ensures fault { IfErr result
+        (IsFileFault L.means L.opener L.begins L.bad_at vocabulary) }
+{
+    let Some(path) = script else {
+        return Ok(None);
+    };
+    let text = match fs::read(rt, path) {
+        Ok(text) => text,
+        Err(error) => return Err(unread_line(error.kind())),
+    };
+    match read_lines(rt.alloc(), text.as_slice()) {
+        Ok(lines) => Ok(Some(lines)),
+        Err(ScriptFault::Line(number)) => {
+            Err(bad_line(rt.alloc(), text.as_slice(), number, vocabulary))
+        }
+        Err(ScriptFault::Memory) => Err(ToldFault::Run(RunFault::Memory)),
+    }
+}
+
+/// The lines as a slice.
+pub fn lines_of<L>(script: &Option<Vec<L>>) -> Option<&[L]>
+    ensures { MatchOption script.now (is_none result ≡ true)
+        (λ read. MatchOption result ⊥ (λ lines. lines.now ≡ read.items)) }
+{
+    match script {
+        Some(lines) => Some(lines.as_slice()),
+        None => None,
+    }
+}
+
+/// The file of a recording, where one is named.
+pub fn make_record<R: AllocGlobal + Files<File = File>>(
+    rt: &R,
+    record: Option<&str>,
+) -> Result<Option<File>, RunFault> {
+    match record {
+        Some(name) => Ok(Some(make_file(rt, name)?)),
+        None => Ok(None),
+    }
+}

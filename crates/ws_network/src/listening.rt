@@ -1,0 +1,95 @@
+//! A listener at which stations are taken.
+ghost use Rattle.std.specs.Prelude.{◌≡◌, [], ℕ, List, OnOk};
+ghost use Rattle.ws_code.specs.Device.{WentOut};
+ghost use Rattle.ws_network.specs.Listening.{unbound_by};
+
+use crate::connecting::{failed, settled};
+use std::io::ErrorKind;
+use std::net::{Net, TcpListener, TcpStream};
+use ws_code::Sink;
+use ws_live::{BufferedSink, hand_on};
+use ws_program::{RunFault, ToldFault, Unconnected, no_connection};
+use ws_text::{Output, put_text};
+use ws_words::HostPort;
+
+/// Listens at an address, tells that it does, and takes one station. No other waits behind it: nobody listens any more.
+pub fn take_station<R, O>(
+    rt: &R,
+    at: HostPort<'_>,
+    out: &mut BufferedSink<O>,
+) -> Result<TcpStream, ToldFault>
+where
+    R: AllocGlobal + Net<Listener = TcpListener, Stream = TcpStream>,
+    O: Sink,
+    requires empty { out.old.held ≡ [] }
+    ensures held { out.new.held ≡ [] }
+    ensures told { OnOk result ((line : List ℕ)
+        × WentOut O.takes O.failures out.old.sink out.new.sink line) }
+{
+    let listener = listen(rt, at, out)?;
+    take_next(&listener)
+}
+
+/// Listens at an address, and tells that it does.
+pub fn listen<R, O>(
+    rt: &R,
+    at: HostPort<'_>,
+    out: &mut BufferedSink<O>,
+) -> Result<TcpListener, ToldFault>
+where
+    R: AllocGlobal + Net<Listener = TcpListener, Stream = TcpStream>,
+    O: Sink,
+    requires empty { out.old.held ≡ [] }
+    ensures held { out.new.held ≡ [] }
+    ensures told { OnOk result ((line : List ℕ)
+        × WentOut O.takes O.failures out.old.sink out.new.sink line) }
+{
+    let listener = match TcpListener::bind(rt, (at.host, at.port)) {
+        Ok(listener) => listener,
+        Err(error) => return Err(ToldFault::NoConnection(unbound(error.kind()))),
+    };
+    put_listening(rt, &listener, out)?;
+    Ok(listener)
+}
+
+// Why nothing listens at an address, by the kind of the error.
+fn unbound(kind: ErrorKind) -> Unconnected
+    ensures { result ≡ unbound_by kind }
+{
+    match kind {
+        ErrorKind::Uncategorized => Unconnected::UnknownName,
+        _ => no_connection(kind),
+    }
+}
+
+/// Takes the next station.
+pub fn take_next(listener: &TcpListener) -> Result<TcpStream, ToldFault> {
+    match listener.accept() {
+        Ok((stream, _)) => settled(stream),
+        Err(error) => Err(failed(error)),
+    }
+}
+
+fn put_listening<R: AllocGlobal, O: Sink>(
+    rt: &R,
+    listener: &TcpListener,
+    out: &mut BufferedSink<O>,
+) -> Result<(), ToldFault>
+    requires empty { out.old.held ≡ [] }
+    ensures held { out.new.held ≡ [] }
+    ensures told { OnOk result ((line : List ℕ)
+        × WentOut O.takes O.failures out.old.sink out.new.sink line) }
+{
+    let address = match listener.local_addr() {
+        Ok(address) => address,
+        Err(error) => return Err(failed(error)),
+    };
+    let Ok(line) = format!(in rt.alloc(); "listening {address}\n") else {
+        return Err(ToldFault::Run(RunFault::Memory));
+    };
+    let output = put_text(out, Output::Open, line.as_str());
+    match hand_on(out, output) {
+        Output::Open => Ok(()),
+        Output::Failed => Err(ToldFault::Run(RunFault::Write)),
+    }
+}

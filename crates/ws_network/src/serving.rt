@@ -1,0 +1,213 @@
+//! `serve`: hosts for stations, one after another at a listener.
+ghost use Rattle.std.specs.Prelude.{◌≡◌, ◌++◌, [], ℕ, List, Bool, IfOk, OnOk, MatchOption};
+ghost use Rattle.ws_code.specs.Device.{WentOut};
+ghost use Rattle.ws_network.specs.AnySessions.{IsAnyServed};
+ghost use Rattle.ws_network.specs.ManySessions.{AreMany, HasServedBy, number_line, session_line};
+ghost use Rattle.ws_network.specs.Sessions.{IsServed};
+ghost use Rattle.ws_text.specs.Printing.{Prints};
+ghost use Rattle.ws_words.specs.declared.live_command.ServeAsked.{ServeAsked as AnAsked};
+
+use crate::any_input::carry_at_any_host;
+use crate::files::{lines_of, make_record, read_script_file};
+use crate::listening::{listen, take_next, take_station};
+use crate::live_input::carry_at_host;
+use crate::recording::{Recording, Sender};
+use crate::timed_sink::TimedSink;
+use crate::timed_source::{TimedSource, close};
+use crate::timer::{Timer, Waits};
+use std::fs::File;
+use std::net::{Net, TcpListener, TcpStream};
+use std::rt::{Files, Runtime};
+use std::time::Duration;
+use ws_any_host::{AnyHost, AnyLine};
+use ws_code::{Sink, write_whole};
+use ws_live::{BufferedSink, HostLine, LiveLine, hand_on};
+use ws_program::{OpenStreams, RunFault, ToldFault, Vocabulary};
+use ws_session::{Attached, HostEnd};
+use ws_text::{Output, put_number, put_text};
+use ws_words::ServeAsked;
+
+/// Lines that are carried out at a host, new for each station.
+pub trait ServedLine: LiveLine {
+    // A host whose opening went out carried these lines out: whether all went well, and what it printed.
+    ghost served: { AnAsked → List Self → Bool → List ℕ → Type 0 };
+
+    /// Carries the lines out at a connection, or without a script those of standard input, and what comes behind them.
+    fn serve<R, O>(
+        rt: &R,
+        asked: &ServeAsked<'_>,
+        stream: &TcpStream,
+        file: Option<&File>,
+        script: Option<&[Self]>,
+        out: &mut BufferedSink<O>,
+    ) -> Result<bool, ToldFault>
+    where
+        R: Runtime + AllocGlobal,
+        O: Sink,
+        requires empty { out.old.held ≡ [] }
+        ensures held { out.new.held ≡ [] }
+        ensures served { IfOk result (λ all_well. (lines : List Self) × (text : List ℕ)
+            × MatchOption script.entry (Unit {0}) (λ read. lines ≡ read.now)
+            × served asked.now lines all_well text
+            × WentOut O.takes O.failures out.old.sink out.new.sink text) };
+}
+
+/// Serves one station, or as many as are asked for one after another: true where all went well.
+pub fn serve_lines<R, L, O>(
+    rt: &R,
+    asked: &ServeAsked<'_>,
+    vocabulary: Vocabulary,
+    streams: OpenStreams,
+    out: &mut BufferedSink<O>,
+) -> Result<bool, ToldFault>
+where
+    R: Runtime + AllocGlobal + Files<File = File> + Net<Listener = TcpListener, Stream = TcpStream>,
+    L: ServedLine,
+    O: Sink,
+    requires empty { out.old.held ≡ [] }
+    ensures { IfOk result (HasServedBy L.means L.opener L.served O.takes O.failures
+        out.old.sink out.new.sink asked.now) }
+{
+    let script = read_script_file::<R, L>(rt, asked.script, vocabulary)?;
+    streams.suffice(script.is_none())?;
+    let file = make_record(rt, asked.record)?;
+    match (lines_of(&script), asked.sessions) {
+        (Some(lines), Some(sessions)) => {
+            serve_many::<R, L, O>(rt, asked, sessions, file.as_ref(), lines, out)
+        }
+        (script, _) => {
+            let stream = take_station(rt, asked.address, out)?;
+            L::serve(rt, asked, &stream, file.as_ref(), script, out)
+        }
+    }
+}
+
+// Serves so many stations, at one listener.
+fn serve_many<R, L, O>(
+    rt: &R,
+    asked: &ServeAsked<'_>,
+    sessions: u32,
+    file: Option<&File>,
+    script: &[L],
+    out: &mut BufferedSink<O>,
+) -> Result<bool, ToldFault>
+where
+    R: Runtime + AllocGlobal + Net<Listener = TcpListener, Stream = TcpStream>,
+    L: ServedLine,
+    O: Sink,
+    requires empty { out.old.held ≡ [] }
+    ensures { IfOk result (λ all_well. (first : List ℕ) × (text : List ℕ)
+        × AreMany (L.served asked.now script.now) sessions all_well text
+        × WentOut O.takes O.failures out.old.sink out.new.sink (first ++ text)) }
+{
+    let listener = listen(rt, asked.address, out)?;
+    let mut all_well = true;
+    for number in 0..sessions {
+        put_session(number, out)?;
+        let stream = take_next(&listener)?;
+        let is_well = L::serve(rt, asked, &stream, file, Some(script), out)?;
+        all_well = all_well & is_well;
+    }
+    Ok(all_well)
+}
+
+// Prints the line of a session that begins behind so many.
+fn put_session<O: Sink>(before: u32, out: &mut BufferedSink<O>) -> Result<(), ToldFault>
+    requires empty { out.old.held ≡ [] }
+    ensures held { out.new.held ≡ [] }
+    ensures told { OnOk result
+        (WentOut O.takes O.failures out.old.sink out.new.sink (session_line before)) }
+{
+    if before == 0 {
+        return Ok(());
+    }
+    let output = put_number_line(out, Output::Open, u64::from(before) + 1);
+    match hand_on(out, output) {
+        Output::Open => Ok(()),
+        Output::Failed => Err(ToldFault::Run(RunFault::Write)),
+    }
+}
+
+fn put_number_line<O: Sink>(out: &mut O, output: Output, number: u64) -> Output
+    ensures { Prints O.takes O.failures out.old out.new output result (number_line number) }
+{
+    let output = put_text(out, output, "session ");
+    let output = put_number(out, output, number);
+    put_text(out, output, "\n")
+}
+
+// At a host that takes the profile's records.
+impl ServedLine for HostLine {
+    ghost served = { IsServed };
+
+    fn serve<R, O>(
+        rt: &R,
+        asked: &ServeAsked<'_>,
+        stream: &TcpStream,
+        file: Option<&File>,
+        script: Option<&[HostLine]>,
+        out: &mut BufferedSink<O>,
+    ) -> Result<bool, ToldFault>
+    where
+        R: Runtime + AllocGlobal,
+        O: Sink,
+    {
+        let recording = Recording::new(rt, file);
+        let timer = Timer::new(rt, Duration::from_secs(u64::from(asked.wait)));
+        let mut host = HostEnd::new(rt.alloc());
+        let mut sink = TimedSink::new(stream, &timer, &recording, Sender::Host);
+        write_whole(&mut sink, host.open().as_slice())?;
+        let source = TimedSource::new(stream, &timer, &recording, Sender::Station);
+        let mut attached = Attached::new(host, source, sink);
+        let mut ahead = 0u64;
+        let outcome = carry_at_host(
+            rt,
+            &mut attached,
+            &mut ahead,
+            &mut Waits::new(&timer),
+            script,
+            asked.ready,
+            out,
+        );
+        close(rt, stream, &recording, Sender::Station);
+        recording.judge(outcome)
+    }
+}
+
+// At a host that takes any record.
+impl ServedLine for AnyLine {
+    ghost served = { IsAnyServed };
+
+    fn serve<R, O>(
+        rt: &R,
+        asked: &ServeAsked<'_>,
+        stream: &TcpStream,
+        file: Option<&File>,
+        script: Option<&[AnyLine]>,
+        out: &mut BufferedSink<O>,
+    ) -> Result<bool, ToldFault>
+    where
+        R: Runtime + AllocGlobal,
+        O: Sink,
+    {
+        let recording = Recording::new(rt, file);
+        let timer = Timer::new(rt, Duration::from_secs(u64::from(asked.wait)));
+        let mut host = AnyHost::new(rt.alloc());
+        let mut sink = TimedSink::new(stream, &timer, &recording, Sender::Host);
+        write_whole(&mut sink, host.open().as_slice())?;
+        let source = TimedSource::new(stream, &timer, &recording, Sender::Station);
+        let mut attached = Attached::new(host, source, sink);
+        let mut ahead = 0u64;
+        let outcome = carry_at_any_host(
+            rt,
+            &mut attached,
+            &mut ahead,
+            &mut Waits::new(&timer),
+            script,
+            asked.ready,
+            out,
+        );
+        close(rt, stream, &recording, Sender::Station);
+        recording.judge(outcome)
+    }
+}

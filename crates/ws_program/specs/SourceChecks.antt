@@ -1,0 +1,54 @@
+-- A check of what a source gives, which holds none of it.
+
+use Rattle.std.specs.Prelude.{ℕ, List, Bool, true, false, Option, Some, None, Result, Ok, Err, ◌⊎◌}
+use Rattle.ws_code.specs.Code.{Rules}
+use Rattle.ws_code.specs.Device.{MayGive, Gave, GaveAll, ReadFault}
+use Rattle.ws_code.specs.declared.fault.Fault.{Fault}
+use Rattle.ws_code.specs.declared.reason.Reason.{Reason}
+use Rattle.ws_extended.specs.ExtendedAnswers.{extended_answer_rules}
+use Rattle.ws_extended.specs.ExtendedElements.{extended_rules}
+use Rattle.ws_record.specs.Live.{Watching}
+use Rattle.ws_record.specs.Refusal.{IsRefused}
+use Rattle.ws_stream.specs.Elements.{element_rules}
+use Rattle.ws_stream.specs.AnswerParts.{answer_rules}
+use Rattle.ws_program.specs.Checking.{Counts}
+use Rattle.ws_program.specs.RunFaults.{run_fault}
+use Rattle.ws_program.specs.declared.check.Refusal.{Refusal}
+use Rattle.ws_program.specs.declared.check.Tally.{Tally}
+use Rattle.ws_program.specs.declared.fault.RunFault.{RunFault}
+use Rattle.ws_program.specs.declared.fault.RunFault.TheVariants.{Write}
+use Rattle.ws_words.specs.declared.command_line.Sender.{Sender}
+use Rattle.ws_words.specs.declared.command_line.Sender.TheVariants.{Host, ExtendedHost, Station, ExtendedStation}
+
+-- no byte is refused, and the tally is of the bytes' items; or this one is
+abbrev pub IsPieceTaken : {Place U : Type 0} → Rules Place U → Watching Place → Tally → List ℕ → Option Refusal → Type 0
+IsPieceTaken rules live tally bytes None = Counts rules live tally bytes
+IsPieceTaken rules live tally bytes (Some refusal) = IsRefused rules bytes refusal.place refusal.reason
+
+-- a byte is refused
+abbrev pub HasRefusal : {Place U : Type 0} → Rules Place U → List ℕ → Type 0
+HasRefusal rules bytes = (place : ℕ) × (reason : Reason) × IsRefused rules bytes place reason
+
+-- a byte of a sender's stream is refused
+abbrev pub HasRefusalBy : Sender → List ℕ → Type 0
+HasRefusalBy Host bytes = HasRefusal element_rules bytes
+HasRefusalBy ExtendedHost bytes = HasRefusal extended_rules bytes
+HasRefusalBy Station bytes = HasRefusal answer_rules bytes
+HasRefusalBy ExtendedStation bytes = HasRefusal extended_answer_rules bytes
+
+-- what a command comes to that came to this, with an output or without
+abbrev pub settled : Bool → Result Bool Fault → Result Bool RunFault
+settled true (Ok accepted) = Ok accepted
+settled false (Ok accepted) = Err Write
+settled has_output (Err fault) = Err (run_fault fault)
+
+module _ {S : Type 0} (gives : MayGive S) (failures : S → ℕ) (from to : S) where
+  -- a source gave bytes of which such are refused: all, up to its end, or some with a refused one, behind which no more
+  -- is read
+  abbrev pub GaveEnough : (List ℕ → Type 0) → List ℕ → Type 0
+  GaveEnough IsBad bytes = GaveAll gives failures from to bytes
+      ⊎ ((reads : ℕ) × Gave gives failures from to reads bytes × IsBad bytes)
+
+  -- a source didn't give its bytes, after some of which such are refused and none of these is
+  abbrev pub FailedBefore : (List ℕ → Type 0) → Type 0
+  FailedBefore IsBad = (bytes : List ℕ) × ReadFault gives failures from to bytes × ¬ IsBad bytes

@@ -1,0 +1,134 @@
+//! What help says of the commands of an input, and of their words.
+
+// What `--help` prints behind the options.
+pub const HEX_AND_STATUS: &str = "\
+A stream is read as hex text: two hex digits for each byte, in either case.
+Blanks, tabs and line ends don't count. With --of it is read out of a recording,
+with --raw as the bytes themselves.
+
+Exit status:
+  0  the whole stream is accepted, and in play no end refuses a byte
+  1  it is refused at a byte, or ends too early
+  2  a fault, told in one line on standard error: cannot read, not hex,
+     script line N, memory, cannot write, no connection; or a wrong
+     command line";
+
+pub const CHECK_EXAMPLES: &str = "\
+It prints one line, as one of:
+  accepted: 1 records, 0 commands, 12 bytes
+  refused at 11: reason 30 StructuredField
+  truncated at 3
+
+With --of, FILE is a recording, as --record of connect and serve makes it. Of
+its lines `MILLISECONDS host|station HEX` those of that end are the stream, one
+behind another; a line of another form is told as `script line N`.
+
+With --raw, FILE has the bytes. They are read in pieces, none of which is kept,
+and no further than to the one with a byte that is refused.
+
+Examples:
+  t5250 check examples/inquiry.hex
+  t5250 check --of host examples/inquiry.recording
+  t5250 check --answers --of station examples/inquiry.recording
+  t5250 make --raw examples/inquiry.show | t5250 check --raw
+  t5250 check --extended examples/live-host.hex
+  t5250 check --answers --cut 1 < examples/inquiry-answers.hex
+  t5250 check --answers --extended examples/live-station.hex";
+
+pub const SHOW_EXAMPLES: &str = "\
+Each item is printed with the place of its last byte, counted from 0.
+Where the stream isn't accepted, the line of `check` is the last.
+
+A station's answers (--answers) have no screen. With --extended they have lines
+more for what a live host's station tells at once:
+    QUERY-REPLY HEX   the reply to a query, its 61 bytes
+    SAVED             a saved screen, whose elements follow
+    SCREEN R C        the cursor; a byte for each cell follows
+    IMMEDIATE R C     the cursor; the fields that were read at once follow
+Of a host's stream the last line is then `error row R` where an error stands.
+
+With --so-far, where a stream is refused or ends too early in a record, before
+the last line come `open record flags FFFF opcode K`, lines for the elements
+that are complete, and of a host's stream the screen that the records before
+it made; before the record's tenth byte the first line is `open record`.
+
+With --of, FILE is a recording, as of check; with --raw it has the bytes.
+
+Examples:
+  t5250 show examples/inquiry.hex
+  t5250 show --of host examples/inquiry.recording
+  t5250 show --answers --of station examples/inquiry.recording
+  t5250 show --color examples/inquiry.hex
+  t5250 show --extended examples/live-host.hex
+  t5250 show --so-far examples/live-host.hex
+  t5250 show --answers examples/inquiry-answers.hex
+  t5250 show --answers --extended examples/live-station.hex
+  echo 000A12A0000004000001FFEF | t5250 show";
+
+pub const PLAY_EXAMPLES: &str = "\
+A script has a line for each move, and is read before anything is run:
+  send K HEX   the host end sends a record of opcode K; HEX may be absent
+  cancel       the host end cancels its read
+  down N       N bytes arrive at the station; all is all of them
+  up N         N bytes arrive at the host end
+  settle       four times down all and up all
+  type TEXT    keys for the characters; insert TEXT inserts them
+  key NAME     a key, such as Enter, F3, FieldExit or Tab
+
+Examples:
+  t5250 play --screen --color examples/sign-on.script
+  t5250 play --tcp examples/sign-on.script
+  echo settle | t5250 play";
+
+pub const MAKE_EXAMPLES: &str = "\
+A text has the lines that `show` prints, and is read before anything is written:
+  record opcode K   a record of opcode K; flags FFFF may stand before opcode
+  telnet DO 24      a Telnet command; so too telnet NOP, telnet SB 24 HEX
+    WRITE 00 08     an element of the record, behind two blanks
+    TEXT Sign On    characters for cells
+A place (at P) counts for nothing, nor does an empty line or one that begins
+with #. A line screen ends the text.
+
+A station's answers (--answers) have the lines that `show --answers` prints:
+    HEAD 6 53 F1    the cursor's row and column, and the key
+    AT 6 53         the cell of a field, and
+    BYTES C1C2      its bytes; so too TEXT AB
+With --extended they have also those of `show --answers --extended`: a line
+QUERY-REPLY with a whole reply, SAVED, SCREEN R C or IMMEDIATE R C.
+
+It prints a line of hex for each item, or with --raw the bytes.
+
+Examples:
+  t5250 make examples/inquiry.show
+  t5250 make --raw examples/inquiry.show | t5250 show --raw
+  t5250 make --extended examples/live-host.show
+  t5250 make --answers examples/inquiry-answers.show
+  t5250 make --answers --extended examples/live-station.show
+  t5250 show examples/inquiry.hex | t5250 make";
+
+// What help says of the words of a command.
+pub const ANSWERS_HELP: &str = "Reads what a station sends, and not what a host sends";
+
+pub const EXTENDED_HELP: &str =
+    "Takes also what live hosts send beside the profile, or with --answers what their stations tell";
+
+pub const SO_FAR_HELP: &str =
+    "Prints also what has come of the record that is open where the stream isn't accepted";
+
+pub const STREAM_HELP: &str =
+    "A hex text, or what --of or --raw says; without it, standard input is read";
+
+pub const OF_HELP: &str = "Reads a recording, and of that what this end has sent";
+
+pub const RAW_HELP: &str = "Reads the bytes themselves, and no hex text";
+
+pub const RAW_OUT_HELP: &str = "Prints the bytes themselves, and no hex text";
+
+pub const SCREEN_HELP: &str = "Prints the station's screen at the end";
+
+pub const TCP_HELP: &str =
+    "Carries the bytes over a TCP connection on 127.0.0.1; what is printed stays the same";
+
+pub const SCRIPT_HELP: &str = "A script; without it, standard input is read";
+
+pub const ITEMS_HELP: &str = "Items as text; without it, standard input is read";

@@ -1,0 +1,260 @@
+"""Bad lines of each kind of script, and why each is bad: in a script, on standard input, and in a session that is driven."""
+import subprocess
+
+from live.lines import at_host, negotiate_as_host, negotiate_as_station, settled_connect, settled_serve, station_at
+from live.program import expect, Run, script_file
+from live.records import hexed, record
+from live.runner import test
+
+NO_LINE = "it isn't a line of this script"
+APART = "two blanks in front, but it belongs to no line"
+EARLY = "too early, before what it belongs to, `%s`"
+
+# What is bad in the lines of both ends.
+EITHER = [
+    ("wait", "unknown word `wait`"),
+    ("Show", "unknown word `Show`"),
+    (" await", "a blank in front"),
+    ("await ", "a blank at the end"),
+    ("await  Enter", "two blanks between words"),
+    ("await\tEnter", "a tab"),
+    (b"await \xff", "not UTF-8"),
+    (b"\xff", "not UTF-8"),
+    ("x" * 100, "unknown word `%s`" % ("x" * 60)),
+    ("\u00fc" * 70, "unknown word `%s`" % ("\u00fc" * 60)),
+    ("a\x1bb\\", "unknown word `a\\1Bb\\5C`"),
+    ("  WRITE 00 08", APART),
+]
+
+STATION = [
+    ("await records", "unexpected word `records`"),
+    ("await text", "a word is missing behind `text`"),
+    ("await text ", "a blank at the end"),
+    ("await at 1 2", "a word is missing behind `2`"),
+    ("await at 25 1 A", "not from 1 to 24 `25`"),
+    ("await quiet", "a word is missing behind `quiet`"),
+    ("await quiet 0", "not from 1 to 3600000 `0`"),
+    ("await quiet 3600001", "not from 1 to 3600000 `3600001`"),
+    ("await record now", "one word too many `now`"),
+    ("key", "a word is missing behind `key`"),
+    ("key enter", "unknown key `enter`"),
+    ("key F25", "unknown key `F25`"),
+    ("key Enter ", "a blank at the end"),
+    ("type", "a word is missing behind `type`"),
+    ("type\tA", "a tab"),
+    ("cursor 25 1", "not from 1 to 24 `25`"),
+    ("cursor 1 81", "not from 1 to 80 `81`"),
+    ("cursor 0 1", "not from 1 to 24 `0`"),
+    ("cursor 1", "a word is missing behind `1`"),
+    ("cursor x 1", "no number `x`"),
+    ("cursor +1 1", "no number `+1`"),
+    ("cursor 1 2 3", "one word too many `3`"),
+    ("cursor 1 2 ", "a blank at the end"),
+    ("cursor 1  2", "two blanks between words"),
+    ("cursor 1\t2", "a tab"),
+    ("field 257 A", "not from 1 to 256 `257`"),
+    ("field A", "no number `A`"),
+    ("show x", "no number `x`"),
+    ("show 1 1 1921", "not from 1 to 1920 `1921`"),
+    ("cells 25", "not from 1 to 24 `25`"),
+    ("fields now", "one word too many `now`"),
+    ("status ", "a blank at the end"),
+    ("send 3", "unknown word `send`"),
+    ("note", "a word is missing behind `note`"),
+]
+
+BOTH_HOSTS = [
+    ("send", "a word is missing behind `send`"),
+    ("send ", "a blank at the end"),
+    ("send x", "no number `x`"),
+    ("send 256", "not from 0 to 255 `256`"),
+    ("send 7", "unexpected word `7`"),
+    ("send 3 0", "no hex `0`"),
+    ("send 3 0G", "no hex `0G`"),
+    ("send 3 ", "a blank at the end"),
+    ("send 3 04 40", "one word too many `40`"),
+    ("await enter", "unknown key `enter`"),
+    ("type A", "unknown word `type`"),
+    ("raw", "a word is missing behind `raw`"),
+    ("raw 0", "no hex `0`"),
+    ("telnet", "a word is missing behind `telnet`"),
+    ("telnet MAY 39", "unexpected word `MAY`"),
+    ("telnet DO 256", "not from 0 to 255 `256`"),
+    ("pause 0", "not from 1 to 3600000 `0`"),
+    ("close now", "one word too many `now`"),
+    ("send 3 0440\n  CLEAR-UNIT", APART),
+]
+
+# Lines behind a `send 3`, of which the last is bad.
+BLOCKS = [
+    ("  TEXT A", EARLY % "TEXT"),
+    ("  SBA 1 1", EARLY % "SBA"),
+    ("  WRITE", "a word is missing behind `WRITE`"),
+    ("  WRITE 00", "a word is missing behind `00`"),
+    ("  WRITE 0 08", "not 2 hex digits `0`"),
+    ("  WRITE 00 0808", "not 2 hex digits `0808`"),
+    ("  WRITES 00 08", "unknown word `WRITES`"),
+    ("  WRITE 00 08\n  SBA 25 1", "not from 1 to 24 `25`"),
+    ("  WRITE 00 08\n  TEXT \u20ac", "no byte in code page 037 for `\u20ac`"),
+    ("  WRITE 00 08\n  SF 20", "a word is missing behind `20`"),
+    ("  WRITE 00 08\n  SF 4000 20 x", "no number `x`"),
+    ("  WRITE 00 08\n  SF 400 20 6", "not 4 hex digits `400`"),
+    ("  WRITE 00 08\n  PUT", "a word is missing behind `PUT`"),
+    ("  WRITE 00 08\n   PUT C1", "a blank in front"),
+    (b"  WRITE 00 08\n  TEXT \xff", "not UTF-8"),
+]
+
+HOST = [
+    ("send 10", "unexpected word `10`"),
+    ("send 3 0440F3", NO_LINE),
+    ("cancel ", "a blank at the end"),
+    ("show 1 1 1", "one word too many `1`"),
+]
+
+ANY = [
+    ("await answer", "unknown key `answer`"),
+    ("cancel", "unknown word `cancel`"),
+    ("show", "unknown word `show`"),
+]
+
+
+def as_bytes(text):
+    return text if isinstance(text, bytes) else text.encode()
+
+
+def number_of(text):
+    return as_bytes(text).count(b"\n") + 1
+
+
+def in_scripts(words, rows, suffix):
+    for text, cause in rows:
+        with script_file(suffix, b"# first\n" + as_bytes(text) + b"\n") as script:
+            wanted = "script line %d: %s\n" % (1 + number_of(text), cause)
+            Run(words + [script.name]).end(2, "", wanted)
+
+
+def station_rows(extended=False):
+    reset = [] if extended else [("key Reset", "unknown key `Reset`")]
+    return EITHER + STATION + reset
+
+
+def host_rows(only):
+    return EITHER + BOTH_HOSTS + only + [(b"send 3\n" + as_bytes(text), cause) for text, cause in BLOCKS]
+
+
+@test
+def bad_lines_of_scripts_at_a_station():
+    in_scripts(["connect", "--wait", "1", "127.0.0.1:1"], station_rows(), ".connect")
+    in_scripts(["connect", "--extended", "--wait", "1", "127.0.0.1:1"], station_rows(True), ".connect")
+
+
+@test
+def bad_lines_of_scripts_at_a_host():
+    in_scripts(["serve", "--wait", "1", "127.0.0.1:0"], host_rows(HOST), ".serve")
+    in_scripts(["serve", "--any", "--wait", "1", "127.0.0.1:0"], host_rows(ANY), ".serve")
+
+
+@test
+def bad_lines_of_standard_input():
+    for text, cause in station_rows()[:6]:
+        at_host(negotiate_as_host, ["--wait", "5"], b"\n" + as_bytes(text) + b"\n", 2, "",
+                "script line %d: %s\n" % (1 + number_of(text), cause), host_ends=False)
+    for text, cause in host_rows(HOST)[-8:]:
+        serve = Run(["serve", "--wait", "10", "127.0.0.1:0"], b"await\n" + as_bytes(text) + b"\n")
+        side = station_at(serve)
+        negotiate_as_station(side)
+        serve.end(2, None, "script line %d: %s\n" % (1 + number_of(text), cause))
+        side.close()
+
+
+def told(run, text):
+    run.process.stdin.write(as_bytes(text) + b"\n")
+    run.process.stdin.flush()
+    return run.line() + run.line()
+
+
+@test
+def bad_lines_of_a_driven_station():
+    connect, host = settled_connect(lambda side: side.closed(), ["--wait", "5"])
+    for text, cause in station_rows():
+        expect(told(connect, text), "bad line: %s\nok\n" % cause, repr(text))
+    # The session goes on.
+    expect(connect.asked("show 6 2 4").count("\n"), 1, "show")
+    connect.end(1, "")
+    host.end()
+
+
+@test
+def bad_lines_of_a_driven_host():
+    serve, side = settled_serve(["--wait", "10"])
+    for text, cause in EITHER + host_rows(HOST)[-len(BLOCKS):]:
+        text = as_bytes(text)
+        if text.startswith(b"send 3\n"):
+            text += b"\nend"
+        expect(told(serve, text), "bad line: %s\nok\n" % cause, repr(text))
+    # Nothing was sent, and what is good is.
+    expect(serve.asked("send 3 0440"), "", "send")
+    side.take(record(3, hexed("0440")))
+    side.close()
+    serve.end(1, "")
+
+
+@test
+def the_end_of_a_send():
+    serve, side = settled_serve(["--wait", "10"])
+    # `end` closes it at once, an empty line does, and one that doesn't begin with two blanks.
+    for end in ("end", "", "# none"):
+        serve.tell("send 3")
+        serve.tell("  CLEAR-UNIT")
+        serve.tell(end)
+        expect(serve.line(), "ok\n", "send")
+        side.take(record(3, hexed("0440")))
+    # In any other place it does nothing.
+    serve.tell("end")
+    expect(serve.asked("send 3 0440"), "", "send")
+    side.take(record(3, hexed("0440")))
+    side.close()
+    serve.end(0, "")
+
+
+ITEMS = [
+    ("nonsense", "unknown word `nonsense`"),
+    ("record", "a word is missing behind `record`"),
+    ("record opcode", "a word is missing behind `opcode`"),
+    ("record opcode x", "no number `x`"),
+    ("record opcode 256", "not from 0 to 255 `256`"),
+    ("record flags 0 opcode 1", "not 4 hex digits `0`"),
+    ("record flags 0000 code 1", "unexpected word `code`"),
+    ("record opcodes 1", "unexpected word `opcodes`"),
+    ("telnet MAY 1", "unexpected word `MAY`"),
+    ("  WRITE 00 08", EARLY % "WRITE"),
+    ("record opcode 1\n  TEXT A", EARLY % "TEXT"),
+    ("record opcode 1\n\n# none\n  WRITE 00 08\n  SBA 0 1", "not from 1 to 24 `0`"),
+    ("record opcode 1\n  QUERY", "unknown word `QUERY`"),
+    ("record opcode 1\ntelnet NOP\n  CLEAR-UNIT", EARLY % "CLEAR-UNIT"),
+]
+
+ANSWERS = [
+    ("record opcode 0\n  AT 1 1", EARLY % "AT"),
+    ("record opcode 0\n  HEAD 1 1", "a word is missing behind `1`"),
+    ("record opcode 0\n  SBA 1 1", "unknown word `SBA`"),
+]
+
+
+def made(words, text):
+    run = subprocess.run([Run.program, "make"] + words, input=as_bytes(text) + b"\n", capture_output=True)
+    return run.returncode, run.stdout, run.stderr.decode()
+
+
+@test
+def bad_lines_of_items():
+    for words, rows in (([], ITEMS), (["--answers"], ANSWERS)):
+        for text, cause in rows:
+            wanted = "script line %d: %s\n" % (number_of(text), cause)
+            expect(made(words, text), (2, b"", wanted), repr(text))
+
+
+@test
+def bad_lines_of_play():
+    run = subprocess.run([Run.program, "play"], input=b"settle\nwait\n", capture_output=True)
+    expect((run.returncode, run.stdout, run.stderr), (2, b"", b"script line 2\n"), "play")

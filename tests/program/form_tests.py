@@ -1,0 +1,187 @@
+"""Forms of a stream: what an end sent by a recording, and raw bytes, read and written."""
+import os
+import resource
+import subprocess
+import time
+
+from program.runs import Program, run
+from program.texts import (
+    ANSWER, ANSWER_LINE, ANSWER_LINES, ANSWER_MADE, EMPTY_SCREEN, HELLO, HELLO_LINES, HELLO_MADE, HELLO_TEXT, INVITE, INVITE_LINE,
+    QUERY, QUERY_LINE, SHORT, SHORT_LINE, TOLD, TOLD_LINE, TOLD_LINES,
+)
+
+# A host's screen in three pieces, between which a station answers.
+RECORDING = f"""0 host {HELLO_MADE[:8]}
+12 station {ANSWER_MADE[:20]}
+12 host {HELLO_MADE[8:30]}
+1204 host {HELLO_MADE[30:-1]}
+1205 station {ANSWER_MADE[20:-1].lower()}
+"""
+
+# The words, the standard input, and what is wanted: the exit status, standard output, and a line on standard error.
+RECORDINGS = [
+    (["check", "--of", "host"], RECORDING, 0, "accepted: 1 records, 0 commands, 23 bytes\n", ""),
+    (["check", "--of", "host", "--cut", "1"], RECORDING, 0, "accepted: 1 records, 0 commands, 23 bytes\n", ""),
+    (["check", "--of=station", "--answers"], RECORDING, 0, ANSWER_LINE, ""),
+    (["check", "--of", "station"], RECORDING, 1, "refused at 10: reason 20 NoEscape\n", ""),
+    (["check", "--of", "station", "--answers", "--extended"], f"1 station {TOLD}", 0, TOLD_LINE, ""),
+    (["show", "--of", "host"], RECORDING, 0, HELLO_LINES, ""),
+    (["show", "--of", "station", "--answers"], RECORDING, 0, ANSWER_LINES, ""),
+    (["show", "--of", "station", "--answers", "--extended"], f"1 station {TOLD}", 0, TOLD_LINES, ""),
+    (["show", "--of", "host", "--so-far"], f"9 host {SHORT}", 1, "open record\n" + EMPTY_SCREEN + SHORT_LINE, ""),
+    (["show", "--of", "host"], f"9 host {QUERY}9 station 0\n", 2, "", "script line 2\n"),
+    (["check", "--of", "host"], f"9 host {QUERY}9 station 00\n", 1, QUERY_LINE, ""),
+    (["check", "--of", "host"], f"0 host {HELLO_MADE[:7]}\n" + RECORDING, 2, "", "script line 1\n"),
+    (["check", "--of", "host"], "", 0, "accepted: 0 records, 0 commands, 0 bytes\n", ""),
+    (["check", "--of", "station"], f"9 host {INVITE}", 0, "accepted: 0 records, 0 commands, 0 bytes\n", ""),
+    (["check", "--of", "host"], f"9 host {INVITE}".replace("\n", "\r\n"), 0, INVITE_LINE, ""),
+    (["check", "--of", "host"], f"9 host {INVITE}".rstrip("\n"), 0, INVITE_LINE, ""),
+    (["check", "--of", "host"], INVITE, 2, "", "script line 1\n"),
+    (["check", "--of", "host"], f"9 host {INVITE}\n", 2, "", "script line 2\n"),
+    (["check", "--of", "host"], f"9 host {INVITE}# nothing\n", 2, "", "script line 2\n"),
+    (["check", "--of", "host", "no such file"], RECORDING, 2, "", "cannot read\n"),
+    # wrong command lines
+    (["check", "--of", "host", "--raw"], RECORDING, 2, "", None),
+    (["show", "--raw", "--of", "host"], RECORDING, 2, "", None),
+    (["check", "--of", "nobody"], RECORDING, 2, "", None),
+    (["check", "--of"], RECORDING, 2, "", None),
+    (["make", "--of", "host"], HELLO_TEXT, 2, "", None),
+    (["play", "--raw"], "settle\n", 2, "", None),
+]
+
+# The same of bytes, which standard input and a file have, spelled in hex.
+BYTES = [
+    (["check", "--raw"], INVITE, 0, INVITE_LINE, ""),
+    (["check", "--raw", "--cut", "1"], INVITE, 0, INVITE_LINE, ""),
+    (["check", "--raw", "--cut=65535"], INVITE * 6000, 0, "accepted: 6000 records, 0 commands, 72000 bytes\n", ""),
+    (["check", "--raw"], QUERY, 1, QUERY_LINE, ""),
+    (["check", "--raw"], INVITE * 6000 + QUERY, 1, "refused at 72011: reason 30 StructuredField\n", ""),
+    (["check", "--raw"], SHORT, 1, SHORT_LINE, ""),
+    (["check", "--raw"], "", 0, "accepted: 0 records, 0 commands, 0 bytes\n", ""),
+    (["check", "--raw", "--answers"], ANSWER, 0, ANSWER_LINE, ""),
+    (["check", "--raw", "--answers", "--extended"], TOLD, 0, TOLD_LINE, ""),
+    (["check", "--raw", "--extended"], QUERY, 0, "accepted: 1 records, 0 commands, 19 bytes\n", ""),
+    (["show", "--raw"], HELLO, 0, HELLO_LINES, ""),
+    (["show", "--raw"], QUERY, 1, QUERY_LINE, ""),
+    (["show", "--raw", "--so-far"], SHORT, 1, "open record\n" + EMPTY_SCREEN + SHORT_LINE, ""),
+    (["show", "--raw", "--answers"], ANSWER, 0, ANSWER_LINES, ""),
+    (["show", "--raw", "--answers", "--extended"], TOLD, 0, TOLD_LINES, ""),
+    (["show", "--raw"], "", 0, EMPTY_SCREEN, ""),
+]
+
+# What is made of items as text, in bytes that are spelled in hex.
+MADE = [
+    (["make", "--raw"], HELLO_TEXT, 0, HELLO, ""),
+    (["make", "--raw"], HELLO_TEXT + "telnet NOP\n" + HELLO_TEXT, 0, HELLO + "FF F1" + HELLO, ""),
+    (["make", "--raw", "--answers"], ANSWER_LINES, 0, ANSWER, ""),
+    (["make", "--raw", "--answers", "--extended"], TOLD_LINES, 0, TOLD, ""),
+    (["make", "--raw"], "", 0, "", ""),
+    (["make", "--raw"], HELLO_TEXT + "nonsense\n", 2, "", "script line 6: unknown word `nonsense`\n"),
+]
+
+# A record of long data, 1,770 bytes and its end.
+LONG = bytes.fromhex("06EA12A0000004000002" + "04110008110101") + b"\xc1" * 1753 + b"\xff\xef"
+# A stream is given up for long where an unproved program takes this time.
+SECONDS = 6
+
+
+def recorded_runs(runs):
+    for words, text, status, out, err in RECORDINGS:
+        runs.expect(words, run(words, text), status, out, err)
+
+
+def byte_runs(runs, folder):
+    path = os.path.join(folder, "stream")
+    for words, spelled, status, out, err in BYTES:
+        data = bytes.fromhex(spelled)
+        with open(path, "wb") as file:
+            file.write(data)
+        for given, done in (" a pipe", piped(words, data)), (" a file", piped([*words, path], b"")):
+            runs.expect(f"{words} of{given}", done, status, out, err)
+
+
+def piped(words, data, **more):
+    """What a run comes to whose standard input has these bytes; its output as text."""
+    done = subprocess.run([Program.path, *words], input=data, capture_output=True, timeout=60, **more)
+    return subprocess.CompletedProcess(words, done.returncode, done.stdout.decode(), done.stderr.decode())
+
+
+def made_runs(runs):
+    for words, text, status, spelled, err in MADE:
+        done = subprocess.run([Program.path, *words], input=text.encode(), capture_output=True, timeout=60)
+        found = subprocess.CompletedProcess(words, done.returncode, done.stdout.hex(), done.stderr.decode())
+        runs.expect(words, found, status, bytes.fromhex(spelled).hex(), err)
+
+
+def unread_runs(runs, folder):
+    """An input that can't be read, before all else or in the middle, and an output that can't be written."""
+    for words in ["check", "--raw"], ["show", "--raw"], ["check", "--of", "host"], ["make", "--raw"]:
+        descriptor = os.open(folder, os.O_RDONLY)
+        runs.expect(f"{words} from a folder", run(words, stdin=descriptor), 2, "", "cannot read\n")
+        os.close(descriptor)
+        for file in folder, "no such file":
+            runs.expect(f"{words} {file}", run([*words, file]), 2, "", "cannot read\n")
+        done = run(words, preexec_fn=lambda: os.close(0))
+        runs.expect(f"{words} without standard input", done, 2, "", "cannot read\n")
+        with open("/dev/full", "w") as full:
+            done = run(words, HELLO_TEXT if words[0] == "make" else "", stdout=full)
+        runs.expect(f"{words} into a full device", done, 2, "", "cannot write\n")
+    for data in b"", b"\0\0", b"\0":
+        done = piped(["check", "--raw"], data, preexec_fn=lambda: os.close(1))
+        runs.expect(f"{data} without standard output", done, 2, "", "cannot write\n")
+
+
+def limit():
+    resource.setrlimit(resource.RLIMIT_AS, (24 << 20, 24 << 20))
+
+
+def most_memory(process):
+    """The most memory that a process had, in KiB."""
+    with open(f"/proc/{process.pid}/status") as file:
+        return next(int(line.split()[1]) for line in file if line.startswith("VmHWM:"))
+
+
+def long_runs(runs):
+    """A pipe of 100 MB, of which nothing is held: accepted, truncated, refused in its last piece, and at once."""
+    count = 100_000_000 // (64 * len(LONG))
+    for name, end in ("accepted", b""), ("truncated", LONG[:7]), ("refused", b"\0\0"):
+        process = subprocess.Popen([Program.path, "check", "--raw"], stdin=subprocess.PIPE, stdout=subprocess.PIPE,
+                                   stderr=subprocess.PIPE, preexec_fn=limit)
+        began, pieces = time.monotonic(), 0
+        while pieces < count and time.monotonic() - began < SECONDS:
+            process.stdin.write(LONG * 64)
+            pieces += 1
+        process.stdin.write(end)
+        process.stdin.flush()
+        memory = most_memory(process)
+        out, err = process.communicate(timeout=60)
+        length = pieces * 64 * len(LONG)
+        wanted = {
+            "accepted": (0, f"accepted: {pieces * 64} records, 0 commands, {length} bytes\n"),
+            "truncated": (1, f"truncated at {length + 7}\n"),
+            "refused": (1, f"refused at {length + 1}: reason 10 LengthBelowHeader\n"),
+        }[name]
+        found = (process.returncode, out.decode())
+        runs.count(f"{length} bytes of a pipe, {name}: {found} {err}", (*found, err) == (*wanted, b""))
+        runs.count(f"{length} bytes of a pipe, {name}: {memory} KiB", memory < 8 << 10)
+
+
+def early_runs(runs):
+    """A refused byte is told though the pipe stays open."""
+    process = subprocess.Popen([Program.path, "check", "--raw"], stdin=subprocess.PIPE, stdout=subprocess.PIPE)
+    process.stdin.write(bytes.fromhex(INVITE) + b"\0\0")
+    process.stdin.flush()
+    line = process.stdout.readline().decode()
+    runs.count(f"an open pipe: {line}", line == "refused at 13: reason 10 LengthBelowHeader\n")
+    process.stdin.close()
+    runs.count("an open pipe", process.wait(timeout=60) == 1)
+    process.stdout.close()
+
+
+def run_all(runs, folder):
+    recorded_runs(runs)
+    byte_runs(runs, folder)
+    made_runs(runs)
+    unread_runs(runs, folder)
+    long_runs(runs)
+    early_runs(runs)

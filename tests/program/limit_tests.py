@@ -1,0 +1,77 @@
+"""Too few descriptors, too little memory, and how many writes an output takes."""
+import os
+import re
+import resource
+import shutil
+import subprocess
+import time
+
+from program.runs import Program, run
+from program.texts import ANSWER, BOB, HELLO, HELLO_TEXT, INVITE, MANY
+
+
+def is_reading(process):
+    """Whether a program has been loaded, and sleeps."""
+    with open(f"/proc/{process.pid}/stat") as file:
+        state = file.read().rpartition(")")[2].split()[0]
+    with open(f"/proc/{process.pid}/maps") as file:
+        loaded = file.read()
+    return state == "S" and Program.path in loaded and "libc" in loaded
+
+
+def unconnected_runs(runs):
+    """There is no descriptor left for listening, for connecting, or for what is accepted."""
+    for descriptors in 3, 4, 5:
+        pipes = {"stdin": subprocess.PIPE, "stdout": subprocess.PIPE, "stderr": subprocess.PIPE}
+        process = subprocess.Popen([Program.path, "play", "--tcp"], text=True, **pipes)
+        # While it waits for its script: before that, it needs a descriptor to load the C library.
+        for _ in range(1000):
+            if is_reading(process):
+                break
+            time.sleep(0.01)
+        resource.prlimit(process.pid, resource.RLIMIT_NOFILE, (descriptors, descriptors))
+        out, err = process.communicate(BOB, timeout=60)
+        done = subprocess.CompletedProcess([], process.returncode, out, err)
+        runs.expect(f"--tcp with {descriptors} descriptors", done, 2, "", "no connection\n")
+
+
+def small_runs(runs, folder):
+    """There is too little memory for the input."""
+    path = os.path.join(folder, "large.hex")
+    with open(path, "w") as file:
+        file.write(INVITE * 1_000_000)
+
+    def limit():
+        resource.setrlimit(resource.RLIMIT_AS, (24 << 20, 24 << 20))
+
+    for words in ["check"], ["show"]:
+        runs.expect(f"{words} without memory", run([*words, path], preexec_fn=limit), 2, "", "memory\n")
+
+
+def writes_of(words, text, path):
+    """How many writes to standard output a run makes, and how many bytes; None where strace can't tell."""
+    traced = ["strace", "-f", "-qq", "-e", "trace=write,writev", "-o", path, Program.path, *words]
+    done = subprocess.run(traced, input=text.encode(), capture_output=True, timeout=300)
+    with open(path) as file:
+        return sum(re.search(r"\bwritev?\(1,", line) is not None for line in file), len(done.stdout)
+
+
+def write_runs(runs, folder):
+    """There is at most one write for 4 KiB of output, and one for the rest."""
+    path = os.path.join(folder, "writes")
+    known = subprocess.run(["strace", "-o", path, "true"], capture_output=True) if shutil.which("strace") else None
+    if known is None or known.returncode != 0:
+        print("left out: counts of writes, since strace isn't there or may not look")
+        return
+    session = "settle\n" + (BOB.partition("\n")[2] * 500)
+    shown = (["show"], HELLO * 1000), (["show", "--answers"], ANSWER * 1000)
+    played = (["play"], session), (["play", "--screen"], session)
+    for words, text in (*shown, *played, (["make"], HELLO_TEXT * 1000), (["check"], MANY)):
+        count, length = writes_of(words, text, path)
+        runs.count(f"{words}: {count} writes of {length} bytes", 0 < count <= length // 4096 + 1)
+
+
+def run_all(runs, folder):
+    unconnected_runs(runs)
+    small_runs(runs, folder)
+    write_runs(runs, folder)
