@@ -1,6 +1,6 @@
 -- What the sessions of `serve --any` come to: those of a host that takes any record.
 
-use Rattle.std.specs.Prelude.{◌≡◌, ℕ, List, [], ◌∷◌, ◌++◌, ◌⊎◌, Bool, false, ◌&&◌, Result, Ok}
+use Rattle.std.specs.Prelude.{◌≡◌, ℕ, List, [], ◌∷◌, ◌++◌, ◌⊎◌, Bool, ◌&&◌, Result}
 use Rattle.ws_code.specs.Device.{MayTake, MayGive, WentOut}
 use Rattle.ws_code.specs.declared.fault.Fault.{Fault}
 use Rattle.ws_nego.specs.Host.{opening}

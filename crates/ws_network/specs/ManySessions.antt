@@ -1,6 +1,6 @@
 -- What the sessions of `serve` come to, one or more at a listener.
 
-use Rattle.std.specs.Prelude.{◌≡◌, ℕ, zero, suc, ◌+◌, List, [], ◌++◌, Bool, true, ◌&&◌, Option, None, Some, codes}
+use Rattle.std.specs.Prelude.{◌≡◌, ℕ, zero, suc, ◌+◌, List, [], ◌++◌, Bool, true, ◌&&◌, Option, Some, codes}
 use Rattle.std.specs.Borrow.{Bor}
 use Rattle.std.specs.Fmt.{decimal}
 use Rattle.ws_code.specs.Device.{MayTake, WentOut}
@@ -34,7 +34,7 @@ module _ (IsSession : Bool → List ℕ → Type 0) where
 -- what the sessions of `serve` came to, behind what tells the address at which it listens
 abbrev pub HasServedBy : {L O : Type 0} → (List ℕ → List (List ℕ) → L → Type 0) → (List ℕ → Type 0)
     → (ServeAsked → List L → Bool → List ℕ → Type 0) → MayTake O → (O → ℕ) → O → O → ServeAsked → Bool → Type 0
-HasServedBy means opener IsServed prints misprints old new asked all_well = (lines : List L) × (first : List ℕ)
+HasServedBy {L = L} means opener IsServed prints misprints old new asked all_well = (lines : List L) × (first : List ℕ)
     × (text : List ℕ) × AreFromScript means opener asked.script lines
     × AreSessions (IsServed asked lines) asked.script asked.sessions all_well text
     × WentOut prints misprints old new (first ++ text)

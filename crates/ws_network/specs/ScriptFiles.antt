@@ -1,6 +1,6 @@
 -- Why the file of a script gives no lines.
 
-use Rattle.std.specs.Prelude.{◌≡◌, ◌⊎◌, ℕ, List}
+use Rattle.std.specs.Prelude.{◌⊎◌, ℕ, List}
 use Rattle.std.specs.Str.Lines.{lines}
 use Rattle.ws_live.specs.LiveScript.{IsReadingFault}
 use Rattle.ws_live.specs.declared.script.ScriptFault.TheVariants as script

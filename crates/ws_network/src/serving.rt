@@ -71,15 +71,35 @@ where
     let script = read_script_file::<R, L>(rt, asked.script, vocabulary)?;
     streams.suffice(script.is_none())?;
     let file = make_record(rt, asked.record)?;
-    match (lines_of(&script), asked.sessions) {
-        (Some(lines), Some(sessions)) => {
+    let lines = lines_of(&script);
+    match (asked.sessions, lines) {
+        (None, _) | (_, None) => serve_one::<R, L, O>(rt, asked, file.as_ref(), lines, out),
+        (Some(sessions), Some(lines)) => {
             serve_many::<R, L, O>(rt, asked, sessions, file.as_ref(), lines, out)
         }
-        (script, _) => {
-            let stream = take_station(rt, asked.address, out)?;
-            L::serve(rt, asked, &stream, file.as_ref(), script, out)
-        }
     }
+}
+
+// Serves one station: the next that comes.
+fn serve_one<R, L, O>(
+    rt: &R,
+    asked: &ServeAsked<'_>,
+    file: Option<&File>,
+    script: Option<&[L]>,
+    out: &mut BufferedSink<O>,
+) -> Result<bool, ToldFault>
+where
+    R: Runtime + AllocGlobal + Net<Listener = TcpListener, Stream = TcpStream>,
+    L: ServedLine,
+    O: Sink,
+    requires empty { out.old.held ≡ [] }
+    ensures { IfOk result (λ all_well. (lines : List L) × (first : List ℕ) × (text : List ℕ)
+        × MatchOption script.entry (Unit {0}) (λ read. lines ≡ read.now)
+        × L.served asked.now lines all_well text
+        × WentOut O.takes O.failures out.old.sink out.new.sink (first ++ text)) }
+{
+    let stream = take_station(rt, asked.address, out)?;
+    L::serve(rt, asked, &stream, file, script, out)
 }
 
 // Serves so many stations, at one listener.

@@ -1,10 +1,11 @@
-use Rattle.std.proofs.Common.{◌++◌, ◌&&◌, Bool, List, ℕ, sym, ap, ◌∙◌, subst, inl}
+use Rattle.std.proofs.Common.{◌≡◌, ◌++◌, ◌&&◌, Bool, List, ℕ, sym, ap, ◌∙◌, subst, inl}
 use Rattle.std.specs.Option.{is_some}
 use Rattle.ws_code.proofs.DeviceLaws.{went_out_both}
 use Rattle.ws_any_host.specs.declared.any_line.AnyLine.TheVariants.{Await}
 use Rattle.ws_network.specs.AnySessions.{IsTextAndOn, RunsAny}
 use Rattle.ws_network.proofs.AnySessionLaws.{stopped_text, carried_text, uncarried}
 use Rattle.ws_network.proofs.any_input.carry_at_any_host.Goals as goal
+use Rattle.ws_network.proofs.any_input.carry_at_any_host.Goals.{then-ran-2, else-ran-2}
 
 pub returns-in-Err-clause-fault : goal.returns-in-Err-clause-fault
 returns-in-Err-clause-fault g c = let e = c.in-Err.ensures.fault in (e.0, e.1, inl e.2)
@@ -22,40 +23,23 @@ returns-then-ran-clause-ran g c =
       e.2.2,
     )
 
-pub returns-then-ran-2-clause-ran : goal.returns-then-ran-2-clause-ran
-returns-then-ran-2-clause-ran g c =
+pub returns-after-ran-2-clause-ran : goal.returns-after-ran-2-clause-ran
+returns-after-ran-2-clause-ran g c =
     let runs = RunsAny g.K.Sink.takes g.K.Sink.failures g.S.Source.gives g.S.Source.failures g.W.Watch.tells
     g.W.Watch.begins g.W.Watch.begun in
     let e = c.in-Ok.ensures.ran in
     let a = c.in-Ok-carry_on.ensures.carried in
     let well = c.in-Ok-carry_on.is_well in
-    let text : List ℕ = e.2.0 ++ a.0 in (
+    let text : List ℕ = e.2.0 ++ a.0 in
+    let same : c.in-Ok.ran.all_well && well ≡ c.if-ran-2.result = elim c.if-ran-2.branch [
+      | then-ran-2 w ↦ ap (λ (b : Bool). b && well) w.if-ran-2.true ∙ sym w.result-is
+      | else-ran-2 w ↦ ap (λ (b : Bool). b && well) w.if-ran-2.false ∙ (sym w.if-ran-2.false ∙ sym w.result-is)
+    ] in (
       e.0,
       text,
       e.1,
       subst (λ (b : Bool). IsTextAndOn runs Await c.args.ready ((c.args.attached.now, c.args.ahead.now), c.args.watch.now) e.0 b text
-          ((c.carry_on.new.attached, c.carry_on.new.ahead), c.carry_on.new.watch)) (ap (λ (b : Bool). b && well) c.if-ran-2.true)
-          (carried_text runs Await c.args.ready ((c.args.attached.now, c.args.ahead.now), c.args.watch.now)
-          ((c.carry_session.new.attached, c.carry_session.new.ahead), c.carry_session.new.watch) e.0 c.in-Ok.ran e.2.0 e.2.1
-          ((c.carry_on.new.attached, c.carry_on.new.ahead), c.carry_on.new.watch) well a.0 c.if-ran.false a.1),
-      went_out_both g.O.Sink.takes g.O.Sink.failures c.args.out.now.sink c.carry_session.new.out.sink
-          c.carry_on.new.out.sink e.2.0 a.0 e.2.2 a.2,
-    )
-
-pub returns-else-ran-2-clause-ran : goal.returns-else-ran-2-clause-ran
-returns-else-ran-2-clause-ran g c =
-    let runs = RunsAny g.K.Sink.takes g.K.Sink.failures g.S.Source.gives g.S.Source.failures g.W.Watch.tells
-    g.W.Watch.begins g.W.Watch.begun in
-    let e = c.in-Ok.ensures.ran in
-    let a = c.in-Ok-carry_on.ensures.carried in
-    let well = c.in-Ok-carry_on.is_well in
-    let text : List ℕ = e.2.0 ++ a.0 in (
-      e.0,
-      text,
-      e.1,
-      subst (λ (b : Bool). IsTextAndOn runs Await c.args.ready ((c.args.attached.now, c.args.ahead.now), c.args.watch.now) e.0 b text
-          ((c.carry_on.new.attached, c.carry_on.new.ahead), c.carry_on.new.watch))
-          (ap (λ (b : Bool). b && well) c.if-ran-2.false ∙ sym c.if-ran-2.false)
+          ((c.carry_on.new.attached, c.carry_on.new.ahead), c.carry_on.new.watch)) same
           (carried_text runs Await c.args.ready ((c.args.attached.now, c.args.ahead.now), c.args.watch.now)
           ((c.carry_session.new.attached, c.carry_session.new.ahead), c.carry_session.new.watch) e.0 c.in-Ok.ran e.2.0 e.2.1
           ((c.carry_on.new.attached, c.carry_on.new.ahead), c.carry_on.new.watch) well a.0 c.if-ran.false a.1),

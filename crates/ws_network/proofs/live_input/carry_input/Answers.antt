@@ -1,4 +1,4 @@
-use Rattle.std.proofs.Common.{◌≡◌, ◌++◌, ◌∷◌, [], Bool, List, ℕ, refl, sym, ap, ◌∙◌, subst, inl}
+use Rattle.std.proofs.Common.{◌≡◌, ◌++◌, ◌∷◌, [], Bool, true, List, refl, sym, ap, ◌∙◌, subst, inl, inr}
 use Rattle.ws_code.proofs.DeviceLaws.{went_out_none}
 use Rattle.ws_live.specs.Waits.{InTime}
 use Rattle.ws_live.specs.LiveText.{HaveRun, HasRun, ran_and, ran_by}
@@ -15,6 +15,16 @@ loop-init g c = (
   ap (λ (r : Ran). r.is_over) c.none-ran.ensures,
   c.requires.works,
   c.requires.empty,
+)
+
+pub returns-in_default-clause-fault : goal.returns-in_default-clause-fault
+returns-in_default-clause-fault g c = (
+  [],
+  inr (
+    refl,
+    (true, [], (refl, refl, refl), went_out_none g.O.Sink.takes g.O.Sink.failures c.args.out.now.sink),
+    inl (inr refl),
+  ),
 )
 
 pub returns-in-Err-carry_next-clause-fault : goal.returns-in-Err-carry_next-clause-fault
