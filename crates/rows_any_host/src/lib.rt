@@ -7,6 +7,8 @@ mod any_rows;
 mod line_rows;
 #[cfg(test)]
 mod option_rows;
+#[cfg(test)]
+mod wire_rows;
 
 // Expects two values to be the same, and shows both where they aren't. One call of it is proved sooner than an
 // `assert_eq!`.

@@ -48,6 +48,8 @@ mod colored_rows;
 #[cfg(test)]
 mod extended_live_rows;
 #[cfg(test)]
+mod live_host_rows;
+#[cfg(test)]
 mod live_rows;
 #[cfg(test)]
 mod report_rows;
