@@ -1,7 +1,7 @@
 """Lines of `serve`, with --any too, that work on the connection itself, and what an answer's fields show."""
 import time
 
-from live.lines import negotiate_as_station, settled_serve, station_at
+from live.lines import negotiate_as_station, station_at
 from live.program import expect, Run, script_file, timed
 from live.records import BINARY, DO, hexed, IAC, record, SB, SE, SIGN_ON, WILL
 from live.runner import test
@@ -96,17 +96,6 @@ def the_end_of_a_block():
             side.take(record(3, hexed("0440")) + b"\x01")
             side.close()
             serve.end(0, told + "ok\nok\nok\n")
-
-
-@test
-def a_block_ends_at_once():
-    serve, side = settled_serve(["--wait", "10"])
-    serve.tell("send 3")
-    serve.tell("  CLEAR-UNIT")
-    expect(serve.asked("end"), "", "end")
-    side.take(record(3, hexed("0440")))
-    side.close()
-    serve.end(0, "")
 
 
 @test
