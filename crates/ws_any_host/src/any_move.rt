@@ -2,15 +2,16 @@
 ghost use Rattle.std.specs.Prelude.{◌≡◌, false, Bool, List, ℕ, IfOk};
 ghost use Rattle.ws_text.specs.Printing.{Prints};
 ghost use Rattle.ws_live.specs.LiveText.{stops};
-ghost use Rattle.ws_live.specs.ServeText.{given_outcome, given_text, unheard_outcome, unheard_text};
 ghost use Rattle.ws_any_host.specs.AnyText as Spec;
 
 use crate::any_text::put_any_event;
 use crate::{AnyEvent, AnyHost, AnyLine};
 use ws_code::{Aid, Fault, Sink, Source};
-use ws_live::{Carried, Closing, LiveMove, Paint, WaitSpan, Watch, carry_wire, put_bad, put_event};
+use ws_live::{
+    Carried, Closing, LiveMove, Paint, WaitSpan, Watch, carry_wire, put_bad, put_given, put_unheard,
+};
 use ws_record::{Opcode, Record};
-use ws_session::{Attached, Event, SendFault};
+use ws_session::{Attached, SendFault};
 use ws_text::Output;
 
 impl<S: Source, K: Sink> LiveMove<AnyHost, S, K> for AnyLine {
@@ -65,31 +66,6 @@ fn give<S: Source, K: Sink>(
     match attached.act(record_) {
         Ok(refused) => Ok(refused),
         Err(fault) => Err(fault),
-    }
-}
-
-fn put_given<O: Sink>(
-    out: &mut O,
-    output: Output,
-    given: Result<Option<SendFault>, Fault>,
-) -> Carried
-    ensures outcome { result.outcome ≡ given_outcome given }
-    ensures text { Prints O.takes O.failures out.old out.new output result.output
-        (given_text given) }
-{
-    match given {
-        Ok(None) => Carried {
-            output,
-            outcome: Ok(Closing::Done),
-        },
-        Ok(Some(fault)) => Carried {
-            output: put_event(out, output, &Event::SendRefused(fault)),
-            outcome: Ok(Closing::Declined),
-        },
-        Err(fault) => Carried {
-            output,
-            outcome: Err(fault),
-        },
     }
 }
 
@@ -178,46 +154,5 @@ fn is_answer_by(aid: Aid, body: &[u8]) -> bool
     match body {
         [_, _, third, ..] => *third == aid.byte(),
         _ => false,
-    }
-}
-
-// How a wait closes that a fault ended.
-fn put_unheard<S, W: Watch<S>, O: Sink>(
-    watch: &W,
-    source: &S,
-    out: &mut O,
-    output: Output,
-    fault: Fault,
-) -> Carried
-    ensures { (late : Bool) × (fault ≡ Fault.Read → W.tells source.now late)
-        × (result.outcome ≡ unheard_outcome late fault)
-        × Prints O.takes O.failures out.old out.new output result.output
-        (unheard_text fault) }
-{
-    match fault {
-        Fault::Refused { place, reason } => Carried {
-            output: put_event(out, output, &Event::HostRefused { place, reason }),
-            outcome: Ok(Closing::Stopped),
-        },
-        Fault::Read => Carried {
-            output,
-            outcome: unread(watch, source),
-        },
-        _ => Carried {
-            output,
-            outcome: Err(fault),
-        },
-    }
-}
-
-// How a wait closes at which a read failed.
-fn unread<S, W: Watch<S>>(watch: &W, source: &S) -> Result<Closing, Fault>
-    ensures { (late : Bool) × W.tells source.now late
-        × (result ≡ unheard_outcome late Fault.Read) }
-{
-    if watch.is_late(source) {
-        Ok(Closing::Late)
-    } else {
-        Err(Fault::Read)
     }
 }

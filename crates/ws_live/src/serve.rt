@@ -1,3 +1,4 @@
+//! The lines of a script, carried out at a host; and what is told behind them.
 ghost use Rattle.std.specs.Prelude.{◌≡◌, [], false, Bool, List, ℕ, IfOk, IfErr};
 ghost use Rattle.ws_session.specs.declared.end_step.Order.TheVariants.{Send};
 ghost use Rattle.ws_live.specs.ServeText as Spec;
@@ -5,9 +6,9 @@ ghost use Rattle.ws_live.specs.LiveText.{stops};
 ghost use Rattle.ws_text.specs.Printing.{Prints};
 
 use crate::buffered_sink::BufferedSink;
+use crate::host_closing::{put_given, put_unheard};
 use crate::live::{Carried, Closing, LiveMove, hand_on, put_bad};
 use crate::paint::Paint;
-use crate::play::put_event;
 use crate::screen_lines::put_screen;
 use crate::serve_line::{AnswerAwaited, HostLine};
 use crate::told_event::put_told;
@@ -15,7 +16,7 @@ use crate::watch::{WaitSpan, Watch};
 use crate::wire_line::carry_wire;
 use ws_code::{Fault, Sink, Source};
 use ws_record::Opcode;
-use ws_session::{Attached, Event, HostEnd, HostEvent, Order, SendFault};
+use ws_session::{Attached, HostEnd, HostEvent, Order, SendFault};
 use ws_stream::Element;
 use ws_text::Output;
 
@@ -92,31 +93,6 @@ fn give_record<S: Source, K: Sink>(
     match opcode {
         Opcode::CancelInvite => attached.cancel(),
         _ => attached.send(opcode, body),
-    }
-}
-
-fn put_given<O: Sink>(
-    out: &mut O,
-    output: Output,
-    given: Result<Option<SendFault>, Fault>,
-) -> Carried
-    ensures outcome { result.outcome ≡ Spec.given_outcome given }
-    ensures text { Prints O.takes O.failures out.old out.new output result.output
-        (Spec.given_text given) }
-{
-    match given {
-        Ok(None) => Carried {
-            output,
-            outcome: Ok(Closing::Done),
-        },
-        Ok(Some(fault)) => Carried {
-            output: put_event(out, output, &Event::SendRefused(fault)),
-            outcome: Ok(Closing::Declined),
-        },
-        Err(fault) => Carried {
-            output,
-            outcome: Err(fault),
-        },
     }
 }
 
@@ -197,47 +173,6 @@ fn is_awaited(awaited: &AnswerAwaited, event: &HostEvent) -> bool
             AnswerAwaited::By(aid) => answer.aid == *aid,
         },
         _ => false,
-    }
-}
-
-// How a wait closes that a fault ended.
-fn put_unheard<S, W: Watch<S>, O: Sink>(
-    watch: &W,
-    source: &S,
-    out: &mut O,
-    output: Output,
-    fault: Fault,
-) -> Carried
-    ensures { (late : Bool) × (fault ≡ Fault.Read → W.tells source.now late)
-        × (result.outcome ≡ Spec.unheard_outcome late fault)
-        × Prints O.takes O.failures out.old out.new output result.output
-        (Spec.unheard_text fault) }
-{
-    match fault {
-        Fault::Refused { place, reason } => Carried {
-            output: put_event(out, output, &Event::HostRefused { place, reason }),
-            outcome: Ok(Closing::Stopped),
-        },
-        Fault::Read => Carried {
-            output,
-            outcome: unread(watch, source),
-        },
-        _ => Carried {
-            output,
-            outcome: Err(fault),
-        },
-    }
-}
-
-// How a wait closes at which a read failed.
-fn unread<S, W: Watch<S>>(watch: &W, source: &S) -> Result<Closing, Fault>
-    ensures { (late : Bool) × W.tells source.now late
-        × (result ≡ Spec.unheard_outcome late Fault.Read) }
-{
-    if watch.is_late(source) {
-        Ok(Closing::Late)
-    } else {
-        Err(Fault::Read)
     }
 }
 

@@ -1,4 +1,4 @@
-use Rattle.std.proofs.Common.{◌≡◌, ◌≤◌, ◌++◌, ◌∷◌, [], List, ℕ, true, sym, ap, ◌∙◌, subst, inl, inr, append_assoc, lit<, Bor, arith, zero, suc, drop, length, false}
+use Rattle.std.proofs.Common.{◌≡◌, ◌≤◌, ◌++◌, ◌∷◌, [], List, ℕ, true, sym, ap, ◌∙◌, subst, inl, inr, append_assoc, lit<, Bor, arith, zero, suc, drop, length}
 use Rattle.std.specs.Prelude.{◌==◌}
 use Rattle.std.proofs.lemmas.Bool.{false≢true}
 use Rattle.std.proofs.lemmas.Bool.Decides.{eqb_tells}

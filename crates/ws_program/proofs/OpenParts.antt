@@ -1,13 +1,12 @@
-use Rattle.std.proofs.Common.{◌≡◌, ◌≢◌, ℕ, ◌+◌, ◌-◌, ◌≤◌, Bool, true}
-use Rattle.std.proofs.Common.{false, List, [], ◌∷◌, ◌++◌, Option, None, Some, length}
-use Rattle.std.proofs.Common.{take, drop, map, refl, sym, ap, ◌∙◌, subst, arith, append_assoc}
+use Rattle.std.proofs.Common.{◌≡◌, ◌≢◌, ℕ, Bool, true}
+use Rattle.std.proofs.Common.{false, List, [], ◌∷◌, ◌++◌, Option, Some}
+use Rattle.std.proofs.Common.{take, map, refl, sym, ap, ◌∙◌, subst, append_assoc}
 use Rattle.std.specs.List.{flat_map, AllByRecursion}
 use Rattle.std.proofs.lemmas.List.{append-nil}
 use Rattle.std.proofs.lemmas.Grind.{flat_map-append}
-use Rattle.ws_code.specs.Code.{Rules, IsPrefix, IsCut, IsSpelled, IsUnfinished, IsPrefixFree, spelling_of}
+use Rattle.ws_code.specs.Code.{Rules, IsPrefix, IsCut, IsSpelled, IsUnfinished, spelling_of}
 use Rattle.ws_code.specs.declared.keep.Kept.TheVariants as answer
-use Rattle.ws_code.proofs.CodeLaws.{Begins, chain_more, cut_bad, cut_more, cut_unit, one_cut}
-use Rattle.ws_code.specs.declared.reason.Reason.{Reason}
+use Rattle.ws_code.proofs.CodeLaws.{chain_more, cut_bad, cut_more, cut_unit, one_cut}
 use Rattle.ws_telnet.specs.Streams.{HasNoEor, carried, joined}
 use Rattle.ws_telnet.specs.Token.{token_rules}
 use Rattle.ws_telnet.specs.TokenLaws.{token_prefix_free, token_begins}

@@ -1,12 +1,11 @@
 -- Why a line is no line of a script or of items as text.
 
-use Rattle.std.specs.Prelude.{◌≡◌, ◌≢◌, ◌⊎◌, ◌≤◌, ℕ, List, [], ◌∷◌, ◌++◌, Bool, true, false, not, ◌&&◌, Option, None, MatchOption}
+use Rattle.std.specs.Prelude.{◌≡◌, ◌≢◌, ◌⊎◌, ◌≤◌, ℕ, List, [], ◌∷◌, ◌++◌, Bool, true, false, ◌&&◌, Option, None, MatchOption}
 use Rattle.std.specs.Prelude.{IfSome, Some, length, drop, ◌-◌, ◌==◌, ◌%◌}
 use Rattle.std.specs.Borrow.{Bor}
 use Rattle.std.specs.List.{list_all}
 use Rattle.std.specs.Option.{is_some}
 use Rattle.std.specs.Str.{IsUtf8}
-use Rattle.std.specs.Str.Parse.{IsNumeral}
 use Rattle.std.specs.Char.{is_ascii_hexdigit}
 use Rattle.ws_code.specs.Ebcdic.{byte_of}
 use Rattle.ws_live.specs.ExtendedKeyNames.{extended_key_named}

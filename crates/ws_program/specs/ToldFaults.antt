@@ -1,6 +1,6 @@
 -- Faults with their causes.
 
-use Rattle.std.specs.Prelude.{◌≡◌, ◌⊎◌, ℕ, List, ◌++◌, string_bytes}
+use Rattle.std.specs.Prelude.{◌≡◌, ℕ, List, ◌++◌, string_bytes}
 use Rattle.std.specs.Str.Lines.{lines}
 use Rattle.ws_program.specs.Causes.{IsCauseAt}
 use Rattle.ws_program.specs.CauseTexts.{saying}

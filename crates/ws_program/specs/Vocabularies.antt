@@ -1,6 +1,6 @@
 -- The words that lines of a script and of items as text begin with, and of what kind the words behind each are.
 
-use Rattle.std.specs.Prelude.{ℕ, List, [], ◌∷◌, ◌++◌, codes}
+use Rattle.std.specs.Prelude.{ℕ, List, [], ◌∷◌, codes}
 use Rattle.ws_program.specs.declared.vocabulary.Shape.{Shape}
 use Rattle.ws_program.specs.declared.vocabulary.Shape.TheVariants.{Alone, AnyText, AKey, Cell, Filling, Row, Shown, Awaited}
 use Rattle.ws_program.specs.declared.vocabulary.Shape.TheVariants.{Sent, SentAny, AnswerAwaited, KeyAwaited, Bytes, Command}

@@ -1,4 +1,4 @@
-use Rattle.std.proofs.Common.{◌≡◌, ◌∷◌, ◌++◌, [], List, ℕ, sym, ap, ◌∙◌, subst, refl}
+use Rattle.std.proofs.Common.{sym, ◌∙◌}
 use Rattle.ws_program.proofs.CauseTexts.{empty_split, first_in, left_by}
 use Rattle.ws_program.proofs.cause_words.word_at.Goals as goal
 

@@ -1,4 +1,4 @@
-use Rattle.std.proofs.Common.{◌≡◌, ◌∷◌, ◌++◌, [], List, ℕ, sym, ap, ◌∙◌, subst, refl}
+use Rattle.std.proofs.Common.{subst}
 use Rattle.ws_program.specs.Causes.{IsLeft}
 use Rattle.ws_program.proofs.cause_words.wrong_next.Goals as goal
 

@@ -1,4 +1,4 @@
-use Rattle.std.proofs.Common.{◌≡◌, ◌∷◌, ◌++◌, [], List, ℕ, sym, ap, ◌∙◌, subst, refl}
+use Rattle.std.proofs.Common.{sym, ap, ◌∙◌}
 use Rattle.std.specs.Option.{is_some}
 use Rattle.ws_program.specs.Causes.{front_of}
 use Rattle.ws_program.proofs.CauseTexts.{begins_with, empty_split, first_stands, left_at_first, of_line}

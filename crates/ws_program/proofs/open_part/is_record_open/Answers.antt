@@ -1,4 +1,4 @@
-use Rattle.std.proofs.Common.{◌≡◌, ◌++◌, ◌+◌, List, ℕ, length, take, drop, sym, subst, arith, take-append-drop}
+use Rattle.std.proofs.Common.{◌≡◌, ◌+◌, List, ℕ, take, drop, sym, subst, arith, take-append-drop}
 use Rattle.std.proofs.lemmas.List.{take_more, take_all}
 use Rattle.ws_code.specs.Code.{IsCut}
 use Rattle.ws_telnet.specs.Machine.{unfinished_of}

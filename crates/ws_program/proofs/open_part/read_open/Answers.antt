@@ -1,7 +1,6 @@
-use Rattle.std.proofs.Common.{◌≡◌, ◌++◌, ◌+◌, ◌-◌, ℕ, List, length, take, drop, sym, subst, arith}
+use Rattle.std.proofs.Common.{◌≡◌, ◌-◌, ℕ, List, length, take, drop, subst, arith}
 use Rattle.std.proofs.Common.{length-take, length-drop}
 use Rattle.std.proofs.lemmas.List.{take_all}
-use Rattle.ws_record.specs.Live.{HoldsPart}
 use Rattle.ws_program.specs.OpenParts.{head_after, units_after}
 use Rattle.ws_program.proofs.CheckLemmas.{front_on}
 use Rattle.ws_program.proofs.OpenParts.{FollowsOpen, follows_front, follows_all, not_failed}

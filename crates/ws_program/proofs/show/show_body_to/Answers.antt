@@ -1,4 +1,4 @@
-use Rattle.std.proofs.Common.{◌++◌, Bool, true, false, inr, length, sym, ◌∙◌, subst}
+use Rattle.std.proofs.Common.{◌++◌, Bool, false, inr, length, sym, ◌∙◌, subst}
 use Rattle.std.specs.Prelude.{Result}
 use Rattle.std.proofs.lemmas.Result.{IfOk-weaker, IfErr-weaker, err_from_is_err_and}
 use Rattle.ws_code.proofs.DeviceLaws.{went_out_both}

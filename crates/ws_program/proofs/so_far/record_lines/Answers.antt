@@ -1,4 +1,4 @@
-use Rattle.std.proofs.Common.{◌++◌, [], ap, ◌∙◌, subst}
+use Rattle.std.proofs.Common.{◌++◌, ap, ◌∙◌, subst}
 use Rattle.ws_code.proofs.DeviceLaws.{held_went_out}
 use Rattle.ws_code.specs.Device.{Held, held_takes}
 use Rattle.ws_text.specs.declared.output.Output.{Output}

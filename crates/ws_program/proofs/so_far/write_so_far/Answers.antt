@@ -1,4 +1,4 @@
-use Rattle.std.proofs.Common.{◌++◌, ◌≢◌, [], List, ℕ, refl, sym, ◌∙◌, subst}
+use Rattle.std.proofs.Common.{◌++◌, ◌≢◌, [], List, ℕ, sym, ◌∙◌, subst}
 use Rattle.ws_code.proofs.DeviceLaws.{went_out_none}
 use Rattle.ws_text.specs.declared.output.Output.{Output}
 use Rattle.ws_text.specs.Printing.{IsOut}
