@@ -126,13 +126,16 @@ impl AnyHost {
     /// refused, at a byte of a body. `push` and `send` answer `Failed` from then on, as after
     /// 18,446,744,073,709,551,615 bytes.
     pub fn push(&mut self, byte: u8) -> Result<EndStep<AnyEvent>, Refusal>
+        // What the byte brings.
         ensures pushed { (bytes : List ℕ) (items : List (AnItem ℕ)) (side : Negotiated)
             → AnyLeads self.old bytes items side → length bytes + 1 < 2 ^ 64
             → IsAnyPushed self.old self.new bytes items side byte result }
+        // Nothing at the greatest count or behind a refusal.
         ensures full { self.old.receiver.live.taken + 1 ≡ 2 ^ 64
             → result ≡ Err Refusal.Failed }
         ensures failed { IsSome self.old.ended
             → (result ≡ Err Refusal.Failed) × (self.new ≡ self.old) }
+        // What a refusal leaves.
         ensures after { IfErr result (λ why. self.old.ended ≡ None
             → self.new.ended ≡ Some why) }
         ensures seen { OnErr result (self.new.options ≡ self.old.options) }

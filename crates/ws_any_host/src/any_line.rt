@@ -152,9 +152,11 @@ fn sent_words(text: &str) -> Option<&str>
 
 // A line that sends nothing.
 fn read_word(alloc: Global, line: &str) -> Result<AnyLine, ScriptFault>
+    // A line that isn't empty, a comment or a send.
     requires some { 0 < length line.now }
     requires no_comment { IsNoComment line.now }
     requires no_send { (words : Seq ℕ) → line.now ≡ codes "send " ++ words → ⊥ }
+    // What it means, or that it means nothing.
     ensures line { IfOk result (Spec.Means line.now) }
     ensures fault { IfErr result (Spec.IsFault (Spec.Means line.now) (Spec.IsLineBegun line.now)) }
 {

@@ -22,8 +22,10 @@ pub fn carry_on<E, S, K, L: LiveMove<E, S, K>, W: Watch<S>, O: Sink>(
     line: &L,
     out: &mut BufferedSink<O>,
 ) -> Result<bool, Fault>
+    // At an end that works, with nothing held back.
     requires works { attached.old.broken ≡ false }
     requires empty { out.old.held ≡ [] }
+    // What was printed, or why not all; what was is out.
     ensures carried { IfOk result (Spec.HasCarriedOn
         (InTime (L.runs W.tells W.rests Paint.Plain) L.waits W.begins W.begun) line.now
         O.takes O.failures
@@ -57,8 +59,10 @@ fn carry_once<E, S, K, L: LiveMove<E, S, K>, W: Watch<S>, O: Sink>(
     line: &L,
     out: &mut BufferedSink<O>,
 ) -> Result<Closing, Fault>
+    // At an end that works, with nothing held back.
     requires works { attached.old.broken ≡ false }
     requires empty { out.old.held ≡ [] }
+    // What was printed, or why not all.
     ensures carried { IfOk result (Spec.HasCarriedOnce
         (InTime (L.runs W.tells W.rests Paint.Plain) L.waits W.begins W.begun) line.now
         O.takes O.failures
@@ -69,6 +73,7 @@ fn carry_once<E, S, K, L: LiveMove<E, S, K>, W: Watch<S>, O: Sink>(
         O.takes O.failures
         ((attached.old, ahead.old), watch.old) ((attached.new, ahead.new), watch.new)
         out.old.sink out.new.sink) }
+    // The end works on unless the session is over, and nothing is held back.
     ensures works { IfOk result (λ closing.
         stops closing ≡ false → attached.new.broken ≡ false) }
     ensures held { out.new.held ≡ [] }

@@ -225,8 +225,10 @@ fn put_row(screen: &Screen, row: u8, text: &mut [u8]) -> usize
 }
 
 fn tell_row(screen: &Screen, row: u8, text: &mut [u8], told: &mut Told) -> Status
+    // A row of the screen, and room for its text.
     requires row { IsRow row }
     requires room { 160 ≤ length text.old }
+    // The row's text and its length; the rest of the room stays.
     ensures status { result ≡ Status.Done }
     ensures told { told.new ≡ told_length (length (row_text screen.now row)) }
     ensures text { text.new ≡ holds_front (row_text screen.now row) text.old }

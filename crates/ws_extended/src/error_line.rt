@@ -68,9 +68,11 @@ fn start_of(row: u8) -> Address
 }
 
 fn put_row(screen: &mut Screen, row: u8, bytes: &[u8])
+    // Clean cells for a row, in an open write.
     requires row { IsRow row }
     requires clean { IsClean bytes.now }
     requires open_ { IsSome screen.old.writing }
+    // The row has them, and the write stays open.
     ensures carried { Carries (put_row row bytes.now) screen.old screen.new }
     ensures open_ { IsSome screen.new.writing }
 {
@@ -80,9 +82,11 @@ fn put_row(screen: &mut Screen, row: u8, bytes: &[u8])
 
 // The row's cells become 00.
 fn blank_row(screen: &mut Screen, row: u8, blank: [u8; COLUMNS as usize])
+    // A row, in an open write.
     requires row { IsRow row }
     requires zeros { blank ≡ replicate A_ROW 0 }
     requires open_ { IsSome screen.old.writing }
+    // It is empty, and the write stays open.
     ensures carried { Carries (put_row row (replicate A_ROW 0)) screen.old screen.new }
     ensures open_ { IsSome screen.new.writing }
 {

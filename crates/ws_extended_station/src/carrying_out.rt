@@ -150,10 +150,12 @@ pub(crate) fn apply_kept(
     kept: &[u8],
 ) -> Result<Heard, Reason>
     requires closed { display.old.screen.writing ≡ None }
+    // What the body comes to that the bytes spell.
     ensures applied { (state : ExtendedState) (body : List AnElement)
         → IsChain extended_rules extended_rules.first body
         → kept.now ≡ spelling_of extended_rules body → Shows state display.old
         → IsAppliedTo state opcode body display.new result }
+    // No write stays open; the display before it is kept, and a refused record leaves nothing.
     ensures closed { display.new.screen.writing ≡ None }
     ensures before { before.new ≡ display.old }
     ensures same { OnErr result (display.new ≡ display.old) }

@@ -110,9 +110,11 @@ fn read_line<Q: NamedKey>(alloc: Global, line: &[u8]) -> Result<StationLine<Q>, 
 
 // A line that is one word.
 fn read_word<Q: NamedKey>(word: &str) -> Result<StationLine<Q>, LineFault>
+    // A word alone on its line.
     requires some { 0 < length word.now }
     requires no_blank { has_no_blank word.now ≡ true }
     requires no_comment { IsNoComment word.now }
+    // What it means, or that it means nothing.
     ensures line { IfOk result (Spec.Means Q.words word.now) }
     ensures fault { IfErr result (IsLineFault (Spec.Means Q.words word.now) ⊥) }
 {

@@ -135,8 +135,10 @@ pub fn carry_lines<E, S, K, L: LiveMove<E, S, K>, W: Watch<S>, O: Sink>(
     paint: Paint,
     out: &mut BufferedSink<O>,
 ) -> Result<Ran, Fault>
+    // At an end that works, with nothing held back.
     requires works { attached.old.broken ≡ false }
     requires empty { out.old.held ≡ [] }
+    // What was printed, or why not all.
     ensures ran { IfOk result (Spec.HasRun
         (InTime (L.runs W.tells W.rests paint) L.waits W.begins W.begun) ready O.takes O.failures
         ((attached.old, ahead.old), watch.old) ((attached.new, ahead.new), watch.new)
@@ -145,6 +147,7 @@ pub fn carry_lines<E, S, K, L: LiveMove<E, S, K>, W: Watch<S>, O: Sink>(
         (InTime (L.runs W.tells W.rests paint) L.waits W.begins W.begun) ready O.takes O.failures
         ((attached.old, ahead.old), watch.old) ((attached.new, ahead.new), watch.new)
         out.old.sink out.new.sink lines.now) }
+    // The end works on unless the session is over, and nothing is held back.
     ensures works { IfOk result (λ ran. ran.is_over ≡ false → attached.new.broken ≡ false) }
     ensures held { out.new.held ≡ [] }
 {
@@ -172,8 +175,10 @@ pub fn carry_line<E, S, K, L: LiveMove<E, S, K>, W: Watch<S>, O: Sink>(
     paint: Paint,
     out: &mut BufferedSink<O>,
 ) -> Result<Closing, Fault>
+    // At an end that works, with nothing held back.
     requires works { attached.old.broken ≡ false }
     requires empty { out.old.held ≡ [] }
+    // What was printed, or why not all.
     ensures done { IfOk result (Spec.HasCarried
         (InTime (L.runs W.tells W.rests paint) L.waits W.begins W.begun) ready O.takes O.failures
         ((attached.old, ahead.old), watch.old) ((attached.new, ahead.new), watch.new)
@@ -182,6 +187,7 @@ pub fn carry_line<E, S, K, L: LiveMove<E, S, K>, W: Watch<S>, O: Sink>(
         (InTime (L.runs W.tells W.rests paint) L.waits W.begins W.begun) ready O.takes O.failures
         ((attached.old, ahead.old), watch.old) ((attached.new, ahead.new), watch.new)
         out.old.sink out.new.sink line.now) }
+    // The end works on unless the session is over, and nothing is held back.
     ensures works { IfOk result (λ closing.
         Spec.stops closing ≡ false → attached.new.broken ≡ false) }
     ensures held { out.new.held ≡ [] }

@@ -43,9 +43,11 @@ pub fn read_line(alloc: Global, line: &[u8], moves: &mut Vec<Move>) -> Result<()
 
 // Adds the moves of a line that is one word.
 fn read_word(word: &str, moves: &mut Vec<Move>) -> Result<(), LineFault>
+    // A word alone on its line.
     requires some { 0 < length word.now }
     requires no_blank { has_no_blank word.now ≡ true }
     requires no_comment { IsNoComment word.now }
+    // What it means, or that it means nothing.
     ensures ok { OnOk result ((given : Seq AMove) × Spec.Means word.now given
         × (moves.new.items ≡ moves.old.items ++ given)) }
     ensures fault { IfErr result (IsLineFault (Spec.Means word.now)

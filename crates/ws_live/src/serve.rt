@@ -187,8 +187,10 @@ pub fn answer_on<S: Source, K: Sink, W: Watch<S>, O: Sink>(
     watch: &mut W,
     out: &mut BufferedSink<O>,
 ) -> Result<bool, Fault>
+    // At an end that works, with nothing held back.
     requires works { attached.old.broken ≡ false }
     requires empty { out.old.held ≡ [] }
+    // What was printed, or why not all; what was is out.
     ensures answered { IfOk result (Spec.HasAnsweredOn K.takes K.failures S.gives S.failures
         W.tells W.begins W.begun O.takes O.failures
         ((attached.old, ahead.old), watch.old) ((attached.new, ahead.new), watch.new)
@@ -219,8 +221,10 @@ fn answer_once<S: Source, K: Sink, W: Watch<S>, O: Sink>(
     watch: &mut W,
     out: &mut BufferedSink<O>,
 ) -> Result<Closing, Fault>
+    // At an end that works, with nothing held back.
     requires works { attached.old.broken ≡ false }
     requires empty { out.old.held ≡ [] }
+    // What was printed, or why not all.
     ensures answered { IfOk result (Spec.HasAnsweredOnce K.takes K.failures S.gives S.failures
         W.tells W.begins W.begun O.takes O.failures
         ((attached.old, ahead.old), watch.old) ((attached.new, ahead.new), watch.new)
@@ -229,6 +233,7 @@ fn answer_once<S: Source, K: Sink, W: Watch<S>, O: Sink>(
         W.tells W.begins W.begun O.takes O.failures
         ((attached.old, ahead.old), watch.old) ((attached.new, ahead.new), watch.new)
         out.old.sink out.new.sink) }
+    // The end works on unless the session is over, and nothing is held back.
     ensures works { IfOk result (λ closing.
         stops closing ≡ false → attached.new.broken ≡ false) }
     ensures held { out.new.held ≡ [] }

@@ -119,9 +119,11 @@ fn read_line(alloc: Global, line: &[u8]) -> Result<HostLine, LineFault>
 
 // A line that is one word.
 fn read_word(word: &str) -> Result<HostLine, LineFault>
+    // A word alone on its line.
     requires some { 0 < length word.now }
     requires no_blank { has_no_blank word.now ≡ true }
     requires no_comment { IsNoComment word.now }
+    // What it means, or that it means nothing.
     ensures line { IfOk result (Spec.Means word.now) }
     ensures fault { IfErr result (IsLineFault (Spec.Means word.now) ⊥) }
 {
@@ -143,9 +145,11 @@ fn read_command(
     command: &str,
     words: &str,
 ) -> Result<HostLine, LineFault>
+    // A line of a command and its words.
     requires is { line.now ≡ command.now ++ codes " " ++ words.now }
     requires no_blank { has_no_blank command.now ≡ true }
     requires no_comment { IsNoComment (command.now ++ codes " " ++ words.now) }
+    // What it means, or that it means nothing.
     ensures line { IfOk result (Spec.Means (command.now ++ codes " " ++ words.now)) }
     ensures fault { IfErr result
         (IsLineFault (Spec.Means (command.now ++ codes " " ++ words.now))

@@ -41,9 +41,11 @@ pub fn begins_at(screen: &Screen, cell: Address, text: &str) -> bool
 
 // Whether a row shows the text, of which it needs these bytes. Only a row that has them is made a text.
 fn row_shows(screen: &Screen, row: u8, text: &str, needed: &[u8]) -> bool
+    // A row, and what is needed to show the text.
     requires low { 1 ≤ row }
     requires high { row ≤ ROWS }
     requires needed { All (Spec.IsNeededBy text.now) needed.now }
+    // Whether the row shows it.
     ensures shown { result ≡ true
         → HasSubslice (encode_utf8_all (row_chars screen.now.cells row)) text.now }
     ensures unshown { result ≡ false

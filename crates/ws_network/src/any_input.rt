@@ -34,8 +34,10 @@ where
     K: Sink,
     W: LineWatch<S>,
     O: Sink,
+    // At an end that works, with nothing held back.
     requires works { attached.old.broken ≡ false }
     requires empty { out.old.held ≡ [] }
+    // What was printed, or why not all; what was is out.
     ensures ran { IfOk result (λ all_well. (lines : List AnAnyLine) × (text : List ℕ)
         × MatchOption script.entry (Unit {0}) (λ asked. lines ≡ asked.now)
         × IsTextAndOn (RunsAny K.takes K.failures S.gives S.failures W.tells W.begins W.begun)

@@ -91,8 +91,10 @@ where
     K: Sink,
     W: LineWatch<S>,
     O: Sink,
+    // At an end that works, with nothing held back.
     requires works { attached.old.broken ≡ false }
     requires empty { out.old.held ≡ [] }
+    // What was printed, or why not all; what was is out.
     ensures ran { IfOk result (λ all_well. (lines : List AHostLine) × (text : List ℕ)
         × MatchOption script.entry (Unit {0}) (λ asked. lines ≡ asked.now)
         × IsServeText K.takes K.failures S.gives S.failures W.tells W.begins W.begun
@@ -146,8 +148,10 @@ where
     L: LiveMove<E, S, K>,
     W: LineWatch<S>,
     O: Sink,
+    // At an end that works, with nothing held back.
     requires works { attached.old.broken ≡ false }
     requires empty { out.old.held ≡ [] }
+    // What was printed, or why not all.
     ensures ran { IfOk result (λ ran. (lines : List L)
         × MatchOption script.entry (Unit {0}) (λ asked. lines ≡ asked.now)
         × Spec.HasRun (InTime (L.runs W.tells W.rests paint) L.waits W.begins W.begun) ready
@@ -158,6 +162,7 @@ where
         × IsSessionFault (InTime (L.runs W.tells W.rests paint) L.waits W.begins W.begun) ready
         O.takes O.failures ((attached.old, ahead.old), watch.old) ((attached.new, ahead.new), watch.new)
         out.old.sink out.new.sink (is_some script.entry) lines fault) }
+    // The end works on unless the session is over, and nothing is held back.
     ensures works { IfOk result (λ ran. ran.is_over ≡ false → attached.new.broken ≡ false) }
     ensures held { out.new.held ≡ [] }
 {
@@ -181,8 +186,10 @@ fn carry_script<E, S, K, L: LiveMove<E, S, K>, W: LineWatch<S>, O: Sink>(
     paint: Paint,
     out: &mut BufferedSink<O>,
 ) -> Result<Ran, Fault>
+    // At an end that works, with nothing held back.
     requires works { attached.old.broken ≡ false }
     requires empty { out.old.held ≡ [] }
+    // What was printed, or why not all.
     ensures ran { IfOk result (Spec.HasRun
         (InTime (L.runs W.tells W.rests paint) L.waits W.begins W.begun) ready O.takes O.failures
         ((attached.old, ahead.old), watch.old) ((attached.new, ahead.new), watch.new)
@@ -191,6 +198,7 @@ fn carry_script<E, S, K, L: LiveMove<E, S, K>, W: LineWatch<S>, O: Sink>(
         (InTime (L.runs W.tells W.rests paint) L.waits W.begins W.begun) ready O.takes O.failures
         ((attached.old, ahead.old), watch.old) ((attached.new, ahead.new), watch.new)
         out.old.sink out.new.sink lines.now) }
+    // The end works on unless the session is over, and nothing is held back.
     ensures works { IfOk result (λ ran. ran.is_over ≡ false → attached.new.broken ≡ false) }
     ensures held { out.new.held ≡ [] }
 {
@@ -225,8 +233,10 @@ where
     L: LiveMove<E, S, K>,
     W: LineWatch<S>,
     O: Sink,
+    // At an end that works, with nothing held back.
     requires works { attached.old.broken ≡ false }
     requires empty { out.old.held ≡ [] }
+    // What was printed, or why not all.
     ensures ran { IfOk result (λ ran. (lines : List L)
         × Spec.HasRun (InTime (L.runs W.tells W.rests paint) L.waits W.begins W.begun) ready
         O.takes O.failures ((attached.old, ahead.old), watch.old) ((attached.new, ahead.new), watch.new)
@@ -235,6 +245,7 @@ where
         × IsSessionFault (InTime (L.runs W.tells W.rests paint) L.waits W.begins W.begun) ready
         O.takes O.failures ((attached.old, ahead.old), watch.old) ((attached.new, ahead.new), watch.new)
         out.old.sink out.new.sink false lines fault) }
+    // The end works on unless the session is over, and nothing is held back.
     ensures works { IfOk result (λ ran. ran.is_over ≡ false → attached.new.broken ≡ false) }
     ensures held { out.new.held ≡ [] }
 {
@@ -274,8 +285,10 @@ fn carry_next<E, S, K, L: LiveMove<E, S, K>, W: LineWatch<S>, O: Sink>(
     paint: Paint,
     out: &mut BufferedSink<O>,
 ) -> Result<Closing, Fault>
+    // At an end that works, with nothing held back.
     requires works { attached.old.broken ≡ false }
     requires empty { out.old.held ≡ [] }
+    // What was printed, or why not all.
     ensures done { IfOk result (Spec.HasCarried
         (InTime (L.runs W.tells W.rests paint) L.waits W.begins W.begun) ready O.takes O.failures
         ((attached.old, ahead.old), watch.old) ((attached.new, ahead.new), watch.new)
@@ -284,6 +297,7 @@ fn carry_next<E, S, K, L: LiveMove<E, S, K>, W: LineWatch<S>, O: Sink>(
         (InTime (L.runs W.tells W.rests paint) L.waits W.begins W.begun) ready O.takes O.failures
         ((attached.old, ahead.old), watch.old) ((attached.new, ahead.new), watch.new)
         out.old.sink out.new.sink line.now) }
+    // The end works on unless the session is over, and nothing is held back.
     ensures works { IfOk result (λ closing.
         Spec.stops closing ≡ false → attached.new.broken ≡ false) }
     ensures held { out.new.held ≡ [] }

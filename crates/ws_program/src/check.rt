@@ -155,9 +155,11 @@ pub fn check_from<B: Body, R: Source, S: Sink>(
     sink: &mut S,
 ) -> Result<bool, Fault>
     requires { cut ≢ 0 }
+    // What is printed of the bytes that were read.
     ensures printed { IfOk result (λ accepted. (bytes : List ℕ)
         × GaveEnough R.gives R.failures source.old source.new (HasRefusal B.rules) bytes
         × HasChecked S.takes S.failures sink.old sink.new B.rules bytes accepted) }
+    // Why not, and what stands then.
     ensures read { result ≡ Err Fault.Read → (sink.new ≡ sink.old)
         × FailedBefore R.gives R.failures source.old source.new (HasRefusal B.rules) }
     ensures write { result ≡ Err Fault.Write → (bytes : List ℕ)

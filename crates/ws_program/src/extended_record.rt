@@ -23,12 +23,15 @@ pub fn apply_extended_record(
     display: &mut ExtendedScreen,
     record_: &Record<ExtendedElement>,
 ) -> Result<(), Reason>
+    // A body of extended commands, between two writes.
     requires chain { IsChain extended_rules extended_rules.first record_.now.body }
     requires closed { display.old.screen.writing ≡ None }
+    // Whether it is refused, and the display behind it.
     ensures fault { (state : ExtendedState) → Shows state display.old
         → refusal result ≡ record_fault state record_.now.body }
     ensures after { OnOk result ((state : ExtendedState) → Shows state display.old
         → Shows (state_after_record state record_.now) display.new) }
+    // No write stays open, and a refused record leaves nothing.
     ensures closed { OnOk result (display.new.screen.writing ≡ None) }
     ensures same { OnErr result (display.new ≡ display.old) }
 {

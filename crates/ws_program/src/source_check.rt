@@ -27,9 +27,11 @@ pub fn check_source_openly<R: Source, S: Sink>(
     sink: &mut BufferedSink<S>,
 ) -> Result<bool, RunFault>
     requires empty { sink.old.held ≡ [] }
+    // What is printed of the bytes that were read.
     ensures done { IfOk result (λ accepted. (streams.output ≡ true) × ((bytes : List ℕ)
         × GaveEnough R.gives R.failures source.old source.new (HasRefusalBy from) bytes
         × HasCheckedBy S.takes S.failures sink.old.sink sink.new.sink from bytes accepted)) }
+    // Why not, and what stands then.
     ensures read { result ≡ Err RunFault.Read → (sink.new.sink ≡ sink.old.sink)
         × FailedBefore R.gives R.failures source.old source.new (HasRefusalBy from) }
     ensures write { result ≡ Err RunFault.Write → (bytes : List ℕ)
@@ -66,9 +68,11 @@ fn check_sender<R: Source, S: Sink>(
     sink: &mut S,
 ) -> Result<bool, Fault>
     requires { cut ≢ 0 }
+    // What is printed of the bytes that were read.
     ensures printed { IfOk result (λ accepted. (bytes : List ℕ)
         × GaveEnough R.gives R.failures source.old source.new (HasRefusalBy from) bytes
         × HasCheckedBy S.takes S.failures sink.old sink.new from bytes accepted) }
+    // Why not, and what stands then.
     ensures read { result ≡ Err Fault.Read → (sink.new ≡ sink.old)
         × FailedBefore R.gives R.failures source.old source.new (HasRefusalBy from) }
     ensures write { result ≡ Err Fault.Write → (bytes : List ℕ)

@@ -108,10 +108,13 @@ pub fn decode_both_ways<B: Body>(
     Result<Vec<Item<B::Unit>>, Fault>,
 )
     requires { length bytes.now < most_reads }
+    // Of a slice.
     ensures accepted { IfOk result.0 (λ items. IsInGrammar B.rules bytes.now items.items) }
     ensures fault { IfErr result.0 (λ fault. IsDecodeFault B.rules bytes.now fault) }
+    // Of a source that gives the same bytes.
     ensures source_accepted { IfOk result.1 (λ items. IsInGrammar B.rules bytes.now items.items) }
     ensures source_fault { IfErr result.1 (λ fault. IsDecodeFault B.rules bytes.now fault) }
+    // Both say the same.
     ensures alike { MatchResult result.0
         (λ found. MatchResult result.1
         (λ others. found.items ≡ others.items)

@@ -35,9 +35,11 @@ fn header_refusal(header: &[u8], byte: u8) -> Option<Reason>
 
 // How many bytes the piece has before its first FF, but at most so many.
 fn plain_length(piece: &[u8], most: usize) -> usize
+    // A piece whose first byte is plain.
     requires some { 0 < length piece.now }
     requires room { 0 < most }
     requires plain { slice_index piece.now 0 ≢ IAC }
+    // How many from the first on are, up to the most.
     ensures within { result ≤ length piece.now }
     ensures few { result ≤ most }
     ensures some { 0 < result }
@@ -120,8 +122,10 @@ impl<B: Body> OpenRecord<B> {
     /// Takes bytes of the piece up to an FF, as values: some of the header, or some of the body.
     #[inline(always)]
     pub fn take<K: Keep<B::Unit>>(&mut self, piece: &[u8], keep: &mut K) -> Advance
+        // A piece whose first byte is plain.
         requires some { 0 < length piece.now }
         requires plain { slice_index piece.now 0 ≢ IAC }
+        // How much of it is used, and what that brings to the open record.
         ensures within { result.used ≤ length piece.now }
         ensures used { 0 < result.used }
         ensures plain { ArePlain (take result.used piece.now) }
@@ -156,8 +160,10 @@ impl<B: Body> OpenRecord<B> {
     // Takes values of the body.
     #[inline(always)]
     fn take_body<K: Keep<B::Unit>>(&mut self, values: &[u8], keep: &mut K) -> Advance
+        // Values for the body, no more than are left of it.
         requires some { 0 < length values.now }
         requires room { length values.now ≤ self.old.left }
+        // How many are used, and what they bring to the open record.
         ensures within { result.used ≤ length values.now }
         ensures used { 0 < result.used }
         ensures taken { (so_far : RecordSoFar B.Unit) → HasRead B.rules self.old so_far
@@ -196,8 +202,10 @@ impl<B: Body> OpenRecord<B> {
     // Takes values of the header, or the first one behind a whole record.
     #[inline(never)]
     fn take_header<K: Keep<B::Unit>>(&mut self, values: &[u8], _keep: &mut K) -> Advance
+        // Values for the header.
         requires some { 0 < length values.now }
         requires header { self.old.left ≡ 0 }
+        // How many are used, and what they bring to the open record.
         ensures within { result.used ≤ length values.now }
         ensures used { 0 < result.used }
         ensures taken { (so_far : RecordSoFar B.Unit) → HasRead B.rules self.old so_far

@@ -19,9 +19,11 @@ pub trait Acting: End {
     ///
     /// Why it refuses; the end is then as it was. `Memory` where a growth was refused for what it would have written.
     fn act(&mut self, deed: &Self::Deed) -> Result<Vec<u8>, SendFault>
+        // What is written; it was taken.
         ensures done { IfOk result (λ bytes.
             Self.goes self.old (Did deed.now ∷ []) bytes.items [] self.new) }
         ensures taken { OnOk result (acts self.old deed.now) }
+        // Why not: then nothing has happened, or memory was wanting for what it takes.
         ensures refused { IfErr result (λ fault. fault ≢ SendFault.Memory
             → refrains self.old deed.now fault
             × Self.goes self.old (Did deed.now ∷ []) [] [] self.new) }

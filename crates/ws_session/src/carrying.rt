@@ -17,8 +17,10 @@ pub fn carry<S: Sink, R: Source>(
     source: &mut R,
     taken: &mut [u8],
 ) -> Result<(), Fault>
+    // A piece, and room for as many bytes.
     requires one_length { length taken.old ≡ length bytes.now }
     requires piece { length bytes.now ≤ 4096 }
+    // What crossed, or how far it came; behind a failed write nothing was read.
     ensures carried { OnOk result (IsCarried S.takes S.failures sink.old sink.new
         R.gives R.failures source.old source.new bytes.now taken.new) }
     ensures fault { IfErr result (IsCarryFault S.takes S.failures sink.old sink.new

@@ -26,12 +26,15 @@ pub(crate) fn hear_piece<E: End, K: Sink>(
     piece: &[u8],
 ) -> Heard<E::Event>
     requires { 0 < length piece.now }
+    // How much of the piece is used.
     ensures within { result.used ≤ length piece.now }
     ensures some { 0 < result.used }
+    // What was written, and that nothing was told before the last byte.
     ensures heard { IfOk result.told (λ told. HasWritten E.goes K.takes K.failures
         end.old end.new sink.old sink.new (all_came (take result.used piece.now)) (as_list told)) }
     ensures first { IfTold result.told
         (TellsAtLast E.goes E.silent end.old end.new (take result.used piece.now)) }
+    // What stopped it, which breaks the end.
     ensures fault { IfErr result.told (IsUnheard E.goes E.refuses K.takes K.failures
         end.old end.new sink.old sink.new (take result.used piece.now)) }
     ensures breaks { IfErr result.told (λ fault. breaks fault ≡ true) }
@@ -73,15 +76,18 @@ pub(crate) fn press_key<D: StationDisplay, K: Sink>(
     sink: &mut K,
     key: D::Key,
 ) -> Result<Option<KeyFault>, Fault>
+    // What is written of a key that is taken.
     ensures pressed { IfOk result (λ refused.
         HasWritten (GoesOnDisplay D.Commands.rules D.does) K.takes K.failures
         station.old station.new sink.old sink.new (Did key ∷ []) []) }
+    // Which keys are refused, and why, and which are taken.
     ensures refused { IfOk result (λ refused. IfSome refused
         (λ fault. (station.new ≡ station.old) × (sink.new ≡ sink.old))) }
     ensures told { IfOk result (λ refused. IfSome refused
         (IsKeyRefusalOn D.Commands.rules D.does station.old key)) }
     ensures taken { IfOk result (λ refused. IfNone refused
         (IsKeyTakenOn D.Commands.rules D.does station.old key)) }
+    // What a failed write leaves.
     ensures fault { IfErr result (λ fault. (fault ≡ Fault.Write)
         × HasWrittenFront (GoesOnDisplay D.Commands.rules D.does) K.takes K.failures
         station.old station.new sink.old sink.new (Did key ∷ [])) }

@@ -142,11 +142,13 @@ impl Tokens {
     // A verb, or a command that stands alone.
     #[inline(always)]
     fn command(&mut self, byte: u8) -> Word
+        // Behind an IAC between two tokens, with a byte that goes with it alone.
         requires between { unfinished_of self.old ≡ [] }
         requires no_data { byte ≢ IAC }
         requires no_eor { byte ≢ EOR }
         requires no_sb { byte ≢ SB }
         requires no_se { byte ≢ SE }
+        // What the two are.
         ensures { IsWord (IAC ∷ []) byte self.new result }
     {
         if let Some(code) = command_of(byte) {

@@ -45,10 +45,12 @@ pub enum TextFault {
 /// Where the lines spell items, they spell no others: the result is these very items, want of memory aside. Each of
 /// them can be encoded. And whatever items `encode` accepts, the text that `show` prints of them spells them.
 pub fn read_items(alloc: Global, text: &[u8]) -> Result<Vec<Item<Element>>, TextFault>
+    // What the text means, which can be encoded; or where it is bad.
     ensures ok { IfOk result (λ items.
         AreItems element_rules element_wording text.now items.items) }
     ensures encoded { IfOk result (λ items. CanAllBeEncoded element_rules items.items) }
     ensures fault { IfErr result (IsTextFault element_rules element_wording text.now) }
+    // It means nothing else, and what is shown of items means them.
     ensures only { (items : Seq (AnItem AnElement))
         → AreItems element_rules element_wording text.now items
         → MatchResult result (λ read. read.items ≡ items) (λ fault. fault ≡ TextFault.Memory) }
@@ -63,10 +65,12 @@ pub fn read_items(alloc: Global, text: &[u8]) -> Result<Vec<Item<Element>>, Text
 /// The rest is as at `read_items`: `Line` where a line is bad, `Memory` where a growth was refused; and whatever items
 /// `encode` accepts, the text that `show --answers` prints of them spells them.
 pub fn read_answer_items(alloc: Global, text: &[u8]) -> Result<Vec<Item<AnswerPart>>, TextFault>
+    // What the text means, which can be encoded; or where it is bad.
     ensures ok { IfOk result (λ items.
         AreItems answer_rules answer_wording text.now items.items) }
     ensures encoded { IfOk result (λ items. CanAllBeEncoded answer_rules items.items) }
     ensures fault { IfErr result (IsTextFault answer_rules answer_wording text.now) }
+    // It means nothing else, and what is shown of items means them.
     ensures only { (items : Seq (AnItem APart))
         → AreItems answer_rules answer_wording text.now items
         → MatchResult result (λ read. read.items ≡ items) (λ fault. fault ≡ TextFault.Memory) }
@@ -85,10 +89,12 @@ pub fn read_extended_items(
     alloc: Global,
     text: &[u8],
 ) -> Result<Vec<Item<ExtendedElement>>, TextFault>
+    // What the text means, which can be encoded; or where it is bad.
     ensures ok { IfOk result (λ items.
         AreItems extended_rules extended_wording text.now items.items) }
     ensures encoded { IfOk result (λ items. CanAllBeEncoded extended_rules items.items) }
     ensures fault { IfErr result (IsTextFault extended_rules extended_wording text.now) }
+    // It means nothing else, and what is shown of items means them.
     ensures only { (items : Seq (AnItem AnExtended))
         → AreItems extended_rules extended_wording text.now items
         → MatchResult result (λ read. read.items ≡ items) (λ fault. fault ≡ TextFault.Memory) }
@@ -108,10 +114,12 @@ pub fn read_extended_answer_items(
     alloc: Global,
     text: &[u8],
 ) -> Result<Vec<Item<ExtendedAnswerPart>>, TextFault>
+    // What the text means, which can be encoded; or where it is bad.
     ensures ok { IfOk result (λ items.
         AreItems extended_answer_rules told_wording text.now items.items) }
     ensures encoded { IfOk result (λ items. CanAllBeEncoded extended_answer_rules items.items) }
     ensures fault { IfErr result (IsTextFault extended_answer_rules told_wording text.now) }
+    // It means nothing else, and what is shown of items means them.
     ensures only { (items : Seq (AnItem ATold))
         → AreItems extended_answer_rules told_wording text.now items
         → MatchResult result (λ read. read.items ≡ items) (λ fault. fault ≡ TextFault.Memory) }

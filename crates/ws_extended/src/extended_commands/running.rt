@@ -96,9 +96,11 @@ impl ExtendedCommands {
         keep: &mut K,
         values: &[u8],
     ) -> Run
+        // Values that go on inside, from where the reading stands.
         requires some { 0 < length values.now }
         requires at { IsAt extended_rules (reading_by self.old) at.old }
         requires inside { GoesInside self.old values.now }
+        // How many are used, and the run that they make.
         ensures some { 0 < result.used }
         ensures used { result.used ≤ length values.now }
         ensures run { IsRun extended_rules K.holds K.may_answer (reading_by self.old) keep.old
@@ -144,8 +146,10 @@ impl ExtendedCommands {
         keep: &mut K,
         values: &[u8],
     ) -> Run
+        // Values, from where the reading stands.
         requires some { 0 < length values.now }
         requires at { IsAt extended_rules (reading_by self.old) at.old }
+        // How many are used, and the run that they make.
         ensures some { 0 < result.used }
         ensures used { result.used ≤ length values.now }
         ensures run { IsRun extended_rules K.holds K.may_answer (reading_by self.old) keep.old

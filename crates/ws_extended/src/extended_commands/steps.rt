@@ -82,6 +82,7 @@ fn refused_first(place: ExtendedPlace, byte: u8) -> Option<Reason>
 // Hands a byte to the profile's machine, where only an element of the profile can begin so.
 #[inline(always)]
 fn hand_down(place: ExtendedPlace, inner: &mut Commands, byte: u8) -> Push<ExtendedElement>
+    // The profile's machine stands at the same place, and what it says of the byte holds here.
     requires at { (reading_of inner.old).place ≡ inner_place place }
     requires unfinished { IsUnfinished element_rules (inner_place place) (unfinished_of inner.old) }
     requires inner { is_inner place (unfinished_of inner.old ++ byte ∷ []) ≡ true }
@@ -89,6 +90,7 @@ fn hand_down(place: ExtendedPlace, inner: &mut Commands, byte: u8) -> Push<Exten
         (unfinished_of inner.old ++ byte ∷ []) → ⊥)
         → element_reason (inner_place place) (unfinished_of inner.old) byte
         ≡ extended_reason place (unfinished_of inner.old) byte }
+    // The step is one of these commands, and where it goes on, it does so inside.
     ensures step { IsStep extended_rules place (unfinished_of inner.old) byte
         place (unfinished_of inner.new) result }
     ensures stays { result ≡ Push.More → (reading_of inner.new).place ≡ inner_place place }
@@ -164,6 +166,7 @@ impl ExtendedCommands {
     // The profile's machine takes the byte.
     #[inline(always)]
     fn go_on(&mut self, byte: u8) -> Push<ExtendedElement>
+        // The profile's machine stands at the same place, and what it says of the byte holds here.
         requires at { (reading_of self.old.inner).place ≡ inner_place self.old.place }
         requires unfinished { IsUnfinished element_rules (inner_place self.old.place)
             (unfinished_of self.old.inner) }
@@ -173,6 +176,7 @@ impl ExtendedCommands {
             (unfinished_of self.old.inner ++ byte ∷ []) → ⊥)
             → element_reason (inner_place self.old.place) (unfinished_of self.old.inner) byte
             ≡ extended_reason self.old.place (unfinished_of self.old.inner) byte }
+        // The step is one of these commands.
         ensures { IsStep extended_rules self.old.place (unfinished_of self.old.inner) byte
             self.new.place (begun_in self.new.phase (unfinished_of self.new.inner)) result }
     {

@@ -100,9 +100,11 @@ impl ExtendedScreen {
     // Carries out an element of the profile as the screen does.
     fn carry_out(&mut self, element: &Element) -> Result<(), Reason>
         requires { NeedsOpenWrite (Profile element.now) self.old.screen }
+        // Whether it is refused, and what is shown behind it.
         ensures fault { refusal result ≡ fault self.old.screen element.now }
         ensures after { OnOk result ((state : ExtendedState) → Shows state self.old
             → Shows (record state { history = after_element state.history element.now }) self.new) }
+        // Whether a write is open then; a refusal changes nothing.
         ensures open_ { OnOk result
             (is_some self.new.screen.writing ≡ lets_orders_follow element.now) }
         ensures unchanged { OnErr result (self.new ≡ self.old) }
@@ -116,10 +118,12 @@ impl ExtendedScreen {
     #[inline(always)]
     pub fn apply_profile(&mut self, element: &Element) -> Result<(), Reason>
         requires { NeedsOpenWrite (Profile element.now) self.old.screen }
+        // Whether it is refused, and what is shown behind it.
         ensures fault { (state : ExtendedState) → Shows state self.old
             → refusal result ≡ state_fault state (Profile element.now) }
         ensures after { OnOk result ((state : ExtendedState) → Shows state self.old
             → Shows (state_after state (Profile element.now)) self.new) }
+        // Whether a write is open then; a refusal changes nothing.
         ensures open_ { OnOk result
             (is_some self.new.screen.writing ≡ lets_orders_follow element.now) }
         ensures unchanged { OnErr result (self.new ≡ self.old) }
@@ -134,10 +138,12 @@ impl ExtendedScreen {
     // Carries out an element of an error's text.
     fn show_text(&mut self, element: &Element) -> Result<(), Reason>
         requires { NeedsOpenWrite (Text element.now) self.old.screen }
+        // Whether it is refused, and what is shown behind it.
         ensures fault { (state : ExtendedState) → Shows state self.old
             → refusal result ≡ state_fault state (Text element.now) }
         ensures after { OnOk result ((state : ExtendedState) → Shows state self.old
             → Shows (state_after state (Text element.now)) self.new) }
+        // The write stays open, and a refusal changes nothing.
         ensures open_ { OnOk result (is_some self.new.screen.writing ≡ true) }
         ensures unchanged { OnErr result (self.new ≡ self.old) }
     {
@@ -180,10 +186,12 @@ impl ExtendedScreen {
     /// bytes than a row has cells; it changes nothing.
     pub fn apply(&mut self, element: &ExtendedElement) -> Result<(), Reason>
         requires { NeedsOpenWrite element.now self.old.screen }
+        // Whether it is refused, and what is shown behind it.
         ensures fault { (state : ExtendedState) → Shows state self.old
             → refusal result ≡ state_fault state element.now }
         ensures after { OnOk result ((state : ExtendedState) → Shows state self.old
             → Shows (state_after state element.now) self.new) }
+        // Whether a write is open then; a refusal changes nothing.
         ensures open_ { OnOk result
             (is_some self.new.screen.writing ≡ leaves_write_open element.now) }
         ensures unchanged { OnErr result (self.new ≡ self.old) }

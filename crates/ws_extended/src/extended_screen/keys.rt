@@ -21,10 +21,12 @@ impl ExtendedScreen {
     /// Request is refused as `Locked` (SC30-3533, operator errors), whether or not the keyboard is locked. Only the
     /// screen changes, and nothing at a refused key.
     pub fn press(&mut self, key: Key) -> Result<Option<Answer>, KeyRefusal>
+        // What a key comes to where an error stands that it waits for, and elsewhere.
         ensures held { (is_some self.old.kept && waits_for_reset key) ≡ true
             → result ≡ Err KeyRefusal.Locked }
         ensures pressed { (is_some self.old.kept && waits_for_reset key) ≡ false
             → IsPressed key self.old.screen self.new.screen result }
+        // The screen alone changes, and nothing where it is refused.
         ensures screen { self.new ≡ record self.old { screen = self.new.screen } }
         ensures unchanged { OnErr result (self.new ≡ self.old) }
         ensures events { OnOk result ((state : ExtendedState) → Shows state self.old

@@ -13,10 +13,12 @@ impl HostEnd {
     // Takes bytes of the piece up to and with the first at which the host end writes or tells something, or all. One
     // that is refused is the next behind those used.
     pub(crate) fn take_piece(&mut self, piece: &[u8]) -> HostFront
+        // How much of the piece is used: all, unless something comes of it.
         ensures within { result.used ≤ length piece.now }
         ensures some { IfOk result.step (λ step. 0 < length piece.now → 0 < result.used) }
         ensures whole { IfOk result.step (λ step. step.reply ≡ [] → step.event ≡ None
             → result.used ≡ length piece.now) }
+        // What it brings, and that nothing came before its last byte.
         ensures fed { IfOk result.step (λ step. AtHost self.old (λ bytes items side.
             length bytes + length piece.now < 2 ^ 64
             → HasHostFed self.new bytes items side (take result.used piece.now) step.reply
@@ -24,6 +26,7 @@ impl HostEnd {
         ensures first { IfOk result.step (λ step. AtHost self.old (λ bytes items side.
             length bytes + length piece.now < 2 ^ 64 → (n : ℕ) → n < result.used
             → IsHostSilent bytes items side (take n piece.now))) }
+        // Where it stops, and how many bytes were taken.
         ensures refused { IfErr result.step
             (HostStopsWithin self.old self.new piece.now result.used) }
         ensures counted { IfOk result.step (λ step.
@@ -33,6 +36,7 @@ impl HostEnd {
             self.old.receiver.live.taken + length piece.now < 2 ^ 64
             → CountsUpTo why self.old.receiver.live.taken self.new.receiver.live.taken
             (length piece.now)) }
+        // What a refusal leaves.
         ensures after { IfErr result.step (λ why. self.new.ended ≡ Some why) }
         ensures seen { OnErr result.step (self.new.screen ≡ self.old.screen) }
     {
@@ -65,13 +69,16 @@ impl HostEnd {
     // Takes bytes as `take_piece` does, as many as can be counted. Where it takes no more, the first is refused.
     pub(crate) fn take_countable(&mut self, piece: &[u8]) -> HostFront
         requires { 0 < length piece.now }
+        // How much of the piece is used.
         ensures within { result.used ≤ length piece.now }
         ensures some { OnOk result.step (0 < result.used) }
+        // What it brings, and that nothing came before its last byte.
         ensures gone { IfOk result.step (λ step.
             HostGoes self.old (all_came (take result.used piece.now)) step.reply
             (as_list step.event) self.new) }
         ensures first { IfOk result.step (λ step. (n : ℕ) → n < result.used
             → HostStaysSilent self.old (take n piece.now)) }
+        // At which byte it is refused; an end that is over takes none.
         ensures refused { IfErr result.step (λ why. (byte : ℕ) × (rest : List ℕ)
             × (piece.now ≡ take result.used piece.now ++ byte ∷ rest)
             × HostRefuses self.old (take result.used piece.now) byte why self.new) }

@@ -53,13 +53,16 @@ impl HostEnd {
 
     // Answers a token.
     fn negotiate(&mut self, token: &Telnet, place: u64) -> Result<HostStep, Refusal>
+        // What comes of it at a host that stands so; no byte is taken.
         ensures reacted { (side : HostSide) → HostStands self.old side
             → IsReacted self.old self.new
             (host_negotiates side (host_answer side.options token.now)) place result }
         ensures same { self.new.receiver ≡ self.old.receiver }
+        // Where it is refused, and what that leaves.
         ensures at { IfErr result (λ why. StandsAt why place) }
         ensures after { IfErr result (λ why. self.new.ended ≡ Some why) }
         ensures seen { OnErr result (self.new.screen ≡ self.old.screen) }
+        // The screen changes with an event alone.
         ensures quiet { IfOk result (λ step. step.event ≡ None
             → self.new.screen ≡ self.old.screen) }
     {
@@ -88,14 +91,17 @@ impl HostEnd {
 
     // Does what a record asks for.
     fn take_record(&mut self, record_: &Record<AnswerPart>, place: u64) -> Result<HostStep, Refusal>
+        // What comes of it at a host that stands so; no byte is taken.
         ensures reacted { (side : HostSide) → HostStands self.old side
             → IsReacted self.old self.new
             (host_takes_record side record_.now.flags record_.now.opcode record_.now.body)
             place result }
         ensures same { self.new.receiver ≡ self.old.receiver }
+        // Where it is refused, and what that leaves.
         ensures at { IfErr result (λ why. StandsAt why place) }
         ensures after { IfErr result (λ why. self.new.ended ≡ Some why) }
         ensures seen { OnErr result (self.new.screen ≡ self.old.screen) }
+        // The screen changes with an event alone.
         ensures quiet { IfOk result (λ step. step.event ≡ None
             → self.new.screen ≡ self.old.screen) }
     {
@@ -115,13 +121,16 @@ impl HostEnd {
 
     // Takes an answer to the asked read.
     fn take_answer(&mut self, parts: &[AnswerPart], place: u64) -> Result<HostStep, Refusal>
+        // What comes of it at a host that stands so; no byte is taken.
         ensures reacted { (side : HostSide) → HostStands self.old side
             → IsReacted self.old self.new
             (host_reads_by side (side_spec.asked_read side) parts.now) place result }
         ensures same { self.new.receiver ≡ self.old.receiver }
+        // Where it is refused, and what that leaves.
         ensures at { IfErr result (λ why. StandsAt why place) }
         ensures after { IfErr result (λ why. self.new.ended ≡ Some why) }
         ensures seen { OnErr result (self.new.screen ≡ self.old.screen) }
+        // The screen changes with an event alone.
         ensures quiet { IfOk result (λ step. step.event ≡ None
             → self.new.screen ≡ self.old.screen) }
     {
@@ -141,12 +150,15 @@ impl HostEnd {
 
     // Takes the end of a cancel.
     fn end_cancel(&mut self, place: u64) -> Result<HostStep, Refusal>
+        // What comes of it at a host that stands so; no byte is taken.
         ensures reacted { (side : HostSide) → HostStands self.old side
             → IsReacted self.old self.new (host_ends_cancel side side.cancelling) place result }
         ensures same { self.new.receiver ≡ self.old.receiver }
+        // Where it is refused, and what that leaves.
         ensures at { IfErr result (λ why. StandsAt why place) }
         ensures after { IfErr result (λ why. self.new.ended ≡ Some why) }
         ensures seen { OnErr result (self.new.screen ≡ self.old.screen) }
+        // The screen changes with an event alone.
         ensures quiet { IfOk result (λ step. step.event ≡ None
             → self.new.screen ≡ self.old.screen) }
     {

@@ -20,11 +20,13 @@ impl HostEnd {
     /// The first of `SendFault`'s that applies; nothing is then changed.
     pub fn send(&mut self, opcode: Opcode, body: &[Element]) -> Result<Vec<u8>, SendFault>
         requires other { opcode ≢ Opcode.CancelInvite }
+        // What goes out; or why not, which changes nothing.
         ensures sent { AtHost self.old (λ bytes items side. length bytes + 1 < 2 ^ 64
             → MatchResult result (λ sent.
             IsSent self.new bytes items (host_send side opcode body.now) sent.items) (IsSendFault
             (host_send side opcode body.now))) }
         ensures same { OnErr result (self.new ≡ self.old) }
+        // Nothing at the greatest count or behind a refusal.
         ensures full { self.old.receiver.live.taken + 1 ≡ 2 ^ 64
             → result ≡ Err SendFault.Failed }
         ensures failed { IsSome self.old.ended → result ≡ Err SendFault.Failed }

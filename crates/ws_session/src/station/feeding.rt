@@ -15,10 +15,12 @@ impl<D: StationDisplay> StationOn<D> {
     // Takes bytes of the piece up to and with the first at which the station writes or a record ends, or all. One that
     // is refused is the next behind those used.
     pub(crate) fn take_piece(&mut self, piece: &[u8]) -> StationFront<D::Reply>
+        // How much of the piece is used: all, unless something comes of it.
         ensures within { result.used ≤ length piece.now }
         ensures some { IfOk result.step (λ step. 0 < length piece.now → 0 < result.used) }
         ensures whole { IfOk result.step (λ step. D.does.written self.new.screen step.reply ≡ []
             → step.ends_record ≡ false → result.used ≡ length piece.now) }
+        // What it brings, and that nothing came before its last byte.
         ensures fed { IfOk result.step (λ step.
             AtStationOn D.Commands.rules D.does self.old (λ bytes items side.
             length bytes + length piece.now < 2 ^ 64
@@ -28,6 +30,7 @@ impl<D: StationDisplay> StationOn<D> {
             AtStationOn D.Commands.rules D.does self.old (λ bytes items side.
             length bytes + length piece.now < 2 ^ 64 → (n : ℕ) → n < result.used
             → IsSilentOn D.Commands.rules D.does bytes items side (take n piece.now))) }
+        // Where it stops, and how many bytes were taken.
         ensures refused { IfErr result.step
             (StopsWithinOn D.Commands.rules D.does self.old self.new piece.now result.used) }
         ensures counted { IfOk result.step (λ step. self.old.live.taken + result.used < 2 ^ 64
@@ -35,6 +38,7 @@ impl<D: StationDisplay> StationOn<D> {
         ensures counted_up { IfErr result.step (λ why.
             self.old.live.taken + length piece.now < 2 ^ 64
             → CountsUpTo why self.old.live.taken self.new.live.taken (length piece.now)) }
+        // What a refusal leaves.
         ensures after { IfErr result.step (λ why. self.new.ended ≡ Some why) }
         ensures seen { OnErr result.step (self.new.screen ≡ self.old.screen) }
     {
@@ -67,14 +71,17 @@ impl<D: StationDisplay> StationOn<D> {
     // Takes bytes as `take_piece` does, as many as can be counted. Where it takes no more, the first is refused.
     pub(crate) fn take_countable(&mut self, piece: &[u8]) -> StationFront<D::Reply>
         requires { 0 < length piece.now }
+        // How much of the piece is used.
         ensures within { result.used ≤ length piece.now }
         ensures some { OnOk result.step (0 < result.used) }
+        // What it brings, and that nothing came before its last byte.
         ensures gone { IfOk result.step (λ step.
             GoesOnDisplay D.Commands.rules D.does self.old (all_came (take result.used piece.now))
             (D.does.written self.new.screen step.reply) (as_list (told_by step.ends_record))
             self.new) }
         ensures first { IfOk result.step (λ step. (n : ℕ) → n < result.used
             → StaysSilentOn D.Commands.rules D.does self.old (take n piece.now)) }
+        // At which byte it is refused; an end that is over takes none.
         ensures refused { IfErr result.step (λ why. (byte : ℕ) × (rest : List ℕ)
             × (piece.now ≡ take result.used piece.now ++ byte ∷ rest)
             × RefusesOn D.Commands.rules D.does self.old (take result.used piece.now) byte why self.new) }

@@ -112,8 +112,10 @@ impl World {
         line: &mut Line<S, R>,
         piece: usize,
     ) -> Result<(), Fault>
+        // A piece of what is in flight.
         requires some { self.old.at_station + piece ≤ length self.old.down }
         requires small { piece ≤ 4096 }
+        // What crossed, and what it led to; at a fault what had crossed before it.
         ensures came { OnOk result ((crossing : Crossing)
             × HaveCrossed S.takes S.failures R.gives R.failures line.old (crossing ∷ []) line.new
             × ComesDown (ends_of self.old) piece (crossing ∷ []) (ends_of self.new)
@@ -170,8 +172,10 @@ impl World {
         line: &mut Line<S, R>,
         piece: usize,
     ) -> Result<(), Fault>
+        // A piece of what is in flight.
         requires some { self.old.at_host + piece ≤ length self.old.up }
         requires small { piece ≤ 4096 }
+        // What crossed, and what it led to; at a fault what had crossed before it.
         ensures came { OnOk result ((crossing : Crossing)
             × HaveCrossed S.takes S.failures R.gives R.failures line.old (crossing ∷ []) line.new
             × ComesUp (ends_of self.old) piece (crossing ∷ []) (ends_of self.new)

@@ -93,8 +93,10 @@ fn come<E: Reported>(
     events: &mut Vec<Event>,
 ) -> Result<usize, Fault>
     requires { 0 < length piece.now }
+    // How much of the piece is used.
     ensures within { IfOk result (λ used. used ≤ length piece.now) }
     ensures some { IfOk result (λ used. 0 < used) }
+    // What it brings; memory alone may be wanting.
     ensures come { IfOk result (λ used. HasCome E.goes E.refuses E.over E.tells E.refusal
         end.old (take used piece.now) end.new to.old to.new events.old.items events.new.items) }
     ensures fault { IfErr result (λ fault. fault ≡ Fault.Memory) }
