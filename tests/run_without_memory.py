@@ -124,10 +124,12 @@ def program_runs(refusing, words, text):
 
 
 def runs_to_a_bad_line(refusing, words, text):
-    """The same; and a growth for good lines that is refused hides no bad line. The last one of a run is such."""
+    """The same; and a growth for good lines that is refused hides no bad line. Behind these runs stand those of the
+    bad line's cause."""
     *runs, (number, right, done) = program_runs(refusing, words, text)
+    told = any(run.stderr.startswith("script line ") for _, _, run in [*runs, (number, right, done)])
     yield from runs
-    yield number, right and done.stderr.startswith("script line "), done
+    yield number, right and told, done
 
 
 def files(words, folder):

@@ -136,9 +136,9 @@ def limit():
 
 
 def most_memory(process):
-    """The most memory that a process had, in KiB."""
+    """The most memory that a process had, in KiB; nothing of one that has ended."""
     with open(f"/proc/{process.pid}/status") as file:
-        return next(int(line.split()[1]) for line in file if line.startswith("VmHWM:"))
+        return next((int(line.split()[1]) for line in file if line.startswith("VmHWM:")), 0)
 
 
 def long_runs(runs):
