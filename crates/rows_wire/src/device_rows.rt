@@ -14,7 +14,7 @@ use ws_code::{
 // Counts the bytes of a source by small reads.
 fn count_all<S: Source>(source: &mut S) -> Result<u64, Fault>
     ensures ok { IfOk result (λ n. (bytes : List ℕ) × (n ≡ length bytes)
-        × GaveAll S.gives S.failures source.old source.new bytes) }
+        × GaveAll S.reader source.old source.new bytes) }
 {
     let mut into = [0u8; 4];
     let mut count = 0;

@@ -1,6 +1,6 @@
 use Rattle.std.proofs.Common.{◌≡◌, ℕ, List, [], ◌∷◌, ◌++◌, false, refl, subst}
 use Rattle.std.specs.Prelude.{Some}
-use Rattle.ws_code.specs.Device.{MayTake, MayGive}
+use Rattle.ws_code.specs.Device.{Writer, Reader}
 use Rattle.ws_session.specs.Attachments.{AttachedParts, HasHeard}
 use Rattle.ws_any_host.specs.AnyLeads.{AnyParts, AnyGoes, AnyRefuses}
 use Rattle.ws_any_host.specs.AnyText.{HaveTold, is_by}
@@ -8,18 +8,18 @@ use Rattle.ws_any_host.specs.declared.any_event.AnyEvent.{AnyEvent}
 
 -- Waits for a record by a key.
 
-module _ {S K : Type 0} (takes : MayTake K) (failures : K → ℕ) (gives : MayGive S) (misses : S → ℕ) where
+module _ {S K : Type 0} (writer : Writer K) (reader : Reader S) where
   abbrev Parts : Type 0
   Parts = AttachedParts AnyParts S K
 
   -- one thing more is told that isn't by the key
   pub told_behind : (aid : ℕ) (from mid to : Parts) (told : List AnyEvent) (one : AnyEvent)
-      → HaveTold takes failures gives misses aid from told mid
-      → HasHeard AnyGoes AnyRefuses takes failures gives misses mid to (Some one) → is_by aid one ≡ false
-      → HaveTold takes failures gives misses aid from (told ++ one ∷ []) to
+      → HaveTold writer reader aid from told mid
+      → HasHeard AnyGoes AnyRefuses writer reader mid to (Some one) → is_by aid one ≡ false
+      → HaveTold writer reader aid from (told ++ one ∷ []) to
   told_behind aid from mid to [] one h heard other = (
     to,
-    subst (λ (z : Parts). HasHeard AnyGoes AnyRefuses takes failures gives misses z to (Some one)) h heard,
+    subst (λ (z : Parts). HasHeard AnyGoes AnyRefuses writer reader z to (Some one)) h heard,
     other,
     refl,
   )

@@ -5,7 +5,7 @@ use Rattle.std.specs.Prelude.{Option, None, Some, IfSome, IfNone, Result, Ok, Er
 use Rattle.std.specs.List.{flat_map}
 use Rattle.std.specs.Fmt.{decimal}
 use Rattle.hex.specs.Hex.{encode_upper}
-use Rattle.ws_code.specs.Device.{MayTake, MayGive, most_reads}
+use Rattle.ws_code.specs.Device.{Writer, Reader, most_reads}
 use Rattle.ws_code.specs.declared.fault.Fault.{Fault}
 use Rattle.ws_code.specs.declared.fault.Fault.TheVariants as fault
 use Rattle.ws_record.specs.Grammar.{two_bytes, opcode_byte}
@@ -62,14 +62,14 @@ any_waits Await = Some Whole
 any_waits (AwaitKey aid) = Some Whole
 any_waits line = None
 
-module _ {S K : Type 0} (takes : MayTake K) (failures : K → ℕ) (gives : MayGive S) (misses : S → ℕ) where
+module _ {S K : Type 0} (writer : Writer K) (reader : Reader S) where
   -- such a host on a source and a sink
   abbrev pub Parts : Type 0
   Parts = AttachedParts AnyParts S K
 
   -- the record was written, or refused, and nothing is changed; no byte was read or taken
   pub record IsDone (r : Record ℕ) (from : Parts) (refused : Option SendFault) (to : Parts) : Type 0 where
-    pub led : HaveLed AnyGoes AnyRefuses takes failures gives misses from to (Did r ∷ []) []
+    pub led : HaveLed AnyGoes AnyRefuses writer reader from to (Did r ∷ []) []
     pub same : IfSome refused (λ why. to ≡ from)
     pub why : IfSome refused (IsAnySendRefusal from.end r)
     pub taken : IfNone refused (IsAnySendTaken from.end r)
@@ -80,13 +80,13 @@ module _ {S K : Type 0} (takes : MayTake K) (failures : K → ℕ) (gives : MayG
   abbrev pub IsGiven : Record ℕ → Parts → Result (Option SendFault) Fault → Parts → Type 0
   IsGiven r from (Ok refused) to = IsDone r from refused to
   IsGiven r from (Err why) to =
-      IsSendFailure AnyGoes AnyRefuses takes failures gives misses from to (Did r ∷ []) why
+      IsSendFailure AnyGoes AnyRefuses writer reader from to (Did r ∷ []) why
 
   -- things were told one after another, none of which is a record by the key
   abbrev pub HaveTold : ℕ → Parts → List AnyEvent → Parts → Type 0
   HaveTold aid from [] to = to ≡ from
   HaveTold aid from (event ∷ more) to = (mid : Parts)
-      × HasHeard AnyGoes AnyRefuses takes failures gives misses from mid (Some event)
+      × HasHeard AnyGoes AnyRefuses writer reader from mid (Some event)
       × (is_by aid event ≡ false) × HaveTold aid mid more to
 
   -- What a wait comes to, at a watch that tells of a source whether the read that failed was late.
@@ -94,23 +94,23 @@ module _ {S K : Type 0} (takes : MayTake K) (failures : K → ℕ) (gives : MayG
     -- the host heard the station, and tells nothing more: the station closed, or a fault came
     abbrev pub HearsNone : Parts → Result Closing Fault → List ℕ → Parts → Type 0
     HearsNone from outcome text to =
-        (HasHeard AnyGoes AnyRefuses takes failures gives misses from to None
+        (HasHeard AnyGoes AnyRefuses writer reader from to None
         × (outcome ≡ Ok Ended) × (text ≡ []))
-        ⊎ ((why : Fault) × (late : Bool) × IsHearFault AnyGoes AnyRefuses takes failures gives misses from to why
+        ⊎ ((why : Fault) × (late : Bool) × IsHearFault AnyGoes AnyRefuses writer reader from to why
         × (why ≡ fault.Read → tells to.source late)
         × (outcome ≡ unheard_outcome late why) × (text ≡ unheard_text why))
 
     -- the host heard the station up to the first thing that it tells, which is printed, or none came
     abbrev pub HearsOne : Parts → Result Closing Fault → List ℕ → Parts → Type 0
     HearsOne from outcome text to =
-        ((event : AnyEvent) × HasHeard AnyGoes AnyRefuses takes failures gives misses from to (Some event)
+        ((event : AnyEvent) × HasHeard AnyGoes AnyRefuses writer reader from to (Some event)
         × (outcome ≡ Ok Done) × (text ≡ any_event_text event))
         ⊎ HearsNone from outcome text to
 
     -- behind so many things a record by the key is told; or none more is; or as many were told as one wait takes
     abbrev pub KeyComes : ℕ → ℕ → Parts → Result Closing Fault → List ℕ → Parts → Type 0
     KeyComes aid told from outcome text to =
-        ((event : AnyEvent) × HasHeard AnyGoes AnyRefuses takes failures gives misses from to (Some event)
+        ((event : AnyEvent) × HasHeard AnyGoes AnyRefuses writer reader from to (Some event)
         × (is_by aid event ≡ true) × (outcome ≡ Ok Done) × (text ≡ any_event_text event))
         ⊎ (HearsNone from outcome text to
         ⊎ ((told ≡ most_reads) × (to ≡ from) × (outcome ≡ Err fault.Read) × (text ≡ [])))
@@ -132,7 +132,7 @@ module _ {S K : Type 0} (takes : MayTake K) (failures : K → ℕ) (gives : MayG
         × (outcome ≡ given_outcome given) × (text ≡ given_text given)
     AnyDoes Await from outcome text to = HearsOne from outcome text to
     AnyDoes (AwaitKey aid) from outcome text to = HearsKey aid from outcome text to
-    AnyDoes (Wire line) from outcome text to = WireRuns takes failures line from outcome to × (text ≡ [])
+    AnyDoes (Wire line) from outcome text to = WireRuns writer line from outcome to × (text ≡ [])
     AnyDoes (Bad cause) from outcome text to = (to ≡ from) × (outcome ≡ bad_outcome)
         × (text ≡ bad_text (string_bytes cause))
 

@@ -1,7 +1,7 @@
 -- A line that is carried out again and again, for as long as it closes with something that was told.
 
 use Rattle.std.specs.Prelude.{◌≡◌, ℕ, List, ◌++◌, ◌⊎◌, Bool, true, false, replicate, Result, Ok, Err}
-use Rattle.ws_code.specs.Device.{MayTake, WentOut, FailedWithin, most_reads}
+use Rattle.ws_code.specs.Device.{Writer, WentOut, FailedWithin, most_reads}
 use Rattle.ws_code.specs.declared.fault.Fault.{Fault}
 use Rattle.ws_code.specs.declared.fault.Fault.TheVariants as fault
 use Rattle.ws_text.specs.Printing.{IsOut}
@@ -37,30 +37,30 @@ module _ {L P : Type 0} (runs : L → P → Result Closing Fault → List ℕ �
   pub record CarriesOnFor (from to : P) (text : List ℕ) : Type 0 where
     pub ran : HaveRun runs false from (replicate most_reads line) true text to
 
-  module _ {O : Type 0} (prints : MayTake O) (misprints : O → ℕ) (from to : P) (old new : O) where
+  module _ {O : Type 0} (printer : Writer O) (from to : P) (old new : O) where
     -- once more, and what it printed is out
     abbrev pub HasCarriedOnce : Closing → Type 0
     HasCarriedOnce closing = (text : List ℕ) × runs line from (Ok closing) text to
-        × WentOut prints misprints old new text
+        × WentOut printer old new text
 
     -- a device or memory failed, or what was told didn't go out
     abbrev pub IsOnceFault : Fault → Type 0
     IsOnceFault why = ((text : List ℕ) × (output : Output) × runs line from (Err why) text to
-        × IsOut prints misprints old new output text)
+        × IsOut printer old new output text)
         ⊎ ((why ≡ fault.Write) × ((closing : Closing) × (text : List ℕ) × runs line from (Ok closing) text to
-        × FailedWithin prints misprints old new text))
+        × FailedWithin printer old new text))
 
     -- a line was carried out again and again, up to one that closes otherwise than with what was told, and all was
     -- printed
     abbrev pub HasCarriedOn : Bool → Type 0
     HasCarriedOn all_well = (text : List ℕ) × IsCarriedText from all_well text to
-        × WentOut prints misprints old new text
+        × WentOut printer old new text
 
     -- why a line wasn't carried on: a device failed, memory was wanting, what was told didn't go out, or too much was
     -- told
     abbrev pub IsCarryOnFault : Fault → Type 0
     IsCarryOnFault why = ((text : List ℕ) × (output : Output) × CarriesOn from to (Err why) text
-        × IsOut prints misprints old new output text)
+        × IsOut printer old new output text)
         ⊎ (((why ≡ fault.Write) × ((closing : Closing) × (text : List ℕ) × CarriesOn from to (Ok closing) text
-        × FailedWithin prints misprints old new text))
-        ⊎ ((why ≡ fault.Read) × ((text : List ℕ) × CarriesOnFor from to text × WentOut prints misprints old new text)))
+        × FailedWithin printer old new text))
+        ⊎ ((why ≡ fault.Read) × ((text : List ℕ) × CarriesOnFor from to text × WentOut printer old new text)))

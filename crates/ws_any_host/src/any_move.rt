@@ -16,7 +16,7 @@ use ws_text::Output;
 
 impl<S: Source, K: Sink> LiveMove<AnyHost, S, K> for AnyLine {
     ghost runs = { λ tells rests paint.
-        Spec.AnyRuns K.takes K.failures S.gives S.failures tells };
+        Spec.AnyRuns K.writer S.reader tells };
 
     ghost waits = { Spec.any_waits };
 
@@ -59,7 +59,7 @@ fn give<S: Source, K: Sink>(
     record_: &Record<u8>,
 ) -> Result<Option<SendFault>, Fault>
     requires works { attached.old.broken ≡ false }
-    ensures given { Spec.IsGiven K.takes K.failures S.gives S.failures record_.now
+    ensures given { Spec.IsGiven K.writer S.reader record_.now
         attached.old result attached.new }
     ensures works { IfOk result (λ refused. attached.new.broken ≡ false) }
 {
@@ -77,9 +77,9 @@ fn hear_event<S: Source, K: Sink, W: Watch<S>, O: Sink>(
     output: Output,
 ) -> Carried
     requires works { attached.old.broken ≡ false }
-    ensures heard { (text : List ℕ) × Spec.HearsOne K.takes K.failures S.gives S.failures
+    ensures heard { (text : List ℕ) × Spec.HearsOne K.writer S.reader
         W.tells attached.old result.outcome text attached.new
-        × Prints O.takes O.failures out.old out.new output result.output text }
+        × Prints O.writer out.old out.new output result.output text }
     ensures works { IfOk result.outcome (λ closing.
         stops closing ≡ false → attached.new.broken ≡ false) }
 {
@@ -105,9 +105,9 @@ fn hear_key<S: Source, K: Sink, W: Watch<S>, O: Sink>(
     output: Output,
 ) -> Carried
     requires works { attached.old.broken ≡ false }
-    ensures heard { (text : List ℕ) × Spec.HearsKey K.takes K.failures S.gives S.failures
+    ensures heard { (text : List ℕ) × Spec.HearsKey K.writer S.reader
         W.tells aid attached.old result.outcome text attached.new
-        × Prints O.takes O.failures out.old out.new output result.output text }
+        × Prints O.writer out.old out.new output result.output text }
     ensures works { IfOk result.outcome (λ closing.
         stops closing ≡ false → attached.new.broken ≡ false) }
 {

@@ -12,7 +12,7 @@ use ws_text::{Output, put, put_hex, put_hex_behind_blank, put_number, put_text};
 /// Writes the line of what a host tells that takes any record: `terminal NAME`, where a byte that doesn't print, a blank
 /// and `\` are `\` and two hex digits, or `record flags FFFF opcode K HEX`, with no HEX where there is no body.
 pub fn put_any_event<S: Sink>(sink: &mut S, output: Output, event: &AnyEvent) -> Output
-    ensures { Prints S.takes S.failures sink.old sink.new output result
+    ensures { Prints S.writer sink.old sink.new output result
         (Spec.any_event_text event.now) }
 {
     match event {
@@ -26,7 +26,7 @@ pub fn put_any_event<S: Sink>(sink: &mut S, output: Output, event: &AnyEvent) ->
 }
 
 fn put_record<S: Sink>(sink: &mut S, output: Output, record_: &Record<u8>) -> Output
-    ensures { Prints S.takes S.failures sink.old sink.new output result
+    ensures { Prints S.writer sink.old sink.new output result
         (Spec.any_event_text (AnyEvent.Record record_.now)) }
 {
     let output = put_text(sink, output, "record flags ");
@@ -38,7 +38,7 @@ fn put_record<S: Sink>(sink: &mut S, output: Output, record_: &Record<u8>) -> Ou
 }
 
 fn put_flags<S: Sink>(sink: &mut S, output: Output, flags: u16) -> Output
-    ensures { Prints S.takes S.failures sink.old sink.new output result
+    ensures { Prints S.writer sink.old sink.new output result
         (encode_upper (two_bytes flags)) }
 {
     put_hex(sink, output, &flags.to_be_bytes())
@@ -46,7 +46,7 @@ fn put_flags<S: Sink>(sink: &mut S, output: Output, flags: u16) -> Output
 
 // Writes a terminal's name.
 fn put_name<S: Sink>(sink: &mut S, output: Output, name: &[u8]) -> Output
-    ensures { Prints S.takes S.failures sink.old sink.new output result
+    ensures { Prints S.writer sink.old sink.new output result
         (Spec.name_text name.now) }
 {
     let mut output = output;
@@ -57,7 +57,7 @@ fn put_name<S: Sink>(sink: &mut S, output: Output, name: &[u8]) -> Output
 }
 
 fn put_name_byte<S: Sink>(sink: &mut S, output: Output, byte: u8) -> Output
-    ensures { Prints S.takes S.failures sink.old sink.new output result
+    ensures { Prints S.writer sink.old sink.new output result
         (Spec.name_byte byte) }
 {
     if is_plain(byte) {

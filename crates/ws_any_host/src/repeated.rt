@@ -28,12 +28,12 @@ pub fn carry_on<E, S, K, L: LiveMove<E, S, K>, W: Watch<S>, O: Sink>(
     // What was printed, or why not all; what was is out.
     ensures carried { IfOk result (Spec.HasCarriedOn
         (InTime (L.runs W.tells W.rests Paint.Plain) L.waits W.begins W.begun) line.now
-        O.takes O.failures
+        O.writer
         ((attached.old, ahead.old), watch.old) ((attached.new, ahead.new), watch.new)
         out.old.sink out.new.sink) }
     ensures fault { IfErr result (Spec.IsCarryOnFault
         (InTime (L.runs W.tells W.rests Paint.Plain) L.waits W.begins W.begun) line.now
-        O.takes O.failures
+        O.writer
         ((attached.old, ahead.old), watch.old) ((attached.new, ahead.new), watch.new)
         out.old.sink out.new.sink) }
     ensures held { out.new.held ≡ [] }
@@ -65,12 +65,12 @@ fn carry_once<E, S, K, L: LiveMove<E, S, K>, W: Watch<S>, O: Sink>(
     // What was printed, or why not all.
     ensures carried { IfOk result (Spec.HasCarriedOnce
         (InTime (L.runs W.tells W.rests Paint.Plain) L.waits W.begins W.begun) line.now
-        O.takes O.failures
+        O.writer
         ((attached.old, ahead.old), watch.old) ((attached.new, ahead.new), watch.new)
         out.old.sink out.new.sink) }
     ensures fault { IfErr result (Spec.IsOnceFault
         (InTime (L.runs W.tells W.rests Paint.Plain) L.waits W.begins W.begun) line.now
-        O.takes O.failures
+        O.writer
         ((attached.old, ahead.old), watch.old) ((attached.new, ahead.new), watch.new)
         out.old.sink out.new.sink) }
     // The end works on unless the session is over, and nothing is held back.

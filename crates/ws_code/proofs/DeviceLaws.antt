@@ -4,9 +4,9 @@ use Rattle.std.proofs.Common.{lit≤, inl, inr}
 use Rattle.std.proofs.lemmas.List.{append-nil, nil_from_length, length-take, length-take-le, take-append-le}
 use Rattle.std.proofs.Math.Seq.{take-append-add, take-length, drop-nil}
 use Rattle.std.proofs.lemmas.Grind.{flat_map-append}
-use Rattle.ws_code.specs.Device.{MayTake, MayGive, Taken, Given, bytes_taken, Writes, WentOut, FailedAfter}
+use Rattle.ws_code.specs.Device.{MayTake, MayGive, Writer, Reader, Taken, Given, bytes_taken, Writes, WentOut, FailedAfter}
 use Rattle.ws_code.specs.Device.{FailedWithin, IsWriteFailure, Reads, bytes_given, most_reads, Gave, GaveAll}
-use Rattle.ws_code.specs.Device.{ReadFault, list_gives, Held, held_takes}
+use Rattle.ws_code.specs.Device.{ReadFault, list_gives, list_reader, Held, held_takes, held_writer}
 
 -- `&xs[i..]`
 pub rest_from : (xs : List ℕ) (i : ℕ) → take (length xs - i) (drop i xs) ≡ drop i xs
@@ -30,14 +30,14 @@ module _ {S : Type 0} where
   writes_more takes from mid to (w ∷ ws) vs p q = (p.0, p.1, p.2, writes_more takes p.0 mid to ws vs p.3 q)
 
   -- no write, no byte
-  pub went_out_none : (takes : MayTake S) (failures : S → ℕ) (s : S) → WentOut takes failures s s []
-  went_out_none takes failures s = record { writes = []; made = refl; took = refl; uncounted = refl }
+  pub went_out_none : (writer : Writer S) (s : S) → WentOut writer s s []
+  went_out_none writer s = record { writes = []; made = refl; took = refl; uncounted = refl }
 
   -- one write
-  pub went_out_one : (takes : MayTake S) (failures : S → ℕ) (from to : S) (offered : List ℕ) (count : ℕ)
-      → takes from offered (Some count) to → count ≢ 0 → failures to ≡ failures from
-      → WentOut takes failures from to (take count offered)
-  went_out_one takes failures from to offered count made some uncounted = record {
+  pub went_out_one : (writer : Writer S) (from to : S) (offered : List ℕ) (count : ℕ)
+      → writer.takes from offered (Some count) to → count ≢ 0 → writer.failures to ≡ writer.failures from
+      → WentOut writer from to (take count offered)
+  went_out_one writer from to offered count made some uncounted = record {
     writes = record { offered = offered; count = count } ∷ [];
     made = (to, made, some, refl);
     took = append-nil (take count offered);
@@ -45,43 +45,43 @@ module _ {S : Type 0} where
   }
 
   -- one after the other
-  pub went_out_both : (takes : MayTake S) (failures : S → ℕ) (from mid to : S) (xs ys : List ℕ)
-      → WentOut takes failures from mid xs → WentOut takes failures mid to ys
-      → WentOut takes failures from to (xs ++ ys)
-  went_out_both takes failures from mid to xs ys p q = record {
+  pub went_out_both : (writer : Writer S) (from mid to : S) (xs ys : List ℕ)
+      → WentOut writer from mid xs → WentOut writer mid to ys
+      → WentOut writer from to (xs ++ ys)
+  went_out_both writer from mid to xs ys p q = record {
     writes = p.writes ++ q.writes;
-    made = writes_more takes from mid to p.writes q.writes p.made q.made;
+    made = writes_more writer.takes from mid to p.writes q.writes p.made q.made;
     took = flat_map-append (λ (w : Taken). take w.count w.offered) p.writes q.writes
         ∙ ap (λ z. z ++ bytes_taken q.writes) p.took ∙ ap (λ z. xs ++ z) q.took;
     uncounted = q.uncounted ∙ p.uncounted;
   }
 
   -- a failed write after what went out
-  pub failed_after_both : (takes : MayTake S) (failures : S → ℕ) (from mid to : S) (xs ys : List ℕ)
-      → WentOut takes failures from mid xs → FailedAfter takes failures mid to ys
-      → FailedAfter takes failures from to (xs ++ ys)
-  failed_after_both takes failures from mid to xs ys p q = record {
+  pub failed_after_both : (writer : Writer S) (from mid to : S) (xs ys : List ℕ)
+      → WentOut writer from mid xs → FailedAfter writer mid to ys
+      → FailedAfter writer from to (xs ++ ys)
+  failed_after_both writer from mid to xs ys p q = record {
     before = q.before;
-    went_out = went_out_both takes failures from mid q.before xs ys p q.went_out;
+    went_out = went_out_both writer from mid q.before xs ys p q.went_out;
     offered = q.offered;
     answer = q.answer;
     last = q.last;
-    failed = subst (λ (n : ℕ). IsWriteFailure q.offered q.answer n (failures to)) p.uncounted q.failed;
+    failed = subst (λ (n : ℕ). IsWriteFailure q.offered q.answer n (writer.failures to)) p.uncounted q.failed;
   }
 
   -- a failed write in a text's next part is one in the whole text
-  pub failed_within_both : (takes : MayTake S) (failures : S → ℕ) (from mid to : S) (xs ys zs : List ℕ)
-      → WentOut takes failures from mid xs → FailedWithin takes failures mid to ys
-      → FailedWithin takes failures from to (xs ++ (ys ++ zs))
-  failed_within_both takes failures from mid to xs ys zs p q =
+  pub failed_within_both : (writer : Writer S) (from mid to : S) (xs ys zs : List ℕ)
+      → WentOut writer from mid xs → FailedWithin writer mid to ys
+      → FailedWithin writer from to (xs ++ (ys ++ zs))
+  failed_within_both writer from mid to xs ys zs p q =
       let inside : q.count ≤ length ys = omega (arith, q.within) in
       let text : xs ++ take q.count ys ≡ take (length xs + q.count) (xs ++ (ys ++ zs)) =
       ap (λ z. xs ++ z) (sym (take-append-le q.count ys zs inside)) ∙ sym (take-append-add xs (ys ++ zs) q.count) in
       record {
         count = length xs + q.count;
         within = omega (arith, q.within, length-append xs (ys ++ zs), length-append ys zs);
-        failed = subst (FailedAfter takes failures from to) text
-            (failed_after_both takes failures from mid to xs (take q.count ys) p q.failed);
+        failed = subst (FailedAfter writer from to) text
+            (failed_after_both writer from mid to xs (take q.count ys) p q.failed);
       }
 
   reads_more : (gives : MayGive S) (from mid to : S) (rs : List Given) (r : Given) → Reads gives from rs mid
@@ -91,14 +91,14 @@ module _ {S : Type 0} where
   reads_more gives from mid to (q ∷ rs) r p made some = (p.0, p.1, p.2, reads_more gives p.0 mid to rs r p.3 made some)
 
   -- one read more
-  pub gave_more : (gives : MayGive S) (failures : S → ℕ) (from mid to : S) (count : ℕ) (bytes : List ℕ) (room : ℕ)
-      (given : List ℕ) → Gave gives failures from mid count bytes → count < most_reads → gives mid room (Some given) to
-      → given ≢ [] → failures to ≡ failures mid → Gave gives failures from to (count + 1) (bytes ++ given)
-  gave_more gives failures from mid to count bytes room given p one_left made some uncounted =
+  pub gave_more : (reader : Reader S) (from mid to : S) (count : ℕ) (bytes : List ℕ) (room : ℕ)
+      (given : List ℕ) → Gave reader from mid count bytes → count < most_reads → reader.gives mid room (Some given) to
+      → given ≢ [] → reader.failures to ≡ reader.failures mid → Gave reader from to (count + 1) (bytes ++ given)
+  gave_more reader from mid to count bytes room given p one_left made some uncounted =
       let r : Given = record { room = room; given = given } in
       record {
         reads = p.reads ++ r ∷ [];
-        made = reads_more gives from mid to p.reads r p.made made some;
+        made = reads_more reader.gives from mid to p.reads r p.made made some;
         counted = length-append p.reads (r ∷ []) ∙ ap (λ k. k + 1) p.counted;
         within = omega (arith, one_left);
         gave = flat_map-append (λ (q : Given). q.given) p.reads (r ∷ []) ∙ ap (λ z. z ++ (given ++ [])) p.gave
@@ -107,10 +107,10 @@ module _ {S : Type 0} where
       }
 
   -- a read that gave the end
-  pub gave_all : (gives : MayGive S) (failures : S → ℕ) (from mid to : S) (count : ℕ) (bytes : List ℕ) (room : ℕ)
-      → Gave gives failures from mid count bytes → count < most_reads → 0 < room → gives mid room (Some []) to
-      → failures to ≡ failures mid → GaveAll gives failures from to bytes
-  gave_all gives failures from mid to count bytes room p one_left h made uncounted =
+  pub gave_all : (reader : Reader S) (from mid to : S) (count : ℕ) (bytes : List ℕ) (room : ℕ)
+      → Gave reader from mid count bytes → count < most_reads → 0 < room → reader.gives mid room (Some []) to
+      → reader.failures to ≡ reader.failures mid → GaveAll reader from to bytes
+  gave_all reader from mid to count bytes room p one_left h made uncounted =
       record {
         before = mid;
         count = count;
@@ -137,9 +137,9 @@ held_writes from to (w ∷ ws) p =
     ∙ append_assoc from.bytes (take w.count w.offered) (bytes_taken ws)
 
 -- a sink that grows holds what went out
-pub held_went_out : (failures : Held → ℕ) (from to : Held) (bytes : List ℕ) → WentOut held_takes failures from to bytes
+pub held_went_out : (from to : Held) (bytes : List ℕ) → WentOut held_writer from to bytes
     → to.bytes ≡ from.bytes ++ bytes
-held_went_out failures from to bytes p = held_writes from to p.writes p.made ∙ ap (λ z. from.bytes ++ z) p.took
+held_went_out from to bytes p = held_writes from to p.writes p.made ∙ ap (λ z. from.bytes ++ z) p.took
 
 list_reads : (from to : List ℕ) (rs : List Given) → Reads list_gives from rs to → from ≡ bytes_given rs ++ to
 list_reads from to [] p = p
@@ -158,18 +158,18 @@ reads_count gives from to (r ∷ rs) p =
     omega (arith, some, reads_count gives p.0 to rs p.3, length-append r.given (bytes_given rs))
 
 -- what a source over a list gave is the list's front, the rest is left, and there were no more reads than bytes
-pub list_gave : (failures : List ℕ → ℕ) (from to : List ℕ) (count : ℕ) (bytes : List ℕ)
-    → Gave list_gives failures from to count bytes → (from ≡ bytes ++ to) × (count ≤ length bytes)
-list_gave failures from to count bytes p = (
+pub list_gave : (from to : List ℕ) (count : ℕ) (bytes : List ℕ)
+    → Gave list_reader from to count bytes → (from ≡ bytes ++ to) × (count ≤ length bytes)
+list_gave from to count bytes p = (
   list_reads from to p.reads p.made ∙ ap (λ z. z ++ to) p.gave,
   omega (arith, reads_count list_gives from to p.reads p.made, p.counted, ap length p.gave),
 )
 
 -- up to its end it gave the list, and nothing is left
-pub list_gave_all : (failures : List ℕ → ℕ) (from to bytes : List ℕ) → GaveAll list_gives failures from to bytes
+pub list_gave_all : (from to bytes : List ℕ) → GaveAll list_reader from to bytes
     → (bytes ≡ from) × (to ≡ [])
-list_gave_all failures from to bytes p =
-    let front = list_gave failures from p.before p.count bytes p.gave in
+list_gave_all from to bytes p =
+    let front = list_gave from p.before p.count bytes p.gave in
     let some : length p.before ≡ 0 = omega (arith, p.has_room, ap length p.end.0, length-take p.room p.before) in
     let none : p.before ≡ [] = nil_from_length p.before some in (
       sym (append-nil bytes) ∙ ap (λ z. bytes ++ z) (sym none) ∙ sym front.0,
@@ -178,9 +178,9 @@ list_gave_all failures from to bytes p =
     )
 
 -- and a reader of a list of fewer bytes than the most reads meets no fault
-pub list_no_fault : (failures : List ℕ → ℕ) (from to bytes : List ℕ) → length from < most_reads
-    → ReadFault list_gives failures from to bytes → ⊥
-list_no_fault failures from to bytes few (inl p) = p.last
-list_no_fault failures from to bytes few (inr p) =
-    let gave = list_gave failures from to most_reads bytes p in
+pub list_no_fault : (from to bytes : List ℕ) → length from < most_reads
+    → ReadFault list_reader from to bytes → ⊥
+list_no_fault from to bytes few (inl p) = p.last
+list_no_fault from to bytes few (inr p) =
+    let gave = list_gave from to most_reads bytes p in
     absurd (omega (arith, few, gave.1, ap length gave.0, length-append bytes to))

@@ -21,6 +21,16 @@ MayTake S = S → List ℕ → Option ℕ → S → Type 0
 abbrev pub MayGive : Type 0 → Type 1
 MayGive S = S → ℕ → Option (List ℕ) → S → Type 0
 
+-- what a sink does: what a write may do, and how many failures it has counted
+pub record Writer (S : Type 0) : Type 1 where
+  pub takes : MayTake S
+  pub failures : S → ℕ
+
+-- what a source does: what a read may do, and how many failures it has counted
+pub record Reader (S : Type 0) : Type 1 where
+  pub gives : MayGive S
+  pub failures : S → ℕ
+
 -- a count after one failure more, up to the greatest value of 64 bits
 abbrev pub one_more : ℕ → ℕ
 one_more count = min (count + 1) (2 ^ 64 - 1)
@@ -60,28 +70,28 @@ module _ {S : Type 0} where
       × Writes takes next writes to
 
   -- between the two states these bytes went out, in order and once, and no write failed
-  pub record WentOut (takes : MayTake S) (failures : S → ℕ) (from to : S) (bytes : List ℕ) : Type 0 where
+  pub record WentOut (writer : Writer S) (from to : S) (bytes : List ℕ) : Type 0 where
     pub writes : List Taken
-    pub made : Writes takes from writes to
+    pub made : Writes writer.takes from writes to
     pub took : bytes_taken writes ≡ bytes
-    pub uncounted : failures to ≡ failures from
+    pub uncounted : writer.failures to ≡ writer.failures from
 
   -- these bytes went out, and then a write failed, which was the last
   --
   -- It has the last write's offer and its answer, so that a sink that took nothing is seen here.
-  pub record FailedAfter (takes : MayTake S) (failures : S → ℕ) (from to : S) (bytes : List ℕ) : Type 0 where
+  pub record FailedAfter (writer : Writer S) (from to : S) (bytes : List ℕ) : Type 0 where
     pub before : S
-    pub went_out : WentOut takes failures from before bytes
+    pub went_out : WentOut writer from before bytes
     pub offered : List ℕ
     pub answer : Option ℕ
-    pub last : takes before offered answer to
-    pub failed : IsWriteFailure offered answer (failures from) (failures to)
+    pub last : writer.takes before offered answer to
+    pub failed : IsWriteFailure offered answer (writer.failures from) (writer.failures to)
 
   -- a prefix of the text went out, and not the whole of it, and then a write failed, which was the last
-  pub record FailedWithin (takes : MayTake S) (failures : S → ℕ) (from to : S) (text : List ℕ) : Type 0 where
+  pub record FailedWithin (writer : Writer S) (from to : S) (text : List ℕ) : Type 0 where
     pub count : ℕ
     pub within : count < length text
-    pub failed : FailedAfter takes failures from to (take count text)
+    pub failed : FailedAfter writer from to (take count text)
 
   -- the reads, each of which gave some byte, lead one after another from one state of the source to the other
   abbrev pub Reads : MayGive S → S → List Given → S → Type 0
@@ -93,40 +103,40 @@ module _ {S : Type 0} where
   -- failed
   --
   -- It has the most reads, so that each contract that says what a source gave also says that its call ends.
-  pub record Gave (gives : MayGive S) (failures : S → ℕ) (from to : S) (count : ℕ) (bytes : List ℕ) : Type 0 where
+  pub record Gave (reader : Reader S) (from to : S) (count : ℕ) (bytes : List ℕ) : Type 0 where
     pub reads : List Given
-    pub made : Reads gives from reads to
+    pub made : Reads reader.gives from reads to
     pub counted : length reads ≡ count
     pub within : count ≤ most_reads
     pub gave : bytes_given reads ≡ bytes
-    pub uncounted : failures to ≡ failures from
+    pub uncounted : reader.failures to ≡ reader.failures from
 
   -- the source gave these bytes and then, by one read more, its end, and no read failed
-  pub record GaveAll (gives : MayGive S) (failures : S → ℕ) (from to : S) (bytes : List ℕ) : Type 0 where
+  pub record GaveAll (reader : Reader S) (from to : S) (bytes : List ℕ) : Type 0 where
     pub before : S
     pub count : ℕ
-    pub gave : Gave gives failures from before count bytes
+    pub gave : Gave reader from before count bytes
     pub one_left : count < most_reads
     pub room : ℕ
     pub has_room : 0 < room
-    pub end : gives before room (Some []) to
-    pub uncounted : failures to ≡ failures from
+    pub end : reader.gives before room (Some []) to
+    pub uncounted : reader.failures to ≡ reader.failures from
 
   -- the source gave these bytes, and then one read more failed, which was the last
-  pub record ReadFailed (gives : MayGive S) (failures : S → ℕ) (from to : S) (bytes : List ℕ) : Type 0 where
+  pub record ReadFailed (reader : Reader S) (from to : S) (bytes : List ℕ) : Type 0 where
     pub before : S
     pub count : ℕ
-    pub gave : Gave gives failures from before count bytes
+    pub gave : Gave reader from before count bytes
     pub one_left : count < most_reads
     pub room : ℕ
-    pub last : gives before room None to
-    pub counted : failures to ≡ one_more (failures from)
+    pub last : reader.gives before room None to
+    pub counted : reader.failures to ≡ one_more (reader.failures from)
 
   -- what a reader may call a fault of its source, after these bytes: a read failed, or the most reads didn't reach the
   -- end
-  abbrev pub ReadFault : MayGive S → (S → ℕ) → S → S → List ℕ → Type 0
-  ReadFault gives failures from to bytes = ReadFailed gives failures from to bytes
-      ⊎ Gave gives failures from to most_reads bytes
+  abbrev pub ReadFault : Reader S → S → S → List ℕ → Type 0
+  ReadFault reader from to bytes = ReadFailed reader from to bytes
+      ⊎ Gave reader from to most_reads bytes
 
 -- The devices of this crate.
 
@@ -134,6 +144,10 @@ module _ {S : Type 0} where
 abbrev pub list_gives : List ℕ → ℕ → Option (List ℕ) → List ℕ → Type 0
 list_gives rest room None rest' = ⊥
 list_gives rest room (Some bytes) rest' = (bytes ≡ take room rest) × (rest' ≡ drop room rest)
+
+-- what a source over a list does
+abbrev pub list_reader : Reader (List ℕ)
+list_reader = record { gives = list_gives; failures = λ _. 0 }
 
 -- the bytes that a sink holds, and its failures
 pub record Held : Type 0 where
@@ -144,6 +158,10 @@ pub record Held : Type 0 where
 abbrev pub held_takes : Held → List ℕ → Option ℕ → Held → Type 0
 held_takes held bytes None held' = held'.bytes ≡ held.bytes
 held_takes held bytes (Some count) held' = (count ≡ length bytes) × (held'.bytes ≡ held.bytes ++ bytes)
+
+-- what a sink that grows does
+abbrev pub held_writer : Writer Held
+held_writer = record { takes = held_takes; failures = λ held. held.failures }
 
 -- a reader or a writer, and its failures
 pub record Counted (D : Type 0) : Type 0 where
@@ -160,6 +178,14 @@ reader_gives remaining s room (Some bytes) t = Consumes (remaining s.device) (re
 abbrev pub writer_takes : {D : Type 0} → (D → Option (List ℕ)) → Counted D → List ℕ → Option ℕ → Counted D → Type 0
 writer_takes contents s bytes None t = Keeps (contents s.device) (contents t.device)
 writer_takes contents s bytes (Some count) t = Appends (contents s.device) (contents t.device) (take count bytes)
+
+-- what a source over a reader does
+abbrev pub device_reader : {D : Type 0} → (D → Option (List ℕ)) → Reader (Counted D)
+device_reader remaining = record { gives = reader_gives remaining; failures = λ s. s.failures }
+
+-- what a sink over a writer does
+abbrev pub device_writer : {D : Type 0} → (D → Option (List ℕ)) → Writer (Counted D)
+device_writer contents = record { takes = writer_takes contents; failures = λ s. s.failures }
 
 -- a device for tests: the bytes of a list, so many calls before each fails, and its failures
 pub record Limited : Type 0 where
@@ -178,3 +204,15 @@ abbrev pub limited_takes : Limited → List ℕ → Option ℕ → Limited → T
 limited_takes s bytes None t = (t.calls ≡ s.calls) × (t.bytes ≡ s.bytes)
 limited_takes s bytes (Some count) t = (s.calls ≡ t.calls + 1) × (count ≡ min (length bytes) 1)
     × (t.bytes ≡ s.bytes ++ take 1 bytes)
+
+-- what the source for tests does
+abbrev pub limited_reader : Reader Limited
+limited_reader = record { gives = limited_gives; failures = λ s. s.failures }
+
+-- what the sink for tests does
+abbrev pub limited_writer : Writer Limited
+limited_writer = record { takes = limited_takes; failures = λ s. s.failures }
+
+-- what a sink does that takes no byte
+abbrev pub idle_writer : {D : Type 0} → Writer D
+idle_writer = record { takes = λ _ _ answer _. answer ≡ Some 0; failures = λ _. 0 }

@@ -1,5 +1,5 @@
-ghost use Rattle.std.specs.Prelude.{◌≡◌, [], List, ℕ, Option, Some};
-ghost use Rattle.ws_code.specs.Device.{Limited, limited_gives, limited_takes};
+ghost use Rattle.std.specs.Prelude.{◌≡◌, [], List, ℕ};
+ghost use Rattle.ws_code.specs.Device.{Limited, limited_reader, limited_writer, idle_writer};
 
 use crate::{DeviceFailed, Sink, Source};
 use std::alloc::Global;
@@ -42,9 +42,7 @@ impl<'a> FailingSource<'a> {
 }
 
 impl Source for FailingSource<'_> {
-    ghost gives = { limited_gives };
-
-    ghost failures = { λ s. s.failures };
+    ghost reader = { limited_reader };
 
     fn read(&mut self, into: &mut [u8]) -> Result<usize, DeviceFailed> {
         if self.calls == 0 {
@@ -103,9 +101,7 @@ impl FailingSink {
 }
 
 impl Sink for FailingSink {
-    ghost takes = { limited_takes };
-
-    ghost failures = { λ s. s.failures };
+    ghost writer = { limited_writer };
 
     fn write(&mut self, bytes: &[u8]) -> Result<usize, DeviceFailed> {
         let taken = bytes.len().min(1);
@@ -123,9 +119,7 @@ impl Sink for FailingSink {
 pub struct StuckSink;
 
 impl Sink for StuckSink {
-    ghost takes = { λ _ _ answer _. answer ≡ Some 0 };
-
-    ghost failures = { λ _. 0 };
+    ghost writer = { idle_writer };
 
     fn write(&mut self, _bytes: &[u8]) -> Result<usize, DeviceFailed> {
         Ok(0)

@@ -1,5 +1,5 @@
 ghost use Rattle.std.specs.Prelude.{◌≡◌, ◌≤◌, ◌<◌, ◌++◌, [], List, ℕ, length};
-ghost use Rattle.ws_code.specs.Device.{Held, list_gives, held_takes, most_reads, Gave, GaveAll, ReadFault};
+ghost use Rattle.ws_code.specs.Device.{Held, list_reader, held_writer, most_reads, Gave, GaveAll, ReadFault};
 
 use crate::{DeviceFailed, Sink, Source};
 use std::alloc::Global;
@@ -34,9 +34,7 @@ impl<'a> SliceSource<'a> {
 }
 
 impl Source for SliceSource<'_> {
-    ghost gives = { list_gives };
-
-    ghost failures = { λ _. 0 };
+    ghost reader = { list_reader };
 
     fn read(&mut self, into: &mut [u8]) -> Result<usize, DeviceFailed> {
         let taken = self.rest.len().min(into.len());
@@ -50,12 +48,12 @@ impl Source for SliceSource<'_> {
 /// it. A reader meets no fault in a slice of fewer than 4,294,967,296 bytes.
 pub fn slices_are_given_whole()
     ensures front { (from to : List ℕ) (reads : ℕ) (bytes : List ℕ)
-        → Gave list_gives (λ _. 0) from to reads bytes → (from ≡ bytes ++ to)
+        → Gave list_reader from to reads bytes → (from ≡ bytes ++ to)
         × (reads ≤ length bytes) }
     ensures whole { (from to bytes : List ℕ)
-        → GaveAll list_gives (λ _. 0) from to bytes → (bytes ≡ from) × (to ≡ []) }
+        → GaveAll list_reader from to bytes → (bytes ≡ from) × (to ≡ []) }
     ensures no_fault { (from to bytes : List ℕ) → length from < most_reads
-        → ReadFault list_gives (λ _. 0) from to bytes → ⊥ }
+        → ReadFault list_reader from to bytes → ⊥ }
 {}
 
 /// Keeps what is written in a `Vec` that grows. A growth that is refused is a failure, and the bytes stay.
@@ -108,9 +106,7 @@ impl VecSink {
 }
 
 impl Sink for VecSink {
-    ghost takes = { held_takes };
-
-    ghost failures = { λ s. s.failures };
+    ghost writer = { held_writer };
 
     fn write(&mut self, bytes: &[u8]) -> Result<usize, DeviceFailed> {
         match self.bytes.extend_from_slice(bytes) {

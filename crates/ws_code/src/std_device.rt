@@ -1,5 +1,5 @@
 ghost use Rattle.std.specs.Prelude.{◌≡◌, ℕ};
-ghost use Rattle.ws_code.specs.Device.{Counted, reader_gives, writer_takes};
+ghost use Rattle.ws_code.specs.Device.{Counted, device_reader, device_writer};
 
 use crate::{DeviceFailed, Sink, Source};
 use std::io::{Read, Write};
@@ -48,9 +48,7 @@ impl<R> ReadSource<R> {
 }
 
 impl<R: Read> Source for ReadSource<R> {
-    ghost gives = { reader_gives R.remaining };
-
-    ghost failures = { λ s. s.failures };
+    ghost reader = { device_reader R.remaining };
 
     fn read(&mut self, into: &mut [u8]) -> Result<usize, DeviceFailed> {
         match self.reader.read(into) {
@@ -106,9 +104,7 @@ impl<W> WriteSink<W> {
 }
 
 impl<W: Write> Sink for WriteSink<W> {
-    ghost takes = { writer_takes W.contents };
-
-    ghost failures = { λ s. s.failures };
+    ghost writer = { device_writer W.contents };
 
     fn write(&mut self, bytes: &[u8]) -> Result<usize, DeviceFailed> {
         match self.writer.write(bytes) {

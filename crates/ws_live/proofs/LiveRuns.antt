@@ -4,7 +4,7 @@ use Rattle.std.specs.Prelude.{Result, Ok, Err}
 use Rattle.std.proofs.Common.{suc, get_or, take-append-drop}
 use Rattle.std.proofs.Math.Seq.{drop-cons}
 use Rattle.std.proofs.lemmas.List.{append-nil, take_more}
-use Rattle.ws_code.specs.Device.{MayTake, WentOut, FailedWithin}
+use Rattle.ws_code.specs.Device.{Writer, WentOut, FailedWithin}
 use Rattle.ws_code.specs.declared.fault.Fault.{Fault}
 use Rattle.ws_code.proofs.DeviceLaws.{went_out_both}
 use Rattle.ws_code.proofs.Parts.{fails_last}
@@ -63,9 +63,9 @@ module _ {L P : Type 0} (runs : L → P → Result Closing Fault → List ℕ �
   )
 
   -- one line more, behind those that were carried out and printed
-  module _ {O : Type 0} (takes : MayTake O) (failures : O → ℕ) (from mid to : P) (old between new : O)
+  module _ {O : Type 0} (writer : Writer O) (from mid to : P) (old between new : O)
       (before : List L) (line : L) (ran : Ran) (printed : List ℕ)
-      (h : HaveRun runs ready from before ran.all_well printed mid) (out : WentOut takes failures old between printed)
+      (h : HaveRun runs ready from before ran.all_well printed mid) (out : WentOut writer old between printed)
     where
       stopped_at : (after lines : List L) → lines ≡ before ++ line ∷ after → (outcome : Result Closing Fault)
           (last : List ℕ) → runs line mid outcome last to → IsStoppedAt runs ready from lines outcome
@@ -84,21 +84,21 @@ module _ {L P : Type 0} (runs : L → P → Result Closing Fault → List ℕ �
         all = refl;
       }
 
-      pub goes_on : (closing : Closing) → HasCarried runs ready takes failures mid to between new line closing
+      pub goes_on : (closing : Closing) → HasCarried runs ready writer mid to between new line closing
           → (ran_and ran (ran_by closing)).is_over ≡ false
           → (text : List ℕ) × HaveRun runs ready from (before ++ line ∷ []) (ran_and ran (ran_by closing)).all_well text
-          to × WentOut takes failures old new text
+          to × WentOut writer old new text
       goes_on closing one going = (
         printed ++ (one.0 ++ closing_text ready closing),
         run_more from mid to before line ran.all_well printed one.0 closing h one.1 going,
-        went_out_both takes failures old between new printed (one.0 ++ closing_text ready closing) out one.2,
+        went_out_both writer old between new printed (one.0 ++ closing_text ready closing) out one.2,
       )
 
       pub ends_here : (after lines : List L) → lines ≡ before ++ line ∷ after → (closing : Closing)
-          → HasCarried runs ready takes failures mid to between new line closing
+          → HasCarried runs ready writer mid to between new line closing
           → (ran_and ran (ran_by closing)).is_over
           ≡ true
-          → HasRun runs ready takes failures from to old new lines (ran_and ran (ran_by closing))
+          → HasRun runs ready writer from to old new lines (ran_and ran (ran_by closing))
       unfolding stopped_at
       ends_here after lines split closing one over = (
         (printed ++ one.0) ++ closing_text ready closing,
@@ -110,26 +110,26 @@ module _ {L P : Type 0} (runs : L → P → Result Closing Fault → List ℕ �
           came = ap (λ (b : Bool). let r : Ran = record { all_well = ran.all_well && is_well closing; is_over = b } in r) over;
           all = refl;
         }),
-        subst (WentOut takes failures old new) (sym (append_assoc printed one.0 (closing_text ready closing)))
-            (went_out_both takes failures old between new printed (one.0 ++ closing_text ready closing) out one.2),
+        subst (WentOut writer old new) (sym (append_assoc printed one.0 (closing_text ready closing)))
+            (went_out_both writer old between new printed (one.0 ++ closing_text ready closing) out one.2),
       )
 
-      out_both : (output : Output) (last : List ℕ) → IsOut takes failures between new output last
-          → IsOut takes failures old new output (printed ++ last)
-      out_both Open last w = went_out_both takes failures old between new printed last out w
-      out_both Unwritten last f = fails_last takes failures old between new printed last out f
+      out_both : (output : Output) (last : List ℕ) → IsOut writer between new output last
+          → IsOut writer old new output (printed ++ last)
+      out_both Open last w = went_out_both writer old between new printed last out w
+      out_both Unwritten last f = fails_last writer old between new printed last out f
 
       pub breaks : (after lines : List L) → lines ≡ before ++ line ∷ after → (fault : Fault)
-          → IsCarryFault runs ready takes failures mid to between new line fault
-          → IsLiveFault runs ready takes failures from to old new lines fault
+          → IsCarryFault runs ready writer mid to between new line fault
+          → IsLiveFault runs ready writer from to old new lines fault
       breaks after lines split fault (inl p) = let w = p.1 in inl (
         p.0,
         record {
           closing = w.0;
           text = printed ++ w.1;
           at = stopped_at after lines split (Ok w.0) w.1 w.2;
-          failed = subst (FailedWithin takes failures old new) (sym (append_assoc printed w.1 (closing_text ready w.0)))
-              (fails_last takes failures old between new printed (w.1 ++ closing_text ready w.0) out w.3);
+          failed = subst (FailedWithin writer old new) (sym (append_assoc printed w.1 (closing_text ready w.0)))
+              (fails_last writer old between new printed (w.1 ++ closing_text ready w.0) out w.3);
         },
       )
       breaks after lines split fault (inr b) = inr (record {

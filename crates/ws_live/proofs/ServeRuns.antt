@@ -3,7 +3,7 @@ use Rattle.std.proofs.Common.{◌∙◌, subst}
 use Rattle.std.specs.Prelude.{Result, Ok, Err, Option, Some, IfOk, IfErr, IfSome, IfNone, not, replicate}
 use Rattle.std.proofs.lemmas.Bool.{false≢true}
 use Rattle.std.proofs.lemmas.List.{append-nil, replicate-append-replicate}
-use Rattle.ws_code.specs.Device.{MayTake, MayGive, WentOut, most_reads}
+use Rattle.ws_code.specs.Device.{Writer, Reader, WentOut, most_reads}
 use Rattle.ws_code.proofs.DeviceLaws.{went_out_both}
 use Rattle.ws_code.proofs.Parts.{fails_last}
 use Rattle.ws_code.specs.declared.fault.Fault.{Fault}
@@ -67,7 +67,7 @@ told_done Closed e = absurd (false≢true e)
 pub told_goes : (closing : Closing) → is_told closing ≡ true → stops closing ≡ false
 told_goes closing e = ap stops (told_done closing e)
 
-module _ {S K : Type 0} (takes : MayTake K) (failures : K → ℕ) (gives : MayGive S) (misses : S → ℕ) where
+module _ {S K : Type 0} (writer : Writer K) (reader : Reader S) where
   abbrev Parts : Type 0
   Parts = AttachedParts HostParts S K
 
@@ -76,17 +76,17 @@ module _ {S K : Type 0} (takes : MayTake K) (failures : K → ℕ) (gives : MayG
 
   module _ (order deed : Order) (is : deed_of order ≡ deed) (from to : Parts) where
     abbrev Unsent : Order → Fault → Type 0
-    Unsent done = IsSendFailure HostGoes HostRefuses takes failures gives misses from to (Did done ∷ [])
+    Unsent done = IsSendFailure HostGoes HostRefuses writer reader from to (Did done ∷ [])
 
     pub is_given : (given : Result (Option SendFault) Fault)
-        → IfOk given (λ refused. HaveLed HostGoes HostRefuses takes failures gives misses from to (Did deed ∷ []) [])
+        → IfOk given (λ refused. HaveLed HostGoes HostRefuses writer reader from to (Did deed ∷ []) [])
         → IfOk given (λ refused. IfSome refused (λ why. to ≡ from))
         → IfOk given (λ refused. IfSome refused (IsSendRefusal from.end (reaction_to deed)))
         → IfOk given (λ refused. IfNone refused (IsSendTaken from.end (reaction_to deed)))
         → IfErr given (Unsent deed) → to.waiting ≡ from.waiting → to.source ≡ from.source
-        → IsGiven takes failures gives misses order from given to
+        → IsGiven writer reader order from given to
     is_given (Ok refused) led same why taken failure waiting unread =
-        let done : IsDone takes failures gives misses deed from refused to = record {
+        let done : IsDone writer reader deed from refused to = record {
           led = led;
           same = same;
           why = why;
@@ -94,11 +94,11 @@ module _ {S K : Type 0} (takes : MayTake K) (failures : K → ℕ) (gives : MayG
           waiting = waiting;
           unread = unread;
         } in
-        subst (λ (d : Order). IsDone takes failures gives misses d from refused to) (sym is) done
+        subst (λ (d : Order). IsDone writer reader d from refused to) (sym is) done
     is_given (Err why) led same told taken failure waiting unread = subst (λ (d : Order). Unsent d why) (sym is) failure
 
     pub cancel_fails : (given : Result (Option SendFault) Fault)
-        → IfErr given (λ why. (why ≡ fault.Write) × HaveLedUnwritten HostGoes HostRefuses takes failures gives misses
+        → IfErr given (λ why. (why ≡ fault.Write) × HaveLedUnwritten HostGoes HostRefuses writer reader
         from to (Did deed ∷ []))
         → IfErr given (λ why. to.broken ≡ true) → IfErr given (Unsent deed)
     cancel_fails (Ok refused) h b = tt
@@ -106,12 +106,12 @@ module _ {S K : Type 0} (takes : MayTake K) (failures : K → ℕ) (gives : MayG
 
   -- one thing more is told that isn't the answer
   pub told_behind : (awaited : AnswerAwaited) (from mid to : Parts) (told : List HostEvent) (one : HostEvent)
-      → HaveTold takes failures gives misses awaited from told mid
-      → HasHeard HostGoes HostRefuses takes failures gives misses mid to (Some one) → is_awaited awaited one ≡ false
-      → HaveTold takes failures gives misses awaited from (told ++ one ∷ []) to
+      → HaveTold writer reader awaited from told mid
+      → HasHeard HostGoes HostRefuses writer reader mid to (Some one) → is_awaited awaited one ≡ false
+      → HaveTold writer reader awaited from (told ++ one ∷ []) to
   told_behind awaited from mid to [] one h heard other = (
     to,
-    subst (λ (z : Parts). HasHeard HostGoes HostRefuses takes failures gives misses z to (Some one)) h heard,
+    subst (λ (z : Parts). HasHeard HostGoes HostRefuses writer reader z to (Some one)) h heard,
     other,
     refl,
   )
@@ -120,11 +120,11 @@ module _ {S K : Type 0} (takes : MayTake K) (failures : K → ℕ) (gives : MayG
 
   module _ {W : Type 0} (tells : S → Bool → Type 0) (begins : W → S → WaitSpan → W → Type 0) (begun : W → ℕ) where
     abbrev Runs : HostLine → (Ends × W) → Result Closing Fault → List ℕ → (Ends × W) → Type 0
-    Runs = InTime (HostRuns takes failures gives misses tells) host_waits begins begun
+    Runs = InTime (HostRuns writer reader tells) host_waits begins begun
 
     -- one thing more is told
     pub told_more : (from mid to : Ends × W) (count : ℕ) (printed last : List ℕ) → HaveRun Runs false from
-        (replicate count Await) true printed mid → Hears takes failures gives misses tells begins begun mid (Ok Done) last to
+        (replicate count Await) true printed mid → Hears writer reader tells begins begun mid (Ok Done) last to
         → HaveRun Runs false from (replicate (count + 1) Await) true (printed ++ last) to
     told_more from mid to count printed last h r =
         let longer : replicate count Await ++ Await ∷ [] ≡ replicate (count + 1) Await = replicate-append-replicate
@@ -135,13 +135,13 @@ module _ {S K : Type 0} (takes : MayTake K) (failures : K → ℕ) (gives : MayG
         (run_more Runs false from mid to (replicate count Await) Await true printed last Done h r refl))
 
     -- things were told and printed, and what came then
-    module _ {O : Type 0} (prints : MayTake O) (misprints : O → ℕ) (from mid to : Ends × W) (old between new : O)
+    module _ {O : Type 0} (printer : Writer O) (from mid to : Ends × W) (old between new : O)
         (count : ℕ) (printed : List ℕ)
         (h : HaveRun Runs false from (replicate count Await) true printed mid)
-        (out : WentOut prints misprints old between printed) where
+        (out : WentOut printer old between printed) where
       answers : (outcome : Result Closing Fault) (last : List ℕ)
-          → Hears takes failures gives misses tells begins begun mid outcome last to
-          → AnswersOn takes failures gives misses tells begins begun from to outcome (printed ++ last)
+          → Hears writer reader tells begins begun mid outcome last to
+          → AnswersOn writer reader tells begins begun from to outcome (printed ++ last)
       answers outcome last came = record {
         count = count;
         printed = printed;
@@ -152,36 +152,36 @@ module _ {S K : Type 0} (takes : MayTake K) (failures : K → ℕ) (gives : MayG
         all = refl;
       }
 
-      pub one_told : (closing : Closing) → HasAnsweredOnce takes failures gives misses tells begins begun prints misprints mid to
+      pub one_told : (closing : Closing) → HasAnsweredOnce writer reader tells begins begun printer mid to
           between new closing → is_told closing ≡ true
           → (text : List ℕ) × HaveRun Runs false from (replicate (count + 1) Await) true text to
-          × WentOut prints misprints old new text
+          × WentOut printer old new text
       one_told closing one told =
-          let came : Hears takes failures gives misses tells begins begun mid (Ok Done) one.0 to = subst
-          (λ (k : Closing). Hears takes failures gives misses tells begins begun mid (Ok k) one.0 to)
+          let came : Hears writer reader tells begins begun mid (Ok Done) one.0 to = subst
+          (λ (k : Closing). Hears writer reader tells begins begun mid (Ok k) one.0 to)
           (told_done closing told) one.1 in (
             printed ++ one.0,
             told_more from mid to count printed one.0 h came,
-            went_out_both prints misprints old between new printed one.0 out one.2,
+            went_out_both printer old between new printed one.0 out one.2,
           )
 
       pub none_told : (closing : Closing) (well : Bool)
-          → HasAnsweredOnce takes failures gives misses tells begins begun prints misprints mid to between new closing
+          → HasAnsweredOnce writer reader tells begins begun printer mid to between new closing
           → is_told closing ≡ false → well ≡ not (stops closing)
-          → HasAnsweredOn takes failures gives misses tells begins begun prints misprints from to old new well
+          → HasAnsweredOn writer reader tells begins begun printer from to old new well
       none_told closing well one untold e = (
         printed ++ one.0,
         (closing, answers (Ok closing) one.0 one.1, untold, e),
-        went_out_both prints misprints old between new printed one.0 out one.2,
+        went_out_both printer old between new printed one.0 out one.2,
       )
 
-      out_both : (output : Output) (last : List ℕ) → IsOut prints misprints between new output last
-          → IsOut prints misprints old new output (printed ++ last)
-      out_both Open last w = went_out_both prints misprints old between new printed last out w
-      out_both Unwritten last f = fails_last prints misprints old between new printed last out f
+      out_both : (output : Output) (last : List ℕ) → IsOut printer between new output last
+          → IsOut printer old new output (printed ++ last)
+      out_both Open last w = went_out_both printer old between new printed last out w
+      out_both Unwritten last f = fails_last printer old between new printed last out f
 
-      pub answer_fails : (told : Fault) → IsAnswerFault takes failures gives misses tells begins begun prints misprints mid to
-          between new told → IsAnswerOnFault takes failures gives misses tells begins begun prints misprints from to old new told
+      pub answer_fails : (told : Fault) → IsAnswerFault writer reader tells begins begun printer mid to
+          between new told → IsAnswerOnFault writer reader tells begins begun printer from to old new told
       answer_fails told (inl b) = inl (printed ++ b.0, b.1, answers (Err told) b.0 b.2, out_both b.1 b.0 b.3)
       answer_fails told (inr p) = let w = p.1 in
           inr (inl (
@@ -190,15 +190,15 @@ module _ {S K : Type 0} (takes : MayTake K) (failures : K → ℕ) (gives : MayG
               w.0,
               printed ++ w.1,
               answers (Ok w.0) w.1 w.2,
-              fails_last prints misprints old between new printed w.1 out w.3,
+              fails_last printer old between new printed w.1 out w.3,
             ),
           ))
 
-    module _ {O : Type 0} (prints : MayTake O) (misprints : O → ℕ) (from to : Ends × W) (old new : O)
+    module _ {O : Type 0} (printer : Writer O) (from to : Ends × W) (old new : O)
         (printed : List ℕ) where
       pub too_much_told : (count : ℕ) → HaveRun Runs false from (replicate count Await) true printed to
-          → WentOut prints misprints old new printed → count ≡ most_reads
-          → IsAnswerOnFault takes failures gives misses tells begins begun prints misprints from to old new fault.Read
+          → WentOut printer old new printed → count ≡ most_reads
+          → IsAnswerOnFault writer reader tells begins begun printer from to old new fault.Read
       too_much_told count h out all =
           inr (inr (
             refl,
@@ -212,7 +212,7 @@ module _ {S K : Type 0} (takes : MayTake K) (failures : K → ℕ) (gives : MayG
 
     module _ (ready : Bool) (from mid : Ends × W) (lines : List HostLine) (ran : Ran) (printed : List ℕ)
         (h : IsLiveText Runs ready from lines ran printed mid) where
-      pub stopped_text : ran.is_over ≡ true → IsServeText takes failures gives misses tells begins begun ready from lines
+      pub stopped_text : ran.is_over ≡ true → IsServeText writer reader tells begins begun ready from lines
           ran.all_well printed mid
       stopped_text over = elim h [
         | inl all ↦ absurd (false≢true (sym all.1 ∙ over))
@@ -226,8 +226,8 @@ module _ {S K : Type 0} (takes : MayTake K) (failures : K → ℕ) (gives : MayG
       ]
 
       pub answered_text : (to : Ends × W) (is_well : Bool) (told : List ℕ) → ran.is_over ≡ false
-          → IsAnsweringText takes failures gives misses tells begins begun mid is_well told to
-          → IsServeText takes failures gives misses tells begins begun ready from lines (ran.all_well && is_well)
+          → IsAnsweringText writer reader tells begins begun mid is_well told to
+          → IsServeText writer reader tells begins begun ready from lines (ran.all_well && is_well)
           (printed ++ told) to
       answered_text to is_well told going answers = inl (
         ran.all_well,

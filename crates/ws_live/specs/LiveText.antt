@@ -1,7 +1,7 @@
 -- What a live session prints, by its lines. What a line does at an end stands in ConnectText and ServeText.
 
 use Rattle.std.specs.Prelude.{◌≡◌, ℕ, List, [], ◌∷◌, ◌++◌, ◌⊎◌, Bool, true, false, ◌&&◌, Result, Ok, Err, codes}
-use Rattle.ws_code.specs.Device.{MayTake, WentOut, FailedWithin}
+use Rattle.ws_code.specs.Device.{Writer, WentOut, FailedWithin}
 use Rattle.ws_code.specs.declared.fault.Fault.{Fault}
 use Rattle.ws_code.specs.declared.fault.Fault.TheVariants.{Write}
 use Rattle.ws_text.specs.Printing.{IsOut}
@@ -103,39 +103,39 @@ module _ {L P : Type 0} (runs : L → P → Result Closing Fault → List ℕ �
   IsLiveText from lines ran text to = (HaveRun from lines ran.all_well text to × (ran.is_over ≡ false))
       ⊎ IsOverAt from lines ran text to
 
-  module _ {O : Type 0} (takes : MayTake O) (failures : O → ℕ) (from to : P) (old new : O) where
+  module _ {O : Type 0} (writer : Writer O) (from to : P) (old new : O) where
     -- a line was carried out, and what it printed went out
     abbrev pub HasCarried : L → Closing → Type 0
     HasCarried line closing = (text : List ℕ) × runs line from (Ok closing) text to
-        × WentOut takes failures old new (text ++ closing_text ready closing)
+        × WentOut writer old new (text ++ closing_text ready closing)
 
     -- why a line wasn't carried out: its text didn't go out whole, an end's device failed, or memory was wanting; the
     -- text so far went out then, or a prefix of it
     abbrev pub IsCarryFault : L → Fault → Type 0
     IsCarryFault line fault = ((fault ≡ Write)
         × ((closing : Closing) × (text : List ℕ) × runs line from (Ok closing) text to
-        × FailedWithin takes failures old new (text ++ closing_text ready closing)))
+        × FailedWithin writer old new (text ++ closing_text ready closing)))
         ⊎ ((text : List ℕ) × (output : Output) × runs line from (Err fault) text to
-        × IsOut takes failures old new output text)
+        × IsOut writer old new output text)
 
     -- the lines were carried out one after another, up to the first that stopped the session, and what they printed
     -- went out
     abbrev pub HasRun : List L → Ran → Type 0
-    HasRun lines ran = (text : List ℕ) × IsLiveText from lines ran text to × WentOut takes failures old new text
+    HasRun lines ran = (text : List ℕ) × IsLiveText from lines ran text to × WentOut writer old new text
 
     -- a line's text didn't go out: those before it are out
     pub record IsUnprinted (lines : List L) : Type 0 where
       pub closing : Closing
       pub text : List ℕ
       pub at : IsStoppedAt from lines (Ok closing) text to
-      pub failed : FailedWithin takes failures old new (text ++ closing_text ready closing)
+      pub failed : FailedWithin writer old new (text ++ closing_text ready closing)
 
     -- an end's device failed, or memory: the text so far went out, or a prefix of it
     pub record IsBroken (lines : List L) (fault : Fault) : Type 0 where
       pub text : List ℕ
       pub at : IsStoppedAt from lines (Err fault) text to
       pub output : Output
-      pub out : IsOut takes failures old new output text
+      pub out : IsOut writer old new output text
 
     -- why not all lines were carried out: a line's text didn't go out, an end's device failed, or memory was wanting
     abbrev pub IsLiveFault : List L → Fault → Type 0

@@ -4,7 +4,7 @@ use Rattle.std.specs.Prelude.{◌≡◌, ℕ, List, [], ◌∷◌, ◌++◌, ◌
 use Rattle.std.specs.Prelude.{IfSome, IfNone, not, ◌&&◌, ◌==◌, length, replicate, string_bytes}
 use Rattle.std.specs.List.{flat_map}
 use Rattle.std.specs.Prelude.{Result, Ok, Err}
-use Rattle.ws_code.specs.Device.{MayTake, MayGive, WentOut, FailedWithin, most_reads}
+use Rattle.ws_code.specs.Device.{Writer, Reader, WentOut, FailedWithin, most_reads}
 use Rattle.ws_code.specs.declared.fault.Fault.{Fault}
 use Rattle.ws_code.specs.declared.fault.Fault.TheVariants as fault
 use Rattle.ws_session.specs.Acts.{Did}
@@ -92,7 +92,7 @@ abbrev pub reaction_to : Order → HostSide → SendReaction
 reaction_to (Send opcode body) side = host_send side opcode body
 reaction_to Cancel side = host_cancel side
 
-module _ {S K : Type 0} (takes : MayTake K) (failures : K → ℕ) (gives : MayGive S) (misses : S → ℕ) where
+module _ {S K : Type 0} (writer : Writer K) (reader : Reader S) where
   -- a host end on a source and a sink
   abbrev pub Parts : Type 0
   Parts = AttachedParts HostParts S K
@@ -103,7 +103,7 @@ module _ {S K : Type 0} (takes : MayTake K) (failures : K → ℕ) (gives : MayG
 
   -- the host end did this: it was written, or refused, and nothing is changed; no byte was read or taken
   pub record IsDone (order : Order) (from : Parts) (refused : Option SendFault) (to : Parts) : Type 0 where
-    pub led : HaveLed HostGoes HostRefuses takes failures gives misses from to (Did order ∷ []) []
+    pub led : HaveLed HostGoes HostRefuses writer reader from to (Did order ∷ []) []
     pub same : IfSome refused (λ why. to ≡ from)
     pub why : IfSome refused (IsSendRefusal from.end (reaction_to order))
     pub taken : IfNone refused (IsSendTaken from.end (reaction_to order))
@@ -113,14 +113,14 @@ module _ {S K : Type 0} (takes : MayTake K) (failures : K → ℕ) (gives : MayG
   -- what the host end was told to do is done, or a write failed, or for want of memory nothing is
   abbrev pub IsGiven : Order → Parts → Result (Option SendFault) Fault → Parts → Type 0
   IsGiven order from (Ok refused) to = IsDone (deed_of order) from refused to
-  IsGiven order from (Err why) to = IsSendFailure HostGoes HostRefuses takes failures gives misses from to
+  IsGiven order from (Err why) to = IsSendFailure HostGoes HostRefuses writer reader from to
       (Did (deed_of order) ∷ []) why
 
   -- things were told one after another, none of which is the answer that is awaited
   abbrev pub HaveTold : AnswerAwaited → Parts → List HostEvent → Parts → Type 0
   HaveTold awaited from [] to = to ≡ from
   HaveTold awaited from (event ∷ more) to = (mid : Parts)
-      × HasHeard HostGoes HostRefuses takes failures gives misses from mid (Some event)
+      × HasHeard HostGoes HostRefuses writer reader from mid (Some event)
       × (is_awaited awaited event ≡ false) × HaveTold awaited mid more to
 
   -- What a wait comes to, at a watch that tells of a source whether the read that failed was late.
@@ -128,16 +128,16 @@ module _ {S K : Type 0} (takes : MayTake K) (failures : K → ℕ) (gives : MayG
     -- the host end heard the station, and tells nothing more: the station closed, or a fault came
     abbrev pub HearsNone : Parts → Result Closing Fault → List ℕ → Parts → Type 0
     HearsNone from outcome text to =
-        (HasHeard HostGoes HostRefuses takes failures gives misses from to None
+        (HasHeard HostGoes HostRefuses writer reader from to None
         × (outcome ≡ Ok Ended) × (text ≡ []))
         ⊎ ((why : Fault) × (late : Bool)
-        × IsHearFault HostGoes HostRefuses takes failures gives misses from to why × (why ≡ fault.Read → tells to.source late)
+        × IsHearFault HostGoes HostRefuses writer reader from to why × (why ≡ fault.Read → tells to.source late)
         × (outcome ≡ unheard_outcome late why) × (text ≡ unheard_text why))
 
     -- the host end heard the station up to the first thing that it tells, which is printed, or none came
     abbrev pub HearsOne : Parts → Result Closing Fault → List ℕ → Parts → Type 0
     HearsOne from outcome text to =
-        ((event : HostEvent) × HasHeard HostGoes HostRefuses takes failures gives misses from to (Some event)
+        ((event : HostEvent) × HasHeard HostGoes HostRefuses writer reader from to (Some event)
         × (outcome ≡ Ok Done) × (text ≡ told_text event))
         ⊎ HearsNone from outcome text to
 
@@ -146,7 +146,7 @@ module _ {S K : Type 0} (takes : MayTake K) (failures : K → ℕ) (gives : MayG
       -- behind so many things the answer is told; or none more is; or as many were told as one wait takes
       abbrev pub AnswerComes : ℕ → Parts → Result Closing Fault → List ℕ → Parts → Type 0
       AnswerComes told from outcome text to =
-          ((event : HostEvent) × HasHeard HostGoes HostRefuses takes failures gives misses from to (Some event)
+          ((event : HostEvent) × HasHeard HostGoes HostRefuses writer reader from to (Some event)
           × (is_awaited awaited event ≡ true) × (outcome ≡ Ok Done) × (text ≡ told_text event))
           ⊎ (HearsNone from outcome text to
           ⊎ ((told ≡ most_reads) × (to ≡ from) × (outcome ≡ Err fault.Read) × (text ≡ [])))
@@ -168,7 +168,7 @@ module _ {S K : Type 0} (takes : MayTake K) (failures : K → ℕ) (gives : MayG
     HostDoes Await from outcome text to = HearsOne from outcome text to
     HostDoes (AwaitAnswer awaited) from outcome text to = HearsAnswer awaited from outcome text to
     HostDoes Show from outcome text to = (to ≡ from) × (outcome ≡ Ok Done) × IsScreenText Plain from.end.screen text
-    HostDoes (Wire line) from outcome text to = WireRuns takes failures line from outcome to × (text ≡ [])
+    HostDoes (Wire line) from outcome text to = WireRuns writer line from outcome to × (text ≡ [])
     HostDoes (Bad cause) from outcome text to = (to ≡ from) × (outcome ≡ bad_outcome)
         × (text ≡ bad_text (string_bytes cause))
 
@@ -210,31 +210,31 @@ module _ {S K : Type 0} (takes : MayTake K) (failures : K → ℕ) (gives : MayG
           × (all_well ≡ well && answers_well) × (text ≡ printed ++ told))
           ⊎ ((ran : Ran) × IsOverAt Runs ready from lines ran text to × (all_well ≡ ran.all_well))
 
-      module _ {O : Type 0} (prints : MayTake O) (misprints : O → ℕ) (from to : Ends × W) (old new : O) where
+      module _ {O : Type 0} (printer : Writer O) (from to : Ends × W) (old new : O) where
         -- the next thing that the host end tells is printed, or none came
         abbrev pub HasAnsweredOnce : Closing → Type 0
         HasAnsweredOnce closing = (text : List ℕ) × Hears from (Ok closing) text to
-            × WentOut prints misprints old new text
+            × WentOut printer old new text
 
         -- why the next thing wasn't printed: a device failed, memory was wanting, or it didn't go out
         abbrev pub IsAnswerFault : Fault → Type 0
         IsAnswerFault why = ((text : List ℕ) × (output : Output) × Hears from (Err why) text to
-            × IsOut prints misprints old new output text)
+            × IsOut printer old new output text)
             ⊎ ((why ≡ fault.Write) × ((closing : Closing) × (text : List ℕ) × Hears from (Ok closing) text to
-            × FailedWithin prints misprints old new text))
+            × FailedWithin printer old new text))
 
         -- what the host end tells behind a script is printed, up to the first thing that isn't told
         abbrev pub HasAnsweredOn : Bool → Type 0
         HasAnsweredOn all_well = (text : List ℕ) × IsAnsweringText from all_well text to
-            × WentOut prints misprints old new text
+            × WentOut printer old new text
 
         -- why not all that the host end tells was printed: a device failed, memory was wanting, it didn't go out, or
         -- too much was told
         abbrev pub IsAnswerOnFault : Fault → Type 0
         IsAnswerOnFault why = ((text : List ℕ) × (output : Output) × AnswersOn from to (Err why) text
-            × IsOut prints misprints old new output text)
+            × IsOut printer old new output text)
             ⊎ (((why ≡ fault.Write) × ((closing : Closing) × (text : List ℕ) × AnswersOn from to (Ok closing) text
-            × FailedWithin prints misprints old new text))
+            × FailedWithin printer old new text))
             ⊎ ((why ≡ fault.Read) × ((text : List ℕ)
             × HaveRun Runs false from (replicate most_reads Await) true text to
-            × WentOut prints misprints old new text)))
+            × WentOut printer old new text)))

@@ -1,7 +1,7 @@
 -- The lines of a script for a host, of any kind, that work on the connection itself.
 
 use Rattle.std.specs.Prelude.{◌≡◌, ℕ, List, [], ◌∷◌, ◌++◌, ◌⊎◌, Result, Ok, Err, codes}
-use Rattle.ws_code.specs.Device.{MayTake}
+use Rattle.ws_code.specs.Device.{Writer}
 use Rattle.ws_code.specs.declared.fault.Fault.{Fault}
 use Rattle.ws_code.specs.declared.fault.Fault.TheVariants.{Write}
 use Rattle.ws_telnet.specs.Token.{telnet_spelling}
@@ -52,11 +52,11 @@ SaysItems line = (items : List (Item Element)) × AreSaid line items
 abbrev pub IsWireBegun : List ℕ → Type 0
 IsWireBegun line = ((hex : List ℕ) × (line ≡ codes "raw " ++ hex)) ⊎ (IsTelnetLine line × SaysItems line)
 
-module _ {E S K : Type 0} (takes : MayTake K) (failures : K → ℕ) where
+module _ {E S K : Type 0} (writer : Writer K) where
   -- what such a line does at an end, and how it closes: its bytes went out, or only a front of them did; time goes by;
   -- or the connection is to be closed
   abbrev pub WireRuns : WireLine → AttachedParts E S K → Result Closing Fault → AttachedParts E S K → Type 0
-  WireRuns (Raw bytes) from outcome to = (HasWrittenBeside takes failures from to bytes × (outcome ≡ Ok Done))
-      ⊎ (HasFailedBeside takes failures from to bytes × (outcome ≡ Err Write))
+  WireRuns (Raw bytes) from outcome to = (HasWrittenBeside writer from to bytes × (outcome ≡ Ok Done))
+      ⊎ (HasFailedBeside writer from to bytes × (outcome ≡ Err Write))
   WireRuns (Pause time) from outcome to = (to ≡ from) × (outcome ≡ Ok Done)
   WireRuns Close from outcome to = (to ≡ from) × (outcome ≡ Ok Closed)

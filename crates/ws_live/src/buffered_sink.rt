@@ -56,10 +56,10 @@ impl<S: Sink> BufferedSink<S> {
         ensures held { self.new.held ≡ [] }
         ensures none { self.old.held ≡ [] → self.new ≡ self.old }
         ensures ok { OnOk result
-            (WentOut S.takes S.failures self.old.sink self.new.sink self.old.held
+            (WentOut S.writer self.old.sink self.new.sink self.old.held
             × (self.new.failures ≡ self.old.failures)) }
         ensures err { OnErr result
-            (FailedWithin S.takes S.failures self.old.sink self.new.sink self.old.held
+            (FailedWithin S.writer self.old.sink self.new.sink self.old.held
             × (self.new.failures ≡ one_more self.old.failures)) }
     {
         if self.held.is_empty() {
@@ -78,7 +78,7 @@ impl<S: Sink> BufferedSink<S> {
 }
 
 impl<S: Sink> Sink for BufferedSink<S> {
-    ghost takes = { buffered_takes S.takes S.failures };
+    ghost takes = { buffered_takes S.writer };
 
     ghost failures = { λ b. b.failures };
 

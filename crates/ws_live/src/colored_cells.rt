@@ -21,7 +21,7 @@ pub fn without_last_blanks(cells: &[Shown]) -> &[Shown]
 /// Writes the characters of cells, and before each whose attribute isn't that of the cell before it the attribute's
 /// sequence.
 pub fn put_colored_cells<S: Sink>(sink: &mut S, output: Output, cells: &[Shown]) -> Output
-    ensures { Prints S.takes S.failures sink.old sink.new output result
+    ensures { Prints S.writer sink.old sink.new output result
         (Spec.colored_behind None cells.now) }
 {
     let mut output = output;
@@ -41,7 +41,7 @@ fn put_change<S: Sink>(
     before: Option<Attribute>,
     attribute: Attribute,
 ) -> Output
-    ensures { Prints S.takes S.failures sink.old sink.new output result
+    ensures { Prints S.writer sink.old sink.new output result
         (Spec.sequence_behind before attribute) }
 {
     if is_same(before, attribute) {
@@ -53,7 +53,7 @@ fn put_change<S: Sink>(
 
 /// Writes a character.
 pub fn put_char<S: Sink>(sink: &mut S, output: Output, character: char) -> Output
-    ensures { Prints S.takes S.failures sink.old sink.new output result (encode_utf8 character) }
+    ensures { Prints S.writer sink.old sink.new output result (encode_utf8 character) }
 {
     put_text(sink, output, character.encode_utf8(&mut [0; 4]))
 }
@@ -70,7 +70,7 @@ fn is_same(before: Option<Attribute>, attribute: Attribute) -> bool
 
 // Writes a style's sequence: whatever was shown before, and then what the style shows.
 fn put_style<S: Sink>(sink: &mut S, output: Output, style: Style) -> Output
-    ensures { Prints S.takes S.failures sink.old sink.new output result
+    ensures { Prints S.writer sink.old sink.new output result
         (Spec.sequence (codes "0;" ++ Spec.style_codes style)) }
 {
     let output = put_text(sink, output, "\x1b[0;");

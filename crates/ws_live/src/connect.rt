@@ -37,7 +37,7 @@ where
     D::Key: NamedKey,
 {
     ghost runs = { λ tells rests. Spec.StationRuns D.Commands.rules D.does
-        K.takes K.failures S.gives S.failures tells rests D.operated D.Key.words };
+        K.writer S.reader tells rests D.operated D.Key.words };
 
     ghost waits = { Spec.station_waits };
 
@@ -94,10 +94,10 @@ fn put_what<D: OperatedDisplay, S: Source, K: Sink, W: Watch<S>, O: Sink>(
     output: Output,
 ) -> Carried
     requires works { attached.old.broken ≡ false }
-    ensures runs { (text : List ℕ) × Spec.Reports D.Commands.rules D.does K.takes K.failures
-        S.gives S.failures W.tells report.now
+    ensures runs { (text : List ℕ) × Spec.Reports D.Commands.rules D.does K.writer
+        S.reader W.tells report.now
         (attached.old, ahead.old) result.outcome text (attached.new, ahead.new)
-        × Prints O.takes O.failures out.old out.new output result.output text }
+        × Prints O.writer out.old out.new output result.output text }
     ensures begun { HasBegunIf W.begins W.begun (Spec.report_waits report.now)
         attached.old.source watch.old watch.new }
     ensures works { IfOk result.outcome (λ closing.
@@ -126,9 +126,9 @@ fn press_keys<D: OperatedDisplay, S: Source, K: Sink, O: Sink>(
 where
     D::Key: NamedKey,
     requires works { attached.old.broken ≡ false }
-    ensures runs { (text : List ℕ) × Spec.KeysRun D.Commands.rules D.does K.takes K.failures
-        S.gives S.failures D.Key.words keys.now attached.old result.outcome text attached.new
-        × Prints O.takes O.failures out.old out.new output result.output text }
+    ensures runs { (text : List ℕ) × Spec.KeysRun D.Commands.rules D.does K.writer
+        S.reader D.Key.words keys.now attached.old result.outcome text attached.new
+        × Prints O.writer out.old out.new output result.output text }
     ensures works { IfOk result.outcome (λ closing. attached.new.broken ≡ false) }
 {
     let mut output = output;
@@ -168,7 +168,7 @@ fn wait<D: OperatedDisplay, S: Source, K: Sink, W: Watch<S>>(
     awaited: &Awaited,
 ) -> Waited
     requires works { attached.old.broken ≡ false }
-    ensures waited { Spec.IsWaited D.Commands.rules D.does K.takes K.failures S.gives S.failures
+    ensures waited { Spec.IsWaited D.Commands.rules D.does K.writer S.reader
         W.tells W.rests D.operated awaited.now (attached.old, ahead) result attached.new }
     ensures begun { HasBegun W.begins W.begun attached.old.source (Spec.span_of awaited.now)
         watch.old watch.new }
@@ -199,7 +199,7 @@ fn hear_next<D: OperatedDisplay, S: Source, K: Sink, W: Watch<S>>(
     watch: &W,
 ) -> Waited
     requires works { attached.old.broken ≡ false }
-    ensures waited { Spec.IsNext D.Commands.rules D.does K.takes K.failures S.gives S.failures
+    ensures waited { Spec.IsNext D.Commands.rules D.does K.writer S.reader
         W.tells ahead attached.old result attached.new }
     ensures works { Spec.IsWorking result attached.new.broken }
 {
@@ -215,7 +215,7 @@ fn wait_for_quiet<D: OperatedDisplay, S: Source, K: Sink, W: Watch<S>>(
     watch: &W,
 ) -> Waited
     requires works { attached.old.broken ≡ false }
-    ensures waited { Spec.IsQuieted D.Commands.rules D.does K.takes K.failures S.gives S.failures
+    ensures waited { Spec.IsQuieted D.Commands.rules D.does K.writer S.reader
         W.tells W.rests attached.old result attached.new }
     ensures works { Spec.IsWorking result attached.new.broken }
 {
@@ -233,7 +233,7 @@ fn take_what_came<D: OperatedDisplay, S: Source, K: Sink, W: Watch<S>>(
 ) -> Waited
     requires works { attached.old.broken ≡ false }
     ensures taken { (told : List Applied) × (ended : Waited)
-        × Spec.TakesAll D.Commands.rules D.does K.takes K.failures S.gives S.failures
+        × Spec.TakesAll D.Commands.rules D.does K.writer S.reader
         W.tells attached.old told ended attached.new
         × (ahead.new ≡ Spec.more_ahead ahead.old told) × (result ≡ Spec.rested true ended) }
     ensures begun { HasBegun W.begins W.begun attached.old.source AtOnce watch.old watch.new }
@@ -266,7 +266,7 @@ fn take_all<D: OperatedDisplay, S: Source, K: Sink, W: Watch<S>>(
 ) -> Waited
     requires works { attached.old.broken ≡ false }
     ensures taken { (told : List Applied) × Spec.TakesAll D.Commands.rules D.does
-        K.takes K.failures S.gives S.failures W.tells attached.old told result attached.new
+        K.writer S.reader W.tells attached.old told result attached.new
         × (ahead.new ≡ Spec.more_ahead ahead.old told) }
     ensures works { Spec.IsWorking result attached.new.broken }
 {
@@ -286,7 +286,7 @@ fn wait_for<D: OperatedDisplay, S: Source, K: Sink, W: Watch<S>>(
     awaited: &Awaited,
 ) -> Waited
     requires works { attached.old.broken ≡ false }
-    ensures waited { Spec.WaitsFor D.Commands.rules D.does K.takes K.failures S.gives S.failures
+    ensures waited { Spec.WaitsFor D.Commands.rules D.does K.writer S.reader
         W.tells (Spec.IsMet D.does.shown D.operated awaited.now)
         attached.old result attached.new }
     ensures same { watch.new ≡ watch.old }
@@ -326,7 +326,7 @@ fn hear_record<D: OperatedDisplay, S: Source, K: Sink, W: Watch<S>>(
     watch: &W,
 ) -> Waited
     requires works { attached.old.broken ≡ false }
-    ensures heard { Spec.HearsOne D.Commands.rules D.does K.takes K.failures S.gives S.failures
+    ensures heard { Spec.HearsOne D.Commands.rules D.does K.writer S.reader
         W.tells attached.old result attached.new }
     ensures works { Spec.IsWorking result attached.new.broken }
 {
@@ -351,7 +351,7 @@ fn unread<S, W: Watch<S>>(watch: &W, source: &S) -> Waited
 
 fn put_waited<O: Sink>(out: &mut O, output: Output, waited: Waited) -> Carried
     ensures outcome { result.outcome ≡ Spec.waited_outcome waited }
-    ensures text { Prints O.takes O.failures out.old out.new output result.output
+    ensures text { Prints O.writer out.old out.new output result.output
         (Spec.waited_text waited) }
 {
     match waited {

@@ -11,7 +11,7 @@ use ws_text::{Output, put_number, put_text};
 
 /// Writes the line of the row on which an error stands, where one does (SC30-3533, Write Error Code command).
 pub fn put_error_row<S: Sink>(sink: &mut S, output: Output, row: Option<u8>) -> Output
-    ensures { Prints S.takes S.failures sink.old sink.new output result (Spec.error_line row) }
+    ensures { Prints S.writer sink.old sink.new output result (Spec.error_line row) }
 {
     match row {
         Some(row) => {

@@ -16,7 +16,7 @@ pub const MAX_TEXT: usize = 7680;
 /// shows any, without the blanks at its end.
 pub fn put_field_lines<O: Sink>(out: &mut O, output: Output, screen: &Screen) -> Output
     ensures { (lines : List ℕ) × Spec.AreFieldLines screen.now lines
-        × Prints O.takes O.failures out.old out.new output result lines }
+        × Prints O.writer out.old out.new output result lines }
 {
     let fields = screen.fields();
     let mut output = output;
@@ -30,7 +30,7 @@ fn put_field_line<O: Sink>(out: &mut O, output: Output, screen: &Screen, field: 
     requires { field.now.start + field.now.length ≤ CELLS }
     ensures { (shown : List ℕ)
         × IsWithoutLastBlanks (Spec.shown_of screen.now.cells field.now) shown
-        × Prints O.takes O.failures out.old out.new output result
+        × Prints O.writer out.old out.new output result
         (Spec.field_line field.now shown) }
 {
     let output = put_text(out, output, "field ");
@@ -46,7 +46,7 @@ fn put_field_line<O: Sink>(out: &mut O, output: Output, screen: &Screen, field: 
 
 // Writes a blank and the text, where there is any.
 fn put_behind_blank<O: Sink>(out: &mut O, output: Output, text: &str) -> Output
-    ensures { Prints O.takes O.failures out.old out.new output result (Spec.behind_blank text.now) }
+    ensures { Prints O.writer out.old out.new output result (Spec.behind_blank text.now) }
 {
     if text.is_empty() {
         return put_text(out, output, "");

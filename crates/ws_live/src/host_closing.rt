@@ -18,7 +18,7 @@ pub fn put_given<O: Sink>(
     given: Result<Option<SendFault>, Fault>,
 ) -> Carried
     ensures outcome { result.outcome ≡ Spec.given_outcome given }
-    ensures text { Prints O.takes O.failures out.old out.new output result.output
+    ensures text { Prints O.writer out.old out.new output result.output
         (Spec.given_text given) }
 {
     match given {
@@ -48,7 +48,7 @@ pub fn put_unheard<S, W: Watch<S>, O: Sink>(
 ) -> Carried
     ensures { (late : Bool) × (fault ≡ Fault.Read → W.tells source.now late)
         × (result.outcome ≡ Spec.unheard_outcome late fault)
-        × Prints O.takes O.failures out.old out.new output result.output
+        × Prints O.writer out.old out.new output result.output
         (Spec.unheard_text fault) }
 {
     match fault {

@@ -112,7 +112,7 @@ pub trait LiveMove<E, S, K>: LiveLine {
         ensures runs { (text : List ℕ)
             × runs W.tells W.rests paint self.now
             (attached.old, ahead.old) result.outcome text (attached.new, ahead.new)
-            × Prints O.takes O.failures out.old out.new output result.output text }
+            × Prints O.writer out.old out.new output result.output text }
         ensures begun { HasBegunIf W.begins W.begun (waits self.now)
             attached.old.source watch.old watch.new }
         ensures works { IfOk result.outcome (λ closing.
@@ -140,11 +140,11 @@ pub fn carry_lines<E, S, K, L: LiveMove<E, S, K>, W: Watch<S>, O: Sink>(
     requires empty { out.old.held ≡ [] }
     // What was printed, or why not all.
     ensures ran { IfOk result (Spec.HasRun
-        (InTime (L.runs W.tells W.rests paint) L.waits W.begins W.begun) ready O.takes O.failures
+        (InTime (L.runs W.tells W.rests paint) L.waits W.begins W.begun) ready O.writer
         ((attached.old, ahead.old), watch.old) ((attached.new, ahead.new), watch.new)
         out.old.sink out.new.sink lines.now) }
     ensures fault { IfErr result (Spec.IsLiveFault
-        (InTime (L.runs W.tells W.rests paint) L.waits W.begins W.begun) ready O.takes O.failures
+        (InTime (L.runs W.tells W.rests paint) L.waits W.begins W.begun) ready O.writer
         ((attached.old, ahead.old), watch.old) ((attached.new, ahead.new), watch.new)
         out.old.sink out.new.sink lines.now) }
     // The end works on unless the session is over, and nothing is held back.
@@ -180,11 +180,11 @@ pub fn carry_line<E, S, K, L: LiveMove<E, S, K>, W: Watch<S>, O: Sink>(
     requires empty { out.old.held ≡ [] }
     // What was printed, or why not all.
     ensures done { IfOk result (Spec.HasCarried
-        (InTime (L.runs W.tells W.rests paint) L.waits W.begins W.begun) ready O.takes O.failures
+        (InTime (L.runs W.tells W.rests paint) L.waits W.begins W.begun) ready O.writer
         ((attached.old, ahead.old), watch.old) ((attached.new, ahead.new), watch.new)
         out.old.sink out.new.sink line.now) }
     ensures fault { IfErr result (Spec.IsCarryFault
-        (InTime (L.runs W.tells W.rests paint) L.waits W.begins W.begun) ready O.takes O.failures
+        (InTime (L.runs W.tells W.rests paint) L.waits W.begins W.begun) ready O.writer
         ((attached.old, ahead.old), watch.old) ((attached.new, ahead.new), watch.new)
         out.old.sink out.new.sink line.now) }
     // The end works on unless the session is over, and nothing is held back.
@@ -211,8 +211,8 @@ pub fn carry_line<E, S, K, L: LiveMove<E, S, K>, W: Watch<S>, O: Sink>(
 /// Hands on what the buffer holds of a text.
 pub fn hand_on<O: Sink>(out: &mut BufferedSink<O>, output: Output) -> Output
     ensures out { (from : Buffering O) (text : List ℕ) → from.held ≡ []
-        → IsOut (buffered_takes O.takes O.failures) (λ b. b.failures) from out.old output text
-        → IsOut O.takes O.failures from.sink out.new.sink result text }
+        → IsOut (buffered_takes O.writer) (λ b. b.failures) from out.old output text
+        → IsOut O.writer from.sink out.new.sink result text }
     ensures held { out.new.held ≡ [] }
 {
     match out.flush() {
@@ -223,7 +223,7 @@ pub fn hand_on<O: Sink>(out: &mut BufferedSink<O>, output: Output) -> Output
 
 // Writes what stands behind a line's text.
 fn put_closing<O: Sink>(out: &mut O, output: Output, ready: bool, closing: Closing) -> Output
-    ensures { Prints O.takes O.failures out.old out.new output result
+    ensures { Prints O.writer out.old out.new output result
         (Spec.closing_text ready closing) }
 {
     let output = put_text(out, output, closing_word(closing));
@@ -255,7 +255,7 @@ fn ready_word(ready: bool, closing: Closing) -> &'static str
 /// Prints why a line is bad that can't be carried out.
 pub fn put_bad<O: Sink>(out: &mut O, output: Output, cause: &str) -> Carried
     ensures outcome { result.outcome ≡ Spec.bad_outcome }
-    ensures text { Prints O.takes O.failures out.old out.new output result.output
+    ensures text { Prints O.writer out.old out.new output result.output
         (Spec.bad_text cause.now) }
 {
     let output = put_text(out, output, "bad line: ");

@@ -18,7 +18,7 @@ pub trait OperatedDisplay: StationDisplay {
 
     /// Writes what is printed behind the lines of its screen.
     fn put_behind<S: Sink>(&self, sink: &mut S, output: Output) -> Output
-        ensures { Prints S.takes S.failures sink.old sink.new output result
+        ensures { Prints S.writer sink.old sink.new output result
             (operated.behind self.now) };
 }
 

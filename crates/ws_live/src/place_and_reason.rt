@@ -11,7 +11,7 @@ pub fn put_place_and_reason<S: Sink>(
     place: u64,
     reason: Reason,
 ) -> Output
-    ensures { Prints S.takes S.failures sink.old sink.new output result
+    ensures { Prints S.writer sink.old sink.new output result
         (place_and_reason place reason) }
 {
     let output = put_number(sink, output, place);

@@ -19,11 +19,11 @@ use ws_text::{Output, put, put_cell, put_hex, put_hex_behind_blank, put_number, 
 pub fn play_to<S: Sink>(report: &Report, screen: bool, sink: &mut S) -> Result<bool, Fault>
     ensures printed { IfOk result (λ all_well. (text : List ℕ)
         × Spec.IsPlayText report.now.events report.now.station.screen.screen screen text
-        × WentOut S.takes S.failures sink.old sink.new text
+        × WentOut S.writer sink.old sink.new text
         × (all_well ≡ Spec.no_end_refuses report.now.events)) }
     ensures fault { IfErr result (λ fault. (fault ≡ Fault.Write) × ((text : List ℕ)
         × Spec.IsPlayText report.now.events report.now.station.screen.screen screen text
-        × FailedWithin S.takes S.failures sink.old sink.new text)) }
+        × FailedWithin S.writer sink.old sink.new text)) }
 {
     play_painted_to(report, Paint::Plain, screen, sink)
 }
@@ -37,11 +37,11 @@ pub fn play_painted_to<S: Sink>(
 ) -> Result<bool, Fault>
     ensures printed { IfOk result (λ all_well. (text : List ℕ)
         × Spec.IsPaintedPlayText paint report.now.events report.now.station.screen.screen screen text
-        × WentOut S.takes S.failures sink.old sink.new text
+        × WentOut S.writer sink.old sink.new text
         × (all_well ≡ Spec.no_end_refuses report.now.events)) }
     ensures fault { IfErr result (λ fault. (fault ≡ Fault.Write) × ((text : List ℕ)
         × Spec.IsPaintedPlayText paint report.now.events report.now.station.screen.screen screen text
-        × FailedWithin S.takes S.failures sink.old sink.new text)) }
+        × FailedWithin S.writer sink.old sink.new text)) }
 {
     let events = report.events.as_slice();
     let output = put_events(sink, events);
@@ -74,7 +74,7 @@ fn is_refusal(event: &Event) -> bool
 
 // Writes all events in their order.
 fn put_events<S: Sink>(sink: &mut S, events: &[Event]) -> Output
-    ensures { Prints S.takes S.failures sink.old sink.new Output.Open result
+    ensures { Prints S.writer sink.old sink.new Output.Open result
         (Spec.events_text events.now) }
 {
     let mut output = Output::Open;
@@ -86,7 +86,7 @@ fn put_events<S: Sink>(sink: &mut S, events: &[Event]) -> Output
 
 /// Writes the lines of an event.
 pub fn put_event<S: Sink>(sink: &mut S, output: Output, event: &Event) -> Output
-    ensures { Prints S.takes S.failures sink.old sink.new output result
+    ensures { Prints S.writer sink.old sink.new output result
         (Spec.event_text event.now) }
 {
     match event {
@@ -114,7 +114,7 @@ pub fn put_event<S: Sink>(sink: &mut S, output: Output, event: &Event) -> Output
 
 /// Writes what a host end tells.
 pub fn put_host_event<S: Sink>(sink: &mut S, output: Output, event: &HostEvent) -> Output
-    ensures { Prints S.takes S.failures sink.old sink.new output result
+    ensures { Prints S.writer sink.old sink.new output result
         (Spec.host_event_text event.now) }
 {
     match event {
@@ -132,7 +132,7 @@ pub fn put_host_event<S: Sink>(sink: &mut S, output: Output, event: &HostEvent) 
 
 // Writes an answer's cursor and AID, and then its fields.
 fn put_answer<S: Sink>(sink: &mut S, output: Output, answer: &HostAnswer) -> Output
-    ensures { Prints S.takes S.failures sink.old sink.new output result
+    ensures { Prints S.writer sink.old sink.new output result
         (Spec.host_event_text (HostEvent.Answer answer.now)) }
 {
     let output = put_answer_line(sink, output, answer);
@@ -141,7 +141,7 @@ fn put_answer<S: Sink>(sink: &mut S, output: Output, answer: &HostAnswer) -> Out
 
 /// Writes an answer's cursor and AID.
 pub fn put_answer_line<S: Sink>(sink: &mut S, output: Output, answer: &HostAnswer) -> Output
-    ensures { Prints S.takes S.failures sink.old sink.new output result
+    ensures { Prints S.writer sink.old sink.new output result
         (Spec.answer_line answer.now) }
 {
     let output = put_text(sink, output, "answer ");
@@ -152,7 +152,7 @@ pub fn put_answer_line<S: Sink>(sink: &mut S, output: Output, answer: &HostAnswe
 }
 
 fn put_fields<S: Sink>(sink: &mut S, output: Output, fields: &[ReadField]) -> Output
-    ensures { Prints S.takes S.failures sink.old sink.new output result
+    ensures { Prints S.writer sink.old sink.new output result
         (flat_map Spec.read_field_text fields.now) }
 {
     let mut output = output;
@@ -163,7 +163,7 @@ fn put_fields<S: Sink>(sink: &mut S, output: Output, fields: &[ReadField]) -> Ou
 }
 
 fn put_field<S: Sink>(sink: &mut S, output: Output, field: &ReadField) -> Output
-    ensures { Prints S.takes S.failures sink.old sink.new output result
+    ensures { Prints S.writer sink.old sink.new output result
         (Spec.read_field_text field.now) }
 {
     let output = put_text(sink, output, "  field ");
@@ -174,7 +174,7 @@ fn put_field<S: Sink>(sink: &mut S, output: Output, field: &ReadField) -> Output
 
 /// Writes why a key has no effect.
 pub fn put_key_fault<S: Sink>(sink: &mut S, output: Output, fault: KeyFault) -> Output
-    ensures { Prints S.takes S.failures sink.old sink.new output result
+    ensures { Prints S.writer sink.old sink.new output result
         (Spec.key_fault_name fault) }
 {
     match fault {
@@ -200,7 +200,7 @@ fn refusal_name(refusal: KeyRefusal) -> &'static str
 
 // Writes why a host end doesn't send.
 fn put_send_fault<S: Sink>(sink: &mut S, output: Output, fault: SendFault) -> Output
-    ensures { Prints S.takes S.failures sink.old sink.new output result
+    ensures { Prints S.writer sink.old sink.new output result
         (Spec.send_fault_name fault) }
 {
     match fault {
@@ -220,7 +220,7 @@ fn put_send_fault<S: Sink>(sink: &mut S, output: Output, fault: SendFault) -> Ou
 
 // Writes where an end refuses a byte, and for what reason.
 fn put_refused<S: Sink>(sink: &mut S, output: Output, place: u64, reason: Reason) -> Output
-    ensures { Prints S.takes S.failures sink.old sink.new output result
+    ensures { Prints S.writer sink.old sink.new output result
         (Spec.refused_text place reason) }
 {
     let output = put_text(sink, output, " refused at ");

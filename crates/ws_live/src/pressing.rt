@@ -25,10 +25,10 @@ pub fn press_key<D: StationDisplay, S: Source, K: Sink, O: Sink>(
 where
     D::Key: NamedKey,
     requires works { attached.old.broken ≡ false }
-    ensures runs { (text : List ℕ) × Spec.KeyRuns D.Commands.rules D.does K.takes K.failures
-        S.gives S.failures D.Key.words key
+    ensures runs { (text : List ℕ) × Spec.KeyRuns D.Commands.rules D.does K.writer
+        S.reader D.Key.words key
         attached.old result.outcome text attached.new
-        × Prints O.takes O.failures out.old out.new output result.output text }
+        × Prints O.writer out.old out.new output result.output text }
     ensures works { IfOk result.outcome (λ closing. attached.new.broken ≡ false) }
 {
     match attached.press(key) {
@@ -54,7 +54,7 @@ fn put_key_refused<O: Sink>(
     entered: Option<char>,
     fault: KeyFault,
 ) -> Output
-    ensures { Prints O.takes O.failures out.old out.new output result
+    ensures { Prints O.writer out.old out.new output result
         (Spec.key_refused_line entered fault) }
 {
     let output = put_text(out, output, "key refused ");
@@ -65,7 +65,7 @@ fn put_key_refused<O: Sink>(
 
 // Writes a character behind a blank, where there is one.
 fn put_entered<O: Sink>(out: &mut O, output: Output, entered: Option<char>) -> Output
-    ensures { Prints O.takes O.failures out.old out.new output result
+    ensures { Prints O.writer out.old out.new output result
         (Spec.entered_behind entered) }
 {
     match entered {
@@ -87,11 +87,11 @@ pub fn press_stroke<D: StationDisplay, S: Source, K: Sink, O: Sink>(
 where
     D::Key: NamedKey,
     requires works { attached.old.broken ≡ false }
-    ensures runs { (text : List ℕ) × Spec.StrokeRuns D.Commands.rules D.does K.takes K.failures
-        S.gives S.failures D.Key.words
+    ensures runs { (text : List ℕ) × Spec.StrokeRuns D.Commands.rules D.does K.writer
+        S.reader D.Key.words
         (stroke_keys D.Key.words (D.does.shown attached.old.end.screen) stroke.now)
         attached.old result.outcome text attached.new
-        × Prints O.takes O.failures out.old out.new output result.output text }
+        × Prints O.writer out.old out.new output result.output text }
     ensures works { IfOk result.outcome (λ closing. attached.new.broken ≡ false) }
 {
     let Some(runs) = stroke.runs(attached.end().screen()) else {
@@ -117,10 +117,10 @@ fn press_behind<D: StationDisplay, S: Source, K: Sink, O: Sink>(
 where
     D::Key: NamedKey,
     requires works { attached.old.broken ≡ false }
-    ensures runs { (text : List ℕ) × Spec.KeysUntil D.Commands.rules D.does K.takes K.failures
-        S.gives S.failures D.Key.words
+    ensures runs { (text : List ℕ) × Spec.KeysUntil D.Commands.rules D.does K.writer
+        S.reader D.Key.words
         (keys_behind stroke.now) attached.old result.outcome text attached.new
-        × Prints O.takes O.failures out.old out.new output result.output text }
+        × Prints O.writer out.old out.new output result.output text }
     ensures works { IfOk result.outcome (λ closing. attached.new.broken ≡ false) }
 {
     match stroke {
@@ -142,10 +142,10 @@ fn press_until<D: StationDisplay, S: Source, K: Sink, O: Sink>(
 where
     D::Key: NamedKey,
     requires works { attached.old.broken ≡ false }
-    ensures runs { (text : List ℕ) × Spec.KeysUntil D.Commands.rules D.does K.takes K.failures
-        S.gives S.failures D.Key.words
+    ensures runs { (text : List ℕ) × Spec.KeysUntil D.Commands.rules D.does K.writer
+        S.reader D.Key.words
         keys.now attached.old result.outcome text attached.new
-        × Prints O.takes O.failures out.old out.new output result.output text }
+        × Prints O.writer out.old out.new output result.output text }
     ensures works { IfOk result.outcome (λ closing. attached.new.broken ≡ false) }
 {
     let mut output = output;
@@ -172,10 +172,10 @@ fn press_runs<D: StationDisplay, S: Source, K: Sink, O: Sink>(
 where
     D::Key: NamedKey,
     requires works { attached.old.broken ≡ false }
-    ensures runs { (text : List ℕ) × Spec.KeysUntil D.Commands.rules D.does K.takes K.failures
-        S.gives S.failures D.Key.words
+    ensures runs { (text : List ℕ) × Spec.KeysUntil D.Commands.rules D.does K.writer
+        S.reader D.Key.words
         (map D.Key.words.profile (keys_of runs.now)) attached.old result.outcome text attached.new
-        × Prints O.takes O.failures out.old out.new output result.output text }
+        × Prints O.writer out.old out.new output result.output text }
     ensures works { IfOk result.outcome (λ closing. attached.new.broken ≡ false) }
 {
     let mut output = output;
@@ -204,10 +204,10 @@ fn press_times<D: StationDisplay, S: Source, K: Sink, O: Sink>(
 where
     D::Key: NamedKey,
     requires works { attached.old.broken ≡ false }
-    ensures runs { (text : List ℕ) × Spec.KeysUntil D.Commands.rules D.does K.takes K.failures
-        S.gives S.failures D.Key.words
+    ensures runs { (text : List ℕ) × Spec.KeysUntil D.Commands.rules D.does K.writer
+        S.reader D.Key.words
         (replicate times key) attached.old result.outcome text attached.new
-        × Prints O.takes O.failures out.old out.new output result.output text }
+        × Prints O.writer out.old out.new output result.output text }
     ensures works { IfOk result.outcome (λ closing. attached.new.broken ≡ false) }
 {
     let mut output = output;

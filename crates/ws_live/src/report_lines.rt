@@ -23,7 +23,7 @@ pub fn put_report<D: StationDisplay, O: Sink>(
     ensures { (text : List ℕ) × Spec.IsReportText (D.does.shown station.now.screen)
         (station_allows_records station.now.options) station.now.records station.now.live.taken
         report.now text
-        × Prints O.takes O.failures out.old out.new output result text }
+        × Prints O.writer out.old out.new output result text }
 {
     match report {
         Report::Status => put_status(out, output, station),
@@ -38,7 +38,7 @@ fn put_status<D: StationDisplay, O: Sink>(
     output: Output,
     station: &StationOn<D>,
 ) -> Output
-    ensures { Prints O.takes O.failures out.old out.new output result
+    ensures { Prints O.writer out.old out.new output result
         (Spec.status_line (D.does.shown station.now.screen)
         (station_allows_records station.now.options) station.now.records station.now.live.taken) }
 {
@@ -52,7 +52,7 @@ fn put_status<D: StationDisplay, O: Sink>(
 
 // Writes the lock, whether the station is ready, and the cursor with its field.
 fn put_operator<O: Sink>(out: &mut O, output: Output, screen: &Screen, is_ready: bool) -> Output
-    ensures { Prints O.takes O.failures out.old out.new output result
+    ensures { Prints O.writer out.old out.new output result
         (Spec.operator_words screen.now is_ready) }
 {
     let output = put_text(out, output, "status ");
@@ -71,7 +71,7 @@ fn ready_name(is_ready: bool) -> &'static str
 // Writes the number of a field, counted from 1, by its index, where there is one.
 fn put_field_number<O: Sink>(out: &mut O, output: Output, index: Option<usize>) -> Output
     requires { IfSome index (λ i. i < MAX_FIELDS) }
-    ensures { Prints O.takes O.failures out.old out.new output result (Spec.field_name index) }
+    ensures { Prints O.writer out.old out.new output result (Spec.field_name index) }
 {
     match index {
         None => output,
@@ -105,7 +105,7 @@ fn has_cell(field: &Field, cell: Address) -> bool
 
 // Writes what a row's cells hold, and the attributes under which they show: of the row in which a cell stands.
 fn put_cells<O: Sink>(out: &mut O, output: Output, screen: &Screen, cell: Address) -> Output
-    ensures { Prints O.takes O.failures out.old out.new output result
+    ensures { Prints O.writer out.old out.new output result
         (Spec.cells_line screen.now.cells cell) }
 {
     let number = cell.row();
@@ -133,7 +133,7 @@ pub fn row_bytes(screen: &Screen, row: u8) -> &[u8]
 
 // Writes the attributes of cells in hex.
 fn put_attributes<O: Sink>(out: &mut O, output: Output, shown: &[Shown]) -> Output
-    ensures { Prints O.takes O.failures out.old out.new output result
+    ensures { Prints O.writer out.old out.new output result
         (Spec.attributes_text shown.now) }
 {
     let mut output = output;
@@ -146,7 +146,7 @@ fn put_attributes<O: Sink>(out: &mut O, output: Output, shown: &[Shown]) -> Outp
 // Writes what cells show, without the blanks at its end: from one on so many, or up to the last of the screen.
 fn put_text_at<O: Sink>(out: &mut O, output: Output, screen: &Screen, span: Span) -> Output
     ensures { (text : List ℕ) × Spec.IsTextLine screen.now.cells span text
-        × Prints O.takes O.failures out.old out.new output result text }
+        × Prints O.writer out.old out.new output result text }
 {
     let behind = CELLS - span.at.place();
     let text = cells_text(screen, span.at, span.count.min(behind));
@@ -156,7 +156,7 @@ fn put_text_at<O: Sink>(out: &mut O, output: Output, screen: &Screen, span: Span
 
 /// Writes a note.
 pub fn put_note<O: Sink>(out: &mut O, output: Output, note: &[u8]) -> Output
-    ensures { Prints O.takes O.failures out.old out.new output result (Spec.note_line note.now) }
+    ensures { Prints O.writer out.old out.new output result (Spec.note_line note.now) }
 {
     let output = put(out, output, note);
     put_text(out, output, "\n")

@@ -24,7 +24,7 @@ pub fn put_screen_if<S: Sink>(
     screen: &Screen,
 ) -> Output
     ensures { (lines : List ℕ) × AreScreenLines paint is_asked screen.now lines
-        × Prints S.takes S.failures sink.old sink.new output result lines }
+        × Prints S.writer sink.old sink.new output result lines }
 {
     if is_asked {
         put_screen(sink, output, paint, screen)
@@ -38,7 +38,7 @@ pub fn put_screen_if<S: Sink>(
 /// In colour the same rows are written, cut at the same cells.
 pub fn put_screen<S: Sink>(sink: &mut S, output: Output, paint: Paint, screen: &Screen) -> Output
     ensures { (lines : List ℕ) × Spec.IsScreenText paint screen.now lines
-        × Prints S.takes S.failures sink.old sink.new output result lines }
+        × Prints S.writer sink.old sink.new output result lines }
 {
     let output = put_text(sink, output, "screen\n");
     let output = put_rows(sink, output, paint, screen);
@@ -54,7 +54,7 @@ pub fn put_display<D: OperatedDisplay, S: Sink>(
 ) -> Output
     ensures { (lines : List ℕ)
         × Spec.IsDisplayText paint (D.does.shown display.now) (D.operated.behind display.now) lines
-        × Prints S.takes S.failures sink.old sink.new output result lines }
+        × Prints S.writer sink.old sink.new output result lines }
 {
     let output = put_screen(sink, output, paint, display.screen());
     display.put_behind(sink, output)
@@ -63,7 +63,7 @@ pub fn put_display<D: OperatedDisplay, S: Sink>(
 // Writes the lines of all rows.
 fn put_rows<S: Sink>(sink: &mut S, output: Output, paint: Paint, screen: &Screen) -> Output
     ensures { (rows : List ℕ) × Spec.AreRows paint screen.now.cells (range_with_len 1 ROWS) rows
-        × Prints S.takes S.failures sink.old sink.new output result rows }
+        × Prints S.writer sink.old sink.new output result rows }
 {
     let mut output = output;
     for row in 1..=ROWS {
@@ -77,7 +77,7 @@ fn put_row<S: Sink>(sink: &mut S, output: Output, paint: Paint, screen: &Screen,
     requires low { 1 ≤ row }
     requires high { row ≤ ROWS }
     ensures { (shown : List ℕ) × Spec.IsRow paint screen.now.cells row shown
-        × Prints S.takes S.failures sink.old sink.new output result (Spec.row_line row shown) }
+        × Prints S.writer sink.old sink.new output result (Spec.row_line row shown) }
 {
     match paint {
         Paint::Plain => put_plain_row(sink, output, screen, row),
@@ -90,7 +90,7 @@ fn put_plain_row<S: Sink>(sink: &mut S, output: Output, screen: &Screen, row: u8
     requires high { row ≤ ROWS }
     ensures { (shown : List ℕ)
         × Spec.IsWithoutLastBlanks (encode_utf8_all (row_chars screen.now.cells row)) shown
-        × Prints S.takes S.failures sink.old sink.new output result (Spec.row_line row shown) }
+        × Prints S.writer sink.old sink.new output result (Spec.row_line row shown) }
 {
     let line = screen.line(row);
     put_shown(sink, output, row, line.as_str().trim_end_matches(' '))
@@ -98,7 +98,7 @@ fn put_plain_row<S: Sink>(sink: &mut S, output: Output, screen: &Screen, row: u8
 
 // Writes the line of a row that shows this, if it shows anything.
 fn put_shown<S: Sink>(sink: &mut S, output: Output, row: u8, shown: &str) -> Output
-    ensures { Prints S.takes S.failures sink.old sink.new output result
+    ensures { Prints S.writer sink.old sink.new output result
         (Spec.row_line row shown.now) }
 {
     if shown.is_empty() {
@@ -113,7 +113,7 @@ fn put_colored_row<S: Sink>(sink: &mut S, output: Output, screen: &Screen, row: 
     requires low { 1 ≤ row }
     requires high { row ≤ ROWS }
     ensures { (shown : List ℕ) × IsColoredRow (shown_row screen.now.cells row) shown
-        × Prints S.takes S.failures sink.old sink.new output result (Spec.row_line row shown) }
+        × Prints S.writer sink.old sink.new output result (Spec.row_line row shown) }
 {
     let cells = screen.row(row);
     put_colored(sink, output, row, without_last_blanks(&cells))
@@ -121,7 +121,7 @@ fn put_colored_row<S: Sink>(sink: &mut S, output: Output, screen: &Screen, row: 
 
 // Writes the line of a row that shows these cells in colour, if it shows any.
 fn put_colored<S: Sink>(sink: &mut S, output: Output, row: u8, shown: &[Shown]) -> Output
-    ensures { Prints S.takes S.failures sink.old sink.new output result
+    ensures { Prints S.writer sink.old sink.new output result
         (Spec.row_line row (colored_text shown.now)) }
 {
     if shown.is_empty() {
@@ -134,7 +134,7 @@ fn put_colored<S: Sink>(sink: &mut S, output: Output, row: u8, shown: &[Shown]) 
 
 // Writes what stands before what a row shows.
 fn put_row_number<S: Sink>(sink: &mut S, output: Output, row: u8) -> Output
-    ensures { Prints S.takes S.failures sink.old sink.new output result
+    ensures { Prints S.writer sink.old sink.new output result
         (Spec.indent row ++ decimal row ++ codes " ") }
 {
     let output = put_text(sink, output, indent(row));
@@ -151,7 +151,7 @@ fn indent(row: u8) -> &'static str
 
 // Writes the cursor, the keyboard's lock, message light and blinking cursor, and the number of fields.
 fn put_state<S: Sink>(sink: &mut S, output: Output, screen: &Screen) -> Output
-    ensures { Prints S.takes S.failures sink.old sink.new output result
+    ensures { Prints S.writer sink.old sink.new output result
         (Spec.state_line screen.now) }
 {
     let output = put_text(sink, output, "cursor ");

@@ -22,7 +22,7 @@ use ws_text::Output;
 
 impl<S: Source, K: Sink> LiveMove<HostEnd, S, K> for HostLine {
     ghost runs = { λ tells rests paint.
-        Spec.HostRuns K.takes K.failures S.gives S.failures tells };
+        Spec.HostRuns K.writer S.reader tells };
 
     ghost waits = { Spec.host_waits };
 
@@ -69,7 +69,7 @@ fn give<S: Source, K: Sink>(
     order: &Order,
 ) -> Result<Option<SendFault>, Fault>
     requires works { attached.old.broken ≡ false }
-    ensures given { Spec.IsGiven K.takes K.failures S.gives S.failures order.now
+    ensures given { Spec.IsGiven K.writer S.reader order.now
         attached.old result attached.new }
     ensures works { IfOk result (λ refused. attached.new.broken ≡ false) }
 {
@@ -86,7 +86,7 @@ fn give_record<S: Source, K: Sink>(
     body: &[Element],
 ) -> Result<Option<SendFault>, Fault>
     requires works { attached.old.broken ≡ false }
-    ensures given { Spec.IsGiven K.takes K.failures S.gives S.failures (Send opcode body.now)
+    ensures given { Spec.IsGiven K.writer S.reader (Send opcode body.now)
         attached.old result attached.new }
     ensures works { IfOk result (λ refused. attached.new.broken ≡ false) }
 {
@@ -104,9 +104,9 @@ fn hear_event<S: Source, K: Sink, W: Watch<S>, O: Sink>(
     output: Output,
 ) -> Carried
     requires works { attached.old.broken ≡ false }
-    ensures heard { (text : List ℕ) × Spec.HearsOne K.takes K.failures S.gives S.failures
+    ensures heard { (text : List ℕ) × Spec.HearsOne K.writer S.reader
         W.tells attached.old result.outcome text attached.new
-        × Prints O.takes O.failures out.old out.new output result.output text }
+        × Prints O.writer out.old out.new output result.output text }
     ensures works { IfOk result.outcome (λ closing.
         stops closing ≡ false → attached.new.broken ≡ false) }
 {
@@ -132,9 +132,9 @@ fn hear_answer<S: Source, K: Sink, W: Watch<S>, O: Sink>(
     output: Output,
 ) -> Carried
     requires works { attached.old.broken ≡ false }
-    ensures heard { (text : List ℕ) × Spec.HearsAnswer K.takes K.failures S.gives S.failures
+    ensures heard { (text : List ℕ) × Spec.HearsAnswer K.writer S.reader
         W.tells awaited.now attached.old result.outcome text attached.new
-        × Prints O.takes O.failures out.old out.new output result.output text }
+        × Prints O.writer out.old out.new output result.output text }
     ensures works { IfOk result.outcome (λ closing.
         stops closing ≡ false → attached.new.broken ≡ false) }
 {
@@ -191,12 +191,12 @@ pub fn answer_on<S: Source, K: Sink, W: Watch<S>, O: Sink>(
     requires works { attached.old.broken ≡ false }
     requires empty { out.old.held ≡ [] }
     // What was printed, or why not all; what was is out.
-    ensures answered { IfOk result (Spec.HasAnsweredOn K.takes K.failures S.gives S.failures
-        W.tells W.begins W.begun O.takes O.failures
+    ensures answered { IfOk result (Spec.HasAnsweredOn K.writer S.reader
+        W.tells W.begins W.begun O.writer
         ((attached.old, ahead.old), watch.old) ((attached.new, ahead.new), watch.new)
         out.old.sink out.new.sink) }
-    ensures fault { IfErr result (Spec.IsAnswerOnFault K.takes K.failures S.gives S.failures
-        W.tells W.begins W.begun O.takes O.failures
+    ensures fault { IfErr result (Spec.IsAnswerOnFault K.writer S.reader
+        W.tells W.begins W.begun O.writer
         ((attached.old, ahead.old), watch.old) ((attached.new, ahead.new), watch.new)
         out.old.sink out.new.sink) }
     ensures held { out.new.held ≡ [] }
@@ -225,12 +225,12 @@ fn answer_once<S: Source, K: Sink, W: Watch<S>, O: Sink>(
     requires works { attached.old.broken ≡ false }
     requires empty { out.old.held ≡ [] }
     // What was printed, or why not all.
-    ensures answered { IfOk result (Spec.HasAnsweredOnce K.takes K.failures S.gives S.failures
-        W.tells W.begins W.begun O.takes O.failures
+    ensures answered { IfOk result (Spec.HasAnsweredOnce K.writer S.reader
+        W.tells W.begins W.begun O.writer
         ((attached.old, ahead.old), watch.old) ((attached.new, ahead.new), watch.new)
         out.old.sink out.new.sink) }
-    ensures fault { IfErr result (Spec.IsAnswerFault K.takes K.failures S.gives S.failures
-        W.tells W.begins W.begun O.takes O.failures
+    ensures fault { IfErr result (Spec.IsAnswerFault K.writer S.reader
+        W.tells W.begins W.begun O.writer
         ((attached.old, ahead.old), watch.old) ((attached.new, ahead.new), watch.new)
         out.old.sink out.new.sink) }
     // The end works on unless the session is over, and nothing is held back.

@@ -18,7 +18,7 @@ use ws_text::{Output, put_cell, put_hex_behind_blank, put_text};
 /// Writes what a host end tells; behind each field of an answer stands what its bytes show, where they show anything,
 /// without the blanks at its end.
 pub fn put_told<S: Sink>(sink: &mut S, output: Output, event: &HostEvent) -> Output
-    ensures { Prints S.takes S.failures sink.old sink.new output result
+    ensures { Prints S.writer sink.old sink.new output result
         (Spec.told_text event.now) }
 {
     match event {
@@ -31,7 +31,7 @@ pub fn put_told<S: Sink>(sink: &mut S, output: Output, event: &HostEvent) -> Out
 }
 
 fn put_fields<S: Sink>(sink: &mut S, output: Output, fields: &[ReadField]) -> Output
-    ensures { Prints S.takes S.failures sink.old sink.new output result
+    ensures { Prints S.writer sink.old sink.new output result
         (flat_map Spec.told_field fields.now) }
 {
     let mut output = output;
@@ -42,7 +42,7 @@ fn put_fields<S: Sink>(sink: &mut S, output: Output, fields: &[ReadField]) -> Ou
 }
 
 fn put_field<S: Sink>(sink: &mut S, output: Output, field: &ReadField) -> Output
-    ensures { Prints S.takes S.failures sink.old sink.new output result
+    ensures { Prints S.writer sink.old sink.new output result
         (Spec.told_field field.now) }
 {
     let output = put_text(sink, output, "  field ");
@@ -66,7 +66,7 @@ fn before_blanks(bytes: &[u8]) -> &[u8]
 
 // Writes a blank and what bytes show, where there are any.
 fn put_bytes_text<S: Sink>(sink: &mut S, output: Output, bytes: &[u8]) -> Output
-    ensures { Prints S.takes S.failures sink.old sink.new output result
+    ensures { Prints S.writer sink.old sink.new output result
         (behind_blank (flat_map (λ byte. encode_utf8 (shown_char byte)) bytes.now)) }
 {
     if bytes.is_empty() {
@@ -77,7 +77,7 @@ fn put_bytes_text<S: Sink>(sink: &mut S, output: Output, bytes: &[u8]) -> Output
 }
 
 fn put_shown<S: Sink>(sink: &mut S, output: Output, bytes: &[u8]) -> Output
-    ensures { Prints S.takes S.failures sink.old sink.new output result
+    ensures { Prints S.writer sink.old sink.new output result
         (flat_map (λ byte. encode_utf8 (shown_char byte)) bytes.now) }
 {
     let mut output = output;

@@ -27,7 +27,7 @@ pub fn carry_wire<E, S, K: Sink, W: Watch<S>>(
     line: &WireLine,
 ) -> Result<Closing, Fault>
     requires works { attached.old.broken ≡ false }
-    ensures runs { Spec.WireRuns K.takes K.failures line.now attached.old result attached.new }
+    ensures runs { Spec.WireRuns K.writer line.now attached.old result attached.new }
     ensures same { watch.new ≡ watch.old }
     ensures works { IfOk result (λ closing. stops closing ≡ false → attached.new.broken ≡ false) }
 {

@@ -1,7 +1,7 @@
 use Rattle.std.proofs.Common.{◌≡◌, ℕ, List, [], ◌∷◌, ◌++◌, Bool, true, false, ◌&&◌, inl, inr, refl, sym, ap, ◌∙◌, subst}
 use Rattle.std.specs.Prelude.{Result}
 use Rattle.std.proofs.lemmas.Bool.{false≢true}
-use Rattle.ws_code.specs.Device.{MayTake, WentOut}
+use Rattle.ws_code.specs.Device.{Writer, WentOut}
 use Rattle.ws_code.specs.declared.fault.Fault.{Fault}
 use Rattle.ws_nego.specs.Host.{opening}
 use Rattle.ws_record.specs.Encode.{plain_spelling}
@@ -17,7 +17,7 @@ use Rattle.ws_any_host.specs.CarryingOn.{IsCarriedText, IsCarryOnFault}
 use Rattle.ws_any_host.specs.declared.any_line.AnyLine.{AnyLine}
 use Rattle.ws_any_host.specs.declared.any_line.AnyLine.TheVariants.{Await}
 use Rattle.ws_network.specs.AnySessions.{IsAnyServed, IsTextAndOn, IsFaultThenOrOn, RunsAny}
-use Rattle.ws_network.specs.Times.{Reads, Writes, no_reads, no_writes, gives, takes, tells, begins}
+use Rattle.ws_network.specs.Times.{Reads, Writes, no_reads, no_writes, timed_reader, timed_writer, tells, begins}
 use Rattle.ws_network.proofs.SessionLaws.{new_at}
 use Rattle.ws_program.specs.RunFaults.{told_fault}
 use Rattle.ws_program.specs.declared.fault.ToldFault.{ToldFault}
@@ -48,22 +48,22 @@ module _ {L P : Type 0} (runs : L → P → Result Closing Fault → List ℕ �
       inl (ran.all_well, mid, printed, well, told, all_run going, carried, refl, refl)
 
   -- what was told behind the lines didn't go out, or a device or memory failed
-  pub uncarried : {O : Type 0} (prints : MayTake O) (misprints : O → ℕ) (to : P) (old between new : O)
+  pub uncarried : {O : Type 0} (printer : Writer O) (to : P) (old between new : O)
       (has_script : Bool) (told : ToldFault) (why : Fault) → told ≡ told_fault why → ran.is_over ≡ false
-      → WentOut prints misprints old between printed → IsCarryOnFault runs on prints misprints mid to between new why
-      → IsFaultThenOrOn runs on ready prints misprints from to old new has_script lines told
-  uncarried prints misprints to old between new has_script told why is going out fault =
+      → WentOut printer old between printed → IsCarryOnFault runs on printer mid to between new why
+      → IsFaultThenOrOn runs on ready printer from to old new has_script lines told
+  uncarried printer to old between new has_script told why is going out fault =
       inr (ran.all_well, printed, mid, between, all_run going, out, (why, fault, is))
 
 -- a host whose opening went out has carried the lines out
 module _ (asked : ServeAsked) (lines : List AnyLine) (all_well : Bool) (text : List ℕ)
     (to : (AttachedParts AnyParts Reads Writes × ℕ) × ℕ) where
   abbrev RanAny : AttachedParts AnyParts Reads Writes → ℕ → Type 0
-  RanAny attached begun = IsTextAndOn (RunsAny takes (λ s. s.failures) gives (λ s. s.failures) tells begins (λ n. n))
+  RanAny attached begun = IsTextAndOn (RunsAny timed_writer timed_reader tells begins (λ n. n))
       Await asked.ready ((attached, 0), begun) lines all_well text to
 
   abbrev Told : Writes → Writes → List ℕ → Type 0
-  Told from sink bytes = WentOut takes (λ s. s.failures) from sink bytes
+  Told from sink bytes = WentOut timed_writer from sink bytes
 
   pub any_served : (host : AnyParts) (source : Reads) (from sink : Writes) (bytes : List ℕ)
       (attached : AttachedParts AnyParts Reads Writes) (begun : ℕ)

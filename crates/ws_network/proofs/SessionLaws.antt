@@ -23,7 +23,7 @@ use Rattle.ws_live.specs.ServeText.{IsServeText}
 use Rattle.ws_live.specs.declared.connect_line.StationLine.{StationLine}
 use Rattle.ws_live.specs.declared.serve_line.HostLine.{HostLine}
 use Rattle.ws_network.specs.Sessions.{AreFromScript, IsConnected, IsServed}
-use Rattle.ws_network.specs.Times.{Reads, Writes, no_reads, no_writes, gives, takes, tells, rests, begins}
+use Rattle.ws_network.specs.Times.{Reads, Writes, no_reads, no_writes, timed_reader, timed_writer, tells, rests, begins}
 use Rattle.ws_words.specs.declared.live_command.ConnectAsked.{ConnectAsked}
 use Rattle.ws_words.specs.declared.live_command.ServeAsked.{ServeAsked}
 
@@ -64,7 +64,7 @@ module _ {D P U H PlaceV V Q R : Type 0} (rules : Rules P U) (d : DisplayOf D U 
     (operated : OperatedOn D) (words : KeyWords Q) (asked : ConnectAsked) (lines : List (StationLine Q)) (all_well : Bool) (text : List ℕ)
     (to : (AttachedParts (PartsOn D P) Reads Writes × ℕ) × ℕ) where
   abbrev Ran : AttachedParts (PartsOn D P) Reads Writes → ℕ → Type 0
-  Ran attached begun = IsConnectText rules d takes (λ s. s.failures) gives (λ s. s.failures) tells rests operated words
+  Ran attached begun = IsConnectText rules d timed_writer timed_reader tells rests operated words
       begins (λ n. n) asked.paint asked.ready ((attached, 0), begun) lines all_well text to
 
   pub connected : (station : PartsOn D P) (source : Reads) (sink : Writes)
@@ -84,11 +84,11 @@ module _ {D P U H PlaceV V Q R : Type 0} (rules : Rules P U) (d : DisplayOf D U 
 module _ (asked : ServeAsked) (lines : List HostLine) (all_well : Bool) (text : List ℕ)
     (to : (AttachedParts HostParts Reads Writes × ℕ) × ℕ) where
   abbrev RanServe : AttachedParts HostParts Reads Writes → ℕ → Type 0
-  RanServe attached begun = IsServeText takes (λ s. s.failures) gives (λ s. s.failures) tells begins (λ n. n)
+  RanServe attached begun = IsServeText timed_writer timed_reader tells begins (λ n. n)
       asked.ready ((attached, 0), begun) lines all_well text to
 
   abbrev Told : Writes → Writes → List ℕ → Type 0
-  Told from sink bytes = WentOut takes (λ s. s.failures) from sink bytes
+  Told from sink bytes = WentOut timed_writer from sink bytes
 
   pub served : (host : HostParts) (source : Reads) (from sink : Writes) (bytes : List ℕ)
       (attached : AttachedParts HostParts Reads Writes) (begun : ℕ)

@@ -1,7 +1,7 @@
 -- What the sessions of `serve --any` come to: those of a host that takes any record.
 
 use Rattle.std.specs.Prelude.{◌≡◌, ℕ, List, [], ◌∷◌, ◌++◌, ◌⊎◌, Bool, ◌&&◌, Result}
-use Rattle.ws_code.specs.Device.{MayTake, MayGive, WentOut}
+use Rattle.ws_code.specs.Device.{Writer, Reader, WentOut}
 use Rattle.ws_code.specs.declared.fault.Fault.{Fault}
 use Rattle.ws_nego.specs.Host.{opening}
 use Rattle.ws_record.specs.Encode.{plain_spelling}
@@ -21,7 +21,7 @@ use Rattle.ws_any_host.specs.declared.any_line.AnyLine.{AnyLine}
 use Rattle.ws_any_host.specs.declared.any_line.AnyLine.TheVariants.{Await}
 use Rattle.ws_network.specs.LiveFaults.{IsSessionFault}
 use Rattle.ws_network.specs.Sessions.{at_connection}
-use Rattle.ws_network.specs.Times.{Reads, Writes, no_writes, gives, takes, tells, begins}
+use Rattle.ws_network.specs.Times.{Reads, Writes, no_writes, timed_reader, timed_writer, tells, begins}
 use Rattle.ws_program.specs.RunFaults.{told_fault}
 use Rattle.ws_program.specs.declared.fault.ToldFault.{ToldFault}
 use Rattle.ws_words.specs.declared.live_command.ServeAsked.{ServeAsked}
@@ -36,16 +36,16 @@ module _ {L P : Type 0} (runs : L → P → Result Closing Fault → List ℕ �
       × (all_well ≡ well && on_well) × (text ≡ printed ++ told))
       ⊎ ((ran : Ran) × IsOverAt runs ready from lines ran text to × (all_well ≡ ran.all_well))
 
-  module _ {O : Type 0} (prints : MayTake O) (misprints : O → ℕ) (from to : P) (old new : O) where
+  module _ {O : Type 0} (printer : Writer O) (from to : P) (old new : O) where
     -- why a session ended early: in its lines, or behind them, when what they print is out
     abbrev pub IsFaultThenOrOn : Bool → List L → ToldFault → Type 0
     IsFaultThenOrOn has_script lines told =
-        IsSessionFault runs ready prints misprints from to old new has_script lines told
+        IsSessionFault runs ready printer from to old new has_script lines told
         ⊎ ((well : Bool) × (printed : List ℕ) × (mid : P) × (between : O)
-        × HaveRun runs ready from lines well printed mid × WentOut prints misprints old between printed
-        × ((why : Fault) × IsCarryOnFault runs on prints misprints mid to between new why × (told ≡ told_fault why)))
+        × HaveRun runs ready from lines well printed mid × WentOut printer old between printed
+        × ((why : Fault) × IsCarryOnFault runs on printer mid to between new why × (told ≡ told_fault why)))
 
-module _ {S K W : Type 0} (writes : MayTake K) (failures : K → ℕ) (reads : MayGive S) (misses : S → ℕ)
+module _ {S K W : Type 0} (writer : Writer K) (reader : Reader S)
     (says : S → Bool → Type 0) (starts : W → S → WaitSpan → W → Type 0) (begun : W → ℕ) where
   -- what a line does at a host that takes any record, and a watch
   abbrev pub RunsAny : AnyLine → ((AttachedParts AnyParts S K × ℕ) × W) → Result Closing Fault → List ℕ
@@ -57,7 +57,7 @@ pub record IsAnyServed (asked : ServeAsked) (lines : List AnyLine) (all_well : B
   pub host : AnyParts
   pub opened : AnyLeads host [] [] (once_opened new_negotiated)
   pub sink : Writes
-  pub told : WentOut takes (λ s. s.failures) no_writes sink (plain_spelling raw_rules (Telnet opening ∷ []))
+  pub told : WentOut timed_writer no_writes sink (plain_spelling raw_rules (Telnet opening ∷ []))
   pub to : (AttachedParts AnyParts Reads Writes × ℕ) × ℕ
-  pub ran : IsTextAndOn (RunsAny takes (λ s. s.failures) gives (λ s. s.failures) tells begins (λ begun. begun)) Await
+  pub ran : IsTextAndOn (RunsAny timed_writer timed_reader tells begins (λ begun. begun)) Await
       asked.ready ((at_connection host sink, 0), 0) lines all_well text to

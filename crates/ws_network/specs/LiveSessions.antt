@@ -1,7 +1,7 @@
 -- What a live session comes to that doesn't end early, by the words that asked for it.
 
 use Rattle.std.specs.Prelude.{ℕ, Bool, true, false}
-use Rattle.ws_code.specs.Device.{MayTake}
+use Rattle.ws_code.specs.Device.{Writer}
 use Rattle.ws_any_host.specs.AnyLines.{IsAnyLine, OpensAnyBlock}
 use Rattle.ws_live.specs.ServeLines.{IsHostLine, OpensHostBlock}
 use Rattle.ws_network.specs.AnySessions.{IsAnyServed}
@@ -11,15 +11,15 @@ use Rattle.ws_words.specs.declared.live_command.Live.{Live}
 use Rattle.ws_words.specs.declared.live_command.Live.TheVariants.{Connect, Serve}
 use Rattle.ws_words.specs.declared.live_command.ServeAsked.{ServeAsked}
 
-module _ {O : Type 0} (prints : MayTake O) (misprints : O → ℕ) (old new : O) where
+module _ {O : Type 0} (printer : Writer O) (old new : O) where
   -- what a session of `serve` came to, at a host that takes any record or at one that doesn't
   abbrev pub HasServedAs : Bool → ServeAsked → Bool → Type 0
   HasServedAs false asked all_well =
-      HasServedBy IsHostLine OpensHostBlock IsServed prints misprints old new asked all_well
+      HasServedBy IsHostLine OpensHostBlock IsServed printer old new asked all_well
   HasServedAs true asked all_well =
-      HasServedBy IsAnyLine OpensAnyBlock IsAnyServed prints misprints old new asked all_well
+      HasServedBy IsAnyLine OpensAnyBlock IsAnyServed printer old new asked all_well
 
   -- what a live session came to that didn't end early, by the words that asked for it
   abbrev pub HasRunLive : Live → Bool → Type 0
-  HasRunLive (Connect asked) all_well = HasConnected prints misprints old new asked all_well
+  HasRunLive (Connect asked) all_well = HasConnected printer old new asked all_well
   HasRunLive (Serve asked) all_well = HasServedAs asked.any asked all_well

@@ -3,7 +3,7 @@
 use Rattle.std.specs.Prelude.{◌≡◌, ℕ, zero, suc, ◌+◌, List, [], ◌++◌, Bool, true, ◌&&◌, Option, Some, codes}
 use Rattle.std.specs.Borrow.{Bor}
 use Rattle.std.specs.Fmt.{decimal}
-use Rattle.ws_code.specs.Device.{MayTake, WentOut}
+use Rattle.ws_code.specs.Device.{Writer, WentOut}
 use Rattle.ws_network.specs.Sessions.{AreFromScript}
 use Rattle.ws_words.specs.declared.live_command.ServeAsked.{ServeAsked}
 
@@ -33,8 +33,8 @@ module _ (IsSession : Bool → List ℕ → Type 0) where
 
 -- what the sessions of `serve` came to, behind what tells the address at which it listens
 abbrev pub HasServedBy : {L O : Type 0} → (List ℕ → List (List ℕ) → L → Type 0) → (List ℕ → Type 0)
-    → (ServeAsked → List L → Bool → List ℕ → Type 0) → MayTake O → (O → ℕ) → O → O → ServeAsked → Bool → Type 0
-HasServedBy {L = L} means opener IsServed prints misprints old new asked all_well = (lines : List L) × (first : List ℕ)
+    → (ServeAsked → List L → Bool → List ℕ → Type 0) → Writer O → O → O → ServeAsked → Bool → Type 0
+HasServedBy {L = L} means opener IsServed printer old new asked all_well = (lines : List L) × (first : List ℕ)
     × (text : List ℕ) × AreFromScript means opener asked.script lines
     × AreSessions (IsServed asked lines) asked.script asked.sessions all_well text
-    × WentOut prints misprints old new (first ++ text)
+    × WentOut printer old new (first ++ text)

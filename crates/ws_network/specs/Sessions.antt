@@ -3,7 +3,7 @@
 use Rattle.std.specs.Prelude.{◌≡◌, ℕ, List, [], ◌∷◌, Bool, true, false, Option, MatchOption}
 use Rattle.std.specs.Borrow.{Bor}
 use Rattle.ws_code.specs.Code.{Rules}
-use Rattle.ws_code.specs.Device.{MayTake, WentOut}
+use Rattle.ws_code.specs.Device.{Writer, WentOut}
 use Rattle.ws_nego.specs.Host.{opening}
 use Rattle.ws_record.specs.Encode.{plain_spelling}
 use Rattle.ws_record.specs.declared.record.Item.TheVariants.{Telnet}
@@ -27,7 +27,7 @@ use Rattle.ws_live.specs.Operating.{OperatedOn, operated_profile}
 use Rattle.ws_live.specs.ServeText.{IsServeText}
 use Rattle.ws_live.specs.declared.connect_line.StationLine.{StationLine}
 use Rattle.ws_live.specs.declared.serve_line.HostLine.{HostLine}
-use Rattle.ws_network.specs.Times.{Reads, Writes, no_reads, no_writes, gives, takes, tells, rests, begins}
+use Rattle.ws_network.specs.Times.{Reads, Writes, no_reads, no_writes, timed_reader, timed_writer, tells, rests, begins}
 use Rattle.ws_words.specs.declared.live_command.ConnectAsked.{ConnectAsked}
 use Rattle.ws_words.specs.declared.live_command.ServeAsked.{ServeAsked}
 
@@ -54,7 +54,7 @@ module _ {D P U H PlaceV V Q R : Type 0} (rules : Rules P U) (d : DisplayOf D U 
     pub station : PartsOn D P
     pub new : LeadsOn rules d station [] [] (new_side_on d asked.terminal)
     pub to : (AttachedParts (PartsOn D P) Reads Writes × ℕ) × ℕ
-    pub ran : IsConnectText rules d takes (λ s. s.failures) gives (λ s. s.failures) tells rests operated words
+    pub ran : IsConnectText rules d timed_writer timed_reader tells rests operated words
         begins (λ begun. begun) asked.paint asked.ready ((at_connection station no_writes, 0), 0) lines all_well text to
 
 -- a host end whose opening went out carried out the lines and answered on
@@ -62,13 +62,13 @@ pub record IsServed (asked : ServeAsked) (lines : List HostLine) (all_well : Boo
   pub host : HostParts
   pub opened : HostLeads host [] [] (side_after_open unopened_host_side)
   pub sink : Writes
-  pub told : WentOut takes (λ s. s.failures) no_writes sink
+  pub told : WentOut timed_writer no_writes sink
       (plain_spelling element_rules (Telnet opening ∷ []))
   pub to : (AttachedParts HostParts Reads Writes × ℕ) × ℕ
-  pub ran : IsServeText takes (λ s. s.failures) gives (λ s. s.failures) tells begins (λ begun. begun) asked.ready
+  pub ran : IsServeText timed_writer timed_reader tells begins (λ begun. begun) asked.ready
       ((at_connection host sink, 0), 0) lines all_well text to
 
-module _ {O : Type 0} (prints : MayTake O) (misprints : O → ℕ) (old new : O) where
+module _ {O : Type 0} (printer : Writer O) (old new : O) where
   module _ {D P U H PlaceV V Q R : Type 0} (rules : Rules P U) (d : DisplayOf D U H PlaceV V Q R)
       (operated : OperatedOn D) (words : KeyWords Q) where
     -- the lines of `connect` were carried out at a station on this display, and what they printed went out
@@ -76,7 +76,7 @@ module _ {O : Type 0} (prints : MayTake O) (misprints : O → ℕ) (old new : O)
     HasConnectedOn asked all_well = (lines : List (StationLine Q)) × (text : List ℕ)
         × AreFromScript (station_means words) (λ line. ⊥) asked.script lines
         × IsConnected rules d operated words asked lines all_well text
-        × WentOut prints misprints old new text
+        × WentOut printer old new text
 
   -- what a session of `connect` came to, at the profile's display or at one that also takes what live hosts send beside
   -- the profile

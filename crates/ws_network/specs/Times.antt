@@ -3,6 +3,7 @@
 use Rattle.std.specs.Prelude.{◌≡◌, ℕ, List, Bool, true, false, Option, None, Some, IfNone}
 use Rattle.std.specs.Option.{is_some}
 use Rattle.std_io.specs.declared.io.kind.ErrorKind.{ErrorKind}
+use Rattle.ws_code.specs.Device.{Reader, Writer}
 use Rattle.ws_live.specs.declared.watch.WaitSpan.{WaitSpan}
 use Rattle.std_io.specs.declared.io.kind.ErrorKind.TheVariants.{WouldBlock, TimedOut}
 
@@ -26,12 +27,15 @@ abbrev pub no_writes : Writes
 no_writes = record { failures = 0 }
 
 -- a read may give any bytes, or fail, and then it is kept why
-abbrev pub gives : Reads → ℕ → Option (List ℕ) → Reads → Type 0
-gives from room given to = IfNone given (is_some to.failure ≡ true)
+abbrev pub timed_reader : Reader Reads
+timed_reader = record {
+  gives = λ from room given to. IfNone given (is_some to.failure ≡ true);
+  failures = λ reads. reads.failures;
+}
 
 -- a write may take any bytes
-abbrev pub takes : Writes → List ℕ → Option ℕ → Writes → Type 0
-takes from bytes taken to = Unit {0}
+abbrev pub timed_writer : Writer Writes
+timed_writer = record { takes = λ from bytes taken to. Unit {0}; failures = λ writes. writes.failures }
 
 -- the errors by which the system says that a call took longer than its time
 abbrev pub is_want_of_time : ErrorKind → Bool

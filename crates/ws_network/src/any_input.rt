@@ -40,15 +40,15 @@ where
     // What was printed, or why not all; what was is out.
     ensures ran { IfOk result (λ all_well. (lines : List AnAnyLine) × (text : List ℕ)
         × MatchOption script.entry (Unit {0}) (λ asked. lines ≡ asked.now)
-        × IsTextAndOn (RunsAny K.takes K.failures S.gives S.failures W.tells W.begins W.begun)
+        × IsTextAndOn (RunsAny K.writer S.reader W.tells W.begins W.begun)
         Await ready ((attached.old, ahead.old), watch.old) lines all_well text
         ((attached.new, ahead.new), watch.new)
-        × WentOut O.takes O.failures out.old.sink out.new.sink text) }
+        × WentOut O.writer out.old.sink out.new.sink text) }
     ensures held { out.new.held ≡ [] }
     ensures fault { IfErr result (λ fault. (lines : List AnAnyLine)
         × MatchOption script.entry (Unit {0}) (λ asked. lines ≡ asked.now)
-        × IsFaultThenOrOn (RunsAny K.takes K.failures S.gives S.failures W.tells W.begins W.begun)
-        Await ready O.takes O.failures ((attached.old, ahead.old), watch.old)
+        × IsFaultThenOrOn (RunsAny K.writer S.reader W.tells W.begins W.begun)
+        Await ready O.writer ((attached.old, ahead.old), watch.old)
         ((attached.new, ahead.new), watch.new)
         out.old.sink out.new.sink (is_some script.entry) lines fault) }
 {

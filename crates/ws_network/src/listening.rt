@@ -24,7 +24,7 @@ where
     requires empty { out.old.held ≡ [] }
     ensures held { out.new.held ≡ [] }
     ensures told { OnOk result ((line : List ℕ)
-        × WentOut O.takes O.failures out.old.sink out.new.sink line) }
+        × WentOut O.writer out.old.sink out.new.sink line) }
 {
     let listener = listen(rt, at, out)?;
     take_next(&listener)
@@ -42,7 +42,7 @@ where
     requires empty { out.old.held ≡ [] }
     ensures held { out.new.held ≡ [] }
     ensures told { OnOk result ((line : List ℕ)
-        × WentOut O.takes O.failures out.old.sink out.new.sink line) }
+        × WentOut O.writer out.old.sink out.new.sink line) }
 {
     let listener = match TcpListener::bind(rt, (at.host, at.port)) {
         Ok(listener) => listener,
@@ -78,7 +78,7 @@ fn put_listening<R: AllocGlobal, O: Sink>(
     requires empty { out.old.held ≡ [] }
     ensures held { out.new.held ≡ [] }
     ensures told { OnOk result ((line : List ℕ)
-        × WentOut O.takes O.failures out.old.sink out.new.sink line) }
+        × WentOut O.writer out.old.sink out.new.sink line) }
 {
     let address = match listener.local_addr() {
         Ok(address) => address,

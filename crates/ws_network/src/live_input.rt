@@ -50,17 +50,17 @@ where
     requires empty { out.old.held ≡ [] }
     ensures ran { IfOk result (λ all_well. (lines : List (AStationLine D.Key)) × (text : List ℕ)
         × MatchOption script.entry (Unit {0}) (λ asked. lines ≡ asked.now)
-        × IsConnectText D.Commands.rules D.does K.takes K.failures S.gives S.failures
+        × IsConnectText D.Commands.rules D.does K.writer S.reader
         W.tells W.rests D.operated D.Key.words W.begins W.begun
         paint ready ((attached.old, ahead.old), watch.old) lines all_well text
         ((attached.new, ahead.new), watch.new)
-        × WentOut O.takes O.failures out.old.sink out.new.sink text) }
+        × WentOut O.writer out.old.sink out.new.sink text) }
     ensures fault { IfErr result (λ fault. (lines : List (AStationLine D.Key))
         × MatchOption script.entry (Unit {0}) (λ asked. lines ≡ asked.now)
         × IsSessionFault
-        (InTime (StationRuns D.Commands.rules D.does K.takes K.failures S.gives S.failures
+        (InTime (StationRuns D.Commands.rules D.does K.writer S.reader
         W.tells W.rests D.operated D.Key.words paint)
-        station_waits W.begins W.begun) ready O.takes O.failures
+        station_waits W.begins W.begun) ready O.writer
         ((attached.old, ahead.old), watch.old) ((attached.new, ahead.new), watch.new) out.old.sink out.new.sink
         (is_some script.entry) lines fault) }
 {
@@ -97,15 +97,15 @@ where
     // What was printed, or why not all; what was is out.
     ensures ran { IfOk result (λ all_well. (lines : List AHostLine) × (text : List ℕ)
         × MatchOption script.entry (Unit {0}) (λ asked. lines ≡ asked.now)
-        × IsServeText K.takes K.failures S.gives S.failures W.tells W.begins W.begun
+        × IsServeText K.writer S.reader W.tells W.begins W.begun
         ready ((attached.old, ahead.old), watch.old) lines all_well text
         ((attached.new, ahead.new), watch.new)
-        × WentOut O.takes O.failures out.old.sink out.new.sink text) }
+        × WentOut O.writer out.old.sink out.new.sink text) }
     ensures held { out.new.held ≡ [] }
     ensures fault { IfErr result (λ fault. (lines : List AHostLine)
         × MatchOption script.entry (Unit {0}) (λ asked. lines ≡ asked.now)
-        × IsServeFault K.takes K.failures S.gives S.failures W.tells W.begins W.begun
-        O.takes O.failures ready ((attached.old, ahead.old), watch.old) ((attached.new, ahead.new), watch.new)
+        × IsServeFault K.writer S.reader W.tells W.begins W.begun
+        O.writer ready ((attached.old, ahead.old), watch.old) ((attached.new, ahead.new), watch.new)
         out.old.sink out.new.sink (is_some script.entry) lines fault) }
 {
     let ran = match carry_session(
@@ -155,12 +155,12 @@ where
     ensures ran { IfOk result (λ ran. (lines : List L)
         × MatchOption script.entry (Unit {0}) (λ asked. lines ≡ asked.now)
         × Spec.HasRun (InTime (L.runs W.tells W.rests paint) L.waits W.begins W.begun) ready
-        O.takes O.failures ((attached.old, ahead.old), watch.old) ((attached.new, ahead.new), watch.new)
+        O.writer ((attached.old, ahead.old), watch.old) ((attached.new, ahead.new), watch.new)
         out.old.sink out.new.sink lines ran) }
     ensures fault { IfErr result (λ fault. (lines : List L)
         × MatchOption script.entry (Unit {0}) (λ asked. lines ≡ asked.now)
         × IsSessionFault (InTime (L.runs W.tells W.rests paint) L.waits W.begins W.begun) ready
-        O.takes O.failures ((attached.old, ahead.old), watch.old) ((attached.new, ahead.new), watch.new)
+        O.writer ((attached.old, ahead.old), watch.old) ((attached.new, ahead.new), watch.new)
         out.old.sink out.new.sink (is_some script.entry) lines fault) }
     // The end works on unless the session is over, and nothing is held back.
     ensures works { IfOk result (λ ran. ran.is_over ≡ false → attached.new.broken ≡ false) }
@@ -191,11 +191,11 @@ fn carry_script<E, S, K, L: LiveMove<E, S, K>, W: LineWatch<S>, O: Sink>(
     requires empty { out.old.held ≡ [] }
     // What was printed, or why not all.
     ensures ran { IfOk result (Spec.HasRun
-        (InTime (L.runs W.tells W.rests paint) L.waits W.begins W.begun) ready O.takes O.failures
+        (InTime (L.runs W.tells W.rests paint) L.waits W.begins W.begun) ready O.writer
         ((attached.old, ahead.old), watch.old) ((attached.new, ahead.new), watch.new)
         out.old.sink out.new.sink lines.now) }
     ensures fault { IfErr result (Spec.IsLiveFault
-        (InTime (L.runs W.tells W.rests paint) L.waits W.begins W.begun) ready O.takes O.failures
+        (InTime (L.runs W.tells W.rests paint) L.waits W.begins W.begun) ready O.writer
         ((attached.old, ahead.old), watch.old) ((attached.new, ahead.new), watch.new)
         out.old.sink out.new.sink lines.now) }
     // The end works on unless the session is over, and nothing is held back.
@@ -239,11 +239,11 @@ where
     // What was printed, or why not all.
     ensures ran { IfOk result (λ ran. (lines : List L)
         × Spec.HasRun (InTime (L.runs W.tells W.rests paint) L.waits W.begins W.begun) ready
-        O.takes O.failures ((attached.old, ahead.old), watch.old) ((attached.new, ahead.new), watch.new)
+        O.writer ((attached.old, ahead.old), watch.old) ((attached.new, ahead.new), watch.new)
         out.old.sink out.new.sink lines ran) }
     ensures fault { IfErr result (λ fault. (lines : List L)
         × IsSessionFault (InTime (L.runs W.tells W.rests paint) L.waits W.begins W.begun) ready
-        O.takes O.failures ((attached.old, ahead.old), watch.old) ((attached.new, ahead.new), watch.new)
+        O.writer ((attached.old, ahead.old), watch.old) ((attached.new, ahead.new), watch.new)
         out.old.sink out.new.sink false lines fault) }
     // The end works on unless the session is over, and nothing is held back.
     ensures works { IfOk result (λ ran. ran.is_over ≡ false → attached.new.broken ≡ false) }
@@ -290,11 +290,11 @@ fn carry_next<E, S, K, L: LiveMove<E, S, K>, W: LineWatch<S>, O: Sink>(
     requires empty { out.old.held ≡ [] }
     // What was printed, or why not all.
     ensures done { IfOk result (Spec.HasCarried
-        (InTime (L.runs W.tells W.rests paint) L.waits W.begins W.begun) ready O.takes O.failures
+        (InTime (L.runs W.tells W.rests paint) L.waits W.begins W.begun) ready O.writer
         ((attached.old, ahead.old), watch.old) ((attached.new, ahead.new), watch.new)
         out.old.sink out.new.sink line.now) }
     ensures fault { IfErr result (Spec.IsCarryFault
-        (InTime (L.runs W.tells W.rests paint) L.waits W.begins W.begun) ready O.takes O.failures
+        (InTime (L.runs W.tells W.rests paint) L.waits W.begins W.begun) ready O.writer
         ((attached.old, ahead.old), watch.old) ((attached.new, ahead.new), watch.new)
         out.old.sink out.new.sink line.now) }
     // The end works on unless the session is over, and nothing is held back.

@@ -42,7 +42,7 @@ where
     O: Sink,
     requires empty { out.old.held ≡ [] }
     ensures { IfOk result
-        (HasRunLive O.takes O.failures out.old.sink out.new.sink asked.entry) }
+        (HasRunLive O.writer out.old.sink out.new.sink asked.entry) }
 {
     match asked {
         Live::Connect(asked) => connect(rt, &asked, streams, out),
@@ -62,7 +62,7 @@ where
     O: Sink,
     requires empty { out.old.held ≡ [] }
     ensures { IfOk result
-        (HasConnected O.takes O.failures out.old.sink out.new.sink asked.now) }
+        (HasConnected O.writer out.old.sink out.new.sink asked.now) }
 {
     if asked.extended {
         connect_on::<ExtendedDisplay, R, O>(rt, asked, streams, out)
@@ -84,7 +84,7 @@ where
     R: Runtime + AllocGlobal + Files<File = File> + Net<Listener = TcpListener, Stream = TcpStream>,
     O: Sink,
     requires empty { out.old.held ≡ [] }
-    ensures { IfOk result (HasConnectedOn O.takes O.failures out.old.sink out.new.sink
+    ensures { IfOk result (HasConnectedOn O.writer out.old.sink out.new.sink
         D.Commands.rules D.does D.operated D.Key.words asked.now) }
 {
     let vocabulary = vocabulary_of(asked);
@@ -136,7 +136,7 @@ where
     R: Runtime + AllocGlobal + Files<File = File> + Net<Listener = TcpListener, Stream = TcpStream>,
     O: Sink,
     requires empty { out.old.held ≡ [] }
-    ensures { IfOk result (HasServedAs O.takes O.failures out.old.sink out.new.sink
+    ensures { IfOk result (HasServedAs O.writer out.old.sink out.new.sink
         asked.now.any asked.now) }
 {
     if asked.any {

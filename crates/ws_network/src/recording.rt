@@ -97,7 +97,7 @@ fn put_piece<O: Sink>(
     sender: Sender,
     bytes: &[u8],
 ) -> Output
-    ensures { Prints O.takes O.failures out.old out.new output result
+    ensures { Prints O.writer out.old out.new output result
         (Spec.piece_line milliseconds sender bytes.now) }
 {
     let output = put_number(out, output, milliseconds);

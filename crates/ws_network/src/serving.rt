@@ -49,7 +49,7 @@ pub trait ServedLine: LiveLine {
         ensures served { IfOk result (λ all_well. (lines : List Self) × (text : List ℕ)
             × MatchOption script.entry (Unit {0}) (λ read. lines ≡ read.now)
             × served asked.now lines all_well text
-            × WentOut O.takes O.failures out.old.sink out.new.sink text) };
+            × WentOut O.writer out.old.sink out.new.sink text) };
 }
 
 /// Serves one station, or as many as are asked for one after another: true where all went well.
@@ -65,7 +65,7 @@ where
     L: ServedLine,
     O: Sink,
     requires empty { out.old.held ≡ [] }
-    ensures { IfOk result (HasServedBy L.means L.opener L.served O.takes O.failures
+    ensures { IfOk result (HasServedBy L.means L.opener L.served O.writer
         out.old.sink out.new.sink asked.now) }
 {
     let script = read_script_file::<R, L>(rt, asked.script, vocabulary)?;
@@ -96,7 +96,7 @@ where
     ensures { IfOk result (λ all_well. (lines : List L) × (first : List ℕ) × (text : List ℕ)
         × MatchOption script.entry (Unit {0}) (λ read. lines ≡ read.now)
         × L.served asked.now lines all_well text
-        × WentOut O.takes O.failures out.old.sink out.new.sink (first ++ text)) }
+        × WentOut O.writer out.old.sink out.new.sink (first ++ text)) }
 {
     let stream = take_station(rt, asked.address, out)?;
     L::serve(rt, asked, &stream, file, script, out)
@@ -118,7 +118,7 @@ where
     requires empty { out.old.held ≡ [] }
     ensures { IfOk result (λ all_well. (first : List ℕ) × (text : List ℕ)
         × AreMany (L.served asked.now script.now) sessions all_well text
-        × WentOut O.takes O.failures out.old.sink out.new.sink (first ++ text)) }
+        × WentOut O.writer out.old.sink out.new.sink (first ++ text)) }
 {
     let listener = listen(rt, asked.address, out)?;
     let mut all_well = true;
@@ -136,7 +136,7 @@ fn put_session<O: Sink>(before: u32, out: &mut BufferedSink<O>) -> Result<(), To
     requires empty { out.old.held ≡ [] }
     ensures held { out.new.held ≡ [] }
     ensures told { OnOk result
-        (WentOut O.takes O.failures out.old.sink out.new.sink (session_line before)) }
+        (WentOut O.writer out.old.sink out.new.sink (session_line before)) }
 {
     if before == 0 {
         return Ok(());
@@ -149,7 +149,7 @@ fn put_session<O: Sink>(before: u32, out: &mut BufferedSink<O>) -> Result<(), To
 }
 
 fn put_number_line<O: Sink>(out: &mut O, output: Output, number: u64) -> Output
-    ensures { Prints O.takes O.failures out.old out.new output result (number_line number) }
+    ensures { Prints O.writer out.old out.new output result (number_line number) }
 {
     let output = put_text(out, output, "session ");
     let output = put_number(out, output, number);

@@ -145,9 +145,7 @@ impl<'a, C: Clock> TimedSource<'a, C> {
 }
 
 impl<'a, C: Clock> Source for TimedSource<'a, C> {
-    ghost gives = { Spec.gives };
-
-    ghost failures = { λ source. source.failures };
+    ghost reader = { timed_reader };
 
     fn read(&mut self, into: &mut [u8]) -> Result<usize, DeviceFailed> {
         let outcome = self.read_piece(into);

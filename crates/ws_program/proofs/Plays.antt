@@ -1,5 +1,5 @@
 use Rattle.std.proofs.Common.{◌≡◌, ℕ, List, Bool, inl, inr, refl, ap, ◌∙◌, subst}
-use Rattle.ws_code.specs.Device.{MayTake}
+use Rattle.ws_code.specs.Device.{Writer}
 use Rattle.ws_nego.specs.declared.terminal.TerminalType.TheVariants.{Ibm3179Model2}
 use Rattle.ws_screen.specs.ScreenParts.{ScreenParts}
 use Rattle.ws_session.specs.declared.world.Event.{Event}
@@ -50,23 +50,23 @@ carried_moves given moves downs ups now same ran =
     subst (λ (ms : List Move). HasRun Ibm3179Model2 ms downs ups now) same ran
 
 -- where a script isn't read, nothing was written
-pub unread_script : {S : Type 0} (takes : MayTake S) (failures : S → ℕ) (sink : S) (paint : Paint) (screen : Bool)
+pub unread_script : {S : Type 0} (writer : Writer S) (sink : S) (paint : Paint) (screen : Bool)
     (script : List ℕ) (fault : ScriptFault) → IsScriptFault script fault
-    → IsPlayFault takes failures sink sink paint screen script (script_run_fault fault)
-unread_script takes failures sink paint screen script (scripts.Line number) bad = (refl, bad)
-unread_script takes failures sink paint screen script scripts.Memory good = (refl, inl good)
+    → IsPlayFault writer sink sink paint screen script (script_run_fault fault)
+unread_script writer sink paint screen script (scripts.Line number) bad = (refl, bad)
+unread_script writer sink paint screen script scripts.Memory good = (refl, inl good)
 
-pub unread_tcp_script : {S : Type 0} (takes : MayTake S) (failures : S → ℕ) (sink : S) (paint : Paint) (screen : Bool)
+pub unread_tcp_script : {S : Type 0} (writer : Writer S) (sink : S) (paint : Paint) (screen : Bool)
     (script : List ℕ) (fault : ScriptFault) → IsScriptFault script fault
-    → IsTcpPlayFault takes failures sink sink paint screen script (script_run_fault fault)
-unread_tcp_script takes failures sink paint screen script (scripts.Line number) bad = (refl, bad)
-unread_tcp_script takes failures sink paint screen script scripts.Memory good = (refl, inl good)
+    → IsTcpPlayFault writer sink sink paint screen script (script_run_fault fault)
+unread_tcp_script writer sink paint screen script (scripts.Line number) bad = (refl, bad)
+unread_tcp_script writer sink paint screen script scripts.Memory good = (refl, inl good)
 
 -- where a connection fails, nothing was written
-pub unconnected : {S : Type 0} (takes : MayTake S) (failures : S → ℕ) (sink : S) (paint : Paint) (screen : Bool)
+pub unconnected : {S : Type 0} (writer : Writer S) (sink : S) (paint : Paint) (screen : Bool)
     (script : List ℕ) (moves : List Move) → IsScript script moves → (fault : TcpFault)
-    → IsTcpPlayFault takes failures sink sink paint screen script (tcp_run_fault fault)
-unconnected takes failures sink paint screen script moves is NoConnection = (refl, (moves, is))
-unconnected takes failures sink paint screen script moves is Write = (moves, is, inl refl)
-unconnected takes failures sink paint screen script moves is Read = (refl, (moves, is))
-unconnected takes failures sink paint screen script moves is Memory = (refl, inr (moves, is))
+    → IsTcpPlayFault writer sink sink paint screen script (tcp_run_fault fault)
+unconnected writer sink paint screen script moves is NoConnection = (refl, (moves, is))
+unconnected writer sink paint screen script moves is Write = (moves, is, inl refl)
+unconnected writer sink paint screen script moves is Read = (refl, (moves, is))
+unconnected writer sink paint screen script moves is Memory = (refl, inr (moves, is))

@@ -6,7 +6,7 @@ use Rattle.std.proofs.Math.Seq.{take-append-add}
 use Rattle.std.proofs.lemmas.List.{append-nil, take_all}
 use Rattle.std.proofs.lemmas.Grind.{flat_map-append}
 use Rattle.ws_code.specs.Code.{Rules}
-use Rattle.ws_code.specs.Device.{MayTake, WentOut, FailedWithin}
+use Rattle.ws_code.specs.Device.{Writer, WentOut, FailedWithin}
 use Rattle.ws_code.proofs.DeviceLaws.{went_out_both}
 use Rattle.ws_code.specs.declared.fault.Fault.{Fault}
 use Rattle.ws_code.specs.declared.fault.Fault.TheVariants as faults
@@ -297,22 +297,22 @@ module _ {Place U Made : Type 0} {rules : Rules Place U} {view : View U} {makes 
     lines = ap (λ z. z ++ text) w.are_lines;
   }
 
-module _ {S : Type 0} (takes : MayTake S) (failures : S → ℕ) (from : S) where
+module _ {S : Type 0} (writer : Writer S) (from : S) where
   -- what comes behind lines that went out doesn't go out whole
   pub text_fails : {Place U : Type 0} (rules : Rules Place U) (view : View U) (bytes lines text : List ℕ) (mid to : S)
-      → WentOut takes failures from mid lines → AreFirstLines rules view bytes (lines ++ text)
+      → WentOut writer from mid lines → AreFirstLines rules view bytes (lines ++ text)
       ⊎ ((accepted : Bool) × IsShown rules view bytes accepted (lines ++ text))
-      → (fault : Fault) → (fault ≡ faults.Write) × FailedWithin takes failures mid to text
-      → IsShowFault takes failures from to rules view bytes fault
+      → (fault : Fault) → (fault ≡ faults.Write) × FailedWithin writer mid to text
+      → IsShowFault writer from to rules view bytes fault
   text_fails rules view bytes lines text mid to w shown fault f =
-      rw f.0 (lines ++ text, shown, fails_last takes failures from mid to lines text w f.1)
+      rw f.0 (lines ++ text, shown, fails_last writer from mid to lines text w f.1)
 
   module _ {Place U Made : Type 0} {rules : Rules Place U} {view : View U} {makes : List (Item U) → Made → Type 0}
       {bytes lines : List ℕ} {receiver : Receiving Place U} {made : Made}
       (w : Shows rules view makes bytes receiver made lines) (to : S) where
     -- nothing comes next
-    pub stops_next : WentOut takes failures from to lines → (fault : Fault) → IsNextFault rules bytes receiver fault
-        → IsStop takes failures from to rules view bytes (verdict_by fault)
+    pub stops_next : WentOut writer from to lines → (fault : Fault) → IsNextFault rules bytes receiver fault
+        → IsStop writer from to rules view bytes (verdict_by fault)
     stops_next went (faults.Refused place reason) f =
         (refl, (lines, part w, went, refused_behind w place reason f.0 (f.1 (items_of w.placed) w.taken)))
     stops_next went (faults.Truncated n) f = absurd f
@@ -320,16 +320,16 @@ module _ {S : Type 0} (takes : MayTake S) (failures : S → ℕ) (from : S) wher
       w.placed,
       w.shown,
       f (items_of w.placed) w.taken,
-      subst (λ (t : List ℕ). WentOut takes failures from to t) w.are_lines went,
+      subst (λ (t : List ℕ). WentOut writer from to t) w.are_lines went,
     )
     stops_next went faults.Read f = absurd f
     stops_next went faults.Write f = absurd f
     stops_next went faults.Failed f = absurd f
 
     -- the bytes end too early
-    pub stops_early : WentOut takes failures from to lines → (last : Receiving Place U) → HasReceived rules last bytes
+    pub stops_early : WentOut writer from to lines → (last : Receiving Place U) → HasReceived rules last bytes
         (items_of w.placed) → (fault : Fault) → (fault ≡ faults.Truncated (length bytes)) × IsTruncated rules bytes
-        → IsStop takes failures from to rules view bytes (verdict_by fault)
+        → IsStop writer from to rules view bytes (verdict_by fault)
     stops_early went last received fault f =
         rw f.0 (
           refl,
@@ -347,19 +347,19 @@ module _ {S : Type 0} (takes : MayTake S) (failures : S → ℕ) (from : S) wher
 
     -- the next item's lines go out, and it is carried out
     pub goes_on : (mid : S) (x : Placed U) (new : Receiving Place U) (next : Made)
-        → WentOut takes failures from mid lines → IsNextItem rules bytes (items_of w.placed) receiver new x
-        → WentOut takes failures mid to (view.lines x.0 x.1)
+        → WentOut writer from mid lines → IsNextItem rules bytes (items_of w.placed) receiver new x
+        → WentOut writer mid to (view.lines x.0 x.1)
         → view.fault (items_of w.placed) x.1 ≡ None → makes (items_of w.placed ++ x.1 ∷ []) next → (more : List ℕ)
-        × Shows rules view makes bytes new next more × WentOut takes failures from to more
+        × Shows rules view makes bytes new next more × WentOut writer from to more
     goes_on mid x new next went is more none made_more = (
       lines ++ view.lines x.0 x.1,
       shows_next w x new next is none made_more,
-      went_out_both takes failures from mid to lines (view.lines x.0 x.1) went more,
+      went_out_both writer from mid to lines (view.lines x.0 x.1) went more,
     )
 
     -- the next item's lines don't go out whole
-    pub stops_at_item : (mid : S) (x : Placed U) → WentOut takes failures from mid lines → IsComplete rules bytes
-        (items_of w.placed) x → (fault : Fault) → (fault ≡ faults.Write) × FailedWithin takes failures mid to
-        (view.lines x.0 x.1) → IsStop takes failures from to rules view bytes (verdict_by fault)
+    pub stops_at_item : (mid : S) (x : Placed U) → WentOut writer from mid lines → IsComplete rules bytes
+        (items_of w.placed) x → (fault : Fault) → (fault ≡ faults.Write) × FailedWithin writer mid to
+        (view.lines x.0 x.1) → IsStop writer from to rules view bytes (verdict_by fault)
     stops_at_item mid x went c fault f = rw f.0 (text_fails rules view bytes lines (view.lines x.0 x.1) mid to went
         (inl (part_more w x c)) faults.Write (refl, f.1))

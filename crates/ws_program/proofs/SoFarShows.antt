@@ -3,7 +3,7 @@ use Rattle.std.proofs.Common.{false, None, Some, inl, inr, length, refl, sym, ap
 use Rattle.std.proofs.Common.{◌∙◌, subst, append_assoc}
 use Rattle.std.specs.Prelude.{Ok, Err}
 use Rattle.ws_code.specs.Code.{Rules}
-use Rattle.ws_code.specs.Device.{MayTake, WentOut, FailedWithin}
+use Rattle.ws_code.specs.Device.{Writer, WentOut, FailedWithin}
 use Rattle.ws_code.proofs.DeviceLaws.{went_out_both, failed_within_both}
 use Rattle.ws_code.proofs.Parts.{fails_last}
 use Rattle.ws_code.specs.declared.fault.Fault.{Fault}
@@ -78,37 +78,37 @@ module _ {Place U Made : Type 0} {rules : Rules Place U} {view : View U} {makes 
             ∙ ap (λ z. z ++ behind) w.are_lines;
       }
 
-  module _ {S : Type 0} (takes : MayTake S) (failures : S → ℕ) (from : S) where
+  module _ {S : Type 0} (writer : Writer S) (from : S) where
     -- all are carried out
-    pub through_all : (to : S) → WentOut takes failures from to lines
-        → IsInGrammar rules bytes (items_of w.placed) → IsThrough takes failures from to rules view bytes
+    pub through_all : (to : S) → WentOut writer from to lines
+        → IsInGrammar rules bytes (items_of w.placed) → IsThrough writer from to rules view bytes
         (λ text. (items : List (Item U)) → makes items made → view.Ends items text) None
     through_all to went a = (lines, part w, went, λ text ends so_far. accepted_with a text ends so_far)
 
     -- the last one isn't
     pub through_unapplied : (mid to : S) (x : Placed U) (reason : Reason) (IsEnding : List ℕ → Type 0)
-        → WentOut takes failures from mid lines → IsComplete rules bytes (items_of w.placed) x
-        → WentOut takes failures mid to (view.lines x.0 x.1) → view.fault (items_of w.placed) x.1 ≡ Some reason
-        → IsThrough takes failures from to rules view bytes IsEnding (Some (Refused x.0 reason))
+        → WentOut writer from mid lines → IsComplete rules bytes (items_of w.placed) x
+        → WentOut writer mid to (view.lines x.0 x.1) → view.fault (items_of w.placed) x.1 ≡ Some reason
+        → IsThrough writer from to rules view bytes IsEnding (Some (Refused x.0 reason))
     through_unapplied mid to x reason IsEnding went c more found = (
       refl,
       (
         lines ++ view.lines x.0 x.1,
         part_more w x c,
-        went_out_both takes failures from mid to lines (view.lines x.0 x.1) went more,
+        went_out_both writer from mid to lines (view.lines x.0 x.1) went more,
         λ so_far. unapplied_with x reason c found so_far,
       ),
     )
 
     -- a byte is refused behind them, or a growth was
-    pub halts_next : (to : S) → WentOut takes failures from to lines → (fault : Fault)
+    pub halts_next : (to : S) → WentOut writer from to lines → (fault : Fault)
         → IsNextFault rules bytes receiver fault
-        → IsHalted takes failures from to rules view bytes (λ items. makes items made) fault
+        → IsHalted writer from to rules view bytes (λ items. makes items made) fault
     halts_next to went (faults.Refused place reason) f = (
       w.placed,
       w.shown,
       (f.0, f.1 (items_of w.placed) w.taken),
-      subst (λ (t : List ℕ). WentOut takes failures from to t) w.are_lines went,
+      subst (λ (t : List ℕ). WentOut writer from to t) w.are_lines went,
       w.makes_it,
     )
     halts_next to went (faults.Truncated n) f = absurd f
@@ -116,37 +116,37 @@ module _ {Place U Made : Type 0} {rules : Rules Place U} {view : View U} {makes 
       w.placed,
       w.shown,
       f (items_of w.placed) w.taken,
-      subst (λ (t : List ℕ). WentOut takes failures from to t) w.are_lines went,
+      subst (λ (t : List ℕ). WentOut writer from to t) w.are_lines went,
     )
     halts_next to went faults.Read f = absurd f
     halts_next to went faults.Write f = absurd f
     halts_next to went faults.Failed f = absurd f
 
     -- they end too early
-    pub halts_early : (to : S) → WentOut takes failures from to lines → (last : Receiving Place U)
+    pub halts_early : (to : S) → WentOut writer from to lines → (last : Receiving Place U)
         → HasReceived rules last bytes (items_of w.placed) → (fault : Fault)
         → (fault ≡ faults.Truncated (length bytes)) × IsTruncated rules bytes
-        → IsHalted takes failures from to rules view bytes (λ items. makes items made) fault
+        → IsHalted writer from to rules view bytes (λ items. makes items made) fault
     halts_early to went last received fault f =
         rw f.0 (
           w.placed,
           w.shown,
           (refl, f.1, (received.leads.0, last.live.begun, received.leads.1.holds)),
-          subst (λ (t : List ℕ). WentOut takes failures from to t) w.are_lines went,
+          subst (λ (t : List ℕ). WentOut writer from to t) w.are_lines went,
           w.makes_it,
         )
 
     -- the lines of one don't go out whole
-    pub fails_at_item : (mid to : S) (x : Placed U) → WentOut takes failures from mid lines
-        → IsComplete rules bytes (items_of w.placed) x → FailedWithin takes failures mid to (view.lines x.0 x.1)
-        → (text : List ℕ) × AreFirstLines rules view bytes text × FailedWithin takes failures from to text
+    pub fails_at_item : (mid to : S) (x : Placed U) → WentOut writer from mid lines
+        → IsComplete rules bytes (items_of w.placed) x → FailedWithin writer mid to (view.lines x.0 x.1)
+        → (text : List ℕ) × AreFirstLines rules view bytes text × FailedWithin writer from to text
     fails_at_item mid to x went c f = (
       lines ++ view.lines x.0 x.1,
       part_more w x c,
-      fails_last takes failures from mid to lines (view.lines x.0 x.1) went f,
+      fails_last writer from mid to lines (view.lines x.0 x.1) went f,
     )
 
-module _ {Place U S : Type 0} (takes : MayTake S) (failures : S → ℕ) (from mid : S) (rules : Rules Place U)
+module _ {Place U S : Type 0} (writer : Writer S) (from mid : S) (rules : Rules Place U)
     (view : View U) (bytes : List ℕ) (IsMade : List (Item U) → Type 0) where
   -- what is added of the open record where the bytes stop
   abbrev pub AddsThere : Verdict → List ℕ → Type 0
@@ -155,7 +155,7 @@ module _ {Place U S : Type 0} (takes : MayTake S) (failures : S → ℕ) (from m
 
   -- the lines that went out, and behind them what is added and the last line
   pub record GoesOn (verdict : Verdict) (lines : List ℕ) : Type 0 where
-    pub went : WentOut takes failures from mid lines
+    pub went : WentOut writer from mid lines
     pub on : (added : List ℕ) → AddsThere verdict added
         → IsShownSoFar rules view bytes false (lines ++ (added ++ line_of verdict (length bytes)))
 
@@ -164,7 +164,7 @@ module _ {Place U S : Type 0} (takes : MayTake S) (failures : S → ℕ) (from m
   first_lines placed shown = record { placed = placed; shown = shown; last = None; complete = tt; lines = refl }
 
   refused_goes_on : (place : ℕ) (reason : Reason)
-      → IsHalted takes failures from mid rules view bytes IsMade (faults.Refused place reason)
+      → IsHalted writer from mid rules view bytes IsMade (faults.Refused place reason)
       → (lines : List ℕ) × GoesOn (Refused place reason) lines
   refused_goes_on place reason h =
       let line : List ℕ = line_of (Refused place reason) (length bytes) in (
@@ -181,7 +181,7 @@ module _ {Place U S : Type 0} (takes : MayTake S) (failures : S → ℕ) (from m
         },
       )
 
-  truncated_goes_on : (n : ℕ) → IsHalted takes failures from mid rules view bytes IsMade (faults.Truncated n)
+  truncated_goes_on : (n : ℕ) → IsHalted writer from mid rules view bytes IsMade (faults.Truncated n)
       → (lines : List ℕ) × GoesOn (Truncated n) lines
   truncated_goes_on n h =
       let line : List ℕ = line_of (Truncated n) (length bytes) in (
@@ -205,7 +205,7 @@ module _ {Place U S : Type 0} (takes : MayTake S) (failures : S → ℕ) (from m
       )
 
   pub halted_goes_on : (fault : Fault) (verdict : Verdict) → verdict_by fault ≡ Ok verdict
-      → IsHalted takes failures from mid rules view bytes IsMade fault → (lines : List ℕ) × GoesOn verdict lines
+      → IsHalted writer from mid rules view bytes IsMade fault → (lines : List ℕ) × GoesOn verdict lines
   halted_goes_on (faults.Refused place reason) verdict e h =
       subst (λ (v : Verdict). (lines : List ℕ) × GoesOn v lines) (refused_is place reason verdict e)
       (refused_goes_on place reason h)
@@ -218,29 +218,29 @@ module _ {Place U S : Type 0} (takes : MayTake S) (failures : S → ℕ) (from m
 
   -- the fault before that
   pub halted_fault : (fault given : Fault) → verdict_by fault ≡ Err given
-      → IsHalted takes failures from mid rules view bytes IsMade fault
-      → IsSoFarFault takes failures from mid rules view bytes given
+      → IsHalted writer from mid rules view bytes IsMade fault
+      → IsSoFarFault writer from mid rules view bytes given
   halted_fault (faults.Refused place reason) given e h = absurd (refused_not place reason given e)
   halted_fault (faults.Truncated n) given e h = absurd (truncated_not n given e)
   halted_fault faults.Memory given e h =
-      subst (λ (f : Fault). IsSoFarFault takes failures from mid rules view bytes f) (memory_is given e) (inl h)
+      subst (λ (f : Fault). IsSoFarFault writer from mid rules view bytes f) (memory_is given e) (inl h)
   halted_fault faults.Read given e h = absurd h.2
   halted_fault faults.Write given e h =
-      subst (λ (f : Fault). IsSoFarFault takes failures from mid rules view bytes f) (write_is given e)
+      subst (λ (f : Fault). IsSoFarFault writer from mid rules view bytes f) (write_is given e)
       (h.0, inl h.1, h.2)
   halted_fault faults.Failed given e h = absurd h.2
 
   -- where the growth for what is added is refused, or it doesn't go out whole
   pub unadded : (fault : Fault) (verdict : Verdict) → verdict_by fault ≡ Ok verdict
-      → IsHalted takes failures from mid rules view bytes IsMade fault → (to : S) (why : Fault)
-      → IsTextFault takes failures mid to (AddsThere verdict) why
-      → IsSoFarFault takes failures from to rules view bytes why
+      → IsHalted writer from mid rules view bytes IsMade fault → (to : S) (why : Fault)
+      → IsTextFault writer mid to (AddsThere verdict) why
+      → IsSoFarFault writer from to rules view bytes why
   unadded fault verdict e h to faults.Memory f = inr (placed_at fault verdict e h to f)
     where
       placed_at : (fault : Fault) (verdict : Verdict) → verdict_by fault ≡ Ok verdict
-          → IsHalted takes failures from mid rules view bytes IsMade fault → (to : S) → to ≡ mid
+          → IsHalted writer from mid rules view bytes IsMade fault → (to : S) → to ≡ mid
           → (placed : List (Placed U)) × (stop : Fault) × AreShown rules view bytes [] placed
-          × StopsBehind rules bytes placed stop × WentOut takes failures from to (lines_of view placed)
+          × StopsBehind rules bytes placed stop × WentOut writer from to (lines_of view placed)
       placed_at (faults.Refused place reason) verdict e h to same =
           (h.0, faults.Refused place reason, h.1, h.2, rw same h.3)
       placed_at (faults.Truncated n) verdict e h to same = (h.0, faults.Truncated n, h.1, h.2, rw same h.3)
@@ -253,66 +253,66 @@ module _ {Place U S : Type 0} (takes : MayTake S) (failures : S → ℕ) (from m
       let line : List ℕ = line_of verdict (length bytes) in (
         on.0 ++ (f.0 ++ line),
         inr (false, on.1.on f.0 f.1),
-        failed_within_both takes failures from mid to on.0 f.0 line on.1.went f.2,
+        failed_within_both writer from mid to on.0 f.0 line on.1.went f.2,
       )
   unadded fault verdict e h to (faults.Refused place reason) f = absurd f
   unadded fault verdict e h to (faults.Truncated n) f = absurd f
   unadded fault verdict e h to faults.Read f = absurd f
   unadded fault verdict e h to faults.Failed f = absurd f
 
-module _ {Place U S : Type 0} (takes : MayTake S) (failures : S → ℕ) (from mid to : S) (rules : Rules Place U)
+module _ {Place U S : Type 0} (writer : Writer S) (from mid to : S) (rules : Rules Place U)
     (view : View U) (bytes : List ℕ) (so_far : Bool) where
   -- the whole text went out
   abbrev pub HasGoneOut : Bool → Type 0
   HasGoneOut accepted = (text : List ℕ) × IsShownWith so_far rules view bytes accepted text
-      × WentOut takes failures from to text
+      × WentOut writer from to text
 
   -- what comes behind lines that went out goes out
-  pub went_behind : (accepted : Bool) (lines text : List ℕ) → WentOut takes failures from mid lines
-      → IsShownWith so_far rules view bytes accepted (lines ++ text) → WentOut takes failures mid to text
+  pub went_behind : (accepted : Bool) (lines text : List ℕ) → WentOut writer from mid lines
+      → IsShownWith so_far rules view bytes accepted (lines ++ text) → WentOut writer mid to text
       → HasGoneOut accepted
   went_behind accepted lines text w shown h =
-      (lines ++ text, shown, went_out_both takes failures from mid to lines text w h)
+      (lines ++ text, shown, went_out_both writer from mid to lines text w h)
 
   -- or not the whole of it
-  pub fails_behind : (accepted : Bool) (lines text : List ℕ) → WentOut takes failures from mid lines
+  pub fails_behind : (accepted : Bool) (lines text : List ℕ) → WentOut writer from mid lines
       → IsShownWith so_far rules view bytes accepted (lines ++ text) → (fault : Fault)
-      → (fault ≡ faults.Write) × FailedWithin takes failures mid to text
-      → IsShowFaultWith takes failures from to rules view so_far bytes fault
+      → (fault ≡ faults.Write) × FailedWithin writer mid to text
+      → IsShowFaultWith writer from to rules view so_far bytes fault
   fails_behind accepted lines text w shown fault f = rw f.0 (failed so_far shown)
     where
       failed : (so_far : Bool) → IsShownWith so_far rules view bytes accepted (lines ++ text)
-          → IsShowFaultWith takes failures from to rules view so_far bytes faults.Write
+          → IsShowFaultWith writer from to rules view so_far bytes faults.Write
       failed false shown =
-          (lines ++ text, inr (accepted, shown), fails_last takes failures from mid to lines text w f.1)
+          (lines ++ text, inr (accepted, shown), fails_last writer from mid to lines text w f.1)
       failed true shown =
-          (lines ++ text, inr (accepted, shown), fails_last takes failures from mid to lines text w f.1)
+          (lines ++ text, inr (accepted, shown), fails_last writer from mid to lines text w f.1)
 
   -- behind all items
   pub all_written : (IsEnding : List ℕ → Type 0) (accepted : Bool) (text : List ℕ)
-      → IsThrough takes failures from mid rules view bytes IsEnding None → accepted ≡ true → IsEnding text
-      → WentOut takes failures mid to text → HasGoneOut accepted
+      → IsThrough writer from mid rules view bytes IsEnding None → accepted ≡ true → IsEnding text
+      → WentOut writer mid to text → HasGoneOut accepted
   all_written IsEnding accepted text t is ending h =
       went_behind accepted t.0 text t.2 (rw is (t.3 text ending so_far)) h
 
   pub all_unwritten : (IsEnding : List ℕ → Type 0) (text : List ℕ)
-      → IsThrough takes failures from mid rules view bytes IsEnding None → IsEnding text → (fault : Fault)
-      → (fault ≡ faults.Write) × FailedWithin takes failures mid to text
-      → IsShowFaultWith takes failures from to rules view so_far bytes fault
+      → IsThrough writer from mid rules view bytes IsEnding None → IsEnding text → (fault : Fault)
+      → (fault ≡ faults.Write) × FailedWithin writer mid to text
+      → IsShowFaultWith writer from to rules view so_far bytes fault
   all_unwritten IsEnding text t ending fault f = fails_behind true t.0 text t.2 (t.3 text ending so_far) fault f
 
   -- behind one that isn't carried out
   pub unapplied_written : (IsEnding : List ℕ → Type 0) (verdict : Verdict) (accepted : Bool)
-      → IsThrough takes failures from mid rules view bytes IsEnding (Some verdict)
-      → accepted ≡ is_accepted verdict → WentOut takes failures mid to (line_of verdict (length bytes))
+      → IsThrough writer from mid rules view bytes IsEnding (Some verdict)
+      → accepted ≡ is_accepted verdict → WentOut writer mid to (line_of verdict (length bytes))
       → HasGoneOut accepted
   unapplied_written IsEnding verdict accepted t is h =
       went_behind accepted t.1.0 _ t.1.2 (rw (is ∙ t.0) (t.1.3 so_far)) h
 
   pub unapplied_unwritten : (IsEnding : List ℕ → Type 0) (verdict : Verdict)
-      → IsThrough takes failures from mid rules view bytes IsEnding (Some verdict) → (fault : Fault)
-      → (fault ≡ faults.Write) × FailedWithin takes failures mid to (line_of verdict (length bytes))
-      → IsShowFaultWith takes failures from to rules view so_far bytes fault
+      → IsThrough writer from mid rules view bytes IsEnding (Some verdict) → (fault : Fault)
+      → (fault ≡ faults.Write) × FailedWithin writer mid to (line_of verdict (length bytes))
+      → IsShowFaultWith writer from to rules view so_far bytes fault
   unapplied_unwritten IsEnding verdict t fault f = fails_behind false t.1.0 _ t.1.2 (t.1.3 so_far) fault f
 
 -- no stream that stops is accepted
@@ -324,33 +324,33 @@ stop_refuses faults.Read verdict e = cc
 stop_refuses faults.Write verdict e = absurd (write_not verdict e)
 stop_refuses faults.Failed verdict e = cc
 
-module _ {Place U S : Type 0} (takes : MayTake S) (failures : S → ℕ) (from mid next to : S) (rules : Rules Place U)
+module _ {Place U S : Type 0} (writer : Writer S) (from mid next to : S) (rules : Rules Place U)
     (view : View U) (bytes : List ℕ) (IsMade : List (Item U) → Type 0) (fault : Fault) (verdict : Verdict)
-    (is : verdict_by fault ≡ Ok verdict) (h : IsHalted takes failures from mid rules view bytes IsMade fault)
-    (added : List ℕ) (adds : AddsThere takes failures from mid rules view bytes IsMade verdict added)
-    (went : WentOut takes failures mid next added) where
+    (is : verdict_by fault ≡ Ok verdict) (h : IsHalted writer from mid rules view bytes IsMade fault)
+    (added : List ℕ) (adds : AddsThere writer from mid rules view bytes IsMade verdict added)
+    (went : WentOut writer mid next added) where
   abbrev pub line : List ℕ
   line = line_of verdict (length bytes)
 
   -- the last line goes out behind what is added
-  pub stop_written : (accepted : Bool) → accepted ≡ is_accepted verdict → WentOut takes failures next to line
-      → (text : List ℕ) × IsShownSoFar rules view bytes accepted text × WentOut takes failures from to text
+  pub stop_written : (accepted : Bool) → accepted ≡ is_accepted verdict → WentOut writer next to line
+      → (text : List ℕ) × IsShownSoFar rules view bytes accepted text × WentOut writer from to text
   stop_written accepted e w =
-      let on = halted_goes_on takes failures from mid rules view bytes IsMade fault verdict is h in (
+      let on = halted_goes_on writer from mid rules view bytes IsMade fault verdict is h in (
         on.0 ++ (added ++ line),
         rw (e ∙ stop_refuses fault verdict is) (on.1.on added adds),
-        went_out_both takes failures from mid to on.0 (added ++ line) on.1.went
-            (went_out_both takes failures mid next to added line went w),
+        went_out_both writer from mid to on.0 (added ++ line) on.1.went
+            (went_out_both writer mid next to added line went w),
       )
 
   -- or not
-  pub stop_unwritten : (why : Fault) → (why ≡ faults.Write) × FailedWithin takes failures next to line
-      → IsSoFarFault takes failures from to rules view bytes why
+  pub stop_unwritten : (why : Fault) → (why ≡ faults.Write) × FailedWithin writer next to line
+      → IsSoFarFault writer from to rules view bytes why
   stop_unwritten why f =
-      let on = halted_goes_on takes failures from mid rules view bytes IsMade fault verdict is h in
+      let on = halted_goes_on writer from mid rules view bytes IsMade fault verdict is h in
       rw f.0 (
         on.0 ++ (added ++ line),
         inr (false, on.1.on added adds),
-        fails_last takes failures from mid to on.0 (added ++ line) on.1.went
-            (fails_last takes failures mid next to added line went f.1),
+        fails_last writer from mid to on.0 (added ++ line) on.1.went
+            (fails_last writer mid next to added line went f.1),
       )

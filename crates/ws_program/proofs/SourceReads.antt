@@ -1,6 +1,6 @@
 use Rattle.std.proofs.Common.{◌≡◌, ℕ, ◌*◌, ◌≤◌, List, ◌∷◌, ◌++◌, [], length, sym, ◌∙◌, subst, append_assoc}
 use Rattle.ws_code.specs.Code.{Rules}
-use Rattle.ws_code.specs.Device.{MayGive, Gave}
+use Rattle.ws_code.specs.Device.{Reader, Gave}
 use Rattle.ws_record.specs.Live.{Watching}
 use Rattle.ws_record.specs.Refusal.{Layer, IsOpen, IsRight, IsFirstClosed}
 use Rattle.ws_record.specs.Refusal.Layer.{Tokens, Header, Body}
@@ -12,10 +12,10 @@ use Rattle.ws_program.specs.declared.check.Tally.{Tally}
 -- What is read of a source.
 
 -- a source gave bytes by so many reads, none of which is refused; the decoder and the tally have taken them
-pub record Taking {Place U S : Type 0} (rules : Rules Place U) (gives : MayGive S) (failures : S → ℕ) (from to : S)
+pub record Taking {Place U S : Type 0} (rules : Rules Place U) (reader : Reader S) (from to : S)
     (reads : ℕ) (live : Watching Place) (tally : Tally) (size : ℕ) : Type 0 where
   pub bytes : List ℕ
-  pub gave : Gave gives failures from to reads bytes
+  pub gave : Gave reader from to reads bytes
   pub counts : Counts rules live tally bytes
   pub sized : size ≡ length bytes
   pub few : length bytes ≤ 65536 * reads

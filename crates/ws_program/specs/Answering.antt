@@ -2,7 +2,7 @@
 
 use Rattle.std.specs.Prelude.{◌≡◌, ℕ, List, Bool, true, false, Result, Ok, Err, ◌⊎◌, length}
 use Rattle.ws_code.specs.Code.{Rules}
-use Rattle.ws_code.specs.Device.{MayTake, WentOut, FailedWithin}
+use Rattle.ws_code.specs.Device.{Writer, WentOut, FailedWithin}
 use Rattle.ws_code.specs.declared.fault.Fault.{Fault}
 use Rattle.ws_extended.specs.ExtendedAnswers.{extended_answer_rules}
 use Rattle.ws_extended.specs.ExtendedElements.{extended_rules}
@@ -59,28 +59,28 @@ pub record IsToldText (paint : Paint) (moves : List Move) (screen all_well : Boo
 abbrev pub IsGoodScript : List ℕ → Type 0
 IsGoodScript script = IsReadSoFar script ⊎ ((moves : List Move) × IsScript script moves)
 
-module _ {S : Type 0} (takes : MayTake S) (failures : S → ℕ) (from to : S) where
+module _ {S : Type 0} (writer : Writer S) (from to : S) where
   -- the line of a check went out
   abbrev pub HasChecked : {Place U : Type 0} → Rules Place U → List ℕ → Bool → Type 0
   HasChecked rules bytes accepted = (verdict : Verdict) × IsVerdict rules bytes verdict
-      × (accepted ≡ is_accepted verdict) × WentOut takes failures from to (line_of verdict (length bytes))
+      × (accepted ≡ is_accepted verdict) × WentOut writer from to (line_of verdict (length bytes))
 
   -- what is shown of a stream went out, without what has come of an open record or with it
   abbrev pub HasShown : {Place U : Type 0} → Rules Place U → View U → Bool → List ℕ → Bool → Type 0
   HasShown rules view so_far bytes accepted = (text : List ℕ) × IsShownWith so_far rules view bytes accepted text
-      × WentOut takes failures from to text
+      × WentOut writer from to text
 
   -- what a session tells after a script's moves went out; its terminal is the default one
   abbrev pub HasPlayed : Paint → Bool → List ℕ → Bool → Type 0
   HasPlayed paint screen script all_well = (moves : List Move) × IsScript script moves × (text : List ℕ)
       × IsSessionText paint (after_moves (new_world Ibm3179Model2) moves) screen text
-      × WentOut takes failures from to text
+      × WentOut writer from to text
       × (all_well ≡ no_end_refuses (after_moves (new_world Ibm3179Model2) moves).events)
 
   -- a script was played over a connection, and what is told of its session went out
   abbrev pub HasPlayedByTcp : Paint → Bool → List ℕ → Bool → Type 0
   HasPlayedByTcp paint screen script all_well = (moves : List Move) × IsScript script moves
-      × (text : List ℕ) × IsToldText paint moves screen all_well text × WentOut takes failures from to text
+      × (text : List ℕ) × IsToldText paint moves screen all_well text × WentOut writer from to text
 
   -- the line of a check of the bytes of a sender went out: as the commands of a host, of the profile alone or also
   -- beside it, or as a station's answers, alone or with what is told at once
@@ -103,13 +103,13 @@ module _ {S : Type 0} (takes : MayTake S) (failures : S → ℕ) (from to : S) w
   -- the stream of the items that a text spells went out, as those of a sender, in bytes or in hex
   abbrev pub HasMadeBy : Bool → Sender → List ℕ → Bool → Type 0
   HasMadeBy raw Host input accepted =
-      HasMade element_rules element_wording Shows takes failures from to raw input accepted
+      HasMade element_rules element_wording Shows writer from to raw input accepted
   HasMadeBy raw ExtendedHost input accepted =
-      HasMade extended_rules extended_wording ShowsExtended takes failures from to raw input accepted
+      HasMade extended_rules extended_wording ShowsExtended writer from to raw input accepted
   HasMadeBy raw Station input accepted =
-      HasMade answer_rules answer_wording ShowsAnswers takes failures from to raw input accepted
+      HasMade answer_rules answer_wording ShowsAnswers writer from to raw input accepted
   HasMadeBy raw ExtendedStation input accepted =
-      HasMade extended_answer_rules told_wording ShowsTold takes failures from to raw input accepted
+      HasMade extended_answer_rules told_wording ShowsTold writer from to raw input accepted
 
   -- the program did what it was asked for with its input: with the bytes that it tells, with a script, or with items as
   -- text
@@ -130,32 +130,32 @@ module _ {S : Type 0} (takes : MayTake S) (failures : S → ℕ) (from to : S) w
 
   -- where the line of a check of the bytes of a sender doesn't go out
   abbrev pub IsCheckFaultBy : Sender → List ℕ → Fault → Type 0
-  IsCheckFaultBy Host bytes fault = IsCheckFault element_rules takes failures from to bytes fault
-  IsCheckFaultBy ExtendedHost bytes fault = IsCheckFault extended_rules takes failures from to bytes fault
-  IsCheckFaultBy Station bytes fault = IsCheckFault answer_rules takes failures from to bytes fault
-  IsCheckFaultBy ExtendedStation bytes fault = IsCheckFault extended_answer_rules takes failures from to bytes fault
+  IsCheckFaultBy Host bytes fault = IsCheckFault element_rules writer from to bytes fault
+  IsCheckFaultBy ExtendedHost bytes fault = IsCheckFault extended_rules writer from to bytes fault
+  IsCheckFaultBy Station bytes fault = IsCheckFault answer_rules writer from to bytes fault
+  IsCheckFaultBy ExtendedStation bytes fault = IsCheckFault extended_answer_rules writer from to bytes fault
 
   -- where not all that is shown of the bytes of a sender goes out
   abbrev pub IsShowFaultBy : Paint → Bool → Sender → List ℕ → Fault → Type 0
   IsShowFaultBy paint so_far Host bytes fault =
-      IsShowFaultWith takes failures from to element_rules (painted_host_view paint) so_far bytes fault
+      IsShowFaultWith writer from to element_rules (painted_host_view paint) so_far bytes fault
   IsShowFaultBy paint so_far ExtendedHost bytes fault =
-      IsShowFaultWith takes failures from to extended_rules (extended_view paint) so_far bytes fault
+      IsShowFaultWith writer from to extended_rules (extended_view paint) so_far bytes fault
   IsShowFaultBy paint so_far Station bytes fault =
-      IsShowFaultWith takes failures from to answer_rules answer_view so_far bytes fault
+      IsShowFaultWith writer from to answer_rules answer_view so_far bytes fault
   IsShowFaultBy paint so_far ExtendedStation bytes fault =
-      IsShowFaultWith takes failures from to extended_answer_rules told_view so_far bytes fault
+      IsShowFaultWith writer from to extended_answer_rules told_view so_far bytes fault
 
   -- what is answered of items as text whose stream doesn't go out
   abbrev pub IsMakeFaultBy : Bool → Sender → List ℕ → RunFault → Type 0
   IsMakeFaultBy raw Host input fault =
-      IsMakeFault element_rules element_wording Shows takes failures from to raw input fault
+      IsMakeFault element_rules element_wording Shows writer from to raw input fault
   IsMakeFaultBy raw ExtendedHost input fault =
-      IsMakeFault extended_rules extended_wording ShowsExtended takes failures from to raw input fault
+      IsMakeFault extended_rules extended_wording ShowsExtended writer from to raw input fault
   IsMakeFaultBy raw Station input fault =
-      IsMakeFault answer_rules answer_wording ShowsAnswers takes failures from to raw input fault
+      IsMakeFault answer_rules answer_wording ShowsAnswers writer from to raw input fault
   IsMakeFaultBy raw ExtendedStation input fault =
-      IsMakeFault extended_answer_rules told_wording ShowsTold takes failures from to raw input fault
+      IsMakeFault extended_answer_rules told_wording ShowsTold writer from to raw input fault
 
   -- what is answered of a script that isn't played, or whose lines don't go out
   abbrev pub IsPlayFault : Paint → Bool → List ℕ → RunFault → Type 0
@@ -163,7 +163,7 @@ module _ {S : Type 0} (takes : MayTake S) (failures : S → ℕ) (from to : S) w
   IsPlayFault paint screen script Memory = (to ≡ from) × IsGoodScript script
   IsPlayFault paint screen script Write = (moves : List Move) × IsScript script moves × (text : List ℕ)
       × IsSessionText paint (after_moves (new_world Ibm3179Model2) moves) screen text
-      × FailedWithin takes failures from to text
+      × FailedWithin writer from to text
   IsPlayFault paint screen script fault = ⊥
 
   -- what is answered of a script that isn't played over a connection, or whose lines don't go out; the connection may
@@ -176,7 +176,7 @@ module _ {S : Type 0} (takes : MayTake S) (failures : S → ℕ) (from to : S) w
   IsTcpPlayFault paint screen script Write = (moves : List Move) × IsScript script moves
       × ((to ≡ from)
       ⊎ ((all_well : Bool) × (text : List ℕ) × IsToldText paint moves screen all_well text
-      × FailedWithin takes failures from to text))
+      × FailedWithin writer from to text))
   IsTcpPlayFault paint screen script fault = ⊥
 
   -- what the program answers where it didn't do all that it was asked for

@@ -2,7 +2,7 @@
 
 use Rattle.std.specs.Prelude.{◌≡◌, ℕ, ◌+◌, ◌-◌, ◌^◌, ◌≤◌, min, List, length}
 use Rattle.ws_code.specs.Code.{Rules}
-use Rattle.ws_code.specs.Device.{MayTake}
+use Rattle.ws_code.specs.Device.{Writer}
 use Rattle.ws_code.specs.declared.fault.Fault.{Fault}
 use Rattle.ws_record.specs.declared.record.Item.{Item}
 use Rattle.ws_record.specs.declared.news.News.{News}
@@ -46,6 +46,6 @@ IsCheckText rules bytes text = (verdict : Verdict) × IsVerdict rules bytes verd
     × (text ≡ line_of verdict (length bytes))
 
 -- what a check answers where it doesn't print its line: nothing went out, or a part of the line
-abbrev pub IsCheckFault : {Place U S : Type 0} → Rules Place U → MayTake S → (S → ℕ) → S → S → List ℕ → Fault → Type 0
-IsCheckFault rules takes failures from to bytes fault = IsTextFault takes failures from to
+abbrev pub IsCheckFault : {Place U S : Type 0} → Rules Place U → Writer S → S → S → List ℕ → Fault → Type 0
+IsCheckFault rules writer from to bytes fault = IsTextFault writer from to
     (IsCheckText rules bytes) fault

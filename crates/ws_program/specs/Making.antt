@@ -4,7 +4,7 @@ use Rattle.std.specs.Prelude.{◌≡◌, ℕ, List, [], ◌∷◌, ◌++◌, Boo
 use Rattle.std.specs.List.{flat_map}
 use Rattle.hex.specs.Hex.{encode_upper}
 use Rattle.ws_code.specs.Code.{Rules}
-use Rattle.ws_code.specs.Device.{MayTake, WentOut, FailedWithin}
+use Rattle.ws_code.specs.Device.{Writer, WentOut, FailedWithin}
 use Rattle.ws_record.specs.Encode.{plain_spelling}
 use Rattle.ws_record.specs.declared.record.Item.{Item}
 use Rattle.ws_text.specs.Items.{AreItems, IsTextFault}
@@ -38,11 +38,11 @@ module _ {Place U : Type 0} (rules : Rules Place U) (w : Wording U) (IsShowing :
   IsBadLine text number = IsTextFault rules w text (items.Line number)
       × ((shown : List (Item U)) → ¬ IsShowing text shown)
 
-  module _ {S : Type 0} (takes : MayTake S) (failures : S → ℕ) (from to : S) where
+  module _ {S : Type 0} (writer : Writer S) (from to : S) where
     -- the stream of the items that a text spells went out, in bytes or in hex
     abbrev pub HasMade : Bool → List ℕ → Bool → Type 0
     HasMade raw text accepted = (items : List (Item U)) × AreTold text items
-        × WentOut takes failures from to (made_stream rules raw items) × (accepted ≡ true)
+        × WentOut writer from to (made_stream rules raw items) × (accepted ≡ true)
 
     -- Why no stream went out: a bad line, or want of memory for a text that spells items, before anything was written;
     -- or the sink failed.
@@ -50,5 +50,5 @@ module _ {Place U : Type 0} (rules : Rules Place U) (w : Wording U) (IsShowing :
     IsMakeFault raw text (Line number) = (to ≡ from) × IsBadLine text number
     IsMakeFault raw text Memory = (to ≡ from) × ((items : List (Item U)) × AreItems rules w text items)
     IsMakeFault raw text Write = (items : List (Item U)) × AreTold text items
-        × FailedWithin takes failures from to (made_stream rules raw items)
+        × FailedWithin writer from to (made_stream rules raw items)
     IsMakeFault raw text fault = ⊥

@@ -3,7 +3,7 @@
 use Rattle.std.specs.Prelude.{◌≡◌, ℕ, List, [], ◌∷◌, ◌++◌, ◌⊎◌, Bool, true, false, Option, None, Some, codes, length}
 use Rattle.std.specs.Prelude.{take, drop}
 use Rattle.ws_code.specs.Code.{Rules}
-use Rattle.ws_code.specs.Device.{MayTake, WentOut, FailedWithin}
+use Rattle.ws_code.specs.Device.{Writer, WentOut, FailedWithin}
 use Rattle.ws_code.specs.declared.fault.Fault.{Fault}
 use Rattle.ws_code.specs.declared.fault.Fault.TheVariants.{Memory, Write}
 use Rattle.ws_code.specs.declared.fault.Fault.TheVariants as faults
@@ -102,38 +102,38 @@ module _ {Place U : Type 0} where
       × HoldsItems rules bytes (items_of placed)
   StopsBehind rules bytes placed fault = ⊥
 
-  module _ {S : Type 0} (takes : MayTake S) (failures : S → ℕ) (from to : S) (rules : Rules Place U)
+  module _ {S : Type 0} (writer : Writer S) (from to : S) (rules : Rules Place U)
       (view : View U) where
     -- Why not all of a stream is shown with what has come of an open record. The growth for that may be refused too.
     abbrev pub IsSoFarFault : List ℕ → Fault → Type 0
-    IsSoFarFault bytes Memory = IsShowFault takes failures from to rules view bytes Memory
+    IsSoFarFault bytes Memory = IsShowFault writer from to rules view bytes Memory
         ⊎ ((placed : List (Placed U)) × (stop : Fault) × AreShown rules view bytes [] placed
-        × StopsBehind rules bytes placed stop × WentOut takes failures from to (lines_of view placed))
+        × StopsBehind rules bytes placed stop × WentOut writer from to (lines_of view placed))
     IsSoFarFault bytes Write = (text : List ℕ) × (AreFirstLines rules view bytes text
-        ⊎ ((accepted : Bool) × IsShownSoFar rules view bytes accepted text)) × FailedWithin takes failures from to text
+        ⊎ ((accepted : Bool) × IsShownSoFar rules view bytes accepted text)) × FailedWithin writer from to text
     IsSoFarFault bytes fault = ⊥
 
     -- why not all of a stream is shown, without what has come of an open record or with it
     abbrev pub IsShowFaultWith : Bool → List ℕ → Fault → Type 0
-    IsShowFaultWith false bytes fault = IsShowFault takes failures from to rules view bytes fault
+    IsShowFaultWith false bytes fault = IsShowFault writer from to rules view bytes fault
     IsShowFaultWith true bytes fault = IsSoFarFault bytes fault
 
     -- All items were shown and carried out, and so is a stream that is accepted; or the last one isn't carried out, and
     -- the line of that verdict goes on behind it.
     abbrev pub IsThrough : List ℕ → (List ℕ → Type 0) → Option Verdict → Type 0
     IsThrough bytes IsEnding None = (lines : List ℕ) × AreFirstLines rules view bytes lines
-        × WentOut takes failures from to lines × ((text : List ℕ) → IsEnding text → (so_far : Bool)
+        × WentOut writer from to lines × ((text : List ℕ) → IsEnding text → (so_far : Bool)
         → IsShownWith so_far rules view bytes true (lines ++ text))
     IsThrough bytes IsEnding (Some verdict) = (is_accepted verdict ≡ false) × ((lines : List ℕ)
-        × AreFirstLines rules view bytes lines × WentOut takes failures from to lines
+        × AreFirstLines rules view bytes lines × WentOut writer from to lines
         × ((so_far : Bool) → IsShownWith so_far rules view bytes false (lines ++ line_of verdict (length bytes))))
 
     -- where the bytes stop behind the items, the lines of these went out, and so much is made of them; or there was a
     -- fault before
     abbrev pub IsHalted : List ℕ → (List (Item U) → Type 0) → Fault → Type 0
-    IsHalted bytes IsMade Memory = IsShowFault takes failures from to rules view bytes Memory
+    IsHalted bytes IsMade Memory = IsShowFault writer from to rules view bytes Memory
     IsHalted bytes IsMade Write = (text : List ℕ) × AreFirstLines rules view bytes text
-        × FailedWithin takes failures from to text
+        × FailedWithin writer from to text
     IsHalted bytes IsMade fault = (placed : List (Placed U)) × AreShown rules view bytes [] placed
-        × StopsBehind rules bytes placed fault × WentOut takes failures from to (lines_of view placed)
+        × StopsBehind rules bytes placed fault × WentOut writer from to (lines_of view placed)
         × IsMade (items_of placed)

@@ -2,7 +2,7 @@
 
 use Rattle.std.specs.Prelude.{ℕ, List, Bool, true, false, Option, Some, None, Result, Ok, Err, ◌⊎◌}
 use Rattle.ws_code.specs.Code.{Rules}
-use Rattle.ws_code.specs.Device.{MayGive, Gave, GaveAll, ReadFault}
+use Rattle.ws_code.specs.Device.{Reader, Gave, GaveAll, ReadFault}
 use Rattle.ws_code.specs.declared.fault.Fault.{Fault}
 use Rattle.ws_code.specs.declared.reason.Reason.{Reason}
 use Rattle.ws_extended.specs.ExtendedAnswers.{extended_answer_rules}
@@ -42,13 +42,13 @@ settled true (Ok accepted) = Ok accepted
 settled false (Ok accepted) = Err Write
 settled has_output (Err fault) = Err (run_fault fault)
 
-module _ {S : Type 0} (gives : MayGive S) (failures : S → ℕ) (from to : S) where
+module _ {S : Type 0} (reader : Reader S) (from to : S) where
   -- a source gave bytes of which such are refused: all, up to its end, or some with a refused one, behind which no more
   -- is read
   abbrev pub GaveEnough : (List ℕ → Type 0) → List ℕ → Type 0
-  GaveEnough IsBad bytes = GaveAll gives failures from to bytes
-      ⊎ ((reads : ℕ) × Gave gives failures from to reads bytes × IsBad bytes)
+  GaveEnough IsBad bytes = GaveAll reader from to bytes
+      ⊎ ((reads : ℕ) × Gave reader from to reads bytes × IsBad bytes)
 
   -- a source didn't give its bytes, after some of which such are refused and none of these is
   abbrev pub FailedBefore : (List ℕ → Type 0) → Type 0
-  FailedBefore IsBad = (bytes : List ℕ) × ReadFault gives failures from to bytes × ¬ IsBad bytes
+  FailedBefore IsBad = (bytes : List ℕ) × ReadFault reader from to bytes × ¬ IsBad bytes

@@ -5,7 +5,7 @@ use Rattle.std.specs.Prelude.{Result, Ok, Err}
 use Rattle.std.specs.Prelude.{length, take, map}
 use Rattle.std.specs.List.{flat_map}
 use Rattle.ws_code.specs.Code.{Rules, IsChain}
-use Rattle.ws_code.specs.Device.{MayTake, WentOut, FailedWithin}
+use Rattle.ws_code.specs.Device.{Writer, WentOut, FailedWithin}
 use Rattle.ws_code.specs.declared.fault.Fault.{Fault}
 use Rattle.ws_code.specs.declared.fault.Fault.TheVariants.{Memory, Write}
 use Rattle.ws_code.specs.declared.fault.Fault.TheVariants as faults
@@ -148,21 +148,21 @@ module _ {Place U : Type 0} where
       → GrowsBehind rules bytes items
   IsNextFault rules bytes old fault = ⊥
 
-  module _ {S : Type 0} (takes : MayTake S) (failures : S → ℕ) (from to : S) (rules : Rules Place U)
+  module _ {S : Type 0} (writer : Writer S) (from to : S) (rules : Rules Place U)
       (view : View U) where
     -- Why not all of a stream is shown: the lines of the first items went out, and the growth for a unit behind them
     -- was refused; or only a part of the lines went out.
     abbrev pub IsShowFault : List ℕ → Fault → Type 0
     IsShowFault bytes Memory = (placed : List (Placed U)) × AreShown rules view bytes [] placed
-        × GrowsBehind rules bytes (items_of placed) × WentOut takes failures from to (lines_of view placed)
+        × GrowsBehind rules bytes (items_of placed) × WentOut writer from to (lines_of view placed)
     IsShowFault bytes Write = (text : List ℕ) × (AreFirstLines rules view bytes text
-        ⊎ ((accepted : Bool) × IsShown rules view bytes accepted text)) × FailedWithin takes failures from to text
+        ⊎ ((accepted : Bool) × IsShown rules view bytes accepted text)) × FailedWithin writer from to text
     IsShowFault bytes fault = ⊥
 
     -- what is answered where not all items are carried out: the items' lines went out, and the line of a verdict
     -- goes on behind them, or there was a fault
     abbrev pub IsStop : List ℕ → Result Verdict Fault → Type 0
     IsStop bytes (Ok verdict) = (is_accepted verdict ≡ false) × ((lines : List ℕ) × AreFirstLines rules view bytes lines
-        × WentOut takes failures from to lines
+        × WentOut writer from to lines
         × IsShown rules view bytes false (lines ++ line_of verdict (length bytes)))
     IsStop bytes (Err fault) = IsShowFault bytes fault

@@ -1,7 +1,7 @@
 -- What a command comes to whose standard streams may have been closed when the program began.
 
 use Rattle.std.specs.Prelude.{◌≡◌, ℕ, List, Bool, true, false, Option, None, Some, ◌⊎◌, ◌&&◌, not, if◌then◌else◌}
-use Rattle.ws_code.specs.Device.{MayTake}
+use Rattle.ws_code.specs.Device.{Writer}
 use Rattle.ws_words.specs.declared.command_line.Asked.{Asked}
 use Rattle.ws_words.specs.declared.command_line.Asked.TheVariants.{Check, Show, Play, Make}
 use Rattle.ws_program.specs.Answering.{HasAnswered, IsAnswerFault}
@@ -21,14 +21,14 @@ in_one_place (Show file form sender paint so_far) = Show file form sender paint 
 in_one_place (Play file screen tcp paint) = Play file screen false paint
 in_one_place (Make file sender raw) = Make file sender raw
 
-module _ {S : Type 0} (takes : MayTake S) (failures : S → ℕ) (from to : S) (has_output : Bool) where
+module _ {S : Type 0} (writer : Writer S) (from to : S) (has_output : Bool) where
   -- the program did what it was asked for, and had an output for it
   abbrev pub HasAnsweredOpenly : Asked → List ℕ → Bool → Type 0
-  HasAnsweredOpenly asked input accepted = (has_output ≡ true) × HasAnswered takes failures from to asked input accepted
+  HasAnsweredOpenly asked input accepted = (has_output ≡ true) × HasAnswered writer from to asked input accepted
 
   -- Why the program didn't do what it was asked for. Where standard output is closed it opens no connection, and what
   -- is found in the input and in running comes first.
   abbrev pub IsOpenFault : Asked → List ℕ → RunFault → Type 0
-  IsOpenFault asked input fault = ((has_output ≡ true) × IsAnswerFault takes failures from to asked input fault)
-      ⊎ ((has_output ≡ false) × (IsAnswerFault takes failures from to (in_one_place asked) input fault
-      ⊎ ((fault ≡ Write) × ((accepted : Bool) × HasAnswered takes failures from to (in_one_place asked) input accepted))))
+  IsOpenFault asked input fault = ((has_output ≡ true) × IsAnswerFault writer from to asked input fault)
+      ⊎ ((has_output ≡ false) × (IsAnswerFault writer from to (in_one_place asked) input fault
+      ⊎ ((fault ≡ Write) × ((accepted : Bool) × HasAnswered writer from to (in_one_place asked) input accepted))))

@@ -135,9 +135,9 @@ pub fn check_to<B: Body, S: Sink>(
     ensures printed { IfOk result (λ accepted. (verdict : Verdict)
         × IsVerdict B.rules bytes.now verdict
         × (accepted ≡ is_accepted verdict)
-        × WentOut S.takes S.failures sink.old sink.new (line_of verdict (length bytes.now))) }
+        × WentOut S.writer sink.old sink.new (line_of verdict (length bytes.now))) }
     ensures fault { IfErr result
-        (λ fault. IsCheckFault B.rules S.takes S.failures sink.old sink.new bytes.now fault) }
+        (λ fault. IsCheckFault B.rules S.writer sink.old sink.new bytes.now fault) }
     ensures only { IfErr result (λ fault. fault ≡ Fault.Write) }
 {
     verdict_of::<B>(bytes, cut).write_to(bytes.len(), sink)
@@ -157,14 +157,14 @@ pub fn check_from<B: Body, R: Source, S: Sink>(
     requires { cut ≢ 0 }
     // What is printed of the bytes that were read.
     ensures printed { IfOk result (λ accepted. (bytes : List ℕ)
-        × GaveEnough R.gives R.failures source.old source.new (HasRefusal B.rules) bytes
-        × HasChecked S.takes S.failures sink.old sink.new B.rules bytes accepted) }
+        × GaveEnough R.reader source.old source.new (HasRefusal B.rules) bytes
+        × HasChecked S.writer sink.old sink.new B.rules bytes accepted) }
     // Why not, and what stands then.
     ensures read { result ≡ Err Fault.Read → (sink.new ≡ sink.old)
-        × FailedBefore R.gives R.failures source.old source.new (HasRefusal B.rules) }
+        × FailedBefore R.reader source.old source.new (HasRefusal B.rules) }
     ensures write { result ≡ Err Fault.Write → (bytes : List ℕ)
-        × GaveEnough R.gives R.failures source.old source.new (HasRefusal B.rules) bytes
-        × IsCheckFault B.rules S.takes S.failures sink.old sink.new bytes Fault.Write }
+        × GaveEnough R.reader source.old source.new (HasRefusal B.rules) bytes
+        × IsCheckFault B.rules S.writer sink.old sink.new bytes Fault.Write }
     ensures only { IfErr result (λ fault. (fault ≡ Fault.Read) ⊎ (fault ≡ Fault.Write)) }
 {
     let mut room = [0u8; 65_535];
@@ -208,10 +208,10 @@ fn verdict_from<B: Body, R: Source>(
     requires some { 0 < length room.old }
     requires few { length room.old < 2 ^ 16 }
     ensures given { IfOk result (λ found. (bytes : List ℕ)
-        × GaveEnough R.gives R.failures source.old source.new (HasRefusal B.rules) bytes
+        × GaveEnough R.reader source.old source.new (HasRefusal B.rules) bytes
         × IsVerdict B.rules bytes found.0 × (found.1 ≡ length bytes)) }
     ensures failed { IfErr result (λ fault. (fault ≡ Fault.Read)
-        × FailedBefore R.gives R.failures source.old source.new (HasRefusal B.rules)) }
+        × FailedBefore R.reader source.old source.new (HasRefusal B.rules)) }
 {
     let mut checker = Checker::<B>::new();
     let mut size = 0;

@@ -22,9 +22,9 @@ pub fn make_to<B: Body, S: Sink>(
 ) -> Result<(), Fault>
     requires { CanAllBeEncoded B.rules items.now }
     ensures ok { OnOk result
-        (WentOut S.takes S.failures sink.old sink.new (made_text B.rules items.now)) }
+        (WentOut S.writer sink.old sink.new (made_text B.rules items.now)) }
     ensures fault { IfErr result
-        (IsTextFault S.takes S.failures sink.old sink.new
+        (IsTextFault S.writer sink.old sink.new
         (λ text. text ≡ made_text B.rules items.now)) }
 {
     let text = hex_lines::<B>(alloc, items)?;
@@ -45,9 +45,9 @@ pub fn make_stream_to<B: Body, S: Sink>(
 ) -> Result<(), Fault>
     requires { CanAllBeEncoded B.rules items.now }
     ensures ok { OnOk result
-        (WentOut S.takes S.failures sink.old sink.new (made_stream B.rules raw items.now)) }
+        (WentOut S.writer sink.old sink.new (made_stream B.rules raw items.now)) }
     ensures fault { IfErr result
-        (IsTextFault S.takes S.failures sink.old sink.new
+        (IsTextFault S.writer sink.old sink.new
         (λ text. text ≡ made_stream B.rules raw items.now)) }
 {
     if raw {
@@ -65,9 +65,9 @@ fn make_bytes_to<B: Body, S: Sink>(
 ) -> Result<(), Fault>
     requires { CanAllBeEncoded B.rules items.now }
     ensures ok { OnOk result
-        (WentOut S.takes S.failures sink.old sink.new (plain_spelling B.rules items.now)) }
+        (WentOut S.writer sink.old sink.new (plain_spelling B.rules items.now)) }
     ensures fault { IfErr result
-        (IsTextFault S.takes S.failures sink.old sink.new
+        (IsTextFault S.writer sink.old sink.new
         (λ text. text ≡ plain_spelling B.rules items.now)) }
 {
     let bytes = spelling::<B>(alloc, items)?;

@@ -50,9 +50,9 @@ pub fn answer<R: Net<Listener = TcpListener, Stream = TcpStream>, S: Sink>(
     sink: &mut S,
 ) -> Result<bool, RunFault>
     ensures done { IfOk result (λ accepted.
-        HasAnswered S.takes S.failures sink.old sink.new asked.entry text.now accepted) }
+        HasAnswered S.writer sink.old sink.new asked.entry text.now accepted) }
     ensures fault { IfErr result (λ fault.
-        IsAnswerFault S.takes S.failures sink.old sink.new asked.entry text.now fault) }
+        IsAnswerFault S.writer sink.old sink.new asked.entry text.now fault) }
 {
     match asked {
         Asked::Check {
@@ -96,9 +96,9 @@ pub fn answer_buffered<R: Net<Listener = TcpListener, Stream = TcpStream>, S: Si
 ) -> Result<bool, RunFault>
     requires empty { sink.old.held ≡ [] }
     ensures done { IfOk result (λ accepted. HasAnswered
-        S.takes S.failures sink.old.sink sink.new.sink asked.entry text.now accepted) }
+        S.writer sink.old.sink sink.new.sink asked.entry text.now accepted) }
     ensures fault { IfErr result (λ fault. IsAnswerFault
-        S.takes S.failures sink.old.sink sink.new.sink asked.entry text.now fault) }
+        S.writer sink.old.sink sink.new.sink asked.entry text.now fault) }
 {
     let outcome = answer(rt, alloc, asked, text, sink);
     match sink.flush() {
@@ -118,9 +118,9 @@ pub fn answer_openly<R: Net<Listener = TcpListener, Stream = TcpStream>, S: Sink
     sink: &mut BufferedSink<S>,
 ) -> Result<bool, RunFault>
     requires empty { sink.old.held ≡ [] }
-    ensures done { IfOk result (λ accepted. HasAnsweredOpenly S.takes S.failures
+    ensures done { IfOk result (λ accepted. HasAnsweredOpenly S.writer
         sink.old.sink sink.new.sink streams.output asked.entry text.now accepted) }
-    ensures fault { IfErr result (λ fault. IsOpenFault S.takes S.failures
+    ensures fault { IfErr result (λ fault. IsOpenFault S.writer
         sink.old.sink sink.new.sink streams.output asked.entry text.now fault) }
 {
     if streams.output {
@@ -163,9 +163,9 @@ fn check_input<S: Sink>(
 ) -> Result<bool, RunFault>
     requires { cut ≢ 0 }
     ensures done { IfOk result (λ accepted. (bytes : Seq ℕ) × AreBytesOf form bytes input.now
-        × HasCheckedBy S.takes S.failures sink.old sink.new from bytes accepted) }
-    ensures fault { IfErr result (λ fault. IsBytesFault S.takes S.failures sink.old sink.new form
-        (IsCheckFaultBy S.takes S.failures sink.old sink.new from) input.now fault) }
+        × HasCheckedBy S.writer sink.old sink.new from bytes accepted) }
+    ensures fault { IfErr result (λ fault. IsBytesFault S.writer sink.old sink.new form
+        (IsCheckFaultBy S.writer sink.old sink.new from) input.now fault) }
 {
     let bytes = bytes_of(alloc, form, input)?;
     Ok(check_sent(alloc, bytes.as_slice(), cut, from, sink)?)
@@ -181,9 +181,9 @@ fn check_sent<S: Sink>(
 ) -> Result<bool, Fault>
     requires { cut ≢ 0 }
     ensures done { IfOk result (λ accepted.
-        HasCheckedBy S.takes S.failures sink.old sink.new from bytes.now accepted) }
+        HasCheckedBy S.writer sink.old sink.new from bytes.now accepted) }
     ensures fault { IfErr result (λ fault.
-        IsCheckFaultBy S.takes S.failures sink.old sink.new from bytes.now fault) }
+        IsCheckFaultBy S.writer sink.old sink.new from bytes.now fault) }
 {
     match from {
         Sender::Host => check_to::<Commands, S>(alloc, bytes, cut, sink),
@@ -204,9 +204,9 @@ fn show_input<S: Sink>(
     sink: &mut S,
 ) -> Result<bool, RunFault>
     ensures done { IfOk result (λ accepted. (bytes : Seq ℕ) × AreBytesOf form bytes input.now
-        × HasShownBy S.takes S.failures sink.old sink.new paint so_far from bytes accepted) }
-    ensures fault { IfErr result (λ fault. IsBytesFault S.takes S.failures sink.old sink.new form
-        (IsShowFaultBy S.takes S.failures sink.old sink.new paint so_far from) input.now fault) }
+        × HasShownBy S.writer sink.old sink.new paint so_far from bytes accepted) }
+    ensures fault { IfErr result (λ fault. IsBytesFault S.writer sink.old sink.new form
+        (IsShowFaultBy S.writer sink.old sink.new paint so_far from) input.now fault) }
 {
     let bytes = bytes_of(alloc, form, input)?;
     Ok(show_sent(alloc, bytes.as_slice(), paint, so_far, from, sink)?)
@@ -222,9 +222,9 @@ fn show_sent<S: Sink>(
     sink: &mut S,
 ) -> Result<bool, Fault>
     ensures done { IfOk result (λ accepted.
-        HasShownBy S.takes S.failures sink.old sink.new paint so_far from bytes.now accepted) }
+        HasShownBy S.writer sink.old sink.new paint so_far from bytes.now accepted) }
     ensures fault { IfErr result (λ fault.
-        IsShowFaultBy S.takes S.failures sink.old sink.new paint so_far from bytes.now fault) }
+        IsShowFaultBy S.writer sink.old sink.new paint so_far from bytes.now fault) }
 {
     match from {
         Sender::Host => show_with::<Commands, S>(alloc, paint, so_far, bytes, sink),
@@ -245,9 +245,9 @@ fn play_script<S: Sink>(
     sink: &mut S,
 ) -> Result<bool, RunFault>
     ensures done { IfOk result
-        (HasPlayed S.takes S.failures sink.old sink.new paint screen script.now) }
+        (HasPlayed S.writer sink.old sink.new paint screen script.now) }
     ensures fault { IfErr result
-        (IsPlayFault S.takes S.failures sink.old sink.new paint screen script.now) }
+        (IsPlayFault S.writer sink.old sink.new paint screen script.now) }
 {
     let moves = read_script(alloc, script)?;
     let report = World::run(alloc, TerminalType::Ibm3179Model2, moves.as_slice())?;
@@ -264,9 +264,9 @@ fn play_script_by_tcp<R: Net<Listener = TcpListener, Stream = TcpStream>, S: Sin
     sink: &mut S,
 ) -> Result<bool, RunFault>
     ensures done { IfOk result
-        (HasPlayedByTcp S.takes S.failures sink.old sink.new paint screen script.now) }
+        (HasPlayedByTcp S.writer sink.old sink.new paint screen script.now) }
     ensures fault { IfErr result
-        (IsTcpPlayFault S.takes S.failures sink.old sink.new paint screen script.now) }
+        (IsTcpPlayFault S.writer sink.old sink.new paint screen script.now) }
 {
     let moves = read_script(alloc, script)?;
     let report = play_tcp(rt, alloc, TerminalType::Ibm3179Model2, moves.as_slice())?;
@@ -282,9 +282,9 @@ fn make_sent<S: Sink>(
     sink: &mut S,
 ) -> Result<bool, RunFault>
     ensures done { IfOk result (λ accepted.
-        HasMadeBy S.takes S.failures sink.old sink.new raw from text.now accepted) }
+        HasMadeBy S.writer sink.old sink.new raw from text.now accepted) }
     ensures fault { IfErr result (λ fault.
-        IsMakeFaultBy S.takes S.failures sink.old sink.new raw from text.now fault) }
+        IsMakeFaultBy S.writer sink.old sink.new raw from text.now fault) }
 {
     match from {
         Sender::Host => make_stream(alloc, text, raw, sink),
@@ -302,9 +302,9 @@ fn make_stream<S: Sink>(
     sink: &mut S,
 ) -> Result<bool, RunFault>
     ensures done { IfOk result (HasMade element_rules element_wording Shows
-        S.takes S.failures sink.old sink.new raw text.now) }
+        S.writer sink.old sink.new raw text.now) }
     ensures fault { IfErr result (IsMakeFault element_rules element_wording Shows
-        S.takes S.failures sink.old sink.new raw text.now) }
+        S.writer sink.old sink.new raw text.now) }
 {
     let items = read_items(alloc, text)?;
     make_stream_to::<Commands, S>(alloc, items.as_slice(), raw, sink)?;
@@ -319,9 +319,9 @@ fn make_extended_stream<S: Sink>(
     sink: &mut S,
 ) -> Result<bool, RunFault>
     ensures done { IfOk result (HasMade extended_rules extended_wording ShowsExtended
-        S.takes S.failures sink.old sink.new raw text.now) }
+        S.writer sink.old sink.new raw text.now) }
     ensures fault { IfErr result (IsMakeFault extended_rules extended_wording ShowsExtended
-        S.takes S.failures sink.old sink.new raw text.now) }
+        S.writer sink.old sink.new raw text.now) }
 {
     let items = read_extended_items(alloc, text)?;
     make_stream_to::<ExtendedCommands, S>(alloc, items.as_slice(), raw, sink)?;
@@ -336,9 +336,9 @@ fn make_answers_stream<S: Sink>(
     sink: &mut S,
 ) -> Result<bool, RunFault>
     ensures done { IfOk result (HasMade answer_rules answer_wording ShowsAnswers
-        S.takes S.failures sink.old sink.new raw text.now) }
+        S.writer sink.old sink.new raw text.now) }
     ensures fault { IfErr result (IsMakeFault answer_rules answer_wording ShowsAnswers
-        S.takes S.failures sink.old sink.new raw text.now) }
+        S.writer sink.old sink.new raw text.now) }
 {
     let items = read_answer_items(alloc, text)?;
     make_stream_to::<Answers, S>(alloc, items.as_slice(), raw, sink)?;
@@ -353,9 +353,9 @@ fn make_extended_answers_stream<S: Sink>(
     sink: &mut S,
 ) -> Result<bool, RunFault>
     ensures done { IfOk result (HasMade extended_answer_rules told_wording ShowsTold
-        S.takes S.failures sink.old sink.new raw text.now) }
+        S.writer sink.old sink.new raw text.now) }
     ensures fault { IfErr result (IsMakeFault extended_answer_rules told_wording ShowsTold
-        S.takes S.failures sink.old sink.new raw text.now) }
+        S.writer sink.old sink.new raw text.now) }
 {
     let items = read_extended_answer_items(alloc, text)?;
     make_stream_to::<ExtendedAnswers, S>(alloc, items.as_slice(), raw, sink)?;

@@ -34,9 +34,9 @@ use ws_text::Output;
 pub fn show_to<S: Sink>(alloc: Global, bytes: &[u8], sink: &mut S) -> Result<bool, Fault>
     ensures printed { IfOk result (λ accepted. (text : List ℕ)
         × IsShown element_rules host_view bytes.now accepted text
-        × WentOut S.takes S.failures sink.old sink.new text) }
+        × WentOut S.writer sink.old sink.new text) }
     ensures fault { IfErr result (λ fault. IsShowFault
-        S.takes S.failures sink.old sink.new element_rules host_view bytes.now fault) }
+        S.writer sink.old sink.new element_rules host_view bytes.now fault) }
     ensures parts_begin { (accepted : Bool) (whole part : List ℕ)
         → IsShown element_rules host_view bytes.now accepted whole
         → AreFirstLines element_rules host_view bytes.now part
@@ -57,8 +57,8 @@ pub fn show_painted_to<S: Sink>(
 ) -> Result<bool, Fault>
     ensures printed { IfOk result (λ accepted. (text : List ℕ)
         × IsShown element_rules (painted_host_view paint) bytes.now accepted text
-        × WentOut S.takes S.failures sink.old sink.new text) }
-    ensures fault { IfErr result (λ fault. IsShowFault S.takes S.failures sink.old sink.new
+        × WentOut S.writer sink.old sink.new text) }
+    ensures fault { IfErr result (λ fault. IsShowFault S.writer sink.old sink.new
         element_rules (painted_host_view paint) bytes.now fault) }
     ensures parts_begin { (accepted : Bool) (whole part : List ℕ)
         → IsShown element_rules (painted_host_view paint) bytes.now accepted whole
@@ -80,8 +80,8 @@ pub fn show_extended_to<S: Sink>(
 ) -> Result<bool, Fault>
     ensures printed { IfOk result (λ accepted. (text : List ℕ)
         × IsShown extended_rules (extended_view paint) bytes.now accepted text
-        × WentOut S.takes S.failures sink.old sink.new text) }
-    ensures fault { IfErr result (λ fault. IsShowFault S.takes S.failures sink.old sink.new
+        × WentOut S.writer sink.old sink.new text) }
+    ensures fault { IfErr result (λ fault. IsShowFault S.writer sink.old sink.new
         extended_rules (extended_view paint) bytes.now fault) }
     ensures parts_begin { (accepted : Bool) (whole part : List ℕ)
         → IsShown extended_rules (extended_view paint) bytes.now accepted whole
@@ -97,9 +97,9 @@ pub fn show_extended_to<S: Sink>(
 pub fn show_answers_to<S: Sink>(alloc: Global, bytes: &[u8], sink: &mut S) -> Result<bool, Fault>
     ensures printed { IfOk result (λ accepted. (text : List ℕ)
         × IsShown answer_rules answer_view bytes.now accepted text
-        × WentOut S.takes S.failures sink.old sink.new text) }
+        × WentOut S.writer sink.old sink.new text) }
     ensures fault { IfErr result (λ fault. IsShowFault
-        S.takes S.failures sink.old sink.new answer_rules answer_view bytes.now fault) }
+        S.writer sink.old sink.new answer_rules answer_view bytes.now fault) }
     ensures parts_begin { (accepted : Bool) (whole part : List ℕ)
         → IsShown answer_rules answer_view bytes.now accepted whole
         → AreFirstLines answer_rules answer_view bytes.now part
@@ -119,8 +119,8 @@ pub fn show_extended_answers_to<S: Sink>(
 ) -> Result<bool, Fault>
     ensures printed { IfOk result (λ accepted. (text : List ℕ)
         × IsShown extended_answer_rules told_view bytes.now accepted text
-        × WentOut S.takes S.failures sink.old sink.new text) }
-    ensures fault { IfErr result (λ fault. IsShowFault S.takes S.failures sink.old sink.new
+        × WentOut S.writer sink.old sink.new text) }
+    ensures fault { IfErr result (λ fault. IsShowFault S.writer sink.old sink.new
         extended_answer_rules told_view bytes.now fault) }
     ensures parts_begin { (accepted : Bool) (whole part : List ℕ)
         → IsShown extended_answer_rules told_view bytes.now accepted whole
@@ -145,8 +145,8 @@ pub fn show_body_to<B: Shown, S: Sink>(
 ) -> Result<bool, Fault>
     ensures printed { IfOk result (λ accepted. (text : List ℕ)
         × IsShown B.rules (in_paint B.view B.Ends paint) bytes.now accepted text
-        × WentOut S.takes S.failures sink.old sink.new text) }
-    ensures fault { IfErr result (λ fault. IsShowFault S.takes S.failures sink.old sink.new
+        × WentOut S.writer sink.old sink.new text) }
+    ensures fault { IfErr result (λ fault. IsShowFault S.writer sink.old sink.new
         B.rules (in_paint B.view B.Ends paint) bytes.now fault) }
     ensures parts_begin { (accepted : Bool) (whole part : List ℕ)
         → IsShown B.rules (in_paint B.view B.Ends paint) bytes.now accepted whole
@@ -177,8 +177,8 @@ pub fn show_so_far_to<B: Shown, S: Sink>(
 ) -> Result<bool, Fault>
     ensures printed { IfOk result (λ accepted. (text : List ℕ)
         × IsShownSoFar B.rules (in_paint B.view B.Ends paint) bytes.now accepted text
-        × WentOut S.takes S.failures sink.old sink.new text) }
-    ensures fault { IfErr result (λ fault. IsSoFarFault S.takes S.failures sink.old sink.new
+        × WentOut S.writer sink.old sink.new text) }
+    ensures fault { IfErr result (λ fault. IsSoFarFault S.writer sink.old sink.new
         B.rules (in_paint B.view B.Ends paint) bytes.now fault) }
     ensures parts_begin { (accepted : Bool) (whole part : List ℕ)
         → IsShownSoFar B.rules (in_paint B.view B.Ends paint) bytes.now accepted whole
@@ -207,8 +207,8 @@ pub fn show_with<B: Shown, S: Sink>(
 ) -> Result<bool, Fault>
     ensures printed { IfOk result (λ accepted. (text : List ℕ)
         × IsShownWith so_far B.rules (in_paint B.view B.Ends paint) bytes.now accepted text
-        × WentOut S.takes S.failures sink.old sink.new text) }
-    ensures fault { IfErr result (λ fault. IsShowFaultWith S.takes S.failures sink.old sink.new
+        × WentOut S.writer sink.old sink.new text) }
+    ensures fault { IfErr result (λ fault. IsShowFaultWith S.writer sink.old sink.new
         B.rules (in_paint B.view B.Ends paint) so_far bytes.now fault) }
 {
     if so_far {
@@ -238,14 +238,14 @@ fn show_items<B: Shown, S: Sink>(
 ) -> Result<Option<Verdict>, Fault>
     requires given { B.makes [] made.old }
     ensures ok { IfOk result (λ unapplied. (paint : APaint)
-        → IsThrough S.takes S.failures sink.old sink.new B.rules (in_paint B.view B.Ends paint)
+        → IsThrough S.writer sink.old sink.new B.rules (in_paint B.view B.Ends paint)
         bytes.now (λ text. (items : List (AnItem B.Unit)) → B.makes items made.new
         → B.Ends paint items text) unapplied) }
     ensures err { IfErr result (λ fault. (paint : APaint)
-        → IsStop S.takes S.failures sink.old sink.new B.rules (in_paint B.view B.Ends paint)
+        → IsStop S.writer sink.old sink.new B.rules (in_paint B.view B.Ends paint)
         bytes.now (verdict_by fault)) }
     ensures halted { IfErr result (λ fault. (paint : APaint)
-        → IsHalted S.takes S.failures sink.old sink.new B.rules (in_paint B.view B.Ends paint)
+        → IsHalted S.writer sink.old sink.new B.rules (in_paint B.view B.Ends paint)
         bytes.now (λ items. B.makes items made.new) fault) }
 {
     let mut receiver = Receiver::<B>::new(alloc);
@@ -281,10 +281,10 @@ fn write_item<B: Shown, S: Sink>(
     item: &Item<B::Unit>,
     sink: &mut S,
 ) -> Result<(), Fault>
-    ensures ok { OnOk result (WentOut S.takes S.failures sink.old sink.new
+    ensures ok { OnOk result (WentOut S.writer sink.old sink.new
         (B.view.lines place item.now)) }
     ensures err { IfErr result (λ fault. (fault ≡ Fault.Write)
-        × FailedWithin S.takes S.failures sink.old sink.new (B.view.lines place item.now)) }
+        × FailedWithin S.writer sink.old sink.new (B.view.lines place item.now)) }
 {
     match B::put_lines(sink, Output::Open, place, item) {
         Output::Open => Ok(()),
@@ -296,10 +296,10 @@ fn write_item<B: Shown, S: Sink>(
 fn write_end<B: Shown, S: Sink>(paint: Paint, made: &B::Made, sink: &mut S) -> Result<bool, Fault>
     ensures ok { IfOk result (λ accepted. (accepted ≡ true) × ((text : List ℕ)
         × ((items : List (AnItem B.Unit)) → B.makes items made.now → B.Ends paint items text)
-        × WentOut S.takes S.failures sink.old sink.new text)) }
+        × WentOut S.writer sink.old sink.new text)) }
     ensures err { IfErr result (λ fault. (fault ≡ Fault.Write) × ((text : List ℕ)
         × ((items : List (AnItem B.Unit)) → B.makes items made.now → B.Ends paint items text)
-        × FailedWithin S.takes S.failures sink.old sink.new text)) }
+        × FailedWithin S.writer sink.old sink.new text)) }
 {
     match B::put_end(sink, Output::Open, paint, made) {
         Output::Open => Ok(true),

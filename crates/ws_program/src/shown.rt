@@ -49,14 +49,14 @@ pub trait Shown: Body {
         place: u64,
         item: &Item<Self::Unit>,
     ) -> Output
-        ensures { Prints S.takes S.failures sink.old sink.new output result
+        ensures { Prints S.writer sink.old sink.new output result
             (view.lines place item.now) };
 
     /// Writes what stands behind all items of a stream that is accepted.
     fn put_end<S: Sink>(sink: &mut S, output: Output, paint: Paint, made: &Self::Made) -> Output
         ensures { (text : List ℕ)
             × ((items : List (AnItem Self.Unit)) → makes items made.now → Ends paint items text)
-            × Prints S.takes S.failures sink.old sink.new output result text };
+            × Prints S.writer sink.old sink.new output result text };
 }
 
 // A host's records make a screen, which stands behind them.

@@ -32,8 +32,8 @@ pub fn write_so_far<B: Shown, S: Sink>(
         × ((items : List (AnItem B.Unit)) → HoldsItems B.rules bytes.now items
         → B.makes items made.now
         → IsSoFarText B.rules (in_paint B.view B.Ends paint) bytes.now items text)
-        × WentOut S.takes S.failures sink.old sink.new text) }
-    ensures err { IfErr result (IsTextFault S.takes S.failures sink.old sink.new (λ text.
+        × WentOut S.writer sink.old sink.new text) }
+    ensures err { IfErr result (IsTextFault S.writer sink.old sink.new (λ text.
         (items : List (AnItem B.Unit)) → HoldsItems B.rules bytes.now items → B.makes items made.now
         → IsSoFarText B.rules (in_paint B.view B.Ends paint) bytes.now items text)) }
 {

@@ -29,16 +29,16 @@ pub fn check_source_openly<R: Source, S: Sink>(
     requires empty { sink.old.held ≡ [] }
     // What is printed of the bytes that were read.
     ensures done { IfOk result (λ accepted. (streams.output ≡ true) × ((bytes : List ℕ)
-        × GaveEnough R.gives R.failures source.old source.new (HasRefusalBy from) bytes
-        × HasCheckedBy S.takes S.failures sink.old.sink sink.new.sink from bytes accepted)) }
+        × GaveEnough R.reader source.old source.new (HasRefusalBy from) bytes
+        × HasCheckedBy S.writer sink.old.sink sink.new.sink from bytes accepted)) }
     // Why not, and what stands then.
     ensures read { result ≡ Err RunFault.Read → (sink.new.sink ≡ sink.old.sink)
-        × FailedBefore R.gives R.failures source.old source.new (HasRefusalBy from) }
+        × FailedBefore R.reader source.old source.new (HasRefusalBy from) }
     ensures write { result ≡ Err RunFault.Write → (bytes : List ℕ)
-        × GaveEnough R.gives R.failures source.old source.new (HasRefusalBy from) bytes
-        × (IsCheckFaultBy S.takes S.failures sink.old.sink sink.new.sink from bytes device.Write
+        × GaveEnough R.reader source.old source.new (HasRefusalBy from) bytes
+        × (IsCheckFaultBy S.writer sink.old.sink sink.new.sink from bytes device.Write
         ⊎ ((streams.output ≡ false) × ((accepted : Bool)
-        × HasCheckedBy S.takes S.failures sink.old.sink sink.new.sink from bytes accepted))) }
+        × HasCheckedBy S.writer sink.old.sink sink.new.sink from bytes accepted))) }
     ensures only { IfErr result (λ fault. (fault ≡ RunFault.Read) ⊎ (fault ≡ RunFault.Write)) }
 {
     let outcome = check_sender::<R, BufferedSink<S>>(cut.get(), from, source, sink);
@@ -70,14 +70,14 @@ fn check_sender<R: Source, S: Sink>(
     requires { cut ≢ 0 }
     // What is printed of the bytes that were read.
     ensures printed { IfOk result (λ accepted. (bytes : List ℕ)
-        × GaveEnough R.gives R.failures source.old source.new (HasRefusalBy from) bytes
-        × HasCheckedBy S.takes S.failures sink.old sink.new from bytes accepted) }
+        × GaveEnough R.reader source.old source.new (HasRefusalBy from) bytes
+        × HasCheckedBy S.writer sink.old sink.new from bytes accepted) }
     // Why not, and what stands then.
     ensures read { result ≡ Err Fault.Read → (sink.new ≡ sink.old)
-        × FailedBefore R.gives R.failures source.old source.new (HasRefusalBy from) }
+        × FailedBefore R.reader source.old source.new (HasRefusalBy from) }
     ensures write { result ≡ Err Fault.Write → (bytes : List ℕ)
-        × GaveEnough R.gives R.failures source.old source.new (HasRefusalBy from) bytes
-        × IsCheckFaultBy S.takes S.failures sink.old sink.new from bytes Fault.Write }
+        × GaveEnough R.reader source.old source.new (HasRefusalBy from) bytes
+        × IsCheckFaultBy S.writer sink.old sink.new from bytes Fault.Write }
     ensures only { IfErr result (λ fault. (fault ≡ Fault.Read) ⊎ (fault ≡ Fault.Write)) }
 {
     match from {

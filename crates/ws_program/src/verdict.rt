@@ -33,9 +33,9 @@ impl Verdict {
     /// It allocates no memory. `Write` is the only fault: the sink failed.
     pub fn write_to<S: Sink>(self, size: usize, sink: &mut S) -> Result<bool, Fault>
         ensures printed { IfOk result (λ accepted. (accepted ≡ is_accepted self)
-            × WentOut S.takes S.failures sink.old sink.new (line_of self size)) }
+            × WentOut S.writer sink.old sink.new (line_of self size)) }
         ensures fault { IfErr result (λ fault. (fault ≡ Fault.Write)
-            × FailedWithin S.takes S.failures sink.old sink.new (line_of self size)) }
+            × FailedWithin S.writer sink.old sink.new (line_of self size)) }
     {
         match self.put_line(size, sink) {
             Output::Open => Ok(self.is_accepted()),
@@ -44,7 +44,7 @@ impl Verdict {
     }
 
     fn put_line<S: Sink>(self, size: usize, sink: &mut S) -> Output
-        ensures { Prints S.takes S.failures sink.old sink.new Output.Open result
+        ensures { Prints S.writer sink.old sink.new Output.Open result
             (line_of self size) }
     {
         match self {

@@ -33,7 +33,7 @@ pub use Rattle.ws_code.proofs.Pieces.{bytes_on, each_on, left_of, room_on, upto,
 pub use Rattle.ws_code.proofs.RunLaws.{run_unit, is_between, from_first}
 pub use Rattle.ws_code.specs.Code.{Rules, IsSpelled, IsPrefix, IsPrefixFree, IsChain, IsUnfinished, place_after}
 pub use Rattle.ws_code.specs.Code.{spelling_of, AreBytes, IsCut}
-pub use Rattle.ws_code.specs.Device.{most_reads, list_gives, GaveAll, MayGive, Gave, WentOut, Held}
+pub use Rattle.ws_code.specs.Device.{most_reads, list_reader, GaveAll, Reader, Gave, WentOut, Held}
 pub use Rattle.ws_code.specs.Keep.{holds_last}
 pub use Rattle.ws_code.specs.Run.{Reading, HasRun, StopsAtLast, IsRun}
 pub use Rattle.ws_code.specs.declared.fault.Fault.{Fault}

@@ -2,8 +2,8 @@ use Rattle.ws_record.proofs.Common as C
 use C.{◌≡◌, ℕ, ◌*◌, ◌≤◌, List, [], ◌∷◌, ◌++◌, length, drop, take, sym, ap, ◌∙◌, append_assoc, inl, inr}
 use C.{take-append-drop, append-nil, Rules, Reason, Fault, Refused, Truncated, Memory, Item, IsInGrammar, Layer, IsOpen}
 use C.{IsFirstClosed, IsRefused, IsTruncated, Tokens, Receiving, HasReceived, HasItem, MayGrow, IsListFault}
-use C.{IsDecodeFault, MayGive, Gave, GaveAll, IsSourceFault, ◌<◌, ◌⊎◌, Result, Ok, Err, IfOk, IfErr, MatchResult}
-use C.{IsPrefixFree, most_reads, list_gives, Read, Begins, list_gave, list_gave_all, list_no_fault, common_steps, arith}
+use C.{IsDecodeFault, Reader, Gave, GaveAll, IsSourceFault, ◌<◌, ◌⊎◌, Result, Ok, Err, IfOk, IfErr, MatchResult}
+use C.{IsPrefixFree, most_reads, list_reader, Read, Begins, list_gave, list_gave_all, list_no_fault, common_steps, arith}
 use C.{length-append, one_begins, one_cut, token_rules, token_prefix_free, Token, Data, joined}
 use C.{IsBodyReason, IsReason, Header, Body, IsRight}
 use Rattle.ws_record.proofs.Refusals.{held}
@@ -74,18 +74,18 @@ module _ {Place U : Type 0} (rules : Rules Place U) where
   }
 
 -- What the loop over a source keeps: the bytes that it gave lead to the receiver, and are at most 4,096 a read.
-pub record Reading {Place U S : Type 0} (rules : Rules Place U) (gives : MayGive S) (failures : S → ℕ) (from to : S)
+pub record Reading {Place U S : Type 0} (rules : Rules Place U) (reader : Reader S) (from to : S)
     (reads : ℕ) (receiver : Receiving Place U) (items : List (Item U)) : Type 0 where
   pub bytes : List ℕ
-  pub gave : Gave gives failures from to reads bytes
+  pub gave : Gave reader from to reads bytes
   pub taken : HasReceived rules receiver bytes items
   pub few : length bytes ≤ 4096 * reads
 
-module _ {Place U S : Type 0} (rules : Rules Place U) (gives : MayGive S) (failures : S → ℕ) (from to : S) where
+module _ {Place U S : Type 0} (rules : Rules Place U) (reader : Reader S) (from to : S) where
   -- a fault of a piece that a source gave
   pub feed_source : (reads : ℕ) (bytes piece : List ℕ) (fault : Fault)
-      → Gave gives failures from to reads (bytes ++ piece) → IsListFault rules bytes piece fault
-      → IsSourceFault rules gives failures from to fault
+      → Gave reader from to reads (bytes ++ piece) → IsListFault rules bytes piece fault
+      → IsSourceFault rules reader from to fault
   feed_source reads bytes piece (Refused place reason) gave (inl f) = (bytes ++ piece, reads, gave, f.1.1)
   feed_source reads bytes piece Memory gave (inl (items, f)) = (
     bytes ++ piece,
@@ -200,33 +200,33 @@ module _ {Place U : Type 0} (rules : Rules Place U) where
 
 -- Decoding bytes at once, and through a source over them.
 
-module _ {Place U : Type 0} (rules : Rules Place U) (failures : List ℕ → ℕ) where
+module _ {Place U : Type 0} (rules : Rules Place U) where
   -- the fault of a source over bytes is one of these bytes
   pub source_fault : (bytes to : List ℕ) → length bytes < most_reads → (fault : Fault)
-      → IsSourceFault rules list_gives failures bytes to fault → IsDecodeFault rules bytes fault
+      → IsSourceFault rules list_reader bytes to fault → IsDecodeFault rules bytes fault
   source_fault bytes to few (Refused place reason) f =
-      let whole : bytes ≡ f.0 ++ to = (list_gave failures bytes to f.1 f.0 f.2).0 in
+      let whole : bytes ≡ f.0 ++ to = (list_gave bytes to f.1 f.0 f.2).0 in
       rw whole (refused_append _ _ to _ _ f.3)
   source_fault bytes to few (Truncated n) f =
-      let whole : f.0 ≡ bytes = (list_gave_all failures bytes to f.0 f.1).0 in
+      let whole : f.0 ≡ bytes = (list_gave_all bytes to f.0 f.1).0 in
       (f.2 ∙ ap length whole, rw whole at f.3)
   source_fault bytes to few Memory f =
-      let whole : bytes ≡ f.0 ++ to = (list_gave failures bytes to f.1 f.0 f.2).0 in
+      let whole : bytes ≡ f.0 ++ to = (list_gave bytes to f.1 f.0 f.2).0 in
       rw whole (grows_more rules f.0 to f.3)
-  source_fault bytes to few Read f = absurd (list_no_fault failures bytes to f.0 few f.1)
+  source_fault bytes to few Read f = absurd (list_no_fault bytes to f.0 few f.1)
   source_fault bytes to few fault f = absurd f
 
   -- the answer of a source over bytes is one to these bytes
   pub source_accepts : {A : Type 0} (from_source : Result A Fault) (items : A → List (Item U))
       (bytes from to : List ℕ) → from ≡ bytes
       → IfOk from_source
-      (λ a. (given : List ℕ) × GaveAll list_gives failures from to given × IsInGrammar rules given (items a))
+      (λ a. (given : List ℕ) × GaveAll list_reader from to given × IsInGrammar rules given (items a))
       → IfOk from_source (λ a. IsInGrammar rules bytes (items a))
-  source_accepts (Ok a) items bytes from to same q = rw ((list_gave_all failures from to q.0 q.1).0 ∙ same) at q.2
+  source_accepts (Ok a) items bytes from to same q = rw ((list_gave_all from to q.0 q.1).0 ∙ same) at q.2
   source_accepts (Err f) items bytes from to same q = tt
 
   pub source_faults : {A : Type 0} (from_source : Result A Fault) (bytes from to : List ℕ) → from ≡ bytes
-      → length bytes < most_reads → IfErr from_source (λ f. IsSourceFault rules list_gives failures from to f)
+      → length bytes < most_reads → IfErr from_source (λ f. IsSourceFault rules list_reader from to f)
       → IfErr from_source (λ f. IsDecodeFault rules bytes f)
   source_faults (Ok a) bytes from to same few q = tt
   source_faults (Err f) bytes from to same few q = source_fault _ to few f (rw same at q)

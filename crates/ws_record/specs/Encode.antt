@@ -3,7 +3,7 @@
 use Rattle.std.specs.Prelude.{◌≡◌, ◌≢◌, ℕ, ◌^◌, ◌<◌, ◌≤◌, List, [], ◌∷◌, ◌++◌, length}
 use Rattle.std.specs.List.{flat_map, AllByRecursion}
 use Rattle.ws_code.specs.Code.{Rules, IsWhole}
-use Rattle.ws_code.specs.Device.{MayTake, FailedWithin}
+use Rattle.ws_code.specs.Device.{Writer, FailedWithin}
 use Rattle.ws_telnet.specs.Token.{doubled, telnet_spelling, IsTelnet}
 use Rattle.ws_record.specs.declared.record.Item.{Item}
 use Rattle.ws_record.specs.declared.record.Item.TheVariants.{Record as RecordItem, Telnet as TelnetItem}
@@ -70,12 +70,12 @@ module _ {Place U : Type 0} where
 
   -- What an encoder into a sink may answer: the list's own fault, with the sink left alone; or, where the list has
   -- none, that a write failed after a proper front of the spelling.
-  abbrev pub IsWriteFault : {S : Type 0} → Rules Place U → List (Item U) → MayTake S → (S → ℕ) → S → S → EncodeFault
+  abbrev pub IsWriteFault : {S : Type 0} → Rules Place U → List (Item U) → Writer S → S → S → EncodeFault
       → Type 0
-  IsWriteFault rules items takes failures from to Write = CanAllBeEncoded rules items
-      × FailedWithin takes failures from to (plain_spelling rules items)
-  IsWriteFault rules items takes failures from to Memory = ⊥
-  IsWriteFault rules items takes failures from to fault = IsListFault rules items fault × (to ≡ from)
+  IsWriteFault rules items writer from to Write = CanAllBeEncoded rules items
+      × FailedWithin writer from to (plain_spelling rules items)
+  IsWriteFault rules items writer from to Memory = ⊥
+  IsWriteFault rules items writer from to fault = IsListFault rules items fault × (to ≡ from)
 
 -- the numbers and lists in the item are those that its type allows; those in a record's units are told by its body
 abbrev pub IsInRange : {U : Type 0} → Item U → Type 0

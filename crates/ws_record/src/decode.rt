@@ -37,10 +37,10 @@ pub fn decode_from<B: Body, S: Source>(
     source: &mut S,
 ) -> Result<Vec<Item<B::Unit>>, Fault>
     ensures accepted { IfOk result (λ items. (bytes : List ℕ)
-        × GaveAll S.gives S.failures source.old source.new bytes
+        × GaveAll S.reader source.old source.new bytes
         × IsInGrammar B.rules bytes items.items) }
     ensures fault { IfErr result
-        (λ fault. IsSourceFault B.rules S.gives S.failures source.old source.new fault) }
+        (λ fault. IsSourceFault B.rules S.reader source.old source.new fault) }
 {
     let mut receiver = Receiver::<B>::new(alloc);
     let mut items = Vec::new(alloc);

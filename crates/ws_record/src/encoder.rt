@@ -75,10 +75,10 @@ pub fn encode<B: Body>(alloc: Global, items: &[Item<B::Unit>]) -> Result<Vec<u8>
 /// comes.
 pub fn encode_to<B: Body, S: Sink>(items: &[Item<B::Unit>], sink: &mut S) -> Result<(), EncodeFault>
     ensures encoded { OnOk result (CanAllBeEncoded B.rules items.now) }
-    ensures written { OnOk result (WentOut S.takes S.failures sink.old sink.new
+    ensures written { OnOk result (WentOut S.writer sink.old sink.new
         (plain_spelling B.rules items.now)) }
     ensures fault { IfErr result
-        (IsWriteFault B.rules items.now S.takes S.failures sink.old sink.new) }
+        (IsWriteFault B.rules items.now S.writer sink.old sink.new) }
 {
     check_items::<B>(items)?;
     match write_items::<B, S>(sink, items) {

@@ -15,10 +15,10 @@ use ws_telnet::{EOR, IAC, write_telnet};
 /// Writes the plain spelling of items that can be encoded. `Write` is the only fault.
 pub fn write_items<B: Body, S: Sink>(sink: &mut S, items: &[Item<B::Unit>]) -> Result<(), Fault>
     requires { CanAllBeEncoded B.rules items.now }
-    ensures ok { OnOk result (WentOut S.takes S.failures sink.old sink.new
+    ensures ok { OnOk result (WentOut S.writer sink.old sink.new
         (plain_spelling B.rules items.now)) }
     ensures err { IfErr result (λ fault. (fault ≡ Fault.Write)
-        × FailedWithin S.takes S.failures sink.old sink.new (plain_spelling B.rules items.now)) }
+        × FailedWithin S.writer sink.old sink.new (plain_spelling B.rules items.now)) }
 {
     for item in items {
         match item {
@@ -33,10 +33,10 @@ pub fn write_items<B: Body, S: Sink>(sink: &mut S, items: &[Item<B::Unit>]) -> R
 // written: a length that is kept in between would ask for memory.
 fn write_encoded<B: Body, S: Sink>(sink: &mut S, encoded: &Record<B::Unit>) -> Result<(), Fault>
     requires { length (record_bytes B.rules encoded.now) < 2 ^ 16 }
-    ensures ok { OnOk result (WentOut S.takes S.failures sink.old sink.new
+    ensures ok { OnOk result (WentOut S.writer sink.old sink.new
         (record_spelling (record_bytes B.rules encoded.now))) }
     ensures err { IfErr result (λ fault. (fault ≡ Fault.Write)
-        × FailedWithin S.takes S.failures sink.old sink.new
+        × FailedWithin S.writer sink.old sink.new
         (record_spelling (record_bytes B.rules encoded.now))) }
 {
     let units = encoded.body.as_slice();
@@ -66,10 +66,10 @@ pub fn body_length<B: Body>(units: &[B::Unit]) -> Option<u16>
 
 // Writes the spelling of the units, each FF twice.
 fn write_units<B: Body, S: Sink>(sink: &mut S, units: &[B::Unit]) -> Result<(), Fault>
-    ensures ok { OnOk result (WentOut S.takes S.failures sink.old sink.new
+    ensures ok { OnOk result (WentOut S.writer sink.old sink.new
         (flat_map doubled (spelling_of B.rules units.now))) }
     ensures err { IfErr result (λ fault. (fault ≡ Fault.Write)
-        × FailedWithin S.takes S.failures sink.old sink.new
+        × FailedWithin S.writer sink.old sink.new
         (flat_map doubled (spelling_of B.rules units.now))) }
 {
     let mut spelling = ArrayVec::new();

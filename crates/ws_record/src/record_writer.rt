@@ -20,10 +20,10 @@ pub fn write_record<S: Sink>(
     body: &[u8],
 ) -> Result<(), Fault>
     requires { length body.now ≤ 65525 }
-    ensures ok { OnOk result (WentOut S.takes S.failures sink.old sink.new
+    ensures ok { OnOk result (WentOut S.writer sink.old sink.new
         (record_spelling (header (10 + length body.now) flags opcode ++ body.now))) }
     ensures err { IfErr result (λ fault. (fault ≡ Fault.Write)
-        × FailedWithin S.takes S.failures sink.old sink.new
+        × FailedWithin S.writer sink.old sink.new
         (record_spelling (header (10 + length body.now) flags opcode ++ body.now))) }
 {
     let length = 10 + body.len() as u16;
@@ -54,10 +54,10 @@ pub fn header_bytes(length: u16, flags: u16, opcode: Opcode) -> [u8; 10]
 
 /// Writes the bytes, each FF twice.
 pub fn write_doubled<S: Sink>(sink: &mut S, bytes: &[u8]) -> Result<(), Fault>
-    ensures ok { OnOk result (WentOut S.takes S.failures sink.old sink.new
+    ensures ok { OnOk result (WentOut S.writer sink.old sink.new
         (flat_map doubled bytes.now)) }
     ensures err { IfErr result (λ fault. (fault ≡ Fault.Write)
-        × FailedWithin S.takes S.failures sink.old sink.new (flat_map doubled bytes.now)) }
+        × FailedWithin S.writer sink.old sink.new (flat_map doubled bytes.now)) }
 {
     // A run ends with an FF, with which the next one begins.
     let mut start = 0;

@@ -18,7 +18,7 @@ pub use Rattle.std.proofs.lemmas.Result.{err_from_is_err_and, on_ok_weaker, IfEr
 pub use Rattle.ws_code.specs.Code.{Rules, IsChain, spelling_of, AreBytes}
 pub use Rattle.ws_code.specs.declared.reason.Reason.{Reason}
 pub use Rattle.ws_code.specs.declared.fault.Fault.{Fault}
-pub use Rattle.ws_code.specs.Device.{MayTake, MayGive, WentOut, FailedWithin, Gave, most_reads, one_more, Held}
+pub use Rattle.ws_code.specs.Device.{Writer, Reader, WentOut, FailedWithin, Gave, most_reads, one_more, Held}
 pub use Rattle.ws_code.proofs.DeviceLaws.{went_out_none, went_out_both, failed_within_both, gave_more, gave_all}
 pub use Rattle.ws_code.proofs.DeviceLaws.{take_some, length_rest, held_went_out}
 pub use Rattle.ws_code.proofs.Pieces.{left_of, left_joined, bytes_on}

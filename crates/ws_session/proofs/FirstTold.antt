@@ -1,5 +1,5 @@
 use Rattle.ws_session.proofs.Common as C
-use C.{AttachedParts, append_assoc, came_append, append-nil, all_came, as_list, MayGive, Gave, Fault, Refusal, At, Act}
+use C.{AttachedParts, append_assoc, came_append, append-nil, all_came, as_list, Reader, Gave, Fault, Refusal, At, Act}
 use C.{subst, Some, None, Option, refl, List, ℕ, [], ◌++◌, sym, ◌∙◌, ◌≡◌, ◌≤◌, ◌<◌, ap, arith, length, take, fault_of}
 use C.{Result, Ok, Err, length-take-le, take-take}
 use Rattle.ws_session.specs.Attachments.{IfTold, TellsAtLast, TakesFirst, HearsFirst}
@@ -90,9 +90,9 @@ module _ {E Deed Event : Type 0} (goes : E → List (Act Deed) → List ℕ → 
       }
 
       -- before the first read
-      pub hears_at_once : (gives : MayGive S) (misses : S → ℕ) (a c : AttachedParts E S K) (told : List Event)
-          → TakesFirst goes silent a c told → HearsFirst goes silent gives misses a c told
-      hears_at_once gives misses a c told p = record {
+      pub hears_at_once : (reader : Reader S) (a c : AttachedParts E S K) (told : List Event)
+          → TakesFirst goes silent a c told → HearsFirst goes silent reader a c told
+      hears_at_once reader a c told p = record {
         bytes = p.bytes;
         given = [];
         reads = 0;
@@ -109,12 +109,12 @@ module _ {E Deed Event : Type 0} (goes : E → List (Act Deed) → List ℕ → 
       }
 
       -- behind a read
-      pub hears_behind : (gives : MayGive S) (misses : S → ℕ) (a now inside c : AttachedParts E S K) → inside ≡ now
+      pub hears_behind : (reader : Reader S) (a now inside c : AttachedParts E S K) → inside ≡ now
           → (xs given w piece : List ℕ) (source : S) (reads : ℕ) → goes a.end (all_came xs) w [] now.end
-          → a.waiting ++ given ≡ xs → Gave gives misses a.source source reads (given ++ piece) → (told : List Event)
+          → a.waiting ++ given ≡ xs → Gave reader a.source source reads (given ++ piece) → (told : List Event)
           → TakesFirst goes silent (record inside { waiting = piece; source = source }) c told
-          → HearsFirst goes silent gives misses a c told
-      hears_behind gives misses a now inside c is xs given w piece source reads led left gave told p = record {
+          → HearsFirst goes silent reader a c told
+      hears_behind reader a now inside c is xs given w piece source reads led left gave told p = record {
         bytes = xs ++ p.bytes;
         given = given ++ piece;
         reads = reads;

@@ -4,9 +4,9 @@ use C.{arith, append_assoc, length-append, length-drop, append-nil, length-take-
 use C.{drop-append-le, flat_map-append, take-add, drop-append_seam, take-append-add, Reason, Refusal, Event, Move}
 use C.{Act, Crossing, with_piece_at, HostParts, StationParts, TerminalType, WorldParts, Runs, new_world, TwoEnds}
 use C.{ends_of, all_sent, all_read, HaveCome, ComesDown, ComesUp, IsDeliveredDown, IsDeliveredUp, HasMoved}
-use C.{HaveMoved, HasRun, WireParts, AreDelivered, inl, inr, subst, take-append-drop, Fault, MayTake}
+use C.{HaveMoved, HasRun, WireParts, AreDelivered, inl, inr, subst, take-append-drop, Fault, Writer}
 use C.{StationGoes, HostGoes, element_rules, answer_rules, station_manner, host_manner, StationLeads, HostLeads, Key}
-use C.{Applied, HostEvent, MayGive, AreFaithful, HaveCrossed, HasCrossed, IsStopped, IsEnded, AreEnded}
+use C.{Applied, HostEvent, Reader, AreFaithful, HaveCrossed, HasCrossed, IsStopped, IsEnded, AreEnded}
 use Rattle.std.specs.List.{AllByRecursion}
 use Rattle.ws_session.specs.declared.line.Line.{Line}
 use Rattle.ws_session.specs.BrokenOff.{AreNext, IsCut}
@@ -224,13 +224,13 @@ next_of_more bytes flight n m le next =
     )
 
 -- what is cut of some bytes is cut of more
-pub cut_of_more : {S R : Type 0} (takes : MayTake S) (failures : S → ℕ) (gives : MayGive R) (misses : R → ℕ)
+pub cut_of_more : {S R : Type 0} (writer : Writer S) (reader : Reader R)
     (flight : List ℕ) (n m : ℕ) (from to : Line S R) (fault : Fault) → n ≤ m
-    → IsCut takes failures gives misses (take n flight) from to fault
-    → IsCut takes failures gives misses (take m flight) from to fault
-cut_of_more takes failures gives misses flight n m from to fault le (inl c) =
+    → IsCut writer reader (take n flight) from to fault
+    → IsCut writer reader (take m flight) from to fault
+cut_of_more writer reader flight n m from to fault le (inl c) =
     inl (c.0, c.1, next_of_more c.1.sent flight n m le c.2, c.3)
-cut_of_more takes failures gives misses flight n m from to fault le (inr c) =
+cut_of_more writer reader flight n m from to fault le (inr c) =
     inr (c.0, c.1, next_of_more c.0 flight n m le c.2, c.3)
 
 -- one move more
@@ -262,20 +262,19 @@ begun t now r = (
 
 -- What has crossed a line
 
-module _ {S R : Type 0} (takes : MayTake S) (failures : S → ℕ) (gives : MayGive R) (misses : R → ℕ) where
+module _ {S R : Type 0} (writer : Writer S) (reader : Reader R) where
   -- pieces, and then further ones
-  pub crossed_on : (a b c : Line S R) (cs ds : List Crossing) → HaveCrossed takes failures gives misses a cs b
-      → HaveCrossed takes failures gives misses b ds c → HaveCrossed takes failures gives misses a (cs ++ ds) c
+  pub crossed_on : (a b c : Line S R) (cs ds : List Crossing) → HaveCrossed writer reader a cs b
+      → HaveCrossed writer reader b ds c → HaveCrossed writer reader a (cs ++ ds) c
   crossed_on a b c [] ds p q = rw p q
   crossed_on a b c (x ∷ cs) ds p q = (p.0, p.1, crossed_on p.0 b c cs ds p.2 q)
 
-  pub crossed_behind : (a b c : Line S R) (cs : List Crossing) → HaveCrossed takes failures gives misses a cs b
-      → HasCrossed takes failures gives misses b c → HasCrossed takes failures gives misses a c
+  pub crossed_behind : (a b c : Line S R) (cs : List Crossing) → HaveCrossed writer reader a cs b
+      → HasCrossed writer reader b c → HasCrossed writer reader a c
   crossed_behind a b c cs p q = (cs ++ q.0, crossed_on a b c cs q.0 p q.1)
 
   -- a stop behind pieces that crossed
-  pub stop_behind : (a b c : Line S R) (cs : List Crossing) (fault : Fault) → HaveCrossed takes failures gives
-      misses a cs b → IsStopped takes failures gives misses b c fault → IsStopped takes failures gives misses a c fault
+  pub stop_behind : (a b c : Line S R) (cs : List Crossing) (fault : Fault) → HaveCrossed writer reader a cs b → IsStopped writer reader b c fault → IsStopped writer reader a c fault
   stop_behind a b c cs fault p q = record {
     crossings = cs ++ q.crossings;
     last = q.last;
@@ -285,32 +284,31 @@ module _ {S R : Type 0} (takes : MayTake S) (failures : S → ℕ) (gives : MayG
     failed = q.failed;
   }
 
-  pub stopped_behind : (a b c : Line S R) (cs : List Crossing) (fault : Fault) → HaveCrossed takes failures gives
-      misses a cs b → IsEnded takes failures gives misses b c fault → IsEnded takes failures gives misses a c fault
+  pub stopped_behind : (a b c : Line S R) (cs : List Crossing) (fault : Fault) → HaveCrossed writer reader a cs b → IsEnded writer reader b c fault → IsEnded writer reader a c fault
   stopped_behind a b c cs fault p (inl m) = inl (m.0, crossed_behind a b c cs p m.1)
   stopped_behind a b c cs fault p (inr k) = inr (stop_behind a b c cs fault p k)
 
 -- one of two lines stops
-module _ {S R T Q : Type 0} (takes : MayTake S) (failures : S → ℕ) (gives : MayGive R) (misses : R → ℕ)
-    (takes' : MayTake T) (failures' : T → ℕ) (gives' : MayGive Q) (misses' : Q → ℕ) where
+module _ {S R T Q : Type 0} (writer : Writer S) (reader : Reader R)
+    (writer' : Writer T) (reader' : Reader Q) where
   pub either_behind : (a b c : Line S R) (cs : List Crossing) (a' b' c' : Line T Q) (cs' : List Crossing)
-      (fault : Fault) → HaveCrossed takes failures gives misses a cs b → HaveCrossed takes' failures'
-      gives' misses' a' cs' b' → AreEnded takes failures gives misses takes' failures' gives' misses' b c b' c' fault
-      → AreEnded takes failures gives misses takes' failures' gives' misses' a c a' c' fault
+      (fault : Fault) → HaveCrossed writer reader a cs b → HaveCrossed writer'
+      reader' a' cs' b' → AreEnded writer reader writer' reader' b c b' c' fault
+      → AreEnded writer reader writer' reader' a c a' c' fault
   either_behind a b c cs a' b' c' cs' fault p p'
-      (inl m) = inl (m.0, crossed_behind takes _ gives _ a b c cs p m.1, crossed_behind _ _ _ _ a' b' c' cs' p' m.2)
+      (inl m) = inl (m.0, crossed_behind writer reader a b c cs p m.1, crossed_behind _ _ a' b' c' cs' p' m.2)
   either_behind a b c cs a' b' c' cs' fault p p' (inr (inl k)) =
-      inr (inl (stop_behind takes _ gives _ a b c cs fault p k.0, crossed_behind _ _ _ _ a' b' c' cs' p' k.1))
+      inr (inl (stop_behind writer reader a b c cs fault p k.0, crossed_behind _ _ a' b' c' cs' p' k.1))
   either_behind a b c cs a' b' c' cs' fault p p' (inr (inr k)) =
-      inr (inr (crossed_behind takes _ gives _ a b c cs p k.0, stop_behind _ _ _ _ a' b' c' cs' fault p' k.1))
+      inr (inr (crossed_behind writer reader a b c cs p k.0, stop_behind _ _ a' b' c' cs' fault p' k.1))
 
-  pub first_stops : (a c : Line S R) (a' : Line T Q) (fault : Fault) → IsEnded takes failures gives misses a c fault
-      → AreEnded takes failures gives misses takes' failures' gives' misses' a c a' a' fault
+  pub first_stops : (a c : Line S R) (a' : Line T Q) (fault : Fault) → IsEnded writer reader a c fault
+      → AreEnded writer reader writer' reader' a c a' a' fault
   first_stops a c a' fault (inl m) = inl (m.0, m.1, ([], refl))
   first_stops a c a' fault (inr k) = inr (inl (k, ([], refl)))
 
-  pub second_stops : (a : Line S R) (a' c' : Line T Q) (fault : Fault) → IsEnded takes' failures'
-      gives' misses' a' c' fault → AreEnded takes failures gives misses takes' failures' gives' misses' a a a' c' fault
+  pub second_stops : (a : Line S R) (a' c' : Line T Q) (fault : Fault) → IsEnded writer'
+      reader' a' c' fault → AreEnded writer reader writer' reader' a a a' c' fault
   second_stops a a' c' fault (inl m) = inl (m.0, ([], refl), m.1)
   second_stops a a' c' fault (inr k) = inr (inr (([], refl), k))
 

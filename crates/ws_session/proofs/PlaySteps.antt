@@ -3,7 +3,7 @@ use C.{failed_within_both, length-take-le, take-append-drop, take, new_station_s
 use C.{went_out_both, went_out_none, length-append, refusal_count, RunUnwritten, TerminalType, HoldsItems}
 use C.{StationLeads, records_from, append_assoc, moments_from, FailedWithin, idle_outcome, StationParts, element_rules, ℕ}
 use C.{StationSide, IsRunFault, one_record, TelnetItem, append-nil, RecordItem, AtStation, Fault, Bool, true, false}
-use C.{at_moment, fault_of, run_text, AreTaken, MayTake, HasDone, HasCome, Element, at_item, Moment, Ok, Err}
+use C.{at_moment, fault_of, run_text, AreTaken, Writer, HasDone, HasCome, Element, at_item, Moment, Ok, Err}
 use C.{WentOut, Refused, Presses, Refusal, outcome, moments, behind, nat_lt, length, Player}
 use C.{arith, subst, Write, later, drop, refl, Item, List, ◌++◌, ◌∙◌, min, ◌^◌, sym, ◌≡◌}
 use C.{◌<◌, ◌∷◌, Key, inl, ◌-◌, ◌+◌, inr, due, ◌≤◌, [], At, ap}
@@ -73,10 +73,10 @@ one_of_record : (item : Item Element) (ends : Bool) → ends ≡ is_record item 
 one_of_record (RecordItem r) ends is e = refl
 one_of_record (TelnetItem token) ends is e = (let h : false ≡ true = sym is ∙ e in cc)
 
-module _ {S : Type 0} (takes : MayTake S) (failures : S → ℕ) (t : TerminalType) (keys : List (ℕ × Key))
+module _ {S : Type 0} (writer : Writer S) (t : TerminalType) (keys : List (ℕ × Key))
     (start now : S) (old : Player) (before : StationParts) (bytes : List ℕ) (items : List (Item Element))
     (piece : List ℕ) (used : ℕ) (within : used ≤ length piece) (some : 0 < used)
-    (c : HasCome takes failures t keys start (record old { station = before }) now bytes items) where
+    (c : HasCome writer t keys start (record old { station = before }) now bytes items) where
   abbrev so_far : Outcome
   so_far = behind t keys items
 
@@ -88,7 +88,7 @@ module _ {S : Type 0} (takes : MayTake S) (failures : S → ℕ) (t : TerminalTy
 
   -- no item is complete
   inside_comes : (reply : List ℕ) (to : S) → reply ≡ [] → StationLeads old.station longer items so_far.side
-      → WentOut takes failures now to reply → HasCome takes failures t keys start old to longer items
+      → WentOut writer now to reply → HasCome writer t keys start old to longer items
   inside_comes reply to silent leads went = record {
     is_behind = record { leads = leads; taken = c.is_behind.taken };
     refused = c.refused;
@@ -96,7 +96,7 @@ module _ {S : Type 0} (takes : MayTake S) (failures : S → ℕ) (t : TerminalTy
     left = c.left;
     few = omega (arith, c.few, size);
     wrote = rw (← (ap (λ z. run_text t keys items ++ z) silent ∙ append-nil (run_text t keys items)))
-        (went_out_both takes failures start now to (run_text t keys items) reply c.wrote went);
+        (went_out_both writer start now to (run_text t keys items) reply c.wrote went);
   }
 
   module _ (reply : List ℕ)
@@ -133,9 +133,9 @@ module _ {S : Type 0} (takes : MayTake S) (failures : S → ℕ) (t : TerminalTy
 
     -- an item is, and the keys that are due behind it are pressed
     item_comes : (records : ℕ) (new : Player) (mid to : S) → records ≡ old.records + one_record taken.item
-        → WentOut takes failures now mid reply → HasDone takes failures longer more (record old { records = records })
+        → WentOut writer now mid reply → HasDone writer longer more (record old { records = records })
         new mid to keyed → drop new.pressed keys ≡ later (records_from 0 items + one_record taken.item) (keys_left_from
-        0 keys items) → one_record taken.item ≤ 1 → HasCome takes failures t keys start new to longer more
+        0 keys items) → one_record taken.item ≤ 1 → HasCome writer t keys start new to longer more
     item_comes records new mid to is went done left one = record {
       is_behind = record { leads = rw one_more done.leads; taken = taken_more };
       refused = done.refused so_far.refused c.refused ∙ ap refusal_count
@@ -145,12 +145,12 @@ module _ {S : Type 0} (takes : MayTake S) (failures : S → ℕ) (t : TerminalTy
       left = left ∙ sym (left_more 0 keys items _);
       few = omega (arith, done.records, is, one, c.few, some, size);
       wrote = rw (← text_more)
-          (went_out_both takes failures start now to (run_text t keys items) (reply ++ text_of keyed.written) c.wrote
-          (went_out_both takes failures now mid to reply (text_of keyed.written) went done.wrote));
+          (went_out_both writer start now to (run_text t keys items) (reply ++ text_of keyed.written) c.wrote
+          (went_out_both writer now mid to reply (text_of keyed.written) went done.wrote));
     }
 
-    unwritten : (to : S) → FailedWithin takes failures start to (run_text t keys more)
-        → RunUnwritten t keys takes failures start to (bytes ++ piece)
+    unwritten : (to : S) → FailedWithin writer start to (run_text t keys more)
+        → RunUnwritten t keys writer start to (bytes ++ piece)
     unwritten to failed = record {
       before = longer;
       after = drop used piece;
@@ -163,20 +163,20 @@ module _ {S : Type 0} (takes : MayTake S) (failures : S → ℕ) (t : TerminalTy
       failed = failed;
     }
 
-    reply_unwritten : (to : S) → FailedWithin takes failures now to reply
-        → RunUnwritten t keys takes failures start to (bytes ++ piece)
-    reply_unwritten to failed = unwritten to (rw (← text_more) (failed_within_both takes failures start now to
+    reply_unwritten : (to : S) → FailedWithin writer now to reply
+        → RunUnwritten t keys writer start to (bytes ++ piece)
+    reply_unwritten to failed = unwritten to (rw (← text_more) (failed_within_both writer start now to
         (run_text t keys items) reply (text_of keyed.written) c.wrote failed))
 
-    keys_unwritten : (mid to : S) → WentOut takes failures now mid reply → FailedWithin takes failures mid to
-        (text_of keyed.written) → RunUnwritten t keys takes failures start to (bytes ++ piece)
+    keys_unwritten : (mid to : S) → WentOut writer now mid reply → FailedWithin writer mid to
+        (text_of keyed.written) → RunUnwritten t keys writer start to (bytes ++ piece)
     keys_unwritten mid to went failed =
         let xs = run_text t keys items in
         let ys = text_of keyed.written in
         let text : (xs ++ reply) ++ (ys ++ []) ≡ run_text t keys more = append_assoc xs reply (ys ++ [])
         ∙ ap (λ z. xs ++ (reply ++ z)) (append-nil ys) ∙ text_more in
-        unwritten to (rw (← text) (failed_within_both takes failures start mid to
-        (xs ++ reply) ys [] (went_out_both takes failures start now mid xs reply c.wrote went) failed))
+        unwritten to (rw (← text) (failed_within_both writer start mid to
+        (xs ++ reply) ys [] (went_out_both writer start now mid xs reply c.wrote went) failed))
 
   -- ---- by what the front has done
   module _ (few : length bytes + length piece + 1 < 2 ^ 64) where
@@ -186,8 +186,8 @@ module _ {S : Type 0} (takes : MayTake S) (failures : S → ℕ) (t : TerminalTy
     module _ (step : StationStep (List ℕ))
         (fronted : IsFrontedOn element_rules profile before old.station longer items so_far.side (Ok step)) where
       -- the reply isn't written
-      pub reply_fails : (to : S) → FailedWithin takes failures now to step.reply
-          → RunUnwritten t keys takes failures start to (bytes ++ piece)
+      pub reply_fails : (to : S) → FailedWithin writer now to step.reply
+          → RunUnwritten t keys writer start to (bytes ++ piece)
       reply_fails to failed = elim fronted [
         | inl i ↦ (let none = rw i.0.silent at failed in
             absurd (let e : 0 < 0 = omega (arith, none.within) in omega (arith, e)))
@@ -195,8 +195,8 @@ module _ {S : Type 0} (takes : MayTake S) (failures : S → ℕ) (t : TerminalTy
       ]
 
       -- it ends no record
-      pub no_record : (to : S) → step.ends_record ≡ false → WentOut takes failures now to step.reply
-          → (next : List (Item Element)) × HasCome takes failures t keys start old to longer next
+      pub no_record : (to : S) → step.ends_record ≡ false → WentOut writer now to step.reply
+          → (next : List (Item Element)) × HasCome writer t keys start old to longer next
       no_record to e went = elim fronted [
         | inl i ↦ (items, inside_comes step.reply to i.0.silent i.0.leads went)
         | inr taken ↦ (let item : Item Element = taken.0.item in
@@ -206,16 +206,16 @@ module _ {S : Type 0} (takes : MayTake S) (failures : S → ℕ) (t : TerminalTy
             let none : due (records_from 0 items + one_record item)
             (keys_left_from 0 keys items) ≡ [] = ap (λ n. due n (keys_left_from 0 keys items)) same ∙ settled.0 in
             let side : StationSide = taken.0.next in
-            let done : HasDone takes failures longer
+            let done : HasDone writer longer
             (items ++ item ∷ []) (record old { records = old.records }) old to to (idle_outcome side) = record {
               leads = taken.0.leads;
               refused = λ n is. is ∙ ap refusal_count (let f : n ≡ n + 0 = omega arith in f);
               records = refl;
-              wrote = went_out_none takes failures to;
+              wrote = went_out_none writer to;
             } in (
               items ++ item ∷ [],
               item_comes step.reply taken.0 _ old to to (omega (arith, one)) went
-                  (subst (λ (ms : List Moment). HasDone takes failures longer (items ++ item ∷ [])
+                  (subst (λ (ms : List Moment). HasDone writer longer (items ++ item ∷ [])
                   (record old { records = old.records }) old to to (outcome side ms)) (sym none) done) (c.left
                   ∙ sym settled.1 ∙ ap (λ n. later n (keys_left_from 0 keys items)) (sym same)) (omega (arith, one)),
             ))
@@ -223,7 +223,7 @@ module _ {S : Type 0} (takes : MayTake S) (failures : S → ℕ) (t : TerminalTy
 
       -- it ends one
       module _ (ends : step.ends_record ≡ true) (records : ℕ) (is : records ≡ min (old.records + 1) (2 ^ 64 - 1))
-          (mid : S) (went : WentOut takes failures now mid step.reply) where
+          (mid : S) (went : WentOut writer now mid step.reply) where
         counts : (item : Item Element) → step.ends_record ≡ is_record item → (one_record item ≡ 1)
             × (records ≡ old.records + one_record item) × (records ≡ records_from 0 items + one_record item)
         counts item e =
@@ -238,9 +238,9 @@ module _ {S : Type 0} (takes : MayTake S) (failures : S → ℕ) (t : TerminalTy
             ∙ ap (due (records_from 0 items + one_record item)) c.left
 
         pub record_comes : (new : Player) (to : S) → AtStation old.station (λ bytes items side. length bytes + 1
-            < 2 ^ 64 → HasDone takes failures bytes items (record old { records = records }) new mid to (outcome side
+            < 2 ^ 64 → HasDone writer bytes items (record old { records = records }) new mid to (outcome side
             (due records (drop old.pressed keys)))) → drop new.pressed keys ≡ later records (drop old.pressed keys)
-            → (next : List (Item Element)) × HasCome takes failures t keys start new to longer next
+            → (next : List (Item Element)) × HasCome writer t keys start new to longer next
         record_comes new to done left = elim fronted [
           | inl i ↦ absurd (let e : true ≡ false = sym ends ∙ i.1 in cc)
           | inr taken ↦ (let item : Item Element = taken.0.item in
@@ -254,8 +254,8 @@ module _ {S : Type 0} (takes : MayTake S) (failures : S → ℕ) (t : TerminalTy
         ]
 
         pub keys_fail : (to : S) → AtStation old.station (λ bytes items side. length bytes + 1 < 2 ^ 64 → FailedWithin
-            takes failures mid to (text_of (outcome side (due records (drop old.pressed keys))).written))
-            → RunUnwritten t keys takes failures start to (bytes ++ piece)
+            writer mid to (text_of (outcome side (due records (drop old.pressed keys))).written))
+            → RunUnwritten t keys writer start to (bytes ++ piece)
         keys_fail to failed = elim fronted [
           | inl i ↦ absurd (let e : true ≡ false = sym ends ∙ i.1 in cc)
           | inr taken ↦ keys_unwritten step.reply taken.0 mid to went
@@ -264,13 +264,13 @@ module _ {S : Type 0} (takes : MayTake S) (failures : S → ℕ) (t : TerminalTy
         ]
 
 -- the byte behind a front is refused, or its item
-pub refused_as : {S : Type 0} (takes : MayTake S) (failures : S → ℕ) (t : TerminalType) (keys : List (ℕ × Key))
+pub refused_as : {S : Type 0} (writer : Writer S) (t : TerminalType) (keys : List (ℕ × Key))
     (start now : S) (old : Player) (new : StationParts) (bytes : List ℕ) (items : List (Item Element))
-    → HasCome takes failures t keys start old now bytes items → (piece front : List ℕ) (byte : ℕ) (rest : List ℕ)
+    → HasCome writer t keys start old now bytes items → (piece front : List ℕ) (byte : ℕ) (rest : List ℕ)
     → piece ≡ front ++ byte ∷ rest → HoldsItems element_rules (bytes ++ front) items → (refusal : Refusal)
     → IsFrontedOn element_rules profile old.station new (bytes ++ (front ++ byte ∷ [])) items (behind t keys items).side
-    (Err refusal) → IsRunFault t keys takes failures start now (length bytes) (bytes ++ piece) (fault_of refusal)
-refused_as takes failures t keys start now old new bytes items c piece front byte rest split held (At place reason) f =
+    (Err refusal) → IsRunFault t keys writer start now (length bytes) (bytes ++ piece) (fault_of refusal)
+refused_as writer t keys start now old new bytes items c piece front byte rest split held (At place reason) f =
     let upto : (bytes ++ front) ++ byte ∷ [] ≡ bytes ++ (front ++ byte ∷ []) = append_assoc bytes front (byte ∷ []) in
     let at : place ≡ length (bytes ++ front) =
     omega (arith, f.0, ap length upto, length-append (bytes ++ front) (byte ∷ [])) in
@@ -289,13 +289,13 @@ refused_as takes failures t keys start now old new bytes items c piece front byt
       why = rw upto f.2;
       wrote = c.wrote;
     }
-refused_as takes failures t keys start now old new bytes items c piece front byte rest split held why f = f
+refused_as writer t keys start now old new bytes items c piece front byte rest split held why f = f
 
 -- a fault of a last read is one where that read began earlier
-pub fault_within : (t : TerminalType) (keys : List (ℕ × Key)) {S : Type 0} (takes : MayTake S) (failures : S → ℕ)
+pub fault_within : (t : TerminalType) (keys : List (ℕ × Key)) {S : Type 0} (writer : Writer S)
     (start now : S) (first first' : ℕ) (bytes : List ℕ) (fault : Fault) → first' ≤ first → IsRunFault t keys
-    takes failures start now first bytes fault → IsRunFault t keys takes failures start now first' bytes fault
-fault_within t keys takes failures start now first first' bytes (Refused place reason) le f = record {
+    writer start now first bytes fault → IsRunFault t keys writer start now first' bytes fault
+fault_within t keys writer start now first first' bytes (Refused place reason) le f = record {
   before = f.before;
   front = f.front;
   byte = f.byte;
@@ -310,5 +310,5 @@ fault_within t keys takes failures start now first first' bytes (Refused place r
   why = f.why;
   wrote = f.wrote;
 }
-fault_within t keys takes failures start now first first' bytes Write le f = f
-fault_within t keys takes failures start now first first' bytes fault le f = absurd f
+fault_within t keys writer start now first first' bytes Write le f = f
+fault_within t keys writer start now first first' bytes fault le f = absurd f

@@ -3,7 +3,7 @@ use C.{failed_within_both, HasWrittenFront, flat_map-append, outcome_of_both, st
 use C.{went_out_both, went_out_none, item_spelling, if◌then◌else◌, refusal_count, StationLeads, IsKeyRefusal, nat_tests}
 use C.{answer_rules, append_assoc, FailedWithin, idle_outcome, StationParts, StationGoes, StationSide, station_key, ◌∙◌}
 use C.{KeyReaction, AnswerPart, append-nil, RefusesKey, HasWritten, IsKeyTaken, drop-cons, at_moment, KeyFault, add-one}
-use C.{Outcome, Applied, MayTake, HasDone, Element, Presses, outcome, Moment, false}
+use C.{Outcome, Applied, Writer, HasDone, Element, Presses, outcome, Moment, false}
 use C.{at_key, nat_lt, length, get_or, Player, arith, later, drop, refl, true, Item, List, Bool, ◌++◌, suc, min, ◌^◌, ℕ}
 use C.{sym, ◌≡◌, ◌<◌, ◌∷◌, Key, ◌-◌, ◌+◌, Did, ap₂, due, ◌≤◌, [], ap}
 use Rattle.ws_session.proofs.EndDeeds.{key_did}
@@ -59,7 +59,7 @@ unrefused side z taken = refl
 add_none : (n m : ℕ) (before : ℕ) → m ≡ 0 → n ≡ refusal_count before → n ≡ refusal_count (before + m)
 add_none n m before e is = is ∙ ap refusal_count (let f : before ≡ before + m = omega (arith, e) in f)
 
-module _ {S : Type 0} (takes : MayTake S) (failures : S → ℕ) (old : Player) (bytes : List ℕ)
+module _ {S : Type 0} (writer : Writer S) (old : Player) (bytes : List ℕ)
     (items : List (Item Element)) (side : StationSide) (key : Key) (station : StationParts) (from to : S)
     (l : StationLeads old.station bytes items side) (few : length bytes + 1 < 2 ^ 64) where
   pressed : (text : List ℕ) (told : List Applied) → StationGoes old.station (Did key ∷ []) text told station
@@ -67,9 +67,9 @@ module _ {S : Type 0} (takes : MayTake S) (failures : S → ℕ) (old : Player) 
   pressed text told goes = by_act _ bytes items side text (station_key side key)
       (key_did _ bytes items side key text told (goes.led bytes items side l (omega (arith, few))))
 
-  pub taken_done : HasWritten StationGoes takes failures old.station station from to (Did key ∷ []) []
+  pub taken_done : HasWritten StationGoes writer old.station station from to (Did key ∷ []) []
       → IsKeyTaken old.station key
-      → HasDone takes failures bytes items old (record old { station = station }) from to (at_moment side (Presses key))
+      → HasDone writer bytes items old (record old { station = station }) from to (at_moment side (Presses key))
   taken_done h taken =
       let p = pressed _ [] h.led in
       record {
@@ -80,31 +80,31 @@ module _ {S : Type 0} (takes : MayTake S) (failures : S → ℕ) (old : Player) 
         wrote = rw (← p.0) h.wrote;
       }
 
-  pub press_failed : HasWrittenFront StationGoes takes failures old.station station from to (Did key ∷ [])
-      → FailedWithin takes failures from to (text_of (at_moment side (Presses key)).written)
+  pub press_failed : HasWrittenFront StationGoes writer old.station station from to (Did key ∷ [])
+      → FailedWithin writer from to (text_of (at_moment side (Presses key)).written)
   press_failed h = rw (← (pressed _ _ h.led).0) h.failed
 
   pub refused_done : (fault : KeyFault) (count : ℕ) → station ≡ old.station → to ≡ from
-      → IsKeyRefusal old.station key fault → count ≡ min (old.keys_refused + 1) (2 ^ 32 - 1) → HasDone takes failures
+      → IsKeyRefusal old.station key fault → count ≡ min (old.keys_refused + 1) (2 ^ 32 - 1) → HasDone writer
       bytes items old (record old { station = station; keys_refused = count }) from to (at_moment side (Presses key))
   refused_done fault count same unwritten refusal is = rw (refusal.led bytes items side l few) (record {
     leads = rw same l;
     refused = λ before e. (let f : count ≡ refusal_count (before + 1) = omega (arith, e, is) in f);
     records = refl;
-    wrote = rw unwritten (went_out_none takes failures from);
+    wrote = rw unwritten (went_out_none writer from);
   })
 
 -- one after another
-module _ {S : Type 0} (takes : MayTake S) (failures : S → ℕ) (bytes : List ℕ) (items : List (Item Element)) where
+module _ {S : Type 0} (writer : Writer S) (bytes : List ℕ) (items : List (Item Element)) where
   pub done_both : (old mid new : Player) (from between to : S) (a b : Outcome)
-      → HasDone takes failures bytes items old mid from between a → HasDone takes failures
-      bytes items mid new between to b → HasDone takes failures bytes items old new from to (outcome_of_both a b)
+      → HasDone writer bytes items old mid from between a → HasDone writer
+      bytes items mid new between to b → HasDone writer bytes items old new from to (outcome_of_both a b)
   done_both old mid new from between to a b p q = record {
     leads = q.leads;
     refused = λ before is. q.refused _ (p.refused before is) ∙ ap refusal_count
         (let e : (before + a.refused) + b.refused ≡ before + (a.refused + b.refused) = omega arith in e);
     records = q.records ∙ p.records;
-    wrote = rw (text_append a.written b.written) (went_out_both takes failures from between to (text_of a.written)
+    wrote = rw (text_append a.written b.written) (went_out_both writer from between to (text_of a.written)
         (text_of b.written) p.wrote q.wrote);
   }
 
@@ -136,18 +136,18 @@ pub is_reached : (records here n k : ℕ) → here ≡ records → n ≤ here �
 is_reached records here n k e h f = grind (arith, nat_tests, e, h, f)
 
 -- what the loop over the keys keeps
-pub record Pressing {S : Type 0} (takes : MayTake S) (failures : S → ℕ) (first now : Player) (from to : S)
+pub record Pressing {S : Type 0} (writer : Writer S) (first now : Player) (from to : S)
     (keys : List (ℕ × Key)) : Type 0 where
   pub moments : List Moment
   pub due_is : due first.records (drop first.pressed keys) ≡ moments ++ due first.records (drop now.pressed keys)
   pub later_is : later first.records (drop first.pressed keys) ≡ later first.records (drop now.pressed keys)
   pub records : now.records ≡ first.records
   pub did : (bytes : List ℕ) (items : List (Item Element)) (side : StationSide) → StationLeads first.station bytes items
-      side → length bytes + 1 < 2 ^ 64 → HasDone takes failures bytes items first now from to (outcome side moments)
+      side → length bytes + 1 < 2 ^ 64 → HasDone writer bytes items first now from to (outcome side moments)
 
-module _ {S : Type 0} (takes : MayTake S) (failures : S → ℕ) where
+module _ {S : Type 0} (writer : Writer S) where
   pub pressing_starts : (first : Player) (from : S) (keys : List (ℕ × Key))
-      → Pressing takes failures first first from from keys
+      → Pressing writer first first from from keys
   pressing_starts first from keys = record {
     moments = [];
     due_is = refl;
@@ -157,16 +157,16 @@ module _ {S : Type 0} (takes : MayTake S) (failures : S → ℕ) where
       leads = l;
       refused = λ before is. add_none _ 0 _ refl is;
       records = refl;
-      wrote = went_out_none takes failures from;
+      wrote = went_out_none writer from;
     };
   }
 
   module _ (first now : Player) (from mid : S) (keys : List (ℕ × Key))
-      (p : Pressing takes failures first now from mid keys) where
+      (p : Pressing writer first now from mid keys) where
     -- no further key is due
     pub pressing_ends : (due first.records (drop now.pressed keys) ≡ []) → (bytes : List ℕ)
         (items : List (Item Element)) (side : StationSide) → StationLeads first.station bytes items side
-        → length bytes + 1 < 2 ^ 64 → HasDone takes failures bytes items first now from mid
+        → length bytes + 1 < 2 ^ 64 → HasDone writer bytes items first now from mid
         (outcome side (due first.records (drop first.pressed keys)))
     pressing_ends none bytes items side l few =
         rw (p.due_is ∙ ap (λ z. p.moments ++ z) none ∙ append-nil p.moments) (p.did bytes items side l few)
@@ -180,8 +180,8 @@ module _ {S : Type 0} (takes : MayTake S) (failures : S → ℕ) where
 
       pub pressing_next : (next : Player) (to : S) (place : ℕ) → place ≡ now.pressed + 1
           → next.records ≡ now.records → AtStation now.station (λ bytes items side. length bytes + 1 < 2 ^ 64
-          → HasDone takes failures bytes items now next mid to (at_moment side (Presses k.1)))
-          → Pressing takes failures first (record next { pressed = place }) from to keys
+          → HasDone writer bytes items now next mid to (at_moment side (Presses k.1)))
+          → Pressing writer first (record next { pressed = place }) from to keys
       pressing_next next to place at kept q = record {
         moments = p.moments ++ Presses k.1 ∷ [];
         due_is = rest_due ∙ ap (λ n. (p.moments ++ Presses k.1 ∷ []) ++ due first.records (drop n keys)) (sym at);
@@ -195,17 +195,17 @@ module _ {S : Type 0} (takes : MayTake S) (failures : S → ℕ) where
             let e : outcome_of_both o b ≡ outcome side (p.moments ++ Presses k.1 ∷ []) =
             ap (outcome_of_both o) (sym (unmoved_last b)) ∙ sym (outcome_append side _ _) in
             let both =
-            done_both takes _ bytes items first now next from mid to o b d (q bytes items o.side d.leads few) in
+            done_both writer bytes items first now next from mid to o b d (q bytes items o.side d.leads few) in
             rw
             (← e) (record { leads = both.leads; refused = both.refused; records = both.records; wrote = both.wrote });
       }
 
       -- a write failed at the key
       pub pressing_fails : (to : S) → AtStation now.station (λ bytes items side. length bytes + 1 < 2 ^ 64
-          → FailedWithin takes failures mid to (text_of (at_moment side (Presses k.1)).written))
+          → FailedWithin writer mid to (text_of (at_moment side (Presses k.1)).written))
           → (bytes : List ℕ) (items : List (Item Element)) (side : StationSide)
           → StationLeads first.station bytes items side → length bytes + 1 < 2 ^ 64 → FailedWithin
-          takes failures from to (text_of (outcome side (due first.records (drop first.pressed keys))).written)
+          writer from to (text_of (outcome side (due first.records (drop first.pressed keys))).written)
       pressing_fails to q bytes items side l few =
           let d = p.did bytes items side l few in
           let o : Outcome = outcome side p.moments in
@@ -218,5 +218,5 @@ module _ {S : Type 0} (takes : MayTake S) (failures : S → ℕ) where
           (outcome side (due first.records (drop first.pressed keys))).written = ap (λ z. text_of o.written ++ z)
           (sym (text_append b.written (outcome b.side rest).written)) ∙ sym (text_append o.written
           (b.written ++ (outcome b.side rest).written)) ∙ ap (λ (z : Outcome). text_of z.written) (sym e) in
-          rw (← text) (failed_within_both takes failures from mid to (text_of o.written)
+          rw (← text) (failed_within_both writer from mid to (text_of o.written)
           (text_of b.written) (text_of (outcome b.side rest).written) d.wrote (q bytes items o.side d.leads few))

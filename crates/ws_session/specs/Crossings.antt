@@ -4,7 +4,7 @@ use Rattle.std.specs.Prelude.{◌≡◌, ℕ, ◌+◌, ◌⊎◌, List, [], ◌�
 use Rattle.std.specs.List.{AllByRecursion}
 use Rattle.ws_code.specs.declared.fault.Fault.{Fault}
 use Rattle.ws_code.specs.declared.fault.Fault.TheVariants.{Memory}
-use Rattle.ws_code.specs.Device.{MayTake, MayGive}
+use Rattle.ws_code.specs.Device.{Writer, Reader}
 use Rattle.ws_session.specs.declared.line.Line.{Line}
 use Rattle.ws_session.specs.Carrying.{IsCarried, IsCarryFault}
 
@@ -21,12 +21,12 @@ AreFaithful crossings = AllByRecursion (λ (c : Crossing). c.read ≡ c.sent) cr
 abbrev pub with_piece_at : List ℕ → ℕ → List ℕ → List ℕ
 with_piece_at bytes at piece = take at bytes ++ piece ++ drop (at + length piece) bytes
 
-module _ {S R : Type 0} (takes : MayTake S) (failures : S → ℕ) (gives : MayGive R) (misses : R → ℕ) where
+module _ {S R : Type 0} (writer : Writer S) (reader : Reader R) where
   -- the pieces crossed the line, one after another
   abbrev pub HaveCrossed : Line S R → List Crossing → Line S R → Type 0
   HaveCrossed from [] to = from ≡ to
   HaveCrossed from (c ∷ crossings) to = (next : Line S R)
-      × IsCarried takes failures from.sink next.sink gives misses from.source next.source c.sent c.read
+      × IsCarried writer from.sink next.sink reader from.source next.source c.sent c.read
       × HaveCrossed next crossings to
 
   -- some pieces crossed the line, and no further one went into it
@@ -40,21 +40,20 @@ module _ {S R : Type 0} (takes : MayTake S) (failures : S → ℕ) (gives : MayG
     pub crossed : HaveCrossed from crossings last
     pub bytes : List ℕ
     pub slice : List ℕ
-    pub failed : IsCarryFault takes failures last.sink to.sink gives misses last.source to.source bytes slice fault
+    pub failed : IsCarryFault writer last.sink to.sink reader last.source to.source bytes slice fault
 
   -- why no more crosses it: memory is wanting, and whatever went into it has crossed; or a piece did not cross
   abbrev pub IsEnded : Line S R → Line S R → Fault → Type 0
   IsEnded from to fault = ((fault ≡ Memory) × HasCrossed from to) ⊎ IsStopped from to fault
 
 -- the same of two lines: what went into the other has crossed it
-module _ {S R T Q : Type 0} (takes : MayTake S) (failures : S → ℕ) (gives : MayGive R) (misses : R → ℕ)
-    (takes' : MayTake
-    T) (failures' : T → ℕ) (gives' : MayGive Q) (misses' : Q → ℕ) where
+module _ {S R T Q : Type 0} (writer : Writer S) (reader : Reader R)
+    (writer' : Writer T) (reader' : Reader Q) where
   -- why no more crosses either: memory is wanting, and whatever went into them has crossed; or a piece of one did
   -- not cross, and whatever went into the other has
   abbrev pub AreEnded : Line S R → Line S R → Line T Q → Line T Q → Fault → Type 0
   AreEnded from to from' to' fault =
-      ((fault ≡ Memory) × HasCrossed takes failures gives misses from to
-      × HasCrossed takes' failures' gives' misses' from' to')
-      ⊎ ((IsStopped takes failures gives misses from to fault × HasCrossed takes' failures' gives' misses' from' to')
-      ⊎ (HasCrossed takes failures gives misses from to × IsStopped takes' failures' gives' misses' from' to' fault))
+      ((fault ≡ Memory) × HasCrossed writer reader from to
+      × HasCrossed writer' reader' from' to')
+      ⊎ ((IsStopped writer reader from to fault × HasCrossed writer' reader' from' to')
+      ⊎ (HasCrossed writer reader from to × IsStopped writer' reader' from' to' fault))

@@ -1,7 +1,7 @@
 -- How far a run has come
 
 use Rattle.std.specs.Prelude.{◌≡◌, ℕ, ◌+◌, ◌≤◌, ◌<◌, ◌^◌, List, [], ◌∷◌, length, drop}
-use Rattle.ws_code.specs.Device.{MayTake, WentOut}
+use Rattle.ws_code.specs.Device.{Writer, WentOut}
 use Rattle.ws_nego.specs.declared.terminal.TerminalType.{TerminalType}
 use Rattle.ws_record.specs.declared.record.Item.{Item}
 use Rattle.ws_record.specs.Encode.{plain_spelling}
@@ -23,7 +23,7 @@ abbrev pub keys_left_from : ℕ → List (ℕ × Key) → List (Item Element) �
 keys_left_from n keys [] = later n keys
 keys_left_from n keys (item ∷ items) = keys_left_from (n + one_record item) (later n keys) items
 
-module _ {S : Type 0} (takes : MayTake S) (failures : S → ℕ) where
+module _ {S : Type 0} (writer : Writer S) where
   -- the player has done this, and what it wrote went out
   pub record HasDone (bytes : List ℕ) (items : List (Item Element)) (old new : Player) (from to : S)
       (did : Outcome) : Type 0 where
@@ -31,7 +31,7 @@ module _ {S : Type 0} (takes : MayTake S) (failures : S → ℕ) where
     pub refused : (before : ℕ) → old.keys_refused ≡ refusal_count before
         → new.keys_refused ≡ refusal_count (before + did.refused)
     pub records : new.records ≡ old.records
-    pub wrote : WentOut takes failures from to (plain_spelling answer_rules did.written)
+    pub wrote : WentOut writer from to (plain_spelling answer_rules did.written)
 
   -- the bytes have brought it here
   pub record HasCome (terminal : TerminalType) (keys : List (ℕ
@@ -41,7 +41,7 @@ module _ {S : Type 0} (takes : MayTake S) (failures : S → ℕ) where
     pub records : player.records ≡ records_from 0 items
     pub left : drop player.pressed keys ≡ keys_left_from 0 keys items
     pub few : player.records ≤ length bytes
-    pub wrote : WentOut takes failures start now (run_text terminal keys items)
+    pub wrote : WentOut writer start now (run_text terminal keys items)
 
   -- this holds of whatever brought the player here, where so many bytes more can be counted: from where the sink
   -- began, the terminal, and the bytes

@@ -4,7 +4,7 @@ use Rattle.std.specs.Prelude.{◌≡◌, ℕ, ◌-◌, ◌^◌, ◌≤◌, ◌<�
 use Rattle.ws_code.specs.declared.fault.Fault.{Fault}
 use Rattle.ws_code.specs.declared.fault.Fault.TheVariants.{Refused, Truncated, Read, Write}
 use Rattle.ws_code.specs.declared.reason.Reason.{Reason}
-use Rattle.ws_code.specs.Device.{MayTake, MayGive, WentOut, FailedWithin, Gave, GaveAll, ReadFault, most_reads}
+use Rattle.ws_code.specs.Device.{Writer, Reader, WentOut, FailedWithin, Gave, GaveAll, ReadFault, most_reads}
 use Rattle.ws_nego.specs.declared.terminal.TerminalType.{TerminalType}
 use Rattle.ws_record.specs.declared.record.Item.{Item}
 use Rattle.ws_record.specs.Encode.{plain_spelling}
@@ -38,7 +38,7 @@ module _ (terminal : TerminalType) (keys : List (ℕ × Key)) where
     pub leads : StationLeads station bytes items (behind items).side
     pub taken : AreTaken (new_station_side terminal) (moments keys items)
 
-  module _ {S : Type 0} (takes : MayTake S) (failures : S → ℕ) (from to : S) where
+  module _ {S : Type 0} (writer : Writer S) (from to : S) where
     -- A byte of these is refused, and not one of the first so many; all that was to be written before it went out. The
     -- station stood behind a front of the bytes before it, and no item is complete with the others.
     pub record RunRefuses (first : ℕ) (bytes : List ℕ) (place : ℕ) (reason : Reason) : Type 0 where
@@ -55,7 +55,7 @@ module _ (terminal : TerminalType) (keys : List (ℕ × Key)) where
       pub inside : HoldsItems element_rules (before ++ front) items
       pub why : IsRefused element_rules ((before ++ front) ++ byte ∷ []) place reason
           ⊎ IsItemRefused (before ++ front) items (behind items).side byte reason
-      pub wrote : WentOut takes failures from to (run_text items)
+      pub wrote : WentOut writer from to (run_text items)
 
     -- A write failed, in what was to be written behind items of these bytes.
     pub record RunUnwritten (bytes : List ℕ) : Type 0 where
@@ -67,7 +67,7 @@ module _ (terminal : TerminalType) (keys : List (ℕ × Key)) where
       pub begun : List ℕ
       pub holds : Holds element_rules before items so_far begun
       pub taken : AreTaken (new_station_side terminal) (moments keys items)
-      pub failed : FailedWithin takes failures from to (run_text items)
+      pub failed : FailedWithin writer from to (run_text items)
 
     -- why a run stops within these bytes
     abbrev pub IsRunFault : ℕ → List ℕ → Fault → Type 0
@@ -75,37 +75,36 @@ module _ (terminal : TerminalType) (keys : List (ℕ × Key)) where
     IsRunFault first bytes Write = RunUnwritten bytes
     IsRunFault first bytes fault = ⊥
 
-  module _ {R S : Type 0} (gives : MayGive R) (misses : R → ℕ) (source source' : R) (takes : MayTake S) (failures : S
-      → ℕ) (sink sink' : S) where
+  module _ {R S : Type 0} (reader : Reader R) (source source' : R) (writer : Writer S) (sink sink' : S) where
     -- the source gave its end, and the station took all
     pub record IsPlayed (played : Played) : Type 0 where
       pub bytes : List ℕ
       pub items : List (Item Element)
-      pub gave : GaveAll gives misses source source' bytes
+      pub gave : GaveAll reader source source' bytes
       pub accepted : IsInGrammar element_rules bytes items
       pub is_behind : IsBehind bytes items played.station
       pub refused : played.keys_refused ≡ refusal_count (behind items).refused
-      pub wrote : WentOut takes failures sink sink' (run_text items)
+      pub wrote : WentOut writer sink sink' (run_text items)
 
     -- the source gave its end inside a token or a record
     pub record IsRunTruncated (n : ℕ) : Type 0 where
       pub bytes : List ℕ
       pub items : List (Item Element)
       pub station : StationParts
-      pub gave : GaveAll gives misses source source' bytes
+      pub gave : GaveAll reader source source' bytes
       pub at_end : n ≡ length bytes
       pub truncated : IsTruncated element_rules bytes
       pub is_behind : IsBehind bytes items station
-      pub wrote : WentOut takes failures sink sink' (run_text items)
+      pub wrote : WentOut writer sink sink' (run_text items)
 
     -- a read of the source failed, or there were too many
     pub record IsRunUnread : Type 0 where
       pub bytes : List ℕ
       pub items : List (Item Element)
       pub station : StationParts
-      pub failed : ReadFault gives misses source source' bytes
+      pub failed : ReadFault reader source source' bytes
       pub is_behind : IsBehind bytes items station
-      pub wrote : WentOut takes failures sink sink' (run_text items)
+      pub wrote : WentOut writer sink sink' (run_text items)
 
     -- a byte of the last read is refused, and all that was to be written before it went out
     pub record IsRunRefused (place : ℕ) (reason : Reason) : Type 0 where
@@ -114,18 +113,18 @@ module _ (terminal : TerminalType) (keys : List (ℕ × Key)) where
       pub reads : ℕ
       pub before : R
       pub room : ℕ
-      pub gave : Gave gives misses source before reads first
+      pub gave : Gave reader source before reads first
       pub one_left : reads < most_reads
-      pub gave_last : gives before room (Some last) source'
-      pub uncounted : misses source' ≡ misses source
-      pub refuses : RunRefuses takes failures sink sink' (length first) (first ++ last) place reason
+      pub gave_last : reader.gives before room (Some last) source'
+      pub uncounted : reader.failures source' ≡ reader.failures source
+      pub refuses : RunRefuses writer sink sink' (length first) (first ++ last) place reason
 
     -- a write failed
     pub record IsRunUnwritten : Type 0 where
       pub bytes : List ℕ
       pub reads : ℕ
-      pub gave : Gave gives misses source source' reads bytes
-      pub unwritten : RunUnwritten takes failures sink sink' bytes
+      pub gave : Gave reader source source' reads bytes
+      pub unwritten : RunUnwritten writer sink sink' bytes
 
     -- what a run comes to: played, refused, truncated, a failed read or a failed write, each with what was read and
     -- what went out

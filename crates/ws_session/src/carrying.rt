@@ -21,10 +21,10 @@ pub fn carry<S: Sink, R: Source>(
     requires one_length { length taken.old ≡ length bytes.now }
     requires piece { length bytes.now ≤ 4096 }
     // What crossed, or how far it came; behind a failed write nothing was read.
-    ensures carried { OnOk result (IsCarried S.takes S.failures sink.old sink.new
-        R.gives R.failures source.old source.new bytes.now taken.new) }
-    ensures fault { IfErr result (IsCarryFault S.takes S.failures sink.old sink.new
-        R.gives R.failures source.old source.new bytes.now taken.new) }
+    ensures carried { OnOk result (IsCarried S.writer sink.old sink.new
+        R.reader source.old source.new bytes.now taken.new) }
+    ensures fault { IfErr result (IsCarryFault S.writer sink.old sink.new
+        R.reader source.old source.new bytes.now taken.new) }
     ensures unread { result ≡ Err Fault.Write → taken.new ≡ taken.old }
 {
     write_whole(sink, bytes)?;

@@ -30,13 +30,13 @@ impl Player {
     fn press<S: Sink>(&mut self, sink: &mut S, key: Key) -> Result<(), Fault>
         ensures done { OnOk result (AtStation self.old.station (λ bytes items side.
             length bytes + 1 < 2 ^ 64
-            → HasDone S.takes S.failures bytes items self.old self.new sink.old sink.new (at_moment
+            → HasDone S.writer bytes items self.old self.new sink.old sink.new (at_moment
             side (Presses key)))) }
         ensures place { (self.new.pressed ≡ self.old.pressed)
             × (self.new.records ≡ self.old.records) }
         ensures fault { IfErr result (λ fault. (fault ≡ Fault.Write)
             × AtStation self.old.station (λ bytes items side. length bytes + 1 < 2 ^ 64
-            → FailedWithin S.takes S.failures sink.old sink.new (plain_spelling answer_rules
+            → FailedWithin S.writer sink.old sink.new (plain_spelling answer_rules
             (at_moment side (Presses key)).written))) }
     {
         match press_key(&mut self.station, sink, key) {
@@ -57,13 +57,13 @@ impl Player {
     ) -> Result<(), Fault>
         ensures done { OnOk result (AtStation self.old.station (λ bytes items side.
             length bytes + 1 < 2 ^ 64
-            → HasDone S.takes S.failures bytes items self.old self.new sink.old sink.new (outcome
+            → HasDone S.writer bytes items self.old self.new sink.old sink.new (outcome
             side (due self.old.records (drop self.old.pressed keys.now))))) }
         ensures left { OnOk result (drop self.new.pressed keys.now
             ≡ later self.old.records (drop self.old.pressed keys.now)) }
         ensures fault { IfErr result (λ fault. (fault ≡ Fault.Write)
             × AtStation self.old.station (λ bytes items side. length bytes + 1 < 2 ^ 64
-            → FailedWithin S.takes S.failures sink.old sink.new (plain_spelling answer_rules
+            → FailedWithin S.writer sink.old sink.new (plain_spelling answer_rules
             (outcome side (due self.old.records (drop self.old.pressed keys.now))).written))) }
     {
         while self.pressed < keys.len() {
@@ -86,13 +86,13 @@ impl Player {
     ) -> Result<usize, Fault>
         requires { 0 < length piece.now }
         ensures within { IfOk result (λ used. (0 < used) × (used ≤ length piece.now)) }
-        ensures come { IfOk result (λ used. AtPlayer S.takes S.failures keys.now self.old sink.old
+        ensures come { IfOk result (λ used. AtPlayer S.writer keys.now self.old sink.old
             (length piece.now) (λ start terminal bytes.
-            IsBrought S.takes S.failures terminal keys.now start self.new sink.new
+            IsBrought S.writer terminal keys.now start self.new sink.new
             (bytes ++ take used piece.now))) }
         ensures fault { IfErr result (λ fault.
-            AtPlayer S.takes S.failures keys.now self.old sink.old (length piece.now)
-            (λ start terminal bytes. IsRunFault terminal keys.now S.takes S.failures start sink.new
+            AtPlayer S.writer keys.now self.old sink.old (length piece.now)
+            (λ start terminal bytes. IsRunFault terminal keys.now S.writer start sink.new
             (length bytes) (bytes ++ piece.now) fault)) }
     {
         let StationFront { used, step } = self.station.take_front(piece);
@@ -116,13 +116,13 @@ impl Player {
         keys: &[(u32, Key)],
         piece: &[u8],
     ) -> Result<(), Fault>
-        ensures come { OnOk result (AtPlayer S.takes S.failures keys.now self.old sink.old
+        ensures come { OnOk result (AtPlayer S.writer keys.now self.old sink.old
             (length piece.now) (λ start terminal bytes.
-            IsBrought S.takes S.failures terminal keys.now start self.new sink.new
+            IsBrought S.writer terminal keys.now start self.new sink.new
             (bytes ++ piece.now))) }
         ensures fault { IfErr result (λ fault.
-            AtPlayer S.takes S.failures keys.now self.old sink.old (length piece.now)
-            (λ start terminal bytes. IsRunFault terminal keys.now S.takes S.failures start sink.new
+            AtPlayer S.writer keys.now self.old sink.old (length piece.now)
+            (λ start terminal bytes. IsRunFault terminal keys.now S.writer start sink.new
             (length bytes) (bytes ++ piece.now) fault)) }
     {
         let mut used = 0;

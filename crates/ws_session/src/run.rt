@@ -35,7 +35,7 @@ pub fn run_station<R: Source, S: Sink>(
 ) -> Result<Played, Fault>
     requires { IsFresh station }
     ensures { (terminal : ATerminal) → StationLeads station [] [] (new_station_side terminal)
-        → IsRun terminal keys.now R.gives R.failures source.old source.new S.takes S.failures
+        → IsRun terminal keys.now R.reader source.old source.new S.writer
         sink.old sink.new result }
 {
     let mut player = Player {

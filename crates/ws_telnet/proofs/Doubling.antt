@@ -3,7 +3,7 @@ use Rattle.std.proofs.Common.{◌≤◌, arith, ◌+◌, get_or}
 use Rattle.std.proofs.lemmas.Grind.{flat_map-append}
 use Rattle.std.proofs.lemmas.List.{append-nil, take-append-drop, take_more, take_all}
 use Rattle.std.specs.List.{flat_map}
-use Rattle.ws_code.specs.Device.{MayTake, WentOut, FailedWithin}
+use Rattle.ws_code.specs.Device.{Writer, WentOut, FailedWithin}
 use Rattle.ws_code.proofs.DeviceLaws.{went_out_both, failed_within_both}
 use Rattle.ws_code.proofs.Lists.{run, run_more, run_none}
 use Rattle.ws_code.proofs.Parts.{fails_last}
@@ -27,11 +27,11 @@ doubled_each spell [] = refl
 doubled_each spell (x ∷ xs) = flat_map-append doubled (spell x) (flat_map spell xs)
     ∙ ap (λ z. flat_map doubled (spell x) ++ z) (doubled_each spell xs)
 
-module _ {S : Type 0} (takes : MayTake S) (failures : S → ℕ) where
+module _ {S : Type 0} (writer : Writer S) where
   -- What the runs so far leave: they went out, and with the run that is open they are the bytes so far, doubled.
   pub record IsDoubling (from to : S) (bytes : List ℕ) (start at : ℕ) : Type 0 where
     pub out : List ℕ
-    pub went_out : WentOut takes failures from to out
+    pub went_out : WentOut writer from to out
     pub within : start ≤ at
     pub text : out ++ run bytes start at ≡ flat_map doubled (take at bytes)
 
@@ -53,18 +53,18 @@ module _ {S : Type 0} (takes : MayTake S) (failures : S → ℕ) where
 
     -- one that is
     pub doubling_iac : {to : S} → at < length bytes → get_or bytes at 0 ≡ 0xff
-        → WentOut takes failures mid to (run bytes start (at + 1)) → IsDoubling from to bytes at (at + 1)
+        → WentOut writer mid to (run bytes start (at + 1)) → IsDoubling from to bytes at (at + 1)
     doubling_iac k iac p = record {
       out = d.out ++ run bytes start (at + 1);
       within = omega arith;
-      went_out = went_out_both takes failures _ _ _ _ _ d.went_out p;
+      went_out = went_out_both writer _ _ _ _ _ d.went_out p;
       text = rw (through k, run_more bytes at at (omega arith) k, run_none bytes at, doubled_more bytes at k, iac)
           (simp append_assoc);
     }
 
     pub doubling_fails : {to : S} → at < length bytes → get_or bytes at 0 ≡ 0xff
-        → FailedWithin takes failures mid to (run bytes start (at + 1))
-        → FailedWithin takes failures from to (flat_map doubled bytes)
+        → FailedWithin writer mid to (run bytes start (at + 1))
+        → FailedWithin writer from to (flat_map doubled bytes)
     doubling_fails k iac f =
         let rest : List ℕ = 0xff ∷ flat_map doubled (drop (at + 1) bytes) in
         let text : d.out ++ (run bytes start (at + 1) ++ rest) ≡ flat_map doubled bytes = rw (
@@ -74,16 +74,16 @@ module _ {S : Type 0} (takes : MayTake S) (failures : S → ℕ) where
           doubled_more bytes at k,
           iac,
         ) (simp append_assoc) in
-        rw (← text) (failed_within_both takes failures _ _ _ _ _ rest d.went_out f)
+        rw (← text) (failed_within_both writer _ _ _ _ _ rest d.went_out f)
 
     -- the last run
     doubling_text : length bytes ≤ at → d.out ++ run bytes start at ≡ flat_map doubled bytes
     doubling_text h = d.text ∙ ap (flat_map doubled) (take_all at bytes h)
 
-    pub doubling_ends : {to : S} → length bytes ≤ at → WentOut takes failures mid to (run bytes start at)
-        → WentOut takes failures from to (flat_map doubled bytes)
-    doubling_ends h p = rw (doubling_text h) at (went_out_both takes failures _ _ _ _ _ d.went_out p)
+    pub doubling_ends : {to : S} → length bytes ≤ at → WentOut writer mid to (run bytes start at)
+        → WentOut writer from to (flat_map doubled bytes)
+    doubling_ends h p = rw (doubling_text h) at (went_out_both writer _ _ _ _ _ d.went_out p)
 
-    pub doubling_ends_failed : {to : S} → length bytes ≤ at → FailedWithin takes failures mid to (run bytes start at)
-        → FailedWithin takes failures from to (flat_map doubled bytes)
-    doubling_ends_failed h f = rw (doubling_text h) at (fails_last takes failures _ _ _ _ _ d.went_out f)
+    pub doubling_ends_failed : {to : S} → length bytes ≤ at → FailedWithin writer mid to (run bytes start at)
+        → FailedWithin writer from to (flat_map doubled bytes)
+    doubling_ends_failed h f = rw (doubling_text h) at (fails_last writer _ _ _ _ _ d.went_out f)

@@ -26,10 +26,10 @@ pub fn spell(token: &Token, into: &mut ArrayVec<u8, 133>)
 ///
 /// `Write` is the only fault: the sink failed, and what went out of the spelling is a prefix of it.
 pub fn write_token<S: Sink>(sink: &mut S, token: &Token) -> Result<(), Fault>
-    ensures ok { OnOk result (WentOut S.takes S.failures sink.old sink.new
+    ensures ok { OnOk result (WentOut S.writer sink.old sink.new
         (token_spelling token.now)) }
     ensures err { IfErr result (λ fault. (fault ≡ Fault.Write)
-        × FailedWithin S.takes S.failures sink.old sink.new (token_spelling token.now)) }
+        × FailedWithin S.writer sink.old sink.new (token_spelling token.now)) }
 {
     let mut spelling = ArrayVec::new();
     spell(token, &mut spelling);
@@ -41,10 +41,10 @@ pub fn write_token<S: Sink>(sink: &mut S, token: &Token) -> Result<(), Fault>
 ///
 /// `Write` is the only fault: the sink failed, and what went out of the spelling is a prefix of it.
 pub fn write_telnet<S: Sink>(sink: &mut S, telnet: &Telnet) -> Result<(), Fault>
-    ensures ok { OnOk result (WentOut S.takes S.failures sink.old sink.new
+    ensures ok { OnOk result (WentOut S.writer sink.old sink.new
         (telnet_spelling telnet.now)) }
     ensures err { IfErr result (λ fault. (fault ≡ Fault.Write)
-        × FailedWithin S.takes S.failures sink.old sink.new (telnet_spelling telnet.now)) }
+        × FailedWithin S.writer sink.old sink.new (telnet_spelling telnet.now)) }
 {
     let mut bytes = ArrayVec::new();
     spell_telnet(telnet, &mut bytes);

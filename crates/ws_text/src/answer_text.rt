@@ -16,7 +16,7 @@ pub fn put_answer_item<S: Sink>(
     place: u64,
     item: &Item<AnswerPart>,
 ) -> Output
-    ensures { Prints S.takes S.failures sink.old sink.new output result
+    ensures { Prints S.writer sink.old sink.new output result
         (Shown.answer_text place item.now) }
 {
     match item {
@@ -31,7 +31,7 @@ pub fn put_answer_item<S: Sink>(
 
 // Writes the lines of an answer's parts, each with the line's end before it.
 fn put_parts<S: Sink>(sink: &mut S, output: Output, parts: &[AnswerPart]) -> Output
-    ensures { Prints S.takes S.failures sink.old sink.new output result
+    ensures { Prints S.writer sink.old sink.new output result
         (Shown.part_lines parts.now) }
 {
     let mut output = output;
@@ -57,7 +57,7 @@ pub fn put_line<S: Sink>(
     is_behind_byte: bool,
     part: AnswerPart,
 ) -> Output
-    ensures { Prints S.takes S.failures sink.old sink.new output result
+    ensures { Prints S.writer sink.old sink.new output result
         (Shown.part_line is_behind_byte part) }
 {
     match part {
@@ -71,7 +71,7 @@ pub fn put_line<S: Sink>(
 
 // Writes the text of a part, without blanks before it and a line's end.
 fn put_part<S: Sink>(sink: &mut S, output: Output, part: AnswerPart) -> Output
-    ensures { Prints S.takes S.failures sink.old sink.new output result (Shown.part_text part) }
+    ensures { Prints S.writer sink.old sink.new output result (Shown.part_text part) }
 {
     match part {
         AnswerPart::Head { cursor, aid } => put_fill(sink, output, "HEAD ", cursor, &[aid.byte()]),

@@ -10,7 +10,7 @@ use ws_stream::{Element, FieldStart};
 
 /// Writes the text of an element, without blanks before it and a line's end.
 pub fn put_element<S: Sink>(sink: &mut S, output: Output, element: &Element) -> Output
-    ensures { Prints S.takes S.failures sink.old sink.new output result
+    ensures { Prints S.writer sink.old sink.new output result
         (Shown.element_text element.now) }
 {
     match element {
@@ -41,7 +41,7 @@ pub fn put_element<S: Sink>(sink: &mut S, output: Output, element: &Element) -> 
 
 // A command's name and its two control characters.
 fn put_command<S: Sink>(sink: &mut S, output: Output, name: &str, cc1: u8, cc2: u8) -> Output
-    ensures { Prints S.takes S.failures sink.old sink.new output result
+    ensures { Prints S.writer sink.old sink.new output result
         (name.now ++ Shown.controls_text cc1 cc2) }
 {
     let output = put_text(sink, output, name);
@@ -52,7 +52,7 @@ fn put_command<S: Sink>(sink: &mut S, output: Output, name: &str, cc1: u8, cc2: 
 
 /// Writes a name and the cell behind it.
 pub fn put_place<S: Sink>(sink: &mut S, output: Output, name: &str, to: Address) -> Output
-    ensures { Prints S.takes S.failures sink.old sink.new output result
+    ensures { Prints S.writer sink.old sink.new output result
         (name.now ++ Shown.cell_text to) }
 {
     let output = put_text(sink, output, name);
@@ -67,7 +67,7 @@ pub fn put_fill<S: Sink>(
     to: Address,
     bytes: &[u8],
 ) -> Output
-    ensures { Prints S.takes S.failures sink.old sink.new output result
+    ensures { Prints S.writer sink.old sink.new output result
         (name.now ++ Shown.fill_text to bytes.now) }
 {
     let output = put_place(sink, output, name, to);
@@ -77,7 +77,7 @@ pub fn put_fill<S: Sink>(
 
 // Format and control words where there are any, the attribute, and the length.
 fn put_field<S: Sink>(sink: &mut S, output: Output, field: &FieldStart) -> Output
-    ensures { Prints S.takes S.failures sink.old sink.new output result
+    ensures { Prints S.writer sink.old sink.new output result
         (codes "SF " ++ Shown.field_text field.now) }
 {
     let output = put_text(sink, output, "SF ");
@@ -90,7 +90,7 @@ fn put_field<S: Sink>(sink: &mut S, output: Output, field: &FieldStart) -> Outpu
 
 // The format word and a blank, where there is one.
 fn put_format<S: Sink>(sink: &mut S, output: Output, field: &FieldStart) -> Output
-    ensures { Prints S.takes S.failures sink.old sink.new output result
+    ensures { Prints S.writer sink.old sink.new output result
         (Shown.format_text field.now.format) }
 {
     match field.format() {

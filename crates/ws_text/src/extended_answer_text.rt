@@ -31,7 +31,7 @@ pub fn put_extended_answer_item<S: Sink>(
     place: u64,
     item: &Item<ExtendedAnswerPart>,
 ) -> Output
-    ensures { Prints S.takes S.failures sink.old sink.new output result
+    ensures { Prints S.writer sink.old sink.new output result
         (Shown.told_item_text place item.now) }
 {
     match item {
@@ -46,7 +46,7 @@ pub fn put_extended_answer_item<S: Sink>(
 
 // Writes the lines of a body. What is told at once behind a cursor is named by what it is.
 fn put_body<S: Sink>(sink: &mut S, output: Output, parts: &[ExtendedAnswerPart]) -> Output
-    ensures { Prints S.takes S.failures sink.old sink.new output result
+    ensures { Prints S.writer sink.old sink.new output result
         (Shown.told_lines parts.now) }
 {
     match parts {
@@ -98,7 +98,7 @@ fn is_field_byte(part: &ExtendedAnswerPart) -> bool
 
 // Writes the lines of parts, each with the line's end before it.
 fn put_parts<S: Sink>(sink: &mut S, output: Output, parts: &[ExtendedAnswerPart]) -> Output
-    ensures { Prints S.takes S.failures sink.old sink.new output result
+    ensures { Prints S.writer sink.old sink.new output result
         (Shown.told_part_lines parts.now) }
 {
     let mut output = output;
@@ -141,7 +141,7 @@ fn put_told_line<S: Sink>(
     before: ByteKind,
     part: &ExtendedAnswerPart,
 ) -> Output
-    ensures { Prints S.takes S.failures sink.old sink.new output result
+    ensures { Prints S.writer sink.old sink.new output result
         (Shown.told_line before part.now) }
 {
     match part {

@@ -16,7 +16,7 @@ pub fn put_extended_item<S: Sink>(
     place: u64,
     item: &Item<ExtendedElement>,
 ) -> Output
-    ensures { Prints S.takes S.failures sink.old sink.new output result
+    ensures { Prints S.writer sink.old sink.new output result
         (Shown.extended_item_text place item.now) }
 {
     match item {
@@ -31,7 +31,7 @@ pub fn put_extended_item<S: Sink>(
 
 // Writes the lines of a body's elements, each with the line's end before it.
 fn put_elements<S: Sink>(sink: &mut S, output: Output, elements: &[ExtendedElement]) -> Output
-    ensures { Prints S.takes S.failures sink.old sink.new output result
+    ensures { Prints S.writer sink.old sink.new output result
         (Shown.extended_lines elements.now) }
 {
     let mut output = output;
@@ -60,7 +60,7 @@ pub fn put_extended_line<S: Sink>(
     is_behind_byte: bool,
     element: &ExtendedElement,
 ) -> Output
-    ensures { Prints S.takes S.failures sink.old sink.new output result
+    ensures { Prints S.writer sink.old sink.new output result
         (Shown.extended_line is_behind_byte element.now) }
 {
     match element {

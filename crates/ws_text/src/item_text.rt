@@ -13,7 +13,7 @@ use ws_telnet::{CommandCode, Telnet, Verb};
 
 /// Writes the lines of an item whose last byte is at the place.
 pub fn put_item<S: Sink>(sink: &mut S, output: Output, place: u64, item: &Item<Element>) -> Output
-    ensures { Prints S.takes S.failures sink.old sink.new output result
+    ensures { Prints S.writer sink.old sink.new output result
         (Shown.item_text place item.now) }
 {
     match item {
@@ -24,7 +24,7 @@ pub fn put_item<S: Sink>(sink: &mut S, output: Output, place: u64, item: &Item<E
 
 /// Writes the line of a Telnet command whose last byte is at the place.
 pub fn put_telnet<S: Sink>(sink: &mut S, output: Output, place: u64, telnet: &Telnet) -> Output
-    ensures { Prints S.takes S.failures sink.old sink.new output result
+    ensures { Prints S.writer sink.old sink.new output result
         (Shown.telnet_text place telnet.now) }
 {
     let output = put_text(sink, output, "at ");
@@ -36,7 +36,7 @@ pub fn put_telnet<S: Sink>(sink: &mut S, output: Output, place: u64, telnet: &Te
 
 // Writes the name of a Telnet command, and what it is about.
 fn put_name<S: Sink>(sink: &mut S, output: Output, telnet: &Telnet) -> Output
-    ensures { Prints S.takes S.failures sink.old sink.new output result
+    ensures { Prints S.writer sink.old sink.new output result
         (Shown.telnet_name telnet.now) }
 {
     match telnet {
@@ -84,7 +84,7 @@ fn verb_name(verb: Verb) -> &'static str
 // Writes the lines of a record: one for its header and one for each element, with a line for each longest run of
 // bytes for cells.
 fn put_record<S: Sink>(sink: &mut S, output: Output, place: u64, record: &Record<Element>) -> Output
-    ensures { Prints S.takes S.failures sink.old sink.new output result
+    ensures { Prints S.writer sink.old sink.new output result
         (Shown.record_text place «record».now) }
 {
     let output = put_head(sink, output, place, record);
@@ -94,7 +94,7 @@ fn put_record<S: Sink>(sink: &mut S, output: Output, place: u64, record: &Record
 
 /// Writes the header of a record whose last byte is at the place.
 pub fn put_head<S: Sink, U>(sink: &mut S, output: Output, place: u64, record: &Record<U>) -> Output
-    ensures { Prints S.takes S.failures sink.old sink.new output result
+    ensures { Prints S.writer sink.old sink.new output result
         (Shown.head_text place «record».now) }
 {
     let output = put_text(sink, output, "at ");
@@ -106,7 +106,7 @@ pub fn put_head<S: Sink, U>(sink: &mut S, output: Output, place: u64, record: &R
 }
 
 fn put_flags<S: Sink>(sink: &mut S, output: Output, flags: u16) -> Output
-    ensures { Prints S.takes S.failures sink.old sink.new output result
+    ensures { Prints S.writer sink.old sink.new output result
         (encode_upper (two_bytes flags)) }
 {
     put_hex(sink, output, &flags.to_be_bytes())
@@ -114,7 +114,7 @@ fn put_flags<S: Sink>(sink: &mut S, output: Output, flags: u16) -> Output
 
 // Writes the lines of a record's elements, each with the line's end before it.
 fn put_elements<S: Sink>(sink: &mut S, output: Output, elements: &[Element]) -> Output
-    ensures { Prints S.takes S.failures sink.old sink.new output result
+    ensures { Prints S.writer sink.old sink.new output result
         (Shown.element_lines elements.now) }
 {
     let mut output = output;
@@ -140,7 +140,7 @@ pub fn put_line<S: Sink>(
     is_behind_put: bool,
     element: &Element,
 ) -> Output
-    ensures { Prints S.takes S.failures sink.old sink.new output result
+    ensures { Prints S.writer sink.old sink.new output result
         (Shown.element_line is_behind_put element.now) }
 {
     match element {

@@ -16,14 +16,14 @@ pub enum Output {
 
 /// Writes a text.
 pub fn put_text<S: Sink>(sink: &mut S, output: Output, text: &str) -> Output
-    ensures { Prints S.takes S.failures sink.old sink.new output result text.now }
+    ensures { Prints S.writer sink.old sink.new output result text.now }
 {
     put(sink, output, text.as_bytes())
 }
 
 /// Writes bytes.
 pub fn put<S: Sink>(sink: &mut S, output: Output, bytes: &[u8]) -> Output
-    ensures { Prints S.takes S.failures sink.old sink.new output result bytes.now }
+    ensures { Prints S.writer sink.old sink.new output result bytes.now }
 {
     match output {
         Output::Failed => Output::Failed,
@@ -36,7 +36,7 @@ pub fn put<S: Sink>(sink: &mut S, output: Output, bytes: &[u8]) -> Output
 
 /// Writes a number in decimal.
 pub fn put_number<S: Sink>(sink: &mut S, output: Output, number: u64) -> Output
-    ensures { Prints S.takes S.failures sink.old sink.new output result (decimal number) }
+    ensures { Prints S.writer sink.old sink.new output result (decimal number) }
 {
     if number < 10 {
         return put(sink, output, &[b'0' + number as u8]);
@@ -47,7 +47,7 @@ pub fn put_number<S: Sink>(sink: &mut S, output: Output, number: u64) -> Output
 
 /// Writes bytes in upper case hex.
 pub fn put_hex<S: Sink>(sink: &mut S, output: Output, bytes: &[u8]) -> Output
-    ensures { Prints S.takes S.failures sink.old sink.new output result (encode_upper bytes.now) }
+    ensures { Prints S.writer sink.old sink.new output result (encode_upper bytes.now) }
 {
     let mut output = output;
     for byte in bytes {
@@ -66,7 +66,7 @@ fn digit(value: u8) -> u8
 
 /// Writes a blank and the bytes in upper case hex, where there are any.
 pub fn put_hex_behind_blank<S: Sink>(sink: &mut S, output: Output, bytes: &[u8]) -> Output
-    ensures { Prints S.takes S.failures sink.old sink.new output result
+    ensures { Prints S.writer sink.old sink.new output result
         (hex_behind_blank bytes.now) }
 {
     if bytes.is_empty() {
@@ -78,7 +78,7 @@ pub fn put_hex_behind_blank<S: Sink>(sink: &mut S, output: Output, bytes: &[u8])
 
 /// Writes a cell's row and column.
 pub fn put_cell<S: Sink>(sink: &mut S, output: Output, cell: Address) -> Output
-    ensures { Prints S.takes S.failures sink.old sink.new output result (cell_text cell) }
+    ensures { Prints S.writer sink.old sink.new output result (cell_text cell) }
 {
     let output = put_number(sink, output, cell.row() as u64);
     let output = put_text(sink, output, " ");
@@ -87,7 +87,7 @@ pub fn put_cell<S: Sink>(sink: &mut S, output: Output, cell: Address) -> Output
 
 /// Writes words of 16 bits in upper case hex, a blank behind each.
 pub fn put_words<S: Sink>(sink: &mut S, output: Output, words: &[u16]) -> Output
-    ensures { Prints S.takes S.failures sink.old sink.new output result (words_text words.now) }
+    ensures { Prints S.writer sink.old sink.new output result (words_text words.now) }
 {
     let mut output = output;
     for word in words {

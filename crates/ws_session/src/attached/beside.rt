@@ -15,9 +15,9 @@ impl<E, S, K: Sink> Attached<E, S, K> {
     pub fn write(&mut self, bytes: &[u8]) -> Result<(), Fault>
         // What is written past the end, or how far it came.
         ensures done { OnOk result
-            (HasWrittenBeside K.takes K.failures self.old self.new bytes.now) }
+            (HasWrittenBeside K.writer self.old self.new bytes.now) }
         ensures fault { self.old.broken ≡ false → IfErr result (λ fault. (fault ≡ Fault.Write)
-            × HasFailedBeside K.takes K.failures self.old self.new bytes.now) }
+            × HasFailedBeside K.writer self.old self.new bytes.now) }
         // A broken end goes nowhere, and a fault breaks one.
         ensures broken { self.old.broken ≡ true
             → (result ≡ Err Fault.Failed) × (self.new ≡ self.old) }

@@ -18,7 +18,7 @@ loop-preserved g c =
           length-append before.0 given,
           length-take-le c.in-Ok.given c.read.new.into c.in-Ok.ensures.ok.0,
         ),
-        gave_more g.S.Source.gives g.S.Source.failures c.args.source.now c.loop.source c.read.new.self c.loop.counter
+        gave_more g.S.Source.reader c.args.source.now c.loop.source c.read.new.self c.loop.counter
             before.0 (length c.loop.into) given before.2 (omega arith) c.in-Ok.ensures.ok.1
             (take_some c.read.new.into c.in-Ok.given some c.in-Ok.ensures.ok.0) c.in-Ok.ensures.ok.2,
       );

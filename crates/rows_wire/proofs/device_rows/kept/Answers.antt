@@ -5,7 +5,7 @@ use Rattle.rows_wire.proofs.device_rows.kept.Goals as goal
 
 pub returns : goal.returns
 returns c = record {
-  ok = c.into_inner.ensures ∙ held_went_out (λ (h : Held). h.failures) c.new-sink.result c.write_whole.new.sink
+  ok = c.into_inner.ensures ∙ held_went_out c.new-sink.result c.write_whole.new.sink
       c.args.bytes.now c.in_ok-write_whole.ensures.ok
       ∙ ap (λ (l : List ℕ). l ++ c.args.bytes.now) c.new-sink.ensures.bytes;
 }

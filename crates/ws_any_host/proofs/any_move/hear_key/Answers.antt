@@ -13,7 +13,7 @@ loop-init g c = (
   [],
   refl,
   refl,
-  prints_none g.O.Sink.takes g.O.Sink.failures c.args.out.now c.args.output,
+  prints_none g.O.Sink.writer c.args.out.now c.args.output,
   c.requires.works,
 )
 
@@ -82,7 +82,7 @@ loop-preserved g c =
     let heard = rw c.in-Ok-Some.field-0-is at c.in-Ok-Some.ensures.heard in
     let other : is_by c.args.aid event ≡ false = sym c.is_by.ensures ∙ c.if-is_by.false in (
       so_far.0 ++ event ∷ [],
-      told_behind g.K.Sink.takes g.K.Sink.failures g.S.Source.gives g.S.Source.failures c.args.aid
+      told_behind g.K.Sink.writer g.S.Source.reader c.args.aid
           c.args.attached.now c.loop.attached c.hear.new.self so_far.0 event so_far.1 heard other,
       omega (arith, so_far.2, length-append so_far.0 (event ∷ [])),
       prints_same (flat_map_more any_event_text [] so_far.0 event)

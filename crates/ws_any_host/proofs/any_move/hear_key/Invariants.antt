@@ -8,7 +8,7 @@ use Rattle.ws_any_host.proofs.any_move.hear_key.Given as goal
 -- what was told and printed so far, none of which is by the key
 abbrev pub invariant-loop : goal.invariant-loop
 invariant-loop g l = (told : List AnyEvent)
-    × HaveTold g.K.Sink.takes g.K.Sink.failures g.S.Source.gives g.S.Source.failures l.aid l.fn.attached told l.attached
+    × HaveTold g.K.Sink.writer g.S.Source.reader l.aid l.fn.attached told l.attached
     × (length told ≡ l.counter)
-    × Prints g.O.Sink.takes g.O.Sink.failures l.fn.out l.out l.fn.output l.output (flat_map any_event_text told)
+    × Prints g.O.Sink.writer l.fn.out l.out l.fn.output l.output (flat_map any_event_text told)
     × (l.attached.broken ≡ false)

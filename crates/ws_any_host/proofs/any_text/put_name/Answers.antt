@@ -6,7 +6,7 @@ use Rattle.ws_any_host.specs.AnyText.{name_byte, name_text}
 use Rattle.ws_any_host.proofs.any_text.put_name.Goals as goal
 
 pub loop-byte-init : goal.loop-byte-init
-loop-byte-init g c = prints_none g.S.Sink.takes g.S.Sink.failures c.args.sink.now c.args.output
+loop-byte-init g c = prints_none g.S.Sink.writer c.args.sink.now c.args.output
 
 pub loop-byte-preserved : goal.loop-byte-preserved
 loop-byte-preserved g c = prints_same

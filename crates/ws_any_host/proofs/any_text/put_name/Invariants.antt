@@ -5,5 +5,5 @@ use Rattle.ws_any_host.proofs.any_text.put_name.Given as goal
 
 -- the bytes so far
 abbrev pub invariant-loop-byte : goal.invariant-loop-byte
-invariant-loop-byte g l = Prints g.S.Sink.takes g.S.Sink.failures l.fn.sink l.sink l.fn.output l.output
+invariant-loop-byte g l = Prints g.S.Sink.writer l.fn.sink l.sink l.fn.output l.output
     (name_text (take l.byte-index l.name))

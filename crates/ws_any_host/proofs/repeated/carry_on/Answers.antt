@@ -11,7 +11,7 @@ pub loop-init : goal.loop-init
 loop-init g c = (
   [],
   (refl, refl, refl),
-  went_out_none g.O.Sink.takes g.O.Sink.failures c.args.out.now.sink,
+  went_out_none g.O.Sink.writer c.args.out.now.sink,
   c.requires.works,
   c.requires.empty,
 )
@@ -22,7 +22,7 @@ returns-then-not-is_told-clause-carried g c =
     let untold : is_told c.in-Ok.closing ≡ false = sym c.is_told.ensures ∙ c.if-not-is_told.true in
     let runs = InTime (g.L.LiveMove.runs g.W.Watch.tells g.W.Watch.rests Plain) g.L.LiveMove.waits g.W.Watch.begins
     g.W.Watch.begun in
-    none_told runs c.args.line.now g.O.Sink.takes g.O.Sink.failures
+    none_told runs c.args.line.now g.O.Sink.writer
     ((c.args.attached.now, c.args.ahead.now), c.args.watch.now) ((c.loop.attached, c.loop.ahead), c.loop.watch)
     ((c.carry_once.new.attached, c.carry_once.new.ahead), c.carry_once.new.watch) c.args.out.now.sink c.loop.out.sink
     c.carry_once.new.out.sink c.loop.counter so_far.0 so_far.1 so_far.2 c.in-Ok.closing c.goes_well.result
@@ -33,7 +33,7 @@ returns-in-Err-clause-fault g c =
     let so_far = c.loop.invariant in
     let runs = InTime (g.L.LiveMove.runs g.W.Watch.tells g.W.Watch.rests Plain) g.L.LiveMove.waits g.W.Watch.begins
     g.W.Watch.begun in
-    once_fails runs c.args.line.now g.O.Sink.takes g.O.Sink.failures
+    once_fails runs c.args.line.now g.O.Sink.writer
     ((c.args.attached.now, c.args.ahead.now), c.args.watch.now) ((c.loop.attached, c.loop.ahead), c.loop.watch)
     ((c.carry_once.new.attached, c.carry_once.new.ahead), c.carry_once.new.watch) c.args.out.now.sink c.loop.out.sink
     c.carry_once.new.out.sink c.loop.counter so_far.0 so_far.1 so_far.2 c.in-Err.fault c.in-Err.ensures.fault
@@ -44,7 +44,7 @@ loop-preserved g c =
     let told : is_told c.in-Ok.closing ≡ true = sym c.is_told.ensures ∙ c.if-not-is_told.false in
     let runs = InTime (g.L.LiveMove.runs g.W.Watch.tells g.W.Watch.rests Plain) g.L.LiveMove.waits g.W.Watch.begins
     g.W.Watch.begun in
-    let more = one_told runs c.args.line.now g.O.Sink.takes g.O.Sink.failures
+    let more = one_told runs c.args.line.now g.O.Sink.writer
     ((c.args.attached.now, c.args.ahead.now), c.args.watch.now) ((c.loop.attached, c.loop.ahead), c.loop.watch)
     ((c.carry_once.new.attached, c.carry_once.new.ahead), c.carry_once.new.watch) c.args.out.now.sink c.loop.out.sink
     c.carry_once.new.out.sink c.loop.counter so_far.0 so_far.1 so_far.2 c.in-Ok.closing c.in-Ok.ensures.carried told in
@@ -56,6 +56,6 @@ returns-clause-fault g c =
     let all : c.loop.counter ≡ most_reads = omega (arith, c.loop-test.false, c.loop.auto.counter-end) in
     let runs = InTime (g.L.LiveMove.runs g.W.Watch.tells g.W.Watch.rests Plain) g.L.LiveMove.waits g.W.Watch.begins
     g.W.Watch.begun in
-    too_much_told runs c.args.line.now g.O.Sink.takes g.O.Sink.failures
+    too_much_told runs c.args.line.now g.O.Sink.writer
     ((c.args.attached.now, c.args.ahead.now), c.args.watch.now) ((c.loop.attached, c.loop.ahead), c.loop.watch)
     c.args.out.now.sink c.loop.out.sink so_far.0 c.loop.counter so_far.1 so_far.2 all

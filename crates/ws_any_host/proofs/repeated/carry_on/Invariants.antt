@@ -11,5 +11,5 @@ abbrev pub invariant-loop : goal.invariant-loop
 invariant-loop g l = (text : List ℕ)
     × HaveRun (InTime (g.L.LiveMove.runs g.W.Watch.tells g.W.Watch.rests Plain) g.L.LiveMove.waits g.W.Watch.begins
     g.W.Watch.begun) false ((l.fn.attached, l.fn.ahead), l.fn.watch) (replicate l.counter l.line) true text
-    ((l.attached, l.ahead), l.watch) × WentOut g.O.Sink.takes g.O.Sink.failures l.fn.out.sink l.out.sink text
+    ((l.attached, l.ahead), l.watch) × WentOut g.O.Sink.writer l.fn.out.sink l.out.sink text
     × (l.attached.broken ≡ false) × (l.out.held ≡ [])

@@ -18,7 +18,7 @@ returns-in-Open-clause-carried g c =
             (c.carry_out-carried.new.attached, c.carry_out-carried.new.ahead)) c.in-Ok.is e.1,
         c.carry_out-carried.ensures.begun,
       ),
-      subst (λ (o : Output). IsOut g.O.Sink.takes g.O.Sink.failures c.args.out.now.sink c.hand_on-output.new.out.sink o
+      subst (λ (o : Output). IsOut g.O.Sink.writer c.args.out.now.sink c.hand_on-output.new.out.sink o
           e.0) c.in-Open.is
           (c.hand_on-output.ensures.out c.args.out.now e.0 c.requires.empty (whole_out e.2)),
     )
@@ -37,7 +37,7 @@ returns-in-Failed-clause-fault g c =
               (c.carry_out-carried.new.attached, c.carry_out-carried.new.ahead)) c.in-Ok.is e.1,
           c.carry_out-carried.ensures.begun,
         ),
-        subst (λ (o : Output). IsOut g.O.Sink.takes g.O.Sink.failures c.args.out.now.sink c.hand_on-output.new.out.sink
+        subst (λ (o : Output). IsOut g.O.Sink.writer c.args.out.now.sink c.hand_on-output.new.out.sink
             o e.0) c.in-Failed.is
             (c.hand_on-output.ensures.out c.args.out.now e.0 c.requires.empty (whole_out e.2)),
       ),

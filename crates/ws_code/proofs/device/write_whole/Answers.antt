@@ -8,14 +8,14 @@ pub loop-at-preserved : goal.loop-at-preserved
 loop-at-preserved g c =
     let bytes = c.args.bytes.now in
     let at = c.loop-at.at in
-    let one = went_out_one g.S.Sink.takes g.S.Sink.failures c.loop-at.sink c.write.new.self
+    let one = went_out_one g.S.Sink.writer c.loop-at.sink c.write.new.self
     (take (length bytes - at) (drop at bytes)) c.in-Ok.taken c.in-Ok.ensures.ok.1 c.in-Ok.taken-test.1
     c.in-Ok.ensures.ok.2 in
-    let both = went_out_both g.S.Sink.takes g.S.Sink.failures c.args.sink.now c.loop-at.sink c.write.new.self _ _
+    let both = went_out_both g.S.Sink.writer c.args.sink.now c.loop-at.sink c.write.new.self _ _
     c.loop-at.invariant.went_out one in
     record {
       within = omega (arith, c.in-Ok.ensures.ok.0, length_rest bytes at);
-      went_out = subst (WentOut g.S.Sink.takes g.S.Sink.failures c.args.sink.now c.write.new.self)
+      went_out = subst (WentOut g.S.Sink.writer c.args.sink.now c.write.new.self)
           (sym (take_front bytes at c.in-Ok.taken c.loop-at.invariant.within)) both;
     }
 

@@ -6,7 +6,7 @@ use Rattle.ws_code.proofs.device.write_whole.Given as goal
 abbrev pub invariant-loop-at : goal.invariant-loop-at
 invariant-loop-at g l = record {
   within : l.at ≤ length l.bytes;
-  went_out : WentOut g.S.Sink.takes g.S.Sink.failures l.fn.sink l.sink (take l.at l.bytes);
+  went_out : WentOut g.S.Sink.writer l.fn.sink l.sink (take l.at l.bytes);
 }
 
 abbrev pub decreases-loop-at : goal.decreases-loop-at

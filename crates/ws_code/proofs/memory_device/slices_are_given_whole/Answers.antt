@@ -4,7 +4,7 @@ use Rattle.ws_code.proofs.memory_device.slices_are_given_whole.Goals as goal
 
 pub returns : goal.returns
 returns _ = record {
-  front = list_gave (λ (_ : List ℕ). 0);
-  whole = list_gave_all (λ (_ : List ℕ). 0);
-  no_fault = list_no_fault (λ (_ : List ℕ). 0);
+  front = list_gave;
+  whole = list_gave_all;
+  no_fault = list_no_fault;
 }

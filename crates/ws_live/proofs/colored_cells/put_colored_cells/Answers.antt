@@ -7,7 +7,7 @@ use Rattle.ws_text.proofs.Prints.{prints_none, prints_both, prints_same}
 use Rattle.ws_live.proofs.colored_cells.put_colored_cells.Goals as goal
 
 pub loop-cell-init : goal.loop-cell-init
-loop-cell-init g c = (prints_none g.S.Sink.takes g.S.Sink.failures c.args.sink.now c.args.output, refl)
+loop-cell-init g c = (prints_none g.S.Sink.writer c.args.sink.now c.args.output, refl)
 
 pub loop-cell-preserved : goal.loop-cell-preserved
 loop-cell-preserved g c =

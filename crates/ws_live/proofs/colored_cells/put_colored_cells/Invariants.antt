@@ -7,6 +7,6 @@ use Rattle.ws_live.proofs.colored_cells.put_colored_cells.Given as goal
 
 -- the cells so far, and the attribute of the last of them
 abbrev pub invariant-loop-cell : goal.invariant-loop-cell
-invariant-loop-cell g l = Prints g.S.Sink.takes g.S.Sink.failures l.fn.sink l.sink l.fn.output l.output
+invariant-loop-cell g l = Prints g.S.Sink.writer l.fn.sink l.sink l.fn.output l.output
     (colored_behind None (take l.cell-index l.cells))
     × (l.before ≡ last_attribute None (take l.cell-index l.cells))

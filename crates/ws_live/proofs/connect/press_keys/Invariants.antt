@@ -6,8 +6,7 @@ use Rattle.ws_live.proofs.connect.press_keys.Given as goal
 -- the keys so far
 abbrev pub invariant-loop-key : goal.invariant-loop-key
 invariant-loop-key g l = (well : Bool) × (text : List ℕ)
-    × ArePressed g.D.Commands.Code.rules g.D.StationDisplay.does g.K.Sink.takes g.K.Sink.failures g.S.Source.gives
-    g.S.Source.failures g.D.Key.NamedKey.words l.fn.attached
+    × ArePressed g.D.Commands.Code.rules g.D.StationDisplay.does g.K.Sink.writer g.S.Source.reader g.D.Key.NamedKey.words l.fn.attached
     (take l.key-index l.keys) well text l.attached
-    × (l.closing ≡ pressed well) × Prints g.O.Sink.takes g.O.Sink.failures l.fn.out l.out l.fn.output l.output text
+    × (l.closing ≡ pressed well) × Prints g.O.Sink.writer l.fn.out l.out l.fn.output l.output text
     × (l.attached.broken ≡ false)

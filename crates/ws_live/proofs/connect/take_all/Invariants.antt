@@ -6,6 +6,5 @@ use Rattle.ws_live.proofs.connect.take_all.Given as goal
 -- the records so far, which are ahead
 abbrev pub invariant-loop : goal.invariant-loop
 invariant-loop g l = (told : List Applied)
-    × HasWaited g.D.Commands.Code.rules g.D.StationDisplay.does g.K.Sink.takes g.K.Sink.failures g.S.Source.gives
-    g.S.Source.failures (λ display. ⊥) l.fn.attached told l.attached
+    × HasWaited g.D.Commands.Code.rules g.D.StationDisplay.does g.K.Sink.writer g.S.Source.reader (λ display. ⊥) l.fn.attached told l.attached
     × (length told ≡ l.counter) × (l.ahead ≡ more_ahead l.fn.ahead told) × (l.attached.broken ≡ false)

@@ -16,8 +16,7 @@ returns-in_default-clause-waited g c =
       c.loop.attached,
       so_far.1,
       unmet,
-      hears_none g.D.Commands.Code.rules g.D.StationDisplay.does g.K.Sink.takes g.K.Sink.failures g.S.Source.gives
-          g.S.Source.failures
+      hears_none g.D.Commands.Code.rules g.D.StationDisplay.does g.K.Sink.writer g.S.Source.reader
           g.W.Watch.tells c.loop.attached c.hear_record.new.attached c.hear_record.result
           c.hear_record.ensures.heard c.in_default.not-Met,
     ))
@@ -32,13 +31,11 @@ loop-preserved g c =
     (sym (c.display.ensures ∙ ap (λ e. e.screen) c.end.ensures)) met) in
     let heard = c.in-Met.ensures.heard in (
       so_far.0 ++ heard.0 ∷ [],
-      waited_more g.D.Commands.Code.rules g.D.StationDisplay.does g.K.Sink.takes g.K.Sink.failures g.S.Source.gives
-          g.S.Source.failures
+      waited_more g.D.Commands.Code.rules g.D.StationDisplay.does g.K.Sink.writer g.S.Source.reader
           (IsMet g.D.StationDisplay.does.shown g.D.OperatedDisplay.operated c.args.awaited.now) c.args.attached.now
           c.loop.attached c.hear_record.new.attached so_far.0 heard.0
           so_far.1 unmet heard.1,
-      waits_on g.D.Commands.Code.rules g.D.StationDisplay.does g.K.Sink.takes g.K.Sink.failures g.S.Source.gives
-          g.S.Source.failures
+      waits_on g.D.Commands.Code.rules g.D.StationDisplay.does g.K.Sink.writer g.S.Source.reader
           (IsMet g.D.StationDisplay.does.shown g.D.OperatedDisplay.operated c.args.awaited.now) c.args.attached.now
           c.hear_record.new.attached so_far.0 heard.0 c.loop.counter
           so_far.2,

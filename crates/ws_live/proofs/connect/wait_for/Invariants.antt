@@ -6,7 +6,6 @@ use Rattle.ws_live.proofs.connect.wait_for.Given as goal
 -- the records so far, before each of which it wasn't met
 abbrev pub invariant-loop : goal.invariant-loop
 invariant-loop g l = (told : List Applied)
-    × HasWaited g.D.Commands.Code.rules g.D.StationDisplay.does g.K.Sink.takes g.K.Sink.failures g.S.Source.gives
-    g.S.Source.failures
+    × HasWaited g.D.Commands.Code.rules g.D.StationDisplay.does g.K.Sink.writer g.S.Source.reader
     (IsMet g.D.StationDisplay.does.shown g.D.OperatedDisplay.operated l.awaited) l.fn.attached told l.attached
     × (length told ≡ l.counter) × (l.attached.broken ≡ false)

@@ -18,7 +18,7 @@ put_field_line-output-requires g c =
     (ends_within 0 fields c.loop-field.field-index field apart c.loop-field-test.true)
 
 pub loop-field-init : goal.loop-field-init
-loop-field-init g c = ([], refl, prints_none g.O.Sink.takes g.O.Sink.failures c.args.out.now c.args.output)
+loop-field-init g c = ([], refl, prints_none g.O.Sink.writer c.args.out.now c.args.output)
 
 pub loop-field-preserved : goal.loop-field-preserved
 loop-field-preserved g c =

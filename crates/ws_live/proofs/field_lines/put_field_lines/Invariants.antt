@@ -6,4 +6,4 @@ use Rattle.ws_live.proofs.field_lines.put_field_lines.Given as goal
 -- the fields so far
 abbrev pub invariant-loop-field : goal.invariant-loop-field
 invariant-loop-field g l = (text : List ℕ) × AreLinesOf l.screen.cells (take l.field-index l.field-items) text
-    × Prints g.O.Sink.takes g.O.Sink.failures l.fn.out l.out l.fn.output l.output text
+    × Prints g.O.Sink.writer l.fn.out l.out l.fn.output l.output text

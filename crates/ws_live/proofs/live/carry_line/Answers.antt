@@ -19,7 +19,7 @@ returns-in-Open-clause-done g c =
             (c.carry_out-carried.new.attached, c.carry_out-carried.new.ahead)) c.in-Ok.is e.1,
         c.carry_out-carried.ensures.begun,
       ),
-      subst (λ (o : Output). IsOut g.O.Sink.takes g.O.Sink.failures c.args.out.now.sink c.hand_on.new.out.sink o text)
+      subst (λ (o : Output). IsOut g.O.Sink.writer c.args.out.now.sink c.hand_on.new.out.sink o text)
           c.in-Open.is
           (c.hand_on.ensures.out c.args.out.now text c.requires.empty
           (whole_out (prints_both e.2 c.put_closing-output.ensures))),
@@ -40,7 +40,7 @@ returns-in-Failed-clause-fault g c =
               (c.carry_out-carried.new.attached, c.carry_out-carried.new.ahead)) c.in-Ok.is e.1,
           c.carry_out-carried.ensures.begun,
         ),
-        subst (λ (o : Output). IsOut g.O.Sink.takes g.O.Sink.failures c.args.out.now.sink c.hand_on.new.out.sink o
+        subst (λ (o : Output). IsOut g.O.Sink.writer c.args.out.now.sink c.hand_on.new.out.sink o
             text) c.in-Failed.is
             (c.hand_on.ensures.out c.args.out.now text c.requires.empty
             (whole_out (prints_both e.2 c.put_closing-output.ensures))),

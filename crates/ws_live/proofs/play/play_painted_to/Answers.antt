@@ -18,7 +18,7 @@ returns-in-Open-clause-printed g c =
             c.screen.ensures c.put_screen_if.ensures.1;
         all = refl;
       },
-      subst (λ (o : Output). IsOut g.S.Sink.takes g.S.Sink.failures c.args.sink.now c.put_screen_if.new.sink o
+      subst (λ (o : Output). IsOut g.S.Sink.writer c.args.sink.now c.put_screen_if.new.sink o
           (events_text c.args.report.now.events ++ lines)) c.in-Open.is out,
       c.none_refuses.ensures ∙ ap no_end_refuses c.as_slice-events.ensures,
     )
@@ -37,7 +37,7 @@ returns-in-Failed-clause-fault g c =
               c.screen.ensures c.put_screen_if.ensures.1;
           all = refl;
         },
-        subst (λ (o : Output). IsOut g.S.Sink.takes g.S.Sink.failures c.args.sink.now c.put_screen_if.new.sink o
+        subst (λ (o : Output). IsOut g.S.Sink.writer c.args.sink.now c.put_screen_if.new.sink o
             (events_text c.args.report.now.events ++ lines)) c.in-Failed.is out,
       ),
     )

@@ -7,7 +7,7 @@ use Rattle.ws_text.proofs.Prints.{prints_none, prints_both, prints_same}
 use Rattle.ws_live.proofs.play.put_events.Goals as goal
 
 pub loop-event-init : goal.loop-event-init
-loop-event-init g c = prints_none g.S.Sink.takes g.S.Sink.failures c.args.sink.now Open
+loop-event-init g c = prints_none g.S.Sink.writer c.args.sink.now Open
 
 pub loop-event-preserved : goal.loop-event-preserved
 loop-event-preserved g c =

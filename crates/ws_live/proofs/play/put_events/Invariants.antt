@@ -6,5 +6,5 @@ use Rattle.ws_live.proofs.play.put_events.Given as goal
 
 -- the events so far
 abbrev pub invariant-loop-event : goal.invariant-loop-event
-invariant-loop-event g l = Prints g.S.Sink.takes g.S.Sink.failures l.fn.sink l.sink Open l.output
+invariant-loop-event g l = Prints g.S.Sink.writer l.fn.sink l.sink Open l.output
     (events_text (take l.event-index l.events))

@@ -6,5 +6,5 @@ use Rattle.ws_live.proofs.play.put_fields.Given as goal
 
 -- the fields so far
 abbrev pub invariant-loop-field : goal.invariant-loop-field
-invariant-loop-field g l = Prints g.S.Sink.takes g.S.Sink.failures l.fn.sink l.sink l.fn.output l.output
+invariant-loop-field g l = Prints g.S.Sink.writer l.fn.sink l.sink l.fn.output l.output
     (flat_map read_field_text (take l.field-index l.fields))

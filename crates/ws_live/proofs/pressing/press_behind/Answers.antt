@@ -10,10 +10,10 @@ pub returns-in_default : goal.returns-in_default
 returns-in_default g c = record {
   runs = (
     [],
-    subst (λ keys. KeysUntil g.D.Commands.Code.rules g.D.StationDisplay.does g.K.Sink.takes g.K.Sink.failures
-        g.S.Source.gives g.S.Source.failures g.D.Key.NamedKey.words keys c.args.attached.now (Ok Done) [] c.args.attached.now)
+    subst (λ keys. KeysUntil g.D.Commands.Code.rules g.D.StationDisplay.does g.K.Sink.writer
+        g.S.Source.reader g.D.Key.NamedKey.words keys c.args.attached.now (Ok Done) [] c.args.attached.now)
         (sym (no_keys_behind c.args.stroke.now c.in_default.not-Fill)) (refl, refl, refl),
-    prints_none g.O.Sink.takes g.O.Sink.failures c.args.out.now c.args.output,
+    prints_none g.O.Sink.writer c.args.out.now c.args.output,
   );
   works = c.requires.works;
 }

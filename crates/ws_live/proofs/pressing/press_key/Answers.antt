@@ -28,7 +28,7 @@ returns-in-Ok-None-clause-runs g c =
         refl,
         refl,
       ),
-      prints_none g.O.Sink.takes g.O.Sink.failures c.args.out.now c.args.output,
+      prints_none g.O.Sink.writer c.args.out.now c.args.output,
     )
 
 pub returns-in-Err-clause-runs : goal.returns-in-Err-clause-runs
@@ -36,5 +36,5 @@ returns-in-Err-clause-runs g c =
     let e = c.in-Err.ensures.fault c.requires.works in (
       [],
       inr (e.1, ap (λ (f : Fault). let r : Result Closing Fault = Err f in r) e.0, refl),
-      prints_none g.O.Sink.takes g.O.Sink.failures c.args.out.now c.args.output,
+      prints_none g.O.Sink.writer c.args.out.now c.args.output,
     )

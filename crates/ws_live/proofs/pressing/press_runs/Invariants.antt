@@ -8,8 +8,8 @@ use Rattle.ws_live.proofs.pressing.press_runs.Given as goal
 
 -- the keys of the runs so far were taken, and printed nothing
 abbrev pub invariant-loop-run : goal.invariant-loop-run
-invariant-loop-run g l = KeysUntil g.D.Commands.Code.rules g.D.StationDisplay.does g.K.Sink.takes g.K.Sink.failures
-    g.S.Source.gives g.S.Source.failures g.D.Key.NamedKey.words (display_keys g.D.Key.NamedKey.words.profile (take l.run-index l.runs))
+invariant-loop-run g l = KeysUntil g.D.Commands.Code.rules g.D.StationDisplay.does g.K.Sink.writer
+    g.S.Source.reader g.D.Key.NamedKey.words (display_keys g.D.Key.NamedKey.words.profile (take l.run-index l.runs))
     l.fn.attached (Ok Done) [] l.attached
-    × Prints g.O.Sink.takes g.O.Sink.failures l.fn.out l.out l.fn.output l.output []
+    × Prints g.O.Sink.writer l.fn.out l.out l.fn.output l.output []
     × (l.attached.broken ≡ false)

@@ -16,8 +16,7 @@ returns-then-not-is_done-clause-runs g c =
     let i = c.loop.counter in
     let key = c.args.key in (
       one.0,
-      until_one g.D.Commands.Code.rules g.D.StationDisplay.does g.K.Sink.takes g.K.Sink.failures g.S.Source.gives
-          g.S.Source.failures g.D.Key.NamedKey.words (replicate i key) (replicate (c.args.times - (i + 1)) key) (replicate c.args.times key)
+      until_one g.D.Commands.Code.rules g.D.StationDisplay.does g.K.Sink.writer g.S.Source.reader g.D.Key.NamedKey.words (replicate i key) (replicate (c.args.times - (i + 1)) key) (replicate c.args.times key)
           key c.args.attached.now c.loop.attached c.press_key-carried.new.attached
           c.press_key-carried.result.outcome one.0 (cut_times c.args.times i key c.loop-test.true) so_far.0
           (c.is_done.ensures.undone c.if-not-is_done.true) one.1,
@@ -32,14 +31,12 @@ loop-preserved g c =
     let key = c.args.key in
     let to = c.press_key-carried.new.attached in
     let done = c.is_done.ensures.done c.if-not-is_done.false in
-    let quiet = prints_nothing g.D.Commands.Code.rules g.D.StationDisplay.does g.K.Sink.takes g.K.Sink.failures
-    g.S.Source.gives g.S.Source.failures g.D.Key.NamedKey.words key c.loop.attached to one.0
-    (subst (λ (o : Result Closing Fault). KeyRuns g.D.Commands.Code.rules g.D.StationDisplay.does g.K.Sink.takes
-    g.K.Sink.failures g.S.Source.gives g.S.Source.failures g.D.Key.NamedKey.words key c.loop.attached o one.0 to) done one.1) in (
-      until_more g.D.Commands.Code.rules g.D.StationDisplay.does g.K.Sink.takes g.K.Sink.failures g.S.Source.gives
-          g.S.Source.failures g.D.Key.NamedKey.words (replicate i key) (replicate (i + 1) key) key c.args.attached.now c.loop.attached to
+    let quiet = prints_nothing g.D.Commands.Code.rules g.D.StationDisplay.does g.K.Sink.writer
+    g.S.Source.reader g.D.Key.NamedKey.words key c.loop.attached to one.0
+    (subst (λ (o : Result Closing Fault). KeyRuns g.D.Commands.Code.rules g.D.StationDisplay.does g.K.Sink.writer g.S.Source.reader g.D.Key.NamedKey.words key c.loop.attached o one.0 to) done one.1) in (
+      until_more g.D.Commands.Code.rules g.D.StationDisplay.does g.K.Sink.writer g.S.Source.reader g.D.Key.NamedKey.words (replicate i key) (replicate (i + 1) key) key c.args.attached.now c.loop.attached to
           c.press_key-carried.result.outcome one.0 (replicate_more i key) so_far.0 done one.1,
-      prints_both so_far.1 (subst (λ (z : List ℕ). Prints g.O.Sink.takes g.O.Sink.failures c.loop.out
+      prints_both so_far.1 (subst (λ (z : List ℕ). Prints g.O.Sink.writer c.loop.out
           c.press_key-carried.new.out c.loop.output c.press_key-carried.result.output z) quiet one.2),
       subst (λ (o : Result Closing Fault). IfOk o (λ closing. to.broken ≡ false)) done
           c.press_key-carried.ensures.works,

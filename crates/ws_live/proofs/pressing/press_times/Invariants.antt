@@ -7,7 +7,7 @@ use Rattle.ws_live.proofs.pressing.press_times.Given as goal
 
 -- the key was taken so often, and printed nothing
 abbrev pub invariant-loop : goal.invariant-loop
-invariant-loop g l = KeysUntil g.D.Commands.Code.rules g.D.StationDisplay.does g.K.Sink.takes g.K.Sink.failures
-    g.S.Source.gives g.S.Source.failures g.D.Key.NamedKey.words (replicate l.counter l.key) l.fn.attached (Ok Done) [] l.attached
-    × Prints g.O.Sink.takes g.O.Sink.failures l.fn.out l.out l.fn.output l.output []
+invariant-loop g l = KeysUntil g.D.Commands.Code.rules g.D.StationDisplay.does g.K.Sink.writer
+    g.S.Source.reader g.D.Key.NamedKey.words (replicate l.counter l.key) l.fn.attached (Ok Done) [] l.attached
+    × Prints g.O.Sink.writer l.fn.out l.out l.fn.output l.output []
     × (l.attached.broken ≡ false)

@@ -7,7 +7,7 @@ use Rattle.ws_live.proofs.pressing.press_until.Given as goal
 
 -- the keys so far were taken, and printed nothing
 abbrev pub invariant-loop-key : goal.invariant-loop-key
-invariant-loop-key g l = KeysUntil g.D.Commands.Code.rules g.D.StationDisplay.does g.K.Sink.takes g.K.Sink.failures
-    g.S.Source.gives g.S.Source.failures g.D.Key.NamedKey.words (take l.key-index l.keys) l.fn.attached (Ok Done) [] l.attached
-    × Prints g.O.Sink.takes g.O.Sink.failures l.fn.out l.out l.fn.output l.output []
+invariant-loop-key g l = KeysUntil g.D.Commands.Code.rules g.D.StationDisplay.does g.K.Sink.writer
+    g.S.Source.reader g.D.Key.NamedKey.words (take l.key-index l.keys) l.fn.attached (Ok Done) [] l.attached
+    × Prints g.O.Sink.writer l.fn.out l.out l.fn.output l.output []
     × (l.attached.broken ≡ false)

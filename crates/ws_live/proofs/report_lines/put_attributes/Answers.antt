@@ -9,7 +9,7 @@ use Rattle.ws_live.proofs.report_lines.put_attributes.Goals as goal
 
 pub loop-cell-init : goal.loop-cell-init
 loop-cell-init g c = prints_same (encode_none upper_digits)
-    (prints_none g.O.Sink.takes g.O.Sink.failures c.args.out.now c.args.output)
+    (prints_none g.O.Sink.writer c.args.out.now c.args.output)
 
 pub loop-cell-preserved : goal.loop-cell-preserved
 loop-cell-preserved g c =

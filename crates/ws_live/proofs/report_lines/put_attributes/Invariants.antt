@@ -5,5 +5,5 @@ use Rattle.ws_live.proofs.report_lines.put_attributes.Given as goal
 
 -- the attributes so far
 abbrev pub invariant-loop-cell : goal.invariant-loop-cell
-invariant-loop-cell g l = Prints g.O.Sink.takes g.O.Sink.failures l.fn.out l.out l.fn.output l.output
+invariant-loop-cell g l = Prints g.O.Sink.writer l.fn.out l.out l.fn.output l.output
     (attributes_text (take l.cell-index l.shown))

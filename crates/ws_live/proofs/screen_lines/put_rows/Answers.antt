@@ -9,7 +9,7 @@ pub loop-row-init : goal.loop-row-init
 loop-row-init g c = (
   [],
   rows_none c.args.paint c.args.screen.now.cells,
-  prints_none g.S.Sink.takes g.S.Sink.failures c.args.sink.now c.args.output,
+  prints_none g.S.Sink.writer c.args.sink.now c.args.output,
 )
 
 pub loop-row-preserved : goal.loop-row-preserved

@@ -7,4 +7,4 @@ use Rattle.ws_live.proofs.screen_lines.put_rows.Given as goal
 -- the rows so far
 abbrev pub invariant-loop-row : goal.invariant-loop-row
 invariant-loop-row g l = (rows : List ℕ) × AreRows l.paint l.screen.cells (range_with_len 1 (l.row - 1)) rows
-    × Prints g.S.Sink.takes g.S.Sink.failures l.fn.sink l.sink l.fn.output l.output rows
+    × Prints g.S.Sink.writer l.fn.sink l.sink l.fn.output l.output rows

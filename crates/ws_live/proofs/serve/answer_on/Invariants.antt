@@ -9,8 +9,8 @@ use Rattle.ws_live.proofs.serve.answer_on.Given as goal
 -- so many things were told and printed
 abbrev pub invariant-loop : goal.invariant-loop
 invariant-loop g l = (text : List ℕ)
-    × HaveRun (Runs g.K.Sink.takes g.K.Sink.failures g.S.Source.gives g.S.Source.failures
+    × HaveRun (Runs g.K.Sink.writer g.S.Source.reader
     g.W.Watch.tells g.W.Watch.begins g.W.Watch.begun) false ((l.fn.attached, l.fn.ahead), l.fn.watch) (replicate l.counter Await) true
     text ((l.attached, l.ahead), l.watch)
-    × WentOut g.O.Sink.takes g.O.Sink.failures l.fn.out.sink l.out.sink text × (l.attached.broken ≡ false)
+    × WentOut g.O.Sink.writer l.fn.out.sink l.out.sink text × (l.attached.broken ≡ false)
     × (l.out.held ≡ [])

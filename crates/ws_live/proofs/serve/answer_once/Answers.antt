@@ -14,12 +14,11 @@ returns-in-Open-clause-answered g c =
     let e = c.carry_out-carried.ensures.runs in (
       e.0,
       (
-        subst (λ (o : Result Closing Fault). HostRuns g.K.Sink.takes g.K.Sink.failures g.S.Source.gives
-            g.S.Source.failures g.W.Watch.tells Await (c.args.attached.now, c.args.ahead.now) o e.0
+        subst (λ (o : Result Closing Fault). HostRuns g.K.Sink.writer g.S.Source.reader g.W.Watch.tells Await (c.args.attached.now, c.args.ahead.now) o e.0
             (c.carry_out-carried.new.attached, c.carry_out-carried.new._ahead)) c.in-Ok.is e.1,
         c.carry_out-carried.ensures.begun,
       ),
-      subst (λ (o : Output). IsOut g.O.Sink.takes g.O.Sink.failures c.args.out.now.sink c.hand_on-output.new.out.sink o
+      subst (λ (o : Output). IsOut g.O.Sink.writer c.args.out.now.sink c.hand_on-output.new.out.sink o
           e.0) c.in-Open.is
           (c.hand_on-output.ensures.out c.args.out.now e.0 c.requires.empty (whole_out e.2)),
     )
@@ -33,12 +32,11 @@ returns-in-Failed-clause-fault g c =
         c.in-Ok.closing,
         e.0,
         (
-          subst (λ (o : Result Closing Fault). HostRuns g.K.Sink.takes g.K.Sink.failures g.S.Source.gives
-              g.S.Source.failures g.W.Watch.tells Await (c.args.attached.now, c.args.ahead.now) o e.0
+          subst (λ (o : Result Closing Fault). HostRuns g.K.Sink.writer g.S.Source.reader g.W.Watch.tells Await (c.args.attached.now, c.args.ahead.now) o e.0
               (c.carry_out-carried.new.attached, c.carry_out-carried.new._ahead)) c.in-Ok.is e.1,
           c.carry_out-carried.ensures.begun,
         ),
-        subst (λ (o : Output). IsOut g.O.Sink.takes g.O.Sink.failures c.args.out.now.sink c.hand_on-output.new.out.sink
+        subst (λ (o : Output). IsOut g.O.Sink.writer c.args.out.now.sink c.hand_on-output.new.out.sink
             o e.0) c.in-Failed.is
             (c.hand_on-output.ensures.out c.args.out.now e.0 c.requires.empty (whole_out e.2)),
       ),
@@ -51,8 +49,7 @@ returns-in-Err-clause-fault g c =
       e.0,
       c.hand_on-output.result,
       (
-        subst (λ (o : Result Closing Fault). HostRuns g.K.Sink.takes g.K.Sink.failures g.S.Source.gives
-            g.S.Source.failures g.W.Watch.tells Await (c.args.attached.now, c.args.ahead.now) o e.0
+        subst (λ (o : Result Closing Fault). HostRuns g.K.Sink.writer g.S.Source.reader g.W.Watch.tells Await (c.args.attached.now, c.args.ahead.now) o e.0
             (c.carry_out-carried.new.attached, c.carry_out-carried.new._ahead)) c.in-Err.is e.1,
         c.carry_out-carried.ensures.begun,
       ),

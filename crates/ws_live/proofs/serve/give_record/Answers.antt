@@ -12,15 +12,15 @@ returns-in-CancelInvite-clause-given g c =
     let from = c.args.attached.now in
     let to = c.cancel.new.self in
     let e = c.cancel.ensures in
-    is_given g.K.Sink.takes g.K.Sink.failures g.S.Source.gives g.S.Source.failures order Cancel is from to
+    is_given g.K.Sink.writer g.S.Source.reader order Cancel is from to
     c.cancel.result e.sent e.refused e.told e.taken
-    (cancel_fails g.K.Sink.takes g.K.Sink.failures g.S.Source.gives g.S.Source.failures order Cancel is from to
+    (cancel_fails g.K.Sink.writer g.S.Source.reader order Cancel is from to
     c.cancel.result (e.fault c.requires.works) e.breaks) e.waiting e.source
 
 pub returns-in_default-clause-given : goal.returns-in_default-clause-given
 returns-in_default-clause-given g c =
     let order = Send c.args.opcode c.args.body.now in
     let e = c.send.ensures in
-    is_given g.K.Sink.takes g.K.Sink.failures g.S.Source.gives g.S.Source.failures order order
+    is_given g.K.Sink.writer g.S.Source.reader order order
     (other_deed c.args.opcode c.args.body.now c.in_default.not-CancelInvite) c.args.attached.now c.send.new.self
     c.send.result e.sent e.refused e.told e.taken (e.fault c.requires.works) e.waiting e.source

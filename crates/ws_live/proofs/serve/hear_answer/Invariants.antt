@@ -9,7 +9,7 @@ use Rattle.ws_live.proofs.serve.hear_answer.Given as goal
 -- what was told and printed so far, none of which is the answer
 abbrev pub invariant-loop : goal.invariant-loop
 invariant-loop g l = (told : List HostEvent)
-    × HaveTold g.K.Sink.takes g.K.Sink.failures g.S.Source.gives g.S.Source.failures l.awaited l.fn.attached told l.attached
+    × HaveTold g.K.Sink.writer g.S.Source.reader l.awaited l.fn.attached told l.attached
     × (length told ≡ l.counter)
-    × Prints g.O.Sink.takes g.O.Sink.failures l.fn.out l.out l.fn.output l.output (flat_map told_text told)
+    × Prints g.O.Sink.writer l.fn.out l.out l.fn.output l.output (flat_map told_text told)
     × (l.attached.broken ≡ false)

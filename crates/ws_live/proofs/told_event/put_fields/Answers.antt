@@ -7,7 +7,7 @@ use Rattle.ws_text.proofs.Prints.{prints_none, prints_both, prints_same}
 use Rattle.ws_live.proofs.told_event.put_fields.Goals as goal
 
 pub loop-field-init : goal.loop-field-init
-loop-field-init g c = prints_none g.S.Sink.takes g.S.Sink.failures c.args.sink.now c.args.output
+loop-field-init g c = prints_none g.S.Sink.writer c.args.sink.now c.args.output
 
 pub loop-field-preserved : goal.loop-field-preserved
 loop-field-preserved g c =

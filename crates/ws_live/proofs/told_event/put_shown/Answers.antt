@@ -8,7 +8,7 @@ use Rattle.ws_text.proofs.Prints.{prints_none, prints_both, prints_same}
 use Rattle.ws_live.proofs.told_event.put_shown.Goals as goal
 
 pub loop-byte-init : goal.loop-byte-init
-loop-byte-init g c = prints_none g.S.Sink.takes g.S.Sink.failures c.args.sink.now c.args.output
+loop-byte-init g c = prints_none g.S.Sink.writer c.args.sink.now c.args.output
 
 pub loop-byte-preserved : goal.loop-byte-preserved
 loop-byte-preserved g c =

@@ -7,5 +7,5 @@ use Rattle.ws_live.proofs.told_event.put_shown.Given as goal
 
 -- the bytes so far
 abbrev pub invariant-loop-byte : goal.invariant-loop-byte
-invariant-loop-byte g l = Prints g.S.Sink.takes g.S.Sink.failures l.fn.sink l.sink l.fn.output l.output
+invariant-loop-byte g l = Prints g.S.Sink.writer l.fn.sink l.sink l.fn.output l.output
     (flat_map (λ byte. encode_utf8 (shown_char byte)) (take l.byte-index l.bytes))

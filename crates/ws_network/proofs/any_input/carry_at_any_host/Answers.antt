@@ -12,7 +12,7 @@ returns-in-Err-clause-fault g c = let e = c.in-Err.ensures.fault in (e.0, e.1, i
 
 pub returns-then-ran-clause-ran : goal.returns-then-ran-clause-ran
 returns-then-ran-clause-ran g c =
-    let runs = RunsAny g.K.Sink.takes g.K.Sink.failures g.S.Source.gives g.S.Source.failures g.W.Watch.tells
+    let runs = RunsAny g.K.Sink.writer g.S.Source.reader g.W.Watch.tells
     g.W.Watch.begins g.W.Watch.begun in
     let e = c.in-Ok.ensures.ran in (
       e.0,
@@ -25,7 +25,7 @@ returns-then-ran-clause-ran g c =
 
 pub returns-after-ran-2-clause-ran : goal.returns-after-ran-2-clause-ran
 returns-after-ran-2-clause-ran g c =
-    let runs = RunsAny g.K.Sink.takes g.K.Sink.failures g.S.Source.gives g.S.Source.failures g.W.Watch.tells
+    let runs = RunsAny g.K.Sink.writer g.S.Source.reader g.W.Watch.tells
     g.W.Watch.begins g.W.Watch.begun in
     let e = c.in-Ok.ensures.ran in
     let a = c.in-Ok-carry_on.ensures.carried in
@@ -43,20 +43,19 @@ returns-after-ran-2-clause-ran g c =
           (carried_text runs Await c.args.ready ((c.args.attached.now, c.args.ahead.now), c.args.watch.now)
           ((c.carry_session.new.attached, c.carry_session.new.ahead), c.carry_session.new.watch) e.0 c.in-Ok.ran e.2.0 e.2.1
           ((c.carry_on.new.attached, c.carry_on.new.ahead), c.carry_on.new.watch) well a.0 c.if-ran.false a.1),
-      went_out_both g.O.Sink.takes g.O.Sink.failures c.args.out.now.sink c.carry_session.new.out.sink
+      went_out_both g.O.Sink.writer c.args.out.now.sink c.carry_session.new.out.sink
           c.carry_on.new.out.sink e.2.0 a.0 e.2.2 a.2,
     )
 
 pub returns-in-Err-carry_on-clause-fault : goal.returns-in-Err-carry_on-clause-fault
 returns-in-Err-carry_on-clause-fault g c =
-    let runs = RunsAny g.K.Sink.takes g.K.Sink.failures g.S.Source.gives g.S.Source.failures g.W.Watch.tells
+    let runs = RunsAny g.K.Sink.writer g.S.Source.reader g.W.Watch.tells
     g.W.Watch.begins g.W.Watch.begun in
     let e = c.in-Ok.ensures.ran in (
       e.0,
       e.1,
       uncarried runs Await c.args.ready ((c.args.attached.now, c.args.ahead.now), c.args.watch.now)
-          ((c.carry_session.new.attached, c.carry_session.new.ahead), c.carry_session.new.watch) e.0 c.in-Ok.ran e.2.0 e.2.1 g.O.Sink.takes
-          g.O.Sink.failures ((c.carry_on.new.attached, c.carry_on.new.ahead), c.carry_on.new.watch) c.args.out.now.sink
+          ((c.carry_session.new.attached, c.carry_session.new.ahead), c.carry_session.new.watch) e.0 c.in-Ok.ran e.2.0 e.2.1 g.O.Sink.writer ((c.carry_on.new.attached, c.carry_on.new.ahead), c.carry_on.new.watch) c.args.out.now.sink
           c.carry_session.new.out.sink c.carry_on.new.out.sink (is_some c.args.script) c.from.result
           c.in-Err-carry_on.fault c.from.ensures c.if-ran.false e.2.2 c.in-Err-carry_on.ensures.fault,
     )

@@ -16,7 +16,7 @@ returns-then-ran-clause-ran g c =
       e.0,
       e.2.0,
       e.1,
-      stopped_text g.K.Sink.takes g.K.Sink.failures g.S.Source.gives g.S.Source.failures
+      stopped_text g.K.Sink.writer g.S.Source.reader
           g.W.Watch.tells g.W.Watch.begins g.W.Watch.begun c.args.ready ((c.args.attached.now, c.args.ahead.now), c.args.watch.now) ((c.carry_session.new.attached, c.carry_session.new.ahead), c.carry_session.new.watch) e.0
           c.in-Ok.ran e.2.0 e.2.1 c.if-ran.true,
       e.2.2,
@@ -35,13 +35,13 @@ returns-after-ran-2-clause-ran g c =
       e.0,
       text,
       e.1,
-      subst (λ (b : Bool). IsServeText g.K.Sink.takes g.K.Sink.failures g.S.Source.gives g.S.Source.failures
+      subst (λ (b : Bool). IsServeText g.K.Sink.writer g.S.Source.reader
           g.W.Watch.tells g.W.Watch.begins g.W.Watch.begun c.args.ready ((c.args.attached.now, c.args.ahead.now), c.args.watch.now) e.0 b text ((c.answer_on.new.attached, c.answer_on.new.ahead), c.answer_on.new.watch))
           same
-          (answered_text g.K.Sink.takes g.K.Sink.failures g.S.Source.gives g.S.Source.failures
+          (answered_text g.K.Sink.writer g.S.Source.reader
           g.W.Watch.tells g.W.Watch.begins g.W.Watch.begun c.args.ready ((c.args.attached.now, c.args.ahead.now), c.args.watch.now) ((c.carry_session.new.attached, c.carry_session.new.ahead), c.carry_session.new.watch) e.0
           c.in-Ok.ran e.2.0 e.2.1 ((c.answer_on.new.attached, c.answer_on.new.ahead), c.answer_on.new.watch) well a.0 c.if-ran.false a.1),
-      went_out_both g.O.Sink.takes g.O.Sink.failures c.args.out.now.sink c.carry_session.new.out.sink
+      went_out_both g.O.Sink.writer c.args.out.now.sink c.carry_session.new.out.sink
           c.answer_on.new.out.sink e.2.0 a.0 e.2.2 a.2,
     )
 
@@ -50,9 +50,9 @@ returns-in-Err-answer_on-clause-fault g c =
     let e = c.in-Ok.ensures.ran in (
       e.0,
       e.1,
-      unanswered g.K.Sink.takes g.K.Sink.failures g.S.Source.gives g.S.Source.failures
+      unanswered g.K.Sink.writer g.S.Source.reader
           g.W.Watch.tells g.W.Watch.begins g.W.Watch.begun c.args.ready ((c.args.attached.now, c.args.ahead.now), c.args.watch.now) ((c.carry_session.new.attached, c.carry_session.new.ahead), c.carry_session.new.watch) e.0
-          c.in-Ok.ran e.2.0 e.2.1 g.O.Sink.takes g.O.Sink.failures ((c.answer_on.new.attached, c.answer_on.new.ahead), c.answer_on.new.watch) c.args.out.now.sink
+          c.in-Ok.ran e.2.0 e.2.1 g.O.Sink.writer ((c.answer_on.new.attached, c.answer_on.new.ahead), c.answer_on.new.watch) c.args.out.now.sink
           c.carry_session.new.out.sink c.answer_on.new.out.sink
           (is_some c.args.script) c.from.result c.in-Err-answer_on.fault c.from.ensures c.if-ran.false e.2.2
           c.in-Err-answer_on.ensures.fault,

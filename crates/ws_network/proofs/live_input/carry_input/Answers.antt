@@ -11,7 +11,7 @@ loop-init g c = (
   [],
   [],
   (refl, ap (λ (r : Ran). r.all_well) c.none-ran.ensures, refl),
-  went_out_none g.O.Sink.takes g.O.Sink.failures c.args.out.now.sink,
+  went_out_none g.O.Sink.writer c.args.out.now.sink,
   ap (λ (r : Ran). r.is_over) c.none-ran.ensures,
   c.requires.works,
   c.requires.empty,
@@ -22,7 +22,7 @@ returns-in_default-clause-fault g c = (
   [],
   inr (
     refl,
-    (true, [], (refl, refl, refl), went_out_none g.O.Sink.takes g.O.Sink.failures c.args.out.now.sink),
+    (true, [], (refl, refl, refl), went_out_none g.O.Sink.writer c.args.out.now.sink),
     inl (inr refl),
   ),
 )
@@ -34,8 +34,7 @@ returns-in-Err-carry_next-clause-fault g c =
       lines,
       inl (
         c.in-Err-carry_next.fault,
-        breaks (InTime (g.L.LiveMove.runs g.W.Watch.tells g.W.Watch.rests c.args.paint) g.L.LiveMove.waits g.W.Watch.begins g.W.Watch.begun) c.args.ready g.O.Sink.takes
-            g.O.Sink.failures ((c.args.attached.now, c.args.ahead.now), c.args.watch.now) ((c.loop.attached, c.loop.ahead), c.loop.watch) ((c.carry_next.new.attached, c.carry_next.new.ahead), c.carry_next.new.watch) c.args.out.now.sink
+        breaks (InTime (g.L.LiveMove.runs g.W.Watch.tells g.W.Watch.rests c.args.paint) g.L.LiveMove.waits g.W.Watch.begins g.W.Watch.begun) c.args.ready g.O.Sink.writer ((c.args.attached.now, c.args.ahead.now), c.args.watch.now) ((c.loop.attached, c.loop.ahead), c.loop.watch) ((c.carry_next.new.attached, c.carry_next.new.ahead), c.carry_next.new.watch) c.args.out.now.sink
             c.loop.out.sink c.carry_next.new.out.sink
             so_far.0 c.in-Some.line c.loop.ran so_far.1 so_far.2 so_far.3
             [] lines refl c.in-Err-carry_next.fault c.in-Err-carry_next.ensures.fault,
@@ -51,9 +50,9 @@ returns-then-ran-clause-ran g c =
     let same : c.and-ran.result ≡ ran_and c.loop.ran (ran_by c.in-Ok-carry_next.closing) = c.and-ran.ensures
     ∙ ap (λ (r : Ran). ran_and c.loop.ran r) c.ran.ensures in (
       lines,
-      subst (HasRun runs c.args.ready g.O.Sink.takes g.O.Sink.failures ((c.args.attached.now, c.args.ahead.now), c.args.watch.now) ((c.carry_next.new.attached, c.carry_next.new.ahead), c.carry_next.new.watch)
+      subst (HasRun runs c.args.ready g.O.Sink.writer ((c.args.attached.now, c.args.ahead.now), c.args.watch.now) ((c.carry_next.new.attached, c.carry_next.new.ahead), c.carry_next.new.watch)
           c.args.out.now.sink c.carry_next.new.out.sink lines) (sym same)
-          (ends_here runs c.args.ready g.O.Sink.takes g.O.Sink.failures ((c.args.attached.now, c.args.ahead.now), c.args.watch.now) ((c.loop.attached, c.loop.ahead), c.loop.watch)
+          (ends_here runs c.args.ready g.O.Sink.writer ((c.args.attached.now, c.args.ahead.now), c.args.watch.now) ((c.loop.attached, c.loop.ahead), c.loop.watch)
           ((c.carry_next.new.attached, c.carry_next.new.ahead), c.carry_next.new.watch) c.args.out.now.sink c.loop.out.sink c.carry_next.new.out.sink
           so_far.0 c.in-Some.line c.loop.ran so_far.1 so_far.2 so_far.3
           [] lines refl c.in-Ok-carry_next.closing c.in-Ok-carry_next.ensures.done
@@ -68,7 +67,7 @@ loop-preserved g c =
     let same : c.and-ran.result ≡ ran_and c.loop.ran (ran_by c.in-Ok-carry_next.closing) = c.and-ran.ensures
     ∙ ap (λ (r : Ran). ran_and c.loop.ran r) c.ran.ensures in
     let going = ap (λ (r : Ran). r.is_over) (sym same) ∙ c.if-ran.false in
-    let more = goes_on runs c.args.ready g.O.Sink.takes g.O.Sink.failures ((c.args.attached.now, c.args.ahead.now), c.args.watch.now) ((c.loop.attached, c.loop.ahead), c.loop.watch)
+    let more = goes_on runs c.args.ready g.O.Sink.writer ((c.args.attached.now, c.args.ahead.now), c.args.watch.now) ((c.loop.attached, c.loop.ahead), c.loop.watch)
     ((c.carry_next.new.attached, c.carry_next.new.ahead), c.carry_next.new.watch) c.args.out.now.sink c.loop.out.sink c.carry_next.new.out.sink
     so_far.0 c.in-Some.line c.loop.ran so_far.1 so_far.2 so_far.3 c.in-Ok-carry_next.closing
     c.in-Ok-carry_next.ensures.done going in (

@@ -9,5 +9,5 @@ abbrev pub invariant-loop : goal.invariant-loop
 invariant-loop g l = (lines : List g.row.L.Denot) × (text : List ℕ)
     × HaveRun (InTime (g.L.LiveMove.runs g.W.Watch.tells g.W.Watch.rests l.paint) g.L.LiveMove.waits g.W.Watch.begins g.W.Watch.begun)
     l.ready ((l.fn.attached, l.fn.ahead), l.fn.watch) lines l.ran.all_well text ((l.attached, l.ahead), l.watch)
-    × WentOut g.O.Sink.takes g.O.Sink.failures l.fn.out.sink l.out.sink text × (l.ran.is_over ≡ false)
+    × WentOut g.O.Sink.writer l.fn.out.sink l.out.sink text × (l.ran.is_over ≡ false)
     × (l.attached.broken ≡ false) × (l.out.held ≡ [])

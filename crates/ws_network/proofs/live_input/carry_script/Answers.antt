@@ -10,7 +10,7 @@ pub loop-line-init : goal.loop-line-init
 loop-line-init g c = (
   [],
   (refl, ap (λ (r : Ran). r.all_well) c.none-ran.ensures, refl),
-  went_out_none g.O.Sink.takes g.O.Sink.failures c.args.out.now.sink,
+  went_out_none g.O.Sink.writer c.args.out.now.sink,
   ap (λ (r : Ran). r.is_over) c.none-ran.ensures,
   c.requires.works,
   c.requires.empty,
@@ -23,8 +23,7 @@ returns-in-Err-clause-fault g c =
     let i = c.loop-line.line-index in
     let line = c.line-item.result in
     breaks (InTime (g.L.LiveMove.runs g.W.Watch.tells g.W.Watch.rests c.args.paint) g.L.LiveMove.waits g.W.Watch.begins g.W.Watch.begun)
-    c.args.ready g.O.Sink.takes
-    g.O.Sink.failures ((c.args.attached.now, c.args.ahead.now), c.args.watch.now) ((c.loop-line.attached, c.loop-line.ahead), c.loop-line.watch) ((c.carry_next.new.attached, c.carry_next.new.ahead), c.carry_next.new.watch) c.args.out.now.sink
+    c.args.ready g.O.Sink.writer ((c.args.attached.now, c.args.ahead.now), c.args.watch.now) ((c.loop-line.attached, c.loop-line.ahead), c.loop-line.watch) ((c.carry_next.new.attached, c.carry_next.new.ahead), c.carry_next.new.watch) c.args.out.now.sink
     c.loop-line.out.sink c.carry_next.new.out.sink
     (take i lines) line c.loop-line.ran so_far.0 so_far.1 so_far.2 (drop (i + 1) lines) lines
     (split_here lines i line c.loop-line-test.true c.line-item.is) c.in-Err.fault c.in-Err.ensures.fault
@@ -38,9 +37,9 @@ returns-then-ran-clause-ran g c =
     let runs = InTime (g.L.LiveMove.runs g.W.Watch.tells g.W.Watch.rests c.args.paint) g.L.LiveMove.waits g.W.Watch.begins g.W.Watch.begun in
     let same : c.and-ran.result ≡ ran_and c.loop-line.ran (ran_by c.in-Ok.closing) = c.and-ran.ensures
     ∙ ap (λ (r : Ran). ran_and c.loop-line.ran r) c.ran.ensures in
-    subst (HasRun runs c.args.ready g.O.Sink.takes g.O.Sink.failures ((c.args.attached.now, c.args.ahead.now), c.args.watch.now) ((c.carry_next.new.attached, c.carry_next.new.ahead), c.carry_next.new.watch)
+    subst (HasRun runs c.args.ready g.O.Sink.writer ((c.args.attached.now, c.args.ahead.now), c.args.watch.now) ((c.carry_next.new.attached, c.carry_next.new.ahead), c.carry_next.new.watch)
     c.args.out.now.sink c.carry_next.new.out.sink lines) (sym same)
-    (ends_here runs c.args.ready g.O.Sink.takes g.O.Sink.failures ((c.args.attached.now, c.args.ahead.now), c.args.watch.now) ((c.loop-line.attached, c.loop-line.ahead), c.loop-line.watch)
+    (ends_here runs c.args.ready g.O.Sink.writer ((c.args.attached.now, c.args.ahead.now), c.args.watch.now) ((c.loop-line.attached, c.loop-line.ahead), c.loop-line.watch)
     ((c.carry_next.new.attached, c.carry_next.new.ahead), c.carry_next.new.watch) c.args.out.now.sink c.loop-line.out.sink c.carry_next.new.out.sink
     (take i lines) line c.loop-line.ran so_far.0 so_far.1 so_far.2 (drop (i + 1) lines) lines
     (split_here lines i line c.loop-line-test.true c.line-item.is) c.in-Ok.closing c.in-Ok.ensures.done
@@ -56,7 +55,7 @@ loop-line-preserved g c =
     let same : c.and-ran.result ≡ ran_and c.loop-line.ran (ran_by c.in-Ok.closing) = c.and-ran.ensures
     ∙ ap (λ (r : Ran). ran_and c.loop-line.ran r) c.ran.ensures in
     let going = ap (λ (r : Ran). r.is_over) (sym same) ∙ c.if-ran.false in
-    let more = goes_on runs c.args.ready g.O.Sink.takes g.O.Sink.failures ((c.args.attached.now, c.args.ahead.now), c.args.watch.now) ((c.loop-line.attached, c.loop-line.ahead), c.loop-line.watch)
+    let more = goes_on runs c.args.ready g.O.Sink.writer ((c.args.attached.now, c.args.ahead.now), c.args.watch.now) ((c.loop-line.attached, c.loop-line.ahead), c.loop-line.watch)
     ((c.carry_next.new.attached, c.carry_next.new.ahead), c.carry_next.new.watch) c.args.out.now.sink c.loop-line.out.sink c.carry_next.new.out.sink
     (take i lines) line c.loop-line.ran so_far.0 so_far.1 so_far.2 c.in-Ok.closing c.in-Ok.ensures.done going in
     let well = ap (λ (r : Ran). r.all_well) (sym same) in

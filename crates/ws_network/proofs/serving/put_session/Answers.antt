@@ -12,7 +12,7 @@ returns-in-Open-clause-told g c =
     let line = number_line (c.from.result + 1) in
     let same : line ≡ session_line c.args.before = ap (λ (n : ℕ). number_line (n + 1)) c.from.ensures
     ∙ sym (line_behind c.args.before c.if-before-eq0.false) in
-    let out = subst (λ (o : Output). IsOut g.O.Sink.takes g.O.Sink.failures c.args.out.now.sink
+    let out = subst (λ (o : Output). IsOut g.O.Sink.writer c.args.out.now.sink
     c.hand_on.new.out.sink o line) c.in-Open.is (c.hand_on.ensures.out c.args.out.now line c.requires.empty
     (whole_out c.put_number_line-output.ensures)) in
-    subst (WentOut g.O.Sink.takes g.O.Sink.failures c.args.out.now.sink c.hand_on.new.out.sink) same out
+    subst (WentOut g.O.Sink.writer c.args.out.now.sink c.hand_on.new.out.sink) same out

@@ -11,7 +11,7 @@ loop-number-preserved g c =
     let well = c.in_ok-is_well.is_well in
     let served = subst (λ (lines : List g.row.L.Denot). g.L.ServedLine.served c.args.asked.now lines well came.1)
     came.2 came.3 in
-    let more = one_more g.O.Sink.takes g.O.Sink.failures (g.L.ServedLine.served c.args.asked.now c.args.script.now)
+    let more = one_more g.O.Sink.writer (g.L.ServedLine.served c.args.asked.now c.args.script.now)
     number c.args.out.now.sink c.loop-number.out.sink c.put_session.new.out.sink c.serve.new.out.sink so_far.0
     so_far.1 came.1 c.loop-number.all_well well so_far.2 so_far.3 c.in_ok-put_session.ensures.told came.4
     served in (

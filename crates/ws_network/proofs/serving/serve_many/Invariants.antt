@@ -7,4 +7,4 @@ use Rattle.ws_network.proofs.serving.serve_many.Given as goal
 abbrev pub invariant-loop-number : goal.invariant-loop-number
 invariant-loop-number g l = (first : List ℕ) × (text : List ℕ)
     × AreMany (g.L.ServedLine.served l.asked l.script) l.number l.all_well text
-    × WentOut g.O.Sink.takes g.O.Sink.failures l.fn.out.sink l.out.sink (first ++ text) × (l.out.held ≡ [])
+    × WentOut g.O.Sink.writer l.fn.out.sink l.out.sink (first ++ text) × (l.out.held ≡ [])

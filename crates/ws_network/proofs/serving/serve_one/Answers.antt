@@ -11,6 +11,6 @@ returns g c =
       came.1,
       came.2,
       came.3,
-      went_out_both g.O.Sink.takes g.O.Sink.failures c.args.out.now.sink c.take_station.new.out.sink
+      went_out_both g.O.Sink.writer c.args.out.now.sink c.take_station.new.out.sink
           c.serve.new.out.sink told.0 came.1 told.1 came.4,
     )) c.serve.ensures.served

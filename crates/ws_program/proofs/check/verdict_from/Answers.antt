@@ -15,7 +15,7 @@ returns-in-Some-clause-given g c =
       inv.bytes ++ piece,
       inr (
         c.loop.counter + 1,
-        gave_more g.R.Source.gives g.R.Source.failures _ c.loop.source _ c.loop.counter inv.bytes (length c.loop.room)
+        gave_more g.R.Source.reader _ c.loop.source _ c.loop.counter inv.bytes (length c.loop.room)
             piece inv.gave (omega arith) c.in-Ok.ensures.ok.1
             (take_some c.read.new.into c.in-Ok.given c.in-Ok.given-test.1 c.in-Ok.ensures.ok.0) c.in-Ok.ensures.ok.2,
         (c.in-Some.refusal.place, c.in-Some.refusal.reason, refused),
@@ -31,7 +31,7 @@ loop-preserved g c =
     let long = length-take-le c.in-Ok.given c.read.new.into c.in-Ok.ensures.ok.0 in
     record {
       bytes = inv.bytes ++ piece;
-      gave = gave_more g.R.Source.gives g.R.Source.failures _ c.loop.source _ c.loop.counter inv.bytes
+      gave = gave_more g.R.Source.reader _ c.loop.source _ c.loop.counter inv.bytes
           (length c.loop.room) piece inv.gave (omega arith) c.in-Ok.ensures.ok.1
           (take_some c.read.new.into c.in-Ok.given c.in-Ok.given-test.1 c.in-Ok.ensures.ok.0) c.in-Ok.ensures.ok.2;
       counts = c.in-None.ensures inv.bytes inv.counts (omega (arith, inv.few, long, c.in-Ok.ensures.ok.0));

@@ -7,7 +7,7 @@ use Rattle.ws_program.proofs.make.make_to.Goals as goal
 
 pub returns-in-Open-clause-ok : goal.returns-in-Open-clause-ok
 returns-in-Open-clause-ok g c =
-    subst (λ (o : Output). IsOut g.S.Sink.takes g.S.Sink.failures c.args.sink.now c.put.new.sink o
+    subst (λ (o : Output). IsOut g.S.Sink.writer c.args.sink.now c.put.new.sink o
     (made_text g.B.Code.rules c.args.items.now)) c.in-Open.is
     (whole_out (prints_same (c.as_slice.ensures.value ∙ c.in_ok-text.ensures.ok) c.put.ensures))
 
@@ -15,7 +15,7 @@ pub returns-clause-fault : goal.returns-clause-fault
 returns-clause-fault g c = (
   made_text g.B.Code.rules c.args.items.now,
   refl,
-  subst (λ (o : Output). IsOut g.S.Sink.takes g.S.Sink.failures c.args.sink.now c.put.new.sink o
+  subst (λ (o : Output). IsOut g.S.Sink.writer c.args.sink.now c.put.new.sink o
       (made_text g.B.Code.rules c.args.items.now)) c.in-Failed.is
       (whole_out (prints_same (c.as_slice.ensures.value ∙ c.in_ok-text.ensures.ok) c.put.ensures)),
 )

@@ -9,13 +9,13 @@ use Rattle.ws_program.proofs.program.play_script.Goals as goal
 pub returns-in_err-moves-clause-fault : goal.returns-in_err-moves-clause-fault
 returns-in_err-moves-clause-fault g c =
     let p = err_from_is_err_and c.from_residual.result c.from_residual.ensures.1 in
-    rw (p.1, p.2) (unread_script g.S.Sink.takes g.S.Sink.failures c.args.sink.now c.args.paint c.args.screen
+    rw (p.1, p.2) (unread_script g.S.Sink.writer c.args.sink.now c.args.paint c.args.screen
     c.args.script.now _ c.in_err-moves.ensures.fault)
 
 pub returns-in_err-report-clause-fault : goal.returns-in_err-report-clause-fault
 returns-in_err-report-clause-fault g c =
     let p = err_from_is_err_and c.from_residual-in_err-report.result c.from_residual-in_err-report.ensures.1 in
-    rw (p.1, p.2) (subst (λ (f : Fault). IsPlayFault g.S.Sink.takes g.S.Sink.failures c.args.sink.now
+    rw (p.1, p.2) (subst (λ (f : Fault). IsPlayFault g.S.Sink.writer c.args.sink.now
     c.args.sink.now c.args.paint c.args.screen c.args.script.now (run_fault f)) (sym c.in_err-report.ensures.fault)
     (refl, inr (c.in_ok-moves.moves.items, c.in_ok-moves.ensures.moves)))
 
@@ -39,7 +39,7 @@ returns-in_err-play_painted_to-clause-fault g c =
     c.from_residual-in_err-play_painted_to.ensures.1 in
     let moves = c.in_ok-moves.moves in
     let e = c.in_err-play_painted_to.ensures.fault in
-    rw (p.1, p.2) (subst (λ (f : Fault). IsPlayFault g.S.Sink.takes g.S.Sink.failures c.args.sink.now
+    rw (p.1, p.2) (subst (λ (f : Fault). IsPlayFault g.S.Sink.writer c.args.sink.now
     c.play_painted_to.new.sink c.args.paint c.args.screen c.args.script.now (run_fault f)) (sym e.0) (
       moves.items,
       c.in_ok-moves.ensures.moves,

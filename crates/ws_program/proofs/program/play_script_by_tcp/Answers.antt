@@ -10,13 +10,13 @@ use Rattle.ws_program.proofs.program.play_script_by_tcp.Goals as goal
 pub returns-in_err-moves-clause-fault : goal.returns-in_err-moves-clause-fault
 returns-in_err-moves-clause-fault g c =
     let p = err_from_is_err_and c.from_residual.result c.from_residual.ensures.1 in
-    rw (p.1, p.2) (unread_tcp_script g.S.Sink.takes g.S.Sink.failures c.args.sink.now c.args.paint c.args.screen
+    rw (p.1, p.2) (unread_tcp_script g.S.Sink.writer c.args.sink.now c.args.paint c.args.screen
     c.args.script.now _ c.in_err-moves.ensures.fault)
 
 pub returns-in_err-report-clause-fault : goal.returns-in_err-report-clause-fault
 returns-in_err-report-clause-fault g c =
     let p = err_from_is_err_and c.from_residual-in_err-report.result c.from_residual-in_err-report.ensures.1 in
-    rw (p.1, p.2) (unconnected g.S.Sink.takes g.S.Sink.failures c.args.sink.now c.args.paint c.args.screen
+    rw (p.1, p.2) (unconnected g.S.Sink.writer c.args.sink.now c.args.paint c.args.screen
     c.args.script.now c.in_ok-moves.moves.items c.in_ok-moves.ensures.moves c.in_err-report.field-0.0)
 
 pub returns-clause-done : goal.returns-clause-done
@@ -45,7 +45,7 @@ returns-in_err-play_painted_to-clause-fault g c =
     let report = c.in_ok-report.report in
     let ran = c.in_ok-report.ensures in
     let e = c.in_err-play_painted_to.ensures.fault in
-    rw (p.1, p.2) (subst (λ (f : Fault). IsTcpPlayFault g.S.Sink.takes g.S.Sink.failures c.args.sink.now
+    rw (p.1, p.2) (subst (λ (f : Fault). IsTcpPlayFault g.S.Sink.writer c.args.sink.now
     c.play_painted_to.new.sink c.args.paint c.args.screen c.args.script.now (run_fault f)) (sym e.0) (
       c.in_ok-moves.moves.items,
       c.in_ok-moves.ensures.moves,

@@ -16,7 +16,7 @@ loop-receiver-init g c = λ paint. (
   [],
   shows_none g.B.Code.rules (in_paint g.B.Shown.view g.B.Shown.Ends paint)
       g.B.Shown.makes c.args.bytes.now c.new-receiver.result c.args.made.now c.new-receiver.ensures c.requires.given,
-  went_out_none g.S.Sink.takes g.S.Sink.failures c.args.sink.now,
+  went_out_none g.S.Sink.writer c.args.sink.now,
 )
 
 pub next_item-requires : goal.next_item-requires
@@ -30,7 +30,7 @@ returns-in_err-place-clause-err g c =
     let p = err_from_is_err_and c.from_residual.result c.from_residual.ensures.1 in
     rw (p.1, p.2) (λ paint.
     let inv = c.loop-receiver.invariant paint in
-    stops_next g.S.Sink.takes g.S.Sink.failures c.args.sink.now inv.1 c.loop-receiver.sink inv.2 _
+    stops_next g.S.Sink.writer c.args.sink.now inv.1 c.loop-receiver.sink inv.2 _
     c.in_err-place.ensures.fault)
 
 pub returns-in_err-write_item-clause-err : goal.returns-in_err-write_item-clause-err
@@ -40,7 +40,7 @@ returns-in_err-write_item-clause-err g c =
     let inv = c.loop-receiver.invariant paint in
     let next = next_is inv.1 c.next_item.new.receiver _ (c.in-Some.place, c.in-Some.item) c.in-Some.is
     c.in_ok-place.ensures.next in
-    stops_at_item g.S.Sink.takes g.S.Sink.failures c.args.sink.now inv.1 c.write_item.new.sink c.loop-receiver.sink
+    stops_at_item g.S.Sink.writer c.args.sink.now inv.1 c.write_item.new.sink c.loop-receiver.sink
     (c.in-Some.place, c.in-Some.item) inv.2 next.complete _ c.in_err-write_item.ensures.err)
 
 pub carry_out-requires-clause-whole : goal.carry_out-requires-clause-whole
@@ -59,7 +59,7 @@ returns-in_err-place-clause-halted g c =
     let p = err_from_is_err_and c.from_residual.result c.from_residual.ensures.1 in
     rw (p.1, p.2) (λ paint.
     let inv = c.loop-receiver.invariant paint in
-    halts_next inv.1 g.S.Sink.takes g.S.Sink.failures c.args.sink.now c.loop-receiver.sink inv.2 _
+    halts_next inv.1 g.S.Sink.writer c.args.sink.now c.loop-receiver.sink inv.2 _
     c.in_err-place.ensures.fault)
 
 pub returns-in_err-write_item-clause-halted : goal.returns-in_err-write_item-clause-halted
@@ -70,7 +70,7 @@ returns-in_err-write_item-clause-halted g c =
     let inv = c.loop-receiver.invariant paint in
     let next = next_is inv.1 c.next_item.new.receiver _ (c.in-Some.place, c.in-Some.item) c.in-Some.is
     c.in_ok-place.ensures.next in
-    fails_at_item inv.1 g.S.Sink.takes g.S.Sink.failures c.args.sink.now c.loop-receiver.sink c.write_item.new.sink
+    fails_at_item inv.1 g.S.Sink.writer c.args.sink.now c.loop-receiver.sink c.write_item.new.sink
     (c.in-Some.place, c.in-Some.item) inv.2 next.complete f.1)
 
 pub returns-in-Err-clause-ok : goal.returns-in-Err-clause-ok
@@ -78,7 +78,7 @@ returns-in-Err-clause-ok g c = λ paint.
     let inv = c.loop-receiver.invariant paint in
     let next = next_is inv.1 c.next_item.new.receiver _ (c.in-Some.place, c.in-Some.item) c.in-Some.is
     c.in_ok-place.ensures.next in
-    through_unapplied inv.1 g.S.Sink.takes g.S.Sink.failures c.args.sink.now c.loop-receiver.sink c.write_item.new.sink
+    through_unapplied inv.1 g.S.Sink.writer c.args.sink.now c.loop-receiver.sink c.write_item.new.sink
     (c.in-Some.place, c.in-Some.item) c.in-Err.reason (λ text. Unit {0}) inv.2 next.complete
     c.in_ok-write_item.ensures.ok (sym (c.in-Err.ensures.fault (items_of inv.1.placed) inv.1.makes_it))
 
@@ -89,7 +89,7 @@ loop-receiver-preserved-in_default-carry_out g c = λ paint.
     c.in_ok-place.ensures.next in
     let h = items_of inv.1.placed in
     let done = c.in_default-carry_out.ensures in
-    goes_on g.S.Sink.takes g.S.Sink.failures c.args.sink.now inv.1 c.write_item.new.sink c.loop-receiver.sink
+    goes_on g.S.Sink.writer c.args.sink.now inv.1 c.write_item.new.sink c.loop-receiver.sink
     (c.in-Some.place, c.in-Some.item) c.next_item.new.receiver c.carry_out.new.made inv.2 next
     c.in_ok-write_item.ensures.ok (sym (done.fault h inv.1.makes_it)) (done.after h inv.1.makes_it)
 
@@ -100,7 +100,7 @@ loop-receiver-preserved g c = λ paint.
     c.in_ok-place.ensures.next in
     let h = items_of inv.1.placed in
     let done = c.in_default-carry_out.ensures in
-    goes_on g.S.Sink.takes g.S.Sink.failures c.args.sink.now inv.1 c.write_item.new.sink c.loop-receiver.sink
+    goes_on g.S.Sink.writer c.args.sink.now inv.1 c.write_item.new.sink c.loop-receiver.sink
     (c.in-Some.place, c.in-Some.item) c.next_item.new.receiver c.carry_out.new.made inv.2 next
     c.in_ok-write_item.ensures.ok (sym (done.fault h inv.1.makes_it)) (done.after h inv.1.makes_it)
 
@@ -119,7 +119,7 @@ returns-in_err-finish-clause-err g c =
     rw (p.1, p.2) (λ paint.
     let inv = c.loop-receiver.invariant paint in
     let received = none_next inv.1 c.next_item.new.receiver _ c.in_default.is c.in_ok-place.ensures.next in
-    stops_early g.S.Sink.takes g.S.Sink.failures c.args.sink.now inv.1 c.loop-receiver.sink inv.2
+    stops_early g.S.Sink.writer c.args.sink.now inv.1 c.loop-receiver.sink inv.2
     c.next_item.new.receiver received _
     (c.in_err-finish.ensures.truncated c.args.bytes.now (items_of inv.1.placed) received (omega arith)))
 
@@ -129,7 +129,7 @@ returns-in_err-finish-clause-halted g c =
     rw (p.1, p.2) (λ paint.
     let inv = c.loop-receiver.invariant paint in
     let received = none_next inv.1 c.next_item.new.receiver _ c.in_default.is c.in_ok-place.ensures.next in
-    halts_early inv.1 g.S.Sink.takes g.S.Sink.failures c.args.sink.now c.loop-receiver.sink inv.2
+    halts_early inv.1 g.S.Sink.writer c.args.sink.now c.loop-receiver.sink inv.2
     c.next_item.new.receiver received _
     (c.in_err-finish.ensures.truncated c.args.bytes.now (items_of inv.1.placed) received (omega arith)))
 
@@ -137,5 +137,5 @@ pub returns-clause-ok : goal.returns-clause-ok
 returns-clause-ok g c = λ paint.
     let inv = c.loop-receiver.invariant paint in
     let received = none_next inv.1 c.next_item.new.receiver _ c.in_default.is c.in_ok-place.ensures.next in
-    through_all inv.1 g.S.Sink.takes g.S.Sink.failures c.args.sink.now c.loop-receiver.sink inv.2
+    through_all inv.1 g.S.Sink.writer c.args.sink.now c.loop-receiver.sink inv.2
     (c.in_ok-finish.ensures.ok.1 c.args.bytes.now (items_of inv.1.placed) received)

@@ -12,7 +12,7 @@ returns-in-Open-clause-ok g c =
         put.0,
         put.1,
         subst
-            (λ (o : Output). IsOut g.S.Sink.takes g.S.Sink.failures c.args.sink.now c.put_end.new.sink o put.0)
+            (λ (o : Output). IsOut g.S.Sink.writer c.args.sink.now c.put_end.new.sink o put.0)
             c.in-Open.is (whole_out put.2),
       ),
     )
@@ -25,7 +25,7 @@ returns-in-Failed-clause-err g c =
         put.0,
         put.1,
         subst
-            (λ (o : Output). IsOut g.S.Sink.takes g.S.Sink.failures c.args.sink.now c.put_end.new.sink o put.0)
+            (λ (o : Output). IsOut g.S.Sink.writer c.args.sink.now c.put_end.new.sink o put.0)
             c.in-Failed.is (whole_out put.2),
       ),
     )

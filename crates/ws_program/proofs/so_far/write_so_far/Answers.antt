@@ -14,7 +14,7 @@ returns-then-is_empty-clause-ok g c = (
       c.in_ok-text.text.items (c.in_ok-text.ensures.ok items held)
       (sym c.as_slice-lines.ensures.value
       ∙ is_nil_by c.as_slice-lines.result.now c.is_empty.result c.is_empty.ensures c.if-is_empty.true)),
-  went_out_none g.S.Sink.takes g.S.Sink.failures c.args.sink.now,
+  went_out_none g.S.Sink.writer c.args.sink.now,
 )
 
 pub returns-in-Open-clause-ok : goal.returns-in-Open-clause-ok
@@ -27,7 +27,7 @@ returns-in-Open-clause-ok g c =
           lines behind.0 (rw c.as_slice-lines.ensures.value (c.in_ok-text.ensures.ok items held)) some
           (behind.1 items made)),
       subst
-          (λ (o : Output). IsOut g.S.Sink.takes g.S.Sink.failures c.args.sink.now c.put_end.new.sink o
+          (λ (o : Output). IsOut g.S.Sink.writer c.args.sink.now c.put_end.new.sink o
           (lines ++ behind.0)) c.in-Open.is (whole_out (prints_both c.put-output.ensures behind.2)),
     )
 
@@ -41,6 +41,6 @@ returns-clause-err g c =
           lines behind.0 (rw c.as_slice-lines.ensures.value (c.in_ok-text.ensures.ok items held)) some
           (behind.1 items made)),
       subst
-          (λ (o : Output). IsOut g.S.Sink.takes g.S.Sink.failures c.args.sink.now c.put_end.new.sink o
+          (λ (o : Output). IsOut g.S.Sink.writer c.args.sink.now c.put_end.new.sink o
           (lines ++ behind.0)) c.in-Failed.is (whole_out (prints_both c.put-output.ensures behind.2)),
     )

@@ -5,7 +5,7 @@ use Rattle.ws_record.proofs.encoder.encode.Goals as goal
 pub returns-in-Ok-clause-spelled : goal.returns-in-Ok-clause-spelled
 returns-in-Ok-clause-spelled g c =
     let text = plain_spelling g.B.Code.rules c.args.items.now in
-    c.into_inner.ensures ∙ held_went_out (λ (s : Held). s.failures) c.new-sink.result c.write_items.new.sink text
+    c.into_inner.ensures ∙ held_went_out c.new-sink.result c.write_items.new.sink text
     c.in-Ok.ensures.ok ∙ rw c.new-sink.ensures.bytes
 
 pub returns-in-Ok-clause-accepted : goal.returns-in-Ok-clause-accepted

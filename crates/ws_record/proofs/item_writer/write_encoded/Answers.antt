@@ -31,7 +31,7 @@ pub returns-in_err-write_doubled-clause-err : goal.returns-in_err-write_doubled-
 returns-in_err-write_doubled-clause-err g c =
     rw (handed_on c.from_residual.result c.from_residual.ensures.1) (
       c.in_err-write_doubled.ensures.err.0,
-      first_fails _ _ (flat_map doubled (spelling_of g.B.Code.rules c.as_slice-units.result.now)) (0xff ∷ 0xef ∷ [])
+      first_fails _ (flat_map doubled (spelling_of g.B.Code.rules c.as_slice-units.result.now)) (0xff ∷ 0xef ∷ [])
           (text g (goal.at.returns-in_err-write_doubled-clause-err g c).After-header_bytes)
           c.in_err-write_doubled.ensures.err.1,
     )
@@ -40,18 +40,18 @@ pub returns-in_err-write_units-clause-err : goal.returns-in_err-write_units-clau
 returns-in_err-write_units-clause-err g c =
     rw (handed_on c.from_residual-in_err-write_units.result c.from_residual-in_err-write_units.ensures.1) (
       c.in_err-write_units.ensures.err.0,
-      second_fails _ _ _ _ (text g (goal.at.returns-in_err-write_units-clause-err g c).After-header_bytes)
+      second_fails _ _ _ (text g (goal.at.returns-in_err-write_units-clause-err g c).After-header_bytes)
           c.in_ok-write_doubled.ensures.ok c.in_err-write_units.ensures.err.1,
     )
 
 pub returns-clause-ok : goal.returns-clause-ok
 returns-clause-ok g c = on_ok_weaker c.write_whole.result
-    (three_out _ _ _ _ (text g (goal.at.returns-clause-ok g c).After-header_bytes) c.in_ok-write_doubled.ensures.ok
+    (three_out _ _ _ (text g (goal.at.returns-clause-ok g c).After-header_bytes) c.in_ok-write_doubled.ensures.ok
     c.in_ok-write_units.ensures.ok) c.write_whole.ensures.ok
 
 pub returns-clause-err : goal.returns-clause-err
 returns-clause-err g c = IfErr-weaker c.write_whole.result _ _ (λ fault q. (
   q.0,
-  third_fails _ _ _ _ (text g (goal.at.returns-clause-err g c).After-header_bytes) c.in_ok-write_doubled.ensures.ok
+  third_fails _ _ _ (text g (goal.at.returns-clause-err g c).After-header_bytes) c.in_ok-write_doubled.ensures.ok
       c.in_ok-write_units.ensures.ok q.1,
 )) c.write_whole.ensures.err

@@ -3,12 +3,12 @@ use Rattle.ws_record.proofs.laws.decode_both_ways.Goals as goal
 
 pub returns-clause-source_accepted : goal.returns-clause-source_accepted
 returns-clause-source_accepted g c =
-    source_accepts g.B.Code.rules _ c.decode_from-from_source.result (λ v. v.items) _
+    source_accepts g.B.Code.rules c.decode_from-from_source.result (λ v. v.items) _
     _ _ c.new-source.ensures c.decode_from-from_source.ensures.accepted
 
 pub returns-clause-source_fault : goal.returns-clause-source_fault
 returns-clause-source_fault g c =
-    source_faults g.B.Code.rules _ c.decode_from-from_source.result _ _ _
+    source_faults g.B.Code.rules c.decode_from-from_source.result _ _ _
     c.new-source.ensures c.requires c.decode_from-from_source.ensures.fault
 
 pub returns-clause-alike : goal.returns-clause-alike

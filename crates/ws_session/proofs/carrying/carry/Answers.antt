@@ -27,7 +27,7 @@ loop-at-preserved g c =
     let into = c.read.new.into in
     let n = c.in-Ok.given in
     let some : n ≢ 0 = c.in-Ok.given-test.1 in
-    let more = gave_more g.R.Source.gives g.R.Source.failures c.args.source.now c.loop-at.source c.read.new.self
+    let more = gave_more g.R.Source.reader c.args.source.now c.loop-at.source c.read.new.self
     inv.gave.0 (take at c.loop-at.taken) _ (take n into) inv.gave.2
     (omega (arith, inv.gave.1, inv.within)) c.in-Ok.ensures.ok.1 (take_some into n some c.in-Ok.ensures.ok.0)
     c.in-Ok.ensures.ok.2 in
@@ -60,7 +60,7 @@ returns-in-Ok-eq0-clause-fault g c =
         one_left = omega (arith, inv.gave.1);
         room = room;
         has_room = omega (arith, length_rest slice at);
-        end = subst (λ (n : ℕ). g.R.Source.gives c.loop-at.source room (Some (take n c.read.new.into)) c.read.new.self)
+        end = subst (λ (n : ℕ). g.R.Source.reader.gives c.loop-at.source room (Some (take n c.read.new.into)) c.read.new.self)
             zero c.in-Ok-eq0.ensures.ok.1;
         uncounted = c.in-Ok-eq0.ensures.ok.2 ∙ inv.gave.2.uncounted;
       };

@@ -5,7 +5,7 @@ use Rattle.ws_session.proofs.carrying.carry.Given as goal
 abbrev pub invariant-loop-at : goal.invariant-loop-at
 invariant-loop-at g l = record {
   within : l.at ≤ length l.taken;
-  gave : (reads : ℕ) × (reads ≤ l.at) × Gave g.R.Source.gives g.R.Source.failures l.fn.source l.source reads
+  gave : (reads : ℕ) × (reads ≤ l.at) × Gave g.R.Source.reader l.fn.source l.source reads
       (take l.at l.taken);
 }
 

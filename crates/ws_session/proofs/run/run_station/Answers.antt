@@ -8,10 +8,10 @@ pub returns-in_err-press_due : goal.returns-in_err-press_due
 returns-in_err-press_due g c =
     let p = err_from_is_err_and c.from_residual.result c.from_residual.ensures.1 in
     rw (p.1, p.2) (λ t l. rw c.in_err-press_due.ensures.fault.0
-    (start_fails _ _ _ _ t _ _ _ _ _ l (c.in_err-press_due.ensures.fault.1 [] [] (new_station_side t) l (omega arith))))
+    (start_fails _ _ t _ _ _ _ _ l (c.in_err-press_due.ensures.fault.1 [] [] (new_station_side t) l (omega arith))))
 
 pub loop-init : goal.loop-init
-loop-init g c = λ t l. run_starts _ _ _ _ t _ _ _ _ _ _
+loop-init g c = λ t l. run_starts _ _ t _ _ _ _ _ _
     (c.in_ok-press_due.ensures.done [] [] (new_station_side t) l (omega arith)) c.in_ok-press_due.ensures.left
 
 pub returns-in-Ok-eq0 : goal.returns-in-Ok-eq0
@@ -19,7 +19,7 @@ returns-in-Ok-eq0 g c = λ t l.
     let inv = c.loop.invariant t l in
     let zero : c.in-Ok-eq0.field-0 ≡ 0 = omega arith in
     let made = rw zero at c.in-Ok-eq0.ensures.ok.1 in
-    run_ends _ _ _ _ t _ _ _ _ _ _ _ inv
+    run_ends _ _ t _ _ _ _ _ _ _ inv
     (omega arith) _ _ _ (omega arith) made c.in-Ok-eq0.ensures.ok.2 c.finish.ensures.played c.finish.ensures.truncated
 
 pub returns-in_err-take_all-in-Ok : goal.returns-in_err-take_all-in-Ok
@@ -51,11 +51,11 @@ loop-preserved g c = λ t l.
 
 pub returns-in-Err : goal.returns-in-Err
 returns-in-Err g c =
-    λ t l. run_unread g.R.Source.gives g.R.Source.failures g.S.Sink.takes g.S.Sink.failures t c.args.keys.now
+    λ t l. run_unread g.R.Source.reader g.S.Sink.writer t c.args.keys.now
     c.args.source.now c.loop.source c.loop.counter c.args.sink.now c.loop.sink c.loop.player (c.loop.invariant t l)
     (omega arith) c.read.new.self (length c.loop.piece) c.in-Err.ensures.err.0 c.in-Err.ensures.err.1
 
 pub returns : goal.returns
-returns g c = λ t l. run_endless g.R.Source.gives g.R.Source.failures g.S.Sink.takes g.S.Sink.failures
+returns g c = λ t l. run_endless g.R.Source.reader g.S.Sink.writer
     t c.args.keys.now c.args.source.now c.loop.source c.loop.counter c.args.sink.now c.loop.sink c.loop.player
     (c.loop.invariant t l) (omega arith)

@@ -27,7 +27,7 @@ returns-in-Ok-None-clause-pressed g c = record {
   led = key_silent_goes g.D.Commands.Code.rules g.D.StationDisplay.does g.met.D.StationDisplay.spells _ _ _
       (rw c.in-Ok-None.field-0-is at c.in-Ok-None.ensures.keyed)
       (not_shut _ _ KeyFailed _ c.in-Ok-None.ensures.failed c.in-Ok-None.ensures.full);
-  wrote = went_out_none g.K.Sink.takes g.K.Sink.failures c.args.sink.now;
+  wrote = went_out_none g.K.Sink.writer c.args.sink.now;
 }
 
 pub returns-in-Ok-None-clause-taken : goal.returns-in-Ok-None-clause-taken
@@ -62,7 +62,7 @@ returns-in-Err-clause-pressed g c = record {
   written = [];
   led = key_refused_goes g.D.Commands.Code.rules g.D.StationDisplay.does g.met.D.StationDisplay.spells _ _ _
       c.in-Err.fault c.in-Err.ensures.keyed c.in-Err.ensures.same;
-  wrote = went_out_none g.K.Sink.takes g.K.Sink.failures c.args.sink.now;
+  wrote = went_out_none g.K.Sink.writer c.args.sink.now;
 }
 
 pub returns-in-Err-clause-told : goal.returns-in-Err-clause-told

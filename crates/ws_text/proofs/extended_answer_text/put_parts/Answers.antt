@@ -8,7 +8,7 @@ use Rattle.ws_text.proofs.ExtendedAnswerTexts.{all_told_lines}
 use Rattle.ws_text.proofs.extended_answer_text.put_parts.Goals as goal
 
 pub loop-part-init : goal.loop-part-init
-loop-part-init g c = (prints_none g.S.Sink.takes g.S.Sink.failures c.args.sink.now c.args.output, refl)
+loop-part-init g c = (prints_none g.S.Sink.writer c.args.sink.now c.args.output, refl)
 
 pub loop-part-preserved : goal.loop-part-preserved
 loop-part-preserved g c =

@@ -5,7 +5,7 @@ use Rattle.ws_text.proofs.Texts.{lines_behind, all_lines, lines_behind_more, is_
 use Rattle.ws_text.proofs.item_text.put_elements.Goals as goal
 
 pub loop-element-init : goal.loop-element-init
-loop-element-init g c = (prints_none g.S.Sink.takes g.S.Sink.failures c.args.sink.now c.args.output, refl)
+loop-element-init g c = (prints_none g.S.Sink.writer c.args.sink.now c.args.output, refl)
 
 pub loop-element-preserved : goal.loop-element-preserved
 loop-element-preserved g c =

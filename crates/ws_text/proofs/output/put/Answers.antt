@@ -4,29 +4,26 @@ use Rattle.ws_text.proofs.output.put.Goals as goal
 
 pub returns-in-Failed : goal.returns-in-Failed
 returns-in-Failed g c =
-    let takes = g.S.Sink.takes in
-    let failures = g.S.Sink.failures in
+    let writer = g.S.Sink.writer in
     let s = c.args.sink.now in
     let bytes = c.args.bytes.now in
-    subst (λ (o : Output). Prints takes failures s s o Failed bytes) (sym c.in-Failed.is)
-    (put_failed takes failures s bytes)
+    subst (λ (o : Output). Prints writer s s o Failed bytes) (sym c.in-Failed.is)
+    (put_failed writer s bytes)
 
 pub returns-in-Ok : goal.returns-in-Ok
 returns-in-Ok g c =
-    let takes = g.S.Sink.takes in
-    let failures = g.S.Sink.failures in
+    let writer = g.S.Sink.writer in
     let s = c.args.sink.now in
     let t = c.write_whole.new.sink in
     let bytes = c.args.bytes.now in
-    subst (λ (o : Output). Prints takes failures s t o Open bytes) (sym c.in-Open.is)
-    (put_out takes failures s t bytes c.in-Ok.ensures.ok)
+    subst (λ (o : Output). Prints writer s t o Open bytes) (sym c.in-Open.is)
+    (put_out writer s t bytes c.in-Ok.ensures.ok)
 
 pub returns-in-Err : goal.returns-in-Err
 returns-in-Err g c =
-    let takes = g.S.Sink.takes in
-    let failures = g.S.Sink.failures in
+    let writer = g.S.Sink.writer in
     let s = c.args.sink.now in
     let t = c.write_whole.new.sink in
     let bytes = c.args.bytes.now in
-    subst (λ (o : Output). Prints takes failures s t o Failed bytes) (sym c.in-Open.is)
-    (put_fails takes failures s t bytes c.in-Err.ensures.err.1)
+    subst (λ (o : Output). Prints writer s t o Failed bytes) (sym c.in-Open.is)
+    (put_fails writer s t bytes c.in-Err.ensures.err.1)

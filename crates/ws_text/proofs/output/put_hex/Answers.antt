@@ -4,7 +4,7 @@ use Rattle.ws_text.proofs.output.put_hex.Goals as goal
 
 pub loop-byte-init : goal.loop-byte-init
 loop-byte-init g c = prints_same (encode_none upper_digits)
-    (prints_none g.S.Sink.takes g.S.Sink.failures c.args.sink.now c.args.output)
+    (prints_none g.S.Sink.writer c.args.sink.now c.args.output)
 
 pub loop-byte-preserved : goal.loop-byte-preserved
 loop-byte-preserved g c = prints_same (encode_more upper_digits c.args.bytes.now c.loop-byte.byte-index c.digit.result

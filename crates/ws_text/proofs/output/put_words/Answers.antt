@@ -5,7 +5,7 @@ use Rattle.ws_text.proofs.Prints.{prints_none, prints_both, prints_same}
 use Rattle.ws_text.proofs.output.put_words.Goals as goal
 
 pub loop-word-init : goal.loop-word-init
-loop-word-init g c = prints_none g.S.Sink.takes g.S.Sink.failures c.args.sink.now c.args.output
+loop-word-init g c = prints_none g.S.Sink.writer c.args.sink.now c.args.output
 
 pub loop-word-preserved : goal.loop-word-preserved
 loop-word-preserved g c =

@@ -28,7 +28,7 @@ returns-clause-sent c =
     let spelled : List ℕ = record_spelling (header (10 + length kept) r.flags r.opcode ++ kept) in
     let went = known_ok _ (sym c.is_err.ensures.value ∙ c.if-is_err.false) c.write_record.ensures.ok in
     let out : c.into_inner.result.items ≡ spelled = c.into_inner.ensures
-    ∙ held_went_out (λ (s : Held). s.failures) c.new-sink.result c.write_record.new.sink spelled went
+    ∙ held_went_out c.new-sink.result c.write_record.new.sink spelled went
     ∙ ap (λ (z : List ℕ). z ++ spelled) c.new-sink.ensures.bytes in
     rw (← c.self.view_is) (
       fits old.options r (sym c.records_allowed.ensures ∙ c.if-not-records_allowed.false)

@@ -14,11 +14,11 @@ returns-in-Press-clause-runs g c =
     let to = c.press_keys.new.attached in (
       e.0,
       subst (λ (line : StationLine g.row.D-Key.Denot). StationRuns g.D.Commands.Code.rules g.D.StationDisplay.does
-          g.K.Sink.takes g.K.Sink.failures g.S.Source.gives g.S.Source.failures
+          g.K.Sink.writer g.S.Source.reader
           g.W.Watch.tells g.W.Watch.rests g.D.OperatedDisplay.operated g.D.Key.NamedKey.words c.args.paint line
           (from, c.args.ahead.now) outcome e.0 (to, 0)) (sym c.in-Press.is) (
             subst (λ (keys : List g.row.D-Key.Denot). KeysRun g.D.Commands.Code.rules g.D.StationDisplay.does
-                g.K.Sink.takes g.K.Sink.failures g.S.Source.gives g.S.Source.failures g.D.Key.NamedKey.words
+                g.K.Sink.writer g.S.Source.reader g.D.Key.NamedKey.words
                 keys from outcome e.0 to) c.as_slice.ensures e.1,
             refl,
           ),
@@ -30,8 +30,7 @@ returns-in-Fields-clause-runs g c =
     let t = c.take_what_came-ended.ensures.taken in
     let p = c.put_field_lines-output.ensures in
     let text : List ℕ = p.0 ++ waited_text (rested true t.1) in
-    let shows : Shows g.D.Commands.Code.rules g.D.StationDisplay.does g.K.Sink.takes g.K.Sink.failures g.S.Source.gives
-    g.S.Source.failures g.W.Watch.tells (λ station. AreFieldLines (g.D.StationDisplay.does.shown station.screen))
+    let shows : Shows g.D.Commands.Code.rules g.D.StationDisplay.does g.K.Sink.writer g.S.Source.reader g.W.Watch.tells (λ station. AreFieldLines (g.D.StationDisplay.does.shown station.screen))
     (c.args.attached.now, c.args.ahead.now) c.put_waited-in-Fields.result.outcome text
     (c.take_what_came-ended.new.attached, c.take_what_came-ended.new.ahead) = record {
       told = t.0;
@@ -45,7 +44,7 @@ returns-in-Fields-clause-runs g c =
     } in (
       text,
       subst (λ (line : StationLine g.row.D-Key.Denot). StationRuns g.D.Commands.Code.rules g.D.StationDisplay.does
-          g.K.Sink.takes g.K.Sink.failures g.S.Source.gives g.S.Source.failures
+          g.K.Sink.writer g.S.Source.reader
           g.W.Watch.tells g.W.Watch.rests g.D.OperatedDisplay.operated g.D.Key.NamedKey.words c.args.paint line
           (c.args.attached.now, c.args.ahead.now) c.put_waited-in-Fields.result.outcome text
           (c.take_what_came-ended.new.attached, c.take_what_came-ended.new.ahead)) (sym c.in-Fields.is) shows,
@@ -57,8 +56,7 @@ returns-in-Show-clause-runs g c =
     let t = c.take_what_came-ended-in-Show.ensures.taken in
     let p = c.put_display-output.ensures in
     let text : List ℕ = p.0 ++ waited_text (rested true t.1) in
-    let shows : Shows g.D.Commands.Code.rules g.D.StationDisplay.does g.K.Sink.takes g.K.Sink.failures g.S.Source.gives
-    g.S.Source.failures g.W.Watch.tells (λ station. IsDisplayText c.args.paint (g.D.StationDisplay.does.shown station.screen)
+    let shows : Shows g.D.Commands.Code.rules g.D.StationDisplay.does g.K.Sink.writer g.S.Source.reader g.W.Watch.tells (λ station. IsDisplayText c.args.paint (g.D.StationDisplay.does.shown station.screen)
     (g.D.OperatedDisplay.operated.behind station.screen))
     (c.args.attached.now, c.args.ahead.now) c.put_waited-in-Show.result.outcome text
     (c.take_what_came-ended-in-Show.new.attached, c.take_what_came-ended-in-Show.new.ahead) = record {
@@ -74,7 +72,7 @@ returns-in-Show-clause-runs g c =
     } in (
       text,
       subst (λ (line : StationLine g.row.D-Key.Denot). StationRuns g.D.Commands.Code.rules g.D.StationDisplay.does
-          g.K.Sink.takes g.K.Sink.failures g.S.Source.gives g.S.Source.failures
+          g.K.Sink.writer g.S.Source.reader
           g.W.Watch.tells g.W.Watch.rests g.D.OperatedDisplay.operated g.D.Key.NamedKey.words c.args.paint line
           (c.args.attached.now, c.args.ahead.now) c.put_waited-in-Show.result.outcome text
           (c.take_what_came-ended-in-Show.new.attached, c.take_what_came-ended-in-Show.new.ahead)) (sym c.in-Show.is) shows,

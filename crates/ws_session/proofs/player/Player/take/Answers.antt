@@ -16,7 +16,7 @@ returns-in-Err-clause-fault g c = λ start t bytes items h few.
     let at = value_at piece m (omega (arith, some, f.ensures.within)) in
     let upto : take f.result.used piece ≡ take m piece ++ at.0 ∷ [] = ap (λ n. take n piece) (sym last) ∙ at.3 in
     let held = f.ensures.first bytes items so_far.side h.is_behind.leads m (omega (arith, last)) in
-    rw c.fault_of.ensures (refused_as _ _ t _ start _ c.args.self.now f.new.self bytes items h piece (take m piece)
+    rw c.fault_of.ensures (refused_as _ t _ start _ c.args.self.now f.new.self bytes items h piece (take m piece)
     at.0 at.1 at.2 held c.in-Err.refusal (rw (upto, c.in-Err.is) at fronted))
 
 pub returns-in_err-write_whole-in-Ok-clause-fault : goal.returns-in_err-write_whole-in-Ok-clause-fault
@@ -26,7 +26,7 @@ returns-in_err-write_whole-in-Ok-clause-fault g c =
     let failed = c.in_err-write_whole-in-Ok.ensures.err in
     rw (p.1, p.2) (λ start t bytes items h few.
     let fronted = rw c.in-Ok.is at f.ensures.fronted bytes items _ h.is_behind.leads (omega (arith, few)) in
-    rw failed.0 (reply_fails _ _ t _ start _ (record c.args.self.now { station = f.new.self }) _ bytes items
+    rw failed.0 (reply_fails _ t _ start _ (record c.args.self.now { station = f.new.self }) _ bytes items
     c.args.piece.now f.result.used f.ensures.within (f.ensures.used (λ e. cc (c.in-Ok.is, e))) h few c.in-Ok.step fronted
     c.write_whole.new.sink (rw c.bytes.ensures.written at failed.1)))
 
@@ -38,7 +38,7 @@ returns-in_err-press_due-in-Ok-clause-fault g c =
     let failed = c.in_err-press_due-in-Ok.ensures.fault in
     rw (p.1, p.2) (λ start t bytes items h few.
     let fronted = rw c.in-Ok.is at f.ensures.fronted bytes items _ h.is_behind.leads (omega (arith, few)) in
-    rw failed.0 (keys_fail _ _ t _ start _ (record c.args.self.now { station = f.new.self }) _ bytes items
+    rw failed.0 (keys_fail _ t _ start _ (record c.args.self.now { station = f.new.self }) _ bytes items
     c.args.piece.now f.result.used f.ensures.within (f.ensures.used (λ e. cc (c.in-Ok.is, e))) h few c.in-Ok.step fronted
     c.if-step.true _ c.saturating_add-self.ensures _
     (rw c.bytes.ensures.written at c.in_ok-write_whole-in-Ok.ensures.ok) c.press_due.new.sink failed.1))
@@ -49,7 +49,7 @@ returns-in_ok-press_due-in-Ok-clause-come g c =
     let done = c.in_ok-press_due-in-Ok.ensures in
     λ start t bytes items h few.
     let fronted = rw c.in-Ok.is at f.ensures.fronted bytes items _ h.is_behind.leads (omega (arith, few)) in
-    record_comes _ _ t _ start _ (record c.args.self.now { station = f.new.self }) _ bytes items
+    record_comes _ t _ start _ (record c.args.self.now { station = f.new.self }) _ bytes items
     c.args.piece.now f.result.used f.ensures.within (f.ensures.used (λ e. cc (c.in-Ok.is, e))) h few c.in-Ok.step fronted
     c.if-step.true _ c.saturating_add-self.ensures _
     (rw c.bytes.ensures.written at c.in_ok-write_whole-in-Ok.ensures.ok) _ _ done.done done.left

@@ -18,7 +18,7 @@ returns-in_err-used-clause-fault g c =
     let so_far = inv.1 start t bytes items h few in
     let whole : front ++ left_of piece i ≡ bytes ++ piece = append_assoc bytes (take i piece) (left_of piece i)
     ∙ ap (λ z. bytes ++ z) (left_joined piece i) in
-    rw (← whole) (fault_within t c.args.keys.now g.S.Sink.takes g.S.Sink.failures start c.take.new.sink (length front)
+    rw (← whole) (fault_within t c.args.keys.now g.S.Sink.writer start c.take.new.sink (length front)
     (length bytes) (front ++ left_of piece i) _ (omega (arith, length-append bytes (take i piece)))
     (c.in_err-used.ensures.fault start t front so_far.0 so_far.1 (room_next bytes piece i few inv.0))))
 

@@ -5,9 +5,9 @@ use Rattle.ws_session.proofs.player.Player.take_all.Given as goal
 abbrev pub invariant-loop-used : goal.invariant-loop-used
 invariant-loop-used g l = (l.used ≤ length l.piece)
     × ((start : g.row.S.Denot) (t : TerminalType) (bytes : List ℕ) (items : List (Item Element))
-    → HasCome g.S.Sink.takes g.S.Sink.failures t l.keys start l.fn.self l.fn.sink bytes items
+    → HasCome g.S.Sink.writer t l.keys start l.fn.self l.fn.sink bytes items
     → length bytes + length l.piece + 1 < 2 ^ 64 → (next : List (Item Element))
-    × HasCome g.S.Sink.takes g.S.Sink.failures t l.keys start l.self l.sink (bytes ++ take l.used l.piece) next)
+    × HasCome g.S.Sink.writer t l.keys start l.self l.sink (bytes ++ take l.used l.piece) next)
 
 abbrev pub decreases-loop-used : goal.decreases-loop-used
 decreases-loop-used g l = length l.piece - l.used

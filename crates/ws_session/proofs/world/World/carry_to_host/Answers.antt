@@ -24,7 +24,7 @@ loop-left-preserved g c =
       gone = i.gone + n;
       all = omega (arith, i.all, c.min-piece.ensures, c.min.ensures);
       crossings = i.crossings ++ q.0 ∷ [];
-      crossed = crossed_on g.S.Sink.takes g.S.Sink.failures g.R.Source.gives g.R.Source.failures
+      crossed = crossed_on g.S.Sink.writer g.R.Source.reader
           c.args.line.now c.loop-left.line c.piece_to_host.new.line i.crossings (q.0 ∷ []) i.crossed q.1;
       heard = up_more (ends_of c.args.self.now)
           (ends_of c.loop-left.self) (ends_of c.piece_to_host.new.self) i.gone n i.crossings (q.0 ∷ []) i.heard q.2;
@@ -56,7 +56,7 @@ pub returns-in_err-piece_to_host-clause-fault : goal.returns-in_err-piece_to_hos
 returns-in_err-piece_to_host-clause-fault g c =
     let i = c.loop-left.invariant in
     let p = err_from_is_err_and c.from_residual.result c.from_residual.ensures.1 in
-    rw (p.1, p.2) (stopped_behind _ _ _ _ _
+    rw (p.1, p.2) (stopped_behind _ _ _
     c.loop-left.line _ i.crossings _ i.crossed c.in_err-piece_to_host.ensures.fault)
 
 pub returns-clause-came : goal.returns-clause-came
@@ -77,6 +77,6 @@ returns-in_err-piece_to_host-clause-early g c =
       within = omega (arith, i.all);
       crossed = i.crossed;
       came = i.heard;
-      cut = cut_of_more _ _ _ _ (ends_of c.loop-left.self).to_host c.min-piece.result (c.args.count - i.gone) _ _ _
+      cut = cut_of_more _ _ (ends_of c.loop-left.self).to_host c.min-piece.result (c.args.count - i.gone) _ _ _
           (omega (arith, i.all, c.min-piece.ensures, c.min.ensures)) c.in_err-piece_to_host.ensures.early;
     })

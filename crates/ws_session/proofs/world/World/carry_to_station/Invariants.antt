@@ -11,7 +11,7 @@ invariant-loop-left g l = record {
   gone : ℕ;
   all : gone + l.left ≡ l.fn.count;
   crossings : List Crossing;
-  crossed : HaveCrossed g.S.Sink.takes g.S.Sink.failures g.R.Source.gives g.R.Source.failures l.fn.line crossings
+  crossed : HaveCrossed g.S.Sink.writer g.R.Source.reader l.fn.line crossings
       l.line;
   heard : ComesDown (ends_of l.fn.self) gone crossings (ends_of l.self);
   runs : AreFaithful crossings → (t : TerminalType) (w : World) → Runs t l.fn.self w

@@ -7,8 +7,8 @@ abbrev pub invariant-loop-step : goal.invariant-loop-step
 invariant-loop-step g l = record {
   downs : List Crossing;
   ups : List Crossing;
-  went_down : HaveCrossed g.S.Sink.takes g.S.Sink.failures g.R.Source.gives g.R.Source.failures l.fn.down downs l.down;
-  went_up : HaveCrossed g.T.Sink.takes g.T.Sink.failures g.Q.Source.gives g.Q.Source.failures l.fn.up ups l.up;
+  went_down : HaveCrossed g.S.Sink.writer g.R.Source.reader l.fn.down downs l.down;
+  went_up : HaveCrossed g.T.Sink.writer g.Q.Source.reader l.fn.up ups l.up;
   moved : HasRun l.fn.terminal (take l.step-index l.moves) downs ups (ends_of l.world);
   runs : AreFaithful downs → AreFaithful ups → Runs l.fn.terminal l.world (after_moves (new_world l.fn.terminal)
       (take l.step-index l.moves));
