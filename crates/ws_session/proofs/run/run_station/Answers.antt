@@ -32,9 +32,9 @@ returns-in_err-take_all-in-Ok g c =
     let some = take_some c.read.new.into c.in-Ok.given c.in-Ok.given-test.1 c.in-Ok.ensures.ok.0 in
     let small : length given ≤ 4096 =
     omega (arith, length-take-le c.in-Ok.given c.read.new.into c.in-Ok.ensures.ok.0, c.in-Ok.ensures.ok.0) in
-    run_stops _ _ _ _ t _ _ _ _ _ _ _ inv (omega arith) _ (length c.loop.piece) given c.in-Ok.ensures.ok.1 some
+    run_stops _ _ t _ _ _ _ _ _ _ inv (omega arith) _ (length c.loop.piece) given c.in-Ok.ensures.ok.1 some
     c.in-Ok.ensures.ok.2 small _ _ (c.in_err-take_all-in-Ok.ensures.fault c.args.sink.now t inv.bytes inv.items inv.come
-    (fits _ _ _ _ t _ _ _ _ _ _ _ inv
+    (fits _ _ t _ _ _ _ _ _ _ inv
     (omega arith) c.read.new.self (length c.loop.piece) given c.in-Ok.ensures.ok.1 some c.in-Ok.ensures.ok.2 small)))
 
 pub loop-preserved : goal.loop-preserved
@@ -44,9 +44,9 @@ loop-preserved g c = λ t l.
     let some = take_some c.read.new.into c.in-Ok.given c.in-Ok.given-test.1 c.in-Ok.ensures.ok.0 in
     let small : length given ≤ 4096 =
     omega (arith, length-take-le c.in-Ok.given c.read.new.into c.in-Ok.ensures.ok.0, c.in-Ok.ensures.ok.0) in
-    reads_on _ _ _ _ t _ _ _ _ _ _ _ inv
+    reads_on _ _ t _ _ _ _ _ _ _ inv
     (omega arith) _ (length c.loop.piece) given c.in-Ok.ensures.ok.1 some c.in-Ok.ensures.ok.2 small _ _
-    (c.in_ok-take_all-in-Ok.ensures.come c.args.sink.now t inv.bytes inv.items inv.come (fits _ _ _ _ t _ _ _ _ _ _ _
+    (c.in_ok-take_all-in-Ok.ensures.come c.args.sink.now t inv.bytes inv.items inv.come (fits _ _ t _ _ _ _ _ _ _
     inv (omega arith) c.read.new.self (length c.loop.piece) given c.in-Ok.ensures.ok.1 some c.in-Ok.ensures.ok.2 small))
 
 pub returns-in-Err : goal.returns-in-Err

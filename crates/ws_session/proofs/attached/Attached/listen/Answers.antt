@@ -14,14 +14,14 @@ returns-in-Err-clause-fault g c = fails_at_once _ _ _ _ g.met.E.End.follows _ _ 
 
 pub loop-init : goal.loop-init
 loop-init g c =
-    let p = at_once _ _ _ _ _ _ g.met.E.End.follows _ _ (rw c.in-Ok-None.field-0-is at c.in-Ok-None.ensures.taken) in
+    let p = at_once _ _ _ _ g.met.E.End.follows _ _ (rw c.in-Ok-None.field-0-is at c.in-Ok-None.ensures.taken) in
     (p.0, [], p.1, p.2, p.3, c.in-Ok-None.ensures.works ∙ c.requires.works, p.4)
 
 pub loop-preserved : goal.loop-preserved
 loop-preserved g c =
     let i = c.loop.invariant in
     let f = c.in-Ok-true.ensures.some in
-    let p = reads_on _ _ _ _ _ _ g.met.E.End.follows c.args.self.now c.loop.self _ c.take_waiting-in-loop.new.self
+    let p = reads_on _ _ _ _ g.met.E.End.follows c.args.self.now c.loop.self _ c.take_waiting-in-loop.new.self
     c.self.view_is i.0 i.1 _ i.2 i.3 i.6 (omega (arith, c.loop-test.true)) _ _ f.0 f.1 (f.2 c.in-Ok-true.field-0-test)
     (rw c.in-Ok-None-take_waiting.field-0-is at c.in-Ok-None-take_waiting.ensures.taken) in (
       p.0,

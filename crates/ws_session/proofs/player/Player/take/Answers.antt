@@ -59,6 +59,6 @@ returns-else-step-clause-come g c =
     let f = c.take_front-used in
     λ start t bytes items h few.
     let fronted = rw c.in-Ok.is at f.ensures.fronted bytes items _ h.is_behind.leads (omega (arith, few)) in
-    no_record _ _ t _ start _ (record c.args.self.now { station = f.new.self }) _ bytes items
+    no_record _ t _ start _ (record c.args.self.now { station = f.new.self }) _ bytes items
     c.args.piece.now f.result.used f.ensures.within (f.ensures.used (λ e. cc (c.in-Ok.is, e))) h few c.in-Ok.step fronted
     _ c.if-step.false (rw c.bytes.ensures.written at c.in_ok-write_whole-in-Ok.ensures.ok)
