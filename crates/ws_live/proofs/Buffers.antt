@@ -4,7 +4,7 @@ use Rattle.std.specs.Prelude.{Option, Some, None}
 use Rattle.std.proofs.lemmas.List.{append-nil}
 use Rattle.ws_code.specs.Device.{Writer, Taken, bytes_taken, Writes, WentOut, FailedWithin, IsWriteFailure}
 use Rattle.ws_code.proofs.DeviceLaws.{went_out_none, went_out_both, failed_within_both}
-use Rattle.ws_live.specs.Buffering.{Buffering, buffered_takes}
+use Rattle.ws_live.specs.Buffering.{Buffering, buffered_takes, buffered_writer}
 
 -- What goes out behind a buffer.
 
@@ -30,9 +30,9 @@ module _ {S : Type 0} (writer : Writer S) where
             ∙ sym (append_assoc one.0 rest.0 to.held),
       )
 
-  module _ (count : Buffering S → ℕ) (from : Buffering S) (empty : from.held ≡ []) where
+  module _ (from : Buffering S) (empty : from.held ≡ []) where
     -- a text went out up to what is held of it
-    held_back : (to : Buffering S) (text : List ℕ) → WentOut (buffered_takes writer) count from to text
+    held_back : (to : Buffering S) (text : List ℕ) → WentOut (buffered_writer writer) from to text
         → (out : List ℕ) × WentOut writer from.sink to.sink out × (text ≡ out ++ to.held)
     held_back to text w =
         let all = buffered_writes from to w.writes w.made in
@@ -40,7 +40,7 @@ module _ {S : Type 0} (writer : Writer S) where
 
     -- the rest of it goes out
     pub flushed_out : (mid : Buffering S) (to : S) (text : List ℕ)
-        → WentOut (buffered_takes writer) count from mid text → WentOut writer mid.sink to mid.held
+        → WentOut (buffered_writer writer) from mid text → WentOut writer mid.sink to mid.held
         → WentOut writer from.sink to text
     flushed_out mid to text w rest =
         let out = held_back mid text w in
@@ -49,7 +49,7 @@ module _ {S : Type 0} (writer : Writer S) where
 
     -- or doesn't
     pub flush_fails : (mid : Buffering S) (to : S) (text : List ℕ)
-        → WentOut (buffered_takes writer) count from mid text
+        → WentOut (buffered_writer writer) from mid text
         → FailedWithin writer mid.sink to mid.held → FailedWithin writer from.sink to text
     flush_fails mid to text w rest =
         let out = held_back mid text w in
@@ -58,19 +58,18 @@ module _ {S : Type 0} (writer : Writer S) where
 
     -- a write into the buffer failed
     failed_behind : (to : Buffering S) (text : List ℕ) (before : Buffering S) (offered : List ℕ) (answer : Option ℕ)
-        (n m : ℕ) → WentOut (buffered_takes writer) count from before text
+        (n m : ℕ) → WentOut (buffered_writer writer) from before text
         → buffered_takes writer before offered answer to → IsWriteFailure offered answer n m
         → FailedWithin writer from.sink to.sink text × (to.held ≡ [])
     failed_behind to text before offered None n m w last failed = (flush_fails before to.sink text w last.0, last.1)
     failed_behind to text before offered (Some k) n m w last failed = absurd (failed.1 (last.3 failed.0))
 
-    pub fails_behind : (to : Buffering S) (text : List ℕ) → FailedWithin (buffered_takes writer) count from to
+    pub fails_behind : (to : Buffering S) (text : List ℕ) → FailedWithin (buffered_writer writer) from to
         text → FailedWithin writer from.sink to.sink text × (to.held ≡ [])
     fails_behind to text f =
         let a = f.failed in
         let part : List ℕ = take f.count text in
-        let front = failed_behind to part a.before a.offered a.answer (count from)
-        (count to) a.went_out a.last a.failed in
+        let front = failed_behind to part a.before a.offered a.answer from.failures to.failures a.went_out a.last a.failed in
         let whole : [] ++ (part ++ drop f.count text) ≡ text = take-append-drop f.count text in (
           subst (FailedWithin writer from.sink to.sink) whole
               (failed_within_both writer from.sink from.sink to.sink [] part (drop f.count text)

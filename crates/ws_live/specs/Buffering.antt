@@ -1,7 +1,7 @@
 -- A sink behind a buffer: what the buffer holds hasn't gone out yet.
 
 use Rattle.std.specs.Prelude.{◌≡◌, ℕ, List, [], ◌++◌, take, None, Some}
-use Rattle.ws_code.specs.Device.{Writer, WentOut, FailedWithin}
+use Rattle.ws_code.specs.Device.{MayTake, Writer, WentOut, FailedWithin}
 
 -- the sink, the bytes that are held back before it, and how often they couldn't be handed on
 pub record Buffering (S : Type 0) : Type 0 where
@@ -15,3 +15,7 @@ abbrev pub buffered_takes : {S : Type 0} → Writer S → MayTake (Buffering S)
 buffered_takes writer b bytes (Some count) b' = (out : List ℕ) × WentOut writer b.sink b'.sink out
     × (b.held ++ take count bytes ≡ out ++ b'.held) × (count ≡ 0 → bytes ≡ [])
 buffered_takes writer b bytes None b' = FailedWithin writer b.sink b'.sink b.held × (b'.held ≡ [])
+
+-- what a sink behind a buffer does
+abbrev pub buffered_writer : {S : Type 0} → Writer S → Writer (Buffering S)
+buffered_writer writer = record { takes = buffered_takes writer; failures = λ b. b.failures }

@@ -1,6 +1,6 @@
 ghost use Rattle.std.specs.Prelude.{◌≡◌, ◌≢◌, [], List, ℕ, OnOk, OnErr};
 ghost use Rattle.ws_code.specs.Device.{one_more, WentOut, FailedWithin};
-ghost use Rattle.ws_live.specs.Buffering.{Buffering, buffered_takes};
+ghost use Rattle.ws_live.specs.Buffering.{Buffering, buffered_writer};
 
 use arrayvec::ArrayVec;
 use std::marker::Model;
@@ -78,9 +78,7 @@ impl<S: Sink> BufferedSink<S> {
 }
 
 impl<S: Sink> Sink for BufferedSink<S> {
-    ghost takes = { buffered_takes S.writer };
-
-    ghost failures = { λ b. b.failures };
+    ghost writer = { buffered_writer S.writer };
 
     fn write(&mut self, bytes: &[u8]) -> Result<usize, DeviceFailed> {
         if self.held.is_full() {

@@ -1,7 +1,7 @@
 ghost use Rattle.std.specs.Prelude.{◌≡◌, [], false, Bool, List, ℕ, Option, Result, IfOk, IfErr};
 ghost use Rattle.ws_code.specs.declared.fault.Fault.{Fault as AFault};
 ghost use Rattle.ws_session.specs.Attachments.{AttachedParts};
-ghost use Rattle.ws_live.specs.Buffering.{Buffering, buffered_takes};
+ghost use Rattle.ws_live.specs.Buffering.{Buffering, buffered_writer};
 ghost use Rattle.ws_text.specs.Printing.{IsOut, Prints};
 ghost use Rattle.ws_live.specs.LiveText as Spec;
 ghost use Rattle.ws_live.specs.Waits.{HasBegunIf, InTime};
@@ -211,7 +211,7 @@ pub fn carry_line<E, S, K, L: LiveMove<E, S, K>, W: Watch<S>, O: Sink>(
 /// Hands on what the buffer holds of a text.
 pub fn hand_on<O: Sink>(out: &mut BufferedSink<O>, output: Output) -> Output
     ensures out { (from : Buffering O) (text : List ℕ) → from.held ≡ []
-        → IsOut (buffered_takes O.writer) (λ b. b.failures) from out.old output text
+        → IsOut (buffered_writer O.writer) from out.old output text
         → IsOut O.writer from.sink out.new.sink result text }
     ensures held { out.new.held ≡ [] }
 {

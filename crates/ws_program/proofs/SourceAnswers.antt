@@ -3,7 +3,7 @@ use Rattle.std.specs.Prelude.{Bool, true, false, Result, Ok, Err, IfOk, IfErr, �
 use Rattle.ws_code.specs.Device.{Writer, WentOut, FailedWithin}
 use Rattle.ws_code.specs.declared.fault.Fault.{Fault}
 use Rattle.ws_code.specs.declared.fault.Fault.TheVariants as device
-use Rattle.ws_live.specs.Buffering.{Buffering, buffered_takes}
+use Rattle.ws_live.specs.Buffering.{Buffering, buffered_writer}
 use Rattle.ws_program.specs.Answering.{HasCheckedBy, IsCheckFaultBy}
 use Rattle.ws_program.specs.RunFaults.{run_fault}
 use Rattle.ws_program.specs.SourceChecks.{settled}
@@ -21,17 +21,17 @@ abbrev pub ended : RunFault → Result Bool RunFault
 ended fault = Err fault
 
 -- What a check of a source comes to behind a buffer. Its source gave bytes of which this is known, or failed.
-module _ {S : Type 0} (writer : Writer S) (count : Buffering S → ℕ) (from mid : Buffering S)
+module _ {S : Type 0} (writer : Writer S) (from mid : Buffering S)
     (empty : from.held ≡ []) (to : S) (sender : Sender) (Gave : List ℕ → Type 0) (Failed : Type 0) where
   -- what it did
   abbrev pub Did : Bool → Type 0
   Did accepted = (bytes : List ℕ) × Gave bytes
-      × HasCheckedBy (buffered_takes writer) count from mid sender bytes accepted
+      × HasCheckedBy (buffered_writer writer) from mid sender bytes accepted
 
   -- its line failed
   abbrev pub Broke : Type 0
   Broke = (bytes : List ℕ) × Gave bytes
-      × IsCheckFaultBy (buffered_takes writer) count from mid sender bytes device.Write
+      × IsCheckFaultBy (buffered_writer writer) from mid sender bytes device.Write
 
   -- its line didn't go out whole, or went out where no output is
   abbrev pub Lacks : Bool → Type 0
@@ -45,14 +45,14 @@ module _ {S : Type 0} (writer : Writer S) (count : Buffering S → ℕ) (from mi
         → IfOk (settled has_output outcome) (λ accepted. (has_output ≡ true)
         × ((bytes : List ℕ) × Gave bytes × HasCheckedBy writer from.sink to sender bytes accepted))
     settled_done true (Ok accepted) h =
-        (refl, (h.0, h.1, check_by_flushed writer count from mid empty to out idle sender h.0 accepted h.2))
+        (refl, (h.0, h.1, check_by_flushed writer from mid empty to out idle sender h.0 accepted h.2))
     settled_done false (Ok accepted) h = tt
     settled_done true (Err fault) h = tt
     settled_done false (Err fault) h = tt
 
     fault_read : (fault : Fault) → (met fault ≡ met device.Read → (mid ≡ from) × Failed)
         → ended (run_fault fault) ≡ ended Read → (to ≡ from.sink) × Failed
-    fault_read device.Read r e = (unchanged writer count from mid empty to out idle (r refl).0, (r refl).1)
+    fault_read device.Read r e = (unchanged writer from mid empty to out idle (r refl).0, (r refl).1)
     fault_read device.Memory r e = cc
     fault_read device.Write r e = cc
     fault_read device.Failed r e = cc
@@ -73,7 +73,7 @@ module _ {S : Type 0} (writer : Writer S) (count : Buffering S → ℕ) (from mi
         let b = w refl in (
           b.0,
           b.1,
-          inl (check_fault_by_flushed writer count from mid empty to out idle sender b.0 device.Write b.2),
+          inl (check_fault_by_flushed writer from mid empty to out idle sender b.0 device.Write b.2),
         )
     fault_write has_output device.Memory w e = cc
     fault_write has_output device.Read w e = cc
@@ -87,7 +87,7 @@ module _ {S : Type 0} (writer : Writer S) (count : Buffering S → ℕ) (from mi
     settled_write false (Ok accepted) h w e = (
       h.0,
       h.1,
-      inr (refl, (accepted, check_by_flushed writer count from mid empty to out idle sender h.0 accepted h.2)),
+      inr (refl, (accepted, check_by_flushed writer from mid empty to out idle sender h.0 accepted h.2)),
     )
     settled_write true (Err fault) h w e = fault_write true fault w e
     settled_write false (Err fault) h w e = fault_write false fault w e
@@ -108,12 +108,12 @@ module _ {S : Type 0} (writer : Writer S) (count : Buffering S → ℕ) (from mi
       → (outcome ≡ met device.Read → (mid ≡ from) × Failed) → (outcome ≡ met device.Write → Broke)
       → IfErr outcome (λ fault. (fault ≡ device.Read) ⊎ (fault ≡ device.Write)) → Lacks has_output
   unflushed_write has_output (Ok accepted) none h r w only =
-      (h.0, h.1, inl (check_by_unflushed writer count from mid empty to none sender h.0 accepted h.2))
+      (h.0, h.1, inl (check_by_unflushed writer from mid empty to none sender h.0 accepted h.2))
   unflushed_write has_output (Err fault) none h r w (inl e) =
-      unheld writer count from mid empty to none (r (ap met e)).0
+      unheld writer from mid empty to none (r (ap met e)).0
   unflushed_write has_output (Err fault) none h r w (inr e) =
       let b = w (ap met e) in (
         b.0,
         b.1,
-        inl (check_fault_by_unflushed writer count from mid empty to none sender b.0 device.Write b.2),
+        inl (check_fault_by_unflushed writer from mid empty to none sender b.0 device.Write b.2),
       )

@@ -5,7 +5,7 @@ use Rattle.ws_code.specs.Code.{Rules}
 use Rattle.ws_code.specs.Device.{Writer, FailedWithin}
 use Rattle.ws_code.specs.declared.fault.Fault.{Fault}
 use Rattle.ws_code.specs.declared.fault.Fault.TheVariants as device
-use Rattle.ws_live.specs.Buffering.{Buffering, buffered_takes}
+use Rattle.ws_live.specs.Buffering.{Buffering, buffered_writer}
 use Rattle.ws_live.proofs.Buffers.{flush_fails, fails_behind}
 use Rattle.ws_record.specs.declared.record.Item.{Item}
 use Rattle.ws_stream.specs.Elements.{element_rules}
@@ -44,18 +44,18 @@ first_lines : {Place U : Type 0} {rules : Rules Place U} {view : View U} {bytes 
 first_lines placed shown = record { placed = placed; shown = shown; last = None; complete = tt; lines = refl }
 
 -- What the program does behind a buffer, where the rest doesn't go out.
-module _ {S : Type 0} (writer : Writer S) (count : Buffering S → ℕ) (from mid : Buffering S)
+module _ {S : Type 0} (writer : Writer S) (from mid : Buffering S)
     (empty : from.held ≡ []) (to : S) where
   module _ (none : FailedWithin writer mid.sink to mid.held) where
     -- what it did doesn't go out whole
     check_unflushed : {Place U : Type 0} (rules : Rules Place U) (bytes : List ℕ) (accepted : Bool)
-        → HasChecked (buffered_takes writer) count from mid rules bytes accepted
+        → HasChecked (buffered_writer writer) from mid rules bytes accepted
         → IsCheckFault rules writer from.sink to bytes device.Write
     check_unflushed rules bytes accepted h =
-        (_, (h.0, h.1, refl), flush_fails writer count from empty mid to _ h.3 none)
+        (_, (h.0, h.1, refl), flush_fails writer from empty mid to _ h.3 none)
 
     pub check_by_unflushed : (sender : Sender) (bytes : List ℕ) (accepted : Bool)
-        → HasCheckedBy (buffered_takes writer) count from mid sender bytes accepted
+        → HasCheckedBy (buffered_writer writer) from mid sender bytes accepted
         → IsCheckFaultBy writer from.sink to sender bytes device.Write
     check_by_unflushed Host bytes accepted h = check_unflushed element_rules bytes accepted h
     check_by_unflushed ExtendedHost bytes accepted h = check_unflushed extended_rules bytes accepted h
@@ -63,15 +63,15 @@ module _ {S : Type 0} (writer : Writer S) (count : Buffering S → ℕ) (from mi
     check_by_unflushed ExtendedStation bytes accepted h = check_unflushed extended_answer_rules bytes accepted h
 
     show_unflushed : {Place U : Type 0} (rules : Rules Place U) (view : View U) (so_far : Bool) (bytes : List ℕ)
-        (accepted : Bool) → HasShown (buffered_takes writer) count from mid rules view so_far bytes accepted
+        (accepted : Bool) → HasShown (buffered_writer writer) from mid rules view so_far bytes accepted
         → IsShowFaultWith writer from.sink to rules view so_far bytes device.Write
     show_unflushed rules view false bytes accepted h =
-        (h.0, inr (accepted, h.1), flush_fails writer count from empty mid to h.0 h.2 none)
+        (h.0, inr (accepted, h.1), flush_fails writer from empty mid to h.0 h.2 none)
     show_unflushed rules view true bytes accepted h =
-        (h.0, inr (accepted, h.1), flush_fails writer count from empty mid to h.0 h.2 none)
+        (h.0, inr (accepted, h.1), flush_fails writer from empty mid to h.0 h.2 none)
 
     show_by_unflushed : (paint : Paint) (so_far : Bool) (sender : Sender) (bytes : List ℕ) (accepted : Bool)
-        → HasShownBy (buffered_takes writer) count from mid paint so_far sender bytes accepted
+        → HasShownBy (buffered_writer writer) from mid paint so_far sender bytes accepted
         → IsShowFaultBy writer from.sink to paint so_far sender bytes device.Write
     show_by_unflushed paint so_far Host bytes accepted h =
         show_unflushed element_rules (painted_host_view paint) so_far bytes accepted h
@@ -84,22 +84,22 @@ module _ {S : Type 0} (writer : Writer S) (count : Buffering S → ℕ) (from mi
 
     make_unflushed : {Place U : Type 0} (rules : Rules Place U) (w : Wording U)
         (Showing : List ℕ → List (Item U) → Type 0) (raw : Bool) (input : List ℕ) (accepted : Bool)
-        → HasMade rules w Showing (buffered_takes writer) count from mid raw input accepted
+        → HasMade rules w Showing (buffered_writer writer) from mid raw input accepted
         → IsMakeFault rules w Showing writer from.sink to raw input Write
     make_unflushed rules w Showing raw input accepted h =
-        (h.0, h.1, flush_fails writer count from empty mid to _ h.2 none)
+        (h.0, h.1, flush_fails writer from empty mid to _ h.2 none)
 
     done_unflushed : (asked : Asked) (input : List ℕ) (accepted : Bool)
-        → HasAnswered (buffered_takes writer) count from mid asked input accepted
+        → HasAnswered (buffered_writer writer) from mid asked input accepted
         → IsAnswerFault writer from.sink to asked input Write
     done_unflushed (Check file form cut sender) input accepted h =
         inr (h.0, device.Write, h.1, check_by_unflushed sender h.0 accepted h.2, refl)
     done_unflushed (Show file form sender paint so_far) input accepted h =
         inr (h.0, device.Write, h.1, show_by_unflushed paint so_far sender h.0 accepted h.2, refl)
     done_unflushed (Play file screen false paint) input accepted h =
-        (h.0, h.1, h.2, h.3, flush_fails writer count from empty mid to h.2 h.4 none)
+        (h.0, h.1, h.2, h.3, flush_fails writer from empty mid to h.2 h.4 none)
     done_unflushed (Play file screen true paint) input accepted h =
-        (h.0, h.1, inr (accepted, h.2, h.3, flush_fails writer count from empty mid to h.2 h.4 none))
+        (h.0, h.1, inr (accepted, h.2, h.3, flush_fails writer from empty mid to h.2 h.4 none))
     done_unflushed (Make file Host raw) input accepted h =
         make_unflushed element_rules element_wording Shows raw input accepted h
     done_unflushed (Make file ExtendedHost raw) input accepted h =
@@ -110,16 +110,16 @@ module _ {S : Type 0} (writer : Writer S) (count : Buffering S → ℕ) (from mi
         make_unflushed extended_answer_rules told_wording ShowsTold raw input accepted h
 
     pub unheld : {X : Type 0} → mid ≡ from → X
-    unheld same = absurd (none_fails writer count from mid empty to
-        (none_held writer count from mid empty to same) none)
+    unheld same = absurd (none_fails writer from mid empty to
+        (none_held writer from mid empty to same) none)
 
-    unfailed : {X : Type 0} (text : List ℕ) → FailedWithin (buffered_takes writer) count from mid text → X
-    unfailed text f = absurd (none_fails writer count from mid empty to
-        (fails_behind writer count from empty mid text f).1 none)
+    unfailed : {X : Type 0} (text : List ℕ) → FailedWithin (buffered_writer writer) from mid text → X
+    unfailed text f = absurd (none_fails writer from mid empty to
+        (fails_behind writer from empty mid text f).1 none)
 
     -- behind a fault neither
     check_fault_unflushed : {Place U : Type 0} (rules : Rules Place U) (bytes : List ℕ) (met : Fault)
-        → IsCheckFault rules (buffered_takes writer) count from mid bytes met
+        → IsCheckFault rules (buffered_writer writer) from mid bytes met
         → IsCheckFault rules writer from.sink to bytes device.Write
     check_fault_unflushed rules bytes device.Memory f = unheld f
     check_fault_unflushed rules bytes device.Write f = unfailed f.0 f.2
@@ -129,7 +129,7 @@ module _ {S : Type 0} (writer : Writer S) (count : Buffering S → ℕ) (from mi
     check_fault_unflushed rules bytes device.Failed f = absurd f
 
     pub check_fault_by_unflushed : (sender : Sender) (bytes : List ℕ) (met : Fault)
-        → IsCheckFaultBy (buffered_takes writer) count from mid sender bytes met
+        → IsCheckFaultBy (buffered_writer writer) from mid sender bytes met
         → IsCheckFaultBy writer from.sink to sender bytes device.Write
     check_fault_by_unflushed Host bytes met f = check_fault_unflushed element_rules bytes met f
     check_fault_by_unflushed ExtendedHost bytes met f = check_fault_unflushed extended_rules bytes met f
@@ -138,18 +138,18 @@ module _ {S : Type 0} (writer : Writer S) (count : Buffering S → ℕ) (from mi
 
     show_memory_unflushed : {Place U : Type 0} (rules : Rules Place U) (view : View U) (so_far : Bool)
         (bytes : List ℕ)
-        → IsShowFaultWith (buffered_takes writer) count from mid rules view so_far bytes device.Memory
+        → IsShowFaultWith (buffered_writer writer) from mid rules view so_far bytes device.Memory
         → IsShowFaultWith writer from.sink to rules view so_far bytes device.Write
     show_memory_unflushed rules view false bytes e =
-        (_, inl (first_lines e.0 e.1), flush_fails writer count from empty mid to _ e.3 none)
+        (_, inl (first_lines e.0 e.1), flush_fails writer from empty mid to _ e.3 none)
     show_memory_unflushed rules view true bytes (inl e) =
-        (_, inl (first_lines e.0 e.1), flush_fails writer count from empty mid to _ e.3 none)
+        (_, inl (first_lines e.0 e.1), flush_fails writer from empty mid to _ e.3 none)
     show_memory_unflushed rules view true bytes (inr e) =
-        (_, inl (first_lines e.0 e.2), flush_fails writer count from empty mid to _ e.4 none)
+        (_, inl (first_lines e.0 e.2), flush_fails writer from empty mid to _ e.4 none)
 
     show_fault_unflushed : {Place U : Type 0} (rules : Rules Place U) (view : View U) (so_far : Bool)
         (bytes : List ℕ) (met : Fault)
-        → IsShowFaultWith (buffered_takes writer) count from mid rules view so_far bytes met
+        → IsShowFaultWith (buffered_writer writer) from mid rules view so_far bytes met
         → IsShowFaultWith writer from.sink to rules view so_far bytes device.Write
     show_fault_unflushed rules view so_far bytes device.Memory f = show_memory_unflushed rules view so_far bytes f
     show_fault_unflushed rules view false bytes device.Write f = unfailed f.0 f.2
@@ -164,7 +164,7 @@ module _ {S : Type 0} (writer : Writer S) (count : Buffering S → ℕ) (from mi
     show_fault_unflushed rules view true bytes device.Failed f = absurd f
 
     show_fault_by_unflushed : (paint : Paint) (so_far : Bool) (sender : Sender) (bytes : List ℕ) (met : Fault)
-        → IsShowFaultBy (buffered_takes writer) count from mid paint so_far sender bytes met
+        → IsShowFaultBy (buffered_writer writer) from mid paint so_far sender bytes met
         → IsShowFaultBy writer from.sink to paint so_far sender bytes device.Write
     show_fault_by_unflushed paint so_far Host bytes met f =
         show_fault_unflushed element_rules (painted_host_view paint) so_far bytes met f
@@ -177,7 +177,7 @@ module _ {S : Type 0} (writer : Writer S) (count : Buffering S → ℕ) (from mi
 
     bytes_fault_unflushed : (form : StreamForm) (Old New : List ℕ → Fault → Type 0)
         → ((bytes : List ℕ) (met : Fault) → Old bytes met → New bytes device.Write) → (input : List ℕ)
-        (fault : RunFault) → IsBytesFault (buffered_takes writer) count from mid form Old input fault
+        (fault : RunFault) → IsBytesFault (buffered_writer writer) from mid form Old input fault
         → IsBytesFault writer from.sink to form New input Write
     bytes_fault_unflushed form Old New on input fault (inl f) = unheld f.0
     bytes_fault_unflushed form Old New on input fault (inr f) =
@@ -185,7 +185,7 @@ module _ {S : Type 0} (writer : Writer S) (count : Buffering S → ℕ) (from mi
 
     make_fault_unflushed : {Place U : Type 0} (rules : Rules Place U) (w : Wording U)
         (Showing : List ℕ → List (Item U) → Type 0) (raw : Bool) (input : List ℕ) (fault : RunFault)
-        → IsMakeFault rules w Showing (buffered_takes writer) count from mid raw input fault
+        → IsMakeFault rules w Showing (buffered_writer writer) from mid raw input fault
         → IsMakeFault rules w Showing writer from.sink to raw input Write
     make_fault_unflushed rules w Showing raw input (Line number) f = unheld f.0
     make_fault_unflushed rules w Showing raw input Memory f = unheld f.0
@@ -198,13 +198,13 @@ module _ {S : Type 0} (writer : Writer S) (count : Buffering S → ℕ) (from mi
     make_fault_unflushed rules w Showing raw input Failed f = absurd f
 
     fault_unflushed : (asked : Asked) (input : List ℕ) (fault : RunFault)
-        → IsAnswerFault (buffered_takes writer) count from mid asked input fault
+        → IsAnswerFault (buffered_writer writer) from mid asked input fault
         → IsAnswerFault writer from.sink to asked input Write
     fault_unflushed (Check file form cut sender) input fault f = bytes_fault_unflushed form
-        (IsCheckFaultBy (buffered_takes writer) count from mid sender)
+        (IsCheckFaultBy (buffered_writer writer) from mid sender)
         (IsCheckFaultBy writer from.sink to sender) (check_fault_by_unflushed sender) input fault f
     fault_unflushed (Show file form sender paint so_far) input fault f = bytes_fault_unflushed form
-        (IsShowFaultBy (buffered_takes writer) count from mid paint so_far sender)
+        (IsShowFaultBy (buffered_writer writer) from mid paint so_far sender)
         (IsShowFaultBy writer from.sink to paint so_far sender) (show_fault_by_unflushed paint so_far sender)
         input fault f
     fault_unflushed (Make file Host raw) input fault f =
@@ -236,8 +236,8 @@ module _ {S : Type 0} (writer : Writer S) (count : Buffering S → ℕ) (from mi
     fault_unflushed (Play file screen true paint) input Failed f = absurd f
 
     pub outcome_unflushed : (asked : Asked) (input : List ℕ) (outcome : Result Bool RunFault)
-        → IfOk outcome (λ accepted. HasAnswered (buffered_takes writer) count from mid asked input accepted)
-        → IfErr outcome (λ fault. IsAnswerFault (buffered_takes writer) count from mid asked input fault)
+        → IfOk outcome (λ accepted. HasAnswered (buffered_writer writer) from mid asked input accepted)
+        → IfErr outcome (λ fault. IsAnswerFault (buffered_writer writer) from mid asked input fault)
         → IsAnswerFault writer from.sink to asked input Write
     outcome_unflushed asked input (Ok accepted) h f = done_unflushed asked input accepted h
     outcome_unflushed asked input (Err fault) h f = fault_unflushed asked input fault f

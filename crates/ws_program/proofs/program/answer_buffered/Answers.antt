@@ -8,7 +8,7 @@ use Rattle.ws_program.proofs.program.answer_buffered.Goals as goal
 pub returns-in-Ok-clause-done : goal.returns-in-Ok-clause-done
 returns-in-Ok-clause-done g c =
     IfOk-weaker c.answer-outcome.result _ _ (λ accepted h.
-    done_flushed g.S.Sink.writer (λ b. b.failures) c.args.sink.now c.answer-outcome.new.sink
+    done_flushed g.S.Sink.writer c.args.sink.now c.answer-outcome.new.sink
     c.requires.empty c.flush.new.self.sink c.in-Ok.ensures.ok.0
     (λ none. ap (λ (b : Buffering g.row.S.Denot). b.sink) (c.flush.ensures.none none)) c.args.asked c.args.text.now
     accepted h)
@@ -17,7 +17,7 @@ returns-in-Ok-clause-done g c =
 pub returns-in-Ok-clause-fault : goal.returns-in-Ok-clause-fault
 returns-in-Ok-clause-fault g c =
     IfErr-weaker c.answer-outcome.result _ _ (λ fault h.
-    fault_flushed g.S.Sink.writer (λ b. b.failures) c.args.sink.now c.answer-outcome.new.sink
+    fault_flushed g.S.Sink.writer c.args.sink.now c.answer-outcome.new.sink
     c.requires.empty c.flush.new.self.sink c.in-Ok.ensures.ok.0
     (λ none. ap (λ (b : Buffering g.row.S.Denot). b.sink) (c.flush.ensures.none none)) c.args.asked c.args.text.now
     fault h)
@@ -25,6 +25,6 @@ returns-in-Ok-clause-fault g c =
 
 pub returns-in-Err-clause-fault : goal.returns-in-Err-clause-fault
 returns-in-Err-clause-fault g c =
-    outcome_unflushed g.S.Sink.writer (λ b. b.failures) c.args.sink.now c.answer-outcome.new.sink
+    outcome_unflushed g.S.Sink.writer c.args.sink.now c.answer-outcome.new.sink
     c.requires.empty c.flush.new.self.sink c.in-Err.ensures.err.0 c.args.asked c.args.text.now
     c.answer-outcome.result c.answer-outcome.ensures.done c.answer-outcome.ensures.fault

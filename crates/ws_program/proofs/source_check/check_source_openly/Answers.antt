@@ -7,7 +7,7 @@ use Rattle.ws_program.proofs.source_check.check_source_openly.Goals as goal
 pub returns-in-Ok-clause-done : goal.returns-in-Ok-clause-done
 returns-in-Ok-clause-done g c =
     let after = c.check_sender-outcome.new.source in
-    rw c.settle.ensures (settled_done g.S.Sink.writer (λ b. b.failures) c.args.sink.now
+    rw c.settle.ensures (settled_done g.S.Sink.writer c.args.sink.now
     c.check_sender-outcome.new.sink c.requires.empty c.flush.new.self.sink c.args.from
     (GaveEnough g.R.Source.reader c.args.source.now after (HasRefusalBy c.args.from))
     (FailedBefore g.R.Source.reader c.args.source.now after (HasRefusalBy c.args.from))
@@ -17,7 +17,7 @@ returns-in-Ok-clause-done g c =
 pub returns-in-Ok-clause-write : goal.returns-in-Ok-clause-write
 returns-in-Ok-clause-write g c =
     let after = c.check_sender-outcome.new.source in
-    rw c.settle.ensures (settled_write g.S.Sink.writer (λ b. b.failures) c.args.sink.now
+    rw c.settle.ensures (settled_write g.S.Sink.writer c.args.sink.now
     c.check_sender-outcome.new.sink c.requires.empty c.flush.new.self.sink c.args.from
     (GaveEnough g.R.Source.reader c.args.source.now after (HasRefusalBy c.args.from))
     (FailedBefore g.R.Source.reader c.args.source.now after (HasRefusalBy c.args.from))
@@ -28,7 +28,7 @@ returns-in-Ok-clause-write g c =
 pub returns-in-Err-clause-write : goal.returns-in-Err-clause-write
 returns-in-Err-clause-write g c = λ _.
     let after = c.check_sender-outcome.new.source in
-    unflushed_write g.S.Sink.writer (λ b. b.failures) c.args.sink.now
+    unflushed_write g.S.Sink.writer c.args.sink.now
     c.check_sender-outcome.new.sink c.requires.empty c.flush.new.self.sink c.args.from
     (GaveEnough g.R.Source.reader c.args.source.now after (HasRefusalBy c.args.from))
     (FailedBefore g.R.Source.reader c.args.source.now after (HasRefusalBy c.args.from))
