@@ -3,7 +3,7 @@ use Rattle.ws_keys.specs.declared.answer.Answer.{Answer}
 use Rattle.ws_keys.specs.declared.answer.Answer.TheVariants.{Read, Attention, SystemRequest}
 use Rattle.ws_keys.specs.declared.key.Key.{Key}
 use Rattle.ws_keys.specs.declared.key.KeyRefusal.{KeyRefusal}
-use Rattle.ws_session.specs.Displays.{HasPressed, SideOn}
+use Rattle.ws_session.specs.Displays.{IsPressedOnDisplay, SideOn}
 use Rattle.ws_session.specs.StationSide.{profile, ProfileParts}
 use Rattle.rows_session.specs.SecondDisplay.{SecondParts, SecondHappened, SecondGives, second, second_key, second_side}
 use Rattle.rows_session.specs.SecondDisplay.{profile_side}
@@ -11,8 +11,8 @@ use Rattle.rows_session.specs.SecondDisplay.{profile_side}
 -- a key of the profile does here what it does there
 pub second_pressed : (d : SecondParts) (new : ProfileParts) (s : SideOn SecondHappened) (key : Key)
     (result : Result (Option Answer) KeyRefusal) → SecondGives s.happened d
-    → HasPressed profile d.profile new (profile_side s) key result
-    → HasPressed second d (record d { profile = new }) s (Some key) result
+    → IsPressedOnDisplay profile d.profile new (profile_side s) key result
+    → IsPressedOnDisplay second d (record d { profile = new }) s (Some key) result
 second_pressed d new s key (Ok None) g p = (
   second_side s p.0,
   ap (second_key s) p.1,

@@ -14,7 +14,7 @@ use Rattle.ws_session.specs.declared.send_fault.SendFault.{SendFault}
 use Rattle.ws_session.specs.declared.send_fault.SendFault.TheVariants as why
 use Rattle.ws_session.proofs.EndDeeds.{deed_gone}
 use Rattle.ws_session.proofs.EndSteps.{none_went, one_went}
-use Rattle.ws_any_host.specs.AnyLeads.{AnyGoes, AnyLeads, AnyParts, AnyStep, IsAnyPushed, IsAnyShut, IsSendFault}
+use Rattle.ws_any_host.specs.AnyLeads.{AnyGoes, AnyLeads, AnyParts, AnyStep, IsAnyPushed, IsAnyShut, IsAnySendFault}
 use Rattle.ws_any_host.specs.AnyLeads.{AnyRefuses, AnyRefusesByte, IsAnySendRefusal, IsAnySendTaken}
 use Rattle.ws_any_host.specs.AnyOptions.{Negotiated}
 use Rattle.ws_any_host.specs.AnySide.{any_at_item, any_manner, send_fault}
@@ -76,13 +76,13 @@ module _ (host : AnyParts) (r : Record ℕ) where
 
   -- why it isn't sent
   module _ (fault : SendFault) (f : host.ended ≡ None → host.receiver.live.taken + 1 < 2 ^ 64
-      → IsSendFault host.options r fault) where
-    led_fault : AtAny host (λ bytes items side. IsSendFault side r fault)
+      → IsAnySendFault host.options r fault) where
+    led_fault : AtAny host (λ bytes items side. IsAnySendFault side r fault)
     led_fault bytes items side l few =
         let count = l.taken.leads.1.count in
         rw l.stands at (f l.works (omega (arith, count, few)))
 
-    named : (n : Negotiated) (fault : SendFault) → fault ≢ why.Memory → IsSendFault n r fault
+    named : (n : Negotiated) (fault : SendFault) → fault ≢ why.Memory → IsAnySendFault n r fault
         → send_fault n r ≡ Some fault
     named n why.Memory ne p = absurd (ne refl)
     named n why.Failed ne p = absurd p

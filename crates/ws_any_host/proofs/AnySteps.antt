@@ -8,7 +8,7 @@ use Rattle.ws_code.specs.declared.fault.Fault.TheVariants as fault
 use Rattle.ws_telnet.specs.Token.{telnet_spelling}
 use Rattle.ws_telnet.specs.declared.token.Telnet.{Telnet}
 use Rattle.ws_nego.specs.Host.{host_allows_records}
-use Rattle.ws_nego.specs.Options.{Answer, AnswersWith, bytes_of}
+use Rattle.ws_nego.specs.Options.{Answer, AnswersWith, telnet_bytes}
 use Rattle.ws_record.specs.Encode.{plain_spelling}
 use Rattle.ws_record.specs.Grammar.{record_bytes}
 use Rattle.ws_record.specs.RawBody.{raw_rules}
@@ -20,14 +20,14 @@ use Rattle.ws_record.proofs.Headers.{header_length}
 use Rattle.ws_session.specs.declared.refusal.Refusal.{Refusal}
 use Rattle.ws_session.specs.declared.refusal.Refusal.TheVariants.{At, Failed, Memory}
 use Rattle.ws_session.specs.declared.send_fault.SendFault.TheVariants.{TooBig}
-use Rattle.ws_any_host.specs.AnyLeads.{AnyLeads, AnyParts, AnyStep, IsAnyPushed, IsReacted, refusal_of}
+use Rattle.ws_any_host.specs.AnyLeads.{AnyLeads, AnyParts, AnyStep, IsAnyPushed, IsAnyReacted, refusal_of}
 use Rattle.ws_any_host.specs.AnyOptions.{Negotiated}
 use Rattle.ws_any_host.specs.AnySide.{any_negotiates, any_ready, any_takes, send_fault}
 use Rattle.ws_any_host.specs.declared.any_event.AnyEvent.{AnyEvent}
 
 -- What each step makes of a host that takes any record.
 
-any_tokens : (ts : List Telnet) → plain_spelling raw_rules (map TelnetItem ts) ≡ bytes_of ts
+any_tokens : (ts : List Telnet) → plain_spelling raw_rules (map TelnetItem ts) ≡ telnet_bytes ts
 any_tokens [] = refl
 any_tokens (t ∷ ts) = ap (λ z. telnet_spelling t ++ z) (any_tokens ts)
 
@@ -35,7 +35,7 @@ any_tokens (t ∷ ts) = ap (λ z. telnet_spelling t ++ z) (any_tokens ts)
 pub negotiated : (old : AnyParts) (options : Negotiated) (answer : Option (Answer Negotiated)) (place : ℕ)
     (reply : List ℕ) (event : Option AnyEvent) → AnswersWith answer options reply
     → event ≡ any_ready (host_allows_records old.options.host) options
-    → IsReacted old (record old { options = options }) (any_negotiates old.options answer) place
+    → IsAnyReacted old (record old { options = options }) (any_negotiates old.options answer) place
     (Ok (record { reply = reply; event = event }))
 negotiated old options None place reply event a e = absurd a
 negotiated old options (Some answer) place reply event a e = (
@@ -74,7 +74,7 @@ module _ (old : AnyParts) (receiver : Receiving (Unit {0}) ℕ) (byte : ℕ) whe
   })
 
   pub reacts : (item : Item ℕ) → Completes (Some item) → (new : AnyParts) (result : Result AnyStep Refusal)
-      → IsReacted Mid new (any_takes old.options item) (receiver.live.taken - 1) result → Pushed new result
+      → IsAnyReacted Mid new (any_takes old.options item) (receiver.live.taken - 1) result → Pushed new result
   reacts item t new result r bytes items side l few = by result r where
     got : HasReceived raw_rules receiver (bytes ++ byte ∷ []) (items ++ item ∷ [])
     got = t bytes items l.taken few
@@ -82,7 +82,7 @@ module _ (old : AnyParts) (receiver : Receiving (Unit {0}) ℕ) (byte : ℕ) whe
     same : any_takes side item ≡ any_takes old.options item
     same = ap (λ n. any_takes n item) (sym l.stands)
 
-    by : (result : Result AnyStep Refusal) → IsReacted Mid new (any_takes old.options item) (receiver.live.taken - 1)
+    by : (result : Result AnyStep Refusal) → IsAnyReacted Mid new (any_takes old.options item) (receiver.live.taken - 1)
         result → IsAnyPushed old new bytes items side byte result
     by (Ok step) r = inr (record {
       item = item;

@@ -15,9 +15,9 @@ use Rattle.ws_live.specs.WireLines.{MeansWire}
 use Rattle.ws_live.specs.declared.wire_line.WireLine.{WireLine}
 use Rattle.ws_live.specs.declared.wire_line.WireLine.TheVariants.{Raw, Pause, Close}
 use Rattle.ws_live.proofs.ScriptWords.{blank_inside, split_unique, digits_have_no_blank}
-use Rattle.ws_any_host.specs.AnyLines.{AreBadAt, BeginsAnyLine, IsAnyLine, IsBadAnyLineAt, IsFault, IsLineBegun}
-use Rattle.ws_any_host.specs.AnyLines.{IsOpcode, IsSendBegun, IsSendText, IsWordFault, Means, OpensAnyBlock}
-use Rattle.ws_any_host.specs.AnyLines.{SayBytes, SendsAlone}
+use Rattle.ws_any_host.specs.AnyLines.{AreExtendedBadAt, BeginsAnyLine, IsAnyLine, IsBadAnyLineAt, IsAnyLineFault, IsLineBegun}
+use Rattle.ws_any_host.specs.AnyLines.{IsOpcode, IsAnySendBegun, IsSendText, IsWordFault, MeansAnyLine, OpensAnyBlock}
+use Rattle.ws_any_host.specs.AnyLines.{SayBytes, SendsAnyOpcodeAlone}
 use Rattle.ws_any_host.specs.declared.any_line.AnyLine.{AnyLine}
 use Rattle.ws_any_host.specs.declared.any_line.AnyLine.TheVariants.{Nothing, Send, Await, AwaitKey, Wire, Bad}
 
@@ -56,7 +56,7 @@ no_wire line Close m = ap begins_with_s m
 
 -- a line that sends means nothing else
 sends_only : (line words : List ℕ) → line ≡ codes "send " ++ words → ((r : Record ℕ) → IsSendText words r → ⊥)
-    → (read : AnyLine) → Means line read → ⊥
+    → (read : AnyLine) → MeansAnyLine line read → ⊥
 sends_only line words e none Nothing (inl (inl m)) = false≢true (ap begins_with_s (sym m ∙ e))
 sends_only line words e none Nothing (inl (inr m)) = false≢true (ap begins_with_s (sym m.1 ∙ e))
 sends_only line words e none Nothing (inr m) = false≢true (ap begins_with_s (sym m ∙ e))
@@ -70,19 +70,19 @@ sends_only line words e none (Bad cause) m = m
 
 -- the fault of its words is the line's
 pub line_fault : (line words : List ℕ) → line ≡ codes "send " ++ words → (fault : ScriptFault)
-    → IsFault (IsSendText words) (IsSendBegun words) fault → IsFault (Means line) (IsLineBegun line) fault
+    → IsAnyLineFault (IsSendText words) (IsAnySendBegun words) fault → IsAnyLineFault (MeansAnyLine line) (IsLineBegun line) fault
 line_fault line words e (Line at) f = (f.0, sends_only line words e f.1)
 line_fault line words e Memory f = inl (words, e, f)
 
 -- a line says one opcode
-one_opcode : (line m n : List ℕ) (o p : Opcode) → SendsAlone line m o → SendsAlone line n p → p ≡ o
+one_opcode : (line m n : List ℕ) (o p : Opcode) → SendsAnyOpcodeAlone line m o → SendsAnyOpcodeAlone line n p → p ≡ o
 one_opcode line m n o p a b =
     opcode_same p o (b.2.2 ∙ ap (digits_value 10) (same_words line m n a.1 b.1) ∙ sym a.2.2)
 
 -- the elements behind a line are bad
 pub bad_words : (line number : List ℕ) (elements : List (List ℕ)) (opcode : Opcode) (at told : ℕ)
-    → SendsAlone line number opcode → elements ≢ [] → IsWordFault elements opcode (items.Line at)
-    → ((body : List ℕ) → SayBytes elements opcode body → items.Line at ≡ items.Memory) → AreBadAt opcode elements told
+    → SendsAnyOpcodeAlone line number opcode → elements ≢ [] → IsWordFault elements opcode (items.Line at)
+    → ((body : List ℕ) → SayBytes elements opcode body → items.Line at ≡ items.Memory) → AreExtendedBadAt opcode elements told
     → IsBlockFault IsAnyLine BeginsAnyLine IsBadAnyLineAt line elements (Line told)
 bad_words line number elements opcode at told alone some bad only place = (
   (λ read m. elim m [
@@ -106,8 +106,8 @@ no_words line elements some other = (
 
 -- the fault of a body in hex is that of the words
 pub hex_fault : (words number hex : List ℕ) → words ≡ (number ++ codes " ") ++ hex → has_no_blank number ≡ true
-    → (opcode : Opcode) → IsOpcode number opcode → (fault : ScriptFault) → IsFault (IsHex hex) (Unit {0}) fault
-    → IsFault (IsSendText words) (IsSendBegun words) fault
+    → (opcode : Opcode) → IsOpcode number opcode → (fault : ScriptFault) → IsAnyLineFault (IsHex hex) (Unit {0}) fault
+    → IsAnyLineFault (IsSendText words) (IsAnySendBegun words) fault
 hex_fault words number hex e free opcode is (Line at) f =
     (f.0, λ r s. (let p = two_words words number hex e free r s in f.1 p.1 p.3))
 hex_fault words number hex e free opcode is Memory f = (number, hex, opcode, e, is)

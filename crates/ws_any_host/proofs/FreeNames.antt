@@ -9,17 +9,17 @@ use Rattle.ws_nego.specs.declared.terminal.TerminalType.{TerminalType}
 use Rattle.ws_nego.specs.declared.terminal.TerminalType.TheVariants.{Ibm3179Model2}
 use Rattle.ws_nego.specs.Host.{HostState, host_answer, host_judgement, host_name_answer, host_sub_answer, name_in}
 use Rattle.ws_nego.specs.Options.{Answer}
-use Rattle.ws_nego.specs.Terminal.{name_of, terminal_named}
+use Rattle.ws_nego.specs.Terminal.{terminal_type_name, terminal_named}
 use Rattle.ws_any_host.specs.AnyOptions.{AnswersAlike, Negotiated, answer_with, any_answer, known_sub, name_after}
 
 -- Any name is one that a host end knows.
 
-known : terminal_named (name_of Ibm3179Model2) ≡ Some Ibm3179Model2
+known : terminal_named (terminal_type_name Ibm3179Model2) ≡ Some Ibm3179Model2
 unfolding terminal_named
 known = refl
 
 -- such a one is judged well
-name_taken : (h : HostState) (state : TerminalName) → IsSome (host_name_answer h state (name_of Ibm3179Model2))
+name_taken : (h : HostState) (state : TerminalName) → IsSome (host_name_answer h state (terminal_type_name Ibm3179Model2))
 name_taken h Requested = rw known refl
 name_taken h Unknown = refl
 name_taken h (Accepted terminal) = refl
@@ -58,7 +58,7 @@ judged h kept (Some terminal) answer e =
 
 named_alike : (h : HostState) (state : TerminalName) (kept name : List ℕ) (answer : Answer HostState)
     → host_name_answer h state name ≡ Some answer
-    → AnswersAlike (answer_with kept (host_name_answer h state (name_of Ibm3179Model2))) answer
+    → AnswersAlike (answer_with kept (host_name_answer h state (terminal_type_name Ibm3179Model2))) answer
 named_alike h Requested kept name answer e = rw known (judged h kept (terminal_named name) answer e)
 named_alike h Unknown kept name answer e = same_answer kept _ answer e
 named_alike h (Accepted terminal) kept name answer e = same_answer kept _ answer e

@@ -3,7 +3,7 @@ use Rattle.std.specs.Prelude.{Some}
 use Rattle.ws_code.specs.Device.{Writer, Reader}
 use Rattle.ws_session.specs.Attachments.{AttachedParts, HasHeard}
 use Rattle.ws_any_host.specs.AnyLeads.{AnyParts, AnyGoes, AnyRefuses}
-use Rattle.ws_any_host.specs.AnyText.{HaveTold, is_by}
+use Rattle.ws_any_host.specs.AnyText.{HaveToldBeforeKey, is_by}
 use Rattle.ws_any_host.specs.declared.any_event.AnyEvent.{AnyEvent}
 
 -- Waits for a record by a key.
@@ -14,9 +14,9 @@ module _ {S K : Type 0} (writer : Writer K) (reader : Reader S) where
 
   -- one thing more is told that isn't by the key
   pub told_behind : (aid : ℕ) (from mid to : Parts) (told : List AnyEvent) (one : AnyEvent)
-      → HaveTold writer reader aid from told mid
+      → HaveToldBeforeKey writer reader aid from told mid
       → HasHeard AnyGoes AnyRefuses writer reader mid to (Some one) → is_by aid one ≡ false
-      → HaveTold writer reader aid from (told ++ one ∷ []) to
+      → HaveToldBeforeKey writer reader aid from (told ++ one ∷ []) to
   told_behind aid from mid to [] one h heard other = (
     to,
     subst (λ (z : Parts). HasHeard AnyGoes AnyRefuses writer reader z to (Some one)) h heard,

@@ -85,13 +85,13 @@ IsAnyPushed old new bytes items side byte (Err Memory) = CompletesUnit raw_rules
 IsAnyPushed old new bytes items side byte (Err Failed) = ⊥
 
 -- what the host has done by its reaction to an item whose last byte stands at the place
-abbrev pub IsReacted : AnyParts → AnyParts → Reaction Negotiated AnyOutput → ℕ → Result AnyStep Refusal → Type 0
-IsReacted old new reaction place (Ok step) = (next : Negotiated) × (told : AnyOutput) × (reaction ≡ GoesOn next told)
+abbrev pub IsAnyReacted : AnyParts → AnyParts → Reaction Negotiated AnyOutput → ℕ → Result AnyStep Refusal → Type 0
+IsAnyReacted old new reaction place (Ok step) = (next : Negotiated) × (told : AnyOutput) × (reaction ≡ GoesOn next told)
     × (step.reply ≡ plain_spelling raw_rules told.items) × (step.event ≡ told.event)
     × (new ≡ record old { options = next })
-IsReacted old new reaction place (Err (At p reason)) = (p ≡ place) × (reaction ≡ Refuses reason)
+IsAnyReacted old new reaction place (Err (At p reason)) = (p ≡ place) × (reaction ≡ Refuses reason)
     × (new ≡ record old { ended = Some (At p reason) })
-IsReacted old new reaction place (Err why) = ⊥
+IsAnyReacted old new reaction place (Err why) = ⊥
 
 -- a fault of the receiver as a refusal
 abbrev pub refusal_of : Fault → Refusal
@@ -100,10 +100,10 @@ refusal_of fault.Memory = Memory
 refusal_of why = Failed
 
 -- why no record is sent by a host that isn't shut; for want of memory only what would have been
-abbrev pub IsSendFault : Negotiated → Record ℕ → SendFault → Type 0
-IsSendFault n r SendMemory = send_fault n r ≡ None
-IsSendFault n r SendFailed = ⊥
-IsSendFault n r why = send_fault n r ≡ Some why
+abbrev pub IsAnySendFault : Negotiated → Record ℕ → SendFault → Type 0
+IsAnySendFault n r SendMemory = send_fault n r ≡ None
+IsAnySendFault n r SendFailed = ⊥
+IsAnySendFault n r why = send_fault n r ≡ Some why
 
 -- the acts lead from one host to another, which wrote and told this in them
 abbrev pub AnyGoes : AnyParts → List (Act (Record ℕ)) → List ℕ → List AnyEvent → AnyParts → Type 0

@@ -30,44 +30,44 @@ abbrev pub IsOpcode : List ℕ → Opcode → Type 0
 IsOpcode number opcode = IsNumber number (opcode_byte opcode)
 
 -- an opcode, and behind a blank a body in hex
-abbrev pub IsBodyText : List ℕ → Opcode → List ℕ → Type 0
-IsBodyText words opcode body = (number : List ℕ) × (hex : List ℕ) × (words ≡ (number ++ codes " ") ++ hex)
+abbrev pub IsOpcodeAndBody : List ℕ → Opcode → List ℕ → Type 0
+IsOpcodeAndBody words opcode body = (number : List ℕ) × (hex : List ℕ) × (words ≡ (number ++ codes " ") ++ hex)
     × IsOpcode number opcode × IsHex hex body
 
 -- the words of a record to be sent: its opcode, and its body where it has one
 abbrev pub IsSendText : List ℕ → Record ℕ → Type 0
 IsSendText words r = (opcode : Opcode) × (body : List ℕ) × (r ≡ sent opcode body)
-    × ((IsOpcode words opcode × (body ≡ [])) ⊎ IsBodyText words opcode body)
+    × ((IsOpcode words opcode × (body ≡ [])) ⊎ IsOpcodeAndBody words opcode body)
 
 -- what a line means by itself; none means one that is bad
-abbrev pub Means : List ℕ → AnyLine → Type 0
-Means line Nothing = IsIdle line
-Means line (Send r) = (words : List ℕ) × (line ≡ codes "send " ++ words) × IsSendText words r
-Means line Await = line ≡ codes "await"
-Means line (AwaitKey aid) = (name : List ℕ) × (line ≡ codes "await " ++ name) × (aid_named name ≡ Some aid)
-Means line (Wire wire) = MeansWire line wire
-Means line (Bad cause) = ⊥
+abbrev pub MeansAnyLine : List ℕ → AnyLine → Type 0
+MeansAnyLine line Nothing = IsIdle line
+MeansAnyLine line (Send r) = (words : List ℕ) × (line ≡ codes "send " ++ words) × IsSendText words r
+MeansAnyLine line Await = line ≡ codes "await"
+MeansAnyLine line (AwaitKey aid) = (name : List ℕ) × (line ≡ codes "await " ++ name) × (aid_named name ≡ Some aid)
+MeansAnyLine line (Wire wire) = MeansWire line wire
+MeansAnyLine line (Bad cause) = ⊥
 
 -- a line by itself, which is UTF-8
-abbrev pub IsOneLine : List ℕ → AnyLine → Type 0
-IsOneLine line read = IsUtf8 line × Means line read
+abbrev pub IsOneAnyLine : List ℕ → AnyLine → Type 0
+IsOneAnyLine line read = IsUtf8 line × MeansAnyLine line read
 
 -- the words of a record to be sent, up to its body
-abbrev pub IsSendBegun : List ℕ → Type 0
-IsSendBegun words = (number : List ℕ) × (hex : List ℕ) × (opcode : Opcode) × (words ≡ (number ++ codes " ") ++ hex)
+abbrev pub IsAnySendBegun : List ℕ → Type 0
+IsAnySendBegun words = (number : List ℕ) × (hex : List ℕ) × (opcode : Opcode) × (words ≡ (number ++ codes " ") ++ hex)
     × IsOpcode number opcode
 
 -- the lines that take memory: one that sends a record, up to its body, or works on the connection
 abbrev pub IsLineBegun : List ℕ → Type 0
-IsLineBegun line = ((words : List ℕ) × (line ≡ codes "send " ++ words) × IsSendBegun words) ⊎ IsWireBegun line
+IsLineBegun line = ((words : List ℕ) × (line ≡ codes "send " ++ words) × IsAnySendBegun words) ⊎ IsWireBegun line
 
 -- a line that sends a record, and says no more of it than its opcode
-abbrev pub SendsAlone : List ℕ → List ℕ → Opcode → Type 0
-SendsAlone line number opcode = IsUtf8 line × (line ≡ codes "send " ++ number) × IsOpcode number opcode
+abbrev pub SendsAnyOpcodeAlone : List ℕ → List ℕ → Opcode → Type 0
+SendsAnyOpcodeAlone line number opcode = IsUtf8 line × (line ≡ codes "send " ++ number) × IsOpcode number opcode
 
 -- elements may stand behind such a line
 abbrev pub OpensAnyBlock : List ℕ → Type 0
-OpensAnyBlock line = (number : List ℕ) × (opcode : Opcode) × SendsAlone line number opcode
+OpensAnyBlock line = (number : List ℕ) × (opcode : Opcode) × SendsAnyOpcodeAlone line number opcode
 
 -- lines say a live host's elements, of a record of the opcode; these bytes spell them
 abbrev pub SayBytes : List (List ℕ) → Opcode → List ℕ → Type 0
@@ -80,14 +80,14 @@ abbrev pub IsWordFault : List (List ℕ) → Opcode → TextFault → Type 0
 IsWordFault elements opcode why = IsAddFault extended_rules extended_wording elements (new_record opcode) why
 
 -- a record is sent with the bytes of the elements that the lines behind its line say
-abbrev pub SendsInWords : List ℕ → List (List ℕ) → AnyLine → Type 0
-SendsInWords line elements read = (number : List ℕ) × (opcode : Opcode) × (body : List ℕ)
-    × SendsAlone line number opcode × SayBytes elements opcode body × (read ≡ Send (sent opcode body))
+abbrev pub SendsBytesInWords : List ℕ → List (List ℕ) → AnyLine → Type 0
+SendsBytesInWords line elements read = (number : List ℕ) × (opcode : Opcode) × (body : List ℕ)
+    × SendsAnyOpcodeAlone line number opcode × SayBytes elements opcode body × (read ≡ Send (sent opcode body))
 
 -- a line of such a script, and the lines of elements behind it
 abbrev pub IsAnyLine : List ℕ → List (List ℕ) → AnyLine → Type 0
-IsAnyLine line elements read = ((elements ≡ []) × IsOneLine line read)
-    ⊎ ((elements ≢ []) × SendsInWords line elements read)
+IsAnyLine line elements read = ((elements ≡ []) × IsOneAnyLine line read)
+    ⊎ ((elements ≢ []) × SendsBytesInWords line elements read)
 
 -- a line up to what takes memory
 abbrev pub BeginsAnyLine : List ℕ → Type 0
@@ -95,17 +95,17 @@ BeginsAnyLine line = (IsUtf8 line × IsLineBegun line) ⊎ OpensAnyBlock line
 
 -- where elements are bad behind their line, which is the first: at the first line that adds none to the record, counted
 -- as far as 64 bits count
-abbrev pub AreBadAt : Opcode → List (List ℕ) → ℕ → Type 0
-AreBadAt opcode elements at = (number : ℕ) × IsWordFault elements opcode (items.Line number)
+abbrev pub AreExtendedBadAt : Opcode → List (List ℕ) → ℕ → Type 0
+AreExtendedBadAt opcode elements at = (number : ℕ) × IsWordFault elements opcode (items.Line number)
     × (at ≡ min (number + 1) (2 ^ 64 - 1))
 
 -- where a line is bad with the elements behind it: at itself, or in these
 abbrev pub IsBadAnyLineAt : List ℕ → List (List ℕ) → ℕ → Type 0
 IsBadAnyLineAt line elements at = ((at ≡ 1) × ((elements ≡ []) ⊎ (OpensAnyBlock line → ⊥)))
-    ⊎ ((number : List ℕ) × (opcode : Opcode) × SendsAlone line number opcode × AreBadAt opcode elements at)
+    ⊎ ((number : List ℕ) × (opcode : Opcode) × SendsAnyOpcodeAlone line number opcode × AreExtendedBadAt opcode elements at)
 
 -- why a line, or its words, isn't read: it is the bad one, and means nothing; or a growth was refused, and it is good
 -- up to there
-abbrev pub IsFault : {X : Type 0} → (X → Type 0) → Type 0 → ScriptFault → Type 0
-IsFault {X} IsRead IsGood (Line at) = (at ≡ 1) × ((x : X) → IsRead x → ⊥)
-IsFault IsRead IsGood Memory = IsGood
+abbrev pub IsAnyLineFault : {X : Type 0} → (X → Type 0) → Type 0 → ScriptFault → Type 0
+IsAnyLineFault {X} IsRead IsGood (Line at) = (at ≡ 1) × ((x : X) → IsRead x → ⊥)
+IsAnyLineFault IsRead IsGood Memory = IsGood

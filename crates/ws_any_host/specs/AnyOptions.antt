@@ -10,7 +10,7 @@ use Rattle.ws_nego.specs.declared.host.TerminalName.{TerminalName}
 use Rattle.ws_nego.specs.declared.host.TerminalName.TheVariants.{Requested}
 use Rattle.ws_nego.specs.Host.{HostState, new_host, after_open, host_answer, name_in}
 use Rattle.ws_nego.specs.Options.{Answer, terminal_type_token}
-use Rattle.ws_nego.specs.Terminal.{name_of}
+use Rattle.ws_nego.specs.Terminal.{terminal_type_name}
 
 -- the options of a host end, and the terminal's name as the station has told it: none before, so that it is empty
 pub record Negotiated : Type 0 where
@@ -27,7 +27,7 @@ once_opened n = record { host = after_open n.host; name = n.name }
 
 -- what tells a name that the host end knows; own choice: any of its names would do
 abbrev pub known_name : Telnet
-known_name = terminal_type_token IS (name_of Ibm3179Model2)
+known_name = terminal_type_token IS (terminal_type_name Ibm3179Model2)
 
 -- a subnegotiation, in which any name is that one
 abbrev pub known_sub : Sub → Option (List ℕ) → Telnet

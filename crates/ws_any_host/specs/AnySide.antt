@@ -45,14 +45,14 @@ any_takes n (RecordItem r) =
     else Refuses RecordBeforeNegotiation
 
 -- the record has more bytes than its header can declare
-abbrev pub is_too_big : Record ℕ → Bool
-is_too_big r = not (nat_lt (length (record_bytes raw_rules r)) (2 ^ 16))
+abbrev pub is_any_too_big : Record ℕ → Bool
+is_any_too_big r = not (nat_lt (length (record_bytes raw_rules r)) (2 ^ 16))
 
 -- why such a host doesn't send a record: the first that applies
 abbrev pub send_fault : Negotiated → Record ℕ → Option SendFault
 send_fault n r =
     if not (host_allows_records n.host) then Some NotAllowed
-    else (if is_too_big r then Some TooBig else None)
+    else (if is_any_too_big r then Some TooBig else None)
 
 -- what such a host has done behind an item: it has gone on as it reacts; at a refused one nothing
 abbrev pub any_at_item : Negotiated → Reaction Negotiated AnyOutput → Doing Negotiated ℕ AnyEvent

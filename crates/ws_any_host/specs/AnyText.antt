@@ -36,13 +36,13 @@ abbrev pub name_byte : ℕ → List ℕ
 name_byte byte = if is_plain byte then byte ∷ [] else codes "\\" ++ encode_upper (byte ∷ [])
 
 -- a terminal's name as it came
-abbrev pub name_text : List ℕ → List ℕ
-name_text name = flat_map name_byte name
+abbrev pub terminal_name_text : List ℕ → List ℕ
+terminal_name_text name = flat_map name_byte name
 
 -- what the host tells: the terminal's name; and a record by its flags in hex, its opcode in decimal, and its body in
 -- hex where it has one
 abbrev pub any_event_text : AnyEvent → List ℕ
-any_event_text (Ready name) = codes "terminal " ++ name_text name ++ codes "\n"
+any_event_text (Ready name) = codes "terminal " ++ terminal_name_text name ++ codes "\n"
 any_event_text (Came r) = codes "record flags " ++ encode_upper (two_bytes r.flags) ++ codes " opcode "
     ++ decimal (opcode_byte r.opcode) ++ hex_behind_blank r.body ++ codes "\n"
 
@@ -64,11 +64,11 @@ any_waits line = None
 
 module _ {S K : Type 0} (writer : Writer K) (reader : Reader S) where
   -- such a host on a source and a sink
-  abbrev pub Parts : Type 0
-  Parts = AttachedParts AnyParts S K
+  abbrev pub AttachedAnyHost : Type 0
+  AttachedAnyHost = AttachedParts AnyParts S K
 
   -- the record was written, or refused, and nothing is changed; no byte was read or taken
-  pub record IsDone (r : Record ℕ) (from : Parts) (refused : Option SendFault) (to : Parts) : Type 0 where
+  pub record IsAnySendDone (r : Record ℕ) (from : AttachedAnyHost) (refused : Option SendFault) (to : AttachedAnyHost) : Type 0 where
     pub led : HaveLed AnyGoes AnyRefuses writer reader from to (Did r ∷ []) []
     pub same : IfSome refused (λ why. to ≡ from)
     pub why : IfSome refused (IsAnySendRefusal from.end r)
@@ -77,23 +77,23 @@ module _ {S K : Type 0} (writer : Writer K) (reader : Reader S) where
     pub unread : to.source ≡ from.source
 
   -- what the host was told to send is sent or refused, or a write failed, or for want of memory nothing is done
-  abbrev pub IsGiven : Record ℕ → Parts → Result (Option SendFault) Fault → Parts → Type 0
-  IsGiven r from (Ok refused) to = IsDone r from refused to
-  IsGiven r from (Err why) to =
+  abbrev pub IsAnySendGiven : Record ℕ → AttachedAnyHost → Result (Option SendFault) Fault → AttachedAnyHost → Type 0
+  IsAnySendGiven r from (Ok refused) to = IsAnySendDone r from refused to
+  IsAnySendGiven r from (Err why) to =
       IsSendFailure AnyGoes AnyRefuses writer reader from to (Did r ∷ []) why
 
   -- things were told one after another, none of which is a record by the key
-  abbrev pub HaveTold : ℕ → Parts → List AnyEvent → Parts → Type 0
-  HaveTold aid from [] to = to ≡ from
-  HaveTold aid from (event ∷ more) to = (mid : Parts)
+  abbrev pub HaveToldBeforeKey : ℕ → AttachedAnyHost → List AnyEvent → AttachedAnyHost → Type 0
+  HaveToldBeforeKey aid from [] to = to ≡ from
+  HaveToldBeforeKey aid from (event ∷ more) to = (mid : AttachedAnyHost)
       × HasHeard AnyGoes AnyRefuses writer reader from mid (Some event)
-      × (is_by aid event ≡ false) × HaveTold aid mid more to
+      × (is_by aid event ≡ false) × HaveToldBeforeKey aid mid more to
 
   -- What a wait comes to, at a watch that tells of a source whether the read that failed was late.
   module _ (tells : S → Bool → Type 0) where
     -- the host heard the station, and tells nothing more: the station closed, or a fault came
-    abbrev pub HearsNone : Parts → Result Closing Fault → List ℕ → Parts → Type 0
-    HearsNone from outcome text to =
+    abbrev pub AnyHearsNone : AttachedAnyHost → Result Closing Fault → List ℕ → AttachedAnyHost → Type 0
+    AnyHearsNone from outcome text to =
         (HasHeard AnyGoes AnyRefuses writer reader from to None
         × (outcome ≡ Ok Ended) × (text ≡ []))
         ⊎ ((why : Fault) × (late : Bool) × IsHearFault AnyGoes AnyRefuses writer reader from to why
@@ -101,45 +101,45 @@ module _ {S K : Type 0} (writer : Writer K) (reader : Reader S) where
         × (outcome ≡ unheard_outcome late why) × (text ≡ unheard_text why))
 
     -- the host heard the station up to the first thing that it tells, which is printed, or none came
-    abbrev pub HearsOne : Parts → Result Closing Fault → List ℕ → Parts → Type 0
-    HearsOne from outcome text to =
+    abbrev pub AnyHearsOne : AttachedAnyHost → Result Closing Fault → List ℕ → AttachedAnyHost → Type 0
+    AnyHearsOne from outcome text to =
         ((event : AnyEvent) × HasHeard AnyGoes AnyRefuses writer reader from to (Some event)
         × (outcome ≡ Ok Done) × (text ≡ any_event_text event))
-        ⊎ HearsNone from outcome text to
+        ⊎ AnyHearsNone from outcome text to
 
     -- behind so many things a record by the key is told; or none more is; or as many were told as one wait takes
-    abbrev pub KeyComes : ℕ → ℕ → Parts → Result Closing Fault → List ℕ → Parts → Type 0
+    abbrev pub KeyComes : ℕ → ℕ → AttachedAnyHost → Result Closing Fault → List ℕ → AttachedAnyHost → Type 0
     KeyComes aid told from outcome text to =
         ((event : AnyEvent) × HasHeard AnyGoes AnyRefuses writer reader from to (Some event)
         × (is_by aid event ≡ true) × (outcome ≡ Ok Done) × (text ≡ any_event_text event))
-        ⊎ (HearsNone from outcome text to
+        ⊎ (AnyHearsNone from outcome text to
         ⊎ ((told ≡ most_reads) × (to ≡ from) × (outcome ≡ Err fault.Read) × (text ≡ [])))
 
     -- the host heard the station up to a record by the key, and printed all that it told
-    pub record HearsKey (aid : ℕ) (from : Parts) (outcome : Result Closing Fault) (text : List ℕ) (to : Parts)
+    pub record HearsKey (aid : ℕ) (from : AttachedAnyHost) (outcome : Result Closing Fault) (text : List ℕ) (to : AttachedAnyHost)
         : Type 0 where
       pub told : List AnyEvent
-      pub mid : Parts
-      pub before : HaveTold aid from told mid
+      pub mid : AttachedAnyHost
+      pub before : HaveToldBeforeKey aid from told mid
       pub last : List ℕ
       pub came : KeyComes aid (length told) mid outcome last to
       pub all : text ≡ flat_map any_event_text told ++ last
 
     -- what a line does at such a host, how it closed, and what it printed
-    abbrev pub AnyDoes : AnyLine → Parts → Result Closing Fault → List ℕ → Parts → Type 0
+    abbrev pub AnyDoes : AnyLine → AttachedAnyHost → Result Closing Fault → List ℕ → AttachedAnyHost → Type 0
     AnyDoes NoLine from outcome text to = (to ≡ from) × (outcome ≡ Ok Nothing) × (text ≡ [])
-    AnyDoes (Send r) from outcome text to = (given : Result (Option SendFault) Fault) × IsGiven r from given to
+    AnyDoes (Send r) from outcome text to = (given : Result (Option SendFault) Fault) × IsAnySendGiven r from given to
         × (outcome ≡ given_outcome given) × (text ≡ given_text given)
-    AnyDoes Await from outcome text to = HearsOne from outcome text to
+    AnyDoes Await from outcome text to = AnyHearsOne from outcome text to
     AnyDoes (AwaitKey aid) from outcome text to = HearsKey aid from outcome text to
     AnyDoes (Wire line) from outcome text to = WireRuns writer line from outcome to × (text ≡ [])
     AnyDoes (Bad cause) from outcome text to = (to ≡ from) × (outcome ≡ bad_outcome)
         × (text ≡ bad_text (string_bytes cause))
 
     -- such a host, of which so many records are ahead, which none of its lines takes
-    abbrev pub Ends : Type 0
-    Ends = Parts × ℕ
+    abbrev pub AnyHostAndAhead : Type 0
+    AnyHostAndAhead = AttachedAnyHost × ℕ
 
     -- a line at it, how it closed, and what it printed
-    abbrev pub AnyRuns : AnyLine → Ends → Result Closing Fault → List ℕ → Ends → Type 0
+    abbrev pub AnyRuns : AnyLine → AnyHostAndAhead → Result Closing Fault → List ℕ → AnyHostAndAhead → Type 0
     AnyRuns line from outcome text to = AnyDoes line from.0 outcome text to.0 × (to.1 ≡ from.1)

@@ -5,9 +5,9 @@ ghost use Rattle.ws_record.specs.RawBody.{raw_rules};
 ghost use Rattle.ws_record.specs.declared.record.Item.{Item as AnItem};
 ghost use Rattle.ws_session.specs.Ends.{refused_byte};
 ghost use Rattle.ws_any_host.specs.AnyLeads as Spec;
-ghost use Rattle.ws_any_host.specs.AnyLeads.{AnyLeads, IsAnyPushed, IsReacted};
+ghost use Rattle.ws_any_host.specs.AnyLeads.{AnyLeads, IsAnyPushed, IsAnyReacted};
 ghost use Rattle.ws_any_host.specs.AnyOptions.{Negotiated, any_answer, new_negotiated, once_opened};
-ghost use Rattle.ws_any_host.specs.AnySide.{any_negotiates, any_ready, any_takes, is_too_big, send_fault};
+ghost use Rattle.ws_any_host.specs.AnySide.{any_negotiates, any_ready, any_takes, is_any_too_big, send_fault};
 
 use crate::{AnyEvent, AnyOptions, ToldName};
 use arrayvec::ArrayVec;
@@ -152,7 +152,7 @@ impl AnyHost {
 
     // Does what an item asks for that came with the last byte taken.
     fn react(&mut self, item: Item<u8>) -> Result<EndStep<AnyEvent>, Refusal>
-        ensures reacted { IsReacted self.old self.new (any_takes self.old.options item)
+        ensures reacted { IsAnyReacted self.old self.new (any_takes self.old.options item)
             (self.old.receiver.live.taken - 1) result }
         ensures after { IfErr result (λ why. self.new.ended ≡ Some why) }
         ensures seen { OnErr result (self.new.options ≡ self.old.options) }
@@ -170,7 +170,7 @@ impl AnyHost {
 
     // Answers a token.
     fn negotiate(&mut self, token: &Telnet) -> Result<EndStep<AnyEvent>, Refusal>
-        ensures reacted { IsReacted self.old self.new
+        ensures reacted { IsAnyReacted self.old self.new
             (any_negotiates self.old.options (any_answer self.old.options token.now))
             (self.old.receiver.live.taken - 1) result }
         ensures after { IfErr result (λ why. self.new.ended ≡ Some why) }
@@ -230,7 +230,7 @@ impl AnyHost {
             × (sent.items ≡ item_spelling raw_rules (AnItem.Record record_.now))) }
         ensures refused { IfErr result (λ why. self.now.ended ≡ None
             → self.now.receiver.live.taken + 1 < 2 ^ 64
-            → Spec.IsSendFault self.now.options record_.now why) }
+            → Spec.IsAnySendFault self.now.options record_.now why) }
         ensures full { self.now.receiver.live.taken + 1 ≡ 2 ^ 64
             → result ≡ Err SendFault.Failed }
         ensures failed { IsSome self.now.ended → result ≡ Err SendFault.Failed }

@@ -124,8 +124,8 @@ fn read_alone(alloc: Global, line: &[u8]) -> Result<AnyLine, ScriptFault>
 
 // A line as a text.
 fn read_text(alloc: Global, text: &str) -> Result<AnyLine, ScriptFault>
-    ensures line { IfOk result (Spec.Means text.now) }
-    ensures fault { IfErr result (Spec.IsFault (Spec.Means text.now) (Spec.IsLineBegun text.now)) }
+    ensures line { IfOk result (Spec.MeansAnyLine text.now) }
+    ensures fault { IfErr result (Spec.IsAnyLineFault (Spec.MeansAnyLine text.now) (Spec.IsLineBegun text.now)) }
 {
     if text.is_empty() {
         return Ok(AnyLine::Nothing);
@@ -157,8 +157,8 @@ fn read_word(alloc: Global, line: &str) -> Result<AnyLine, ScriptFault>
     requires no_comment { IsNoComment line.now }
     requires no_send { (words : Seq ℕ) → line.now ≡ codes "send " ++ words → ⊥ }
     // What it means, or that it means nothing.
-    ensures line { IfOk result (Spec.Means line.now) }
-    ensures fault { IfErr result (Spec.IsFault (Spec.Means line.now) (Spec.IsLineBegun line.now)) }
+    ensures line { IfOk result (Spec.MeansAnyLine line.now) }
+    ensures fault { IfErr result (Spec.IsAnyLineFault (Spec.MeansAnyLine line.now) (Spec.IsLineBegun line.now)) }
 {
     if line == "await" {
         return Ok(AnyLine::Await);
@@ -191,7 +191,7 @@ fn key_words(text: &str) -> Option<&str>
 fn read_sent(alloc: Global, words: &str) -> Result<Record<u8>, ScriptFault>
     ensures record_ { IfOk result (Spec.IsSendText words.now) }
     ensures fault { IfErr result
-        (Spec.IsFault (Spec.IsSendText words.now) (Spec.IsSendBegun words.now)) }
+        (Spec.IsAnyLineFault (Spec.IsSendText words.now) (Spec.IsAnySendBegun words.now)) }
 {
     match split_word(words) {
         None => match read_opcode(words) {
@@ -220,7 +220,7 @@ fn split_word(text: &str) -> Option<(&str, &str)>
 // Bytes in hex, at least one.
 fn read_hex(alloc: Global, hex: &str) -> Result<Vec<u8>, ScriptFault>
     ensures body { IfOk result (λ body. IsHex hex.now body.items) }
-    ensures fault { IfErr result (Spec.IsFault (IsHex hex.now) (Unit {0})) }
+    ensures fault { IfErr result (Spec.IsAnyLineFault (IsHex hex.now) (Unit {0})) }
 {
     if hex.is_empty() {
         return Err(ScriptFault::Line(1));
@@ -247,7 +247,7 @@ fn read_opcode(word: &str) -> Option<Opcode>
 // The opcode of a line that sends a record and says no more of it.
 fn sent_alone(line: &[u8]) -> Option<Opcode>
     ensures { MatchOption result (OpensAnyBlock line.now → ⊥)
-        (λ opcode. (number : Seq ℕ) × Spec.SendsAlone line.now number opcode) }
+        (λ opcode. (number : Seq ℕ) × Spec.SendsAnyOpcodeAlone line.now number opcode) }
 {
     let Ok(text) = str::from_utf8(line) else {
         return None;

@@ -59,7 +59,7 @@ fn give<S: Source, K: Sink>(
     record_: &Record<u8>,
 ) -> Result<Option<SendFault>, Fault>
     requires works { attached.old.broken ≡ false }
-    ensures given { Spec.IsGiven K.writer S.reader record_.now
+    ensures given { Spec.IsAnySendGiven K.writer S.reader record_.now
         attached.old result attached.new }
     ensures works { IfOk result (λ refused. attached.new.broken ≡ false) }
 {
@@ -77,7 +77,7 @@ fn hear_event<S: Source, K: Sink, W: Watch<S>, O: Sink>(
     output: Output,
 ) -> Carried
     requires works { attached.old.broken ≡ false }
-    ensures heard { (text : List ℕ) × Spec.HearsOne K.writer S.reader
+    ensures heard { (text : List ℕ) × Spec.AnyHearsOne K.writer S.reader
         W.tells attached.old result.outcome text attached.new
         × Prints O.writer out.old out.new output result.output text }
     ensures works { IfOk result.outcome (λ closing.

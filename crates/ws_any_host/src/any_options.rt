@@ -3,7 +3,7 @@ ghost use Rattle.ws_code.specs.declared.reason.Reason.TheVariants.{UnsupportedTe
 ghost use Rattle.ws_telnet.specs.declared.token.Sub.{Sub as ASub};
 ghost use Rattle.ws_nego.specs.Host.{opening, host_allows_records};
 ghost use Rattle.ws_nego.specs.Host as host;
-ghost use Rattle.ws_nego.specs.Options.{bytes_of, AnswersWith};
+ghost use Rattle.ws_nego.specs.Options.{telnet_bytes, AnswersWith};
 ghost use Rattle.ws_any_host.specs.AnyOptions.{any_answer, new_negotiated, once_opened};
 ghost use Rattle.ws_any_host.specs.AnyOptions as spec;
 
@@ -49,7 +49,7 @@ impl AnyOptions {
     /// Gives the first token of a session, which asks the station to perform TERMINAL-TYPE.
     pub fn open(&mut self) -> Reply
         ensures opened { self.new ≡ once_opened self.old }
-        ensures reply { result ≡ bytes_of (opening ∷ []) }
+        ensures reply { result ≡ telnet_bytes (opening ∷ []) }
     {
         self.options.open()
     }

@@ -47,7 +47,7 @@ fn put_flags<S: Sink>(sink: &mut S, output: Output, flags: u16) -> Output
 // Writes a terminal's name.
 fn put_name<S: Sink>(sink: &mut S, output: Output, name: &[u8]) -> Output
     ensures { Prints S.writer sink.old sink.new output result
-        (Spec.name_text name.now) }
+        (Spec.terminal_name_text name.now) }
 {
     let mut output = output;
     for byte in name {

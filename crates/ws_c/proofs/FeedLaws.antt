@@ -27,7 +27,7 @@ use Rattle.ws_session.specs.declared.refusal.Refusal.TheVariants.{At, Failed, Me
 use Rattle.ws_session.proofs.Counts.{counted_on}
 use Rattle.ws_session.proofs.Feedings.{none_come}
 use Rattle.ws_c.specs.declared.host.HeldHost.{HeldHost}
-use Rattle.ws_c.specs.Hosts.{HostTakes, HostRefuses}
+use Rattle.ws_c.specs.Hosts.{HostTakes, HostRefusesWithin}
 use Rattle.ws_c.specs.Pushes.{BringsAtMostOn, StationTakesOn, StationRefusesOn, StandsBehind, place_refused_at}
 use Rattle.ws_c.proofs.PushLaws.{come_on}
 
@@ -206,7 +206,7 @@ module _ (old new : HostParts) (bytes : List ℕ) where
       → (old.ended ≡ None → new.ended ≡ Some refusal) → new.screen ≡ old.screen
       → (old.receiver.live.taken + length bytes < 2 ^ 64
       → CountsUpTo refusal old.receiver.live.taken new.receiver.live.taken (length bytes))
-      → HostRefuses old bytes n refusal new
+      → HostRefusesWithin old bytes n refusal new
   host_refuses refusal n is refused full failed after_it seen up = record {
     counted = λ fits. stands_behind refusal n old.receiver.live.taken new.receiver.live.taken (length bytes) is
         (up fits);

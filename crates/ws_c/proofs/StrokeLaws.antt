@@ -10,7 +10,7 @@ use Rattle.ws_keys.specs.declared.answer.Answer.{Answer}
 use Rattle.ws_keys.specs.declared.key.Key.{Key}
 use Rattle.ws_keys.specs.declared.key_run.KeyRun.{KeyRun}
 use Rattle.ws_session.specs.declared.key_fault.KeyFault.{KeyFault}
-use Rattle.ws_c.specs.Strokes.{AreKeyed, GoesOn}
+use Rattle.ws_c.specs.Strokes.{AreKeyed, GoesOnBehindKey}
 
 abbrev run_keys : KeyRun → List Key
 run_keys r = replicate r.times r.key
@@ -23,9 +23,9 @@ module _ {S : Type 0} (takes : S → S → Key → Result (Option Answer) KeyFau
   keyed_on (x ∷ xs) ys old mid new r (next, pressed, keyed, goes) k =
       (next, pressed, keyed, go pressed goes (λ g. keyed_on xs ys next mid new r g k))
     where
-      go : (p : Result (Option Answer) KeyFault) → GoesOn takes p (AreKeyed takes xs next mid (Ok tt)) next mid (Ok tt)
+      go : (p : Result (Option Answer) KeyFault) → GoesOnBehindKey takes p (AreKeyed takes xs next mid (Ok tt)) next mid (Ok tt)
           → (AreKeyed takes xs next mid (Ok tt) → AreKeyed takes (xs ++ ys) next new r)
-          → GoesOn takes p (AreKeyed takes (xs ++ ys) next new r) next new r
+          → GoesOnBehindKey takes p (AreKeyed takes (xs ++ ys) next new r) next new r
       go (Ok answer) g later = later g
       go (Err fault) g later = absurd (cc)
 
@@ -36,9 +36,9 @@ module _ {S : Type 0} (takes : S → S → Key → Result (Option Answer) KeyFau
   keyed_stop (x ∷ xs) ys old new f (next, pressed, keyed, goes) =
       (next, pressed, keyed, go pressed goes (λ g. keyed_stop xs ys next new f g))
     where
-      go : (p : Result (Option Answer) KeyFault) → GoesOn takes p (AreKeyed takes xs next new (Err f)) next new (Err f)
+      go : (p : Result (Option Answer) KeyFault) → GoesOnBehindKey takes p (AreKeyed takes xs next new (Err f)) next new (Err f)
           → (AreKeyed takes xs next new (Err f) → AreKeyed takes (xs ++ ys) next new (Err f))
-          → GoesOn takes p (AreKeyed takes (xs ++ ys) next new (Err f)) next new (Err f)
+          → GoesOnBehindKey takes p (AreKeyed takes (xs ++ ys) next new (Err f)) next new (Err f)
       go (Ok answer) g later = later g
       go (Err fault) g later = g
 

@@ -192,10 +192,6 @@ row_text screen row = encode_utf8_all (row_chars screen.cells row)
 abbrev pub field_told : Field → FieldTold
 field_told f = record { row = f.start / 80 + 1; column = f.start % 80 + 1; length = f.length; format = f.format }
 
--- a row of the screen: 1 to 24
-abbrev pub IsRow : ℕ → Type 0
-IsRow row = (1 ≤ row) × (row ≤ 24)
-
 -- what is told of a field where there is none
 abbrev pub no_field : FieldTold
 no_field = record { row = 0; column = 0; length = 0; format = 0 }

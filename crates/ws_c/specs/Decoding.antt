@@ -50,9 +50,9 @@ plain_step taken kind = record {
 }
 
 -- something is complete with the step, or its byte is refused
-abbrev pub tells : {U : Type 0} → Step U → Bool
-tells More = false
-tells step = true
+abbrev pub tells_something : {U : Type 0} → Step U → Bool
+tells_something More = false
+tells_something step = true
 
 -- what the end of a stream crosses as
 abbrev pub IsEndTold : Result (Unit {0}) Fault → Status → ℕ → Type 0
@@ -101,7 +101,7 @@ module _ {P U : Type 0} (rules : Rules P U) where
   IsDecoderEndOn [] before status told buffer after old new = (status ≡ Done) × (told ≡ plain_step before 0)
       × (after ≡ buffer) × (new ≡ old)
   IsDecoderEndOn (byte ∷ left) before status told buffer after old new = (step : Step U)
-      × DecoderPushedOn old new byte step × (tells step ≡ true) × IsStepToldOn step before status told buffer after
+      × DecoderPushedOn old new byte step × (tells_something step ≡ true) × IsStepToldOn step before status told buffer after
 
   -- what a push of bytes into a decoder crosses as: with some nothing is complete, and it ends there or with the one
   -- behind them
@@ -134,8 +134,8 @@ abbrev pub IsDecode : List ℕ → List ℕ → List ℕ → Status → StepTold
 IsDecode = IsDecodeOn element_rules
 
 -- what the end of a stream of the profile crosses as
-abbrev pub IsEnd : Status → ℕ → Watching Place → Watching Place → Type 0
-IsEnd = IsEndOfOn element_rules
+abbrev pub IsStreamEnd : Status → ℕ → Watching Place → Watching Place → Type 0
+IsStreamEnd = IsEndOfOn element_rules
 
 -- what a push of bytes into a decoder of live hosts' streams crosses as
 abbrev pub IsExtendedDecode : List ℕ → List ℕ → List ℕ → Status → StepTold → Watching ExtendedPlace
@@ -143,8 +143,8 @@ abbrev pub IsExtendedDecode : List ℕ → List ℕ → List ℕ → Status → 
 IsExtendedDecode = IsDecodeOn extended_rules
 
 -- what the end of a live host's stream crosses as
-abbrev pub IsExtendedEnd : Status → ℕ → Watching ExtendedPlace → Watching ExtendedPlace → Type 0
-IsExtendedEnd = IsEndOfOn extended_rules
+abbrev pub IsExtendedStreamEnd : Status → ℕ → Watching ExtendedPlace → Watching ExtendedPlace → Type 0
+IsExtendedStreamEnd = IsEndOfOn extended_rules
 
 -- what a new decoder of live hosts' streams crosses as: it is made, or the handle stays as it is
 abbrev pub IsExtendedDecoderNew : Option Machine → Option Machine → Status → Type 0

@@ -12,7 +12,7 @@ use Rattle.ws_record.specs.declared.record.Item.TheVariants.{Telnet as TelnetIte
 use Rattle.ws_stream.specs.Elements.{element_rules}
 use Rattle.ws_stream.specs.declared.answer_part.AnswerPart.{AnswerPart}
 use Rattle.ws_keys.specs.declared.host_answer.HostAnswer.{HostAnswer}
-use Rattle.ws_session.specs.HostFeeds.{HasHostTakenAll, HasHostFed, HasHostRefused, IsHostSilent as AreSilent}
+use Rattle.ws_session.specs.HostFeeds.{HasHostTakenAll, HasHostFed, HasHostRefused, HasHostToldNothing as AreSilent}
 use Rattle.ws_session.specs.HostLeads.{HostParts, HostLeads}
 use Rattle.ws_session.specs.HostSide.{HostSide, new_host_side}
 use Rattle.ws_session.specs.declared.host_event.HostEvent.{HostEvent}
@@ -79,7 +79,7 @@ pub record HostTells (old : HostParts) (bytes : List ℕ) (n : ℕ) (written : L
 
 -- The host end fails at one of these bytes, of which so many stand before it and bring nothing: so it counts them, and
 -- so they are in all bytes that it has taken.
-pub record HostRefuses (old : HostParts) (bytes : List ℕ) (n : ℕ) (refusal : Refusal) (new : HostParts)
+pub record HostRefusesWithin (old : HostParts) (bytes : List ℕ) (n : ℕ) (refusal : Refusal) (new : HostParts)
     : Type 0 where
   pub refused : (before : List ℕ) (items : List (Item AnswerPart)) (side : HostSide) → HostLeads old before items side
       → length before + length bytes + 1 < 2 ^ 64
@@ -132,7 +132,7 @@ pub record IsHostFailed (left : List ℕ) (quiet : ℕ) (status : Status) (told 
     (last : List ℕ) (old new : HeldHost) : Type 0 where
   pub length_is : ℕ
   pub refusal : Refusal
-  pub refuses : HostRefuses old.end left length_is refusal new.end
+  pub refuses : HostRefusesWithin old.end left length_is refusal new.end
   pub taken_is : told.taken ≡ quiet + length_is
   pub told_is : IsPushRefused refusal told.taken told.replied status told
   pub event_is : event ≡ event_told None
@@ -141,16 +141,16 @@ pub record IsHostFailed (left : List ℕ) (quiet : ℕ) (status : Status) (told 
   pub answer_is : new.answer ≡ old.answer
 
 -- nothing is told but the counts
-abbrev pub IsHostSilent : ℕ → PushedTold → EventTold → List ℕ → HeldHost → HeldHost → Type 0
-IsHostSilent quiet told event last old new = (told ≡ pushed_told quiet told.replied) × (event ≡ event_told None)
+abbrev pub HasHostToldNothing : ℕ → PushedTold → EventTold → List ℕ → HeldHost → HeldHost → Type 0
+HasHostToldNothing quiet told event last old new = (told ≡ pushed_told quiet told.replied) × (event ≡ event_told None)
     × (last ≡ []) × (new ≡ old)
 
 -- where a push of bytes ends: with the last, before one without room for what it may bring, or at one that tells
 -- something or is refused
 abbrev pub IsHostEnd : List ℕ → ℕ → ℕ → Status → PushedTold → EventTold → List ℕ → HeldHost → HeldHost → Type 0
-IsHostEnd [] quiet room status told event last old new = (status ≡ Done) × IsHostSilent quiet told event last old new
+IsHostEnd [] quiet room status told event last old new = (status ≡ Done) × HasHostToldNothing quiet told event last old new
 IsHostEnd (byte ∷ left) quiet room status told event last old new =
-    (room < REPLY_ROOM → (status ≡ NoRoom) × IsHostSilent quiet told event last old new)
+    (room < REPLY_ROOM → (status ≡ NoRoom) × HasHostToldNothing quiet told event last old new)
     × (REPLY_ROOM ≤ room → IsHostTold (byte ∷ left) quiet status told event last old new
     ⊎ IsHostFailed (byte ∷ left) quiet status told event last old new)
 

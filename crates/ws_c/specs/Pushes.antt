@@ -107,8 +107,8 @@ abbrev pub StationTakes : StationParts → List ℕ → ℕ → List ℕ → Sta
 StationTakes = StationTakesOn element_rules profile
 
 -- a station of the profile refuses one of these bytes, of which so many stand before it and bring nothing
-abbrev pub StationRefuses : StationParts → List ℕ → ℕ → Refusal → StationParts → Type 0
-StationRefuses = StationRefusesOn element_rules profile
+abbrev pub StationRefusesWithin : StationParts → List ℕ → ℕ → Refusal → StationParts → Type 0
+StationRefusesWithin = StationRefusesOn element_rules profile
 
 -- where a push of bytes into a station of the profile ends
 abbrev pub IsStationEnd : List ℕ → ℕ → ℕ → Status → PushedTold → StationParts → StationParts → Type 0

@@ -23,10 +23,10 @@ use Rattle.ws_c.specs.Calls.{IsKeyFaultTold, StationKeyed, StationKeyedOn, told_
 use Rattle.ws_c.specs.HeldStations.{waiting}
 
 -- the keys of a stroke at a screen
-abbrev pub stroke_runs : Stroke → ScreenParts → List KeyRun
-stroke_runs (MoveTo cell) s = runs_to s.cursor cell
-stroke_runs NewLine s = runs_to s.cursor (new_line_cell s)
-stroke_runs EraseEof s = erase_eof_runs s
+abbrev pub stroke_key_runs : Stroke → ScreenParts → List KeyRun
+stroke_key_runs (MoveTo cell) s = runs_to s.cursor cell
+stroke_key_runs NewLine s = runs_to s.cursor (new_line_cell s)
+stroke_key_runs EraseEof s = erase_eof_runs s
 
 -- what the keys of a stroke cross as
 abbrev pub IsStrokeTold : Result (Unit {0}) KeyFault → Status → Told → Type 0
@@ -36,21 +36,21 @@ IsStrokeTold (Err fault) status told = IsKeyFaultTold fault status told
 -- a station of any kind, by what one key of the profile does at it
 module _ {S : Type 0} (takes : S → S → Key → Result (Option Answer) KeyFault → Type 0) where
   -- where a key is taken this is said of the keys behind it; where it is refused they aren't pressed
-  abbrev pub GoesOn : Result (Option Answer) KeyFault → Type 0 → S → S → Result (Unit {0}) KeyFault → Type 0
-  GoesOn (Ok answer) behind next new result = behind
-  GoesOn (Err fault) behind next new result = (result ≡ Err fault) × (new ≡ next)
+  abbrev pub GoesOnBehindKey : Result (Option Answer) KeyFault → Type 0 → S → S → Result (Unit {0}) KeyFault → Type 0
+  GoesOnBehindKey (Ok answer) behind next new result = behind
+  GoesOnBehindKey (Err fault) behind next new result = (result ≡ Err fault) × (new ≡ next)
 
   -- keys at a station, one after another, up to the first that is refused
   abbrev pub AreKeyed : List Key → S → S → Result (Unit {0}) KeyFault → Type 0
   AreKeyed [] old new result = (result ≡ Ok tt) × (new ≡ old)
   AreKeyed (key ∷ keys) old new result = (next : S) × (pressed : Result (Option Answer) KeyFault)
-      × takes old next key pressed × GoesOn pressed (AreKeyed keys next new result) next new result
+      × takes old next key pressed × GoesOnBehindKey pressed (AreKeyed keys next new result) next new result
 
   -- a stroke at a station, whose screen was this: its keys are pressed one after another, up to the first that is
   -- refused
   abbrev pub IsStruck : Stroke → ScreenParts → Status → Told → S → S → Type 0
   IsStruck stroke screen status told old new = (result : Result (Unit {0}) KeyFault)
-      × AreKeyed (keys_of (stroke_runs stroke screen)) old new result × IsStrokeTold result status told
+      × AreKeyed (keys_of (stroke_key_runs stroke screen)) old new result × IsStrokeTold result status told
 
 -- what a stroke at a station of the profile crosses as
 abbrev pub IsStroke : Stroke → Status → Told → StationParts → StationParts → Type 0

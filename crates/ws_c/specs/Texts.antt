@@ -24,6 +24,6 @@ pub record IsTextTold (text : List ℕ) (status : Status) (told : Told) (buffer 
   pub put : length text ≤ length buffer → (status ≡ Done) × (after ≡ holds_front text buffer)
 
 -- what is told of the text of a field, where there is one
-abbrev pub IsFieldText : Option Field → ScreenParts → Status → Told → List ℕ → List ℕ → Type 0
-IsFieldText None s status told buffer after = (status ≡ BadArgument) × (told ≡ told_length 0) × (after ≡ buffer)
-IsFieldText (Some field) s status told buffer after = IsTextTold (field_text s field) status told buffer after
+abbrev pub IsFieldTextTold : Option Field → ScreenParts → Status → Told → List ℕ → List ℕ → Type 0
+IsFieldTextTold None s status told buffer after = (status ≡ BadArgument) × (told ≡ told_length 0) × (after ≡ buffer)
+IsFieldTextTold (Some field) s status told buffer after = IsTextTold (field_text s field) status told buffer after

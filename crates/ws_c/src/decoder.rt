@@ -6,7 +6,7 @@ ghost use Rattle.ws_record.specs.declared.live.Step.{Step as AStep};
 ghost use Rattle.ws_c.specs.declared.status.Status.{Status as AStatus};
 ghost use Rattle.ws_c.specs.Calls.{status_number};
 ghost use Rattle.ws_c.specs.Held.{IsDecoderFreed, OnDecoders};
-ghost use Rattle.ws_c.specs.Decoding.{DecoderFinishedOn, IsDecode, IsDecodeOn, IsDecoderNew, IsEnd, IsEndTold, IsExtendedDecode, IsExtendedDecoderNew, IsExtendedEnd, IsStepToldOn, plain_step};
+ghost use Rattle.ws_c.specs.Decoding.{DecoderFinishedOn, IsDecode, IsDecodeOn, IsDecoderNew, IsStreamEnd, IsEndTold, IsExtendedDecode, IsExtendedDecoderNew, IsExtendedStreamEnd, IsStepToldOn, plain_step};
 
 use crate::held::{on_decoders, on_two};
 use crate::station::put_front;
@@ -325,7 +325,7 @@ fn finish_decoder<C: Body>(decoder: &mut Live<C>, place: &mut u64) -> Status
 // Ends the stream of the decoder that a handle holds.
 fn finish(alloc: Global, handle: &mut Handle, place: &mut u64) -> Status
     ensures { OnDecoders handle.old.owned.value handle.new.owned.value result
-        (IsEnd result place.new) (IsExtendedEnd result place.new) (place.new ≡ 0) }
+        (IsStreamEnd result place.new) (IsExtendedStreamEnd result place.new) (place.new ≡ 0) }
 {
     *place = 0;
     on_decoders!(alloc, handle, |decoder| finish_decoder(decoder, place))
@@ -338,8 +338,8 @@ fn finish(alloc: Global, handle: &mut Handle, place: &mut u64) -> Status
 #[unsafe(no_mangle)]
 pub extern "C" fn ws_c_decoder_finish(alloc: Global, handle: &mut Handle, place: &mut u64) -> u32
     ensures { (status : AStatus) × (result ≡ status_number status)
-        × OnDecoders handle.old.owned.value handle.new.owned.value status (IsEnd status place.new)
-        (IsExtendedEnd status place.new) (place.new ≡ 0) }
+        × OnDecoders handle.old.owned.value handle.new.owned.value status (IsStreamEnd status place.new)
+        (IsExtendedStreamEnd status place.new) (place.new ≡ 0) }
 {
     finish(alloc, handle, place).number()
 }

@@ -7,7 +7,7 @@ ghost use Rattle.ws_keys.specs.Contents.{is_null, without_trailing_nulls};
 ghost use Rattle.ws_c.specs.declared.status.Status.{Status as AStatus};
 ghost use Rattle.ws_c.specs.Calls.{status_number, told_length};
 ghost use Rattle.ws_c.specs.Held.{OnScreen};
-ghost use Rattle.ws_c.specs.Texts.{IsFieldText, IsTextTold, field_text};
+ghost use Rattle.ws_c.specs.Texts.{IsFieldTextTold, IsTextTold, field_text};
 
 use crate::held::{on_screen, on_stations, on_two};
 use crate::station::put_front;
@@ -97,7 +97,7 @@ fn field_at(screen: &Screen, index: usize) -> Option<Field>
 // Tells the text of a field by its index.
 fn tell_text(screen: &Screen, index: usize, buffer: &mut [u8], told: &mut Told) -> Status
     requires { told.old ≡ told_length 0 }
-    ensures { IsFieldText (slice_get screen.now.fields index) screen.now result told.new buffer.old
+    ensures { IsFieldTextTold (slice_get screen.now.fields index) screen.now result told.new buffer.old
         buffer.new }
 {
     screen.known();
@@ -115,7 +115,7 @@ fn look_at_station(
     told: &mut Told,
 ) -> Status
     ensures { OnScreen handle.old.owned.value handle.new.owned.value result
-        (λ screen. IsFieldText (slice_get screen.fields index) screen result told.new buffer.old
+        (λ screen. IsFieldTextTold (slice_get screen.fields index) screen result told.new buffer.old
         buffer.new)
         ((told.new ≡ told_length 0) × (buffer.new ≡ buffer.old)) }
 {
@@ -142,7 +142,7 @@ pub extern "C" fn ws_c_station_field_text(
 ) -> u32
     ensures { (status : AStatus) × (result ≡ status_number status)
         × OnScreen handle.old.owned.value handle.new.owned.value status
-        (λ screen. IsFieldText (slice_get screen.fields index) screen status told.new buffer.old
+        (λ screen. IsFieldTextTold (slice_get screen.fields index) screen status told.new buffer.old
         buffer.new)
         ((told.new ≡ told_length 0) × (buffer.new ≡ buffer.old)) }
 {

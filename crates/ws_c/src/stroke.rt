@@ -1,6 +1,6 @@
 //! Strokes of a keyboard that are several keys.
 ghost use Rattle.std.specs.Prelude.{◌≡◌};
-ghost use Rattle.ws_c.specs.Strokes.{stroke_runs};
+ghost use Rattle.ws_c.specs.Strokes.{stroke_key_runs};
 
 use ws_code::Address;
 use ws_keys::{KeyRuns, erase_eof_keys, keys_to, new_line_keys};
@@ -20,7 +20,7 @@ pub enum Stroke {
 impl Stroke {
     /// Its keys at a screen.
     pub fn keys(self, screen: &Screen) -> KeyRuns
-        ensures { result.items ≡ stroke_runs self screen.now }
+        ensures { result.items ≡ stroke_key_runs self screen.now }
     {
         match self {
             Stroke::MoveTo(cell) => keys_to(screen, cell),

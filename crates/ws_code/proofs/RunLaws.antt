@@ -4,7 +4,7 @@ use Rattle.std.proofs.lemmas.List.{append-nil}
 use Rattle.std.proofs.lemmas.Grind.{flat_map-append}
 use Rattle.ws_code.specs.Code.{Rules, Stands, IsSpelled, IsUnfinished, place_after, spelling_of}
 use Rattle.ws_code.specs.Keep.{Keeps}
-use Rattle.ws_code.specs.Run.{Reading, IsAt, HasRun, RunsOn, StopsAtLast}
+use Rattle.ws_code.specs.Run.{Reading, IsAt, HasReadValues, RunsOn, StopsAtLast}
 use Rattle.ws_code.specs.declared.keep.Kept.{Kept}
 use Rattle.ws_code.specs.declared.keep.Kept.TheVariants.{GoOn}
 use Rattle.ws_code.specs.declared.run.Standing.{Standing}
@@ -13,10 +13,10 @@ use Rattle.ws_code.proofs.CodeLaws.{chain_more, place_after_more}
 module _ {Place U : Type 0} where
   -- a value more, which completes a unit
   pub run_unit : (rules : Rules Place U) (from : Reading Place) (values values' : List ℕ) (to to' : Reading Place)
-      (b : ℕ) (unit : U) → (run : HasRun rules from values to) → IsSpelled rules to.place (to.begun ++ b ∷ []) unit
+      (b : ℕ) (unit : U) → (run : HasReadValues rules from values to) → IsSpelled rules to.place (to.begun ++ b ∷ []) unit
       → ((place : Place) → IsUnfinished rules place []) → values' ≡ values ++ b ∷ []
       → to' ≡ record { place = rules.after unit; begun = [] }
-      → (more : HasRun rules from values' to') × (more.units ≡ run.units ++ unit ∷ [])
+      → (more : HasReadValues rules from values' to') × (more.units ≡ run.units ++ unit ∷ [])
   run_unit rules from values values' to to' b unit run spelled begins ev et =
       let units = run.units ++ unit ∷ [] in
       let stands : Stands rules (place_after rules from.place run.units) unit =
@@ -41,8 +41,8 @@ module _ {Place U : Type 0} where
 
 -- a run from where a body begins
 pub from_first : {Place U : Type 0} (rules : Rules Place U) (from to : Reading Place) (values : List ℕ)
-    → (run : HasRun rules from values to) → from.place ≡ rules.first → from.begun ≡ []
-    → (first : HasRun rules (record { place = rules.first; begun = [] }) values to) × (first.units ≡ run.units)
+    → (run : HasReadValues rules from values to) → from.place ≡ rules.first → from.begun ≡ []
+    → (first : HasReadValues rules (record { place = rules.first; begun = [] }) values to) × (first.units ≡ run.units)
 from_first {Place} {U} rules from to values run ep eb = (
   record {
     units = run.units;

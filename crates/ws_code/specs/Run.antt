@@ -23,7 +23,7 @@ module _ {Place U : Type 0} where
     pub between : standing.is_inside ≡ false → reading.begun ≡ []
 
   -- from the one reading the values complete these units, and lead to the other reading
-  pub record HasRun (rules : Rules Place U) (from : Reading Place) (values : List ℕ) (to : Reading Place) : Type 0 where
+  pub record HasReadValues (rules : Rules Place U) (from : Reading Place) (values : List ℕ) (to : Reading Place) : Type 0 where
     pub units : List U
     pub chain : IsChain rules from.place units
     pub behind : to.place ≡ place_after rules from.place units
@@ -34,7 +34,7 @@ module _ {Place U : Type 0} where
   pub record RunsOn {K : Type 0} (rules : Rules Place U) (holds : K → List U → List ℕ → Type 0)
       (may_answer : Kept → Type 0) (from : Reading Place) (old : K) (values : List ℕ) (to : Reading Place)
       (new : K) : Type 0 where
-    pub run : HasRun rules from values to
+    pub run : HasReadValues rules from values to
     pub kept : Keeps holds old new run.units
     pub on : (run.units ≡ []) ⊎ may_answer answer.GoOn
 
@@ -50,20 +50,20 @@ module _ {Place U : Type 0} where
 
   -- What the values taken make of the machine and of the keep: all lead on; or the last one completes a unit, which is
   -- kept or not; or it is refused where it stands.
-  abbrev pub IsRun : {K : Type 0} → Rules Place U → (K → List U → List ℕ → Type 0) → (Kept → Type 0) → Reading Place
+  abbrev pub IsRunOfValues : {K : Type 0} → Rules Place U → (K → List U → List ℕ → Type 0) → (Kept → Type 0) → Reading Place
       → K → List ℕ → Reading Place → Standing Place → K → End → Type 0
-  IsRun rules holds may_answer from old values to standing new More =
+  IsRunOfValues rules holds may_answer from old values to standing new More =
       RunsOn rules holds may_answer from old values to new × IsAt rules to standing
-  IsRun rules holds may_answer from old values to standing new Enough =
+  IsRunOfValues rules holds may_answer from old values to standing new Enough =
       (stop : StopsAtLast rules holds may_answer from old values) × (unit : U)
       × IsSpelled rules stop.before.place (stop.before.begun ++ stop.last ∷ []) unit
       × Keeps holds stop.keep new (unit ∷ []) × may_answer answer.Enough
       × (to ≡ record { place = rules.after unit; begun = [] }) × IsAt rules to standing
-  IsRun rules holds may_answer from old values to standing new NoMemory =
+  IsRunOfValues rules holds may_answer from old values to standing new NoMemory =
       (stop : StopsAtLast rules holds may_answer from old values) × (unit : U)
       × IsSpelled rules stop.before.place (stop.before.begun ++ stop.last ∷ []) unit
       × Keeps holds stop.keep new [] × may_answer answer.NoMemory
-  IsRun rules holds may_answer from old values to standing new (Bad reason) =
+  IsRunOfValues rules holds may_answer from old values to standing new (Bad reason) =
       (stop : StopsAtLast rules holds may_answer from old values)
       × (IsPrefix rules stop.before.place (stop.before.begun ++ stop.last ∷ []) → ⊥)
       × (reason ≡ rules.reason stop.before.place stop.before.begun stop.last)

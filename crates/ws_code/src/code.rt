@@ -1,6 +1,6 @@
 ghost use Rattle.std.specs.Prelude.{◌≡◌, ◌≢◌, ◌<◌, ◌≤◌, [], List, ℕ, true, false, length, take};
 ghost use Rattle.ws_code.specs.Code.{Rules, IsUnfinished, IsPrefixFree, AreBytes};
-ghost use Rattle.ws_code.specs.Run.{IsAt, IsRun};
+ghost use Rattle.ws_code.specs.Run.{IsAt, IsRunOfValues};
 ghost use Rattle.ws_code.specs.Step.{IsStep};
 ghost use Rattle.ws_code.specs.declared.run.End.{End as AnEnd};
 
@@ -71,7 +71,7 @@ pub trait Code: Drop {
             (record { place = place self.old; begun = unfinished self.old }) at.old }
         ensures used { result.used ≤ length values.now }
         ensures whole { result.end ≡ AnEnd.More → result.used ≡ length values.now }
-        ensures run { IsRun rules K.holds K.may_answer
+        ensures run { IsRunOfValues rules K.holds K.may_answer
             (record { place = place self.old; begun = unfinished self.old }) keep.old
             (take result.used values.now)
             (record { place = place self.new; begun = unfinished self.new }) at.new keep.new

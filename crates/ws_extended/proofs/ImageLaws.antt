@@ -20,14 +20,14 @@ use Rattle.ws_screen.specs.Given.{Gives, FollowsAll, ends_of, events_of}
 use Rattle.ws_screen.specs.Reads.{Read, read_in}
 use Rattle.ws_screen.specs.ScreenParts.{AreApart, IsLegal, ScreenParts, holds}
 use Rattle.ws_screen.specs.States.{switches_of}
-use Rattle.ws_screen.specs.Steps.{IsCarried, after_cc1, after_cc2, without_format}
+use Rattle.ws_screen.specs.Steps.{IsControlCarriedOut, after_cc1, after_cc2, without_format}
 use Rattle.ws_screen.specs.Writes.{open_write}
 use Rattle.ws_screen.proofs.CommandLemmas.{end_follows, read_follows, write_gives}
 use Rattle.ws_screen.proofs.FormatLemmas.{fields-clear_unit}
 use Rattle.ws_screen.proofs.Legal.{zeros}
 use Rattle.ws_screen.proofs.OrderLemmas.{mc_gives, soh_gives}
 use Rattle.ws_screen.proofs.ScreenLaws.{one_screen}
-use Rattle.ws_extended.specs.Image.{field_image, header, home_image, image, lights, plain_read, read_image}
+use Rattle.ws_extended.specs.Image.{field_image, start_of_header_bytes, home_image, image, lights, plain_read, read_image}
 use Rattle.ws_extended.proofs.Starts.{behind_attributes}
 use Rattle.ws_extended.proofs.Leads.{Leads, ends_with, leads_by, leads_none}
 use Rattle.ws_extended.proofs.Painting.{fields_lead, home_leads, painted, cells_lead, sba_leads, write_at}
@@ -64,7 +64,7 @@ write_leads : (rest : List Element) (s new : ScreenParts) (cc2 : ℕ)
     → Leads rest (painted (cleared s) (replicate 1920 0) [] (write_at cc2 0)) new
     → Leads (Write 0 cc2 ∷ rest) (cleared s) new
 write_leads rest s new cc2 leads =
-    let done : IsCarried 0 (cleared s) (cleared s) = record { rest = refl; nulled = λ c. refl } in
+    let done : IsControlCarriedOut 0 (cleared s) (cleared s) = record { rest = refl; nulled = λ c. refl } in
     leads_by (Write 0 cc2) rest (cleared s) (painted (cleared s) (replicate 1920 0) [] (write_at cc2 0)) new refl
     (record { after = λ h g. write_gives h (cleared s) (cleared s) 0 cc2 done g }) leads
 
@@ -77,7 +77,7 @@ soh_leads rest b new cells bytes fs o leads =
     refl (record { after = λ h g. soh_gives h old bytes g }) leads
 
 -- three bytes are the switches
-switches_again : (row n : ℕ) → n < 0x1000000 → switches_of (header row n) ≡ n
+switches_again : (row n : ℕ) → n < 0x1000000 → switches_of (start_of_header_bytes row n) ≡ n
 switches_again row n small = omega (arith, small)
 
 -- THE END
@@ -126,7 +126,7 @@ abbrev before_end : ScreenParts → ScreenParts → ℕ → ScreenParts
 before_end t s a = record (cleared t) {
   cells = s.cells;
   fields = s.fields;
-  switches = switches_of (header 0 s.switches);
+  switches = switches_of (start_of_header_bytes 0 s.switches);
   home_set = s.home_set;
   writing = Some (write_end s a);
 }
@@ -158,7 +158,7 @@ plain_fault Input s = refl
 plain_fault Mdt s = refl
 plain_fault MdtAlternate s = refl
 
-carried_plain : (s : ScreenParts) → IsCarried 0 s s
+carried_plain : (s : ScreenParts) → IsControlCarriedOut 0 s s
 carried_plain s = record {
   rest = ap (λ (fs : List Field). record s { fields = fs }) (sym (kept s.fields));
   nulled = λ c. none s.fields c;
@@ -200,17 +200,17 @@ record IsClosed (s : ScreenParts) : Type 0 where
 leads_to_end : (row : ℕ) (s t new : ScreenParts) → IsClosed s → AreApart 1 s.fields → t.writing ≡ None
     → Leads (read_image s.pending) (before_end t s 1920) new → Leads (image row s) t new
 leads_to_end row s t new ok apart closed leads =
-    let switched : ScreenParts = record (cleared t) { switches = switches_of (header row s.switches) } in
+    let switched : ScreenParts = record (cleared t) { switches = switches_of (start_of_header_bytes row s.switches) } in
     let homed : ScreenParts = record switched { home_set = s.home_set } in
     let moved : List Element = Mc s.cursor ∷ read_image s.pending in
     let put : List Element = Sba 0 ∷ (map Put s.cells ++ moved) in
     let cc2 : ℕ = lights s in
-    clear_leads (Write 0 cc2 ∷ Soh (header row s.switches) ∷ (flat_map field_image s.fields
+    clear_leads (Write 0 cc2 ∷ Soh (start_of_header_bytes row s.switches) ∷ (flat_map field_image s.fields
     ++ (home_image s.home_set ++ put))) t new closed
-    (write_leads (Soh (header row s.switches) ∷ (flat_map field_image s.fields ++ (home_image s.home_set ++ put))) t new
+    (write_leads (Soh (start_of_header_bytes row s.switches) ∷ (flat_map field_image s.fields ++ (home_image s.home_set ++ put))) t new
     cc2
     (soh_leads (flat_map field_image s.fields ++ (home_image s.home_set ++ put)) (cleared t) new (replicate 1920 0)
-    (header row s.switches) [] (write_at cc2 0)
+    (start_of_header_bytes row s.switches) [] (write_at cc2 0)
     (fields_lead (record switched { home_set = None }) new cc2 (home_image s.home_set ++ put) s.fields [] 1
     (replicate 1920 0) 0 (length-replicate {A = ℕ} 1920 0) (omega arith) apart (omega arith) tt
     (omega (arith, ok.legal.few))

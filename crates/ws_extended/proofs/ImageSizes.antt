@@ -18,7 +18,7 @@ use Rattle.ws_screen.specs.Given.{ends_of}
 use Rattle.ws_screen.specs.ScreenParts.{IsLegal, ScreenParts}
 use Rattle.ws_screen.specs.Writes.{open_write}
 use Rattle.ws_extended.specs.ErrorLine.{error_row, row_of, sets_error_row}
-use Rattle.ws_extended.specs.Image.{field_image, header, home_image, image, lights, read_image}
+use Rattle.ws_extended.specs.Image.{field_image, start_of_header_bytes, home_image, image, lights, read_image}
 
 -- ITS LENGTH
 
@@ -129,5 +129,5 @@ image_row row s h =
     (refl, both_quiet (map Put s.cells) moved (puts_quiet s.cells) (refl, read_quiet s.pending))) in
     ap (λ (o : Option ℕ). unwrap_or o 24)
     (quiet_end (after_elements h (image row s))
-    ∙ quiet_rows (after_element front (Soh (header row s.switches))) rest quiet
-    ∙ row_after front (Soh (header row s.switches)))
+    ∙ quiet_rows (after_element front (Soh (start_of_header_bytes row s.switches))) rest quiet
+    ∙ row_after front (Soh (start_of_header_bytes row s.switches)))

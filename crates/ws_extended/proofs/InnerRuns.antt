@@ -5,7 +5,7 @@ use Rattle.std.proofs.lemmas.List.{take_all}
 use borrow.Author.Tests.{eqb-true, ne_eqb}
 use Rattle.ws_code.specs.Code.{IsPrefix, IsSpelled, IsUnfinished}
 use Rattle.ws_code.specs.Keep.{KeepsOne}
-use Rattle.ws_code.specs.Run.{Reading, IsAt, IsRun, RunsOn, StopsAtLast}
+use Rattle.ws_code.specs.Run.{Reading, IsAt, IsRunOfValues, RunsOn, StopsAtLast}
 use Rattle.ws_code.specs.declared.keep.Kept.{Kept}
 use Rattle.ws_code.specs.declared.reason.Reason.{Reason}
 use Rattle.ws_code.specs.declared.run.End.{End}
@@ -25,7 +25,7 @@ use Rattle.ws_stream.specs.declared.place.Place.{Place}
 use Rattle.ws_stream.specs.declared.place.Place.TheVariants.{Anything}
 use Rattle.ws_extended.specs.ExtendedElements.{extended_rules}
 use Rattle.ws_extended.specs.ExtendedLaws.{extended_begins}
-use Rattle.ws_extended.specs.ExtendedMachine.{begun_in, inner_place}
+use Rattle.ws_extended.specs.ExtendedMachine.{element_begun_in, inner_place}
 use Rattle.ws_extended.specs.ExtendedReasons.{extended_reason, is_inner}
 use Rattle.ws_extended.specs.ExtendedRuns.{GoesInside, kept_end, reading_by}
 use Rattle.ws_extended.specs.declared.extended_commands.ExtendedCommands.{ExtendedCommands}
@@ -125,7 +125,7 @@ module _ {K : Type 0} (holds : K → List ExtendedElement → List ℕ → Type 
   -- no element is whole with the values, and they lead on
   pub inner_more : (values : List ℕ) (to : Reading Place) (standing : Standing Place) (slot : Option Element)
       → IsSlotRun element_rules from values to standing slot More
-      → IsRun extended_rules holds may (up from) old values (up to) (stands_up standing) old More
+      → IsRunOfValues extended_rules holds may (up from) old values (up to) (stands_up standing) old More
   inner_more values to standing slot run = (quiet values to slot run.0, at_up to standing run.1)
 
   -- or the last one is refused
@@ -133,7 +133,7 @@ module _ {K : Type 0} (holds : K → List ExtendedElement → List ℕ → Type 
       (end : End) → IsSlotRun element_rules from values to standing slot end → slot ≡ None → (end ≡ More → ⊥)
       → is_inner (InProfile from.place) (from.begun ++ (values ++ rest)) ≡ true
       → (to' : Reading ExtendedPlace) (standing' : Standing ExtendedPlace)
-      → IsRun extended_rules holds may (up from) old values to' standing' old end
+      → IsRunOfValues extended_rules holds may (up from) old values to' standing' old end
   inner_bad values rest to standing slot More run none stops inner to' standing' = absurd (stops refl)
   inner_bad values rest to standing slot Enough run none stops inner to' standing' =
       absurd (not_whole element_rules from values to standing slot none run)
@@ -168,12 +168,12 @@ module _ {K : Type 0} (holds : K → List ExtendedElement → List ℕ → Type 
   pub inner_whole : (values : List ℕ) (to : Reading Place) (standing : Standing Place) (e : Element)
       → IsWhole element_rules from values to standing e → (new : K) (answer : Kept)
       → KeepsOne holds old new (Profile e) answer → may answer
-      → IsRun extended_rules holds may (up from) old values (up to) (stands_up standing) new (kept_end answer)
+      → IsRunOfValues extended_rules holds may (up from) old values (up to) (stands_up standing) new (kept_end answer)
   inner_whole values to standing e whole new answer keeps answers =
       let stop = whole.stop in
       let before = stop.before in
       let on = quiet stop.front before stop.keep stop.on in
-      subst (λ (v : List ℕ). IsRun extended_rules holds may (up from) old v (up to) (stands_up standing) new
+      subst (λ (v : List ℕ). IsRunOfValues extended_rules holds may (up from) old v (up to) (stands_up standing) new
       (kept_end answer)) (sym stop.split)
       (run_both extended_rules holds may (up from) (up before) old old stop.front on (stop.last ∷ []) (up to)
       (stands_up standing) new (kept_end answer)
@@ -214,7 +214,7 @@ module _ (m : ExtendedCommands) (values : List ℕ) (inside : GoesInside m value
   -- both read the same
   pub both_read : up (reading_of m.inner) ≡ reading_by m
   both_read = same_reading (InProfile (reading_of m.inner).place) m.place (unfinished_of m.inner)
-      (begun_in m.phase (unfinished_of m.inner)) (ap InProfile inner_at ∙ sym inside.is_place) (sym inside.begun)
+      (element_begun_in m.phase (unfinished_of m.inner)) (ap InProfile inner_at ∙ sym inside.is_place) (sym inside.begun)
 
   pub only_inner : is_inner (InProfile (reading_of m.inner).place) (unfinished_of m.inner ++ values) ≡ true
   only_inner = subst (λ (p : Place). is_inner (InProfile p) (unfinished_of m.inner ++ values) ≡ true) (sym inner_at)
@@ -247,6 +247,6 @@ module _ (m : ExtendedCommands) (values : List ℕ) (inside : GoesInside m value
 module _ {K : Type 0} (holds : K → List ExtendedElement → List ℕ → Type 0) (may : Kept → Type 0)
     (from from' to to' : Reading ExtendedPlace) (same : from ≡ from') (behind : to ≡ to') (old new : K)
     (values : List ℕ) (standing : Standing ExtendedPlace) (end : End) where
-  pub run_at : IsRun extended_rules holds may from old values to standing new end
-      → IsRun extended_rules holds may from' old values to' standing new end
+  pub run_at : IsRunOfValues extended_rules holds may from old values to standing new end
+      → IsRunOfValues extended_rules holds may from' old values to' standing new end
   run_at run = rw (← same, ← behind) run

@@ -6,7 +6,7 @@ use Rattle.ws_code.specs.Keep.{Keeps}
 use Rattle.ws_stream.specs.declared.element.Element.{Element}
 use Rattle.ws_stream.specs.declared.element.Element.TheVariants.{ClearUnit, Write, Soh, Sba, Mc, Put}
 use Rattle.ws_screen.specs.ScreenParts.{ScreenParts}
-use Rattle.ws_extended.specs.Image.{field_image, header, home_image, image, lights, read_image}
+use Rattle.ws_extended.specs.Image.{field_image, start_of_header_bytes, home_image, image, lights, read_image}
 
 pub on_ok : {X E P Q : Type 0} (r : Result X E) → (P → Q) → OnOk r P → OnOk r Q
 on_ok (Ok x) f p = f p
@@ -23,7 +23,7 @@ module _ {K : Type 0} (holds : K → List Element → List ℕ → Type 0) where
 
   pub all_kept : (row : ℕ) (s : ScreenParts) (k0 k1 k2 k3 k4 k5 k6 k7 k8 k9 : K)
       → Keeps holds k0 k1 (ClearUnit ∷ []) → Keeps holds k1 k2 (Write 0 (lights s) ∷ [])
-      → Keeps holds k2 k3 (Soh (header row s.switches) ∷ []) → Keeps holds k3 k4 (flat_map field_image s.fields)
+      → Keeps holds k2 k3 (Soh (start_of_header_bytes row s.switches) ∷ []) → Keeps holds k3 k4 (flat_map field_image s.fields)
       → Keeps holds k4 k5 (home_image s.home_set) → Keeps holds k5 k6 (Sba 0 ∷ [])
       → Keeps holds k6 k7 (map Put s.cells) → Keeps holds k7 k8 (Mc s.cursor ∷ [])
       → Keeps holds k8 k9 (read_image s.pending) → Keeps holds k0 k9 (image row s)
@@ -31,9 +31,9 @@ module _ {K : Type 0} (holds : K → List Element → List ℕ → Type 0) where
       let moved : List Element = Mc s.cursor ∷ read_image s.pending in
       let put : List Element = Sba 0 ∷ (map Put s.cells ++ moved) in
       let formatted : List Element = flat_map field_image s.fields ++ (home_image s.home_set ++ put) in
-      then k0 k1 k9 (ClearUnit ∷ []) (Write 0 (lights s) ∷ Soh (header row s.switches) ∷ formatted) a
-      (then k1 k2 k9 (Write 0 (lights s) ∷ []) (Soh (header row s.switches) ∷ formatted) b
-      (then k2 k3 k9 (Soh (header row s.switches) ∷ []) formatted c
+      then k0 k1 k9 (ClearUnit ∷ []) (Write 0 (lights s) ∷ Soh (start_of_header_bytes row s.switches) ∷ formatted) a
+      (then k1 k2 k9 (Write 0 (lights s) ∷ []) (Soh (start_of_header_bytes row s.switches) ∷ formatted) b
+      (then k2 k3 k9 (Soh (start_of_header_bytes row s.switches) ∷ []) formatted c
       (then k3 k4 k9 (flat_map field_image s.fields) (home_image s.home_set ++ put) d
       (then k4 k5 k9 (home_image s.home_set) put e
       (then k5 k6 k9 (Sba 0 ∷ []) (map Put s.cells ++ moved) f

@@ -21,7 +21,7 @@ use Rattle.ws_stream.specs.declared.place.Place.TheVariants.{CommandsOnly, Anyth
 use Rattle.ws_screen.proofs.Applies.{cut_at, longer_by}
 use Rattle.ws_extended.specs.ExtendedElements.{extended_follows, extended_rules, extended_spelling, query_field}
 use Rattle.ws_extended.specs.ExtendedLaws.{by_code, other_code, own_code}
-use Rattle.ws_extended.specs.ExtendedMachine.{inner_place, is_sound}
+use Rattle.ws_extended.specs.ExtendedMachine.{inner_place, fits_phase}
 use Rattle.ws_extended.proofs.Lifting.{escape_goes_on}
 use Rattle.ws_extended.specs.ExtendedReasons.{extended_reason, is_inner, takes_command, takes_first}
 use Rattle.ws_extended.specs.declared.ask.Ask.{Ask}
@@ -36,21 +36,21 @@ use Rattle.ws_extended.specs.declared.extended_place.ExtendedPlace.TheVariants.{
 
 -- WHAT THE PROFILE'S MACHINE HAS
 
-pub fresh : (place : ExtendedPlace) (phase : Phase) (bytes : List ℕ) → phase ≡ Begin → is_sound place phase bytes ≡ true
+pub fresh : (place : ExtendedPlace) (phase : Phase) (bytes : List ℕ) → phase ≡ Begin → fits_phase place phase bytes ≡ true
     → bytes ≡ []
 fresh place phase bytes is sound =
-    go bytes (subst (λ (p : Phase). is_sound place p bytes ≡ true) is sound)
+    go bytes (subst (λ (p : Phase). fits_phase place p bytes ≡ true) is sound)
   where
-    go : (bytes : List ℕ) → is_sound place Begin bytes ≡ true → bytes ≡ []
+    go : (bytes : List ℕ) → fits_phase place Begin bytes ≡ true → bytes ≡ []
     go [] s = refl
     go (b ∷ more) s = absurd (false≢true s)
 
 pub has_escape : (place : ExtendedPlace) (phase : Phase) (bytes : List ℕ) → phase ≡ Escaped
-    → is_sound place phase bytes ≡ true → bytes ≡ ESCAPE ∷ []
+    → fits_phase place phase bytes ≡ true → bytes ≡ ESCAPE ∷ []
 has_escape place phase bytes is sound =
-    go bytes (subst (λ (p : Phase). is_sound place p bytes ≡ true) is sound)
+    go bytes (subst (λ (p : Phase). fits_phase place p bytes ≡ true) is sound)
   where
-    go : (bytes : List ℕ) → is_sound place Escaped bytes ≡ true → bytes ≡ ESCAPE ∷ []
+    go : (bytes : List ℕ) → fits_phase place Escaped bytes ≡ true → bytes ≡ ESCAPE ∷ []
     go [] s = absurd (false≢true s)
     go (b ∷ []) s = ap (λ (n : ℕ). n ∷ []) (eqb-true b ESCAPE s)
     go (b ∷ c ∷ more) s = absurd (false≢true s)

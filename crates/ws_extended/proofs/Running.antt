@@ -3,7 +3,7 @@ use Rattle.std.proofs.Common.{◌≡◌, true, ℕ, List, [], ◌∷◌, ◌++�
 use Rattle.std.proofs.lemmas.Grind.{flat_map-append}
 use Rattle.ws_code.specs.Code.{Rules, IsChain, IsPrefix, IsSpelled, IsUnfinished, place_after, spelling_of}
 use Rattle.ws_code.specs.Keep.{KeepsOne}
-use Rattle.ws_code.specs.Run.{Reading, IsAt, IsRun, RunsOn, StopsAtLast}
+use Rattle.ws_code.specs.Run.{Reading, IsAt, IsRunOfValues, RunsOn, StopsAtLast}
 use Rattle.ws_code.specs.declared.keep.Kept.{Kept}
 use Rattle.ws_code.specs.declared.keep.Kept.TheVariants.{GoOn, Enough as EnoughKept, NoMemory as NoMemoryKept}
 use Rattle.ws_code.specs.declared.reason.Reason.{Reason}
@@ -61,8 +61,8 @@ module _ {Place U K : Type 0} (rules : Rules Place U) (holds : K → List U → 
   }
 
   pub run_both : (ys : List ℕ) (to : Reading Place) (standing : Standing Place) (new : K) (end : End)
-      → IsRun rules holds may mid between ys to standing new end
-      → IsRun rules holds may from old (xs ++ ys) to standing new end
+      → IsRunOfValues rules holds may mid between ys to standing new end
+      → IsRunOfValues rules holds may from old (xs ++ ys) to standing new end
   run_both ys to standing new More run = (runs_both ys to new run.0, run.1)
   run_both ys to standing new Enough run =
       (stops_both ys run.0, run.1, run.2, run.3, run.4, run.5, run.6)
@@ -81,7 +81,7 @@ module _ {Place U K : Type 0} (rules : Rules Place U) (begins : Begins rules) (h
   pub run_unit : (answer : Kept) (unit : U) → IsUnfinished rules from.place from.begun
       → IsSpelled rules from.place (from.begun ++ b ∷ []) unit → KeepsOne holds old new unit answer → may answer
       → to ≡ record { place = rules.after unit; begun = [] } → IsAt rules to standing
-      → IsRun rules holds may from old (b ∷ []) to standing new (kept_end answer)
+      → IsRunOfValues rules holds may from old (b ∷ []) to standing new (kept_end answer)
   run_unit GoOn unit u spelled keeps answers behind at = (
     runs_unit rules holds may from old [] (b ∷ []) from to old new b unit (none_yet u) spelled keeps answers begins refl
         behind,
@@ -94,7 +94,7 @@ module _ {Place U K : Type 0} (rules : Rules Place U) (begins : Begins rules) (h
   -- a byte more of one
   pub run_more : IsUnfinished rules from.place from.begun → IsUnfinished rules from.place (from.begun ++ b ∷ [])
       → to ≡ record { place = from.place; begun = from.begun ++ b ∷ [] } → new ≡ old → standing.place ≡ to.place
-      → standing.is_inside ≡ true → IsRun rules holds may from old (b ∷ []) to standing new More
+      → standing.is_inside ≡ true → IsRunOfValues rules holds may from old (b ∷ []) to standing new More
   run_more u more behind same at inside = (
     runs_more rules holds may from old [] (b ∷ []) from to old new b (none_yet u) more refl behind same,
     is_inside rules to standing from.begun b
@@ -105,5 +105,5 @@ module _ {Place U K : Type 0} (rules : Rules Place U) (begins : Begins rules) (h
   -- one that is refused
   pub run_bad : IsUnfinished rules from.place from.begun → (reason : Reason)
       → (IsPrefix rules from.place (from.begun ++ b ∷ []) → ⊥) → reason ≡ rules.reason from.place from.begun b
-      → new ≡ old → IsRun rules holds may from old (b ∷ []) to standing new (Bad reason)
+      → new ≡ old → IsRunOfValues rules holds may from old (b ∷ []) to standing new (Bad reason)
   run_bad u reason bad is same = (stops_here u, bad, is, keeps_none holds old new same)

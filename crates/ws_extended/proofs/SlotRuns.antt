@@ -2,7 +2,7 @@
 use Rattle.std.proofs.Common.{◌≡◌, ℕ, List, [], ◌∷◌, ◌++◌, Option, Some, None, refl, ap, ◌∙◌, sym}
 use Rattle.ws_code.specs.Code.{Rules, IsSpelled, place_after, spelling_of}
 use Rattle.ws_code.specs.Keep.{holds_last}
-use Rattle.ws_code.specs.Run.{Reading, IsAt, IsRun, RunsOn, StopsAtLast}
+use Rattle.ws_code.specs.Run.{Reading, IsAt, IsRunOfValues, RunsOn, StopsAtLast}
 use Rattle.ws_code.specs.declared.keep.Kept.{Kept}
 use Rattle.ws_code.specs.declared.keep.Kept.TheVariants as kept
 use Rattle.ws_code.specs.declared.run.End.{End}
@@ -24,7 +24,7 @@ slot_none (Some unit) h = absurd (no_end h.0 unit [] h.1)
 
 module _ {Place U : Type 0} (rules : Rules Place U) (reading : Reading Place) where
   abbrev pub IsSlotRun : List ℕ → Reading Place → Standing Place → Option U → End → Type 0
-  IsSlotRun values to standing slot end = IsRun rules InSlot HasEnough reading None values to standing slot end
+  IsSlotRun values to standing slot end = IsRunOfValues rules InSlot HasEnough reading None values to standing slot end
 
   abbrev pub SlotStop : List ℕ → Type 0
   SlotStop values = StopsAtLast rules InSlot HasEnough reading None values

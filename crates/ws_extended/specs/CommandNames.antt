@@ -28,6 +28,6 @@ command_names = (codes "QUERY", Asks Query) ∷ (codes "SAVE-SCREEN", Asks SaveS
     ∷ (codes "READ-IMMEDIATE-ALTERNATE", Asks ReadImmediateAlternate) ∷ []
 
 -- what a table has for a name, if it has the name
-abbrev pub look_up : List ℕ → List (List ℕ × ExtendedElement) → Option ExtendedElement
-look_up name [] = None
-look_up name ((known, e) ∷ rest) = if bytes_eq name known then Some e else look_up name rest
+abbrev pub look_up_command : List ℕ → List (List ℕ × ExtendedElement) → Option ExtendedElement
+look_up_command name [] = None
+look_up_command name ((known, e) ∷ rest) = if bytes_eq name known then Some e else look_up_command name rest

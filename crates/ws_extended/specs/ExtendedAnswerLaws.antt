@@ -10,7 +10,7 @@ use Rattle.ws_stream.specs.ElementLaws.{first, same_place}
 use Rattle.ws_stream.specs.declared.answer_part.AnswerPart.{AnswerPart}
 use Rattle.ws_stream.specs.declared.answer_part.AnswerPart.TheVariants.{Head, Byte, At}
 use Rattle.ws_stream.specs.declared.answer_place.AnswerPlace.TheVariants as answers
-use Rattle.ws_extended.specs.ExtendedAnswers.{IsAnswerPart, answer_spelling, extended_answer_rules}
+use Rattle.ws_extended.specs.ExtendedAnswers.{IsAnswerPart, extended_part_spelling, extended_answer_rules}
 use Rattle.ws_extended.specs.ExtendedElements.{extended_rules}
 use Rattle.ws_extended.specs.ExtendedLaws.{extended_begins, extended_bytes, extended_nonempty, extended_prefix_free}
 use Rattle.ws_extended.specs.declared.extended_element.ExtendedElement.{ExtendedElement}
@@ -23,7 +23,7 @@ use Rattle.ws_extended.specs.declared.extended_answer_place.ExtendedAnswerPlace.
 use Rattle.ws_extended.specs.declared.extended_answer_place.ExtendedAnswerPlace.TheVariants.{Replied, InSaved}
 
 -- each part is spelled by at least one byte
-pub answer_nonempty : (p : ExtendedAnswerPart) → IsAnswerPart p → answer_spelling p ≢ []
+pub answer_nonempty : (p : ExtendedAnswerPart) → IsAnswerPart p → extended_part_spelling p ≢ []
 answer_nonempty (Profile p) h none = part_nonempty p h none
 answer_nonempty QueryReply h none = cc
 answer_nonempty (Reply left byte) h none = cc
@@ -32,7 +32,7 @@ answer_nonempty (Of e) h none = extended_nonempty e h none
 answer_nonempty (AtOnce cursor) h none = cc
 
 -- its spelling is of bytes
-pub answer_part_bytes : (p : ExtendedAnswerPart) → IsAnswerPart p → AreBytes (answer_spelling p)
+pub answer_part_bytes : (p : ExtendedAnswerPart) → IsAnswerPart p → AreBytes (extended_part_spelling p)
 answer_part_bytes (Profile p) h = part_bytes p h
 answer_part_bytes QueryReply h = (
   omega arith,

@@ -5,7 +5,7 @@ use Rattle.ws_stream.specs.Elements.{row_and_column}
 use Rattle.ws_stream.specs.UnfinishedElement.{unfinished_of}
 use Rattle.ws_stream.specs.declared.command_code.TheConstants.{ESCAPE, RESTORE_SCREEN}
 use Rattle.ws_stream.specs.declared.order_code.TheConstants.{SET_BUFFER_ADDRESS}
-use Rattle.ws_extended.specs.ExtendedMachine.{begun_in}
+use Rattle.ws_extended.specs.ExtendedMachine.{element_begun_in}
 use Rattle.ws_extended.specs.QueryReply.{reply_head}
 use Rattle.ws_extended.specs.declared.extended_answer_place.ExtendedAnswerPlace.{ExtendedAnswerPlace}
 use Rattle.ws_extended.specs.declared.extended_answer_place.ExtendedAnswerPlace.TheVariants.{Beginning, Fields, InReply}
@@ -51,7 +51,7 @@ waits_behind InElement bytes = bytes
 
 -- the bytes of an element so far
 abbrev pub element_begun : ExtendedCommands → List ℕ
-element_begun m = begun_in m.phase (unfinished_of m.inner)
+element_begun m = element_begun_in m.phase (unfinished_of m.inner)
 
 -- where an element of a saved screen is read, where one is
 abbrev pub element_place : ExtendedAnswerPlace → ExtendedPlace

@@ -32,13 +32,13 @@ abbrev pub saved_front : List ℕ
 saved_front = ESCAPE ∷ RESTORE_SCREEN ∷ ESCAPE ∷ CLEAR_UNIT ∷ []
 
 -- the bytes of a part of an answer
-abbrev pub answer_spelling : ExtendedAnswerPart → List ℕ
-answer_spelling (Profile p) = part_spelling p
-answer_spelling QueryReply = reply_head
-answer_spelling (Reply left byte) = byte ∷ []
-answer_spelling Saved = saved_front
-answer_spelling (Of e) = extended_spelling e
-answer_spelling (AtOnce cursor) = row_and_column cursor ++ NO_KEY ∷ []
+abbrev pub extended_part_spelling : ExtendedAnswerPart → List ℕ
+extended_part_spelling (Profile p) = part_spelling p
+extended_part_spelling QueryReply = reply_head
+extended_part_spelling (Reply left byte) = byte ∷ []
+extended_part_spelling Saved = saved_front
+extended_part_spelling (Of e) = extended_spelling e
+extended_part_spelling (AtOnce cursor) = row_and_column cursor ++ NO_KEY ∷ []
 
 -- what a part of an answer may be: the ranges of its numbers and lists
 abbrev pub IsAnswerPart : ExtendedAnswerPart → Type 0
@@ -73,13 +73,13 @@ behind_reply zero = Replied
 behind_reply (suc n) = InReply n
 
 -- the place behind a part of an answer
-abbrev pub behind_part : ExtendedAnswerPart → ExtendedAnswerPlace
-behind_part (Profile p) = Fields
-behind_part QueryReply = InReply LATER_REPLY_BYTES
-behind_part (Reply left byte) = behind_reply left
-behind_part Saved = InSaved (place_behind (elements.Profile ClearUnit))
-behind_part (Of e) = InSaved (place_behind e)
-behind_part (AtOnce cursor) = Fields
+abbrev pub place_behind_part : ExtendedAnswerPart → ExtendedAnswerPlace
+place_behind_part (Profile p) = Fields
+place_behind_part QueryReply = InReply LATER_REPLY_BYTES
+place_behind_part (Reply left byte) = behind_reply left
+place_behind_part Saved = InSaved (place_behind (elements.Profile ClearUnit))
+place_behind_part (Of e) = InSaved (place_behind e)
+place_behind_part (AtOnce cursor) = Fields
 
 -- an answer may end everywhere but inside a reply
 abbrev pub answer_may_end : ExtendedAnswerPlace → Bool
@@ -110,10 +110,10 @@ answer_reason (InSaved at) begun b = extended_reason at begun b
 abbrev pub extended_answer_rules : Rules ExtendedAnswerPlace ExtendedAnswerPart
 extended_answer_rules = record {
   first = Beginning;
-  after = behind_part;
+  after = place_behind_part;
   is_unit = IsAnswerPart;
   may_follow = answer_follows;
   may_end = answer_may_end;
-  spelling = answer_spelling;
+  spelling = extended_part_spelling;
   reason = answer_reason;
 }

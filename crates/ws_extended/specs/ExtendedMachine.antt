@@ -26,18 +26,18 @@ lift ErrorText e = if is_text e then Text e else Profile e
 lift (Asked ask) e = Profile e
 
 -- the bytes of the element so far, by what is waited for and by those that the profile's machine has
-abbrev pub begun_in : Phase → List ℕ → List ℕ
-begun_in Begin bytes = []
-begun_in Escaped bytes = ESCAPE ∷ []
-begun_in Inside bytes = bytes
-begun_in (InQuery count) bytes = ESCAPE ∷ WRITE_STRUCTURED_FIELD ∷ take count query_field
+abbrev pub element_begun_in : Phase → List ℕ → List ℕ
+element_begun_in Begin bytes = []
+element_begun_in Escaped bytes = ESCAPE ∷ []
+element_begun_in Inside bytes = bytes
+element_begun_in (InQuery count) bytes = ESCAPE ∷ WRITE_STRUCTURED_FIELD ∷ take count query_field
 
 -- the profile's machine has these bytes, by what is waited for
-abbrev pub is_sound : ExtendedPlace → Phase → List ℕ → Bool
-is_sound place Begin [] = true
-is_sound place Begin (b ∷ bytes) = false
-is_sound place Escaped [] = false
-is_sound place Escaped (b ∷ []) = b == ESCAPE
-is_sound place Escaped (b ∷ c ∷ bytes) = false
-is_sound place Inside bytes = is_inner place bytes
-is_sound place (InQuery count) bytes = nat_lt count 5
+abbrev pub fits_phase : ExtendedPlace → Phase → List ℕ → Bool
+fits_phase place Begin [] = true
+fits_phase place Begin (b ∷ bytes) = false
+fits_phase place Escaped [] = false
+fits_phase place Escaped (b ∷ []) = b == ESCAPE
+fits_phase place Escaped (b ∷ c ∷ bytes) = false
+fits_phase place Inside bytes = is_inner place bytes
+fits_phase place (InQuery count) bytes = nat_lt count 5

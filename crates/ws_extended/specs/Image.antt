@@ -22,8 +22,8 @@ lights s = (if s.locked then 0 else UNLOCK) + (if s.message then MESSAGE_ON else
     + (if s.blink then BLINK_ON else BLINK_OFF)
 
 -- the bytes of a header with an error line and key switches
-abbrev pub header : ℕ → ℕ → List ℕ
-header row switches =
+abbrev pub start_of_header_bytes : ℕ → ℕ → List ℕ
+start_of_header_bytes row switches =
     0 ∷ 0 ∷ 0 ∷ row ∷ switches / 65536 % 256 ∷ switches / 256 % 256 ∷ switches % 256 ∷ []
 
 -- the order of a field, with a plain attribute in the cell before it
@@ -52,7 +52,7 @@ read_image (Some kind) = plain_read kind ∷ []
 
 -- A screen's image, with the row of its error line.
 abbrev pub image : ℕ → ScreenParts → List Element
-image row s = ClearUnit ∷ Write 0 (lights s) ∷ Soh (header row s.switches)
+image row s = ClearUnit ∷ Write 0 (lights s) ∷ Soh (start_of_header_bytes row s.switches)
     ∷ (flat_map field_image s.fields ++ (home_image s.home_set
     ++ (Sba 0 ∷ (map Put s.cells ++ (Mc s.cursor ∷ read_image s.pending)))))
 

@@ -24,7 +24,7 @@ pub fn command_name(element: &ExtendedElement) -> Option<&'static str>
 
 /// The command of this name, where there is one.
 pub fn command_named(name: &str) -> Option<ExtendedElement>
-    ensures { result ≡ Spec.look_up name.now Spec.command_names }
+    ensures { result ≡ Spec.look_up_command name.now Spec.command_names }
 {
     match name {
         "QUERY" => Some(ExtendedElement::Asks(Ask::Query)),
@@ -41,8 +41,8 @@ pub fn command_named(name: &str) -> Option<ExtendedElement>
 /// A command is read back from its name, and from that alone.
 pub fn names_are_read()
     ensures read { (element : AnElement) (name : List ℕ) → Spec.command_name element ≡ Some name
-        → Spec.look_up name Spec.command_names ≡ Some element }
+        → Spec.look_up_command name Spec.command_names ≡ Some element }
     ensures only { (element : AnElement) (name : List ℕ)
-        → Spec.look_up name Spec.command_names ≡ Some element
+        → Spec.look_up_command name Spec.command_names ≡ Some element
         → Spec.command_name element ≡ Some name }
 {}

@@ -4,7 +4,7 @@ ghost use Rattle.ws_stream.specs.Taking.{reading_of};
 ghost use Rattle.ws_stream.specs.UnfinishedElement.{unfinished_of};
 ghost use Rattle.ws_extended.specs.ExtendedElements.{extended_rules};
 ghost use Rattle.ws_extended.specs.ExtendedLaws.{extended_nonempty, extended_bytes, extended_prefix_free, extended_begins, extended_can_end};
-ghost use Rattle.ws_extended.specs.ExtendedMachine.{begun_in, inner_place, is_sound};
+ghost use Rattle.ws_extended.specs.ExtendedMachine.{element_begun_in, inner_place, fits_phase};
 
 mod phase;
 mod running;
@@ -32,7 +32,7 @@ pub struct ExtendedCommands {
     inner: Commands,
     // It stands where an element of the profile is read, and has the bytes that it is to have.
     ghost beside: { allows_orders (reading_of inner).place ≡ allows_orders (inner_place place) },
-    ghost sound: { is_sound place phase (unfinished_of inner) ≡ true },
+    ghost sound: { fits_phase place phase (unfinished_of inner) ≡ true },
 }
 
 impl Code for ExtendedCommands {
@@ -44,7 +44,7 @@ impl Code for ExtendedCommands {
 
     ghost place = { λ m. m.place };
 
-    ghost unfinished = { λ m. begun_in m.phase (unfinished_of m.inner) };
+    ghost unfinished = { λ m. element_begun_in m.phase (unfinished_of m.inner) };
 
     ghost nonempty = { extended_nonempty };
 

@@ -20,7 +20,7 @@ use Rattle.ws_extended.specs.ErrorLine.{RESETS, error_begins, error_row, given_b
 use Rattle.ws_extended.specs.ExtendedStates.{ExtendedState, Kept, covered, gives_back, reset_history, saved_screen}
 use Rattle.ws_extended.specs.ExtendedStates.{state_after, state_after_all, state_after_reset}
 use Rattle.ws_extended.specs.ExtendedStates.{state_before, uncovered, uncovers}
-use Rattle.ws_extended.specs.Image.{field_image, header, home_image, image, lights, read_image}
+use Rattle.ws_extended.specs.Image.{field_image, start_of_header_bytes, home_image, image, lights, read_image}
 use Rattle.ws_extended.specs.declared.extended_element.ExtendedElement.{ExtendedElement}
 use Rattle.ws_extended.specs.declared.extended_element.ExtendedElement.TheVariants.{Profile, Text, RestoreScreen}
 use Rattle.ws_extended.specs.declared.extended_element.ExtendedElement.TheVariants.{WriteError, Asks}
@@ -185,7 +185,7 @@ image_silent row s =
     let body : List Element = flat_map field_image s.fields ++ rest in
     omega (
       arith,
-      write_silent 0 (lights s) (lights_silent s) (Soh (header row s.switches) ∷ body),
+      write_silent 0 (lights s) (lights_silent s) (Soh (start_of_header_bytes row s.switches) ∷ body),
       alarms_in-append (flat_map field_image s.fields) rest,
       fields_silent s.fields,
       alarms_in-append (home_image s.home_set) (Sba 0 ∷ (cells ++ end)),

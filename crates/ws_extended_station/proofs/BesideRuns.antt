@@ -24,14 +24,14 @@ use Rattle.ws_extended.specs.declared.extended_element.ExtendedElement.{Extended
 use Rattle.ws_extended.proofs.ProfileBodies.{profile_body, profile_spelled}
 use Rattle.ws_session.specs.Acts.{Act, AllTaken, Arrives, Came, Did, Does, Doing, Happen, Happening, HasGone}
 use Rattle.ws_session.specs.Acts.{HoldsItems}
-use Rattle.ws_session.specs.Acts.{bytes_of, doing, is_taken, items_of, one_then}
+use Rattle.ws_session.specs.Acts.{bytes_of, doing, IsHappeningTaken, items_of, one_then}
 use Rattle.ws_session.specs.Displays.{KeyReactionOn, RefusesKey, Silent, Answers, Signals}
 use Rattle.ws_session.specs.Reaction.{Reaction, Refuses, GoesOn}
 use Rattle.ws_session.specs.StationManners.{at_item_on, at_key_on, at_on, goes_on, key_on, manner_on, takes_on}
 use Rattle.ws_session.specs.StationSide.{StationSide, profile}
 use Rattle.ws_session.specs.declared.end_step.Applied.{Applied}
 use Rattle.ws_screen.specs.Events.{History}
-use Rattle.ws_extended_station.specs.BesideProfile.{HasCome, NoErrorStands, act_there, as_reacted, item_there}
+use Rattle.ws_extended_station.specs.BesideProfile.{HaveJustArrived, NoErrorStands, act_there, as_reacted, item_there}
 use Rattle.ws_extended_station.specs.BesideProfile.{record_there}
 use Rattle.ws_extended_station.specs.Bytewise.{by_bytes, spelled_alike}
 use Rattle.ws_extended_station.specs.ExtendedDisplays.{ExtendedSide, as_profile, extended, profile_side, with_profile}
@@ -188,7 +188,7 @@ goes_on_there s (Refuses reason) = refl
 goes_on_there s (GoesOn next items) = refl
 
 taken_there : (s : ExtendedSide) (h : Happening Element Key) → NoErrorStands s
-    → is_taken (manner_on profile) (profile_side s) h → is_taken (manner_on extended) s (happening_there h)
+    → IsHappeningTaken (manner_on profile) (profile_side s) h → IsHappeningTaken (manner_on extended) s (happening_there h)
 taken_there s (Arrives item) none taken = ap goes_on (items_there s item none)
     ∙ goes_on_there s (takes_on profile (profile_side s) item) ∙ taken
 taken_there s (Does key) none taken = tt
@@ -221,9 +221,9 @@ doing_there s (h ∷ hs) none =
 
 pub runs_there : (bytes : List ℕ) (items arrived : List (Item Element)) (s : ExtendedSide) (next : StationSide)
     (acts : List (Act Key)) (written : List ℕ) (told : List Applied) → NoErrorStands s
-    → HasGone element_rules answer_rules (manner_on profile) (HasCome arrived next) bytes items (profile_side s) acts
+    → HasGone element_rules answer_rules (manner_on profile) (HaveJustArrived arrived next) bytes items (profile_side s) acts
     written told
-    → HasGone extended_rules raw_rules (manner_on extended) (HasCome (map item_there arrived) (with_profile s next))
+    → HasGone extended_rules raw_rules (manner_on extended) (HaveJustArrived (map item_there arrived) (with_profile s next))
     bytes (map item_there items) s (map act_there acts) written told
 runs_there bytes items arrived s next acts written told none gone =
     let hs = gone.happened in

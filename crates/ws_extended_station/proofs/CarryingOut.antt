@@ -5,7 +5,7 @@ use Rattle.std.specs.Prelude.{Ok}
 use Rattle.std.specs.Option.{option_or}
 use Rattle.std.proofs.lemmas.List.{append-nil, take_all}
 use Rattle.ws_code.specs.Code.{IsChain, Stands, spelling_of}
-use Rattle.ws_code.specs.Run.{Reading, IsRun}
+use Rattle.ws_code.specs.Run.{Reading, IsRunOfValues}
 use Rattle.ws_code.specs.declared.keep.Kept.{Kept}
 use Rattle.ws_code.specs.declared.keep.Kept.TheVariants as kept
 use Rattle.ws_code.specs.declared.reason.Reason.{Reason}
@@ -27,7 +27,7 @@ use Rattle.ws_extended.specs.declared.extended_element.ExtendedElement.{Extended
 use Rattle.ws_extended.specs.declared.extended_element.ExtendedElement.TheVariants.{Profile}
 use Rattle.ws_extended.specs.declared.extended_place.ExtendedPlace.{ExtendedPlace}
 use Rattle.ws_extended.specs.declared.extended_place.ExtendedPlace.TheVariants.{InProfile}
-use Rattle.ws_extended_station.specs.CarriedOut.{AreCarriedOut, HasHeard, IsUnderWay}
+use Rattle.ws_extended_station.specs.CarriedOut.{AreCarriedOut, AsksAndSounds, IsUnderWay}
 use Rattle.ws_extended_station.specs.ExtendedRecords.{elements_fault}
 use Rattle.ws_extended_station.specs.declared.heard.Heard.{Heard}
 use Rattle.ws_session.proofs.Reading.{never_bad, read_all, read_run}
@@ -58,7 +58,7 @@ stands_up place e stands = record { is_unit = stands.is_unit; may_follow = stand
 
 -- no element is carried out yet
 pub none_done : (state : ExtendedState) (body : List ExtendedElement) (now : ExtendedParts) (heard : Heard)
-    (bytes : List ℕ) → HasHeard [] heard → IsChain extended_rules extended_rules.first body
+    (bytes : List ℕ) → AsksAndSounds [] heard → IsChain extended_rules extended_rules.first body
     → bytes ≡ spelling_of extended_rules body → Shows state now
     → IsUnderWay state body now heard bytes extended_rules.first
 none_done state body now heard bytes none chain same shows = record {
@@ -92,7 +92,7 @@ module _ (state : ExtendedState) (body : List ExtendedElement) (now : ExtendedPa
     pub one_more : (new : ExtendedParts) (heard' : Heard)
         → ((s : ExtendedState) → Shows s now → None ≡ state_fault s u)
         → ((s : ExtendedState) → Shows s now → Shows (state_after s u) new)
-        → ((us : List ExtendedElement) → HasHeard us heard → HasHeard (us ++ u ∷ []) heard')
+        → ((us : List ExtendedElement) → AsksAndSounds us heard → AsksAndSounds (us ++ u ∷ []) heard')
         → IsUnderWay state body new heard' behind (place_behind u)
     one_more new heard' none after hears =
         let found = next_is in
@@ -137,7 +137,7 @@ module _ (reading to : Reading ExtendedPlace) (old new : Asked) (bytes : List �
     (same : bytes ≡ spelling_of extended_rules body) where
   -- a run over all bytes of a body notes all that it asks
   pub all_asked : (end : End) → (end ≡ More → used ≡ length bytes)
-      → IsRun extended_rules AskedHolds GoesOn reading old (take used bytes) to standing new end
+      → IsRunOfValues extended_rules AskedHolds GoesOn reading old (take used bytes) to standing new end
       → HasAsked (asks_in body) new.ask new.refused
   all_asked More whole run =
       let read = read_run extended_rules reading to (take used bytes) run.0.run first in

@@ -16,7 +16,7 @@ use Rattle.ws_keys.proofs.StepLemmas.{does_follow}
 use Rattle.ws_extended.specs.ErrorLine.{error_row}
 use Rattle.ws_extended.specs.ExtendedKeys.{waits_for_reset}
 use Rattle.ws_extended.specs.ExtendedViews.{ExtendedParts}
-use Rattle.ws_session.specs.Displays.{HasPressed, RefusesKey, Silent, Answers}
+use Rattle.ws_session.specs.Displays.{IsPressedOnDisplay, RefusesKey, Silent, Answers}
 use Rattle.ws_session.specs.StationSide.{KeyReaction, StationSide, answers_read, key_by_refusal, presses, profile}
 use Rattle.ws_session.specs.StationSide.{ProfileParts, screen_at}
 use Rattle.ws_session.specs.declared.key_fault.KeyFault.TheVariants.{Key as Refused}
@@ -85,8 +85,8 @@ module _ (d : DisplayParts) (s : ExtendedSide) (given : ExtendedGives s.happened
 
   -- a key that doesn't wait does here what it does in the profile
   as_there : (new : ScreenParts) (result : Result (Option Answer) KeyRefusal) → held ≡ false
-      → HasPressed profile (with_screen d.display.screen) (with_screen new) (profile_side s) key result
-      → HasPressed extended d (record d { display = record d.display { screen = new } }) s (Profile key) result
+      → IsPressedOnDisplay profile (with_screen d.display.screen) (with_screen new) (profile_side s) key result
+      → IsPressedOnDisplay extended d (record d { display = record d.display { screen = new } }) s (Profile key) result
   as_there new (Err refusal) free p = (
     reacts _ free p.0,
     ap (λ (w : ProfileParts).
@@ -113,18 +113,18 @@ module _ (d : DisplayParts) (s : ExtendedSide) (given : ExtendedGives s.happened
       → ((is_some d.display.kept && waits_for_reset key) ≡ true → result ≡ Err Locked)
       → ((is_some d.display.kept && waits_for_reset key) ≡ false → IsPressed key d.display.screen new.screen result)
       → new ≡ record d.display { screen = new.screen } → OnErr result (new ≡ d.display)
-      → HasPressed extended d (record d { display = new }) s (Profile key) result
+      → IsPressedOnDisplay extended d (record d { display = new }) s (Profile key) result
   key_pressed new result size waits does same unchanged = go held refl
     where
       now_held : (is_some d.display.kept && waits_for_reset key) ≡ held
       now_held = ap (λ k. is_some k && waits_for_reset key) given.shows.kept_is
 
-      go : (t : Bool) → held ≡ t → HasPressed extended d (record d { display = new }) s (Profile key) result
+      go : (t : Bool) → held ≡ t → IsPressedOnDisplay extended d (record d { display = new }) s (Profile key) result
       go true e =
           let locked : result ≡ Err Locked = waits (now_held ∙ e) in
           let back : new ≡ d.display = subst (λ (r : Result (Option Answer) KeyRefusal). OnErr r (new ≡ d.display))
           locked unchanged in
-          subst (λ (r : Result (Option Answer) KeyRefusal). HasPressed extended d (record d { display = new }) s
+          subst (λ (r : Result (Option Answer) KeyRefusal). IsPressedOnDisplay extended d (record d { display = new }) s
           (Profile key) r) (sym locked) (
             ap (λ (t : Bool). if t then RefusesKey (Refused Locked)
                 else as_profile s (profile.presses (profile_side s) key)) e,
@@ -136,5 +136,5 @@ module _ (d : DisplayParts) (s : ExtendedSide) (given : ExtendedGives s.happened
           (record { shows = given.shows.gives; sounds = given.sounds }) size key new.screen result is
           (does_follow (refusals d.display.screen key) (edit_of d.display.screen key)
           (answer_to d.display.screen key) d.display.screen new.screen result is) in
-          subst (λ (p : ExtendedParts). HasPressed extended d (record d { display = p }) s (Profile key) result)
+          subst (λ (p : ExtendedParts). IsPressedOnDisplay extended d (record d { display = p }) s (Profile key) result)
           (sym same) (as_there new.screen result e there)

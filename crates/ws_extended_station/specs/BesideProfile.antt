@@ -43,5 +43,5 @@ as_reacted s (Refuses reason) = Refuses reason
 as_reacted s (GoesOn next items) = GoesOn (with_profile s next) (map by_bytes items)
 
 -- just these items have arrived, and the end stands on this side
-abbrev pub HasCome : {U H : Type 0} → List (Item U) → SideOn H → List ℕ → List (Item U) → SideOn H → Type 0
-HasCome arrived next bytes items side = (items ≡ arrived) × (side ≡ next)
+abbrev pub HaveJustArrived : {U H : Type 0} → List (Item U) → SideOn H → List ℕ → List (Item U) → SideOn H → Type 0
+HaveJustArrived arrived next bytes items side = (items ≡ arrived) × (side ≡ next)

@@ -15,14 +15,14 @@ use Rattle.ws_extended_station.specs.ExtendedRecords.{elements_fault, record_fau
 use Rattle.ws_extended_station.specs.declared.heard.Heard.{Heard}
 
 -- what the elements of a body bring: this is what they ask, and so many of them sound the alarm
-abbrev pub HasHeard : List ExtendedElement → Heard → Type 0
-HasHeard body heard = HasAsked (asks_in body) heard.asked.ask heard.asked.refused
+abbrev pub AsksAndSounds : List ExtendedElement → Heard → Type 0
+AsksAndSounds body heard = HasAsked (asks_in body) heard.asked.ask heard.asked.refused
     × (heard.alarms ≡ alarm_count (extended_alarms_in body))
 
 -- what becomes of a display by the elements of a body: all are carried out, and this is what they bring; or the first
 -- that is refused is so for this reason
 abbrev pub AreCarriedOut : ExtendedState → List ExtendedElement → ExtendedParts → Result Heard Reason → Type 0
-AreCarriedOut state body new (Ok heard) = (elements_fault state body ≡ None) × HasHeard body heard
+AreCarriedOut state body new (Ok heard) = (elements_fault state body ≡ None) × AsksAndSounds body heard
     × Shows (state_after_all state body) new
 AreCarriedOut state body new (Err reason) = elements_fault state body ≡ Some reason
 

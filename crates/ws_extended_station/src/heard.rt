@@ -2,7 +2,7 @@ ghost use Rattle.std.specs.Prelude.{◌≡◌, ◌+◌, ◌++◌, ◌∷◌, [],
 ghost use Rattle.ws_session.specs.Alarms.{alarm_count};
 ghost use Rattle.ws_extended.specs.declared.extended_element.ExtendedElement.{ExtendedElement as AnElement};
 ghost use Rattle.ws_extended.specs.declared.extended_element.ExtendedElement.TheVariants.{Profile};
-ghost use Rattle.ws_extended_station.specs.CarriedOut.{HasHeard};
+ghost use Rattle.ws_extended_station.specs.CarriedOut.{AsksAndSounds};
 ghost use Rattle.ws_extended_station.specs.ExtendedAlarms.{extended_sounds};
 
 use ws_code::Keep;
@@ -33,7 +33,7 @@ fn count_alarm(alarms: u64, element: &ExtendedElement) -> u64
 impl Heard {
     // Of no element.
     pub(crate) fn new() -> Self
-        ensures { HasHeard [] result }
+        ensures { AsksAndSounds [] result }
     {
         Heard {
             asked: Asked::new(),
@@ -44,16 +44,16 @@ impl Heard {
     // Is told of one more of the profile.
     #[inline(always)]
     pub(crate) fn hear_profile(&mut self, element: &Element)
-        ensures { (us : List AnElement) → HasHeard us self.old
-            → HasHeard (us ++ Profile element.now ∷ []) self.new }
+        ensures { (us : List AnElement) → AsksAndSounds us self.old
+            → AsksAndSounds (us ++ Profile element.now ∷ []) self.new }
     {
         self.alarms = ws_session::count_alarm(self.alarms, element);
     }
 
     // Is told of one more.
     pub(crate) fn hear(&mut self, element: ExtendedElement)
-        ensures { (us : List AnElement) → HasHeard us self.old
-            → HasHeard (us ++ element ∷ []) self.new }
+        ensures { (us : List AnElement) → AsksAndSounds us self.old
+            → AsksAndSounds (us ++ element ∷ []) self.new }
     {
         self.alarms = count_alarm(self.alarms, &element);
         let _goes_on = self.asked.keep(element);

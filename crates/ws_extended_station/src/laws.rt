@@ -29,7 +29,7 @@ ghost use Rattle.ws_session.specs.Reaction.{GoesOn};
 ghost use Rattle.ws_session.specs.StationManners.{key_on, manner_on, takes_on};
 ghost use Rattle.ws_session.specs.StationSide.{StationSide, opcode_events, profile};
 ghost use Rattle.ws_session.specs.declared.end_step.Applied.{Applied};
-ghost use Rattle.ws_extended_station.specs.BesideProfile.{HasCome, NoErrorStands, act_there, as_reacted, item_there};
+ghost use Rattle.ws_extended_station.specs.BesideProfile.{HaveJustArrived, NoErrorStands, act_there, as_reacted, item_there};
 ghost use Rattle.ws_extended_station.specs.Bytewise.{by_bytes};
 ghost use Rattle.ws_extended_station.specs.ExtendedAlarms.{extended_alarms_in};
 ghost use Rattle.ws_extended_station.specs.ExtendedDisplays.{ExtendedSide, as_profile, extended, profile_side, with_profile, with_state};
@@ -53,10 +53,10 @@ pub fn acts_as_profile()
     ensures runs { (bytes : List ℕ) (items arrived : List (Item Element)) (s : ExtendedSide)
         (next : StationSide) (acts : List (Act AKey)) (written : List ℕ) (told : List Applied)
         → NoErrorStands s
-        → HasGone element_rules answer_rules (manner_on profile) (HasCome arrived next) bytes
+        → HasGone element_rules answer_rules (manner_on profile) (HaveJustArrived arrived next) bytes
         items (profile_side s) acts written told
         → HasGone extended_rules raw_rules (manner_on extended)
-        (HasCome (map item_there arrived) (with_profile s next)) bytes
+        (HaveJustArrived (map item_there arrived) (with_profile s next)) bytes
         (map item_there items) s (map act_there acts) written told }
 {}
 

@@ -7,7 +7,7 @@ use Rattle.std.proofs.lemmas.Bool.{ltb-true, ltb-false}
 use Rattle.std.proofs.lemmas.List.{append-nil, append_assoc}
 use Rattle.ws_screen.specs.Keyed.{cursor_edit}
 use Rattle.ws_screen.specs.ScreenParts.{IsLegal, ScreenParts}
-use Rattle.ws_keys.specs.Keys.{after_key_edit, answer_to, edit_of, locked_refusal, first_of, refusals}
+use Rattle.ws_keys.specs.Keys.{after_key_edit, answer_to, edit_of, locked_refusal, first_refusal, refusals}
 use Rattle.ws_keys.specs.Strokes.{LeadTo, keys_of}
 use Rattle.ws_keys.specs.Strokes.{run_between, run_of, runs_to}
 use Rattle.ws_keys.specs.declared.key.Key.{Key}
@@ -39,7 +39,7 @@ arrows key step refused silent edits (suc k) s size unlocked =
     let next : ScreenParts = record s { cursor = step s.cursor } in
     let moved : after_key_edit (edit_of s key) s ≡ next =
     ap (λ e. after_key_edit e s) (edits s) ∙ moved_alone s (step s.cursor) size in (
-      ap first_of (refused s) ∙ ap (λ t. if t then Some Locked else None) unlocked,
+      ap first_refusal (refused s) ∙ ap (λ t. if t then Some Locked else None) unlocked,
       silent s,
       subst (λ w. LeadTo (replicate k key) w (record s { cursor = stepped step k (step s.cursor) })) (sym moved)
           (arrows key step refused silent edits k next size unlocked),

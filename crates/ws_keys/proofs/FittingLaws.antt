@@ -15,7 +15,7 @@ use Rattle.ws_screen.specs.Formats.{starts_at}
 use Rattle.ws_keys.specs.Contents.{sent_length}
 use Rattle.ws_keys.specs.Fitting.{at_first, behind_part, fits_from}
 use Rattle.ws_keys.specs.Parsing.{IsFaultOf, fits_field, is_rising_from}
-use Rattle.ws_keys.specs.Readings.{bytes_in, bytes_before, fields_behind, fields_in, if_cut, if_fit, read_data}
+use Rattle.ws_keys.specs.Readings.{bytes_in, leading_bytes, fields_behind, fields_in, if_cut, if_fit, read_data}
 use Rattle.ws_keys.specs.Splits.{SplitsData, IsSplit, input_by_field}
 use Rattle.ws_keys.specs.declared.fitting.Expected.{Expected}
 use Rattle.ws_keys.specs.declared.host_answer.HostAnswer.{HostAnswer}
@@ -84,15 +84,15 @@ mapped fields next r (Some read) = refl
 
 fits_from-is : (fields : List Field) (parts : List AnswerPart) (e : Expected)
     → fits_from fields e parts
-    ≡ (nat_le (length (bytes_before parts)) e.room && fit_behind fields e.next (fields_behind parts))
+    ≡ (nat_le (length (leading_bytes parts)) e.room && fit_behind fields e.next (fields_behind parts))
 fits_from-is fields [] e = rw (le-leb 0 e.room (omega arith)) refl
 fits_from-is fields (Head cursor aid ∷ parts) e = sym (and-false (nat_le 0 e.room))
 fits_from-is fields (Byte b ∷ parts) e =
-    let longer : n + 1 ≡ length (b ∷ bytes_before parts) = omega arith in
+    let longer : n + 1 ≡ length (b ∷ leading_bytes parts) = omega arith in
     go (nat_lt 0 e.room) refl (fits_from-is fields parts) ∙ ap (λ k. nat_le k e.room && rest) longer
   where
     n : ℕ
-    n = length (bytes_before parts)
+    n = length (leading_bytes parts)
 
     rest : Bool
     rest = fit_behind fields e.next (fields_behind parts)
@@ -109,13 +109,13 @@ fits_from-is fields (Byte b ∷ parts) e =
     go false none known = sym (ap (λ t. t && rest) (no-room n e.room none))
 fits_from-is fields (At p ∷ parts) e =
     next_is (behind_part fields e (At p)) (fits_from-is fields parts)
-    ∙ at_address fields (length (bytes_before parts)) e.next p (nat_le e.next p) (find (starts_at p) fields)
+    ∙ at_address fields (length (leading_bytes parts)) e.next p (nat_le e.next p) (find (starts_at p) fields)
     (fields_behind parts)
-    ∙ mapped fields e.next (record { address = p; content = bytes_before parts }) (fields_behind parts)
+    ∙ mapped fields e.next (record { address = p; content = leading_bytes parts }) (fields_behind parts)
     ∙ ap (λ t. t && fit_behind fields e.next (fields_behind (At p ∷ parts))) (sym (le-leb 0 e.room (omega arith)))
   where
     test : Expected → Bool
-    test x = nat_le (length (bytes_before parts)) x.room && fit_behind fields x.next (fields_behind parts)
+    test x = nat_le (length (leading_bytes parts)) x.room && fit_behind fields x.next (fields_behind parts)
 
     next_is : (o : Option Expected) → ((x : Expected) → fits_from fields x parts ≡ test x)
         → option_map_or (λ x. fits_from fields x parts) o false ≡ option_map_or (λ x. test x) o false

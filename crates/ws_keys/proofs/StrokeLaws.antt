@@ -17,7 +17,7 @@ use Rattle.ws_screen.proofs.EditLemmas.{found_low, open_is, open_within}
 use Rattle.ws_screen.specs.ScreenParts.{AreApart, IsLegal, ScreenParts, holds, is_non_bypass}
 use Rattle.ws_code.specs.FormatWord.{with_mdt}
 use Rattle.ws_keys.specs.Edits.{after_delete, digits_of, is_signed_word, sign_of, without_cell}
-use Rattle.ws_keys.specs.Keys.{key_refusal, protected_refusal, first_of}
+use Rattle.ws_keys.specs.Keys.{key_refusal, protected_refusal, first_refusal}
 use Rattle.ws_keys.specs.Contents.{is_signed}
 use Rattle.ws_keys.specs.Strokes.{LeadTo, emptying_runs, erase_eof_runs, erasing_edit, erasing_runs, keys_of}
 use Rattle.ws_keys.specs.Strokes.{numbered_field, run_of, runs_to}
@@ -322,7 +322,7 @@ pub eof_refused : (s : ScreenParts) → s.locked ≡ false → open_field s ≡ 
     → (keys_of (erase_eof_runs s) ≡ Delete ∷ []) × (key_refusal s Delete ≡ Some Protected)
 eof_refused s unlocked none = (
   ap (λ o. keys_of (option_map_or (λ f. erasing_runs f (f.start + f.length - s.cursor)) o (run_of Delete 1 ∷ []))) none,
-  ap (λ t. if t then Some Locked else first_of (protected_refusal s ∷ [])) unlocked
+  ap (λ t. if t then Some Locked else first_refusal (protected_refusal s ∷ [])) unlocked
       ∙ ap (λ o. if is_none o then Some Protected else None) none,
 )
 

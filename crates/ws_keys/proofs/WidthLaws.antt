@@ -17,7 +17,7 @@ use Rattle.ws_screen.specs.Events.{Event, did, ended, lit, cancelled, keyed, His
 use Rattle.ws_screen.specs.Formats.{empties_table, field_by, cons_some, input_sfs, starts_at, field_from, fields}
 use Rattle.ws_screen.specs.Given.{Gives}
 use Rattle.ws_screen.specs.ScreenParts.{ScreenParts, IsLegal}
-use Rattle.ws_screen.specs.Steps.{Ends}
+use Rattle.ws_screen.specs.Steps.{EndsOnScreen}
 use Rattle.ws_screen.specs.Writes.{address}
 use Rattle.ws_screen.specs.declared.field.Field.{Field}
 use Rattle.ws_screen.proofs.FormatLemmas.{starts_there}
@@ -108,7 +108,7 @@ narrow : (h : History) (s : ScreenParts) (f : Field) → Gives h s → IsLegal s
 narrow h s f gives legal member =
     let late : All (λ g. 1 ≤ g.start) s.fields = subst (All (λ g. 1 ≤ g.start)) (sym gives.fields_are) (all_late h) in
     let low : 1 ≤ f.start = All-contains (λ g. 1 ≤ g.start) s.fields f late member in
-    let high : f.start + f.length ≤ 1920 = All-contains Ends s.fields f (apart-ends 0 s.fields legal.apart) member in
+    let high : f.start + f.length ≤ 1920 = All-contains EndsOnScreen s.fields f (apart-ends 0 s.fields legal.apart) member in
     omega (arith, low, high)
 
 pub reads_signed : (bytes : List ℕ) (result : Option SignedDigits) → IsDecoded bytes result → ReadsSigned bytes result

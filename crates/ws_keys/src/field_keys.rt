@@ -17,7 +17,7 @@ pub fn entered_field(screen: &Screen) -> Result<Field, KeyRefusal>
     ensures { MatchResult result
         (λ field. (screen.now.locked ≡ false) × (open_field screen.now ≡ Some field)
         × (1 ≤ field.length) × (field.start + field.length ≤ CELLS))
-        (λ why. Spec.first_of
+        (λ why. Spec.first_refusal
         (Spec.locked_refusal screen.now ∷ Spec.protected_refusal screen.now ∷ []) ≡ Some why) }
 {
     if screen.locked() {

@@ -19,9 +19,9 @@ use Rattle.ws_live.specs.declared.connect.Waited.{Waited}
 use Rattle.ws_live.specs.declared.connect.Waited.TheVariants as waits
 use Rattle.ws_live.specs.declared.connect_line.Awaited.{Awaited}
 use Rattle.ws_live.specs.declared.connect_line.Awaited.TheVariants as awaits
-use Rattle.ws_live.specs.ConnectText.{refused_text, pressed, closing_of_both, IsMet, IsPressed, KeyRuns, ArePressed}
-use Rattle.ws_live.specs.ConnectText.{KeysRun, Hears, HasWaited, HearsOne, HearsNone, WaitsFor, IsWaited, IsUnwritten}
-use Rattle.ws_live.specs.ConnectText.{IsWorking, Reports, Shows, more_ahead, report_waits, rested}
+use Rattle.ws_live.specs.ConnectText.{key_refused_text, pressed, closing_of_both, IsMet, IsKeyPressed, KeyRuns, ArePressed}
+use Rattle.ws_live.specs.ConnectText.{KeysRun, Hears, HasWaited, HearsOne, HearsNone, WaitsFor, IsWaited, IsKeyUnwritten}
+use Rattle.ws_live.specs.ConnectText.{IsWorking, Reports, ShowsStation, more_ahead, report_waits, rested}
 use Rattle.ws_live.specs.declared.watch.WaitSpan.TheVariants.{AtOnce}
 use Rattle.ws_live.specs.ReportLines.{IsReportText}
 use Rattle.ws_live.specs.declared.report.Report.{Report}
@@ -86,28 +86,28 @@ module _ {D P U H PlaceV V Q R S K : Type 0} (rules : Rules P U) (d : DisplayOf 
 
   pub pressed_more : (from mid to : Ends) (keys : List Q) (key : Q) (refused : Option KeyFault) (well : Bool)
       (text : List ℕ) → ArePressed rules d writer reader w from keys well text mid
-      → IsPressed rules d writer reader key mid refused to
+      → IsKeyPressed rules d writer reader key mid refused to
       → ArePressed rules d writer reader w from (keys ++ key ∷ []) (well && is_none refused)
-      (text ++ refused_text (w.entered key) refused) to
+      (text ++ key_refused_text (w.entered key) refused) to
   pressed_more from mid to [] key refused well text h p = (
     refused,
     to,
     true,
     [],
-    subst (λ (z : Ends). IsPressed rules d writer reader key z refused to) h.0 p,
+    subst (λ (z : Ends). IsKeyPressed rules d writer reader key z refused to) h.0 p,
     (refl, refl, refl),
     ap (λ b. b && is_none refused) h.1 ∙ sym (and_true (is_none refused)),
-    ap (λ z. z ++ refused_text (w.entered key) refused) h.2 ∙ sym (append-nil (refused_text (w.entered key) refused)),
+    ap (λ z. z ++ key_refused_text (w.entered key) refused) h.2 ∙ sym (append-nil (key_refused_text (w.entered key) refused)),
   )
   pressed_more from mid to (first ∷ keys) key refused well text h p = (
     h.0,
     h.1,
     h.2 && is_none refused,
-    h.3 ++ refused_text (w.entered key) refused,
+    h.3 ++ key_refused_text (w.entered key) refused,
     h.4,
     pressed_more h.1 mid to keys key refused h.2 h.3 h.5 p,
     ap (λ b. b && is_none refused) h.6 ∙ and_assoc (is_none h.0) h.2 (is_none refused),
-    ap (λ z. z ++ refused_text (w.entered key) refused) h.7 ∙ append_assoc (refused_text (w.entered first) h.0) h.3 (refused_text (w.entered key) refused),
+    ap (λ z. z ++ key_refused_text (w.entered key) refused) h.7 ∙ append_assoc (key_refused_text (w.entered first) h.0) h.3 (key_refused_text (w.entered key) refused),
   )
 
   -- the keys of a list, of which so many are pressed
@@ -115,18 +115,18 @@ module _ {D P U H PlaceV V Q R S K : Type 0} (rules : Rules P U) (d : DisplayOf 
       (is : key ≡ get_or keys i key) where
     pub pressed_on : (refused : Option KeyFault) (well : Bool) (text : List ℕ)
         → ArePressed rules d writer reader w from (take i keys) well text mid
-        → IsPressed rules d writer reader key mid refused to
+        → IsKeyPressed rules d writer reader key mid refused to
         → ArePressed rules d writer reader w from (take (i + 1) keys) (well && is_none refused)
-        (text ++ refused_text (w.entered key) refused) to
+        (text ++ key_refused_text (w.entered key) refused) to
     pressed_on refused well text h p =
         let next : take i keys ++ key ∷ [] ≡ take (i + 1) keys = ap (λ z. take i keys ++ z ∷ []) is
         ∙ sym (take_more keys i key inside) in
         subst (λ (z : List Q). ArePressed rules d writer reader w from z (well && is_none refused)
-        (text ++ refused_text (w.entered key) refused) to) next (pressed_more from mid to (take i keys) key refused well text h p)
+        (text ++ key_refused_text (w.entered key) refused) to) next (pressed_more from mid to (take i keys) key refused well text h p)
 
     pub unwritten_at : (well : Bool) (text : List ℕ) (outcome : Result Closing Fault)
         → ArePressed rules d writer reader w from (take i keys) well text mid
-        → IsUnwritten rules d writer reader key mid to → outcome
+        → IsKeyUnwritten rules d writer reader key mid to → outcome
         ≡ Err fault.Write → KeysRun rules d writer reader w keys from outcome text to
     unwritten_at well text outcome h led e = let n : suc i ≡ i + 1 = omega arith in inr (
       take i keys,
@@ -186,7 +186,7 @@ module _ {D P U H PlaceV V Q R S K : Type 0} (rules : Rules P U) (d : DisplayOf 
   -- a report that is no note
   pub reports : (tells : S → Bool → Type 0) (report : Report) (from to : Parts × ℕ) (outcome : Result Closing Fault)
       (text : List ℕ) → ((note : List ℕ) → report ≡ reported.Note note → ⊥)
-      → Shows rules d writer reader tells (λ station. IsReportText (d.shown station.screen)
+      → ShowsStation rules d writer reader tells (λ station. IsReportText (d.shown station.screen)
       (station_allows_records station.options) station.records station.live.taken report) from outcome text to
       → Reports rules d writer reader tells report from outcome text to
   reports tells reported.Status from to outcome text other h = h

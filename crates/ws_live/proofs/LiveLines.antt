@@ -8,7 +8,7 @@ use Rattle.ws_session.specs.declared.world.Move.TheVariants as moves
 use Rattle.ws_live.specs.ConnectLines.{IsNothing}
 use Rattle.ws_live.specs.Script.{IsMove}
 use Rattle.ws_live.specs.ScriptFaults.{IsNoComment, has_no_blank}
-use Rattle.ws_live.specs.ServeLines.{IsAnswerAwaited, IsHostBegun, IsIdle, Means as HostMeans, IsOneSoFar}
+use Rattle.ws_live.specs.ServeLines.{IsAnswerAwaited, IsHostBegun, IsIdle, MeansHostLine as HostMeans, IsOneSoFar}
 use Rattle.ws_live.specs.WireLines.{MeansWire}
 use Rattle.ws_live.specs.declared.serve_line.AnswerAwaited.{AnswerAwaited}
 use Rattle.ws_live.specs.declared.serve_line.HostLine.{HostLine}

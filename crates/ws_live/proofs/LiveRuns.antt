@@ -13,7 +13,7 @@ use Rattle.ws_live.specs.declared.live.Ran.{Ran}
 use Rattle.ws_text.specs.declared.output.Output.{Output}
 use Rattle.ws_text.specs.declared.output.Output.TheVariants.{Open, Failed as Unwritten}
 use Rattle.ws_live.specs.LiveText.{closing_text, is_well, stops, ran_by, ran_and, HaveRun, IsStoppedAt, HasCarried}
-use Rattle.ws_live.specs.LiveText.{IsCarryFault, HasRun, IsLiveFault}
+use Rattle.ws_live.specs.LiveText.{IsLiveLineFault, HasRunLines, IsLiveFault}
 use Rattle.ws_text.specs.Printing.{IsOut}
 
 -- Lines that are carried out one after another.
@@ -98,7 +98,7 @@ module _ {L P : Type 0} (runs : L → P → Result Closing Fault → List ℕ �
           → HasCarried runs ready writer mid to between new line closing
           → (ran_and ran (ran_by closing)).is_over
           ≡ true
-          → HasRun runs ready writer from to old new lines (ran_and ran (ran_by closing))
+          → HasRunLines runs ready writer from to old new lines (ran_and ran (ran_by closing))
       unfolding stopped_at
       ends_here after lines split closing one over = (
         (printed ++ one.0) ++ closing_text ready closing,
@@ -120,7 +120,7 @@ module _ {L P : Type 0} (runs : L → P → Result Closing Fault → List ℕ �
       out_both Unwritten last f = fails_last writer old between new printed last out f
 
       pub breaks : (after lines : List L) → lines ≡ before ++ line ∷ after → (fault : Fault)
-          → IsCarryFault runs ready writer mid to between new line fault
+          → IsLiveLineFault runs ready writer mid to between new line fault
           → IsLiveFault runs ready writer from to old new lines fault
       breaks after lines split fault (inl p) = let w = p.1 in inl (
         p.0,

@@ -5,7 +5,7 @@ use Rattle.std.specs.Prelude.{min}
 use Rattle.std.proofs.Math.Seq.{take-append_seam}
 use Rattle.std.specs.Str.Lines.{lines}
 use Rattle.ws_live.specs.LiveScript.{is_indented, AreIndented, BeginsFlush, HasInside, IsBlock, HasBlock}
-use Rattle.ws_live.specs.LiveScript.{MeanThese, AreLiveLines, IsFirstBad, IsGoodSoFar, IsReadSoFar}
+use Rattle.ws_live.specs.LiveScript.{MeanThese, AreLiveLines, IsFirstBadLiveLine, IsGoodBlockSoFar, IsLiveScriptSoFar}
 use Rattle.ws_text.specs.FirstLine.{IsBehindLines}
 use Rattle.ws_live.proofs.LineFronts.{behind_more, lines_behind}
 
@@ -121,7 +121,7 @@ module _ {L : Type 0} (means : List ℕ → List (List ℕ) → L → Type 0) (o
       (read : List L) (number count at told : ℕ) → Reads text rest read number → lines rest ≡ line ∷ lines next
       → HasBlock opener line next inside count behind → ((x : L) → means line (lines inside) x → ⊥)
       → bad_at line (lines inside) at
-      → told ≡ min (number + at) (2 ^ 64 - 1) → IsFirstBad means opener bad_at text told
+      → told ≡ min (number + at) (2 ^ 64 - 1) → IsFirstBadLiveLine means opener bad_at text told
   reads_bad bad_at text rest next behind line inside read number count at told r e b bad place is =
       let front = ahead rest behind line next inside count e b in
       record {
@@ -142,8 +142,8 @@ module _ {L : Type 0} (means : List ℕ → List (List ℕ) → L → Type 0) (o
   -- a growth was refused within a line, or behind it
   pub reads_begun : (begins : List ℕ → Type 0) (text rest next behind line inside : List ℕ) (read : List L)
       (number count : ℕ) → Reads text rest read number → lines rest ≡ line ∷ lines next
-      → HasBlock opener line next inside count behind → IsGoodSoFar means begins line (lines inside)
-      → IsReadSoFar means begins opener text
+      → HasBlock opener line next inside count behind → IsGoodBlockSoFar means begins line (lines inside)
+      → IsLiveScriptSoFar means begins opener text
   reads_begun begins text rest next behind line inside read number count r e b good =
       let front = ahead rest behind line next inside count e b in
       record {

@@ -8,7 +8,7 @@ use Rattle.std.specs.Str.Pattern.{CutsSuffixes, IsTrimEndMatches, FindsCharSuffi
 use Rattle.std.proofs.lemmas.List.{append-nil, drop_all, take-append-drop}
 use Rattle.ws_text.proofs.LineEnds.{filled}
 use Rattle.ws_live.specs.declared.paint.Paint.{Paint}
-use Rattle.ws_live.specs.ScreenLines.{IsWithoutLastBlanks, IsRow, AreRows, row_line, indent}
+use Rattle.ws_live.specs.ScreenLines.{IsWithoutLastBlanks, IsShownRow, AreRows, row_line, indent}
 
 -- Rows one after another.
 
@@ -17,7 +17,7 @@ unfolding AreRows
 rows_none paint cells = refl
 
 pub rows_more : (paint : Paint) (cells rows : List ℕ) (row : ℕ) (text shown : List ℕ) → AreRows paint cells rows text
-    → IsRow paint cells row shown → AreRows paint cells (rows ++ row ∷ []) (text ++ row_line row shown)
+    → IsShownRow paint cells row shown → AreRows paint cells (rows ++ row ∷ []) (text ++ row_line row shown)
 unfolding AreRows
 rows_more paint cells [] row text shown a w = (
   shown,

@@ -15,7 +15,7 @@ use Rattle.ws_record.specs.declared.opcode.Opcode.{Opcode}
 use Rattle.ws_record.specs.declared.opcode.Opcode.TheVariants.{CancelInvite}
 use Rattle.ws_record.specs.Grammar.{opcode_byte}
 use Rattle.ws_text.specs.Words.{IsNumber}
-use Rattle.ws_live.specs.Script.{IsOpcodeText}
+use Rattle.ws_live.specs.Script.{IsSendOpcode}
 use Rattle.ws_live.specs.ScriptFaults.{IsNoComment, has_no_blank}
 
 -- Words: blanks and digits.
@@ -71,7 +71,7 @@ digits_have_no_blank (c ∷ cs) h = elim (eqb_tells c 32) [
 
 -- a word that writes a number writes no opcode of another
 pub no_opcode : (word : List ℕ) (n : ℕ) → IsNumber word n → ((o : Opcode) → opcode_byte o ≡ n → o ≢ CancelInvite → ⊥)
-    → (o : Opcode) → IsOpcodeText word o → ⊥
+    → (o : Opcode) → IsSendOpcode word o → ⊥
 no_opcode word n h none_is o t = none_is o (t.0.2 ∙ sym h.2) t.1
 
 -- what `split_once` gives at a blank

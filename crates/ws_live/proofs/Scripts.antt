@@ -9,8 +9,8 @@ use Rattle.ws_stream.specs.declared.element.Element.{Element}
 use Rattle.ws_session.specs.declared.world.Move.{Move}
 use Rattle.ws_session.specs.declared.world.Move.TheVariants.{Send, Cancel, ToStation, ToHost, Key as Press}
 use Rattle.ws_live.specs.KeyNames.{key_named}
-use Rattle.ws_live.specs.Script.{AreTyped, typed_key, IsCount, IsOpcodeText, IsBodyText, IsRecordText, IsMove, Means}
-use Rattle.ws_live.specs.Script.{IsLine, IsBad, AreLines, IsScript, IsFirstBad}
+use Rattle.ws_live.specs.Script.{AreTypedMoves, typed_key, IsCount, IsSendOpcode, IsBodyText, IsRecordText, IsMove, MeansMoves}
+use Rattle.ws_live.specs.Script.{IsScriptLine, IsBad, AreLines, IsScript, IsFirstBad}
 use Rattle.ws_live.specs.Script.Means.{empty, comment, one, settle, typed, inserted}
 use Rattle.std.specs.Str.{IsUtf8, chars}
 use Rattle.std.proofs.lemmas.Str.{scalars-chars, encodes-chars}
@@ -31,7 +31,7 @@ only_memory P fault e good = rw e good
 
 -- a line more, and its moves
 are_lines_more : (before : List (List ℕ)) (moves : List Move) (line : List ℕ) (given : List Move)
-    → AreLines before moves → IsLine line given → AreLines (before ++ line ∷ []) (moves ++ given)
+    → AreLines before moves → IsScriptLine line given → AreLines (before ++ line ∷ []) (moves ++ given)
 are_lines_more [] moves line given e l = (given, [], l, refl, ap (λ z. z ++ given) e ∙ sym (append-nil given))
 are_lines_more (first ∷ before) moves line given h l = (
   h.0,
@@ -54,7 +54,7 @@ pub reads_none : (text : List ℕ) → Reads text text [] 0
 reads_none text = record { before = []; split = refl; good = refl; counted = refl; few = omega arith }
 
 pub reads_more : (text rest behind line : List ℕ) (moves given next : List Move) (number : ℕ)
-    → Reads text rest moves number → lines rest ≡ line ∷ lines behind → length behind < length rest → IsLine line given
+    → Reads text rest moves number → lines rest ≡ line ∷ lines behind → length behind < length rest → IsScriptLine line given
     → next ≡ moves ++ given → Reads text behind next (number + 1)
 reads_more text rest behind line moves given next number r e shorter l is = record {
   before = r.before ++ line ∷ [];
@@ -97,7 +97,7 @@ reads_begun text rest behind line moves number r e good = record {
 }
 
 -- keys for any text
-pub typed_any : (inserts : Bool) (text : List ℕ) → IsUtf8 text → (moves : List Move) × AreTyped inserts text moves
+pub typed_any : (inserts : Bool) (text : List ℕ) → IsUtf8 text → (moves : List Move) × AreTypedMoves inserts text moves
 typed_any inserts text is = (
   map (λ x. Press (typed_key inserts x)) (chars text),
   record { characters = chars text; are = scalars-chars text is; spelled = encodes-chars text is; typed = refl },
@@ -115,7 +115,7 @@ no_word_moves word free other (Press key) m = false≢true (ap has_no_blank (sym
 
 -- a word is `cancel` or `settle`
 pub no_word : (word : List ℕ) → 0 < length word → has_no_blank word ≡ true → IsNoComment word
-    → (word ≡ codes "cancel" → ⊥) → (word ≡ codes "settle" → ⊥) → (moves : List Move) → Means word moves → ⊥
+    → (word ≡ codes "cancel" → ⊥) → (word ≡ codes "settle" → ⊥) → (moves : List Move) → MeansMoves word moves → ⊥
 no_word word some free plain other another moves (empty e z) = absurd (omega (arith, ap length e))
 no_word word some free plain other another moves (comment text e z) = plain text e
 no_word word some free plain other another moves (one step m z) = no_word_moves word free other step m
@@ -127,7 +127,7 @@ no_word word some free plain other another moves (inserted text e t) = false≢t
 pub no_command : (command words : List ℕ) → has_no_blank command ≡ true → IsNoComment ((command ++ codes " ") ++ words)
     → (command ≡ codes "type" → ⊥) → (command ≡ codes "insert" → ⊥)
     → ((step : Move) → IsMove ((command ++ codes " ") ++ words) step → ⊥) → (moves : List Move)
-    → Means ((command ++ codes " ") ++ words) moves → ⊥
+    → MeansMoves ((command ++ codes " ") ++ words) moves → ⊥
 no_command command words free plain other another none_is moves (empty e z) = blank_inside command words
     (ap has_no_blank e)
 no_command command words free plain other another none_is moves (comment text e z) = plain text e
@@ -224,21 +224,21 @@ send_says words none_is (Press key) h = differ (codes "send") (codes "key") refl
 
 -- two are an opcode and a body
 pub record_parts : (number hex : List ℕ) → has_no_blank number ≡ true → (opcode : Opcode) (body : List Element)
-    → IsRecordText ((number ++ codes " ") ++ hex) opcode body → IsOpcodeText number opcode × (hex ≢ [])
+    → IsRecordText ((number ++ codes " ") ++ hex) opcode body → IsSendOpcode number opcode × (hex ≢ [])
     × IsBodyText hex body
 record_parts number hex free opcode body r = elim r.rest [
   | inl p ↦ absurd (blank_inside number hex (ap has_no_blank p.0 ∙ digits_have_no_blank r.number r.sent.0.0.1))
   | inr p ↦ (
       let u = split_unique number r.number hex p.0 free (digits_have_no_blank r.number r.sent.0.0.1) p.1 in
       let P : List ℕ → Type 0 = λ z. z ≢ [] in (
-        subst (λ (z : List ℕ). IsOpcodeText z opcode) (sym u.0) r.sent,
+        subst (λ (z : List ℕ). IsSendOpcode z opcode) (sym u.0) r.sent,
         subst P (sym u.1) p.2,
         subst (λ (z : List ℕ). IsBodyText z body) (sym u.1) p.3,
       ))
 ]
 
 pub no_send : (words number hex : List ℕ) → words ≡ (number ++ codes " ") ++ hex → has_no_blank number ≡ true
-    → ((opcode : Opcode) (body : List Element) → IsOpcodeText number opcode → hex ≢ [] → IsBodyText hex body → ⊥)
+    → ((opcode : Opcode) (body : List Element) → IsSendOpcode number opcode → hex ≢ [] → IsBodyText hex body → ⊥)
     → (step : Move) → IsMove (codes "send " ++ words) step → ⊥
 no_send words number hex e free none_is step m = send_says words (λ opcode body r.
     let parts = record_parts number hex free opcode body (subst (λ (z : List ℕ). IsRecordText z opcode body) e r) in
@@ -246,7 +246,7 @@ no_send words number hex e free none_is step m = send_says words (λ opcode body
 
 -- and such words are a record
 pub sends : (words number hex : List ℕ) (opcode : Opcode) (body : List Element) → words ≡ (number ++ codes " ") ++ hex
-    → IsOpcodeText number opcode → hex ≢ [] → IsBodyText hex body → IsMove (codes "send " ++ words) (Send opcode body)
+    → IsSendOpcode number opcode → hex ≢ [] → IsBodyText hex body → IsMove (codes "send " ++ words) (Send opcode body)
 sends words number hex opcode body e sent some text = (
   words,
   refl,

@@ -23,8 +23,8 @@ use Rattle.ws_session.specs.declared.send_fault.SendFault.{SendFault}
 use Rattle.ws_stream.specs.declared.element.Element.{Element}
 use Rattle.ws_live.specs.LiveText.{HaveRun, IsLiveText, stops}
 use Rattle.ws_live.specs.Waits.{InTime}
-use Rattle.ws_live.specs.ServeText.{deed_of, reaction_to, is_awaited, is_told, AnswersOn, HasAnsweredOnce, HaveTold}
-use Rattle.ws_live.specs.ServeText.{HasAnsweredOn, IsAnswerFault, HostRuns, Hears, host_waits, IsDone, IsGiven, IsAnsweringText}
+use Rattle.ws_live.specs.ServeText.{deed_of, reaction_to, is_awaited, is_told, AnswersOn, HasAnsweredOnce, HaveToldBeforeAnswer}
+use Rattle.ws_live.specs.ServeText.{HasAnsweredOn, IsAnswerOnceFault, HostRuns, AwaitsNext, host_waits, IsDone, IsGiven, IsAnsweringText}
 use Rattle.ws_live.specs.ServeText.{IsAnswerOnFault, IsServeText}
 use Rattle.ws_text.specs.Printing.{IsOut}
 use Rattle.ws_text.specs.declared.output.Output.{Output}
@@ -106,9 +106,9 @@ module _ {S K : Type 0} (writer : Writer K) (reader : Reader S) where
 
   -- one thing more is told that isn't the answer
   pub told_behind : (awaited : AnswerAwaited) (from mid to : Parts) (told : List HostEvent) (one : HostEvent)
-      → HaveTold writer reader awaited from told mid
+      → HaveToldBeforeAnswer writer reader awaited from told mid
       → HasHeard HostGoes HostRefuses writer reader mid to (Some one) → is_awaited awaited one ≡ false
-      → HaveTold writer reader awaited from (told ++ one ∷ []) to
+      → HaveToldBeforeAnswer writer reader awaited from (told ++ one ∷ []) to
   told_behind awaited from mid to [] one h heard other = (
     to,
     subst (λ (z : Parts). HasHeard HostGoes HostRefuses writer reader z to (Some one)) h heard,
@@ -124,7 +124,7 @@ module _ {S K : Type 0} (writer : Writer K) (reader : Reader S) where
 
     -- one thing more is told
     pub told_more : (from mid to : Ends × W) (count : ℕ) (printed last : List ℕ) → HaveRun Runs false from
-        (replicate count Await) true printed mid → Hears writer reader tells begins begun mid (Ok Done) last to
+        (replicate count Await) true printed mid → AwaitsNext writer reader tells begins begun mid (Ok Done) last to
         → HaveRun Runs false from (replicate (count + 1) Await) true (printed ++ last) to
     told_more from mid to count printed last h r =
         let longer : replicate count Await ++ Await ∷ [] ≡ replicate (count + 1) Await = replicate-append-replicate
@@ -140,7 +140,7 @@ module _ {S K : Type 0} (writer : Writer K) (reader : Reader S) where
         (h : HaveRun Runs false from (replicate count Await) true printed mid)
         (out : WentOut printer old between printed) where
       answers : (outcome : Result Closing Fault) (last : List ℕ)
-          → Hears writer reader tells begins begun mid outcome last to
+          → AwaitsNext writer reader tells begins begun mid outcome last to
           → AnswersOn writer reader tells begins begun from to outcome (printed ++ last)
       answers outcome last came = record {
         count = count;
@@ -157,8 +157,8 @@ module _ {S K : Type 0} (writer : Writer K) (reader : Reader S) where
           → (text : List ℕ) × HaveRun Runs false from (replicate (count + 1) Await) true text to
           × WentOut printer old new text
       one_told closing one told =
-          let came : Hears writer reader tells begins begun mid (Ok Done) one.0 to = subst
-          (λ (k : Closing). Hears writer reader tells begins begun mid (Ok k) one.0 to)
+          let came : AwaitsNext writer reader tells begins begun mid (Ok Done) one.0 to = subst
+          (λ (k : Closing). AwaitsNext writer reader tells begins begun mid (Ok k) one.0 to)
           (told_done closing told) one.1 in (
             printed ++ one.0,
             told_more from mid to count printed one.0 h came,
@@ -180,7 +180,7 @@ module _ {S K : Type 0} (writer : Writer K) (reader : Reader S) where
       out_both Open last w = went_out_both printer old between new printed last out w
       out_both Unwritten last f = fails_last printer old between new printed last out f
 
-      pub answer_fails : (told : Fault) → IsAnswerFault writer reader tells begins begun printer mid to
+      pub answer_fails : (told : Fault) → IsAnswerOnceFault writer reader tells begins begun printer mid to
           between new told → IsAnswerOnFault writer reader tells begins begun printer from to old new told
       answer_fails told (inl b) = inl (printed ++ b.0, b.1, answers (Err told) b.0 b.2, out_both b.1 b.0 b.3)
       answer_fails told (inr p) = let w = p.1 in

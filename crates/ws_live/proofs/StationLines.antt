@@ -7,7 +7,7 @@ use Rattle.std.proofs.lemmas.Bool.{false≢true}
 use Rattle.ws_live.specs.ConnectLines.{AreKeysOf, AreNamed, MeansKeys, MeansStroke, MeansWait, IsAwaited}
 use Rattle.ws_live.specs.ConnectLines.{IsRowText, IsSpanText, MeansReport}
 use Rattle.ws_live.specs.ConnectLines.{IsCellText, IsFilling, IsTextAwaited, IsTextWait, IsCommandSoFar}
-use Rattle.ws_live.specs.ConnectLines.{IsStationSoFar, Means}
+use Rattle.ws_live.specs.ConnectLines.{IsStationSoFar, MeansStationLine}
 use Rattle.ws_live.specs.ConnectLines.MeansKeys.{typed, inserted, named}
 use Rattle.ws_live.specs.KeyWords.{KeyWords}
 use Rattle.ws_live.specs.Script.{typed_key}
@@ -63,7 +63,7 @@ module _ {Q : Type 0} (w : KeyWords Q) where
   pub no_station_word : (word : List ℕ) → 0 < length word → has_no_blank word ≡ true → IsNoComment word
       → (word ≡ codes "await" → ⊥) → (word ≡ codes "erase" → ⊥) → (word ≡ codes "newline" → ⊥)
       → (word ≡ codes "fields" → ⊥) → (word ≡ codes "show" → ⊥) → (word ≡ codes "status" → ⊥)
-      → (line : StationLine Q) → Means w word line → ⊥
+      → (line : StationLine Q) → MeansStationLine w word line → ⊥
   no_station_word word some free plain na ne nn nf ns nt Nothing m = is_something word some plain m
   no_station_word word some free plain na ne nn nf ns nt (Press keys) m = no_keys word keys free m
   no_station_word word some free plain na ne nn nf ns nt (StrokeLine stroke) m = no_stroke word stroke free nn ne m
@@ -132,7 +132,7 @@ module _ {Q : Type 0} (w : KeyWords Q) where
   report_says command words (Note note) free m = split_unique command (codes "note") words note free refl m
 
   says : (command words : List ℕ) → has_no_blank command ≡ true → IsNoComment ((command ++ codes " ") ++ words)
-      → (line : StationLine Q) → Means w ((command ++ codes " ") ++ words) line → Says command words line
+      → (line : StationLine Q) → MeansStationLine w ((command ++ codes " ") ++ words) line → Says command words line
   says command words free plain Nothing (inl e) = blank_inside command words (ap has_no_blank e)
   says command words free plain Nothing (inr c) = plain c.0 c.1
   says command words free plain (Press keys) m = keys_say command words keys free m
@@ -213,7 +213,7 @@ module _ {Q : Type 0} (w : KeyWords Q) where
   other_says command words other (ReportLine (Note note)) h = other.8 h.0
 
   pub no_station_command : (command words : List ℕ) → has_no_blank command ≡ true → IsNoComment ((command ++ codes " ")
-      ++ words) → IsOther command → (line : StationLine Q) → Means w ((command ++ codes " ") ++ words) line → ⊥
+      ++ words) → IsOther command → (line : StationLine Q) → MeansStationLine w ((command ++ codes " ") ++ words) line → ⊥
   no_station_command command words free plain other line m =
       other_says command words other line (says command words free plain line m)
 
@@ -222,7 +222,7 @@ module _ {Q : Type 0} (w : KeyWords Q) where
   -- a line is none, where a command with such words says none
   none_by : (command words name : List ℕ) → has_no_blank command ≡ true → IsNoComment ((command ++ codes " ") ++ words)
       → command ≡ name → ((line : StationLine Q) → Says name words line → ⊥) → (line : StationLine Q)
-      → Means w ((command ++ codes " ") ++ words) line → ⊥
+      → MeansStationLine w ((command ++ codes " ") ++ words) line → ⊥
   none_by command words name free plain e none_is line m = none_is line
       (subst (λ (z : List ℕ). Says z words line) e (says command words free plain line m))
 
@@ -242,7 +242,7 @@ module _ {Q : Type 0} (w : KeyWords Q) where
 
   pub no_named_line : (command words : List ℕ) → has_no_blank command ≡ true → IsNoComment ((command ++ codes " ")
       ++ words) → command ≡ codes "key" → ((ks : List Q) → AreNamed w words ks → ⊥) → (line : StationLine Q)
-      → Means w ((command ++ codes " ") ++ words) line → ⊥
+      → MeansStationLine w ((command ++ codes " ") ++ words) line → ⊥
   no_named_line command words free plain e none_is =
       none_by command words (codes "key") free plain e (named_says words none_is)
 
@@ -256,7 +256,7 @@ module _ {Q : Type 0} (w : KeyWords Q) where
 
   pub no_awaited_line : (command words : List ℕ) → has_no_blank command ≡ true → IsNoComment ((command ++ codes " ")
       ++ words) → command ≡ codes "await" → ((a : Awaited) → IsAwaited words a → ⊥) → (line : StationLine Q)
-      → Means w ((command ++ codes " ") ++ words) line → ⊥
+      → MeansStationLine w ((command ++ codes " ") ++ words) line → ⊥
   no_awaited_line command words free plain e none_is =
       none_by command words (codes "await") free plain e (awaited_says words none_is)
 
@@ -270,7 +270,7 @@ module _ {Q : Type 0} (w : KeyWords Q) where
 
   pub no_cell_line : (command words : List ℕ) → has_no_blank command ≡ true → IsNoComment ((command ++ codes " ")
       ++ words) → command ≡ codes "cursor" → ((cell : ℕ) → IsCellText words cell → ⊥) → (line : StationLine Q)
-      → Means w ((command ++ codes " ") ++ words) line → ⊥
+      → MeansStationLine w ((command ++ codes " ") ++ words) line → ⊥
   no_cell_line command words free plain e none_is =
       none_by command words (codes "cursor") free plain e (cell_says words none_is)
 
@@ -284,7 +284,7 @@ module _ {Q : Type 0} (w : KeyWords Q) where
 
   pub no_filling_line : (command words : List ℕ) → has_no_blank command ≡ true → IsNoComment ((command ++ codes " ")
       ++ words) → command ≡ codes "field" → ((f : Filling Q) → IsFilling w words f → ⊥) → (line : StationLine Q)
-      → Means w ((command ++ codes " ") ++ words) line → ⊥
+      → MeansStationLine w ((command ++ codes " ") ++ words) line → ⊥
   no_filling_line command words free plain e none_is =
       none_by command words (codes "field") free plain e (filling_says words none_is)
 
@@ -297,7 +297,7 @@ module _ {Q : Type 0} (w : KeyWords Q) where
 
   pub no_row_line : (command words : List ℕ) → has_no_blank command ≡ true → IsNoComment ((command ++ codes " ")
       ++ words) → command ≡ codes "cells" → ((cell : ℕ) → IsRowText words cell → ⊥) → (line : StationLine Q)
-      → Means w ((command ++ codes " ") ++ words) line → ⊥
+      → MeansStationLine w ((command ++ codes " ") ++ words) line → ⊥
   no_row_line command words free plain e none_is =
       none_by command words (codes "cells") free plain e (row_says words none_is)
 
@@ -310,7 +310,7 @@ module _ {Q : Type 0} (w : KeyWords Q) where
 
   pub no_span_line : (command words : List ℕ) → has_no_blank command ≡ true → IsNoComment ((command ++ codes " ")
       ++ words) → command ≡ codes "show" → ((span : Span) → IsSpanText words span → ⊥) → (line : StationLine Q)
-      → Means w ((command ++ codes " ") ++ words) line → ⊥
+      → MeansStationLine w ((command ++ codes " ") ++ words) line → ⊥
   no_span_line command words free plain e none_is =
       none_by command words (codes "show") free plain e (span_says words none_is)
 
@@ -361,5 +361,5 @@ module _ {Q : Type 0} (w : KeyWords Q) where
 
   pub station_so_far : (line text : List ℕ) → text ≡ line → IsUtf8 line → IsCommandSoFar w text
       → IsStationSoFar w line
-  station_so_far line text e utf8 (inl m) = inl (m.0, (utf8, subst (λ (z : List ℕ). Means w z m.0) e m.1))
+  station_so_far line text e utf8 (inl m) = inl (m.0, (utf8, subst (λ (z : List ℕ). MeansStationLine w z m.0) e m.1))
   station_so_far line text e utf8 (inr m) = inr (utf8, subst IsTextWait e m)

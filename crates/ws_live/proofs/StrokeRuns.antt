@@ -16,7 +16,7 @@ use Rattle.ws_session.specs.Displays.{DisplayOf}
 use Rattle.ws_session.specs.PartsOn.{PartsOn}
 use Rattle.ws_session.specs.declared.key_fault.KeyFault.{KeyFault}
 use Rattle.ws_screen.specs.ScreenParts.{ScreenParts}
-use Rattle.ws_live.specs.ConnectText.{refused_text, pressed, KeyRuns, KeysUntil, StrokeRuns}
+use Rattle.ws_live.specs.ConnectText.{key_refused_text, pressed, KeyRuns, KeysUntil, StrokeRuns}
 use Rattle.ws_live.specs.KeyWords.{KeyWords}
 use Rattle.ws_live.specs.Stroking.{keys_behind, no_field_text, stroke_keys, stroke_runs}
 use Rattle.ws_live.specs.declared.live.Closing.{Closing}
@@ -97,7 +97,7 @@ module _ {D P U H PlaceV V Q R S K : Type 0} (rules : Rules P U) (d : DisplayOf 
   -- a key that is taken prints nothing
   quiet : (entered : Option ℕ) (refused : Option KeyFault)
       → ◌≡◌ {A = Result Closing Fault} (Ok Done) (Ok (pressed (is_none refused)))
-      → refused_text entered refused ≡ []
+      → key_refused_text entered refused ≡ []
   quiet entered None e = refl
   quiet entered (Some why) e = cc
 

@@ -58,11 +58,11 @@ abbrev pub IsMilliseconds : List ℕ → ℕ → Type 0
 IsMilliseconds word time = IsNumber word time × (1 ≤ time) × (time ≤ 3600000)
 
 -- the words of a wait for quiet
-abbrev pub IsQuiet : List ℕ → ℕ → Type 0
-IsQuiet words time = (word : List ℕ) × (words ≡ codes "quiet " ++ word) × IsMilliseconds word time
+abbrev pub IsQuietText : List ℕ → ℕ → Type 0
+IsQuietText words time = (word : List ℕ) × (words ≡ codes "quiet " ++ word) × IsMilliseconds word time
 
 abbrev pub IsQuietAwaited : List ℕ → Awaited → Type 0
-IsQuietAwaited words (Quiet time) = IsQuiet words time
+IsQuietAwaited words (Quiet time) = IsQuietText words time
 IsQuietAwaited words awaited = ⊥
 
 -- what is awaited by the words behind `await`
@@ -72,7 +72,7 @@ IsAwaited words Record = words ≡ codes "record"
 IsAwaited words (Text text) = (words ≡ codes "text " ++ string_bytes text) × (string_bytes text ≢ [])
 IsAwaited words (At cell text) = (placed : List ℕ) × (words ≡ codes "at " ++ placed)
     × IsPlacedText placed (At cell text)
-IsAwaited words (Quiet time) = IsQuiet words time
+IsAwaited words (Quiet time) = IsQuietText words time
 
 -- the lines that wait
 abbrev pub MeansWait : List ℕ → Awaited → Type 0
@@ -159,23 +159,23 @@ module _ {Q : Type 0} (w : KeyWords Q) where
   MeansStroke line (Fill filling) = (words : List ℕ) × (line ≡ codes "field " ++ words) × IsFilling words filling
 
   -- what a line means; none means one that is bad
-  abbrev pub Means : List ℕ → StationLine Q → Type 0
-  Means line Nothing = IsNothing line
-  Means line (Press keys) = MeansKeys line keys
-  Means line (StrokeLine stroke) = MeansStroke line stroke
-  Means line (Await awaited) = MeansWait line awaited
-  Means line Fields = line ≡ codes "fields"
-  Means line Show = line ≡ codes "show"
-  Means line (ReportLine report) = MeansReport line report
-  Means line (Bad cause) = ⊥
+  abbrev pub MeansStationLine : List ℕ → StationLine Q → Type 0
+  MeansStationLine line Nothing = IsNothing line
+  MeansStationLine line (Press keys) = MeansKeys line keys
+  MeansStationLine line (StrokeLine stroke) = MeansStroke line stroke
+  MeansStationLine line (Await awaited) = MeansWait line awaited
+  MeansStationLine line Fields = line ≡ codes "fields"
+  MeansStationLine line Show = line ≡ codes "show"
+  MeansStationLine line (ReportLine report) = MeansReport line report
+  MeansStationLine line (Bad cause) = ⊥
 
   -- a line of such a script, which is UTF-8
   abbrev pub IsStationLine : List ℕ → StationLine Q → Type 0
-  IsStationLine line read = IsUtf8 line × Means line read
+  IsStationLine line read = IsUtf8 line × MeansStationLine line read
 
   -- a command that is good as far as it was read: it is a whole one, or waits for a text
   abbrev pub IsCommandSoFar : List ℕ → Type 0
-  IsCommandSoFar line = ((read : StationLine Q) × Means line read) ⊎ IsTextWait line
+  IsCommandSoFar line = ((read : StationLine Q) × MeansStationLine line read) ⊎ IsTextWait line
 
   -- as far as it was read, a line is good: it is a whole one, or one that waits for a text
   abbrev pub IsStationSoFar : List ℕ → Type 0

@@ -98,9 +98,9 @@ abbrev pub key_refused_line : Option ℕ → KeyFault → List ℕ
 key_refused_line entered why = codes "key refused " ++ key_fault_name why ++ entered_behind entered ++ codes "\n"
 
 -- what is printed of a key that enters this: where it is refused, its line
-abbrev pub refused_text : Option ℕ → Option KeyFault → List ℕ
-refused_text entered None = []
-refused_text entered (Some why) = key_refused_line entered why
+abbrev pub key_refused_text : Option ℕ → Option KeyFault → List ℕ
+key_refused_text entered None = []
+key_refused_text entered (Some why) = key_refused_line entered why
 
 -- keys were pressed, and perhaps one was refused
 abbrev pub pressed : Bool → Closing
@@ -127,20 +127,20 @@ IsMet shown operated (Quiet time) display = ⊥
 module _ {D P U H PlaceV V Q R : Type 0} (rules : Rules P U) (d : DisplayOf D U H PlaceV V Q R) where
   module _ {S K : Type 0} (writer : Writer K) (reader : Reader S) where
     -- a station on such a display, on a source and a sink
-    abbrev pub Parts : Type 0
-    Parts = AttachedParts (PartsOn D P) S K
+    abbrev pub AttachedStation : Type 0
+    AttachedStation = AttachedParts (PartsOn D P) S K
 
     -- one call of `hear` leads from there to there, and tells this
-    abbrev pub Hears : Parts → Option Applied → Parts → Type 0
+    abbrev pub Hears : AttachedStation → Option Applied → AttachedStation → Type 0
     Hears from heard to = HasHeard (GoesOnDisplay rules d) (RefusesOn rules d) writer reader from to heard
 
     -- one call of `hear` failed for this
-    abbrev pub HearsFault : Parts → Fault → Parts → Type 0
+    abbrev pub HearsFault : AttachedStation → Fault → AttachedStation → Type 0
     HearsFault from why to =
         IsHearFault (GoesOnDisplay rules d) (RefusesOn rules d) writer reader from to why
 
     -- a key was pressed: what it sends went out, or it was refused, and nothing is changed; no byte was read or taken
-    pub record IsPressed (key : Q) (from : Parts) (refused : Option KeyFault) (to : Parts) : Type 0 where
+    pub record IsKeyPressed (key : Q) (from : AttachedStation) (refused : Option KeyFault) (to : AttachedStation) : Type 0 where
       pub led : HaveLed (GoesOnDisplay rules d) (RefusesOn rules d) writer reader from to
           (Did key ∷ []) []
       pub same : IfSome refused (λ why. to ≡ from)
@@ -150,88 +150,88 @@ module _ {D P U H PlaceV V Q R : Type 0} (rules : Rules P U) (d : DisplayOf D U 
       pub unread : to.source ≡ from.source
 
     -- a key was pressed, and what it sends didn't go out
-    abbrev pub IsUnwritten : Q → Parts → Parts → Type 0
-    IsUnwritten key from to =
+    abbrev pub IsKeyUnwritten : Q → AttachedStation → AttachedStation → Type 0
+    IsKeyUnwritten key from to =
         HaveLedUnwritten (GoesOnDisplay rules d) (RefusesOn rules d) writer reader from to (Did key ∷ [])
 
     -- Keys by these words.
     module _ (w : KeyWords Q) where
       -- a key, how its line would close, and what it prints: it was pressed, or what it sends didn't go out
-      abbrev pub KeyRuns : Q → Parts → Result Closing Fault → List ℕ → Parts → Type 0
-      KeyRuns key from outcome text to = ((refused : Option KeyFault) × IsPressed key from refused to
-          × (outcome ≡ Ok (pressed (is_none refused))) × (text ≡ refused_text (w.entered key) refused))
-          ⊎ (IsUnwritten key from to × (outcome ≡ Err fault.Write) × (text ≡ []))
+      abbrev pub KeyRuns : Q → AttachedStation → Result Closing Fault → List ℕ → AttachedStation → Type 0
+      KeyRuns key from outcome text to = ((refused : Option KeyFault) × IsKeyPressed key from refused to
+          × (outcome ≡ Ok (pressed (is_none refused))) × (text ≡ key_refused_text (w.entered key) refused))
+          ⊎ (IsKeyUnwritten key from to × (outcome ≡ Err fault.Write) × (text ≡ []))
 
       -- keys one after another
-      abbrev pub ArePressed : Parts → List Q → Bool → List ℕ → Parts → Type 0
+      abbrev pub ArePressed : AttachedStation → List Q → Bool → List ℕ → AttachedStation → Type 0
       ArePressed from [] well text to = (to ≡ from) × (well ≡ true) × (text ≡ [])
-      ArePressed from (key ∷ keys) well text to = (refused : Option KeyFault) × (mid : Parts) × (rest_well : Bool)
-          × (rest : List ℕ) × IsPressed key from refused mid × ArePressed mid keys rest_well rest to
-          × (well ≡ is_none refused && rest_well) × (text ≡ refused_text (w.entered key) refused ++ rest)
+      ArePressed from (key ∷ keys) well text to = (refused : Option KeyFault) × (mid : AttachedStation) × (rest_well : Bool)
+          × (rest : List ℕ) × IsKeyPressed key from refused mid × ArePressed mid keys rest_well rest to
+          × (well ≡ is_none refused && rest_well) × (text ≡ key_refused_text (w.entered key) refused ++ rest)
 
       -- keys at a station, how their line closes, and what it prints: all were pressed, or up to one that wasn't written
-      abbrev pub KeysRun : List Q → Parts → Result Closing Fault → List ℕ → Parts → Type 0
+      abbrev pub KeysRun : List Q → AttachedStation → Result Closing Fault → List ℕ → AttachedStation → Type 0
       KeysRun keys from outcome text to =
           ((well : Bool) × ArePressed from keys well text to × (outcome ≡ Ok (pressed well)))
-          ⊎ ((before : List Q) × (key : Q) × (after : List Q) × (well : Bool) × (mid : Parts)
-          × (keys ≡ before ++ key ∷ after) × ArePressed from before well text mid × IsUnwritten key mid to
+          ⊎ ((before : List Q) × (key : Q) × (after : List Q) × (well : Bool) × (mid : AttachedStation)
+          × (keys ≡ before ++ key ∷ after) × ArePressed from before well text mid × IsKeyUnwritten key mid to
           × (outcome ≡ Err fault.Write))
 
       -- keys one after another, up to the first that isn't taken, how their line closes, and what it prints
-      abbrev pub KeysUntil : List Q → Parts → Result Closing Fault → List ℕ → Parts → Type 0
+      abbrev pub KeysUntil : List Q → AttachedStation → Result Closing Fault → List ℕ → AttachedStation → Type 0
       KeysUntil [] from outcome text to = (to ≡ from) × (outcome ≡ Ok Done) × (text ≡ [])
       KeysUntil (key ∷ keys) from outcome text to =
-          ((mid : Parts) × KeyRuns key from (Ok Done) [] mid × KeysUntil keys mid outcome text to)
+          ((mid : AttachedStation) × KeyRuns key from (Ok Done) [] mid × KeysUntil keys mid outcome text to)
           ⊎ (KeyRuns key from outcome text to × (outcome ≢ Ok Done))
 
       -- the keys of a stroke, or what is printed where the screen hasn't the field that it names
-      abbrev pub StrokeRuns : Option (List Q) → Parts → Result Closing Fault → List ℕ → Parts → Type 0
+      abbrev pub StrokeRuns : Option (List Q) → AttachedStation → Result Closing Fault → List ℕ → AttachedStation → Type 0
       StrokeRuns None from outcome text to = (to ≡ from) × (outcome ≡ Ok Declined) × (text ≡ no_field_text)
       StrokeRuns (Some keys) from outcome text to = KeysUntil keys from outcome text to
 
     -- records were applied one after another, and before each it wasn't yet met
-    abbrev pub HasWaited : (D → Type 0) → Parts → List Applied → Parts → Type 0
+    abbrev pub HasWaited : (D → Type 0) → AttachedStation → List Applied → AttachedStation → Type 0
     HasWaited Met' from [] to = to ≡ from
-    HasWaited Met' from (told ∷ more) to = (mid : Parts) × (Met' from.end.screen → ⊥) × Hears from (Some told) mid
+    HasWaited Met' from (told ∷ more) to = (mid : AttachedStation) × (Met' from.end.screen → ⊥) × Hears from (Some told) mid
         × HasWaited Met' mid more to
 
     -- What a wait comes to, at a watch that tells of a source whether the read that failed was late.
     module _ (tells : S → Bool → Type 0) where
       -- no record more was applied: the host closed, a read failed, for want of time or otherwise, a byte was refused,
       -- or a write failed
-      abbrev pub HearsNone : Parts → Waited → Parts → Type 0
+      abbrev pub HearsNone : AttachedStation → Waited → AttachedStation → Type 0
       HearsNone from Met to = ⊥
       HearsNone from WasLate to = HearsFault from fault.Read to × tells to.source true
       HearsNone from HasEnded to = Hears from None to
       HearsNone from (Failed why) to = HearsFault from why to × (why ≡ fault.Read → tells to.source false)
 
       -- the next record, whatever it is
-      abbrev pub HearsOne : Parts → Waited → Parts → Type 0
+      abbrev pub HearsOne : AttachedStation → Waited → AttachedStation → Type 0
       HearsOne from Met to = (told : Applied) × Hears from (Some told) to
       HearsOne from waited to = HearsNone from waited to
 
       -- a wait: up to the first record at which it was met, or one that never came; no wait takes more than the most
       -- records
-      abbrev pub WaitsFor : (D → Type 0) → Parts → Waited → Parts → Type 0
+      abbrev pub WaitsFor : (D → Type 0) → AttachedStation → Waited → AttachedStation → Type 0
       WaitsFor Met' from waited to =
           ((told : List Applied) × HasWaited Met' from told to × Met' to.end.screen × (waited ≡ Met))
-          ⊎ (((told : List Applied) × (mid : Parts) × HasWaited Met' from told mid × (Met' mid.end.screen → ⊥)
+          ⊎ (((told : List Applied) × (mid : AttachedStation) × HasWaited Met' from told mid × (Met' mid.end.screen → ⊥)
           × HearsNone mid waited to)
           ⊎ ((told : List Applied) × HasWaited Met' from told to × (length told ≡ most_reads)
           × (waited ≡ Failed fault.Read)))
 
       -- all records that came in a wait were applied, and this ended it
-      abbrev pub TakesAll : Parts → List Applied → Waited → Parts → Type 0
-      TakesAll from told ended to = (mid : Parts) × HasWaited (λ display. ⊥) from told mid
+      abbrev pub AppliesAll : AttachedStation → List Applied → Waited → AttachedStation → Type 0
+      AppliesAll from told ended to = (mid : AttachedStation) × HasWaited (λ display. ⊥) from told mid
           × (HearsNone mid ended to ⊎ ((length told ≡ most_reads) × (to ≡ mid) × (ended ≡ Failed fault.Read)))
 
       -- A line that shows something of a station: the records that have come are applied first, and are ahead then;
       -- behind its text stands what there was behind them, if not only that no more has come.
-      pub record Shows (IsText : PartsOn D P → List ℕ → Type 0) (from : Parts × ℕ) (outcome : Result Closing Fault)
-          (text : List ℕ) (to : Parts × ℕ) : Type 0 where
+      pub record ShowsStation (IsText : PartsOn D P → List ℕ → Type 0) (from : AttachedStation × ℕ) (outcome : Result Closing Fault)
+          (text : List ℕ) (to : AttachedStation × ℕ) : Type 0 where
         pub told : List Applied
         pub ended : Waited
-        pub taken : TakesAll from.0 told ended to.0
+        pub taken : AppliesAll from.0 told ended to.0
         pub ahead : to.1 ≡ more_ahead from.1 told
         pub shown : List ℕ
         pub is : IsText to.0.end shown
@@ -239,28 +239,28 @@ module _ {D P U H PlaceV V Q R : Type 0} (rules : Rules P U) (d : DisplayOf D U 
         pub all : text ≡ shown ++ waited_text (rested true ended)
 
       -- a line that reports: a note is printed as it is
-      abbrev pub Reports : AReport → (Parts × ℕ) → Result Closing Fault → List ℕ → (Parts × ℕ) → Type 0
+      abbrev pub Reports : AReport → (AttachedStation × ℕ) → Result Closing Fault → List ℕ → (AttachedStation × ℕ) → Type 0
       Reports (Note note) from outcome text to = (to ≡ from) × (outcome ≡ Ok Done) × (text ≡ note_line note)
-      Reports report from outcome text to = Shows (λ station. IsReportText (d.shown station.screen)
+      Reports report from outcome text to = ShowsStation (λ station. IsReportText (d.shown station.screen)
           (station_allows_records station.options) station.records station.live.taken report) from outcome text to
 
       -- a wait for a record is met at once where one is ahead
-      abbrev pub IsNext : ℕ → Parts → Waited → Parts → Type 0
-      IsNext ahead from waited to = ((0 < ahead) × (to ≡ from) × (waited ≡ Met))
+      abbrev pub WaitsForRecord : ℕ → AttachedStation → Waited → AttachedStation → Type 0
+      WaitsForRecord ahead from waited to = ((0 < ahead) × (to ≡ from) × (waited ≡ Met))
           ⊎ ((ahead ≡ 0) × HearsOne from waited to)
 
       -- The same watch tells whether nothing had come for the time of a quiet wait.
       module _ (rests : S → Bool → Type 0) where
         -- a wait for quiet takes all records, and is met where it was over since nothing came
-        abbrev pub IsQuieted : Parts → Waited → Parts → Type 0
+        abbrev pub IsQuieted : AttachedStation → Waited → AttachedStation → Type 0
         IsQuieted from waited to = (told : List Applied) × (ended : Waited) × (quiet : Bool)
-            × TakesAll from told ended to × rests to.source quiet × (waited ≡ rested quiet ended)
+            × AppliesAll from told ended to × rests to.source quiet × (waited ≡ rested quiet ended)
 
         -- Lines of an operator at it.
         module _ (operated : OperatedOn D) where
           -- what is awaited: one more record, quiet, or a display by which it is met
-          abbrev pub IsWaited : Awaited → (Parts × ℕ) → Waited → Parts → Type 0
-          IsWaited Record from waited to = IsNext from.1 from.0 waited to
+          abbrev pub IsWaited : Awaited → (AttachedStation × ℕ) → Waited → AttachedStation → Type 0
+          IsWaited Record from waited to = WaitsForRecord from.1 from.0 waited to
           IsWaited (Quiet time) from waited to = IsQuieted from.0 waited to
           IsWaited awaited from waited to = WaitsFor (IsMet d.shown operated awaited) from.0 waited to
 
@@ -269,8 +269,8 @@ module _ {D P U H PlaceV V Q R : Type 0} (rules : Rules P U) (d : DisplayOf D U 
             -- A line at a station, how it closed, and what it printed, with screens in a paint; the keys of a stroke
             -- are those at the screen that the station then has. Behind a line that waits or presses keys no record is
             -- ahead.
-            abbrev pub StationRuns : Paint → StationLine Q → (Parts × ℕ) → Result Closing Fault → List ℕ
-                → (Parts × ℕ) → Type 0
+            abbrev pub StationRuns : Paint → StationLine Q → (AttachedStation × ℕ) → Result Closing Fault → List ℕ
+                → (AttachedStation × ℕ) → Type 0
             StationRuns paint NoLine from outcome text to = (to ≡ from) × (outcome ≡ Ok Nothing) × (text ≡ [])
             StationRuns paint (Press keys) from outcome text to = KeysRun w keys from.0 outcome text to.0 × (to.1 ≡ 0)
             StationRuns paint (Stroke stroke) from outcome text to =
@@ -279,9 +279,9 @@ module _ {D P U H PlaceV V Q R : Type 0} (rules : Rules P U) (d : DisplayOf D U 
                 × IsWaited awaited from waited to.0 × (outcome ≡ waited_outcome waited) × (text ≡ waited_text waited)
                 × (to.1 ≡ 0)
             StationRuns paint Fields from outcome text to =
-                Shows (λ station. AreFieldLines (d.shown station.screen)) from outcome text to
+                ShowsStation (λ station. AreFieldLines (d.shown station.screen)) from outcome text to
             StationRuns paint Show from outcome text to =
-                Shows (λ station. IsDisplayText paint (d.shown station.screen) (operated.behind station.screen)) from
+                ShowsStation (λ station. IsDisplayText paint (d.shown station.screen) (operated.behind station.screen)) from
                 outcome text to
             StationRuns paint (Report report) from outcome text to = Reports report from outcome text to
             StationRuns paint (Bad cause) from outcome text to = (to ≡ from) × (outcome ≡ bad_outcome)
@@ -289,8 +289,8 @@ module _ {D P U H PlaceV V Q R : Type 0} (rules : Rules P U) (d : DisplayOf D U 
 
             -- what the lines of a script at a station print, and whether all went well
             module _ {W : Type 0} (begins : W → S → WaitSpan → W → Type 0) (begun : W → ℕ) where
-              abbrev pub IsConnectText : Paint → Bool → ((Parts × ℕ) × W) → List (StationLine Q) → Bool → List ℕ
-                  → ((Parts × ℕ) × W) → Type 0
+              abbrev pub IsConnectText : Paint → Bool → ((AttachedStation × ℕ) × W) → List (StationLine Q) → Bool → List ℕ
+                  → ((AttachedStation × ℕ) × W) → Type 0
               IsConnectText paint ready from lines all_well text to = (ran : Ran)
                   × IsLiveText (InTime (StationRuns paint) station_waits begins begun) ready from lines ran text to
                   × (all_well ≡ ran.all_well)

@@ -36,11 +36,6 @@ function_keys = (codes "F1", function_key 1) ∷ (codes "F2", function_key 2) �
     ∷ (codes "F19", function_key 19) ∷ (codes "F20", function_key 20) ∷ (codes "F21", function_key 21)
     ∷ (codes "F22", function_key 22) ∷ (codes "F23", function_key 23) ∷ (codes "F24", function_key 24) ∷ []
 
--- what a table has for a name
-abbrev pub look_up : List ℕ → List (List ℕ × Key) → Option Key
-look_up name [] = None
-look_up name ((known, key) ∷ rest) = if bytes_eq name known then Some key else look_up name rest
-
 -- the first of two, where there is one
 abbrev pub first_of_two : Option Key → Option Key → Option Key
 first_of_two None other = other

@@ -64,7 +64,7 @@ module _ {L : Type 0} (means : List ℕ → List (List ℕ) → L → Type 0) (o
   module _ (bad_at : List ℕ → List (List ℕ) → ℕ → Type 0) where
     -- the first bad line of a script, counted from 1 as far as 64 bits count: it is one, or belongs to one, that means
     -- nothing
-    pub record IsFirstBad (text : List ℕ) (number : ℕ) : Type 0 where
+    pub record IsFirstBadLiveLine (text : List ℕ) (number : ℕ) : Type 0 where
       pub before : List (List ℕ)
       pub line : List ℕ
       pub inside : List (List ℕ)
@@ -81,29 +81,29 @@ module _ {L : Type 0} (means : List ℕ → List (List ℕ) → L → Type 0) (o
 module _ {L : Type 0} (means : List ℕ → List (List ℕ) → L → Type 0) (begins : List ℕ → Type 0) where
   -- as far as it was read, a line is good: it is a whole one with those that belong to it; or none belongs to it, and
   -- it is one up to what takes memory
-  abbrev pub IsGoodSoFar : List ℕ → List (List ℕ) → Type 0
-  IsGoodSoFar line inside = ((read : L) × means line inside read) ⊎ ((inside ≡ []) × begins line)
+  abbrev pub IsGoodBlockSoFar : List ℕ → List (List ℕ) → Type 0
+  IsGoodBlockSoFar line inside = ((read : L) × means line inside read) ⊎ ((inside ≡ []) × begins line)
 
   -- why a line isn't read: with those that belong to it it means nothing, and this one is bad, counted from 1; or it is
   -- good as far as it was read, and a growth was refused
   abbrev pub IsBlockFault : (List ℕ → List (List ℕ) → ℕ → Type 0) → List ℕ → List (List ℕ) → ScriptFault → Type 0
   IsBlockFault bad_at line inside (Line at) = ((read : L) → means line inside read → ⊥) × bad_at line inside at
-  IsBlockFault bad_at line inside Memory = IsGoodSoFar line inside
+  IsBlockFault bad_at line inside Memory = IsGoodBlockSoFar line inside
 
   module _ (opener : List ℕ → Type 0) where
     -- as far as it was read, a script is good: behind good lines stands one that is good so far, with all that belong
     -- to it
-    pub record IsReadSoFar (text : List ℕ) : Type 0 where
+    pub record IsLiveScriptSoFar (text : List ℕ) : Type 0 where
       pub line : List ℕ
       pub inside : List (List ℕ)
       pub after : List (List ℕ)
       pub read : List L
       pub good : MeanThese means opener (lines text) read (line ∷ (inside ++ after))
       pub block : IsBlock opener line inside after
-      pub so_far : IsGoodSoFar line inside
+      pub so_far : IsGoodBlockSoFar line inside
 
 module _ {L : Type 0} (means : List ℕ → List (List ℕ) → L → Type 0) (opener begins : List ℕ → Type 0) where
   -- why a script isn't read: its first bad line, or it is good as far as it was read, and a growth was refused
   abbrev pub IsReadingFault : (List ℕ → List (List ℕ) → ℕ → Type 0) → List ℕ → ScriptFault → Type 0
-  IsReadingFault bad_at text (Line number) = IsFirstBad means opener bad_at text number
-  IsReadingFault bad_at text Memory = IsReadSoFar means begins opener text
+  IsReadingFault bad_at text (Line number) = IsFirstBadLiveLine means opener bad_at text number
+  IsReadingFault bad_at text Memory = IsLiveScriptSoFar means begins opener text

@@ -111,8 +111,8 @@ module _ {L P : Type 0} (runs : L → P → Result Closing Fault → List ℕ �
 
     -- why a line wasn't carried out: its text didn't go out whole, an end's device failed, or memory was wanting; the
     -- text so far went out then, or a prefix of it
-    abbrev pub IsCarryFault : L → Fault → Type 0
-    IsCarryFault line fault = ((fault ≡ Write)
+    abbrev pub IsLiveLineFault : L → Fault → Type 0
+    IsLiveLineFault line fault = ((fault ≡ Write)
         × ((closing : Closing) × (text : List ℕ) × runs line from (Ok closing) text to
         × FailedWithin writer old new (text ++ closing_text ready closing)))
         ⊎ ((text : List ℕ) × (output : Output) × runs line from (Err fault) text to
@@ -120,8 +120,8 @@ module _ {L P : Type 0} (runs : L → P → Result Closing Fault → List ℕ �
 
     -- the lines were carried out one after another, up to the first that stopped the session, and what they printed
     -- went out
-    abbrev pub HasRun : List L → Ran → Type 0
-    HasRun lines ran = (text : List ℕ) × IsLiveText from lines ran text to × WentOut writer old new text
+    abbrev pub HasRunLines : List L → Ran → Type 0
+    HasRunLines lines ran = (text : List ℕ) × IsLiveText from lines ran text to × WentOut writer old new text
 
     -- a line's text didn't go out: those before it are out
     pub record IsUnprinted (lines : List L) : Type 0 where

@@ -6,7 +6,7 @@ use Rattle.std.specs.Fmt.{decimal}
 use Rattle.hex.specs.Hex.{encode_upper}
 use Rattle.ws_code.specs.declared.reason.Reason.{Reason}
 use Rattle.ws_code.specs.Reason.{number_of}
-use Rattle.ws_nego.specs.Terminal.{name_of as terminal_name}
+use Rattle.ws_nego.specs.Terminal.{terminal_type_name as terminal_name}
 use Rattle.ws_screen.specs.ScreenParts.{ScreenParts}
 use Rattle.ws_keys.specs.declared.key.KeyRefusal.{KeyRefusal}
 use Rattle.ws_keys.specs.declared.key.KeyRefusal.TheVariants.{Locked, Protected, WrongCharacter, DupNotAllowed, NoRoom}
@@ -109,13 +109,13 @@ abbrev pub IsPlayText : List Event → ScreenParts → Bool → List ℕ → Typ
 IsPlayText = IsPaintedPlayText Plain
 
 -- the event is that an end has refused a byte
-abbrev pub is_refusal : Event → Bool
-is_refusal (Host event) = false
-is_refusal (KeyRefused fault) = false
-is_refusal (SendRefused fault) = false
-is_refusal (StationRefused place reason) = true
-is_refusal (HostRefused place reason) = true
+abbrev pub is_end_refusal : Event → Bool
+is_end_refusal (Host event) = false
+is_end_refusal (KeyRefused fault) = false
+is_end_refusal (SendRefused fault) = false
+is_end_refusal (StationRefused place reason) = true
+is_end_refusal (HostRefused place reason) = true
 
 -- no end has refused a byte
 abbrev pub no_end_refuses : List Event → Bool
-no_end_refuses events = list_all (λ event. not (is_refusal event)) events
+no_end_refuses events = list_all (λ event. not (is_end_refusal event)) events

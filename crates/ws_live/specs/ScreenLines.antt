@@ -19,9 +19,9 @@ pub record IsWithoutLastBlanks (text shown : List ℕ) : Type 0 where
   pub last : (front : List ℕ) → shown ≢ front ++ 0x20 ∷ []
 
 -- what a row shows, plain or in colour, without the blanks at its end
-abbrev pub IsRow : Paint → List ℕ → ℕ → List ℕ → Type 0
-IsRow Plain cells row shown = IsWithoutLastBlanks (encode_utf8_all (row_chars cells row)) shown
-IsRow Color cells row shown = IsColoredRow (shown_row cells row) shown
+abbrev pub IsShownRow : Paint → List ℕ → ℕ → List ℕ → Type 0
+IsShownRow Plain cells row shown = IsWithoutLastBlanks (encode_utf8_all (row_chars cells row)) shown
+IsShownRow Color cells row shown = IsColoredRow (shown_row cells row) shown
 
 -- what stands before a row's number
 abbrev pub indent : ℕ → List ℕ
@@ -36,7 +36,7 @@ row_line row (b ∷ shown) = indent row ++ decimal row ++ codes " " ++ b ∷ sho
 unfoldable pub AreRows : Paint → List ℕ → List ℕ → List ℕ → Type 0
 AreRows paint cells [] text = text ≡ []
 AreRows paint cells (row ∷ rows) text = (shown : List ℕ) × (rest : List ℕ)
-    × IsRow paint cells row shown × (text ≡ row_line row shown ++ rest) × AreRows paint cells rows rest
+    × IsShownRow paint cells row shown × (text ≡ row_line row shown ++ rest) × AreRows paint cells rows rest
 
 -- the word for the keyboard's lock
 abbrev pub lock_name : Bool → List ℕ

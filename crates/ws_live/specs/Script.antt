@@ -31,13 +31,13 @@ abbrev pub IsBodyText : List ℕ → List Element → Type 0
 IsBodyText hex body = (bytes : List ℕ) × (decode_of hex ≡ Ok bytes) × IsBody element_rules bytes body
 
 -- an opcode in decimal, other than that of Cancel Invite
-abbrev pub IsOpcodeText : List ℕ → Opcode → Type 0
-IsOpcodeText number opcode = IsNumber number (opcode_byte opcode) × (opcode ≢ CancelInvite)
+abbrev pub IsSendOpcode : List ℕ → Opcode → Type 0
+IsSendOpcode number opcode = IsNumber number (opcode_byte opcode) × (opcode ≢ CancelInvite)
 
 -- a record to be sent: its opcode, and its body behind a blank where it has one
 pub record IsRecordText (words : List ℕ) (opcode : Opcode) (body : List Element) : Type 0 where
   pub number : List ℕ
-  pub sent : IsOpcodeText number opcode
+  pub sent : IsSendOpcode number opcode
   pub rest : ((words ≡ number) × (body ≡ []))
       ⊎ ((hex : List ℕ) × (words ≡ number ++ codes " " ++ hex) × (hex ≢ []) × IsBodyText hex body)
 
@@ -62,33 +62,33 @@ abbrev pub typed_key : Bool → ℕ → Key
 typed_key inserts character = if inserts then Insert character else Char character
 
 -- a key for each character of a text in UTF-8
-pub record AreTyped (inserts : Bool) (text : List ℕ) (moves : List Move) : Type 0 where
+pub record AreTypedMoves (inserts : Bool) (text : List ℕ) (moves : List Move) : Type 0 where
   pub characters : List ℕ
   pub are : all_scalars characters ≡ true
   pub spelled : encode_utf8_all characters ≡ text
   pub typed : moves ≡ map (λ c. Press (typed_key inserts c)) characters
 
 -- the forms of a line, and the moves that each gives
-pub data Means (line : List ℕ) (moves : List Move) : Type 0 where
-  empty : line ≡ [] → moves ≡ [] → Means line moves
-  comment : (text : List ℕ) → line ≡ codes "#" ++ text → moves ≡ [] → Means line moves
-  one : (step : Move) → IsMove line step → moves ≡ step ∷ [] → Means line moves
-  settle : line ≡ codes "settle" → moves ≡ settling → Means line moves
-  typed : (text : List ℕ) → line ≡ codes "type " ++ text → AreTyped false text moves → Means line moves
-  inserted : (text : List ℕ) → line ≡ codes "insert " ++ text → AreTyped true text moves → Means line moves
+pub data MeansMoves (line : List ℕ) (moves : List Move) : Type 0 where
+  empty : line ≡ [] → moves ≡ [] → MeansMoves line moves
+  comment : (text : List ℕ) → line ≡ codes "#" ++ text → moves ≡ [] → MeansMoves line moves
+  one : (step : Move) → IsMove line step → moves ≡ step ∷ [] → MeansMoves line moves
+  settle : line ≡ codes "settle" → moves ≡ settling → MeansMoves line moves
+  typed : (text : List ℕ) → line ≡ codes "type " ++ text → AreTypedMoves false text moves → MeansMoves line moves
+  inserted : (text : List ℕ) → line ≡ codes "insert " ++ text → AreTypedMoves true text moves → MeansMoves line moves
 
 -- a line of a script, which is UTF-8, and its moves
-abbrev pub IsLine : List ℕ → List Move → Type 0
-IsLine line moves = IsUtf8 line × Means line moves
+abbrev pub IsScriptLine : List ℕ → List Move → Type 0
+IsScriptLine line moves = IsUtf8 line × MeansMoves line moves
 
 -- a line that gives no moves: it is none of these
 abbrev pub IsBad : List ℕ → Type 0
-IsBad line = (moves : List Move) → IsLine line moves → ⊥
+IsBad line = (moves : List Move) → IsScriptLine line moves → ⊥
 
 -- lines and their moves, in order
 abbrev pub AreLines : List (List ℕ) → List Move → Type 0
 AreLines [] moves = moves ≡ []
-AreLines (line ∷ more) moves = (first : List Move) × (rest : List Move) × IsLine line first × AreLines more rest
+AreLines (line ∷ more) moves = (first : List Move) × (rest : List Move) × IsScriptLine line first × AreLines more rest
     × (moves ≡ first ++ rest)
 
 -- a script and its moves; its lines are those of a text, each ended by LF, of which the last may lack it, without a CR

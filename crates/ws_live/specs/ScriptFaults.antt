@@ -10,12 +10,12 @@ use Rattle.ws_live.specs.declared.script.ScriptFault.{ScriptFault}
 use Rattle.ws_live.specs.declared.script.ScriptFault.TheVariants.{Line, Memory}
 use Rattle.ws_live.specs.declared.script_line.LineFault.{LineFault}
 use Rattle.ws_live.specs.declared.script_line.LineFault.TheVariants.{Bad, Memory as LineMemory}
-use Rattle.ws_live.specs.Script.{Means, AreLines, IsOpcodeText, IsFirstBad}
+use Rattle.ws_live.specs.Script.{MeansMoves, AreLines, IsSendOpcode, IsFirstBad}
 
 -- the words of a record to be sent are good up to its body
 abbrev pub IsSendBegun : List ℕ → Type 0
 IsSendBegun words = (number : List ℕ) × (hex : List ℕ) × (opcode : Opcode) × (words ≡ number ++ codes " " ++ hex)
-    × IsOpcodeText number opcode
+    × IsSendOpcode number opcode
 
 -- a line that sends one is
 abbrev pub IsSendLine : List ℕ → Type 0
@@ -23,7 +23,7 @@ IsSendLine line = (words : List ℕ) × (line ≡ codes "send " ++ words) × IsS
 
 -- as far as it was read, a line is good: it is a whole one, or a `send` up to its body
 abbrev pub IsGoodSoFar : List ℕ → Type 0
-IsGoodSoFar line = ((moves : List Move) × Means line moves) ⊎ IsSendLine line
+IsGoodSoFar line = ((moves : List Move) × MeansMoves line moves) ⊎ IsSendLine line
 
 -- as far as it was read, a script is good
 pub record IsReadSoFar (text : List ℕ) : Type 0 where

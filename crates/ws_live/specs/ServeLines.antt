@@ -12,7 +12,7 @@ use Rattle.ws_text.specs.BodyLines.{AddUnits, IsAddFault, new_record}
 use Rattle.ws_text.specs.declared.items.TextFault.TheVariants as items
 use Rattle.ws_live.specs.ConnectLines.{IsNothing}
 use Rattle.ws_live.specs.KeyNames.{aid_named}
-use Rattle.ws_live.specs.Script.{IsOpcodeText, IsRecordText}
+use Rattle.ws_live.specs.Script.{IsSendOpcode, IsRecordText}
 use Rattle.ws_live.specs.ScriptFaults.{IsSendLine}
 use Rattle.ws_live.specs.WireLines.{IsWireBegun, MeansWire}
 use Rattle.ws_live.specs.declared.serve_line.AnswerAwaited.{AnswerAwaited}
@@ -30,20 +30,20 @@ abbrev pub IsIdle : List ℕ → Type 0
 IsIdle line = IsNothing line ⊎ (line ≡ codes "end")
 
 -- what a line means by itself; none means one that is bad
-abbrev pub Means : List ℕ → HostLine → Type 0
-Means line Nothing = IsIdle line
-Means line (Give (Send opcode body)) = (words : List ℕ) × (line ≡ codes "send " ++ words)
+abbrev pub MeansHostLine : List ℕ → HostLine → Type 0
+MeansHostLine line Nothing = IsIdle line
+MeansHostLine line (Give (Send opcode body)) = (words : List ℕ) × (line ≡ codes "send " ++ words)
     × IsRecordText words opcode body
-Means line (Give Cancel) = line ≡ codes "cancel"
-Means line Await = line ≡ codes "await"
-Means line (AwaitAnswer awaited) = (words : List ℕ) × (line ≡ codes "await " ++ words) × IsAnswerAwaited words awaited
-Means line Show = line ≡ codes "show"
-Means line (Wire wire) = MeansWire line wire
-Means line (Bad cause) = ⊥
+MeansHostLine line (Give Cancel) = line ≡ codes "cancel"
+MeansHostLine line Await = line ≡ codes "await"
+MeansHostLine line (AwaitAnswer awaited) = (words : List ℕ) × (line ≡ codes "await " ++ words) × IsAnswerAwaited words awaited
+MeansHostLine line Show = line ≡ codes "show"
+MeansHostLine line (Wire wire) = MeansWire line wire
+MeansHostLine line (Bad cause) = ⊥
 
 -- a line by itself, which is UTF-8
 abbrev pub IsOneLine : List ℕ → HostLine → Type 0
-IsOneLine line read = IsUtf8 line × Means line read
+IsOneLine line read = IsUtf8 line × MeansHostLine line read
 
 -- the lines that take memory: one that sends a record, up to the record's body, or works on the connection
 abbrev pub IsHostBegun : List ℕ → Type 0
@@ -55,7 +55,7 @@ IsOneSoFar line = ((read : HostLine) × IsOneLine line read) ⊎ (IsUtf8 line ×
 
 -- a line that sends a record, and says no more of it than its opcode
 abbrev pub SendsAlone : List ℕ → List ℕ → Opcode → Type 0
-SendsAlone line number opcode = IsUtf8 line × (line ≡ codes "send " ++ number) × IsOpcodeText number opcode
+SendsAlone line number opcode = IsUtf8 line × (line ≡ codes "send " ++ number) × IsSendOpcode number opcode
 
 -- elements may stand behind such a line
 abbrev pub OpensHostBlock : List ℕ → Type 0

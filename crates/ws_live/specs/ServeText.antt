@@ -68,13 +68,13 @@ host_waits (AwaitAnswer awaited) = Some Whole
 host_waits line = None
 
 -- the answer is the one that a wait is for
-abbrev pub is_answer : AnswerAwaited → ℕ → Bool
-is_answer Any aid = true
-is_answer (By key) aid = aid == key
+abbrev pub is_awaited_aid : AnswerAwaited → ℕ → Bool
+is_awaited_aid Any aid = true
+is_awaited_aid (By key) aid = aid == key
 
 -- what the host end tells is the answer that a wait is for
 abbrev pub is_awaited : AnswerAwaited → HostEvent → Bool
-is_awaited awaited (Answer answer) = is_answer awaited answer.aid
+is_awaited awaited (Answer answer) = is_awaited_aid awaited answer.aid
 is_awaited awaited told = false
 
 -- what the host end's fault prints: the byte that it refused, or nothing
@@ -94,15 +94,15 @@ reaction_to Cancel side = host_cancel side
 
 module _ {S K : Type 0} (writer : Writer K) (reader : Reader S) where
   -- a host end on a source and a sink
-  abbrev pub Parts : Type 0
-  Parts = AttachedParts HostParts S K
+  abbrev pub AttachedHost : Type 0
+  AttachedHost = AttachedParts HostParts S K
 
   -- the same with the number of records that are ahead, which no line of a host takes
-  abbrev pub Ends : Type 0
-  Ends = Parts × ℕ
+  abbrev pub HostAndAhead : Type 0
+  HostAndAhead = AttachedHost × ℕ
 
   -- the host end did this: it was written, or refused, and nothing is changed; no byte was read or taken
-  pub record IsDone (order : Order) (from : Parts) (refused : Option SendFault) (to : Parts) : Type 0 where
+  pub record IsDone (order : Order) (from : AttachedHost) (refused : Option SendFault) (to : AttachedHost) : Type 0 where
     pub led : HaveLed HostGoes HostRefuses writer reader from to (Did order ∷ []) []
     pub same : IfSome refused (λ why. to ≡ from)
     pub why : IfSome refused (IsSendRefusal from.end (reaction_to order))
@@ -111,23 +111,23 @@ module _ {S K : Type 0} (writer : Writer K) (reader : Reader S) where
     pub unread : to.source ≡ from.source
 
   -- what the host end was told to do is done, or a write failed, or for want of memory nothing is
-  abbrev pub IsGiven : Order → Parts → Result (Option SendFault) Fault → Parts → Type 0
+  abbrev pub IsGiven : Order → AttachedHost → Result (Option SendFault) Fault → AttachedHost → Type 0
   IsGiven order from (Ok refused) to = IsDone (deed_of order) from refused to
   IsGiven order from (Err why) to = IsSendFailure HostGoes HostRefuses writer reader from to
       (Did (deed_of order) ∷ []) why
 
   -- things were told one after another, none of which is the answer that is awaited
-  abbrev pub HaveTold : AnswerAwaited → Parts → List HostEvent → Parts → Type 0
-  HaveTold awaited from [] to = to ≡ from
-  HaveTold awaited from (event ∷ more) to = (mid : Parts)
+  abbrev pub HaveToldBeforeAnswer : AnswerAwaited → AttachedHost → List HostEvent → AttachedHost → Type 0
+  HaveToldBeforeAnswer awaited from [] to = to ≡ from
+  HaveToldBeforeAnswer awaited from (event ∷ more) to = (mid : AttachedHost)
       × HasHeard HostGoes HostRefuses writer reader from mid (Some event)
-      × (is_awaited awaited event ≡ false) × HaveTold awaited mid more to
+      × (is_awaited awaited event ≡ false) × HaveToldBeforeAnswer awaited mid more to
 
   -- What a wait comes to, at a watch that tells of a source whether the read that failed was late.
   module _ (tells : S → Bool → Type 0) where
     -- the host end heard the station, and tells nothing more: the station closed, or a fault came
-    abbrev pub HearsNone : Parts → Result Closing Fault → List ℕ → Parts → Type 0
-    HearsNone from outcome text to =
+    abbrev pub HostHearsNone : AttachedHost → Result Closing Fault → List ℕ → AttachedHost → Type 0
+    HostHearsNone from outcome text to =
         (HasHeard HostGoes HostRefuses writer reader from to None
         × (outcome ≡ Ok Ended) × (text ≡ []))
         ⊎ ((why : Fault) × (late : Bool)
@@ -135,37 +135,37 @@ module _ {S K : Type 0} (writer : Writer K) (reader : Reader S) where
         × (outcome ≡ unheard_outcome late why) × (text ≡ unheard_text why))
 
     -- the host end heard the station up to the first thing that it tells, which is printed, or none came
-    abbrev pub HearsOne : Parts → Result Closing Fault → List ℕ → Parts → Type 0
-    HearsOne from outcome text to =
+    abbrev pub HostHearsOne : AttachedHost → Result Closing Fault → List ℕ → AttachedHost → Type 0
+    HostHearsOne from outcome text to =
         ((event : HostEvent) × HasHeard HostGoes HostRefuses writer reader from to (Some event)
         × (outcome ≡ Ok Done) × (text ≡ told_text event))
-        ⊎ HearsNone from outcome text to
+        ⊎ HostHearsNone from outcome text to
 
     -- Waits for this answer.
     module _ (awaited : AnswerAwaited) where
       -- behind so many things the answer is told; or none more is; or as many were told as one wait takes
-      abbrev pub AnswerComes : ℕ → Parts → Result Closing Fault → List ℕ → Parts → Type 0
+      abbrev pub AnswerComes : ℕ → AttachedHost → Result Closing Fault → List ℕ → AttachedHost → Type 0
       AnswerComes told from outcome text to =
           ((event : HostEvent) × HasHeard HostGoes HostRefuses writer reader from to (Some event)
           × (is_awaited awaited event ≡ true) × (outcome ≡ Ok Done) × (text ≡ told_text event))
-          ⊎ (HearsNone from outcome text to
+          ⊎ (HostHearsNone from outcome text to
           ⊎ ((told ≡ most_reads) × (to ≡ from) × (outcome ≡ Err fault.Read) × (text ≡ [])))
 
       -- the host end heard the station up to the answer, and printed all that it told
-      pub record HearsAnswer (from : Parts) (outcome : Result Closing Fault) (text : List ℕ) (to : Parts) : Type 0 where
+      pub record HearsAnswer (from : AttachedHost) (outcome : Result Closing Fault) (text : List ℕ) (to : AttachedHost) : Type 0 where
         pub told : List HostEvent
-        pub mid : Parts
-        pub before : HaveTold awaited from told mid
+        pub mid : AttachedHost
+        pub before : HaveToldBeforeAnswer awaited from told mid
         pub last : List ℕ
         pub came : AnswerComes (length told) mid outcome last to
         pub all : text ≡ flat_map told_text told ++ last
 
     -- what a line does at a host end, how it closed, and what it printed
-    abbrev pub HostDoes : HostLine → Parts → Result Closing Fault → List ℕ → Parts → Type 0
+    abbrev pub HostDoes : HostLine → AttachedHost → Result Closing Fault → List ℕ → AttachedHost → Type 0
     HostDoes NoLine from outcome text to = (to ≡ from) × (outcome ≡ Ok Nothing) × (text ≡ [])
     HostDoes (Give order) from outcome text to = (given : Result (Option SendFault) Fault) × IsGiven order from given to
         × (outcome ≡ given_outcome given) × (text ≡ given_text given)
-    HostDoes Await from outcome text to = HearsOne from outcome text to
+    HostDoes Await from outcome text to = HostHearsOne from outcome text to
     HostDoes (AwaitAnswer awaited) from outcome text to = HearsAnswer awaited from outcome text to
     HostDoes Show from outcome text to = (to ≡ from) × (outcome ≡ Ok Done) × IsScreenText Plain from.end.screen text
     HostDoes (Wire line) from outcome text to = WireRuns writer line from outcome to × (text ≡ [])
@@ -173,54 +173,54 @@ module _ {S K : Type 0} (writer : Writer K) (reader : Reader S) where
         × (text ≡ bad_text (string_bytes cause))
 
     -- a line at it, how it closed, and what it printed
-    abbrev pub HostRuns : HostLine → Ends → Result Closing Fault → List ℕ → Ends → Type 0
+    abbrev pub HostRuns : HostLine → HostAndAhead → Result Closing Fault → List ℕ → HostAndAhead → Type 0
     HostRuns line from outcome text to = HostDoes line from.0 outcome text to.0 × (to.1 ≡ from.1)
 
     module _ {W : Type 0} (begins : W → S → WaitSpan → W → Type 0) (begun : W → ℕ) where
       -- a line at a host and a watch, how it closed, and what it printed
-      abbrev pub Runs : HostLine → (Ends × W) → Result Closing Fault → List ℕ → (Ends × W) → Type 0
-      Runs = InTime HostRuns host_waits begins begun
+      abbrev pub HostRunsInTime : HostLine → (HostAndAhead × W) → Result Closing Fault → List ℕ → (HostAndAhead × W) → Type 0
+      HostRunsInTime = InTime HostRuns host_waits begins begun
 
       -- a wait for the next thing, which begins then
-      abbrev pub Hears : (Ends × W) → Result Closing Fault → List ℕ → (Ends × W) → Type 0
-      Hears from outcome text to = Runs Await from outcome text to
+      abbrev pub AwaitsNext : (HostAndAhead × W) → Result Closing Fault → List ℕ → (HostAndAhead × W) → Type 0
+      AwaitsNext from outcome text to = HostRunsInTime Await from outcome text to
 
       -- what the host end tells behind a script: things were told and printed, and then this came
-      pub record AnswersOn (from to : Ends × W) (outcome : Result Closing Fault) (text : List ℕ) : Type 0 where
+      pub record AnswersOn (from to : HostAndAhead × W) (outcome : Result Closing Fault) (text : List ℕ) : Type 0 where
         pub count : ℕ
         pub printed : List ℕ
-        pub mid : Ends × W
-        pub ran : HaveRun Runs false from (replicate count Await) true printed mid
+        pub mid : HostAndAhead × W
+        pub ran : HaveRun HostRunsInTime false from (replicate count Await) true printed mid
         pub last : List ℕ
-        pub came : Hears mid outcome last to
+        pub came : AwaitsNext mid outcome last to
         pub all : text ≡ printed ++ last
 
       -- what is printed behind a script, up to the first thing that isn't told: the station closed, the wait was over,
       -- or a byte was refused
-      abbrev pub IsAnsweringText : (Ends × W) → Bool → List ℕ → (Ends × W) → Type 0
+      abbrev pub IsAnsweringText : (HostAndAhead × W) → Bool → List ℕ → (HostAndAhead × W) → Type 0
       IsAnsweringText from all_well text to = (closing : Closing) × AnswersOn from to (Ok closing) text
           × (is_told closing ≡ false) × (all_well ≡ not (stops closing))
 
       -- What the lines of a script at a host print, and behind them what the host end is told, and whether all went well:
       -- where a line stopped the session, nothing stands behind it.
-      abbrev pub IsServeText : Bool → (Ends × W) → List HostLine → Bool → List ℕ → (Ends × W) → Type 0
+      abbrev pub IsServeText : Bool → (HostAndAhead × W) → List HostLine → Bool → List ℕ → (HostAndAhead × W) → Type 0
       IsServeText ready from lines all_well text to =
-          ((well : Bool) × (mid : Ends × W) × (printed : List ℕ) × (answers_well : Bool) × (told : List ℕ)
-          × HaveRun Runs ready from lines well printed mid × IsAnsweringText mid answers_well told to
+          ((well : Bool) × (mid : HostAndAhead × W) × (printed : List ℕ) × (answers_well : Bool) × (told : List ℕ)
+          × HaveRun HostRunsInTime ready from lines well printed mid × IsAnsweringText mid answers_well told to
           × (all_well ≡ well && answers_well) × (text ≡ printed ++ told))
-          ⊎ ((ran : Ran) × IsOverAt Runs ready from lines ran text to × (all_well ≡ ran.all_well))
+          ⊎ ((ran : Ran) × IsOverAt HostRunsInTime ready from lines ran text to × (all_well ≡ ran.all_well))
 
-      module _ {O : Type 0} (printer : Writer O) (from to : Ends × W) (old new : O) where
+      module _ {O : Type 0} (printer : Writer O) (from to : HostAndAhead × W) (old new : O) where
         -- the next thing that the host end tells is printed, or none came
         abbrev pub HasAnsweredOnce : Closing → Type 0
-        HasAnsweredOnce closing = (text : List ℕ) × Hears from (Ok closing) text to
+        HasAnsweredOnce closing = (text : List ℕ) × AwaitsNext from (Ok closing) text to
             × WentOut printer old new text
 
         -- why the next thing wasn't printed: a device failed, memory was wanting, or it didn't go out
-        abbrev pub IsAnswerFault : Fault → Type 0
-        IsAnswerFault why = ((text : List ℕ) × (output : Output) × Hears from (Err why) text to
+        abbrev pub IsAnswerOnceFault : Fault → Type 0
+        IsAnswerOnceFault why = ((text : List ℕ) × (output : Output) × AwaitsNext from (Err why) text to
             × IsOut printer old new output text)
-            ⊎ ((why ≡ fault.Write) × ((closing : Closing) × (text : List ℕ) × Hears from (Ok closing) text to
+            ⊎ ((why ≡ fault.Write) × ((closing : Closing) × (text : List ℕ) × AwaitsNext from (Ok closing) text to
             × FailedWithin printer old new text))
 
         -- what the host end tells behind a script is printed, up to the first thing that isn't told
@@ -236,5 +236,5 @@ module _ {S K : Type 0} (writer : Writer K) (reader : Reader S) where
             ⊎ (((why ≡ fault.Write) × ((closing : Closing) × (text : List ℕ) × AnswersOn from to (Ok closing) text
             × FailedWithin printer old new text))
             ⊎ ((why ≡ fault.Read) × ((text : List ℕ)
-            × HaveRun Runs false from (replicate most_reads Await) true text to
+            × HaveRun HostRunsInTime false from (replicate most_reads Await) true text to
             × WentOut printer old new text)))

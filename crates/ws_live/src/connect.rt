@@ -199,7 +199,7 @@ fn hear_next<D: OperatedDisplay, S: Source, K: Sink, W: Watch<S>>(
     watch: &W,
 ) -> Waited
     requires works { attached.old.broken ≡ false }
-    ensures waited { Spec.IsNext D.Commands.rules D.does K.writer S.reader
+    ensures waited { Spec.WaitsForRecord D.Commands.rules D.does K.writer S.reader
         W.tells ahead attached.old result attached.new }
     ensures works { Spec.IsWorking result attached.new.broken }
 {
@@ -233,7 +233,7 @@ fn take_what_came<D: OperatedDisplay, S: Source, K: Sink, W: Watch<S>>(
 ) -> Waited
     requires works { attached.old.broken ≡ false }
     ensures taken { (told : List Applied) × (ended : Waited)
-        × Spec.TakesAll D.Commands.rules D.does K.writer S.reader
+        × Spec.AppliesAll D.Commands.rules D.does K.writer S.reader
         W.tells attached.old told ended attached.new
         × (ahead.new ≡ Spec.more_ahead ahead.old told) × (result ≡ Spec.rested true ended) }
     ensures begun { HasBegun W.begins W.begun attached.old.source AtOnce watch.old watch.new }
@@ -265,7 +265,7 @@ fn take_all<D: OperatedDisplay, S: Source, K: Sink, W: Watch<S>>(
     watch: &W,
 ) -> Waited
     requires works { attached.old.broken ≡ false }
-    ensures taken { (told : List Applied) × Spec.TakesAll D.Commands.rules D.does
+    ensures taken { (told : List Applied) × Spec.AppliesAll D.Commands.rules D.does
         K.writer S.reader W.tells attached.old told result attached.new
         × (ahead.new ≡ Spec.more_ahead ahead.old told) }
     ensures works { Spec.IsWorking result attached.new.broken }

@@ -115,8 +115,8 @@ fn read_word<Q: NamedKey>(word: &str) -> Result<StationLine<Q>, LineFault>
     requires no_blank { has_no_blank word.now ≡ true }
     requires no_comment { IsNoComment word.now }
     // What it means, or that it means nothing.
-    ensures line { IfOk result (Spec.Means Q.words word.now) }
-    ensures fault { IfErr result (IsLineFault (Spec.Means Q.words word.now) ⊥) }
+    ensures line { IfOk result (Spec.MeansStationLine Q.words word.now) }
+    ensures fault { IfErr result (IsLineFault (Spec.MeansStationLine Q.words word.now) ⊥) }
 {
     match word {
         "await" => Ok(StationLine::Await(Awaited::Turn)),
@@ -137,9 +137,9 @@ fn read_command<Q: NamedKey>(
 ) -> Result<StationLine<Q>, LineFault>
     requires no_blank { has_no_blank command.now ≡ true }
     requires no_comment { IsNoComment (command.now ++ codes " " ++ words.now) }
-    ensures line { IfOk result (Spec.Means Q.words (command.now ++ codes " " ++ words.now)) }
+    ensures line { IfOk result (Spec.MeansStationLine Q.words (command.now ++ codes " " ++ words.now)) }
     ensures fault { IfErr result
-        (IsLineFault (Spec.Means Q.words (command.now ++ codes " " ++ words.now))
+        (IsLineFault (Spec.MeansStationLine Q.words (command.now ++ codes " " ++ words.now))
         (Spec.IsCommandSoFar Q.words (command.now ++ codes " " ++ words.now))) }
 {
     match command {

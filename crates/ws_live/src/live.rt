@@ -139,7 +139,7 @@ pub fn carry_lines<E, S, K, L: LiveMove<E, S, K>, W: Watch<S>, O: Sink>(
     requires works { attached.old.broken ≡ false }
     requires empty { out.old.held ≡ [] }
     // What was printed, or why not all.
-    ensures ran { IfOk result (Spec.HasRun
+    ensures ran { IfOk result (Spec.HasRunLines
         (InTime (L.runs W.tells W.rests paint) L.waits W.begins W.begun) ready O.writer
         ((attached.old, ahead.old), watch.old) ((attached.new, ahead.new), watch.new)
         out.old.sink out.new.sink lines.now) }
@@ -183,7 +183,7 @@ pub fn carry_line<E, S, K, L: LiveMove<E, S, K>, W: Watch<S>, O: Sink>(
         (InTime (L.runs W.tells W.rests paint) L.waits W.begins W.begun) ready O.writer
         ((attached.old, ahead.old), watch.old) ((attached.new, ahead.new), watch.new)
         out.old.sink out.new.sink line.now) }
-    ensures fault { IfErr result (Spec.IsCarryFault
+    ensures fault { IfErr result (Spec.IsLiveLineFault
         (InTime (L.runs W.tells W.rests paint) L.waits W.begins W.begun) ready O.writer
         ((attached.old, ahead.old), watch.old) ((attached.new, ahead.new), watch.new)
         out.old.sink out.new.sink line.now) }

@@ -64,7 +64,7 @@ fn none_refuses(events: &[Event]) -> bool
 }
 
 fn is_refusal(event: &Event) -> bool
-    ensures { result ≡ Spec.is_refusal event.now }
+    ensures { result ≡ Spec.is_end_refusal event.now }
 {
     matches!(
         event,

@@ -76,7 +76,7 @@ fn put_rows<S: Sink>(sink: &mut S, output: Output, paint: Paint, screen: &Screen
 fn put_row<S: Sink>(sink: &mut S, output: Output, paint: Paint, screen: &Screen, row: u8) -> Output
     requires low { 1 ≤ row }
     requires high { row ≤ ROWS }
-    ensures { (shown : List ℕ) × Spec.IsRow paint screen.now.cells row shown
+    ensures { (shown : List ℕ) × Spec.IsShownRow paint screen.now.cells row shown
         × Prints S.writer sink.old sink.new output result (Spec.row_line row shown) }
 {
     match paint {

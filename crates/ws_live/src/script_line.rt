@@ -21,9 +21,9 @@ pub enum LineFault {
 
 /// Adds a line's moves.
 pub fn read_line(alloc: Global, line: &[u8], moves: &mut Vec<Move>) -> Result<(), LineFault>
-    ensures ok { OnOk result ((given : Seq AMove) × Spec.IsLine line.now given
+    ensures ok { OnOk result ((given : Seq AMove) × Spec.IsScriptLine line.now given
         × (moves.new.items ≡ moves.old.items ++ given)) }
-    ensures fault { IfErr result (IsLineFault (Spec.IsLine line.now)
+    ensures fault { IfErr result (IsLineFault (Spec.IsScriptLine line.now)
         (IsUtf8 line.now × IsGoodSoFar line.now)) }
 {
     let Ok(text) = str::from_utf8(line) else {
@@ -48,10 +48,10 @@ fn read_word(word: &str, moves: &mut Vec<Move>) -> Result<(), LineFault>
     requires no_blank { has_no_blank word.now ≡ true }
     requires no_comment { IsNoComment word.now }
     // What it means, or that it means nothing.
-    ensures ok { OnOk result ((given : Seq AMove) × Spec.Means word.now given
+    ensures ok { OnOk result ((given : Seq AMove) × Spec.MeansMoves word.now given
         × (moves.new.items ≡ moves.old.items ++ given)) }
-    ensures fault { IfErr result (IsLineFault (Spec.Means word.now)
-        ((given : Seq AMove) × Spec.Means word.now given)) }
+    ensures fault { IfErr result (IsLineFault (Spec.MeansMoves word.now)
+        ((given : Seq AMove) × Spec.MeansMoves word.now given)) }
 {
     match word {
         "cancel" => add(moves, Move::Cancel),
@@ -70,10 +70,10 @@ fn read_command(
     requires no_blank { has_no_blank command.now ≡ true }
     requires no_comment { IsNoComment (command.now ++ codes " " ++ words.now) }
     ensures ok { OnOk result ((given : Seq AMove)
-        × Spec.Means (command.now ++ codes " " ++ words.now) given
+        × Spec.MeansMoves (command.now ++ codes " " ++ words.now) given
         × (moves.new.items ≡ moves.old.items ++ given)) }
     ensures fault { IfErr result
-        (IsLineFault (Spec.Means (command.now ++ codes " " ++ words.now))
+        (IsLineFault (Spec.MeansMoves (command.now ++ codes " " ++ words.now))
         (IsGoodSoFar (command.now ++ codes " " ++ words.now))) }
 {
     match command {
@@ -118,7 +118,7 @@ fn deliver_all(moves: &mut Vec<Move>) -> Result<(), LineFault>
 
 // Adds a key for each character of the text.
 fn type_text(text: &str, inserts: bool, moves: &mut Vec<Move>) -> Result<(), LineFault>
-    ensures ok { OnOk result ((given : Seq AMove) × Spec.AreTyped inserts text.now given
+    ensures ok { OnOk result ((given : Seq AMove) × Spec.AreTypedMoves inserts text.now given
         × (moves.new.items ≡ moves.old.items ++ given)) }
     ensures fault { IfErr result (λ fault. fault ≡ LineFault.Memory) }
 {

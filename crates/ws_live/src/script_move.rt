@@ -63,8 +63,8 @@ fn read_send(alloc: Global, words: &str) -> Result<Move, LineFault>
 
 /// An opcode in decimal; that of Cancel Invite is none.
 pub fn read_opcode(word: &str) -> Result<Opcode, LineFault>
-    ensures ok { IfOk result (Spec.IsOpcodeText word.now) }
-    ensures fault { IfErr result (IsLineFault (Spec.IsOpcodeText word.now) ⊥) }
+    ensures ok { IfOk result (Spec.IsSendOpcode word.now) }
+    ensures fault { IfErr result (IsLineFault (Spec.IsSendOpcode word.now) ⊥) }
 {
     let Some(number) = read_number(word) else {
         return Err(LineFault::Bad);

@@ -104,7 +104,7 @@ fn hear_event<S: Source, K: Sink, W: Watch<S>, O: Sink>(
     output: Output,
 ) -> Carried
     requires works { attached.old.broken ≡ false }
-    ensures heard { (text : List ℕ) × Spec.HearsOne K.writer S.reader
+    ensures heard { (text : List ℕ) × Spec.HostHearsOne K.writer S.reader
         W.tells attached.old result.outcome text attached.new
         × Prints O.writer out.old out.new output result.output text }
     ensures works { IfOk result.outcome (λ closing.
@@ -229,7 +229,7 @@ fn answer_once<S: Source, K: Sink, W: Watch<S>, O: Sink>(
         W.tells W.begins W.begun O.writer
         ((attached.old, ahead.old), watch.old) ((attached.new, ahead.new), watch.new)
         out.old.sink out.new.sink) }
-    ensures fault { IfErr result (Spec.IsAnswerFault K.writer S.reader
+    ensures fault { IfErr result (Spec.IsAnswerOnceFault K.writer S.reader
         W.tells W.begins W.begun O.writer
         ((attached.old, ahead.old), watch.old) ((attached.new, ahead.new), watch.new)
         out.old.sink out.new.sink) }

@@ -124,8 +124,8 @@ fn read_word(word: &str) -> Result<HostLine, LineFault>
     requires no_blank { has_no_blank word.now ≡ true }
     requires no_comment { IsNoComment word.now }
     // What it means, or that it means nothing.
-    ensures line { IfOk result (Spec.Means word.now) }
-    ensures fault { IfErr result (IsLineFault (Spec.Means word.now) ⊥) }
+    ensures line { IfOk result (Spec.MeansHostLine word.now) }
+    ensures fault { IfErr result (IsLineFault (Spec.MeansHostLine word.now) ⊥) }
 {
     match word {
         "await" => Ok(HostLine::Await),
@@ -150,9 +150,9 @@ fn read_command(
     requires no_blank { has_no_blank command.now ≡ true }
     requires no_comment { IsNoComment (command.now ++ codes " " ++ words.now) }
     // What it means, or that it means nothing.
-    ensures line { IfOk result (Spec.Means (command.now ++ codes " " ++ words.now)) }
+    ensures line { IfOk result (Spec.MeansHostLine (command.now ++ codes " " ++ words.now)) }
     ensures fault { IfErr result
-        (IsLineFault (Spec.Means (command.now ++ codes " " ++ words.now))
+        (IsLineFault (Spec.MeansHostLine (command.now ++ codes " " ++ words.now))
         (Spec.IsHostBegun (command.now ++ codes " " ++ words.now))) }
 {
     match command {

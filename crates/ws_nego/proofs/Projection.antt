@@ -8,7 +8,7 @@ use Rattle.ws_nego.specs.declared.terminal.TerminalType.{TerminalType}
 use Rattle.ws_nego.specs.Options.{Answer}
 use Rattle.ws_nego.specs.Station.{station_answer}
 use Rattle.ws_nego.specs.Host.{HostState, host_answer}
-use Rattle.ws_nego.specs.Exchange.{Exchange, Move, ToStation, ToHost, new_exchange, after_moves, IsQuiet, TablesAgree}
+use Rattle.ws_nego.specs.Exchange.{Exchange, Move, ToStation, ToHost, new_exchange, after_token_moves, IsExchangeQuiet, TablesAgree}
 use Rattle.ws_nego.specs.Exchange.{after_host_answers, after_station_takes, after_host_takes}
 use Rattle.ws_nego.specs.Dialogue.{Dialogue, new_dialogue, after_arrival, after_arrivals, after_station_gets}
 use Rattle.ws_nego.specs.Dialogue.{after_host_gets, after_host_writes, IsAllArrived}
@@ -93,7 +93,7 @@ sound_host d (token ∷ later) e h = sound_writes d token later (host_answer d.h
 
 -- after some arrivals a dialogue has in flight what the same moves make of the exchange that it had in flight
 pub record Follows (ms : List Move) (d : Dialogue) : Type 0 where
-  pub same : in_flight (after_arrivals ms d) ≡ after_moves ms (in_flight d)
+  pub same : in_flight (after_arrivals ms d) ≡ after_token_moves ms (in_flight d)
   pub sound : IsSound (after_arrivals ms d)
 
 pub follows : (ms : List Move) (d : Dialogue) → IsSound d → Follows ms d
@@ -101,29 +101,29 @@ follows [] d h = record { same = refl; sound = h }
 follows (ToStation ∷ ms) d h =
     let later = drop d.at_station d.to_station in
     let rest = follows ms (after_arrival ToStation d) (sound_station d later refl h) in
-    record { same = rest.same ∙ ap (after_moves ms) (follows_station d later refl h); sound = rest.sound }
+    record { same = rest.same ∙ ap (after_token_moves ms) (follows_station d later refl h); sound = rest.sound }
 follows (ToHost ∷ ms) d h =
     let later = drop d.at_host d.to_host in
     let rest = follows ms (after_arrival ToHost d) (sound_host d later refl h) in
-    record { same = rest.same ∙ ap (after_moves ms) (follows_host d later refl h); sound = rest.sound }
+    record { same = rest.same ∙ ap (after_token_moves ms) (follows_host d later refl h); sound = rest.sound }
 
 pub from_start : (t : TerminalType) (ms : List Move) → Follows ms (new_dialogue t)
 from_start t ms = follows ms (new_dialogue t) (record { at_station = lit≤ tt; at_host = lit≤ tt })
 
 -- the exchange of a dialogue, and what is known of it
 module _ (t : TerminalType) (ms : List Move) where
-  exchange : in_flight (after_arrivals ms (new_dialogue t)) ≡ after_moves ms (new_exchange t)
+  exchange : in_flight (after_arrivals ms (new_dialogue t)) ≡ after_token_moves ms (new_exchange t)
   exchange = (from_start t ms).same
 
   pub dialogue_agrees : IsAllArrived (after_arrivals ms (new_dialogue t))
       → TablesAgree (after_arrivals ms (new_dialogue t)).station (after_arrivals ms (new_dialogue t)).host
   dialogue_agrees h =
       let d = after_arrivals ms (new_dialogue t) in
-      let quiet : IsQuiet (in_flight d) = record {
+      let quiet : IsExchangeQuiet (in_flight d) = record {
         to_station = ap (λ n. drop n d.to_station) h.at_station ∙ drop-length d.to_station;
         to_host = ap (λ n. drop n d.to_host) h.at_host ∙ drop-length d.to_host;
       } in
-      let P : Exchange → Type 0 = λ e. IsQuiet e → TablesAgree e.station e.host in
+      let P : Exchange → Type 0 = λ e. IsExchangeQuiet e → TablesAgree e.station e.host in
       subst P (sym exchange) (agrees t ms) quiet
 
   pub dialogue_twelve : length (after_arrivals ms (new_dialogue t)).to_station

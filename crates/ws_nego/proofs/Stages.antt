@@ -10,12 +10,12 @@ use Rattle.ws_nego.specs.declared.host.Mode.{Mode}
 use Rattle.ws_nego.specs.declared.host.Mode.TheVariants.{Off, Asked, On}
 use Rattle.ws_nego.specs.declared.host.TerminalName.{TerminalName}
 use Rattle.ws_nego.specs.declared.host.TerminalName.TheVariants.{Unknown, Requested, Accepted}
-use Rattle.ws_nego.specs.Terminal.{name_of, terminal_named}
+use Rattle.ws_nego.specs.Terminal.{terminal_type_name, terminal_named}
 use Rattle.ws_telnet.specs.declared.codes.TheConstants.{BINARY, TERMINAL_TYPE, END_OF_RECORD}
 use Rattle.ws_nego.specs.Station.{StationState, new_station, station_answer, station_allows_records, name_request}
 use Rattle.ws_nego.specs.Station.{name_answer}
 use Rattle.ws_nego.specs.Host.{HostState, opening, host_allows_records}
-use Rattle.ws_nego.specs.Exchange.{Exchange, Move, ToStation, ToHost, new_exchange, after_move, after_moves, IsQuiet}
+use Rattle.ws_nego.specs.Exchange.{Exchange, Move, ToStation, ToHost, new_exchange, after_token_move, after_token_moves, IsExchangeQuiet}
 use Rattle.ws_nego.specs.Exchange.{TablesAgree, after_all_to_host, after_delivery, after_three_deliveries}
 
 -- An exchange is determined by how many tokens each end has taken. The stages are named by these two
@@ -145,13 +145,13 @@ next ToHost at_65 = at_66
 next move stage = stage
 
 -- a terminal's name is accepted as its own
-terminal_named-own : (t : TerminalType) → terminal_named (name_of t) ≡ Some t
+terminal_named-own : (t : TerminalType) → terminal_named (terminal_type_name t) ≡ Some t
 unfolding terminal_named
 terminal_named-own Ibm5251Model11 = refl
 terminal_named-own t = refl
 
 -- a move leads from stage to stage
-step : (t : TerminalType) (m : Move) (s : Stage) → after_move m (exchange_at t s) ≡ exchange_at t (next m s)
+step : (t : TerminalType) (m : Move) (s : Stage) → after_token_move m (exchange_at t s) ≡ exchange_at t (next m s)
 step t ToStation at_00 = refl
 step t ToStation s = refl
 step t ToHost at_21 = rw (terminal_named-own t)
@@ -161,17 +161,17 @@ abbrev pub stage_after : List Move → Stage → Stage
 stage_after [] s = s
 stage_after (m ∷ ms) s = stage_after ms (next m s)
 
-pub steps : (t : TerminalType) (ms : List Move) (s : Stage) → after_moves ms (exchange_at t s)
+pub steps : (t : TerminalType) (ms : List Move) (s : Stage) → after_token_moves ms (exchange_at t s)
     ≡ exchange_at t (stage_after ms s)
 steps t [] s = refl
-steps t (m ∷ ms) s = ap (after_moves ms) (step t m s) ∙ steps t ms (next m s)
+steps t (m ∷ ms) s = ap (after_token_moves ms) (step t m s) ∙ steps t ms (next m s)
 
 end_agrees : (t : TerminalType) → TablesAgree (exchange_at t at_66).station (exchange_at t at_66).host
 end_agrees t StationBinary = refl
 end_agrees t direction = refl
 
 -- only at the last stage is nothing in flight
-quiet_agree : (t : TerminalType) (s : Stage) → IsQuiet (exchange_at t s)
+quiet_agree : (t : TerminalType) (s : Stage) → IsExchangeQuiet (exchange_at t s)
     → TablesAgree (exchange_at t s).station (exchange_at t s).host
 quiet_agree t at_66 q = end_agrees t
 quiet_agree t s q = absurd (let e = q.to_station in let f = q.to_host in cc)
@@ -221,14 +221,14 @@ both_last t s h e = cc
 
 -- once the host end allows records, nothing is in flight, and the station allows them too
 host_last : (t : TerminalType) (s : Stage) → host_allows_records (exchange_at t s).host ≡ true
-    → IsQuiet (exchange_at t s) × (station_allows_records (exchange_at t s).station ≡ true)
+    → IsExchangeQuiet (exchange_at t s) × (station_allows_records (exchange_at t s).station ≡ true)
 host_last t at_66 h = (record { to_station = refl; to_host = refl }, refl)
 host_last t s h = cc
 
 -- the same of every exchange
 module _ (t : TerminalType) (ms : List Move) where
   abbrev now : Exchange
-  now = after_moves ms (new_exchange t)
+  now = after_token_moves ms (new_exchange t)
 
   abbrev stage : Stage
   stage = stage_after ms at_00
@@ -237,9 +237,9 @@ module _ (t : TerminalType) (ms : List Move) where
   reached : now ≡ exchange_at t stage
   reached = steps t ms at_00
 
-  pub agrees : IsQuiet now → TablesAgree now.station now.host
+  pub agrees : IsExchangeQuiet now → TablesAgree now.station now.host
   agrees =
-      let P : Exchange → Type 0 = λ e. IsQuiet e → TablesAgree e.station e.host in
+      let P : Exchange → Type 0 = λ e. IsExchangeQuiet e → TablesAgree e.station e.host in
       subst P (sym reached) (quiet_agree t stage)
 
   pub at_most_twelve : now.count ≤ 12
@@ -256,8 +256,8 @@ module _ (t : TerminalType) (ms : List Move) where
       ∙ (full_delivery t (both_full t (both_full t stage))
       ∙ ap (exchange_at t) (three_full t stage))))
 
-  pub settled_quiet : IsQuiet (after_three_deliveries now)
-  settled_quiet = subst IsQuiet (sym settled) (record { to_station = refl; to_host = refl })
+  pub settled_quiet : IsExchangeQuiet (after_three_deliveries now)
+  settled_quiet = subst IsExchangeQuiet (sym settled) (record { to_station = refl; to_host = refl })
 
   pub settled_station : station_allows_records (after_three_deliveries now).station ≡ true
   settled_station = ap (λ (e : Exchange). station_allows_records e.station) settled
@@ -276,8 +276,8 @@ module _ (t : TerminalType) (ms : List Move) where
       → host_allows_records e.host ≡ true in
       subst P (sym reached) (both_last t stage)
 
-  pub host_then : host_allows_records now.host ≡ true → IsQuiet now × (station_allows_records now.station ≡ true)
+  pub host_then : host_allows_records now.host ≡ true → IsExchangeQuiet now × (station_allows_records now.station ≡ true)
   host_then =
-      let P : Exchange → Type 0 = λ e. host_allows_records e.host ≡ true → IsQuiet e
+      let P : Exchange → Type 0 = λ e. host_allows_records e.host ≡ true → IsExchangeQuiet e
       × (station_allows_records e.station ≡ true) in
       subst P (sym reached) (host_last t stage)

@@ -69,17 +69,17 @@ pub data Move : Type 0 where
   ToHost : Move
 
 -- the exchange behind a move: the first token that is on its way to that end comes to it, and its reply is on its way
-abbrev pub after_move : Move → Exchange → Exchange
-after_move ToStation exchange = after_station_takes exchange exchange.to_station
-after_move ToHost exchange = after_host_takes exchange exchange.to_host
+abbrev pub after_token_move : Move → Exchange → Exchange
+after_token_move ToStation exchange = after_station_takes exchange exchange.to_station
+after_token_move ToHost exchange = after_host_takes exchange exchange.to_host
 
 -- the exchange behind moves, in order
-abbrev pub after_moves : List Move → Exchange → Exchange
-after_moves [] exchange = exchange
-after_moves (move ∷ moves) exchange = after_moves moves (after_move move exchange)
+abbrev pub after_token_moves : List Move → Exchange → Exchange
+after_token_moves [] exchange = exchange
+after_token_moves (move ∷ moves) exchange = after_token_moves moves (after_token_move move exchange)
 
 -- no token is on its way to either end
-pub record IsQuiet (exchange : Exchange) : Type 0 where
+pub record IsExchangeQuiet (exchange : Exchange) : Type 0 where
   pub to_station : exchange.to_station ≡ []
   pub to_host : exchange.to_host ≡ []
 
@@ -95,11 +95,11 @@ TablesAgree station host =
 
 -- the exchange once all that is on its way to the station has come there
 abbrev pub after_all_to_station : Exchange → Exchange
-after_all_to_station exchange = after_moves (replicate (length exchange.to_station) ToStation) exchange
+after_all_to_station exchange = after_token_moves (replicate (length exchange.to_station) ToStation) exchange
 
 -- the exchange once all that is on its way to the host end has come there
 abbrev pub after_all_to_host : Exchange → Exchange
-after_all_to_host exchange = after_moves (replicate (length exchange.to_host) ToHost) exchange
+after_all_to_host exchange = after_token_moves (replicate (length exchange.to_host) ToHost) exchange
 
 -- the exchange behind a full delivery: all that is on its way comes to the station, and then all to the host end
 abbrev pub after_delivery : Exchange → Exchange

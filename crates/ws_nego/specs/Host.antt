@@ -19,7 +19,7 @@ use Rattle.ws_nego.specs.declared.host.TerminalName.{TerminalName}
 use Rattle.ws_nego.specs.declared.host.TerminalName.TheVariants.{Unknown, Requested, Accepted}
 use Rattle.ws_nego.specs.Terminal.{terminal_named}
 use Rattle.ws_nego.specs.Options.{entry, with_entry, uniform_table}
-use Rattle.ws_nego.specs.Options.{direction_at_host, refusal_of, option_tokens, Answer, no_effect}
+use Rattle.ws_nego.specs.Options.{direction_at_host, refusing_verb, option_tokens, Answer, no_effect}
 use Rattle.ws_nego.specs.Station.{name_request}
 
 -- what a contract sees of a host end's options: each direction's mode, and what is known of the terminal's name
@@ -106,7 +106,7 @@ host_table_answer host verb option direction =
 -- what the host end does at a verb of an option, in a direction of its table or in none
 abbrev pub host_option_answer : HostState → Verb → ℕ → Option Direction → Option (Answer HostState)
 host_option_answer host verb option None =
-    Some (record { after = host; reply = option_tokens (refusal_of verb) option })
+    Some (record { after = host; reply = option_tokens (refusing_verb verb) option })
 host_option_answer host verb option (Some direction) =
     if is_name_withheld host verb direction then None
     else (if is_name_offered host verb direction

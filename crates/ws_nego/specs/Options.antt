@@ -72,11 +72,11 @@ direction_at_host Wont option = station_direction option
 
 -- how an option whose direction isn't in the table is answered: DO by WONT, WILL by DONT, the others not (RFC 854,
 -- "GENERAL CONSIDERATIONS")
-abbrev pub refusal_of : Verb → Option Verb
-refusal_of Do = Some Wont
-refusal_of Will = Some Dont
-refusal_of Dont = None
-refusal_of Wont = None
+abbrev pub refusing_verb : Verb → Option Verb
+refusing_verb Do = Some Wont
+refusing_verb Will = Some Dont
+refusing_verb Dont = None
+refusing_verb Wont = None
 
 -- the token that answers a verb of an option, where there is an answer
 abbrev pub option_tokens : Option Verb → ℕ → List Telnet
@@ -88,8 +88,8 @@ abbrev pub terminal_type_token : ℕ → List ℕ → Telnet
 terminal_type_token code name = Subnegotiate (record { option = TERMINAL_TYPE; data_ = code ∷ name })
 
 -- the bytes of a list of tokens
-abbrev pub bytes_of : List Telnet → List ℕ
-bytes_of tokens = flat_map telnet_spelling tokens
+abbrev pub telnet_bytes : List Telnet → List ℕ
+telnet_bytes tokens = flat_map telnet_spelling tokens
 
 -- what an end does at a token: its options afterwards, and the tokens of its reply
 pub record Answer (State : Type 0) : Type 0 where
@@ -103,4 +103,4 @@ no_effect state = record { after = state; reply = [] }
 -- there is an answer, with these options afterwards and these bytes for its reply
 abbrev pub AnswersWith : {State : Type 0} → Option (Answer State) → State → List ℕ → Type 0
 AnswersWith None after bytes = ⊥
-AnswersWith (Some answer) after bytes = (after ≡ answer.after) × (bytes ≡ bytes_of answer.reply)
+AnswersWith (Some answer) after bytes = (after ≡ answer.after) × (bytes ≡ telnet_bytes answer.reply)

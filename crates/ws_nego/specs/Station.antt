@@ -12,8 +12,8 @@ use Rattle.ws_nego.specs.declared.terminal.TerminalType.{TerminalType}
 use Rattle.ws_nego.specs.declared.options.TheConstants.{IS, SEND}
 use Rattle.ws_nego.specs.declared.options.Direction.{Direction}
 use Rattle.ws_nego.specs.declared.options.OptionTable.{OptionTable}
-use Rattle.ws_nego.specs.Terminal.{name_of}
-use Rattle.ws_nego.specs.Options.{entry, with_entry, uniform_table, direction_at_station, refusal_of}
+use Rattle.ws_nego.specs.Terminal.{terminal_type_name}
+use Rattle.ws_nego.specs.Options.{entry, with_entry, uniform_table, direction_at_station, refusing_verb}
 use Rattle.ws_nego.specs.Options.{option_tokens, terminal_type_token, Answer, no_effect}
 
 -- what a contract sees of a station's options: its terminal, and which directions are on
@@ -43,7 +43,7 @@ name_request = terminal_type_token SEND []
 
 -- IS with the name of the terminal (RFC 1091, section 2)
 abbrev pub name_answer : TerminalType → Telnet
-name_answer terminal = terminal_type_token IS (name_of terminal)
+name_answer terminal = terminal_type_token IS (terminal_type_name terminal)
 
 -- the subnegotiation is SEND, which asks for the terminal's name (RFC 1091, section 2)
 abbrev pub is_name_request : Sub → Bool
@@ -52,7 +52,7 @@ is_name_request sub = (sub.option == TERMINAL_TYPE) && bytes_eq sub.data_ (SEND 
 -- what the station does at a verb of an option, in a direction of its table or in none
 abbrev pub station_option_answer : StationState → Verb → ℕ → Option Direction → Answer StationState
 station_option_answer station verb option None =
-    record { after = station; reply = option_tokens (refusal_of verb) option }
+    record { after = station; reply = option_tokens (refusing_verb verb) option }
 station_option_answer station verb option (Some direction) =
     let row = station_row verb (entry station.on direction) in
     record {

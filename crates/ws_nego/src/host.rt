@@ -1,6 +1,6 @@
 ghost use Rattle.std.specs.Prelude.{◌≡◌, ◌≤◌, ◌+◌, ◌++◌, ◌∷◌, [], length, None, IfOk, IfErr, OnErr, option_map};
 ghost use Rattle.ws_code.specs.declared.reason.Reason.TheVariants.{UnsupportedTerminal};
-ghost use Rattle.ws_nego.specs.Options.{bytes_of, AnswersWith};
+ghost use Rattle.ws_nego.specs.Options.{telnet_bytes, AnswersWith};
 ghost use Rattle.ws_nego.specs.Station.{name_request};
 ghost use Rattle.ws_nego.specs.Host as spec;
 ghost use Rattle.ws_nego.specs.Host.{HostState, new_host, opening, after_open, request, requests, host_answer, host_allows_records};
@@ -88,7 +88,7 @@ fn host_row(verb: Verb, mode: Mode) -> (Mode, Option<Verb>)
 // Asks for a direction that isn't on.
 fn push_request(bytes: &mut ArrayVec<u8, 17>, mode: Mode, verb: Verb, option: u8)
     requires { length bytes.old.items + 3 ≤ 17 }
-    ensures items { bytes.new.items ≡ bytes.old.items ++ bytes_of (request mode verb option) }
+    ensures items { bytes.new.items ≡ bytes.old.items ++ telnet_bytes (request mode verb option) }
     ensures room { length bytes.new.items ≤ length bytes.old.items + 3 }
 {
     match mode {
@@ -99,7 +99,7 @@ fn push_request(bytes: &mut ArrayVec<u8, 17>, mode: Mode, verb: Verb, option: u8
 
 // Asks for END-OF-RECORD and BINARY, in the directions that aren't on.
 fn request_reply(modes: &OptionTable<Mode>) -> Reply
-    ensures { result ≡ bytes_of (requests modes.now) }
+    ensures { result ≡ telnet_bytes (requests modes.now) }
 {
     let mut bytes = ArrayVec::new();
     push_request(
@@ -121,7 +121,7 @@ fn request_reply(modes: &OptionTable<Mode>) -> Reply
 
 // SEND (RFC 1091, section 2).
 fn send_reply() -> Reply
-    ensures { result ≡ bytes_of (name_request ∷ []) }
+    ensures { result ≡ telnet_bytes (name_request ∷ []) }
 {
     terminal_type_reply(SEND, &[])
 }
@@ -140,7 +140,7 @@ impl HostOptions {
     /// Gives the first token of a session, which asks the station to perform TERMINAL-TYPE.
     pub fn open(&mut self) -> Reply
         ensures table { self.new ≡ after_open self.old }
-        ensures reply { result ≡ bytes_of (opening ∷ []) }
+        ensures reply { result ≡ telnet_bytes (opening ∷ []) }
     {
         self.modes.station_terminal_type = Mode::Asked;
         option_reply(Some(Verb::Do), TERMINAL_TYPE)

@@ -1,7 +1,7 @@
 ghost use Rattle.std.specs.Prelude.{◌≡◌, ◌≤◌, ◌<◌, ◌+◌, ◌++◌, ◌∷◌, [], length};
 ghost use Rattle.ws_telnet.specs.Token.{telnet_spelling};
 ghost use Rattle.ws_nego.specs.Options as spec;
-ghost use Rattle.ws_nego.specs.Options.{entry, with_entry, refusal_of, option_tokens, terminal_type_token, bytes_of};
+ghost use Rattle.ws_nego.specs.Options.{entry, with_entry, refusing_verb, option_tokens, terminal_type_token, telnet_bytes};
 
 use arrayvec::ArrayVec;
 use ws_code::ByteList;
@@ -123,7 +123,7 @@ pub fn direction_at_host(verb: Verb, option: u8) -> Option<Direction>
 
 /// The answer to a verb whose direction isn't in the table (RFC 854, "GENERAL CONSIDERATIONS").
 pub fn refusal(verb: Verb) -> Option<Verb>
-    ensures { result ≡ refusal_of verb }
+    ensures { result ≡ refusing_verb verb }
 {
     match verb {
         Verb::Do => Some(Verb::Wont),
@@ -146,14 +146,14 @@ fn push_token(bytes: &mut ArrayVec<u8, 17>, token: Telnet)
 /// Appends the token of a verb and an option.
 pub fn push_option(bytes: &mut ArrayVec<u8, 17>, verb: Verb, option: u8)
     requires { length bytes.old.items + 3 ≤ 17 }
-    ensures { bytes.new.items ≡ bytes.old.items ++ bytes_of (option_tokens (Some verb) option) }
+    ensures { bytes.new.items ≡ bytes.old.items ++ telnet_bytes (option_tokens (Some verb) option) }
 {
     push_token(bytes, Telnet::Option(verb, option));
 }
 
 /// The reply of one option token, or the empty one where there is no verb.
 pub fn option_reply(verb: Option<Verb>, option: u8) -> Reply
-    ensures { result ≡ bytes_of (option_tokens verb option) }
+    ensures { result ≡ telnet_bytes (option_tokens verb option) }
 {
     let mut bytes = ArrayVec::new();
     if let Some(verb) = verb {
@@ -166,7 +166,7 @@ pub fn option_reply(verb: Option<Verb>, option: u8) -> Reply
 pub fn terminal_type_reply(code: u8, name: &[u8]) -> Reply
     requires short { length name.now < 64 }
     requires fits { length (telnet_spelling (terminal_type_token code name.now)) ≤ 17 }
-    ensures { result ≡ bytes_of (terminal_type_token code name.now ∷ []) }
+    ensures { result ≡ telnet_bytes (terminal_type_token code name.now ∷ []) }
 {
     let mut content = ArrayVec::new();
     content.push(code);

@@ -1,5 +1,5 @@
 ghost use Rattle.std.specs.Prelude.{◌≡◌, ◌≤◌, ◌+◌, ◌++◌, ◌∷◌, [], length};
-ghost use Rattle.ws_nego.specs.Options.{bytes_of};
+ghost use Rattle.ws_nego.specs.Options.{telnet_bytes};
 ghost use Rattle.ws_nego.specs.Station as spec;
 ghost use Rattle.ws_nego.specs.Station.{StationState, new_station, name_answer, station_answer, station_allows_records};
 
@@ -44,7 +44,7 @@ fn station_row(verb: Verb, on: bool) -> (bool, Option<Verb>)
 
 // IS, and the terminal's name (RFC 1091, section 2).
 fn name_reply(terminal: TerminalType) -> Reply
-    ensures { result ≡ bytes_of (name_answer terminal ∷ []) }
+    ensures { result ≡ telnet_bytes (name_answer terminal ∷ []) }
 {
     terminal_type_reply(IS, terminal.name())
 }
@@ -65,7 +65,7 @@ impl StationOptions {
     /// TERMINAL-TYPE is on. Every other subnegotiation, and every command, has no effect.
     pub fn answer(&mut self, token: &Telnet) -> Reply
         ensures table { self.new ≡ (station_answer self.old token.now).after }
-        ensures reply { result ≡ bytes_of (station_answer self.old token.now).reply }
+        ensures reply { result ≡ telnet_bytes (station_answer self.old token.now).reply }
     {
         match token {
             Telnet::Command(_) => no_reply(),
@@ -77,7 +77,7 @@ impl StationOptions {
     fn answer_option(&mut self, verb: Verb, option: u8) -> Reply
         ensures table { self.new ≡ (station_answer self.old (Telnet.Option verb option)).after }
         ensures reply { result
-            ≡ bytes_of (station_answer self.old (Telnet.Option verb option)).reply }
+            ≡ telnet_bytes (station_answer self.old (Telnet.Option verb option)).reply }
     {
         let Some(direction) = direction_at_station(verb, option) else {
             return option_reply(refusal(verb), option);
@@ -88,7 +88,7 @@ impl StationOptions {
     }
 
     fn answer_sub(&self, sub: &Sub) -> Reply
-        ensures { result ≡ bytes_of (station_answer self.now (Telnet.Sub sub.now)).reply }
+        ensures { result ≡ telnet_bytes (station_answer self.now (Telnet.Sub sub.now)).reply }
     {
         if is_name_request(sub) && self.on.station_terminal_type {
             name_reply(self.terminal)

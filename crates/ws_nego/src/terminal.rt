@@ -1,5 +1,5 @@
 ghost use Rattle.std.specs.Prelude.{◌≡◌, ◌≤◌, ◌↔◌, length, IsTrue};
-ghost use Rattle.ws_nego.specs.Terminal.{name_of, is_name_of, terminal_named};
+ghost use Rattle.ws_nego.specs.Terminal.{terminal_type_name, is_name_of, terminal_named};
 
 /// A display of 24 rows and 80 columns (RFC 1205). Each has a name in the option TERMINAL-TYPE (RFC
 /// 1091).
@@ -60,7 +60,7 @@ impl TerminalType {
 
     /// Its name, in upper case (RFC 1205). It has at most 11 bytes.
     pub fn name(self) -> &'static [u8]
-        ensures value { result.now ≡ name_of self }
+        ensures value { result.now ≡ terminal_type_name self }
         ensures short { length result.now ≤ 11 }
     {
         match self {

@@ -17,7 +17,7 @@ use Rattle.ws_any_host.specs.CarryingOn.{IsCarriedText, IsCarryOnFault}
 use Rattle.ws_any_host.specs.declared.any_line.AnyLine.{AnyLine}
 use Rattle.ws_any_host.specs.declared.any_line.AnyLine.TheVariants.{Await}
 use Rattle.ws_network.specs.AnySessions.{IsAnyServed, IsTextAndOn, IsFaultThenOrOn, RunsAny}
-use Rattle.ws_network.specs.Times.{Reads, Writes, no_reads, no_writes, timed_reader, timed_writer, tells, begins}
+use Rattle.ws_network.specs.Times.{ConnectionReads, ConnectionWrites, no_reads, no_writes, timed_reader, timed_writer, tells, begins}
 use Rattle.ws_network.proofs.SessionLaws.{new_at}
 use Rattle.ws_program.specs.RunFaults.{told_fault}
 use Rattle.ws_program.specs.declared.fault.ToldFault.{ToldFault}
@@ -57,16 +57,16 @@ module _ {L P : Type 0} (runs : L → P → Result Closing Fault → List ℕ �
 
 -- a host whose opening went out has carried the lines out
 module _ (asked : ServeAsked) (lines : List AnyLine) (all_well : Bool) (text : List ℕ)
-    (to : (AttachedParts AnyParts Reads Writes × ℕ) × ℕ) where
-  abbrev RanAny : AttachedParts AnyParts Reads Writes → ℕ → Type 0
+    (to : (AttachedParts AnyParts ConnectionReads ConnectionWrites × ℕ) × ℕ) where
+  abbrev RanAny : AttachedParts AnyParts ConnectionReads ConnectionWrites → ℕ → Type 0
   RanAny attached begun = IsTextAndOn (RunsAny timed_writer timed_reader tells begins (λ n. n))
       Await asked.ready ((attached, 0), begun) lines all_well text to
 
-  abbrev Told : Writes → Writes → List ℕ → Type 0
+  abbrev Told : ConnectionWrites → ConnectionWrites → List ℕ → Type 0
   Told from sink bytes = WentOut timed_writer from sink bytes
 
-  pub any_served : (host : AnyParts) (source : Reads) (from sink : Writes) (bytes : List ℕ)
-      (attached : AttachedParts AnyParts Reads Writes) (begun : ℕ)
+  pub any_served : (host : AnyParts) (source : ConnectionReads) (from sink : ConnectionWrites) (bytes : List ℕ)
+      (attached : AttachedParts AnyParts ConnectionReads ConnectionWrites) (begun : ℕ)
       → AnyLeads host [] [] (once_opened new_negotiated) → Told from sink bytes
       → bytes ≡ plain_spelling raw_rules (Telnet opening ∷ []) → attached ≡ new_at host source sink
       → source ≡ no_reads → from ≡ no_writes → begun ≡ 0 → RanAny attached begun

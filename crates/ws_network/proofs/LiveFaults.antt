@@ -2,7 +2,7 @@ use Rattle.std.proofs.Common.{◌≡◌, ℕ, List, Bool, false, inr}
 use Rattle.ws_code.specs.Device.{Writer, Reader, WentOut}
 use Rattle.ws_code.specs.declared.fault.Fault.{Fault}
 use Rattle.ws_live.specs.LiveText.{IsLiveText}
-use Rattle.ws_live.specs.ServeText.{Parts, Runs, IsAnswerOnFault}
+use Rattle.ws_live.specs.ServeText.{AttachedHost, HostRunsInTime, IsAnswerOnFault}
 use Rattle.ws_live.specs.declared.live.Ran.{Ran}
 use Rattle.ws_live.specs.declared.serve_line.HostLine.{HostLine}
 use Rattle.ws_live.specs.declared.watch.WaitSpan.{WaitSpan}
@@ -15,9 +15,9 @@ use Rattle.ws_program.specs.declared.fault.ToldFault.{ToldFault}
 
 pub unanswered : {S K W O : Type 0} (writer : Writer K) (reader : Reader S)
     (tells : S → Bool → Type 0) (begins : W → S → WaitSpan → W → Type 0) (begun : W → ℕ) (ready : Bool)
-    (from mid : (Parts writer reader × ℕ) × W) (lines : List HostLine)
+    (from mid : (AttachedHost writer reader × ℕ) × W) (lines : List HostLine)
     (ran : Ran) (printed : List ℕ)
-    → IsLiveText (Runs writer reader tells begins begun) ready from lines ran printed mid → (printer : Writer O) (to : (Parts writer reader × ℕ) × W) (old between new : O) (has_script : Bool)
+    → IsLiveText (HostRunsInTime writer reader tells begins begun) ready from lines ran printed mid → (printer : Writer O) (to : (AttachedHost writer reader × ℕ) × W) (old between new : O) (has_script : Bool)
     (told : ToldFault) (why : Fault) → told ≡ told_fault why
     → ran.is_over ≡ false → WentOut printer old between printed
     → IsAnswerOnFault writer reader tells begins begun printer mid to between new why

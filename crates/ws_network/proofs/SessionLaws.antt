@@ -23,7 +23,7 @@ use Rattle.ws_live.specs.ServeText.{IsServeText}
 use Rattle.ws_live.specs.declared.connect_line.StationLine.{StationLine}
 use Rattle.ws_live.specs.declared.serve_line.HostLine.{HostLine}
 use Rattle.ws_network.specs.Sessions.{AreFromScript, IsConnected, IsServed}
-use Rattle.ws_network.specs.Times.{Reads, Writes, no_reads, no_writes, timed_reader, timed_writer, tells, rests, begins}
+use Rattle.ws_network.specs.Times.{ConnectionReads, ConnectionWrites, no_reads, no_writes, timed_reader, timed_writer, tells, rests, begins}
 use Rattle.ws_words.specs.declared.live_command.ConnectAsked.{ConnectAsked}
 use Rattle.ws_words.specs.declared.live_command.ServeAsked.{ServeAsked}
 
@@ -56,19 +56,19 @@ module _ {L V : Type 0} (items : V → List L) (means : List ℕ → List (List 
   )
 
 -- an end at a connection, where the devices are new
-abbrev pub new_at : {E : Type 0} → E → Reads → Writes → AttachedParts E Reads Writes
+abbrev pub new_at : {E : Type 0} → E → ConnectionReads → ConnectionWrites → AttachedParts E ConnectionReads ConnectionWrites
 new_at end source sink = record { end = end; source = source; sink = sink; waiting = []; broken = false }
 
 -- a station that is new at a connection has carried the lines out
 module _ {D P U H PlaceV V Q R : Type 0} (rules : Rules P U) (d : DisplayOf D U H PlaceV V Q R)
     (operated : OperatedOn D) (words : KeyWords Q) (asked : ConnectAsked) (lines : List (StationLine Q)) (all_well : Bool) (text : List ℕ)
-    (to : (AttachedParts (PartsOn D P) Reads Writes × ℕ) × ℕ) where
-  abbrev Ran : AttachedParts (PartsOn D P) Reads Writes → ℕ → Type 0
+    (to : (AttachedParts (PartsOn D P) ConnectionReads ConnectionWrites × ℕ) × ℕ) where
+  abbrev Ran : AttachedParts (PartsOn D P) ConnectionReads ConnectionWrites → ℕ → Type 0
   Ran attached begun = IsConnectText rules d timed_writer timed_reader tells rests operated words
       begins (λ n. n) asked.paint asked.ready ((attached, 0), begun) lines all_well text to
 
-  pub connected : (station : PartsOn D P) (source : Reads) (sink : Writes)
-      (attached : AttachedParts (PartsOn D P) Reads Writes) (begun : ℕ)
+  pub connected : (station : PartsOn D P) (source : ConnectionReads) (sink : ConnectionWrites)
+      (attached : AttachedParts (PartsOn D P) ConnectionReads ConnectionWrites) (begun : ℕ)
       → LeadsOn rules d station [] [] (new_side_on d asked.terminal)
       → attached ≡ new_at station source sink → source ≡ no_reads → sink ≡ no_writes → begun ≡ 0
       → Ran attached begun → IsConnected rules d operated words asked lines all_well text
@@ -82,16 +82,16 @@ module _ {D P U H PlaceV V Q R : Type 0} (rules : Rules P U) (d : DisplayOf D U 
 
 -- a host end whose opening went out has carried the lines out
 module _ (asked : ServeAsked) (lines : List HostLine) (all_well : Bool) (text : List ℕ)
-    (to : (AttachedParts HostParts Reads Writes × ℕ) × ℕ) where
-  abbrev RanServe : AttachedParts HostParts Reads Writes → ℕ → Type 0
+    (to : (AttachedParts HostParts ConnectionReads ConnectionWrites × ℕ) × ℕ) where
+  abbrev RanServe : AttachedParts HostParts ConnectionReads ConnectionWrites → ℕ → Type 0
   RanServe attached begun = IsServeText timed_writer timed_reader tells begins (λ n. n)
       asked.ready ((attached, 0), begun) lines all_well text to
 
-  abbrev Told : Writes → Writes → List ℕ → Type 0
+  abbrev Told : ConnectionWrites → ConnectionWrites → List ℕ → Type 0
   Told from sink bytes = WentOut timed_writer from sink bytes
 
-  pub served : (host : HostParts) (source : Reads) (from sink : Writes) (bytes : List ℕ)
-      (attached : AttachedParts HostParts Reads Writes) (begun : ℕ)
+  pub served : (host : HostParts) (source : ConnectionReads) (from sink : ConnectionWrites) (bytes : List ℕ)
+      (attached : AttachedParts HostParts ConnectionReads ConnectionWrites) (begun : ℕ)
       → HostLeads host [] [] (side_after_open unopened_host_side) → Told from sink bytes
       → bytes ≡ plain_spelling element_rules (Telnet opening ∷ [])
       → attached ≡ new_at host source sink → source ≡ no_reads → from ≡ no_writes → begun ≡ 0

@@ -21,7 +21,7 @@ use Rattle.ws_any_host.specs.declared.any_line.AnyLine.{AnyLine}
 use Rattle.ws_any_host.specs.declared.any_line.AnyLine.TheVariants.{Await}
 use Rattle.ws_network.specs.LiveFaults.{IsSessionFault}
 use Rattle.ws_network.specs.Sessions.{at_connection}
-use Rattle.ws_network.specs.Times.{Reads, Writes, no_writes, timed_reader, timed_writer, tells, begins}
+use Rattle.ws_network.specs.Times.{ConnectionReads, ConnectionWrites, no_writes, timed_reader, timed_writer, tells, begins}
 use Rattle.ws_program.specs.RunFaults.{told_fault}
 use Rattle.ws_program.specs.declared.fault.ToldFault.{ToldFault}
 use Rattle.ws_words.specs.declared.live_command.ServeAsked.{ServeAsked}
@@ -56,8 +56,8 @@ module _ {S K W : Type 0} (writer : Writer K) (reader : Reader S)
 pub record IsAnyServed (asked : ServeAsked) (lines : List AnyLine) (all_well : Bool) (text : List ℕ) : Type 0 where
   pub host : AnyParts
   pub opened : AnyLeads host [] [] (once_opened new_negotiated)
-  pub sink : Writes
+  pub sink : ConnectionWrites
   pub told : WentOut timed_writer no_writes sink (plain_spelling raw_rules (Telnet opening ∷ []))
-  pub to : (AttachedParts AnyParts Reads Writes × ℕ) × ℕ
+  pub to : (AttachedParts AnyParts ConnectionReads ConnectionWrites × ℕ) × ℕ
   pub ran : IsTextAndOn (RunsAny timed_writer timed_reader tells begins (λ begun. begun)) Await
       asked.ready ((at_connection host sink, 0), 0) lines all_well text to

@@ -49,7 +49,7 @@ module _ {L : Type 0} (means : List ℕ → List (List ℕ) → L → Type 0) wh
 
     -- Where a line is told as bad behind so many, it means nothing with those that belong to it, and the number is that
     -- of the bad one, as far as 64 bits count.
-    abbrev pub IsBadLine : ℕ → ToldFault → Type 0
-    IsBadLine before (Line number cause) = (line : List ℕ) × (inside : List (List ℕ)) × ((at : ℕ)
+    abbrev pub TellsBadLine : ℕ → ToldFault → Type 0
+    TellsBadLine before (Line number cause) = (line : List ℕ) × (inside : List (List ℕ)) × ((at : ℕ)
         × TellsWhyBad line inside at (string_bytes cause) × (number ≡ min (before + at) (2 ^ 64 - 1)))
-    IsBadLine before told = Unit {0}
+    TellsBadLine before told = Unit {0}

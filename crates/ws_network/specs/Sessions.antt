@@ -27,7 +27,7 @@ use Rattle.ws_live.specs.Operating.{OperatedOn, operated_profile}
 use Rattle.ws_live.specs.ServeText.{IsServeText}
 use Rattle.ws_live.specs.declared.connect_line.StationLine.{StationLine}
 use Rattle.ws_live.specs.declared.serve_line.HostLine.{HostLine}
-use Rattle.ws_network.specs.Times.{Reads, Writes, no_reads, no_writes, timed_reader, timed_writer, tells, rests, begins}
+use Rattle.ws_network.specs.Times.{ConnectionReads, ConnectionWrites, no_reads, no_writes, timed_reader, timed_writer, tells, rests, begins}
 use Rattle.ws_words.specs.declared.live_command.ConnectAsked.{ConnectAsked}
 use Rattle.ws_words.specs.declared.live_command.ServeAsked.{ServeAsked}
 
@@ -42,7 +42,7 @@ abbrev pub station_means : {Q : Type 0} → KeyWords Q → List ℕ → List (Li
 station_means words line inside read = (inside ≡ []) × IsStationLine words line read
 
 -- an end at a connection that has failed in nothing yet, and of which nothing is read
-abbrev pub at_connection : {E : Type 0} → E → Writes → AttachedParts E Reads Writes
+abbrev pub at_connection : {E : Type 0} → E → ConnectionWrites → AttachedParts E ConnectionReads ConnectionWrites
 at_connection end written = record { end = end; source = no_reads; sink = written; waiting = []; broken = false }
 
 module _ {D P U H PlaceV V Q R : Type 0} (rules : Rules P U) (d : DisplayOf D U H PlaceV V Q R)
@@ -53,7 +53,7 @@ module _ {D P U H PlaceV V Q R : Type 0} (rules : Rules P U) (d : DisplayOf D U 
       : Type 0 where
     pub station : PartsOn D P
     pub new : LeadsOn rules d station [] [] (new_side_on d asked.terminal)
-    pub to : (AttachedParts (PartsOn D P) Reads Writes × ℕ) × ℕ
+    pub to : (AttachedParts (PartsOn D P) ConnectionReads ConnectionWrites × ℕ) × ℕ
     pub ran : IsConnectText rules d timed_writer timed_reader tells rests operated words
         begins (λ begun. begun) asked.paint asked.ready ((at_connection station no_writes, 0), 0) lines all_well text to
 
@@ -61,10 +61,10 @@ module _ {D P U H PlaceV V Q R : Type 0} (rules : Rules P U) (d : DisplayOf D U 
 pub record IsServed (asked : ServeAsked) (lines : List HostLine) (all_well : Bool) (text : List ℕ) : Type 0 where
   pub host : HostParts
   pub opened : HostLeads host [] [] (side_after_open unopened_host_side)
-  pub sink : Writes
+  pub sink : ConnectionWrites
   pub told : WentOut timed_writer no_writes sink
       (plain_spelling element_rules (Telnet opening ∷ []))
-  pub to : (AttachedParts HostParts Reads Writes × ℕ) × ℕ
+  pub to : (AttachedParts HostParts ConnectionReads ConnectionWrites × ℕ) × ℕ
   pub ran : IsServeText timed_writer timed_reader tells begins (λ begun. begun) asked.ready
       ((at_connection host sink, 0), 0) lines all_well text to
 

@@ -9,32 +9,32 @@ use Rattle.std_io.specs.declared.io.kind.ErrorKind.TheVariants.{WouldBlock, Time
 
 -- what is known of the reads from a connection: how many failed, of what kind the error of the last of these was, and
 -- whether the time that was over then, if one was, was that in which nothing had come
-pub record Reads : Type 0 where
+pub record ConnectionReads : Type 0 where
   pub failures : ℕ
   pub failure : Option ErrorKind
   pub rested : Bool
 
 -- no read has failed
-abbrev pub no_reads : Reads
+abbrev pub no_reads : ConnectionReads
 no_reads = record { failures = 0; failure = None; rested = false }
 
 -- what is known of the writes to a connection: how many failed
-pub record Writes : Type 0 where
+pub record ConnectionWrites : Type 0 where
   pub failures : ℕ
 
 -- no write has failed
-abbrev pub no_writes : Writes
+abbrev pub no_writes : ConnectionWrites
 no_writes = record { failures = 0 }
 
 -- a read may give any bytes, or fail, and then it is kept why
-abbrev pub timed_reader : Reader Reads
+abbrev pub timed_reader : Reader ConnectionReads
 timed_reader = record {
   gives = λ from room given to. IfNone given (is_some to.failure ≡ true);
   failures = λ reads. reads.failures;
 }
 
 -- a write may take any bytes
-abbrev pub timed_writer : Writer Writes
+abbrev pub timed_writer : Writer ConnectionWrites
 timed_writer = record { takes = λ from bytes taken to. Unit {0}; failures = λ writes. writes.failures }
 
 -- the errors by which the system says that a call took longer than its time
@@ -49,17 +49,17 @@ is_late None = false
 is_late (Some kind) = is_want_of_time kind
 
 -- the last read that failed did so for want of time
-abbrev pub was_late : Reads → Bool
+abbrev pub was_late : ConnectionReads → Bool
 was_late reads = is_late reads.failure
 
 -- what is told of a read that has failed: whether it did so for want of time
-abbrev pub tells : Reads → Bool → Type 0
+abbrev pub tells : ConnectionReads → Bool → Type 0
 tells reads late = late ≡ was_late reads
 
 -- what is told of a read that has failed for want of time: whether that was since nothing had come
-abbrev pub rests : Reads → Bool → Type 0
+abbrev pub rests : ConnectionReads → Bool → Type 0
 rests reads quiet = quiet ≡ reads.rested
 
 -- What the beginning of a wait does at a timer isn't known: no contract says what a clock tells.
-abbrev pub begins : ℕ → Reads → WaitSpan → ℕ → Type 0
+abbrev pub begins : ℕ → ConnectionReads → WaitSpan → ℕ → Type 0
 begins from reads span to = Unit {0}

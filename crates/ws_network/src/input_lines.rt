@@ -2,7 +2,7 @@
 ghost use Rattle.std.specs.Prelude.{◌≡◌, ℕ, OnOk, IfOk, IfErr, IfSome};
 ghost use Rattle.std.specs.Str.Lines.{lines};
 ghost use Rattle.ws_code.specs.Device.{one_more};
-ghost use Rattle.ws_network.specs.InputLines.{IsInputFault, IsBadLine, IsNextLine, IsUnreadFault, unread_fault};
+ghost use Rattle.ws_network.specs.InputLines.{IsInputFault, TellsBadLine, IsNextLine, IsUnreadFault, unread_fault};
 
 use std::alloc::Global;
 use std::io::{BufRead, ErrorKind};
@@ -24,7 +24,7 @@ pub fn next_line<B: BufRead + Drop, L: LiveLine>(
     ensures line { IfOk result (λ next. IfSome next
         (IsNextLine L.means L.bad_at vocabulary L.bad_line ready)) }
     ensures fault { IfErr result (IsInputFault ready) }
-    ensures bad { IfErr result (IsBadLine L.means L.bad_at vocabulary input.old) }
+    ensures bad { IfErr result (TellsBadLine L.means L.bad_at vocabulary input.old) }
 {
     let before = input.number;
     let Some(raw) = input.take()? else {

@@ -154,7 +154,7 @@ where
     // What was printed, or why not all.
     ensures ran { IfOk result (λ ran. (lines : List L)
         × MatchOption script.entry (Unit {0}) (λ asked. lines ≡ asked.now)
-        × Spec.HasRun (InTime (L.runs W.tells W.rests paint) L.waits W.begins W.begun) ready
+        × Spec.HasRunLines (InTime (L.runs W.tells W.rests paint) L.waits W.begins W.begun) ready
         O.writer ((attached.old, ahead.old), watch.old) ((attached.new, ahead.new), watch.new)
         out.old.sink out.new.sink lines ran) }
     ensures fault { IfErr result (λ fault. (lines : List L)
@@ -190,7 +190,7 @@ fn carry_script<E, S, K, L: LiveMove<E, S, K>, W: LineWatch<S>, O: Sink>(
     requires works { attached.old.broken ≡ false }
     requires empty { out.old.held ≡ [] }
     // What was printed, or why not all.
-    ensures ran { IfOk result (Spec.HasRun
+    ensures ran { IfOk result (Spec.HasRunLines
         (InTime (L.runs W.tells W.rests paint) L.waits W.begins W.begun) ready O.writer
         ((attached.old, ahead.old), watch.old) ((attached.new, ahead.new), watch.new)
         out.old.sink out.new.sink lines.now) }
@@ -238,7 +238,7 @@ where
     requires empty { out.old.held ≡ [] }
     // What was printed, or why not all.
     ensures ran { IfOk result (λ ran. (lines : List L)
-        × Spec.HasRun (InTime (L.runs W.tells W.rests paint) L.waits W.begins W.begun) ready
+        × Spec.HasRunLines (InTime (L.runs W.tells W.rests paint) L.waits W.begins W.begun) ready
         O.writer ((attached.old, ahead.old), watch.old) ((attached.new, ahead.new), watch.new)
         out.old.sink out.new.sink lines ran) }
     ensures fault { IfErr result (λ fault. (lines : List L)
@@ -293,7 +293,7 @@ fn carry_next<E, S, K, L: LiveMove<E, S, K>, W: LineWatch<S>, O: Sink>(
         (InTime (L.runs W.tells W.rests paint) L.waits W.begins W.begun) ready O.writer
         ((attached.old, ahead.old), watch.old) ((attached.new, ahead.new), watch.new)
         out.old.sink out.new.sink line.now) }
-    ensures fault { IfErr result (Spec.IsCarryFault
+    ensures fault { IfErr result (Spec.IsLiveLineFault
         (InTime (L.runs W.tells W.rests paint) L.waits W.begins W.begun) ready O.writer
         ((attached.old, ahead.old), watch.old) ((attached.new, ahead.new), watch.new)
         out.old.sink out.new.sink line.now) }

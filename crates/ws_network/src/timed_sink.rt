@@ -26,9 +26,9 @@ pub struct TimedSink<'a, C> {
 }
 
 impl<'a, C> Model for TimedSink<'a, C> {
-    ghost use Rattle.ws_network.specs.Times.{Writes};
+    ghost use Rattle.ws_network.specs.Times.{ConnectionWrites};
 
-    ghost Value = { Writes };
+    ghost Value = { ConnectionWrites };
 
     ghost view = { λ s. record { failures = s.failures } };
 }

@@ -31,9 +31,9 @@ pub struct TimedSource<'a, C> {
 }
 
 impl<'a, C> Model for TimedSource<'a, C> {
-    ghost use Rattle.ws_network.specs.Times.{Reads};
+    ghost use Rattle.ws_network.specs.Times.{ConnectionReads};
 
-    ghost Value = { Reads };
+    ghost Value = { ConnectionReads };
 
     ghost view = { λ s. record { failures = s.failures; failure = s.failure; rested = s.rested } };
 }

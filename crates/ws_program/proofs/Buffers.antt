@@ -16,7 +16,7 @@ use Rattle.ws_text.specs.AnswerWords.{answer_wording}
 use Rattle.ws_text.specs.ElementWords.{element_wording}
 use Rattle.ws_text.specs.ExtendedAnswerWords.{told_wording}
 use Rattle.ws_text.specs.ExtendedWords.{extended_wording}
-use Rattle.ws_text.specs.Shown.{Shows, ShowsAnswers, ShowsExtended, ShowsTold}
+use Rattle.ws_text.specs.Shown.{ShowsElements, ShowsAnswers, ShowsExtended, ShowsTold}
 use Rattle.ws_text.specs.Wording.{Wording}
 use Rattle.ws_program.specs.Answering.{HasAnswered, HasChecked, HasCheckedBy, HasShown, HasShownBy, IsAnswerFault}
 use Rattle.ws_program.specs.Answering.{IsBytesFault, IsCheckFaultBy, IsShowFaultBy}
@@ -101,7 +101,7 @@ module _ {S : Type 0} (writer : Writer S) (from mid : Buffering S)
     done_flushed (Play file screen true paint) input accepted h =
         (h.0, h.1, h.2, h.3, flushed_out writer from empty mid to h.2 h.4 out)
     done_flushed (Make file Host raw) input accepted h =
-        make_flushed element_rules element_wording Shows raw input accepted h
+        make_flushed element_rules element_wording ShowsElements raw input accepted h
     done_flushed (Make file ExtendedHost raw) input accepted h =
         make_flushed extended_rules extended_wording ShowsExtended raw input accepted h
     done_flushed (Make file Station raw) input accepted h =
@@ -214,7 +214,7 @@ module _ {S : Type 0} (writer : Writer S) (from mid : Buffering S)
         (IsShowFaultBy writer from.sink to paint so_far sender) (show_fault_by_flushed paint so_far sender)
         input fault f
     fault_flushed (Make file Host raw) input fault f =
-        make_fault_flushed element_rules element_wording Shows raw input fault f
+        make_fault_flushed element_rules element_wording ShowsElements raw input fault f
     fault_flushed (Make file ExtendedHost raw) input fault f =
         make_fault_flushed extended_rules extended_wording ShowsExtended raw input fault f
     fault_flushed (Make file Station raw) input fault f =

@@ -4,12 +4,12 @@ use Rattle.ws_code.specs.Device.{Writer, FailedWithin}
 use Rattle.ws_code.specs.declared.fault.Fault.{Fault}
 use Rattle.ws_code.specs.declared.fault.Fault.TheVariants as device
 use Rattle.ws_record.specs.declared.record.Item.{Item}
-use Rattle.ws_text.specs.Items.{IsTextFault as IsItemsFault}
+use Rattle.ws_text.specs.Items.{IsPrintingFault as IsItemsFault}
 use Rattle.ws_text.specs.Wording.{Wording}
 use Rattle.ws_text.specs.declared.items.TextFault.{TextFault as ItemsFault}
 use Rattle.ws_text.specs.declared.items.TextFault.TheVariants as items
 use Rattle.ws_program.specs.Making.{made_stream, AreTold, IsMakeFault}
-use Rattle.ws_text.specs.Printing.{IsTextFault}
+use Rattle.ws_text.specs.Printing.{IsPrintingFault}
 use Rattle.ws_program.specs.RunFaults.{run_fault, items_run_fault}
 
 -- What `make` answers where it doesn't write all.
@@ -25,7 +25,7 @@ module _ {Place U : Type 0} (rules : Rules Place U) (w : Wording U) (IsShowing :
 
   -- lines that don't go out
   pub unmade : (from to : S) (text : List ℕ) (list given : List (Item U)) (fault : Fault) → given ≡ list
-      → AreTold rules w IsShowing text list → IsTextFault writer from to (λ t. t ≡ made_stream rules raw given) fault
+      → AreTold rules w IsShowing text list → IsPrintingFault writer from to (λ t. t ≡ made_stream rules raw given) fault
       → IsMakeFault rules w IsShowing writer from to raw text (run_fault fault)
   unmade from to text list given device.Memory same are e = (e, (list, are.0))
   unmade from to text list given device.Write same are h =

@@ -24,7 +24,7 @@ use Rattle.ws_record.specs.declared.record.Item.{Item}
 use Rattle.ws_record.specs.declared.record.Item.TheVariants.{Record as RecordItem, Telnet as TelnetItem}
 use Rattle.ws_telnet.specs.declared.token.Telnet.TheVariants as telnet
 use Rattle.ws_record.proofs.Reading.{parts_no_eor}
-use Rattle.ws_program.specs.OpenParts.{head_after, units_after, open_behind, opens, TokensRead, NoTokensWith}
+use Rattle.ws_program.specs.OpenParts.{head_after, units_after, open_behind, open_behind_tokens, TokensRead, NoTokensWith}
 
 -- What has come of an open record.
 
@@ -117,29 +117,29 @@ follows_all {Place} {U} {rules} {live} {head} {units} {bytes} f =
 
 -- Whether a record is open behind tokens.
 
-opens_append : (is_open : Bool) (xs ys : List Token) → opens is_open (xs ++ ys) ≡ opens (opens is_open xs) ys
+opens_append : (is_open : Bool) (xs ys : List Token) → open_behind_tokens is_open (xs ++ ys) ≡ open_behind_tokens (open_behind_tokens is_open xs) ys
 opens_append is_open [] ys = refl
 opens_append is_open (x ∷ xs) ys = opens_append (open_behind is_open x) xs ys
 
 -- none is behind an EOR
-opens_joined : (parts : List (List Token)) (rest : List Token) → opens false (joined parts rest) ≡ opens false rest
+opens_joined : (parts : List (List Token)) (rest : List Token) → open_behind_tokens false (joined parts rest) ≡ open_behind_tokens false rest
 opens_joined [] rest = refl
 opens_joined (part ∷ parts) rest =
     let ended : List Token = part ++ Eor ∷ [] in
     let others : List Token = flat_map (λ p. p ++ Eor ∷ []) parts in
-    ap (opens false) (append_assoc ended others rest) ∙ opens_append false ended (others ++ rest)
-    ∙ ap (λ b. opens b (others ++ rest)) (opens_append false part (Eor ∷ [])) ∙ opens_joined parts rest
+    ap (open_behind_tokens false) (append_assoc ended others rest) ∙ opens_append false ended (others ++ rest)
+    ∙ ap (λ b. open_behind_tokens b (others ++ rest)) (opens_append false part (Eor ∷ [])) ∙ opens_joined parts rest
 
 -- once open, it is until an EOR
-stays_open : (tokens : List Token) → HasNoEor tokens → opens true tokens ≡ true
+stays_open : (tokens : List Token) → HasNoEor tokens → open_behind_tokens true tokens ≡ true
 stays_open [] h = refl
 stays_open (Data b ∷ tokens) h = stays_open tokens h.1
 stays_open (Eor ∷ tokens) h = absurd (h.0 refl)
 stays_open (TelnetToken t ∷ tokens) h = stays_open tokens h.1
 
 -- a record is open where a value has come
-opens_carried : (tokens : List Token) → HasNoEor tokens → (opens false tokens ≡ true → carried tokens ≢ [])
-    × (opens false tokens ≡ false → carried tokens ≡ [])
+opens_carried : (tokens : List Token) → HasNoEor tokens → (open_behind_tokens false tokens ≡ true → carried tokens ≢ [])
+    × (open_behind_tokens false tokens ≡ false → carried tokens ≡ [])
 opens_carried [] h = ((λ e. cc), λ e. refl)
 opens_carried (Data b ∷ tokens) h = ((λ e f. cc), λ e. (let g = stays_open tokens h.1 in cc))
 opens_carried (Eor ∷ tokens) h = absurd (h.0 refl)
@@ -192,7 +192,7 @@ pub tokens_all : {begun bytes : List ℕ} {is_open : Bool} → TokensRead begun 
 tokens_all {begun} {bytes} {is_open} r parts rest left hp hr cut =
     let same = one_cut token_rules token_prefix_free tt r.tokens (joined parts rest) begun left r.cut.chain cut.chain
     r.cut.more cut.more (r.cut.spelled ∙ sym cut.spelled) in
-    let is : is_open ≡ opens false rest = r.is ∙ ap (opens false) same.0 ∙ opens_joined parts rest in
+    let is : is_open ≡ open_behind_tokens false rest = r.is ∙ ap (open_behind_tokens false) same.0 ∙ opens_joined parts rest in
     let c = opens_carried rest hr in
     ((λ e. c.0 (sym is ∙ e)), λ e. c.1 (sym is ∙ e))
 

@@ -14,7 +14,7 @@ use Rattle.ws_record.proofs.Fronts.{one_holding}
 use Rattle.ws_code.specs.declared.reason.Reason.{Reason}
 use Rattle.ws_program.specs.CheckLine.{line_of}
 use Rattle.ws_program.specs.declared.verdict.Verdict.TheVariants.{Refused}
-use Rattle.ws_program.specs.StreamText.{View, Placed, items_of, lines_of, lines_with, HoldsItems, IsComplete, AreShown}
+use Rattle.ws_program.specs.StreamText.{View, Placed, items_without_places, lines_of, lines_with, HoldsItems, IsComplete, AreShown}
 use Rattle.ws_program.specs.SoFar.{IsShownSoFar, IsSoFarEnd}
 use Rattle.ws_program.specs.StreamText.{IsShown, AreFirstLines, IsEnd}
 use Rattle.ws_program.proofs.FrontItems.{front_items}
@@ -129,19 +129,19 @@ module _ {Place U : Type 0} (rules : Rules Place U) (prefix_free : IsPrefixFree 
 
   -- the end of a whole text
   ends_behind : (bytes : List ℕ) (placed : List (Placed U)) (accepted : Bool) (end : List ℕ)
-      → IsEnd rules view bytes placed accepted end → EndsBehind bytes (items_of placed) end
-  ends_behind bytes placed true end e x c = none_complete bytes (length bytes) (items_of placed) x
-      (subst (λ (z : List ℕ). HoldsItems rules z (items_of placed)) (sym (take_all (length bytes) bytes (omega arith)))
+      → IsEnd rules view bytes placed accepted end → EndsBehind bytes (items_without_places placed) end
+  ends_behind bytes placed true end e x c = none_complete bytes (length bytes) (items_without_places placed) x
+      (subst (λ (z : List ℕ). HoldsItems rules z (items_without_places placed)) (sym (take_all (length bytes) bytes (omega arith)))
       ([], [], e.0)) (omega (arith, c.within)) c
-  ends_behind bytes placed false end (inl e) x c = none_complete bytes e.0 (items_of placed) x e.3
-      (before_refused bytes e.0 e.1 (items_of placed) x e.2 c) c
-  ends_behind bytes placed false end (inr (inl e)) x c = none_complete bytes (length bytes) (items_of placed) x
-      (subst (λ (z : List ℕ). HoldsItems rules z (items_of placed)) (sym (take_all (length bytes) bytes (omega arith)))
+  ends_behind bytes placed false end (inl e) x c = none_complete bytes e.0 (items_without_places placed) x e.3
+      (before_refused bytes e.0 e.1 (items_without_places placed) x e.2 c) c
+  ends_behind bytes placed false end (inr (inl e)) x c = none_complete bytes (length bytes) (items_without_places placed) x
+      (subst (λ (z : List ℕ). HoldsItems rules z (items_without_places placed)) (sym (take_all (length bytes) bytes (omega arith)))
       e.1) (omega (arith, c.within)) c
   ends_behind bytes placed false end (inr (inr e)) x c =
-      let same : e.0 ≡ x = one_next bytes (items_of placed) e.0 x e.2 c in (
+      let same : e.0 ≡ x = one_next bytes (items_without_places placed) e.0 x e.2 c in (
         e.1,
-        subst (λ (y : Placed U). view.fault (items_of placed) y.1 ≡ Some e.1) same e.3,
+        subst (λ (y : Placed U). view.fault (items_without_places placed) y.1 ≡ Some e.1) same e.3,
         (
           line_of (Refused e.0.0 e.1) (length bytes),
           e.4 ∙ ap (λ (y : Placed U). view.lines y.0 y.1
@@ -151,12 +151,12 @@ module _ {Place U : Type 0} (rules : Rules Place U) (prefix_free : IsPrefixFree 
 
   -- and of one with what has come of an open record
   ends_behind_so_far : (bytes : List ℕ) (placed : List (Placed U)) (accepted : Bool) (end : List ℕ)
-      → IsSoFarEnd rules view bytes placed accepted end → EndsBehind bytes (items_of placed) end
+      → IsSoFarEnd rules view bytes placed accepted end → EndsBehind bytes (items_without_places placed) end
   ends_behind_so_far bytes placed true end e x c = ends_behind bytes placed true end e x c
-  ends_behind_so_far bytes placed false end (inl e) x c = none_complete bytes e.2.0 (items_of placed) x e.2.3
-      (before_refused bytes e.2.0 e.2.1 (items_of placed) x e.2.2 c) c
-  ends_behind_so_far bytes placed false end (inr (inl e)) x c = none_complete bytes (length bytes) (items_of placed) x
-      (subst (λ (z : List ℕ). HoldsItems rules z (items_of placed)) (sym (take_all (length bytes) bytes (omega arith)))
+  ends_behind_so_far bytes placed false end (inl e) x c = none_complete bytes e.2.0 (items_without_places placed) x e.2.3
+      (before_refused bytes e.2.0 e.2.1 (items_without_places placed) x e.2.2 c) c
+  ends_behind_so_far bytes placed false end (inr (inl e)) x c = none_complete bytes (length bytes) (items_without_places placed) x
+      (subst (λ (z : List ℕ). HoldsItems rules z (items_without_places placed)) (sym (take_all (length bytes) bytes (omega arith)))
       e.2.1) (omega (arith, c.within)) c
   ends_behind_so_far bytes placed false end (inr (inr e)) x c = ends_behind bytes placed false end (inr (inr e)) x c
 
@@ -166,17 +166,17 @@ module _ {Place U : Type 0} (rules : Rules Place U) (prefix_free : IsPrefixFree 
   lines_on x part (Some y) = append_assoc (view.lines x.0 x.1) (lines_of view part) (view.lines y.0 y.1)
 
   complete_on : (bytes : List ℕ) (before : List (Item U)) (x : Placed U) (part : List (Placed U))
-      (last : Option (Placed U)) → IfSome last (IsComplete rules bytes (before ++ items_of (x ∷ part)))
-      → IfSome last (IsComplete rules bytes ((before ++ x.1 ∷ []) ++ items_of part))
+      (last : Option (Placed U)) → IfSome last (IsComplete rules bytes (before ++ items_without_places (x ∷ part)))
+      → IfSome last (IsComplete rules bytes ((before ++ x.1 ∷ []) ++ items_without_places part))
   complete_on bytes before x part None c = tt
   complete_on bytes before x part (Some y) c = subst (λ (z : List (Item U)). IsComplete rules bytes z y)
-      (sym (append_assoc before (x.1 ∷ []) (items_of part))) c
+      (sym (append_assoc before (x.1 ∷ []) (items_without_places part))) c
 
   -- so the items of a part, and one more that it may have, begin those of the whole
   begins : (bytes : List ℕ) (before : List (Item U)) (part whole : List (Placed U)) (last : Option (Placed U))
       (end : List ℕ) → AreShown rules view bytes before part
-      → IfSome last (IsComplete rules bytes (before ++ items_of part)) → AreShown rules view bytes before whole
-      → EndsBehind bytes (before ++ items_of whole) end
+      → IfSome last (IsComplete rules bytes (before ++ items_without_places part)) → AreShown rules view bytes before whole
+      → EndsBehind bytes (before ++ items_without_places whole) end
       → (rest : List ℕ) × (lines_of view whole ++ end ≡ lines_with view part last ++ rest)
   begins bytes before [] whole None end p c w e = (lines_of view whole ++ end, refl)
   begins bytes before [] [] (Some x) end p c w e = (e x c).2
@@ -196,9 +196,9 @@ module _ {Place U : Type 0} (rules : Rules Place U) (prefix_free : IsPrefixFree 
       let same : y ≡ x = one_next bytes before y x w.0 p.0 in
       let on : (z : Placed U) → y ≡ z → AreShown rules view bytes (before ++ z.1 ∷ []) whole = λ z same. subst
       (λ (z : Placed U). AreShown rules view bytes (before ++ z.1 ∷ []) whole) same w.2 in
-      let ends : (z : Placed U) → y ≡ z → EndsBehind bytes ((before ++ z.1 ∷ []) ++ items_of whole) end = λ z same.
-      subst (λ (z : Placed U). EndsBehind bytes ((before ++ z.1 ∷ []) ++ items_of whole) end) same
-      (subst (λ (k : List (Item U)). EndsBehind bytes k end) (sym (append_assoc before (y.1 ∷ []) (items_of whole))) e)
+      let ends : (z : Placed U) → y ≡ z → EndsBehind bytes ((before ++ z.1 ∷ []) ++ items_without_places whole) end = λ z same.
+      subst (λ (z : Placed U). EndsBehind bytes ((before ++ z.1 ∷ []) ++ items_without_places whole) end) same
+      (subst (λ (k : List (Item U)). EndsBehind bytes k end) (sym (append_assoc before (y.1 ∷ []) (items_without_places whole))) e)
       in
       let found = begins bytes (before ++ x.1 ∷ []) part whole last end p.2 (complete_on bytes before x part last c)
       (on x same) (ends x same) in (

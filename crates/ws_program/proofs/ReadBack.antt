@@ -17,12 +17,12 @@ use Rattle.ws_code.proofs.Lists.{AllByRecursion-append}
 use Rattle.ws_stream.specs.Elements.{element_rules}
 use Rattle.ws_stream.specs.declared.element.Element.{Element}
 use Rattle.ws_text.specs.Items.{EndsHere}
-use Rattle.ws_text.specs.Shown.{Shows}
+use Rattle.ws_text.specs.Shown.{ShowsElements}
 use Rattle.ws_text.proofs.ShownBytes.{literal, line_from, lines_back}
 use Rattle.ws_live.specs.ScreenLines.{state_line}
 use Rattle.ws_live.specs.declared.paint.Paint.{Paint}
 use Rattle.ws_live.specs.declared.paint.Paint.TheVariants.{Plain}
-use Rattle.ws_program.specs.StreamText.{View, Placed, items_of, AreShown, IsShown}
+use Rattle.ws_program.specs.StreamText.{View, Placed, items_without_places, AreShown, IsShown}
 use Rattle.ws_program.specs.Views.{host_view, IsScreenEnd}
 
 -- What is shown of a stream shows its items.
@@ -100,10 +100,10 @@ screen_ends paint items text h =
     subst (λ (z : List (List ℕ)). EndsHere z) (sym first) refl
 
 pub shows_items : (bytes text : List ℕ) → length bytes < 2 ^ 64 → IsShown element_rules host_view bytes true text
-    → (items : List (Item Element)) × IsInGrammar element_rules bytes items × Shows text items
+    → (items : List (Item Element)) × IsInGrammar element_rules bytes items × ShowsElements text items
 shows_items bytes text fits s =
-    let right = grammar_right element_rules bytes (items_of s.placed) s.ends.0 in (
-      items_of s.placed,
+    let right = grammar_right element_rules bytes (items_without_places s.placed) s.ends.0 in (
+      items_without_places s.placed,
       s.ends.0,
       record {
         placed = s.placed;
@@ -111,8 +111,8 @@ shows_items bytes text fits s =
         split = s.lines;
         are_items = refl;
         places = all_places element_rules host_view bytes [] s.placed fits s.shown;
-        encoded = are_encoded element_rules (items_of s.placed) right;
-        in_range = are_in_range element_rules (items_of s.placed) right;
-        ends = screen_ends Plain (items_of s.placed) s.end s.ends.1;
+        encoded = are_encoded element_rules (items_without_places s.placed) right;
+        in_range = are_in_range element_rules (items_without_places s.placed) right;
+        ends = screen_ends Plain (items_without_places s.placed) s.end s.ends.1;
       },
     )

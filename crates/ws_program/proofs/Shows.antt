@@ -18,14 +18,14 @@ use Rattle.ws_record.specs.declared.record.Item.{Item}
 use Rattle.ws_code.proofs.Parts.{fails_last}
 use Rattle.ws_program.specs.declared.verdict.Verdict.TheVariants.{Refused, Truncated}
 use Rattle.ws_program.specs.CheckLine.{line_of, verdict_by}
-use Rattle.ws_program.specs.StreamText.{View, Placed, items_of, lines_of, HoldsItems, IsComplete, AreShown, IsShown}
-use Rattle.ws_program.specs.StreamText.{AreFirstLines, IsShowFault, IsStop, HasTaken, HasBegun, IsNextItem}
+use Rattle.ws_program.specs.StreamText.{View, Placed, items_without_places, lines_of, HoldsItems, IsComplete, AreShown, IsShown}
+use Rattle.ws_program.specs.StreamText.{AreFirstLines, IsShowFault, IsStop, HasTaken, HasBegunStream, IsNextItem}
 use Rattle.ws_program.specs.StreamText.{IsNext, IsNextFault}
 
 -- Items that are shown one after another.
 
 module _ {U : Type 0} where
-  items_more : (placed : List (Placed U)) (x : Placed U) → items_of (placed ++ x ∷ []) ≡ items_of placed ++ x.1 ∷ []
+  items_more : (placed : List (Placed U)) (x : Placed U) → items_without_places (placed ++ x ∷ []) ≡ items_without_places placed ++ x.1 ∷ []
   items_more [] x = refl
   items_more (y ∷ ys) x = ap (λ z. y.1 ∷ z) (items_more ys x)
 
@@ -37,7 +37,7 @@ module _ {U : Type 0} where
 module _ {Place U : Type 0} where
   shown_more : (rules : Rules Place U) (view : View U) (bytes : List ℕ) (before : List (Item U))
       (placed : List (Placed U)) (x : Placed U) → AreShown rules view bytes before placed → IsComplete rules bytes
-      (before ++ items_of placed) x → view.fault (before ++ items_of placed) x.1 ≡ None
+      (before ++ items_without_places placed) x → view.fault (before ++ items_without_places placed) x.1 ≡ None
       → AreShown rules view bytes before (placed ++ x ∷ [])
   shown_more rules view bytes before [] x s c none = (
     subst (λ (z : List (Item U)). IsComplete rules bytes z x) (append-nil before) c,
@@ -45,8 +45,8 @@ module _ {Place U : Type 0} where
     tt,
   )
   shown_more rules view bytes before (y ∷ ys) x s c none =
-      let on : before ++ items_of (y ∷ ys) ≡ (before ++ y.1 ∷ []) ++ items_of ys = sym (append_assoc before (y.1 ∷ [])
-      (items_of ys)) in (
+      let on : before ++ items_without_places (y ∷ ys) ≡ (before ++ y.1 ∷ []) ++ items_without_places ys = sym (append_assoc before (y.1 ∷ [])
+      (items_without_places ys)) in (
         s.0,
         s.1,
         shown_more rules view bytes (before ++ y.1 ∷ []) ys x s.2
@@ -143,7 +143,7 @@ module _ {Place U : Type 0} {rules : Rules Place U} {bytes rest : List ℕ} {old
 
 -- why nothing comes next, by what a call of `feed` answered
 pub next_fault : {Place U : Type 0} (rules : Rules Place U) (bytes rest : List ℕ) (old : Receiving Place U) → rest
-    ≡ drop old.live.taken bytes → length bytes + 1 < 2 ^ 64 → HasBegun rules bytes old → (fault : Fault)
+    ≡ drop old.live.taken bytes → length bytes + 1 < 2 ^ 64 → HasBegunStream rules bytes old → (fault : Fault)
     → ((bs : List ℕ) (items : List (Item U)) → HasReceived rules old bs items → length bs + length rest + 1 < 2 ^ 64
     → IsFeedFault rules bs items rest fault)
     → ((bs : List ℕ) (items : List (Item U)) → HasReceived rules old bs items → length bs + length rest + 1 < 2 ^ 64
@@ -189,8 +189,8 @@ pub record Shows {Place U Made : Type 0} (rules : Rules Place U) (view : View U)
     → Type 0) (bytes : List ℕ) (receiver : Receiving Place U) (made : Made) (lines : List ℕ) : Type 0 where
   pub placed : List (Placed U)
   pub shown : AreShown rules view bytes [] placed
-  pub taken : HasTaken rules bytes receiver (items_of placed)
-  pub makes_it : makes (items_of placed) made
+  pub taken : HasTaken rules bytes receiver (items_without_places placed)
+  pub makes_it : makes (items_without_places placed) made
   pub are_lines : lines ≡ lines_of view placed
 
 -- before the first byte
@@ -210,18 +210,18 @@ module _ {Place U Made : Type 0} {rules : Rules Place U} {view : View U} {makes 
     (w : Shows rules view makes bytes receiver made lines) where
   -- the item that comes next
   pub next_is : (new : Receiving Place U) (found : Option (Placed U)) (x : Placed U) → found ≡ Some x
-      → IsNext rules bytes receiver new found → IsNextItem rules bytes (items_of w.placed) receiver new x
-  next_is new found x is next = (rw is at next) (items_of w.placed) w.taken
+      → IsNext rules bytes receiver new found → IsNextItem rules bytes (items_without_places w.placed) receiver new x
+  next_is new found x is next = (rw is at next) (items_without_places w.placed) w.taken
 
   -- or none does
   pub none_next : (new : Receiving Place U) (found : Option (Placed U)) → found ≡ None
-      → IsNext rules bytes receiver new found → HasReceived rules new bytes (items_of w.placed)
-  none_next new found is next = (rw is at next) (items_of w.placed) w.taken
+      → IsNext rules bytes receiver new found → HasReceived rules new bytes (items_without_places w.placed)
+  none_next new found is next = (rw is at next) (items_without_places w.placed) w.taken
 
   -- and its lines
   shows_next : (x : Placed U) (new : Receiving Place U) (next : Made) → IsNextItem rules bytes
-      (items_of w.placed) receiver new x → view.fault (items_of w.placed) x.1 ≡ None
-      → makes (items_of w.placed ++ x.1 ∷ []) next → Shows rules view makes bytes new next (lines ++ view.lines x.0 x.1)
+      (items_without_places w.placed) receiver new x → view.fault (items_without_places w.placed) x.1 ≡ None
+      → makes (items_without_places w.placed ++ x.1 ∷ []) next → Shows rules view makes bytes new next (lines ++ view.lines x.0 x.1)
   shows_next x new next is none more = record {
     placed = w.placed ++ x ∷ [];
     shown = shown_more rules view bytes [] w.placed x w.shown is.complete none;
@@ -234,7 +234,7 @@ module _ {Place U Made : Type 0} {rules : Rules Place U} {view : View U} {makes 
   part = record { placed = w.placed; shown = w.shown; last = None; complete = tt; lines = w.are_lines }
 
   -- the lines of an item more
-  pub part_more : (x : Placed U) → IsComplete rules bytes (items_of w.placed) x → AreFirstLines rules view bytes
+  pub part_more : (x : Placed U) → IsComplete rules bytes (items_without_places w.placed) x → AreFirstLines rules view bytes
       (lines ++ view.lines x.0 x.1)
   part_more x c = record {
     placed = w.placed;
@@ -246,7 +246,7 @@ module _ {Place U Made : Type 0} {rules : Rules Place U} {view : View U} {makes 
 
   -- a byte is refused behind them
   refused_behind : (place : ℕ) (reason : Reason) → IsRefused rules bytes place reason → HoldsItems rules
-      (take place bytes) (items_of w.placed) → IsShown rules view bytes false (lines ++ line_of (Refused place reason)
+      (take place bytes) (items_without_places w.placed) → IsShown rules view bytes false (lines ++ line_of (Refused place reason)
       (length bytes))
   refused_behind place reason r held =
       let line : List ℕ = line_of (Refused place reason) (length bytes) in
@@ -259,7 +259,7 @@ module _ {Place U Made : Type 0} {rules : Rules Place U} {view : View U} {makes 
       }
 
   -- they end too early
-  truncated_behind : IsTruncated rules bytes → HoldsItems rules bytes (items_of w.placed)
+  truncated_behind : IsTruncated rules bytes → HoldsItems rules bytes (items_without_places w.placed)
       → IsShown rules view bytes false (lines ++ line_of (Truncated (length bytes)) (length bytes))
   truncated_behind t held =
       let line : List ℕ = line_of (Truncated (length bytes)) (length bytes) in
@@ -272,8 +272,8 @@ module _ {Place U Made : Type 0} {rules : Rules Place U} {view : View U} {makes 
       }
 
   -- the next item isn't carried out
-  pub unapplied : (x : Placed U) (reason : Reason) → IsComplete rules bytes (items_of w.placed) x
-      → view.fault (items_of w.placed) x.1 ≡ Some reason → IsShown rules view bytes false
+  pub unapplied : (x : Placed U) (reason : Reason) → IsComplete rules bytes (items_without_places w.placed) x
+      → view.fault (items_without_places w.placed) x.1 ≡ Some reason → IsShown rules view bytes false
       ((lines ++ view.lines x.0 x.1) ++ line_of (Refused x.0 reason) (length bytes))
   unapplied x reason c found =
       let line : List ℕ = line_of (Refused x.0 reason) (length bytes) in
@@ -286,14 +286,14 @@ module _ {Place U Made : Type 0} {rules : Rules Place U} {view : View U} {makes 
       }
 
   -- they are accepted
-  pub accepted_behind : IsInGrammar rules bytes (items_of w.placed) → (text : List ℕ)
+  pub accepted_behind : IsInGrammar rules bytes (items_without_places w.placed) → (text : List ℕ)
       → ((items : List (Item U)) → makes items made → view.Ends items text) → IsShown rules view bytes true
       (lines ++ text)
   accepted_behind a text ends = record {
     placed = w.placed;
     shown = w.shown;
     end = text;
-    ends = (a, ends (items_of w.placed) w.makes_it);
+    ends = (a, ends (items_without_places w.placed) w.makes_it);
     lines = ap (λ z. z ++ text) w.are_lines;
   }
 
@@ -314,12 +314,12 @@ module _ {S : Type 0} (writer : Writer S) (from : S) where
     pub stops_next : WentOut writer from to lines → (fault : Fault) → IsNextFault rules bytes receiver fault
         → IsStop writer from to rules view bytes (verdict_by fault)
     stops_next went (faults.Refused place reason) f =
-        (refl, (lines, part w, went, refused_behind w place reason f.0 (f.1 (items_of w.placed) w.taken)))
+        (refl, (lines, part w, went, refused_behind w place reason f.0 (f.1 (items_without_places w.placed) w.taken)))
     stops_next went (faults.Truncated n) f = absurd f
     stops_next went faults.Memory f = (
       w.placed,
       w.shown,
-      f (items_of w.placed) w.taken,
+      f (items_without_places w.placed) w.taken,
       subst (λ (t : List ℕ). WentOut writer from to t) w.are_lines went,
     )
     stops_next went faults.Read f = absurd f
@@ -328,7 +328,7 @@ module _ {S : Type 0} (writer : Writer S) (from : S) where
 
     -- the bytes end too early
     pub stops_early : WentOut writer from to lines → (last : Receiving Place U) → HasReceived rules last bytes
-        (items_of w.placed) → (fault : Fault) → (fault ≡ faults.Truncated (length bytes)) × IsTruncated rules bytes
+        (items_without_places w.placed) → (fault : Fault) → (fault ≡ faults.Truncated (length bytes)) × IsTruncated rules bytes
         → IsStop writer from to rules view bytes (verdict_by fault)
     stops_early went last received fault f =
         rw f.0 (
@@ -347,9 +347,9 @@ module _ {S : Type 0} (writer : Writer S) (from : S) where
 
     -- the next item's lines go out, and it is carried out
     pub goes_on : (mid : S) (x : Placed U) (new : Receiving Place U) (next : Made)
-        → WentOut writer from mid lines → IsNextItem rules bytes (items_of w.placed) receiver new x
+        → WentOut writer from mid lines → IsNextItem rules bytes (items_without_places w.placed) receiver new x
         → WentOut writer mid to (view.lines x.0 x.1)
-        → view.fault (items_of w.placed) x.1 ≡ None → makes (items_of w.placed ++ x.1 ∷ []) next → (more : List ℕ)
+        → view.fault (items_without_places w.placed) x.1 ≡ None → makes (items_without_places w.placed ++ x.1 ∷ []) next → (more : List ℕ)
         × Shows rules view makes bytes new next more × WentOut writer from to more
     goes_on mid x new next went is more none made_more = (
       lines ++ view.lines x.0 x.1,
@@ -359,7 +359,7 @@ module _ {S : Type 0} (writer : Writer S) (from : S) where
 
     -- the next item's lines don't go out whole
     pub stops_at_item : (mid : S) (x : Placed U) → WentOut writer from mid lines → IsComplete rules bytes
-        (items_of w.placed) x → (fault : Fault) → (fault ≡ faults.Write) × FailedWithin writer mid to
+        (items_without_places w.placed) x → (fault : Fault) → (fault ≡ faults.Write) × FailedWithin writer mid to
         (view.lines x.0 x.1) → IsStop writer from to rules view bytes (verdict_by fault)
     stops_at_item mid x went c fault f = rw f.0 (text_fails rules view bytes lines (view.lines x.0 x.1) mid to went
         (inl (part_more w x c)) faults.Write (refl, f.1))

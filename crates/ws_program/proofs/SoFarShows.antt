@@ -13,11 +13,11 @@ use Rattle.ws_record.specs.Grammar.{IsInGrammar}
 use Rattle.ws_record.specs.Refusal.{IsTruncated}
 use Rattle.ws_record.specs.Receiver.{Receiving, HasReceived}
 use Rattle.ws_record.specs.declared.record.Item.{Item}
-use Rattle.ws_text.specs.Printing.{IsTextFault}
+use Rattle.ws_text.specs.Printing.{IsPrintingFault}
 use Rattle.ws_program.specs.CheckLine.{line_of, is_accepted, verdict_by}
 use Rattle.ws_program.specs.SoFar.{IsShownSoFar, IsShownWith, IsSoFarText, IsSoFarFault, IsThrough, IsHalted}
 use Rattle.ws_program.specs.SoFar.{StopsBehind, IsShowFaultWith, bytes_before}
-use Rattle.ws_program.specs.StreamText.{View, Placed, items_of, lines_of, HoldsItems, AreShown, AreFirstLines}
+use Rattle.ws_program.specs.StreamText.{View, Placed, items_without_places, lines_of, HoldsItems, AreShown, AreFirstLines}
 use Rattle.ws_program.specs.StreamText.{IsComplete, IsNextFault}
 use Rattle.ws_program.specs.declared.verdict.Verdict.{Verdict}
 use Rattle.ws_program.specs.declared.verdict.Verdict.TheVariants.{Refused, Truncated}
@@ -54,7 +54,7 @@ module _ {Place U Made : Type 0} {rules : Rules Place U} {view : View U} {makes 
     {bytes lines : List ℕ} {receiver : Receiving Place U} {made : Made}
     (w : Shows rules view makes bytes receiver made lines) where
   -- the stream is accepted
-  accepted_with : IsInGrammar rules bytes (items_of w.placed) → (text : List ℕ)
+  accepted_with : IsInGrammar rules bytes (items_without_places w.placed) → (text : List ℕ)
       → ((items : List (Item U)) → makes items made → view.Ends items text) → (so_far : Bool)
       → IsShownWith so_far rules view bytes true (lines ++ text)
   accepted_with a text ends false = accepted_behind w a text ends
@@ -63,8 +63,8 @@ module _ {Place U Made : Type 0} {rules : Rules Place U} {view : View U} {makes 
       record { placed = s.placed; shown = s.shown; end = s.end; ends = s.ends; lines = s.lines }
 
   -- the next item isn't carried out
-  unapplied_with : (x : Placed U) (reason : Reason) → IsComplete rules bytes (items_of w.placed) x
-      → view.fault (items_of w.placed) x.1 ≡ Some reason → (so_far : Bool) → IsShownWith so_far rules view bytes false
+  unapplied_with : (x : Placed U) (reason : Reason) → IsComplete rules bytes (items_without_places w.placed) x
+      → view.fault (items_without_places w.placed) x.1 ≡ Some reason → (so_far : Bool) → IsShownWith so_far rules view bytes false
       ((lines ++ view.lines x.0 x.1) ++ line_of (Refused x.0 reason) (length bytes))
   unapplied_with x reason c found false = unapplied w x reason c found
   unapplied_with x reason c found true =
@@ -81,14 +81,14 @@ module _ {Place U Made : Type 0} {rules : Rules Place U} {view : View U} {makes 
   module _ {S : Type 0} (writer : Writer S) (from : S) where
     -- all are carried out
     pub through_all : (to : S) → WentOut writer from to lines
-        → IsInGrammar rules bytes (items_of w.placed) → IsThrough writer from to rules view bytes
+        → IsInGrammar rules bytes (items_without_places w.placed) → IsThrough writer from to rules view bytes
         (λ text. (items : List (Item U)) → makes items made → view.Ends items text) None
     through_all to went a = (lines, part w, went, λ text ends so_far. accepted_with a text ends so_far)
 
     -- the last one isn't
     pub through_unapplied : (mid to : S) (x : Placed U) (reason : Reason) (IsEnding : List ℕ → Type 0)
-        → WentOut writer from mid lines → IsComplete rules bytes (items_of w.placed) x
-        → WentOut writer mid to (view.lines x.0 x.1) → view.fault (items_of w.placed) x.1 ≡ Some reason
+        → WentOut writer from mid lines → IsComplete rules bytes (items_without_places w.placed) x
+        → WentOut writer mid to (view.lines x.0 x.1) → view.fault (items_without_places w.placed) x.1 ≡ Some reason
         → IsThrough writer from to rules view bytes IsEnding (Some (Refused x.0 reason))
     through_unapplied mid to x reason IsEnding went c more found = (
       refl,
@@ -107,7 +107,7 @@ module _ {Place U Made : Type 0} {rules : Rules Place U} {view : View U} {makes 
     halts_next to went (faults.Refused place reason) f = (
       w.placed,
       w.shown,
-      (f.0, f.1 (items_of w.placed) w.taken),
+      (f.0, f.1 (items_without_places w.placed) w.taken),
       subst (λ (t : List ℕ). WentOut writer from to t) w.are_lines went,
       w.makes_it,
     )
@@ -115,7 +115,7 @@ module _ {Place U Made : Type 0} {rules : Rules Place U} {view : View U} {makes 
     halts_next to went faults.Memory f = (
       w.placed,
       w.shown,
-      f (items_of w.placed) w.taken,
+      f (items_without_places w.placed) w.taken,
       subst (λ (t : List ℕ). WentOut writer from to t) w.are_lines went,
     )
     halts_next to went faults.Read f = absurd f
@@ -124,7 +124,7 @@ module _ {Place U Made : Type 0} {rules : Rules Place U} {view : View U} {makes 
 
     -- they end too early
     pub halts_early : (to : S) → WentOut writer from to lines → (last : Receiving Place U)
-        → HasReceived rules last bytes (items_of w.placed) → (fault : Fault)
+        → HasReceived rules last bytes (items_without_places w.placed) → (fault : Fault)
         → (fault ≡ faults.Truncated (length bytes)) × IsTruncated rules bytes
         → IsHalted writer from to rules view bytes (λ items. makes items made) fault
     halts_early to went last received fault f =
@@ -138,7 +138,7 @@ module _ {Place U Made : Type 0} {rules : Rules Place U} {view : View U} {makes 
 
     -- the lines of one don't go out whole
     pub fails_at_item : (mid to : S) (x : Placed U) → WentOut writer from mid lines
-        → IsComplete rules bytes (items_of w.placed) x → FailedWithin writer mid to (view.lines x.0 x.1)
+        → IsComplete rules bytes (items_without_places w.placed) x → FailedWithin writer mid to (view.lines x.0 x.1)
         → (text : List ℕ) × AreFirstLines rules view bytes text × FailedWithin writer from to text
     fails_at_item mid to x went c f = (
       lines ++ view.lines x.0 x.1,
@@ -175,7 +175,7 @@ module _ {Place U S : Type 0} (writer : Writer S) (from mid : S) (rules : Rules 
             placed = h.0;
             shown = h.1;
             end = added ++ line;
-            ends = inl (added, line, (place, reason, h.2.0, h.2.1, refl), adds (items_of h.0) h.2.1 h.4, refl);
+            ends = inl (added, line, (place, reason, h.2.0, h.2.1, refl), adds (items_without_places h.0) h.2.1 h.4, refl);
             lines = refl;
           };
         },
@@ -196,7 +196,7 @@ module _ {Place U S : Type 0} (writer : Writer S) (from mid : S) (rules : Rules 
               added,
               line,
               (h.2.1, h.2.2, ap (λ (k : ℕ). line_of (Truncated k) (length bytes)) h.2.0),
-              adds (items_of h.0) h.2.2 h.4,
+              adds (items_without_places h.0) h.2.2 h.4,
               refl,
             ));
             lines = refl;
@@ -233,7 +233,7 @@ module _ {Place U S : Type 0} (writer : Writer S) (from mid : S) (rules : Rules 
   -- where the growth for what is added is refused, or it doesn't go out whole
   pub unadded : (fault : Fault) (verdict : Verdict) → verdict_by fault ≡ Ok verdict
       → IsHalted writer from mid rules view bytes IsMade fault → (to : S) (why : Fault)
-      → IsTextFault writer mid to (AddsThere verdict) why
+      → IsPrintingFault writer mid to (AddsThere verdict) why
       → IsSoFarFault writer from to rules view bytes why
   unadded fault verdict e h to faults.Memory f = inr (placed_at fault verdict e h to f)
     where

@@ -6,7 +6,7 @@ use Rattle.ws_code.specs.declared.fault.Fault.TheVariants as device
 use Rattle.ws_live.specs.Buffering.{Buffering, buffered_writer}
 use Rattle.ws_program.specs.Answering.{HasCheckedBy, IsCheckFaultBy}
 use Rattle.ws_program.specs.RunFaults.{run_fault}
-use Rattle.ws_program.specs.SourceChecks.{settled}
+use Rattle.ws_program.specs.SourceChecks.{command_outcome}
 use Rattle.ws_program.proofs.Buffers.{unchanged, check_by_flushed, check_fault_by_flushed}
 use Rattle.ws_program.proofs.UnflushedBuffers.{unheld, check_by_unflushed, check_fault_by_unflushed}
 use Rattle.ws_program.specs.declared.fault.RunFault.{RunFault}
@@ -42,7 +42,7 @@ module _ {S : Type 0} (writer : Writer S) (from mid : Buffering S)
 
   module _ (out : WentOut writer mid.sink to mid.held) (idle : mid.held ≡ [] → to ≡ mid.sink) where
     pub settled_done : (has_output : Bool) (outcome : Result Bool Fault) → IfOk outcome Did
-        → IfOk (settled has_output outcome) (λ accepted. (has_output ≡ true)
+        → IfOk (command_outcome has_output outcome) (λ accepted. (has_output ≡ true)
         × ((bytes : List ℕ) × Gave bytes × HasCheckedBy writer from.sink to sender bytes accepted))
     settled_done true (Ok accepted) h =
         (refl, (h.0, h.1, check_by_flushed writer from mid empty to out idle sender h.0 accepted h.2))
@@ -60,7 +60,7 @@ module _ {S : Type 0} (writer : Writer S) (from mid : Buffering S)
     fault_read (device.Truncated n) r e = cc
 
     pub settled_read : (has_output : Bool) (outcome : Result Bool Fault)
-        → (outcome ≡ met device.Read → (mid ≡ from) × Failed) → settled has_output outcome ≡ ended Read
+        → (outcome ≡ met device.Read → (mid ≡ from) × Failed) → command_outcome has_output outcome ≡ ended Read
         → (to ≡ from.sink) × Failed
     settled_read true (Ok accepted) r e = cc
     settled_read false (Ok accepted) r e = cc
@@ -82,7 +82,7 @@ module _ {S : Type 0} (writer : Writer S) (from mid : Buffering S)
     fault_write has_output (device.Truncated n) w e = cc
 
     pub settled_write : (has_output : Bool) (outcome : Result Bool Fault) → IfOk outcome Did
-        → (outcome ≡ met device.Write → Broke) → settled has_output outcome ≡ ended Write → Lacks has_output
+        → (outcome ≡ met device.Write → Broke) → command_outcome has_output outcome ≡ ended Write → Lacks has_output
     settled_write true (Ok accepted) h w e = cc
     settled_write false (Ok accepted) h w e = (
       h.0,
@@ -94,7 +94,7 @@ module _ {S : Type 0} (writer : Writer S) (from mid : Buffering S)
 
   pub settled_only : (has_output : Bool) (outcome : Result Bool Fault)
       → IfErr outcome (λ fault. (fault ≡ device.Read) ⊎ (fault ≡ device.Write))
-      → IfErr (settled has_output outcome) (λ fault. (fault ≡ Read) ⊎ (fault ≡ Write))
+      → IfErr (command_outcome has_output outcome) (λ fault. (fault ≡ Read) ⊎ (fault ≡ Write))
   settled_only true (Ok accepted) h = tt
   settled_only false (Ok accepted) h = inr refl
   settled_only true (Err fault) (inl e) = inl (ap run_fault e)

@@ -14,7 +14,7 @@ use Rattle.ws_text.specs.AnswerWords.{answer_wording}
 use Rattle.ws_text.specs.ElementWords.{element_wording}
 use Rattle.ws_text.specs.ExtendedAnswerWords.{told_wording}
 use Rattle.ws_text.specs.ExtendedWords.{extended_wording}
-use Rattle.ws_text.specs.Shown.{Shows, ShowsAnswers, ShowsExtended, ShowsTold}
+use Rattle.ws_text.specs.Shown.{ShowsElements, ShowsAnswers, ShowsExtended, ShowsTold}
 use Rattle.ws_program.specs.Making.{HasMade, IsMakeFault}
 use Rattle.ws_program.specs.RunFaults.{run_fault}
 use Rattle.ws_program.specs.SoFar.{IsShownWith, IsShowFaultWith}
@@ -103,7 +103,7 @@ module _ {S : Type 0} (writer : Writer S) (from to : S) where
   -- the stream of the items that a text spells went out, as those of a sender, in bytes or in hex
   abbrev pub HasMadeBy : Bool → Sender → List ℕ → Bool → Type 0
   HasMadeBy raw Host input accepted =
-      HasMade element_rules element_wording Shows writer from to raw input accepted
+      HasMade element_rules element_wording ShowsElements writer from to raw input accepted
   HasMadeBy raw ExtendedHost input accepted =
       HasMade extended_rules extended_wording ShowsExtended writer from to raw input accepted
   HasMadeBy raw Station input accepted =
@@ -149,7 +149,7 @@ module _ {S : Type 0} (writer : Writer S) (from to : S) where
   -- what is answered of items as text whose stream doesn't go out
   abbrev pub IsMakeFaultBy : Bool → Sender → List ℕ → RunFault → Type 0
   IsMakeFaultBy raw Host input fault =
-      IsMakeFault element_rules element_wording Shows writer from to raw input fault
+      IsMakeFault element_rules element_wording ShowsElements writer from to raw input fault
   IsMakeFaultBy raw ExtendedHost input fault =
       IsMakeFault extended_rules extended_wording ShowsExtended writer from to raw input fault
   IsMakeFaultBy raw Station input fault =

@@ -11,7 +11,7 @@ use Rattle.ws_code.specs.Ebcdic.{byte_of}
 use Rattle.ws_live.specs.ExtendedKeyNames.{extended_key_named}
 use Rattle.ws_live.specs.KeyNames.{key_named, aid_named}
 use Rattle.ws_live.specs.ScriptFaults.{has_no_blank}
-use Rattle.ws_program.specs.Vocabularies.{words_of}
+use Rattle.ws_program.specs.Vocabularies.{vocabulary_words}
 use Rattle.ws_program.specs.declared.cause.Cause.{Cause}
 use Rattle.ws_program.specs.declared.cause.Cause.TheVariants.{NotUtf8, Tab, TwoBlanks, BlankInFront, BlankAtEnd, UnknownWord}
 use Rattle.ws_program.specs.declared.cause.Cause.TheVariants.{Unexpected, UnknownKey, NoNumber, OutOfRange, NoHex}
@@ -85,9 +85,9 @@ abbrev pub IsCause : Vocabulary → List ℕ → Cause → Type 0
 IsCause vocabulary line NotUtf8 = IsUtf8 line → ⊥
 IsCause vocabulary line BlankInFront = (rest : List ℕ) × IsTextOf vocabulary line (32 ∷ rest)
 IsCause vocabulary line (UnknownWord word) = HasFirst vocabulary line word.now
-    × (look_up word.now (words_of vocabulary) ≡ None)
+    × (look_up word.now (vocabulary_words vocabulary) ≡ None)
 IsCause vocabulary line (Early word) = HasFirst vocabulary line word.now
-    × (is_some (look_up word.now (words_of vocabulary)) ≡ true)
+    × (is_some (look_up word.now (vocabulary_words vocabulary)) ≡ true)
 IsCause vocabulary line Apart = (rest : List ℕ) × (line ≡ 32 ∷ (32 ∷ rest))
 IsCause vocabulary line cause = IsTrueOf vocabulary line cause
 

@@ -12,7 +12,7 @@ use Rattle.ws_record.specs.OpenRecord.{RecordSoFar}
 use Rattle.ws_program.specs.declared.check.Tally.{Tally}
 use Rattle.ws_program.specs.declared.verdict.Verdict.{Verdict}
 use Rattle.ws_program.specs.CheckLine.{IsVerdict, line_of, record_count, command_count}
-use Rattle.ws_text.specs.Printing.{IsTextFault}
+use Rattle.ws_text.specs.Printing.{IsPrintingFault}
 
 -- the tally with one record more; a count stays at the highest number that it can hold
 abbrev pub one_record : Tally → Tally
@@ -47,5 +47,5 @@ IsCheckText rules bytes text = (verdict : Verdict) × IsVerdict rules bytes verd
 
 -- what a check answers where it doesn't print its line: nothing went out, or a part of the line
 abbrev pub IsCheckFault : {Place U S : Type 0} → Rules Place U → Writer S → S → S → List ℕ → Fault → Type 0
-IsCheckFault rules writer from to bytes fault = IsTextFault writer from to
+IsCheckFault rules writer from to bytes fault = IsPrintingFault writer from to
     (IsCheckText rules bytes) fault

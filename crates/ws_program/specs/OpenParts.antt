@@ -27,15 +27,15 @@ open_behind is_open Eor = false
 open_behind is_open (Telnet t) = is_open
 
 -- whether a record is open behind tokens
-abbrev pub opens : Bool → List Token → Bool
-opens is_open [] = is_open
-opens is_open (t ∷ tokens) = opens (open_behind is_open t) tokens
+abbrev pub open_behind_tokens : Bool → List Token → Bool
+open_behind_tokens is_open [] = is_open
+open_behind_tokens is_open (t ∷ tokens) = open_behind_tokens (open_behind is_open t) tokens
 
 -- the bytes are tokens and an unfinished one, and a record is open behind them or not
 pub record TokensRead (begun : List ℕ) (is_open : Bool) (bytes : List ℕ) : Type 0 where
   pub tokens : List Token
   pub cut : IsCut token_rules bytes tokens begun
-  pub is : is_open ≡ opens false tokens
+  pub is : is_open ≡ open_behind_tokens false tokens
 
 -- no bytes that begin with these are tokens and an unfinished one
 abbrev pub NoTokensWith : List ℕ → Type 0

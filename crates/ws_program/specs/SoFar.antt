@@ -14,7 +14,7 @@ use Rattle.ws_record.specs.declared.record.Head.{Head}
 use Rattle.ws_record.specs.declared.record.Item.{Item}
 use Rattle.ws_record.specs.declared.record.Item.TheVariants.{Record as RecordItem}
 use Rattle.ws_program.specs.CheckLine.{line_of, is_accepted}
-use Rattle.ws_program.specs.StreamText.{View, Placed, items_of, lines_of, HoldsItems, AreShown, AreFirstLines, IsShown}
+use Rattle.ws_program.specs.StreamText.{View, Placed, items_without_places, lines_of, HoldsItems, AreShown, AreFirstLines, IsShown}
 use Rattle.ws_program.specs.StreamText.{IsEnd, IsRefusedEnd, IsTruncatedEnd, IsUnappliedEnd, IsShowFault}
 use Rattle.ws_program.specs.declared.verdict.Verdict.{Verdict}
 use Rattle.ws_program.specs.declared.verdict.Verdict.TheVariants.{Accepted, Refused, Truncated}
@@ -67,12 +67,12 @@ module _ {Place U : Type 0} where
   -- a byte is refused behind the items: what has come of the open record before it is shown, and the refusal's line
   abbrev pub IsRefusedSoFar : Rules Place U → View U → List ℕ → List (Placed U) → List ℕ → Type 0
   IsRefusedSoFar rules view bytes placed text = (added line : List ℕ) × (e : IsRefusedEnd rules bytes placed line)
-      × IsSoFarText rules view (take e.0 bytes) (items_of placed) added × (text ≡ added ++ line)
+      × IsSoFarText rules view (take e.0 bytes) (items_without_places placed) added × (text ≡ added ++ line)
 
   -- the bytes end too early behind the items: what has come of the open record is shown, and the line of that
   abbrev pub IsTruncatedSoFar : Rules Place U → View U → List ℕ → List (Placed U) → List ℕ → Type 0
   IsTruncatedSoFar rules view bytes placed text = (added line : List ℕ) × IsTruncatedEnd rules bytes placed line
-      × IsSoFarText rules view bytes (items_of placed) added × (text ≡ added ++ line)
+      × IsSoFarText rules view bytes (items_without_places placed) added × (text ≡ added ++ line)
 
   -- What stands behind the items. Behind an item that isn't carried out no record is open.
   abbrev pub IsSoFarEnd : Rules Place U → View U → List ℕ → List (Placed U) → Bool → List ℕ → Type 0
@@ -97,9 +97,9 @@ module _ {Place U : Type 0} where
   -- behind the items a byte is refused, or the bytes end too early
   abbrev pub StopsBehind : Rules Place U → List ℕ → List (Placed U) → Fault → Type 0
   StopsBehind rules bytes placed (faults.Refused place reason) = IsRefused rules bytes place reason
-      × HoldsItems rules (take place bytes) (items_of placed)
+      × HoldsItems rules (take place bytes) (items_without_places placed)
   StopsBehind rules bytes placed (faults.Truncated n) = (n ≡ length bytes) × IsTruncated rules bytes
-      × HoldsItems rules bytes (items_of placed)
+      × HoldsItems rules bytes (items_without_places placed)
   StopsBehind rules bytes placed fault = ⊥
 
   module _ {S : Type 0} (writer : Writer S) (from to : S) (rules : Rules Place U)
@@ -136,4 +136,4 @@ module _ {Place U : Type 0} where
         × FailedWithin writer from to text
     IsHalted bytes IsMade fault = (placed : List (Placed U)) × AreShown rules view bytes [] placed
         × StopsBehind rules bytes placed fault × WentOut writer from to (lines_of view placed)
-        × IsMade (items_of placed)
+        × IsMade (items_without_places placed)

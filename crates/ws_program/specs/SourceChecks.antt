@@ -37,10 +37,10 @@ HasRefusalBy Station bytes = HasRefusal answer_rules bytes
 HasRefusalBy ExtendedStation bytes = HasRefusal extended_answer_rules bytes
 
 -- what a command comes to that came to this, with an output or without
-abbrev pub settled : Bool → Result Bool Fault → Result Bool RunFault
-settled true (Ok accepted) = Ok accepted
-settled false (Ok accepted) = Err Write
-settled has_output (Err fault) = Err (run_fault fault)
+abbrev pub command_outcome : Bool → Result Bool Fault → Result Bool RunFault
+command_outcome true (Ok accepted) = Ok accepted
+command_outcome false (Ok accepted) = Err Write
+command_outcome has_output (Err fault) = Err (run_fault fault)
 
 module _ {S : Type 0} (reader : Reader S) (from to : S) where
   -- a source gave bytes of which such are refused: all, up to its end, or some with a refused one, behind which no more

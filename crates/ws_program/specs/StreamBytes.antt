@@ -28,6 +28,6 @@ IsFormFault (Recorded end) input fault = ⊥
 IsFormFault Raw input fault = ⊥
 
 -- the bytes that are held
-abbrev pub bytes_of : StreamBytes → List ℕ
-bytes_of (Given bytes) = bytes.now
-bytes_of (Read bytes) = bytes.items
+abbrev pub held_bytes : StreamBytes → List ℕ
+held_bytes (Given bytes) = bytes.now
+held_bytes (Read bytes) = bytes.items

@@ -32,8 +32,8 @@ Placed U = ℕ × Item U
 
 module _ {U : Type 0} where
   -- the items without their places
-  abbrev pub items_of : List (Placed U) → List (Item U)
-  items_of placed = map (λ x. x.1) placed
+  abbrev pub items_without_places : List (Placed U) → List (Item U)
+  items_without_places placed = map (λ x. x.1) placed
 
   -- the lines of items, one after another
   abbrev pub lines_of : View U → List (Placed U) → List ℕ
@@ -71,24 +71,24 @@ module _ {Place U : Type 0} where
 
   -- the bytes are accepted, and what stands behind all items is shown
   abbrev pub IsAcceptedEnd : Rules Place U → View U → List ℕ → List (Placed U) → List ℕ → Type 0
-  IsAcceptedEnd rules view bytes placed text = IsInGrammar rules bytes (items_of placed)
-      × view.Ends (items_of placed) text
+  IsAcceptedEnd rules view bytes placed text = IsInGrammar rules bytes (items_without_places placed)
+      × view.Ends (items_without_places placed) text
 
   -- a byte is refused behind the items, and its line is shown
   abbrev pub IsRefusedEnd : Rules Place U → List ℕ → List (Placed U) → List ℕ → Type 0
   IsRefusedEnd rules bytes placed text = (place : ℕ) × (reason : Reason) × IsRefused rules bytes place reason
-      × HoldsItems rules (take place bytes) (items_of placed)
+      × HoldsItems rules (take place bytes) (items_without_places placed)
       × (text ≡ line_of (Refused place reason) (length bytes))
 
   -- the bytes end too early behind the items, and the line of that is shown
   abbrev pub IsTruncatedEnd : Rules Place U → List ℕ → List (Placed U) → List ℕ → Type 0
-  IsTruncatedEnd rules bytes placed text = IsTruncated rules bytes × HoldsItems rules bytes (items_of placed)
+  IsTruncatedEnd rules bytes placed text = IsTruncated rules bytes × HoldsItems rules bytes (items_without_places placed)
       × (text ≡ line_of (Truncated (length bytes)) (length bytes))
 
   -- the next item isn't carried out, and is shown too, with the line of its reason
   abbrev pub IsUnappliedEnd : Rules Place U → View U → List ℕ → List (Placed U) → List ℕ → Type 0
   IsUnappliedEnd rules view bytes placed text = (x : Placed U) × (reason : Reason)
-      × IsComplete rules bytes (items_of placed) x × (view.fault (items_of placed) x.1 ≡ Some reason)
+      × IsComplete rules bytes (items_without_places placed) x × (view.fault (items_without_places placed) x.1 ≡ Some reason)
       × (text ≡ view.lines x.0 x.1 ++ line_of (Refused x.0 reason) (length bytes))
 
   -- what stands behind the items: that of an accepted stream, or the line of one that is not
@@ -111,7 +111,7 @@ module _ {Place U : Type 0} where
     pub placed : List (Placed U)
     pub shown : AreShown rules view bytes [] placed
     pub last : Option (Placed U)
-    pub complete : IfSome last (IsComplete rules bytes (items_of placed))
+    pub complete : IfSome last (IsComplete rules bytes (items_without_places placed))
     pub lines : text ≡ lines_with view placed last
 
   -- a receiver has taken the first of the bytes, and has given these items
@@ -119,8 +119,8 @@ module _ {Place U : Type 0} where
   HasTaken rules bytes receiver items = HasReceived rules receiver (take receiver.live.taken bytes) items
 
   -- a receiver that has taken the first of the bytes
-  abbrev pub HasBegun : Rules Place U → List ℕ → Receiving Place U → Type 0
-  HasBegun rules bytes receiver = (items : List (Item U)) × HasTaken rules bytes receiver items
+  abbrev pub HasBegunStream : Rules Place U → List ℕ → Receiving Place U → Type 0
+  HasBegunStream rules bytes receiver = (items : List (Item U)) × HasTaken rules bytes receiver items
 
   -- the item is complete next, and the receiver has taken the bytes up to its last one
   pub record IsNextItem (rules : Rules Place U) (bytes : List ℕ) (items : List (Item U))
@@ -154,7 +154,7 @@ module _ {Place U : Type 0} where
     -- was refused; or only a part of the lines went out.
     abbrev pub IsShowFault : List ℕ → Fault → Type 0
     IsShowFault bytes Memory = (placed : List (Placed U)) × AreShown rules view bytes [] placed
-        × GrowsBehind rules bytes (items_of placed) × WentOut writer from to (lines_of view placed)
+        × GrowsBehind rules bytes (items_without_places placed) × WentOut writer from to (lines_of view placed)
     IsShowFault bytes Write = (text : List ℕ) × (AreFirstLines rules view bytes text
         ⊎ ((accepted : Bool) × IsShown rules view bytes accepted text)) × FailedWithin writer from to text
     IsShowFault bytes fault = ⊥

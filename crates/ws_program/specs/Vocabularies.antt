@@ -71,10 +71,10 @@ unit_words sender.Station = parts_before ((codes "TEXT", Coded) ∷ [])
 unit_words sender.ExtendedStation = parts_before (elements_before (commands_before told_words))
 
 -- the words that a line of this kind begins with; those of elements stand behind two blanks
-abbrev pub words_of : Vocabulary → Words
-words_of Station = station_words
-words_of ExtendedStation = station_words
-words_of Host = host_words
-words_of AnyHost = any_words
-words_of (Items sent) = item_words
-words_of (Elements sent) = unit_words sent
+abbrev pub vocabulary_words : Vocabulary → Words
+vocabulary_words Station = station_words
+vocabulary_words ExtendedStation = station_words
+vocabulary_words Host = host_words
+vocabulary_words AnyHost = any_words
+vocabulary_words (Items sent) = item_words
+vocabulary_words (Elements sent) = unit_words sent

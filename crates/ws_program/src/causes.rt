@@ -2,7 +2,7 @@
 ghost use Rattle.std.specs.Prelude.{◌≡◌, ◌++◌, ◌∷◌, [], List, ℕ, true, None, IfSome, MatchOption};
 ghost use Rattle.std.specs.Option.{is_some};
 ghost use Rattle.ws_program.specs.Causes.{HasFirst, IsCause, IsTextOf, StandsIn, front_of};
-ghost use Rattle.ws_program.specs.Vocabularies.{words_of};
+ghost use Rattle.ws_program.specs.Vocabularies.{vocabulary_words};
 ghost use Rattle.ws_program.specs.declared.vocabulary.Vocabulary.{Vocabulary as AVocabulary};
 ghost use Rattle.ws_text.specs.Names.{look_up};
 
@@ -89,7 +89,7 @@ fn no_first<'a>(rest: Option<&str>) -> Cause<'a>
 // Why a line is bad whose first word no such line has.
 fn unknown<'a>(first: &'a str) -> Cause<'a>
     ensures { (vocabulary : AVocabulary) (line : List ℕ) → HasFirst vocabulary line first.now
-        → StandsIn line first.now → look_up first.now (words_of vocabulary) ≡ None
+        → StandsIn line first.now → look_up first.now (vocabulary_words vocabulary) ≡ None
         → IsCause vocabulary line result }
 {
     if has_tab(first) {
@@ -102,7 +102,7 @@ fn unknown<'a>(first: &'a str) -> Cause<'a>
 // Why a line is bad each of whose words may stand there.
 fn well_worded<'a>(first: &'a str, is_early: bool) -> Cause<'a>
     ensures { (vocabulary : AVocabulary) (line : List ℕ) → HasFirst vocabulary line first.now
-        → is_some (look_up first.now (words_of vocabulary)) ≡ true
+        → is_some (look_up first.now (vocabulary_words vocabulary)) ≡ true
         → IsCause vocabulary line result }
 {
     if is_early {

@@ -2,7 +2,7 @@ ghost use Rattle.std.specs.Prelude.{◌≡◌, IfOk, IfErr, OnOk};
 ghost use Rattle.ws_code.specs.Device.{WentOut};
 ghost use Rattle.ws_record.specs.Encode.{CanAllBeEncoded, plain_spelling};
 ghost use Rattle.ws_program.specs.Making.{made_text, made_stream};
-ghost use Rattle.ws_text.specs.Printing.{IsTextFault};
+ghost use Rattle.ws_text.specs.Printing.{IsPrintingFault};
 
 use std::alloc::Global;
 use std::slice;
@@ -24,7 +24,7 @@ pub fn make_to<B: Body, S: Sink>(
     ensures ok { OnOk result
         (WentOut S.writer sink.old sink.new (made_text B.rules items.now)) }
     ensures fault { IfErr result
-        (IsTextFault S.writer sink.old sink.new
+        (IsPrintingFault S.writer sink.old sink.new
         (λ text. text ≡ made_text B.rules items.now)) }
 {
     let text = hex_lines::<B>(alloc, items)?;
@@ -47,7 +47,7 @@ pub fn make_stream_to<B: Body, S: Sink>(
     ensures ok { OnOk result
         (WentOut S.writer sink.old sink.new (made_stream B.rules raw items.now)) }
     ensures fault { IfErr result
-        (IsTextFault S.writer sink.old sink.new
+        (IsPrintingFault S.writer sink.old sink.new
         (λ text. text ≡ made_stream B.rules raw items.now)) }
 {
     if raw {
@@ -67,7 +67,7 @@ fn make_bytes_to<B: Body, S: Sink>(
     ensures ok { OnOk result
         (WentOut S.writer sink.old sink.new (plain_spelling B.rules items.now)) }
     ensures fault { IfErr result
-        (IsTextFault S.writer sink.old sink.new
+        (IsPrintingFault S.writer sink.old sink.new
         (λ text. text ≡ plain_spelling B.rules items.now)) }
 {
     let bytes = spelling::<B>(alloc, items)?;

@@ -97,17 +97,17 @@ struct TokenReader {
 
 impl TokenReader {
     ghost use Rattle.ws_program.specs.OpenParts.{TokensRead, NoTokensWith};
-    ghost use Rattle.ws_telnet.specs.Machine.{unfinished_of};
+    ghost use Rattle.ws_telnet.specs.Machine.{unfinished_token};
 
     // Takes a byte: false where no token goes on with it.
     fn take(&mut self, byte: u8) -> bool
         requires { (bytes : List ℕ)
-            × TokensRead (unfinished_of self.old.tokens) self.old.is_open bytes }
+            × TokensRead (unfinished_token self.old.tokens) self.old.is_open bytes }
         ensures taken { result ≡ true → (bytes : List ℕ)
-            → TokensRead (unfinished_of self.old.tokens) self.old.is_open bytes
-            → TokensRead (unfinished_of self.new.tokens) self.new.is_open (bytes ++ byte ∷ []) }
+            → TokensRead (unfinished_token self.old.tokens) self.old.is_open bytes
+            → TokensRead (unfinished_token self.new.tokens) self.new.is_open (bytes ++ byte ∷ []) }
         ensures refused { result ≡ false → (bytes : List ℕ)
-            → TokensRead (unfinished_of self.old.tokens) self.old.is_open bytes
+            → TokensRead (unfinished_token self.old.tokens) self.old.is_open bytes
             → NoTokensWith (bytes ++ byte ∷ []) }
     {
         match self.tokens.push(byte) {

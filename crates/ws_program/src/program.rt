@@ -10,7 +10,7 @@ ghost use Rattle.ws_extended.specs.ExtendedAnswers.{extended_answer_rules};
 ghost use Rattle.ws_extended.specs.ExtendedElements.{extended_rules};
 ghost use Rattle.ws_text.specs.ExtendedAnswerWords.{told_wording};
 ghost use Rattle.ws_text.specs.ExtendedWords.{extended_wording};
-ghost use Rattle.ws_text.specs.Shown.{Shows, ShowsAnswers, ShowsExtended, ShowsTold};
+ghost use Rattle.ws_text.specs.Shown.{ShowsElements, ShowsAnswers, ShowsExtended, ShowsTold};
 ghost use Rattle.ws_program.specs.Making.{HasMade, IsMakeFault};
 ghost use Rattle.ws_program.specs.StreamBytes.{AreBytesOf};
 ghost use Rattle.ws_program.specs.Streams.{HasAnsweredOpenly, IsOpenFault, in_one_place as without_connection};
@@ -301,9 +301,9 @@ fn make_stream<S: Sink>(
     raw: bool,
     sink: &mut S,
 ) -> Result<bool, RunFault>
-    ensures done { IfOk result (HasMade element_rules element_wording Shows
+    ensures done { IfOk result (HasMade element_rules element_wording ShowsElements
         S.writer sink.old sink.new raw text.now) }
-    ensures fault { IfErr result (IsMakeFault element_rules element_wording Shows
+    ensures fault { IfErr result (IsMakeFault element_rules element_wording ShowsElements
         S.writer sink.old sink.new raw text.now) }
 {
     let items = read_items(alloc, text)?;

@@ -8,11 +8,11 @@ ghost use Rattle.ws_stream.specs.declared.element.Element.{Element as AnElement}
 ghost use Rattle.ws_extended.specs.ExtendedAnswers.{extended_answer_rules};
 ghost use Rattle.ws_extended.specs.ExtendedElements.{extended_rules};
 ghost use Rattle.ws_program.specs.ExtendedView.{extended_view};
-ghost use Rattle.ws_text.specs.Shown.{Shows};
+ghost use Rattle.ws_text.specs.Shown.{ShowsElements};
 ghost use Rattle.ws_program.specs.CheckLine.{verdict_by};
 ghost use Rattle.ws_program.specs.SoFar.{IsShownSoFar, IsSoFarFault, IsShownWith, IsShowFaultWith};
 ghost use Rattle.ws_program.specs.SoFar.{IsThrough, IsHalted, bytes_before as the_bytes_before};
-ghost use Rattle.ws_program.specs.StreamText.{IsShown, AreFirstLines, IsShowFault, IsStop, HasBegun, IsNext, IsNextFault};
+ghost use Rattle.ws_program.specs.StreamText.{IsShown, AreFirstLines, IsShowFault, IsStop, HasBegunStream, IsNext, IsNextFault};
 ghost use Rattle.ws_live.specs.declared.paint.Paint.{Paint as APaint};
 ghost use Rattle.ws_program.specs.Views.{host_view, painted_host_view, answer_view, told_view, in_paint};
 
@@ -43,7 +43,7 @@ pub fn show_to<S: Sink>(alloc: Global, bytes: &[u8], sink: &mut S) -> Result<boo
         → (rest : List ℕ) × (whole ≡ part ++ rest) }
     ensures read_back { (text : List ℕ) → IsShown element_rules host_view bytes.now true text
         → (items : List (AnItem AnElement)) × IsInGrammar element_rules bytes.now items
-        × Shows text items }
+        × ShowsElements text items }
 {
     show_painted_to(alloc, Paint::Plain, bytes, sink)
 }
@@ -264,7 +264,7 @@ fn next_item<B: Body>(
     receiver: &mut Receiver<B>,
     bytes: &[u8],
 ) -> Result<Option<(u64, Item<B::Unit>)>, Fault>
-    requires { HasBegun B.rules bytes.now receiver.old }
+    requires { HasBegunStream B.rules bytes.now receiver.old }
     ensures next { IfOk result (IsNext B.rules bytes.now receiver.old receiver.new) }
     ensures fault { IfErr result (IsNextFault B.rules bytes.now receiver.old) }
 {

@@ -2,7 +2,7 @@
 ghost use Rattle.std.specs.Prelude.{◌≡◌, ◌++◌, List, ℕ, Some, IfOk, IfErr, OnOk};
 ghost use Rattle.ws_code.specs.Device.{WentOut};
 ghost use Rattle.ws_record.specs.declared.record.Item.{Item as AnItem};
-ghost use Rattle.ws_text.specs.Printing.{IsTextFault};
+ghost use Rattle.ws_text.specs.Printing.{IsPrintingFault};
 ghost use Rattle.ws_program.specs.SoFar.{AreOpenLines, IsSoFarText};
 ghost use Rattle.ws_program.specs.SoFar.{open_lines as the_open_lines, begun_line as the_begun_line};
 ghost use Rattle.ws_program.specs.StreamText.{HoldsItems};
@@ -33,7 +33,7 @@ pub fn write_so_far<B: Shown, S: Sink>(
         → B.makes items made.now
         → IsSoFarText B.rules (in_paint B.view B.Ends paint) bytes.now items text)
         × WentOut S.writer sink.old sink.new text) }
-    ensures err { IfErr result (IsTextFault S.writer sink.old sink.new (λ text.
+    ensures err { IfErr result (IsPrintingFault S.writer sink.old sink.new (λ text.
         (items : List (AnItem B.Unit)) → HoldsItems B.rules bytes.now items → B.makes items made.now
         → IsSoFarText B.rules (in_paint B.view B.Ends paint) bytes.now items text)) }
 {

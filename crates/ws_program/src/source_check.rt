@@ -1,7 +1,7 @@
 //! Checks of what a source gives, through a buffer, where standard output may have been closed.
 ghost use Rattle.std.specs.Prelude.{◌≡◌, ◌≢◌, ◌⊎◌, [], List, ℕ, Bool, true, false, IfOk, IfErr};
 ghost use Rattle.ws_program.specs.Answering.{HasCheckedBy, IsCheckFaultBy};
-ghost use Rattle.ws_program.specs.SourceChecks.{HasRefusalBy, GaveEnough, FailedBefore, settled};
+ghost use Rattle.ws_program.specs.SourceChecks.{HasRefusalBy, GaveEnough, FailedBefore, command_outcome};
 ghost use Rattle.ws_code.specs.declared.fault.Fault.TheVariants as device;
 
 use crate::check::check_from;
@@ -50,7 +50,7 @@ pub fn check_source_openly<R: Source, S: Sink>(
 
 // What a command comes to that came to this, with an output or without.
 fn settle(outcome: Result<bool, Fault>, has_output: bool) -> Result<bool, RunFault>
-    ensures { result ≡ settled has_output outcome }
+    ensures { result ≡ command_outcome has_output outcome }
 {
     let accepted = outcome?;
     if has_output {

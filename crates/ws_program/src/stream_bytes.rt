@@ -1,6 +1,6 @@
 //! The bytes of a stream that an input tells, in each of its forms.
 ghost use Rattle.std.specs.Prelude.{◌≡◌, IfOk, IfErr};
-ghost use Rattle.ws_program.specs.StreamBytes.{AreBytesOf, IsFormFault, bytes_of as the_bytes};
+ghost use Rattle.ws_program.specs.StreamBytes.{AreBytesOf, IsFormFault, held_bytes as the_bytes};
 
 use crate::fault::RunFault;
 use crate::hex_text::hex_bytes;

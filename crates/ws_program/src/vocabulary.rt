@@ -72,7 +72,7 @@ pub enum Shape {
 
 /// Of what kind the words behind this first word are; `None` where no such line begins with it.
 pub fn shape_of(vocabulary: Vocabulary, word: &str) -> Option<Shape>
-    ensures { result ≡ look_up word.now (Spec.words_of vocabulary) }
+    ensures { result ≡ look_up word.now (Spec.vocabulary_words vocabulary) }
 {
     match vocabulary {
         Vocabulary::Station | Vocabulary::ExtendedStation => of_station(word),

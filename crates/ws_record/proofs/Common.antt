@@ -35,12 +35,12 @@ pub use Rattle.ws_code.specs.Code.{Rules, IsSpelled, IsPrefix, IsPrefixFree, IsC
 pub use Rattle.ws_code.specs.Code.{spelling_of, AreBytes, IsCut}
 pub use Rattle.ws_code.specs.Device.{most_reads, list_reader, GaveAll, Reader, Gave, WentOut, Held}
 pub use Rattle.ws_code.specs.Keep.{holds_last}
-pub use Rattle.ws_code.specs.Run.{Reading, HasRun, StopsAtLast, IsRun}
+pub use Rattle.ws_code.specs.Run.{Reading, HasReadValues, StopsAtLast, IsRunOfValues}
 pub use Rattle.ws_code.specs.declared.fault.Fault.{Fault}
 pub use Rattle.ws_code.specs.declared.fault.Fault.TheVariants.{Refused, Truncated, Memory, Read}
 pub use Rattle.ws_code.specs.declared.keep.Kept.{Kept}
 pub use Rattle.ws_code.specs.declared.reason.Reason.{Reason}
-pub use Rattle.ws_record.specs.Advance.{IsAdvance, OnLastNews, goes_on, Onward}
+pub use Rattle.ws_record.specs.Advance.{IsAdvance, OnLastNews, awaits_more, Onward}
 pub use Rattle.ws_record.specs.Arrived.{ending_at, arrived}
 pub use Rattle.ws_record.specs.Body.{IsBody, HasUnitSoFar}
 pub use Rattle.ws_record.specs.DataStep.{IsWholeRecord}
@@ -56,13 +56,13 @@ pub use Rattle.ws_record.specs.OpenPrefix.{BeginsList, IsOpenPrefix, IsFirstClos
 pub use Rattle.ws_record.specs.OpenPrefix.{AreOpenBelow, IsRefusedByPrefix, IsTruncatedByPrefix}
 pub use Rattle.ws_record.specs.OpenRecord.{CanBeFramed, RecordSoFar, no_record, Keeping, HasRead, IsHead}
 pub use Rattle.ws_record.specs.OpenRecord.{IsDataRefused, IsEndRefused}
-pub use Rattle.ws_record.specs.Receiver.{MayGrow, IsDecodeFault, Receiving, HasReceived, HasItem, IsListFault}
+pub use Rattle.ws_record.specs.Receiver.{MayGrow, IsDecodeFault, Receiving, HasReceived, HasItem, IsTakeAllFault}
 pub use Rattle.ws_record.specs.Receiver.{IsTakeFault, IsFeedFault, NoneBefore, given}
 pub use Rattle.ws_record.specs.Refusal.{IsRefused, IsTruncated, Layer, IsRight, IsOpen, IsFirstClosed}
 pub use Rattle.ws_record.specs.Refusal.{header_reason, IsBodyReason, IsReason}
 pub use Rattle.ws_record.specs.Refusal.Layer.{Tokens, Header, Body}
 pub use Rattle.ws_record.specs.Steps.{IsStepOf, IsItemOf, IsFedOf}
-pub use Rattle.ws_record.specs.Taking.{ArePlain, KeepsTold, IsTaken, IsEnd, IsWordTaken, grown, EndIn, IsHeaderStep}
+pub use Rattle.ws_record.specs.Taking.{ArePlain, KeepsTold, IsTaken, IsRecordEnd, IsWordTaken, grown, EndIn, IsHeaderStep}
 pub use Rattle.ws_record.specs.Taking.{OnlyIfOn}
 pub use Rattle.ws_record.specs.declared.news.Advance.{Advance}
 pub use Rattle.ws_record.specs.declared.news.News.{News}
@@ -79,9 +79,9 @@ pub use Rattle.ws_telnet.proofs.Doubling.{doubled_each, IsDoubling, doubling_end
 pub use Rattle.ws_telnet.proofs.Doubling.{doubling_fails, doubling_iac, doubling_plain}
 pub use Rattle.ws_telnet.proofs.OneToken.{begins_token, plain_byte, is_token, fresh_begins, word_begun}
 pub use Rattle.ws_telnet.proofs.TokenLists.{chain_front, data_chain}
-pub use Rattle.ws_telnet.specs.Machine.{unfinished_of, sub_of}
+pub use Rattle.ws_telnet.specs.Machine.{unfinished_token, sub_of}
 pub use Rattle.ws_telnet.specs.Streams.{IsStream, joined, carried, HasNoEor, data_of}
-pub use Rattle.ws_telnet.specs.Streams.{EndsRecord, LastRecordMeets, EndsWith}
+pub use Rattle.ws_telnet.specs.Streams.{EndsRecord, LastRecordMeets, EndsWithToken}
 pub use Rattle.ws_telnet.specs.Token.{token_rules, telnet_spelling, doubled, IsTelnet, command_byte, verb_byte}
 pub use Rattle.ws_telnet.specs.Token.{token_spelling, IsToken}
 pub use Rattle.ws_telnet.specs.TokenLaws.{iac_or_not, doubled_plain, token_prefix_free, token_begins, token_nonempty}

@@ -1,7 +1,7 @@
 use Rattle.ws_record.proofs.Common as C
 use C.{◌≡◌, ℕ, ◌*◌, ◌≤◌, List, [], ◌∷◌, ◌++◌, length, drop, take, sym, ap, ◌∙◌, append_assoc, inl, inr}
 use C.{take-append-drop, append-nil, Rules, Reason, Fault, Refused, Truncated, Memory, Item, IsInGrammar, Layer, IsOpen}
-use C.{IsFirstClosed, IsRefused, IsTruncated, Tokens, Receiving, HasReceived, HasItem, MayGrow, IsListFault}
+use C.{IsFirstClosed, IsRefused, IsTruncated, Tokens, Receiving, HasReceived, HasItem, MayGrow, IsTakeAllFault}
 use C.{IsDecodeFault, Reader, Gave, GaveAll, IsSourceFault, ◌<◌, ◌⊎◌, Result, Ok, Err, IfOk, IfErr, MatchResult}
 use C.{IsPrefixFree, most_reads, list_reader, Read, Begins, list_gave, list_gave_all, list_no_fault, common_steps, arith}
 use C.{length-append, one_begins, one_cut, token_rules, token_prefix_free, Token, Data, joined}
@@ -36,7 +36,7 @@ module _ {Place U : Type 0} (rules : Rules Place U) where
 
 module _ {Place U : Type 0} (rules : Rules Place U) where
   -- a fault of the first piece
-  pub feed_decodes : (bytes : List ℕ) (fault : Fault) → IsListFault rules [] bytes fault
+  pub feed_decodes : (bytes : List ℕ) (fault : Fault) → IsTakeAllFault rules [] bytes fault
       → IsDecodeFault rules bytes fault
   feed_decodes bytes fault f = grind arith
 
@@ -84,7 +84,7 @@ pub record Reading {Place U S : Type 0} (rules : Rules Place U) (reader : Reader
 module _ {Place U S : Type 0} (rules : Rules Place U) (reader : Reader S) (from to : S) where
   -- a fault of a piece that a source gave
   pub feed_source : (reads : ℕ) (bytes piece : List ℕ) (fault : Fault)
-      → Gave reader from to reads (bytes ++ piece) → IsListFault rules bytes piece fault
+      → Gave reader from to reads (bytes ++ piece) → IsTakeAllFault rules bytes piece fault
       → IsSourceFault rules reader from to fault
   feed_source reads bytes piece (Refused place reason) gave (inl f) = (bytes ++ piece, reads, gave, f.1.1)
   feed_source reads bytes piece Memory gave (inl (items, f)) = (

@@ -2,9 +2,9 @@ use Rattle.ws_record.proofs.Common as C
 use C.{common_steps, ◌≡◌, ℕ, ◌+◌, ◌<◌, ◌≤◌, ◌^◌, List, ◌++◌, Option, None, length, take, arith, Rules, Item, More}
 use C.{RecordSoFar, Watching, Leads, LeadsWith, Kept, bytes_on, each_on, left_of, length_rest, room_on, upto}
 use C.{holds_last, Advance, false, ◌≢◌, refl, [], ◌∷◌, inl, sym, ap, ◌∙◌, append_assoc, length-append}
-use C.{append-nil, IsUnfinished, IsSpelled, AreBytes, AreBytes-front, CanEnd, token_rules, unfinished_of, sub_of, IAC}
+use C.{append-nil, IsUnfinished, IsSpelled, AreBytes, AreBytes-front, CanEnd, token_rules, unfinished_token, sub_of, IAC}
 use C.{Telnet, Data, Eor, TelnetToken, TelnetItem, News, Whole, Open, Close, NoMemory, Holds, Keeping, HasRead}
-use C.{IsFrontStep, IsLiveStep, ArePlain, IsTaken, IsEnd, IsWordTaken, IsAdvance, OnLastNews, IsStepOf}
+use C.{IsFrontStep, IsLiveStep, ArePlain, IsTaken, IsRecordEnd, IsWordTaken, IsAdvance, OnLastNews, IsStepOf}
 use C.{Head, HoldsPart, OnlyIfOn, ◌⊎◌, length-take-le, KeepsTold, same_last}
 use C.{AllByRecursion-front, AllByRecursion-last, SpellsBytes, one_last, true, Onward, plain_byte}
 use Rattle.ws_telnet.specs.Words.{IsWord}
@@ -26,7 +26,7 @@ use Rattle.ws_record.specs.declared.live.Step.TheVariants as steps
 abbrev pub working : {Place : Type 0} → Tokens → Keeping Place → List ℕ → Watching Place
 working machine reader bytes = record {
   taken = length bytes;
-  begun = unfinished_of machine;
+  begun = unfinished_token machine;
   sub = sub_of machine;
   reader = reader;
   failed = false;
@@ -181,7 +181,7 @@ module _ {Place U K : Type 0} (rules : Rules Place U) (holds : K → List U → 
         }),
       )
 
-      end_kept : (news : News) → IsEnd rules so_far to news → new ≡ old → OnLastNews news (KeepsPart (bytes ++ f))
+      end_kept : (news : News) → IsRecordEnd rules so_far to news → new ≡ old → OnLastNews news (KeepsPart (bytes ++ f))
       end_kept (Refused reason) t same = same_kept same
       end_kept NoMemory t same = absurd t
       end_kept Failed t same = absurd t
@@ -221,7 +221,7 @@ module _ {Place U : Type 0} (rules : Rules Place U) (can : CanEnd rules) (law : 
 
     -- the open record takes values
     pub advance_values : (front values : List ℕ) (news : News) → Carries rules bytes items so_far.bytes front values
-        → unfinished_of machine ≡ [] → IsTaken rules holds may_answer so_far old values to new news
+        → unfinished_token machine ≡ [] → IsTaken rules holds may_answer so_far old values to new news
         → Advances front news
     advance_values front values More c fresh t =
         (t.0, t.1, record { grown = _; leads = leads refl (rw fresh c.whole) t.2 refl; body = t.3 }, t.4, t.5)
@@ -263,15 +263,15 @@ module _ {Place U : Type 0} (rules : Rules Place U) (can : CanEnd rules) (law : 
         (reader : Keeping Place) (reads : HasRead rules reader so_far) where
       -- a token is a command
       command_advance : (t : Telnet) → IsSpelled token_rules tt (begun ++ b ∷ []) (TelnetToken t)
-          → unfinished_of machine ≡ [] → to ≡ reader
+          → unfinished_token machine ≡ [] → to ≡ reader
           → Leads rules (working machine to (bytes ++ (f ++ b ∷ []))) (bytes ++ (f ++ b ∷ []))
           (items ++ TelnetItem t ∷ []) so_far
       command_advance t spelled fresh same = leads refl
           (rw (fresh, ← append_assoc bytes f (b ∷ [])) (holds_command _ h b t spelled)) (rw same reads) refl
 
       -- it ends the record
-      end_advance : (news : News) → IsSpelled token_rules tt (begun ++ b ∷ []) Eor → unfinished_of machine ≡ []
-          → IsEnd rules so_far to news → new ≡ old → Advances (f ++ b ∷ []) news
+      end_advance : (news : News) → IsSpelled token_rules tt (begun ++ b ∷ []) Eor → unfinished_token machine ≡ []
+          → IsRecordEnd rules so_far to news → new ≡ old → Advances (f ++ b ∷ []) news
       end_advance (Close head) spelled fresh t same = (
         t.0,
         leads refl (rw (fresh, ← append_assoc bytes f (b ∷ []))
@@ -283,7 +283,7 @@ module _ {Place U : Type 0} (rules : Rules Place U) (can : CanEnd rules) (law : 
       end_advance news spelled fresh t same = absurd t
 
       -- a token goes on
-      pub more_advance : IsUnfinished token_rules tt (unfinished_of machine) → unfinished_of machine ≡ begun ++ b ∷ []
+      pub more_advance : IsUnfinished token_rules tt (unfinished_token machine) → unfinished_token machine ≡ begun ++ b ∷ []
           → to ≡ reader → new ≡ old → Advances (f ++ b ∷ []) More
       more_advance u grows same kept = (
         [],

@@ -1,9 +1,9 @@
 use Rattle.ws_record.proofs.Common as C
 use C.{common_steps, ◌≡◌, ℕ, ◌+◌, ◌<◌, ◌≤◌, List, [], ◌∷◌, ◌++◌, inl, length, drop, take, get_or, refl, ap, arith}
 use C.{append_assoc, length-append, length-take, drop_of_length-le, append-nil, take-append-drop, Rules, length-take-le}
-use C.{HasRun, IsSpelled, IsPrefixFree, AreBytes, Reading, StopsAtLast, Kept, AreBytes-front, Begins, run_unit, News}
+use C.{HasReadValues, IsSpelled, IsPrefixFree, AreBytes, Reading, StopsAtLast, Kept, AreBytes-front, Begins, run_unit, News}
 use C.{More, Whole, Open, NoMemory, RecordSoFar, Keeping, HasRead, ArePlain, IsTaken, IsHeaderStep, grown}
-use C.{AllByRecursion-front, AllByRecursion-last, front_bytes, same_front, IsRun, ◌-◌, ◌*◌, true, inr, Option, Some}
+use C.{AllByRecursion-front, AllByRecursion-last, front_bytes, same_front, IsRunOfValues, ◌-◌, ◌*◌, true, inr, Option, Some}
 use C.{None, sym, ◌∙◌, IfSome, slice_index, take-append-le, drop-append-le, take_all, IsPrefix, place_after}
 use C.{spelling_of, AreBytes-append, one_cut, cut_bad, chain_append, place_after-append, Reason, Data, Opcode, Head}
 use C.{IsFramed, opcode_byte, header_reason, HeaderSoFar, declared, head_in, no_record, CanBeFramed, IsHead}
@@ -166,7 +166,7 @@ module _ {Place U : Type 0} (rules : Rules Place U) where
 
     -- values of the body, with which units are complete
     pub body_run : (to : Reading Place) (v : List ℕ) → AreBytes v → length v ≤ reader.left
-        → (run : HasRun rules (reading_of reader) v to)
+        → (run : HasReadValues rules (reading_of reader) v to)
         → HasRead rules (moved reader (length v) to) (grown so_far v run.units)
     body_run to v are room run =
         let stands : to.place ≡ place_after rules rules.first (so_far.units ++ run.units) =
@@ -256,7 +256,7 @@ module _ {Place U K : Type 0} (rules : Rules Place U) (holds : K → List U → 
     (may_answer : Kept → Type 0) (reader : Keeping Place) (so_far : RecordSoFar U) (old : K) (v : List ℕ) (used : ℕ)
     (y : Ready rules reader so_far v used) (free : IsPrefixFree rules) (begins : Begins rules) where
   -- the record behind a run over the values
-  ran : {to : Reading Place} (run : HasRun rules (reading_of reader) v to)
+  ran : {to : Reading Place} (run : HasReadValues rules (reading_of reader) v to)
       → HasRead rules (moved reader used to) (grown so_far v run.units)
   ran run = rw y.long at (body_run rules y.reads y.ten _ v y.are (omega (arith, y.long, y.room)) run)
 
@@ -286,7 +286,7 @@ module _ {Place U K : Type 0} (rules : Rules Place U) (holds : K → List U → 
   -- What a run over the values makes of the record. Behind a value that is refused, or a unit that isn't kept, no
   -- matter how the reader and the keep stand.
   pub taken : (end : End) (to : Reading Place) (standing : Standing Place) (kept new : K)
-      → IsRun rules holds may_answer (reading_of reader) old v to standing kept end
+      → IsRunOfValues rules holds may_answer (reading_of reader) old v to standing kept end
       → ((units : List U) (told : List ℕ) → holds kept units told → holds new units (told ++ v))
       → IsTaken rules holds may_answer so_far old v (moved reader used to) new (news_of end)
   taken end.More to standing kept new run took = (

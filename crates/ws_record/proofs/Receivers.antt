@@ -2,7 +2,7 @@ use Rattle.ws_record.proofs.Common.{common_steps, true, false, ◌≡◌, ℕ, �
 use Rattle.ws_record.proofs.Common.{Result, Ok, Err, length, drop, take, Vec, Global, sym, ap, ◌∙◌, arith, append_assoc}
 use Rattle.ws_record.proofs.Common.{length-append, append-nil, take-append-drop, length-take-le, Rules, Fault, Reason}
 use Rattle.ws_record.proofs.Common.{Item, News, IsRefused, RecordSoFar, Watching, Leads, CompletesUnit, EndIn}
-use Rattle.ws_record.proofs.Common.{IsAdvance, goes_on, IsItemOf, Receiving, HasReceived, IsTakeFault, IsFeedFault}
+use Rattle.ws_record.proofs.Common.{IsAdvance, awaits_more, IsItemOf, Receiving, HasReceived, IsTakeFault, IsFeedFault}
 use Rattle.ws_record.proofs.Common.{◌^◌, given, refl, IfOk, IfErr, IsFedOf, length_rest}
 use Rattle.ws_record.specs.declared.receiver.Fed.{Fed}
 use Rattle.ws_record.proofs.Common.{NoneBefore, bytes_on, left_of, one_last, left_joined}
@@ -37,7 +37,7 @@ module _ {Place U : Type 0} (rules : Rules Place U) where
 
     -- the units of a front are kept
     pub received_on : (bytes : List ℕ) (items : List (Item U)) (so_far : RecordSoFar U) (old : K) (front : List ℕ)
-        (live : Watching Place) (new : K) (news : News) → list_of old ≡ so_far.units → goes_on news ≡ true
+        (live : Watching Place) (new : K) (news : News) → list_of old ≡ so_far.units → awaits_more news ≡ true
         → IsListAdvance bytes items so_far old front live new news
         → HasReceived rules (record { live = live; units = list_of new }) (bytes ++ front) items
     received_on bytes items so_far old front live new told.More same on a =
@@ -52,7 +52,7 @@ module _ {Place U : Type 0} (rules : Rules Place U) where
   MadeInVec = Made rules (λ (keep : Vec U Global) units told. keep.items ≡ units) (λ kept. kept ≡ answer.Enough → ⊥)
 
   pub receives : {bytes : List ℕ} {items : List (Item U)} {so_far : RecordSoFar U} {old new : Vec U Global}
-      {front : List ℕ} {live : Watching Place} (news : News) → old.items ≡ so_far.units → goes_on news ≡ true
+      {front : List ℕ} {live : Watching Place} (news : News) → old.items ≡ so_far.units → awaits_more news ≡ true
       → MadeInVec bytes items so_far old live new news front
       → HasReceived rules (record { live = live; units = new.items }) (bytes ++ front) items
   receives {bytes} {items} {so_far} {old} {new} {front} {live} news same on m =
@@ -79,7 +79,7 @@ module _ {Place U : Type 0} (rules : Rules Place U) where
   -- what the news of a front are, where they don't go on
   pub item_given : {bytes : List ℕ} {items : List (Item U)} {so_far : RecordSoFar U} {old kept : Vec U Global}
       {front : List ℕ} {live : Watching Place} (new : Receiving Place U) (news : News) (result : Result (Item U) Fault)
-      → old.items ≡ so_far.units → goes_on news ≡ false → MadeInVec bytes items so_far old live kept news front
+      → old.items ≡ so_far.units → awaits_more news ≡ false → MadeInVec bytes items so_far old live kept news front
       → IsItemOf (record { live = live; units = kept.items }) news new result → IsGiven bytes items front new result
   item_given new (told.Close head) result same other m i =
       rw (i.0, i.1) (record { head = None; leads = ([], rw (m.advance.2, same) m.advance.1) })
@@ -100,7 +100,7 @@ module _ {Place U : Type 0} (rules : Rules Place U) where
 
   pub fed_given : {bytes : List ℕ} {items : List (Item U)} {so_far : RecordSoFar U} {old kept : Vec U Global}
       {front : List ℕ} {live : Watching Place} (new : Receiving Place U) (news : News) (used : ℕ)
-      (result : Result (Fed U) Fault) → old.items ≡ so_far.units → goes_on news ≡ false
+      (result : Result (Fed U) Fault) → old.items ≡ so_far.units → awaits_more news ≡ false
       → MadeInVec bytes items so_far old live kept news front
       → IsFedOf (record { live = live; units = kept.items }) news used new result
       → IsFedGiven bytes items front used new result

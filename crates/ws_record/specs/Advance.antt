@@ -61,11 +61,11 @@ module _ {Place U : Type 0} where
     IsAdvance Failed = ⊥
 
 -- the news is such that no item is complete with it, and more may follow
-abbrev pub goes_on : News → Bool
-goes_on More = true
-goes_on Whole = true
-goes_on (Open head) = true
-goes_on news = false
+abbrev pub awaits_more : News → Bool
+awaits_more More = true
+awaits_more Whole = true
+awaits_more (Open head) = true
+awaits_more news = false
 
 -- a fact where the news is such that nothing follows it
 abbrev pub OnLastNews : News → Type 0 → Type 0

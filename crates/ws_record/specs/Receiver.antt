@@ -64,8 +64,8 @@ module _ {Place U : Type 0} where
   IsFeedFault rules bytes items piece fault = ⊥
 
   -- a fault of a piece, or the growth for an item of it was refused
-  abbrev pub IsListFault : Rules Place U → List ℕ → List ℕ → Fault → Type 0
-  IsListFault rules bytes piece fault = ((items : List (Item U)) × IsFeedFault rules bytes items piece fault)
+  abbrev pub IsTakeAllFault : Rules Place U → List ℕ → List ℕ → Fault → Type 0
+  IsTakeAllFault rules bytes piece fault = ((items : List (Item U)) × IsFeedFault rules bytes items piece fault)
       ⊎ ((fault ≡ Memory) × HasItem rules (bytes ++ piece))
 
   -- where a byte of the piece is refused, no further item is complete before it

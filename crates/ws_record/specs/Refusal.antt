@@ -5,7 +5,7 @@ use Rattle.ws_code.specs.Code.{Rules, IsCut, place_after}
 use Rattle.ws_code.specs.declared.reason.Reason.{Reason}
 use Rattle.ws_code.specs.declared.reason.Reason.TheVariants.{LengthBelowHeader, BadType, BadReserved, BadVariableLength}
 use Rattle.ws_code.specs.declared.reason.Reason.TheVariants.{UnknownOpcode, TooLong, TooShort, EndedInside}
-use Rattle.ws_telnet.specs.Streams.{IsStream, EndsWith}
+use Rattle.ws_telnet.specs.Streams.{IsStream, EndsWithToken}
 use Rattle.ws_telnet.specs.Token.{token_rules}
 use Rattle.ws_telnet.specs.declared.token.Token.{Token}
 use Rattle.ws_telnet.specs.declared.token.Token.TheVariants.{Data}
@@ -60,9 +60,9 @@ module _ {Place U : Type 0} where
   IsReason rules Tokens before b reason = (tokens : List Token) × (begun : List ℕ)
       × IsCut token_rules before tokens begun × (reason ≡ token_rules.reason tt begun b)
   IsReason rules Header before b reason = (record_so_far : List ℕ) × (last : Token)
-      × EndsWith (before ++ b ∷ []) record_so_far last × (reason ≡ header_reason record_so_far last)
+      × EndsWithToken (before ++ b ∷ []) record_so_far last × (reason ≡ header_reason record_so_far last)
   IsReason rules Body before b reason = (record_so_far : List ℕ) × (last : Token)
-      × EndsWith (before ++ b ∷ []) record_so_far last × IsBodyReason rules (drop 10 record_so_far) last reason
+      × EndsWithToken (before ++ b ∷ []) record_so_far last × IsBodyReason rules (drop 10 record_so_far) last reason
 
   -- The bytes are refused at the place: those before it are open to each layer, and those through it aren't.
   pub record IsRefused (rules : Rules Place U) (bytes : List ℕ) (place : ℕ) (reason : Reason) : Type 0 where

@@ -82,10 +82,10 @@ module _ {Place U : Type 0} where
     IsTaken news = ⊥
 
   -- what the end of a record makes of it: it is whole, and no other is open; or it can't end here
-  abbrev pub IsEnd : Rules Place U → RecordSoFar U → Keeping Place → News → Type 0
-  IsEnd rules so_far reader (Close head) = IsWholeRecord rules so_far head × HasRead rules reader no_record
-  IsEnd rules so_far reader (Refused reason) = IsEndRefused rules so_far.bytes reason
-  IsEnd rules so_far reader news = ⊥
+  abbrev pub IsRecordEnd : Rules Place U → RecordSoFar U → Keeping Place → News → Type 0
+  IsRecordEnd rules so_far reader (Close head) = IsWholeRecord rules so_far head × HasRead rules reader no_record
+  IsRecordEnd rules so_far reader (Refused reason) = IsEndRefused rules so_far.bytes reason
+  IsRecordEnd rules so_far reader news = ⊥
 
   -- what a word makes of it: the value FF is taken, an EOR ends it, and any other word leaves it alone
   abbrev pub IsWordTaken : {K : Type 0} → Rules Place U → (K → List U → List ℕ → Type 0) → (Kept → Type 0)
@@ -95,7 +95,7 @@ module _ {Place U : Type 0} where
   IsWordTaken rules holds may_answer so_far reader old word.Data reader' new news =
       IsTaken rules holds may_answer so_far old (IAC ∷ []) reader' new news
   IsWordTaken rules holds may_answer so_far reader old word.Eor reader' new news =
-      IsEnd rules so_far reader' news × (new ≡ old)
+      IsRecordEnd rules so_far reader' news × (new ≡ old)
   IsWordTaken rules holds may_answer so_far reader old (word.Command code) reader' new news =
       (news ≡ Command code) × (reader' ≡ reader) × (new ≡ old)
   IsWordTaken rules holds may_answer so_far reader old (word.Option verb option) reader' new news =

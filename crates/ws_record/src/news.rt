@@ -1,5 +1,5 @@
 ghost use Rattle.std.specs.Prelude.{true, false, ◌≡◌};
-ghost use Rattle.ws_record.specs.Advance.{OnLastNews, goes_on};
+ghost use Rattle.ws_record.specs.Advance.{OnLastNews, awaits_more};
 
 use crate::Head;
 use ws_code::Reason;
@@ -35,7 +35,7 @@ impl News {
     /// Whether no item is complete, and more may follow.
     #[inline(always)]
     pub fn goes_on(self) -> bool
-        ensures { result ≡ goes_on self }
+        ensures { result ≡ awaits_more self }
     {
         matches!(self, News::More | News::Unit | News::Open(_))
     }

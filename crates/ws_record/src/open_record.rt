@@ -5,7 +5,7 @@ ghost use Rattle.ws_record.specs.Grammar.{IsFramed};
 ghost use Rattle.ws_record.specs.Refusal.{header_reason};
 ghost use Rattle.ws_record.specs.HeaderSoFar.{HeaderSoFar, head_in};
 ghost use Rattle.ws_record.specs.OpenRecord.{RecordSoFar, no_record, HasRead};
-ghost use Rattle.ws_record.specs.Taking.{ArePlain, IsHeaderStep, IsTaken, IsEnd, IsWordTaken};
+ghost use Rattle.ws_record.specs.Taking.{ArePlain, IsHeaderStep, IsTaken, IsRecordEnd, IsWordTaken};
 ghost use Rattle.ws_record.specs.declared.news.News.{News as SomeNews};
 
 use crate::{Advance, Head, News, Opcode};
@@ -272,7 +272,7 @@ impl<B: Body> OpenRecord<B> {
     // The head is read from its ten bytes anew: none is kept, nor made up before the first record.
     fn end(&mut self) -> News
         ensures { (so_far : RecordSoFar B.Unit) → HasRead B.rules self.old so_far
-            → IsEnd B.rules so_far self.new result }
+            → IsRecordEnd B.rules so_far self.new result }
     {
         if self.header.len() < 10 || self.left > 0 {
             return News::Refused(Reason::TooShort);

@@ -11,7 +11,7 @@ use Rattle.ws_screen.specs.Controls.{clears_mdt}
 use Rattle.ws_screen.specs.Faults.{first_of, sf_faults, shares}
 use Rattle.ws_screen.specs.Formats.{starts_at}
 use Rattle.ws_screen.specs.ScreenParts.{AreApart, IsClean, IsLegal, ScreenParts}
-use Rattle.ws_screen.specs.Steps.{Ends, after_cc1, after_input_field, insert_field, with_format_at}
+use Rattle.ws_screen.specs.Steps.{EndsOnScreen, after_cc1, after_input_field, insert_field, with_format_at}
 use Rattle.std.specs.List.{list_any, slice_index}
 use borrow.Author.Tests.{ltb-true, ltb-false, eqb-true, eqb-false}
 use Rattle.ws_screen.specs.declared.field.Field.{Field}
@@ -25,7 +25,7 @@ apart-le low [] h = h
 apart-le low (f ∷ fs) h = let rest : f.start + f.length ≤ 1920 = apart-le (f.start + f.length) fs h.2 in
     omega (arith, h.0)
 
-pub apart-ends : (low : ℕ) (fs : List Field) → AreApart low fs → All Ends fs
+pub apart-ends : (low : ℕ) (fs : List Field) → AreApart low fs → All EndsOnScreen fs
 apart-ends low [] h k d small = absurd (omega arith)
 apart-ends low (f ∷ fs) h zero d small = apart-le (f.start + f.length) fs h.2
 apart-ends low (f ∷ fs) h (suc k) d small = apart-ends (f.start + f.length) fs h.2 k d (omega arith)
@@ -74,7 +74,7 @@ beside s n a m e = go (nat_lt s (a + m)) refl (nat_lt a (s + n)) refl e
     go true p false q e = inr (ltb-false a (s + n) q)
     go true p true q e = absurd (false≢true (sym e))
 
-pub apart-insert : (f : Field) → 1 ≤ f.length → Ends f → (low : ℕ) (fs : List Field) → AreApart low fs → low ≤ f.start
+pub apart-insert : (f : Field) → 1 ≤ f.length → EndsOnScreen f → (low : ℕ) (fs : List Field) → AreApart low fs → low ≤ f.start
     → list_any (shares f.start f.length) fs ≡ false → AreApart low (insert_field f fs)
 apart-insert f some ends low [] h at none = (at, some, ends)
 apart-insert f some ends low (x ∷ xs) h at none =

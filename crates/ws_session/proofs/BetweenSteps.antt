@@ -7,7 +7,7 @@ use C.{after_read, body_fault, HostAnswer, same_apart, AnswerPart, open_write, s
 use C.{answer_of, after_key, HostState, events_by, unwrap_or, HostSide, ReadKind, Exchange, layouts, is_some, History}
 use C.{is_body, edit_of, Element, Answer, fields, length, Telnet, Opcode, Option, Field, Alike, false, subst, ◌++◌, ◌∷◌}
 use C.{Some, None, Send, true, List, ◌||◌, Edit, refl, ◌+◌, ◌∙◌, ◌≡◌, sym, ◌⊎◌, inl, inr, ap, []}
-use Rattle.ws_nego.specs.Exchange.{after_move, ToStation, ToHost}
+use Rattle.ws_nego.specs.Exchange.{after_token_move, ToStation, ToHost}
 use Rattle.ws_nego.proofs.Exchanges.{x_down_count, x_up_count, x_station, x_both, x_down, x_host, x_up}
 use Rattle.ws_session.proofs.Turns.{down_read, send_read, down_text, send_text, send_stop, down_stop, DownMark, at_turn}
 use Rattle.ws_session.proofs.Turns.{no_reply, up_reply, up_done, answer, UpMark, TurnAt, Done}
@@ -27,8 +27,8 @@ module _ {t : TerminalType} {ex : Exchange} {s : StationSide} {h : HostSide} {to
     {ds : List Posted} {es : List Sent} {later : List HostAnswer} (b : Between t ex s h
     (token ∷ ts) us ds es later) where
   pub station_token : (es ≡ [])
-      × ((after_move ToStation ex).count ≡ ex.count + length (station_answer s.options token).reply) × Between t
-      (after_move ToStation ex) (record { options = (station_answer s.options token).after; happened = s.happened })
+      × ((after_token_move ToStation ex).count ≡ ex.count + length (station_answer s.options token).reply) × Between t
+      (after_token_move ToStation ex) (record { options = (station_answer s.options token).after; happened = s.happened })
       h ts (us ++ (station_answer s.options token).reply) ds es later
   station_token =
       let none : es ≡ [] = elim b.station_ready [ inl e ↦ e | inr a ↦ (let e = x_station b.exchanges a in cc) ] in
@@ -39,7 +39,7 @@ module _ {t : TerminalType} {ex : Exchange} {s : StationSide} {h : HostSide} {to
     {ds : List Posted} {es : List Sent} {later : List HostAnswer} (b : Between t ex s h ts
     (token ∷ us) ds es later) where
   pub host_token : (a : Answer HostState) → host_answer h.options token ≡ Some a
-      → (ds ≡ []) × ((after_move ToHost ex).count ≡ ex.count + length a.reply) × Between t (after_move ToHost ex) s
+      → (ds ≡ []) × ((after_token_move ToHost ex).count ≡ ex.count + length a.reply) × Between t (after_token_move ToHost ex) s
       (record { options = a.after; kept = h.kept; cancelling = h.cancelling }) (ts ++ a.reply) us ds es later
   host_token a q =
       let none : ds ≡ [] = elim b.host_ready [ inl e ↦ e | inr f ↦ (let e = (x_host b.exchanges f).1 in cc) ] in

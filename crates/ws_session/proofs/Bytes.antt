@@ -6,7 +6,7 @@ use C.{answer_rules, ending_at, after_record, CancelInvite, append_assoc, statio
 use C.{host_answer, station_did, refl, ready_event, answers_in, down_bytes, HostAnswer, after_read, AnswerPart}
 use C.{TelnetItem, body_fault, host_takes, ◌∙◌, host_reads, append-nil, RecordItem, Cancelled, HostState, host_gets}
 use C.{ltb-false, answer_in, Exchange, HostSide, ℕ, ltb-true, host_did, MoveDown, up_bytes, Answered, telnets, Element}
-use C.{Refuses, Opcode, nat_lt, Telnet, Option, sym, length, Answer, PutGet, GoesOn, MoveUp, signal, tells, arith}
+use C.{Refuses, Opcode, nat_lt, Telnet, Option, sym, length, Answer, PutGet, GoesOn, MoveUp, signal, event_output, arith}
 use C.{subst, World, None, true, Item, List, Host, Some, Bool, ◌++◌, ◌≡◌, ◌<◌, ◌∷◌, inl, ◌+◌, inr, ◌⊎◌, ◌≤◌, [], ap}
 use Rattle.ws_record.proofs.Flights.{ByteComes, InFlight, written, Inside, comes, Whole}
 use Rattle.ws_session.proofs.Betweens.{signal_silent, ready_silent, with_tokens, records_up, quiet_told, with_sents}
@@ -126,7 +126,7 @@ module _ (t : TerminalType) where
         let found = host_reply b in
         let x : HostAnswer = found.1 in
         let takes : host_takes h (item_of (Replies parts)) ≡ GoesOn
-        (after_read h h.cancelling) (tells (Some (Answered x))) = takes_by h 0 PutGet parts found.3
+        (after_read h h.cancelling) (event_output (Some (Answered x))) = takes_by h 0 PutGet parts found.3
         ∙ ap (λ o. host_reads_by h o parts) found.4 ∙ ap (host_reads h) found.5 in
         rw takes (ups refl refl (sounds ts [] ds es found.2 ex found.7 (same_down ts ds down) up (answered
         ∙ ap (λ l. answers_in w.events ++ l) found.6 ∙ sym (append_assoc (answers_in w.events) (x ∷ []) found.2)
@@ -136,7 +136,7 @@ module _ (t : TerminalType) where
         let h : HostSide = w.host in
         let found = host_end b in
         let takes : host_takes h (item_of Ends) ≡ GoesOn (after_read h false)
-        (tells (Some Cancelled)) = takes_by h 0 CancelInvite [] found.0 ∙ ap (host_ends_cancel h) found.1 in
+        (event_output (Some Cancelled)) = takes_by h 0 CancelInvite [] found.0 ∙ ap (host_ends_cancel h) found.1 in
         rw takes
         (ups refl refl (sounds ts [] ds es later ex found.2 (same_down ts ds down) up (answered ∙ ap (λ l. l ++ later)
         (sym (quiet_told w.events (Some Cancelled) refl))) (omega (arith, n, with_none w.down)) sg hg) refl refl)

@@ -29,13 +29,13 @@ pub use Rattle.ws_code.specs.declared.keep.Kept.{Kept}
 pub use Rattle.ws_telnet.specs.declared.token.Telnet.{Telnet}
 pub use Rattle.ws_telnet.specs.Token.{telnet_spelling, token_rules, IsTelnet}
 pub use Rattle.ws_nego.specs.declared.terminal.TerminalType.{TerminalType}
-pub use Rattle.ws_nego.specs.Exchange.{Exchange, TablesAgree, IsQuiet as NothingInFlight, after_move as after_exchange}
-pub use Rattle.ws_nego.specs.Exchange.{ToStation as MoveDown, ToHost as MoveUp, after_moves as exchange_after}
+pub use Rattle.ws_nego.specs.Exchange.{Exchange, TablesAgree, IsExchangeQuiet as NothingInFlight, after_token_move as after_exchange}
+pub use Rattle.ws_nego.specs.Exchange.{ToStation as MoveDown, ToHost as MoveUp, after_token_moves as exchange_after}
 pub use Rattle.ws_nego.specs.Exchange.{after_all_to_station, after_all_to_host, after_three_deliveries, new_exchange}
 pub use Rattle.ws_nego.proofs.Stages.{agrees, settled_quiet, settled_station, settled_host}
 pub use Rattle.ws_nego.specs.Station.{station_allows_records, station_answer}
 pub use Rattle.ws_nego.specs.Host.{host_allows_records, HostState, host_answer, opening}
-pub use Rattle.ws_nego.specs.Options.{Answer, bytes_of, AnswersWith}
+pub use Rattle.ws_nego.specs.Options.{Answer, telnet_bytes, AnswersWith}
 pub use Rattle.ws_record.specs.declared.record.Item.{Item}
 pub use Rattle.ws_record.specs.Encode.{plain_spelling, item_spelling, IsInRange, record_spelling, CanBeEncoded}
 pub use Rattle.ws_record.specs.Receiver.{Receiving, HasReceived}
@@ -104,14 +104,14 @@ pub use Rattle.ws_session.specs.Through.{HasRefusedIn, Through}
 pub use Rattle.ws_session.specs.Wires.{WireParts, reported, HasMemory, Comes, AreDelivered}
 pub use Rattle.ws_session.specs.declared.refusal.Refusal.TheVariants.{At, Failed, Memory}
 pub use Rattle.ws_session.specs.ActLaws.{came_append, gone_on, bytes_came}
-pub use Rattle.ws_session.specs.Attachments.{AttachedParts, fault_of, HaveLed, HaveLedUnwritten, HasRefused}
-pub use Rattle.ws_session.specs.Attachments.{IsByteFault, HasTaken, IsTakeFault, HasHeard, IsHearFault, IsSendFailure}
+pub use Rattle.ws_session.specs.Attachments.{AttachedParts, fault_of, HaveLed, HaveLedUnwritten, HasRefusedByte}
+pub use Rattle.ws_session.specs.Attachments.{IsByteFault, HasTakenWaiting, IsWaitingFault, HasHeard, IsHearFault, IsSendFailure}
 pub use Rattle.ws_session.specs.Written.{HasWritten, HasWrittenFront, IsUnheard}
 pub use Rattle.ws_session.specs.StationSide.{StationSide, opcode_events, after_record, after_key, screen_at}
 pub use Rattle.ws_session.specs.StationSide.{opcode_answer, station_applies, station_takes, KeyReaction, RefusesKey}
 pub use Rattle.ws_session.specs.StationSide.{Silent, Answers, Signals, station_key, sends, answers_read}
 pub use Rattle.ws_session.specs.StationSide.{key_by_refusal, new_station_side, presses, answer_record}
-pub use Rattle.ws_session.specs.HostSide.{HostSide, sent_record, is_outstanding, after_read, tells, ready_event}
+pub use Rattle.ws_session.specs.HostSide.{HostSide, sent_record, is_outstanding, after_read, event_output, ready_event}
 pub use Rattle.ws_session.specs.HostSide.{host_negotiates, host_reads, host_reads_by, host_ends_cancel, signal}
 pub use Rattle.ws_session.specs.HostSide.{host_takes_record, host_takes, HostOutput, TellsAnswer, SendReaction}
 pub use Rattle.ws_session.specs.HostSide.{RefusesSend, Sends}
@@ -151,7 +151,7 @@ pub use Rattle.ws_session.specs.declared.station.StationStep.{StationStep}
 pub use Rattle.ws_session.specs.declared.end_step.Order.{Order}
 pub use Rattle.ws_session.specs.HostFeeds.{HasHostFed, IsHostSilent, EndsAt}
 pub use Rattle.ws_session.specs.HostFronts.{IsHostFronted, quiet, DoesItem, IsHostNewsTaken}
-pub use Rattle.ws_session.specs.TwoLines.{ends_of, TwoEnds, key_told, send_told, order_of, HasOrdered, Orders}
+pub use Rattle.ws_session.specs.TwoLines.{two_ends_of, TwoEnds, key_told, send_told, order_of, HasOrdered, Orders}
 pub use Rattle.ws_session.specs.TwoLines.{all_read, HasMoved, HaveMoved, HasRun, StationIsLed, HostIsLed, all_sent}
 pub use Rattle.ws_session.specs.TwoLines.{HaveCome, ComesDown, ComesUp, IsDeliveredDown, IsDeliveredUp}
 pub use Rattle.ws_session.specs.Crossings.{Crossing, with_piece_at, AreFaithful, HaveCrossed, HasCrossed, IsStopped}
@@ -159,7 +159,7 @@ pub use Rattle.ws_session.specs.Crossings.{IsEnded, AreEnded}
 pub use Rattle.ws_session.specs.Deliveries.{delivery, three_deliveries}
 pub use Rattle.ws_session.specs.declared.player.Player.{Player}
 pub use Rattle.ws_session.specs.Moments.{Presses, outcome, due, later, Moment, Outcome, idle_outcome, outcome_of_both}
-pub use Rattle.ws_session.specs.Moments.{at_item, at_moment, AreTaken, one_record, moments_from, moments, at_key}
-pub use Rattle.ws_session.specs.Playing.{HasCome, HasDone, records_from, keys_left_from}
+pub use Rattle.ws_session.specs.Moments.{at_item, at_moment, AreTaken, records_in_item, moments_from, moments, at_key}
+pub use Rattle.ws_session.specs.Playing.{HaveBroughtPlayer, HasDone, records_from, keys_left_from}
 pub use Rattle.ws_session.specs.StationRun.{IsRunFault, IsRun, refusal_count, behind, run_text, RunUnwritten}
 pub use Rattle.ws_session.specs.Reports.{IsReport, IsOpened}

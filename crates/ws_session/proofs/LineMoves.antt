@@ -3,13 +3,13 @@ use C.{IfOk, OnOk, ◌≡◌, ℕ, ◌+◌, ◌-◌, ◌≤◌, List, [], ◌∷
 use C.{arith, append_assoc, length-append, length-drop, append-nil, length-take-le, take_all, drop_all, drop-drop}
 use C.{drop-append-le, flat_map-append, take-add, drop-append_seam, take-append-add, Reason, Refusal, Event, Move}
 use C.{Act, Crossing, with_piece_at, HostParts, StationParts, TerminalType, WorldParts, Runs, new_world, TwoEnds}
-use C.{ends_of, all_sent, all_read, HaveCome, ComesDown, ComesUp, IsDeliveredDown, IsDeliveredUp, HasMoved}
+use C.{two_ends_of, all_sent, all_read, HaveCome, ComesDown, ComesUp, IsDeliveredDown, IsDeliveredUp, HasMoved}
 use C.{HaveMoved, HasRun, WireParts, AreDelivered, inl, inr, subst, take-append-drop, Fault, Writer}
 use C.{StationGoes, HostGoes, element_rules, answer_rules, station_manner, host_manner, StationLeads, HostLeads, Key}
 use C.{Applied, HostEvent, Reader, AreFaithful, HaveCrossed, HasCrossed, IsStopped, IsEnded, AreEnded}
 use Rattle.std.specs.List.{AllByRecursion}
 use Rattle.ws_session.specs.declared.line.Line.{Line}
-use Rattle.ws_session.specs.BrokenOff.{AreNext, IsCut}
+use Rattle.ws_session.specs.BrokenOff.{AreNext, IsDeliveryCut}
 use Rattle.ws_session.specs.ActLaws.{goes_none, goes_on}
 use Rattle.ws_session.specs.Manners.{IsHostShut}
 use Rattle.ws_session.specs.StationActs.{IsShutOn}
@@ -155,17 +155,17 @@ host_follows = goes_on answer_rules element_rules host_manner HostLeads IsHostSh
 
 -- bytes down
 
-pub down_none : (now : WorldParts) → ComesDown (ends_of now) 0 [] (ends_of now)
+pub down_none : (now : WorldParts) → ComesDown (two_ends_of now) 0 [] (two_ends_of now)
 down_none now = ([], [], none_come _ _ _ _ _ station_stays _ _, rw (append-nil (drop now.at_host now.up), append-nil now.events))
 
-pub up_none : (now : WorldParts) → ComesUp (ends_of now) 0 [] (ends_of now)
+pub up_none : (now : WorldParts) → ComesUp (two_ends_of now) 0 [] (two_ends_of now)
 up_none now = ([], [], none_come _ _ _ _ _ host_stays _ _, rw (append-nil (drop now.at_station now.down), append-nil now.events))
 
 -- what went over a line, written in the place of the bytes in flight
 module _ (old new : WorldParts) (n : ℕ) (read : List ℕ) (is : length read ≡ n) where
   pub down_piece : old.at_station + n ≤ length old.down → n ≤ 4096 → old.at_host ≤ length old.up
       → IsDeliveredDown (record old { down = with_piece_at old.down old.at_station read }) n new → ComesDown
-      (ends_of old) n (record { sent = take n (drop old.at_station old.down); read = read } ∷ []) (ends_of new)
+      (two_ends_of old) n (record { sent = take n (drop old.at_station old.down); read = read } ∷ []) (two_ends_of new)
   down_piece fits small room d =
       let upward : drop new.at_host new.up ≡ drop old.at_host old.up ++ d.0.written =
       ap (λ (z : WireParts). drop z.at z.bytes) d.0.to_is ∙ drop-append-le old.at_host old.up d.0.written room in (
@@ -178,7 +178,7 @@ module _ (old new : WorldParts) (n : ℕ) (read : List ℕ) (is : length read �
 
   pub up_piece : old.at_host + n ≤ length old.up → n ≤ 4096 → old.at_station ≤ length old.down
       → IsDeliveredUp (record old { up = with_piece_at old.up old.at_host read }) n new
-      → ComesUp (ends_of old) n (record { sent = take n (drop old.at_host old.up); read = read } ∷ []) (ends_of new)
+      → ComesUp (two_ends_of old) n (record { sent = take n (drop old.at_host old.up); read = read } ∷ []) (two_ends_of new)
   up_piece fits small room d =
       let downward : drop new.at_station new.down ≡ drop old.at_station old.down ++ d.0.written =
       ap (λ (z : WireParts). drop z.at z.bytes) d.0.to_is ∙ drop-append-le old.at_station old.down d.0.written room in (
@@ -226,8 +226,8 @@ next_of_more bytes flight n m le next =
 -- what is cut of some bytes is cut of more
 pub cut_of_more : {S R : Type 0} (writer : Writer S) (reader : Reader R)
     (flight : List ℕ) (n m : ℕ) (from to : Line S R) (fault : Fault) → n ≤ m
-    → IsCut writer reader (take n flight) from to fault
-    → IsCut writer reader (take m flight) from to fault
+    → IsDeliveryCut writer reader (take n flight) from to fault
+    → IsDeliveryCut writer reader (take m flight) from to fault
 cut_of_more writer reader flight n m from to fault le (inl c) =
     inl (c.0, c.1, next_of_more c.1.sent flight n m le c.2, c.3)
 cut_of_more writer reader flight n m from to fault le (inr c) =
@@ -247,9 +247,9 @@ moved_on a b c (x ∷ ms) m ds us es vs p q =
     (p.0, p.1, p.2 ++ es, p.3 ++ vs, p.4, p.5, rest, downs, ups)
 
 -- before the first move
-pub begun : (t : TerminalType) (now : WorldParts) → Runs t now (new_world t) → HasRun t [] [] [] (ends_of now)
+pub begun : (t : TerminalType) (now : WorldParts) → Runs t now (new_world t) → HasRun t [] [] [] (two_ends_of now)
 begun t now r = (
-  ends_of now,
+  two_ends_of now,
   record {
     station = r.station;
     host = r.host;

@@ -2,7 +2,7 @@ use Rattle.ws_session.proofs.Common as C
 use C.{IfOk, IfErr, ◌≡◌, ◌≢◌, ℕ, ◌+◌, ◌*◌, ◌<◌, ◌≤◌, ◌^◌, inl, inr, List, [], ◌++◌, Some, None, Result, Ok, Err}
 use C.{length, drop, refl, ap, ◌∙◌, arith, length-append, Fault, Refused, Truncated, Write, Writer, Reader, Gave}
 use C.{FailedWithin, one_more, most_reads, gave_more, gave_all, TerminalType, Item, IsInGrammar, IsTruncated}
-use C.{element_rules, Element, Place, Key, Player, outcome, due, later, HasDone, HasCome, StationParts}
+use C.{element_rules, Element, Place, Key, Player, outcome, due, later, HasDone, HaveBroughtPlayer, StationParts}
 use C.{StationLeads, IsRunFault, IsRun, refusal_count, behind, StationSide, new_station_side, AtStation}
 use Rattle.ws_code.specs.declared.fault.Fault.TheVariants.{Read}
 use Rattle.ws_session.specs.declared.run.Played.{Played}
@@ -16,7 +16,7 @@ pub record Reading {R S : Type 0} (reader : Reader R) (source now : R) (reads : 
   pub bytes : List ℕ
   pub items : List (Item Element)
   pub gave : Gave reader source now reads bytes
-  pub come : HasCome writer t keys sink player here bytes items
+  pub come : HaveBroughtPlayer writer t keys sink player here bytes items
   pub few : length bytes ≤ 4096 * reads
 
 module _ {R S : Type 0} (reader : Reader R) (writer : Writer S) (t : TerminalType) (keys : List (ℕ × Key)) where
@@ -126,7 +126,7 @@ module _ {R S : Type 0} (reader : Reader R) (writer : Writer S) (t : TerminalTyp
       fits = omega (arith, r.few, one_left, small)
 
       -- a piece that is taken
-      pub reads_on : (next : Player) (to : S) → ((items : List (Item Element)) × HasCome writer t keys sink next
+      pub reads_on : (next : Player) (to : S) → ((items : List (Item Element)) × HaveBroughtPlayer writer t keys sink next
           to (r.bytes ++ given) items) → Reading reader source now' (reads + 1) writer t keys sink to next
       reads_on next to come = record {
         bytes = r.bytes ++ given;

@@ -2,8 +2,8 @@ use Rattle.ws_session.proofs.Common as C
 use C.{failed_within_both, length-take-le, take-append-drop, take, new_station_side, outcome_of_both, keys_left_from, Outcome, StationStep, is_record}
 use C.{went_out_both, went_out_none, length-append, refusal_count, RunUnwritten, TerminalType, HoldsItems}
 use C.{StationLeads, records_from, append_assoc, moments_from, FailedWithin, idle_outcome, StationParts, element_rules, ℕ}
-use C.{StationSide, IsRunFault, one_record, TelnetItem, append-nil, RecordItem, AtStation, Fault, Bool, true, false}
-use C.{at_moment, fault_of, run_text, AreTaken, Writer, HasDone, HasCome, Element, at_item, Moment, Ok, Err}
+use C.{StationSide, IsRunFault, records_in_item, TelnetItem, append-nil, RecordItem, AtStation, Fault, Bool, true, false}
+use C.{at_moment, fault_of, run_text, AreTaken, Writer, HasDone, HaveBroughtPlayer, Element, at_item, Moment, Ok, Err}
 use C.{WentOut, Refused, Presses, Refusal, outcome, moments, behind, nat_lt, length, Player}
 use C.{arith, subst, Write, later, drop, refl, Item, List, ◌++◌, ◌∙◌, min, ◌^◌, sym, ◌≡◌}
 use C.{◌<◌, ◌∷◌, Key, inl, ◌-◌, ◌+◌, inr, due, ◌≤◌, [], At, ap}
@@ -20,22 +20,22 @@ use Rattle.std.proofs.lemmas.Bool.{cases_Bool}
 
 moments_more : (n : ℕ) (keys : List (ℕ × Key)) (items : List (Item Element)) (item : Item Element)
     → moments_from n keys (items ++ item ∷ []) ≡ moments_from n keys items ++ Arrives item ∷ due
-    (records_from n items + one_record item) (keys_left_from n keys items)
+    (records_from n items + records_in_item item) (keys_left_from n keys items)
 moments_more n keys [] item = refl
 moments_more n keys (i ∷ items) item =
-    ap (λ z. due n keys ++ Arrives i ∷ z) (moments_more (n + one_record i) (later n keys) items item) ∙ sym
-    (append_assoc (due n keys) (Arrives i ∷ moments_from (n + one_record i) (later n keys) items) (Arrives item ∷ due
-    (records_from (n + one_record i) items + one_record item) (keys_left_from (n + one_record i) (later n keys) items)))
+    ap (λ z. due n keys ++ Arrives i ∷ z) (moments_more (n + records_in_item i) (later n keys) items item) ∙ sym
+    (append_assoc (due n keys) (Arrives i ∷ moments_from (n + records_in_item i) (later n keys) items) (Arrives item ∷ due
+    (records_from (n + records_in_item i) items + records_in_item item) (keys_left_from (n + records_in_item i) (later n keys) items)))
 
 left_more : (n : ℕ) (keys : List (ℕ × Key)) (items : List (Item Element)) (item : Item Element) → keys_left_from n keys
-    (items ++ item ∷ []) ≡ later (records_from n items + one_record item) (keys_left_from n keys items)
+    (items ++ item ∷ []) ≡ later (records_from n items + records_in_item item) (keys_left_from n keys items)
 left_more n keys [] item = refl
-left_more n keys (i ∷ items) item = left_more (n + one_record i) (later n keys) items item
+left_more n keys (i ∷ items) item = left_more (n + records_in_item i) (later n keys) items item
 
 records_more : (n : ℕ) (items : List (Item Element)) (item : Item Element) → records_from n (items ++ item ∷ [])
-    ≡ records_from n items + one_record item
+    ≡ records_from n items + records_in_item item
 records_more n [] item = refl
-records_more n (i ∷ items) item = records_more (n + one_record i) items item
+records_more n (i ∷ items) item = records_more (n + records_in_item i) items item
 
 due_later : (n : ℕ) (keys : List (ℕ × Key)) → (due n (later n keys) ≡ []) × (later n (later n keys) ≡ later n keys)
 due_later n [] = (refl, refl)
@@ -50,7 +50,7 @@ pub left_settled : (n : ℕ) (keys : List (ℕ × Key)) (items : List (Item Elem
     → (due (records_from n items) (keys_left_from n keys items) ≡ [])
     × (later (records_from n items) (keys_left_from n keys items) ≡ keys_left_from n keys items)
 left_settled n keys [] = due_later n keys
-left_settled n keys (i ∷ items) = left_settled (n + one_record i) (later n keys) items
+left_settled n keys (i ∷ items) = left_settled (n + records_in_item i) (later n keys) items
 
 taken_append : (s : StationSide) (ms ns : List Moment) → AreTaken s ms → AreTaken (outcome s ms).side ns
     → AreTaken s (ms ++ ns)
@@ -65,18 +65,18 @@ keys_taken s n (k ∷ ks) = elim (cases_Bool (nat_lt n k.0)) [
 ]
 
 -- one record is counted, and no Telnet command
-one_of : (item : Item Element) (ends : Bool) → ends ≡ is_record item → ends ≡ false → one_record item ≡ 0
+one_of : (item : Item Element) (ends : Bool) → ends ≡ is_record item → ends ≡ false → records_in_item item ≡ 0
 one_of (RecordItem r) ends is e = (let h : true ≡ false = sym is ∙ e in cc)
 one_of (TelnetItem token) ends is e = refl
 
-one_of_record : (item : Item Element) (ends : Bool) → ends ≡ is_record item → ends ≡ true → one_record item ≡ 1
+one_of_record : (item : Item Element) (ends : Bool) → ends ≡ is_record item → ends ≡ true → records_in_item item ≡ 1
 one_of_record (RecordItem r) ends is e = refl
 one_of_record (TelnetItem token) ends is e = (let h : false ≡ true = sym is ∙ e in cc)
 
 module _ {S : Type 0} (writer : Writer S) (t : TerminalType) (keys : List (ℕ × Key))
     (start now : S) (old : Player) (before : StationParts) (bytes : List ℕ) (items : List (Item Element))
     (piece : List ℕ) (used : ℕ) (within : used ≤ length piece) (some : 0 < used)
-    (c : HasCome writer t keys start (record old { station = before }) now bytes items) where
+    (c : HaveBroughtPlayer writer t keys start (record old { station = before }) now bytes items) where
   abbrev so_far : Outcome
   so_far = behind t keys items
 
@@ -88,7 +88,7 @@ module _ {S : Type 0} (writer : Writer S) (t : TerminalType) (keys : List (ℕ �
 
   -- no item is complete
   inside_comes : (reply : List ℕ) (to : S) → reply ≡ [] → StationLeads old.station longer items so_far.side
-      → WentOut writer now to reply → HasCome writer t keys start old to longer items
+      → WentOut writer now to reply → HaveBroughtPlayer writer t keys start old to longer items
   inside_comes reply to silent leads went = record {
     is_behind = record { leads = leads; taken = c.is_behind.taken };
     refused = c.refused;
@@ -105,7 +105,7 @@ module _ {S : Type 0} (writer : Writer S) (t : TerminalType) (keys : List (ℕ �
     more = items ++ taken.item ∷ []
 
     abbrev due_then : List Moment
-    due_then = due (records_from 0 items + one_record taken.item) (keys_left_from 0 keys items)
+    due_then = due (records_from 0 items + records_in_item taken.item) (keys_left_from 0 keys items)
 
     abbrev did : Outcome
     did = record { side = taken.next; written = taken.writes; refused = 0 }
@@ -123,7 +123,7 @@ module _ {S : Type 0} (writer : Writer S) (t : TerminalType) (keys : List (ℕ �
         (taken_append (new_station_side t) (moments keys items) (Arrives taken.item ∷ due_then) c.is_behind.taken (
           ap goes_on taken.goes_on,
           keys_taken (at_moment so_far.side (Arrives taken.item)).side
-              (records_from 0 items + one_record taken.item) (keys_left_from 0 keys items),
+              (records_from 0 items + records_in_item taken.item) (keys_left_from 0 keys items),
         ))
 
     text_more : run_text t keys items ++ (reply ++ text_of keyed.written) ≡ run_text t keys more
@@ -132,16 +132,16 @@ module _ {S : Type 0} (writer : Writer S) (t : TerminalType) (keys : List (ℕ �
         so_far.written (taken.writes ++ keyed.written)) ∙ ap (λ (o : Outcome). text_of o.written) (sym one_more)
 
     -- an item is, and the keys that are due behind it are pressed
-    item_comes : (records : ℕ) (new : Player) (mid to : S) → records ≡ old.records + one_record taken.item
+    item_comes : (records : ℕ) (new : Player) (mid to : S) → records ≡ old.records + records_in_item taken.item
         → WentOut writer now mid reply → HasDone writer longer more (record old { records = records })
-        new mid to keyed → drop new.pressed keys ≡ later (records_from 0 items + one_record taken.item) (keys_left_from
-        0 keys items) → one_record taken.item ≤ 1 → HasCome writer t keys start new to longer more
+        new mid to keyed → drop new.pressed keys ≡ later (records_from 0 items + records_in_item taken.item) (keys_left_from
+        0 keys items) → records_in_item taken.item ≤ 1 → HaveBroughtPlayer writer t keys start new to longer more
     item_comes records new mid to is went done left one = record {
       is_behind = record { leads = rw one_more done.leads; taken = taken_more };
       refused = done.refused so_far.refused c.refused ∙ ap refusal_count
           (let e : so_far.refused + keyed.refused ≡ so_far.refused + (0 + keyed.refused) = omega arith in e)
           ∙ ap (λ (o : Outcome). refusal_count o.refused) (sym one_more);
-      records = done.records ∙ is ∙ ap (λ n. n + one_record taken.item) c.records ∙ sym (records_more 0 items _);
+      records = done.records ∙ is ∙ ap (λ n. n + records_in_item taken.item) c.records ∙ sym (records_more 0 items _);
       left = left ∙ sym (left_more 0 keys items _);
       few = omega (arith, done.records, is, one, c.few, some, size);
       wrote = rw (← text_more)
@@ -196,14 +196,14 @@ module _ {S : Type 0} (writer : Writer S) (t : TerminalType) (keys : List (ℕ �
 
       -- it ends no record
       pub no_record : (to : S) → step.ends_record ≡ false → WentOut writer now to step.reply
-          → (next : List (Item Element)) × HasCome writer t keys start old to longer next
+          → (next : List (Item Element)) × HaveBroughtPlayer writer t keys start old to longer next
       no_record to e went = elim fronted [
         | inl i ↦ (items, inside_comes step.reply to i.0.silent i.0.leads went)
         | inr taken ↦ (let item : Item Element = taken.0.item in
-            let one : one_record item ≡ 0 = one_of item step.ends_record taken.1 e in
-            let same : records_from 0 items + one_record item ≡ records_from 0 items = omega (arith, one) in
+            let one : records_in_item item ≡ 0 = one_of item step.ends_record taken.1 e in
+            let same : records_from 0 items + records_in_item item ≡ records_from 0 items = omega (arith, one) in
             let settled = left_settled 0 keys items in
-            let none : due (records_from 0 items + one_record item)
+            let none : due (records_from 0 items + records_in_item item)
             (keys_left_from 0 keys items) ≡ [] = ap (λ n. due n (keys_left_from 0 keys items)) same ∙ settled.0 in
             let side : StationSide = taken.0.next in
             let done : HasDone writer longer
@@ -224,23 +224,23 @@ module _ {S : Type 0} (writer : Writer S) (t : TerminalType) (keys : List (ℕ �
       -- it ends one
       module _ (ends : step.ends_record ≡ true) (records : ℕ) (is : records ≡ min (old.records + 1) (2 ^ 64 - 1))
           (mid : S) (went : WentOut writer now mid step.reply) where
-        counts : (item : Item Element) → step.ends_record ≡ is_record item → (one_record item ≡ 1)
-            × (records ≡ old.records + one_record item) × (records ≡ records_from 0 items + one_record item)
+        counts : (item : Item Element) → step.ends_record ≡ is_record item → (records_in_item item ≡ 1)
+            × (records ≡ old.records + records_in_item item) × (records ≡ records_from 0 items + records_in_item item)
         counts item e =
-            let one : one_record item ≡ 1 = one_of_record item step.ends_record e ends in
-            let f : records ≡ old.records + one_record item =
+            let one : records_in_item item ≡ 1 = one_of_record item step.ends_record e ends in
+            let f : records ≡ old.records + records_in_item item =
             omega (arith, one, is, c.few, few) in
-            (one, f, f ∙ ap (λ n. n + one_record item) c.records)
+            (one, f, f ∙ ap (λ n. n + records_in_item item) c.records)
 
         now_due : (item : Item Element) → step.ends_record ≡ is_record item → due records (drop old.pressed keys)
-            ≡ due (records_from 0 items + one_record item) (keys_left_from 0 keys items)
+            ≡ due (records_from 0 items + records_in_item item) (keys_left_from 0 keys items)
         now_due item e = ap (λ z. due z (drop old.pressed keys)) (counts item e).2
-            ∙ ap (due (records_from 0 items + one_record item)) c.left
+            ∙ ap (due (records_from 0 items + records_in_item item)) c.left
 
         pub record_comes : (new : Player) (to : S) → AtStation old.station (λ bytes items side. length bytes + 1
             < 2 ^ 64 → HasDone writer bytes items (record old { records = records }) new mid to (outcome side
             (due records (drop old.pressed keys)))) → drop new.pressed keys ≡ later records (drop old.pressed keys)
-            → (next : List (Item Element)) × HasCome writer t keys start new to longer next
+            → (next : List (Item Element)) × HaveBroughtPlayer writer t keys start new to longer next
         record_comes new to done left = elim fronted [
           | inl i ↦ absurd (let e : true ≡ false = sym ends ∙ i.1 in cc)
           | inr taken ↦ (let item : Item Element = taken.0.item in
@@ -249,7 +249,7 @@ module _ {S : Type 0} (writer : Writer S) (t : TerminalType) (keys : List (ℕ �
                 item_comes step.reply taken.0 _ new mid to n.1 went (rw (← now_due item taken.1) (done longer (items
                     ++ item ∷ []) taken.0.next taken.0.leads room))
                     (left ∙ ap (λ z. later z (drop old.pressed keys)) n.2
-                    ∙ ap (later (records_from 0 items + one_record item)) c.left) (omega (arith, n.0)),
+                    ∙ ap (later (records_from 0 items + records_in_item item)) c.left) (omega (arith, n.0)),
               ))
         ]
 
@@ -266,7 +266,7 @@ module _ {S : Type 0} (writer : Writer S) (t : TerminalType) (keys : List (ℕ �
 -- the byte behind a front is refused, or its item
 pub refused_as : {S : Type 0} (writer : Writer S) (t : TerminalType) (keys : List (ℕ × Key))
     (start now : S) (old : Player) (new : StationParts) (bytes : List ℕ) (items : List (Item Element))
-    → HasCome writer t keys start old now bytes items → (piece front : List ℕ) (byte : ℕ) (rest : List ℕ)
+    → HaveBroughtPlayer writer t keys start old now bytes items → (piece front : List ℕ) (byte : ℕ) (rest : List ℕ)
     → piece ≡ front ++ byte ∷ rest → HoldsItems element_rules (bytes ++ front) items → (refusal : Refusal)
     → IsFrontedOn element_rules profile old.station new (bytes ++ (front ++ byte ∷ [])) items (behind t keys items).side
     (Err refusal) → IsRunFault t keys writer start now (length bytes) (bytes ++ piece) (fault_of refusal)

@@ -6,7 +6,7 @@ use C.{Attend}
 use C.{subst, OnOk, refl, None, Send, Some, Read, ◌∙◌, sym, ◌≡◌, Key, Err, Ok, ap, ℕ}
 use Rattle.std.specs.Option.{option_map}
 use Rattle.ws_keys.specs.declared.answer.Answer.{Answer}
-use Rattle.ws_session.specs.Displays.{HasPressed, ComesTo}
+use Rattle.ws_session.specs.Displays.{IsPressedOnDisplay, ComesTo}
 use Rattle.ws_session.specs.Alarms.{alarm_count}
 use Rattle.ws_session.specs.StationSide.{ProfileGives, ProfileParts, profile}
 use Rattle.ws_session.proofs.AlarmLaws.{alarms_behind_key}
@@ -46,14 +46,14 @@ module _ (d : ProfileParts) (side : StationSide) (given : ProfileGives side.happ
   -- an AID, by the pending read
   answers : (aid : ℕ) → (o : Option ReadKind) → profile.presses side (Send aid) ≡ answers_read side aid o
       → (new : ScreenParts) → ComesTo profile (on new) side (after_key side (Send aid))
-      → HasPressed profile d (on new) side (Send aid) (Ok (option_map (λ kind. Read (answer_bytes kind old aid)) o))
+      → IsPressedOnDisplay profile d (on new) side (Send aid) (Ok (option_map (λ kind. Read (answer_bytes kind old aid)) o))
   answers aid None is new led = (after_key side (Send aid), is, led)
   answers aid (Some kind) is new led =
       (after_key side (Send aid), kind, aid, is, ap (λ s. answer_bytes kind s aid) same, led)
 
   -- a key that isn't refused
   does : (key : Key) → key_refusal old key ≡ None → (new : ScreenParts)
-      → FollowsAll (events_by (edit_of old key)) old new → HasPressed profile d (on new) side key (Ok (answer_to old key))
+      → FollowsAll (events_by (edit_of old key)) old new → IsPressedOnDisplay profile d (on new) side key (Ok (answer_to old key))
   does (Send aid) none new f = answers aid _ (reacts (Send aid) None none
       ∙ ap (λ s. answers_read side aid s.pending) (sym same)) new (comes (Send aid) new f)
   does Attend none new f = (reacts Attend None none, (comes Attend new f).given)
@@ -61,8 +61,8 @@ module _ (d : ProfileParts) (side : StationSide) (given : ProfileGives side.happ
   does key none new f = (after_key side key, reacts key None none, comes key new f)
 
   pub pressed : (key : Key) (new : ScreenParts) (result : Result (Option Answer) KeyRefusal)
-      → IsPressed key old new result → OnOk result (FollowsAll (events_by (edit_of old key)) old new) → HasPressed
+      → IsPressed key old new result → OnOk result (FollowsAll (events_by (edit_of old key)) old new) → IsPressedOnDisplay
       profile d (on new) side key result
-  pressed key new (Ok sent) p f = subst (λ (s : Option Answer). HasPressed profile d (on new) side key (Ok s))
+  pressed key new (Ok sent) p f = subst (λ (s : Option Answer). IsPressedOnDisplay profile d (on new) side key (Ok s))
       (sym p.2) (does key p.0 new f)
   pressed key new (Err refusal) p f = (reacts key _ p.0, ap on p.1)

@@ -5,7 +5,7 @@ use Rattle.std.proofs.lemmas.List.{append-nil}
 use Rattle.ws_code.specs.Code.{Rules, Stands, IsChain, IsCut, IsPrefix, IsPrefixFree, IsSpelled, IsUnfinished}
 use Rattle.ws_code.specs.Code.{place_after, spelling_of}
 use Rattle.ws_code.specs.Keep.{holds_last}
-use Rattle.ws_code.specs.Run.{Reading, HasRun, IsAt, IsRun, RunsOn, StopsAtLast}
+use Rattle.ws_code.specs.Run.{Reading, HasReadValues, IsAt, IsRunOfValues, RunsOn, StopsAtLast}
 use Rattle.ws_code.specs.declared.keep.Kept.{Kept}
 use Rattle.ws_code.specs.declared.keep.Kept.TheVariants as kept
 use Rattle.ws_code.specs.declared.reason.Reason.{Reason}
@@ -40,7 +40,7 @@ module _ {Place U : Type 0} (rules : Rules Place U) where
     at_place = refl;
   })
 
-  pub read_run : (from to : Reading Place) (values : List ℕ) → (run : HasRun rules from values to)
+  pub read_run : (from to : Reading Place) (values : List ℕ) → (run : HasReadValues rules from values to)
       → from ≡ record { place = rules.first; begun = [] } → HasRead values run.units to
   read_run from to values run first = record {
     cut = record {
@@ -56,7 +56,7 @@ module _ {Place U : Type 0} (rules : Rules Place U) where
 
   abbrev pub IsSlotRun : Reading Place → List ℕ → Reading Place → Standing Place → Option U → End → Type 0
   IsSlotRun reading values to standing slot end =
-      IsRun rules InSlot HasEnough reading None values to standing slot end
+      IsRunOfValues rules InSlot HasEnough reading None values to standing slot end
 
   -- no unit is whole with these bytes
   runs_on : (reading : Reading Place) (values : List ℕ) (to : Reading Place) (slot : Option U)

@@ -19,8 +19,8 @@ AreNext bytes due = (later : List ℕ) × (due ≡ bytes ++ later) × (length by
 module _ {S R : Type 0} (writer : Writer S) (reader : Reader R) where
   -- The next of these bytes, at most 4,096, went into the line. They crossed, and then memory was wanting; or they did
   -- not.
-  abbrev pub IsCut : List ℕ → Line S R → Line S R → Fault → Type 0
-  IsCut due from to fault =
+  abbrev pub IsDeliveryCut : List ℕ → Line S R → Line S R → Fault → Type 0
+  IsDeliveryCut due from to fault =
       ((fault ≡ Memory) × (piece : Crossing) × AreNext piece.sent due
       × HaveCrossed writer reader from (piece ∷ []) to)
       ⊎ ((bytes : List ℕ) × (slice : List ℕ) × AreNext bytes due
@@ -35,7 +35,7 @@ module _ {S R : Type 0} (writer : Writer S) (reader : Reader R) where
     pub within : fewer ≤ count
     pub crossed : HaveCrossed writer reader from crossings last
     pub came : ComesDown old fewer crossings ends
-    pub cut : IsCut (take (count - fewer) ends.to_station) last to fault
+    pub cut : IsDeliveryCut (take (count - fewer) ends.to_station) last to fault
 
   -- a delivery to the host end: fewer of its bytes came, and the next of the others were cut
   pub record CutsUp (old : TwoEnds) (count : ℕ) (from to : Line S R) (fault : Fault) : Type 0 where
@@ -46,7 +46,7 @@ module _ {S R : Type 0} (writer : Writer S) (reader : Reader R) where
     pub within : fewer ≤ count
     pub crossed : HaveCrossed writer reader from crossings last
     pub came : ComesUp old fewer crossings ends
-    pub cut : IsCut (take (count - fewer) ends.to_host) last to fault
+    pub cut : IsDeliveryCut (take (count - fewer) ends.to_host) last to fault
 
 module _ {S R T Q : Type 0} (writer : Writer S) (reader : Reader R)
     (writer' : Writer T) (reader' : Reader Q) where

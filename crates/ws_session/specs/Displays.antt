@@ -68,14 +68,14 @@ module _ {D U H PlaceV V K R : Type 0} (d : DisplayOf D U H PlaceV V K R) where
 
   -- what a key gives a display: its refusal, with the display as it was; or the display that it comes to, and what it
   -- sends
-  abbrev pub HasPressed : D → D → SideOn H → K → Result (Option Answer) KeyRefusal → Type 0
-  HasPressed old new side key (Err refusal) = (d.presses side key ≡ RefusesKey (Refused refusal)) × (new ≡ old)
-  HasPressed old new side key (Ok None) = (next : SideOn H) × (d.presses side key ≡ Silent next)
+  abbrev pub IsPressedOnDisplay : D → D → SideOn H → K → Result (Option Answer) KeyRefusal → Type 0
+  IsPressedOnDisplay old new side key (Err refusal) = (d.presses side key ≡ RefusesKey (Refused refusal)) × (new ≡ old)
+  IsPressedOnDisplay old new side key (Ok None) = (next : SideOn H) × (d.presses side key ≡ Silent next)
       × ComesTo new side next
-  HasPressed old new side key (Ok (Some (Read body))) = (next : SideOn H) × (kind : ReadKind) × (aid : ℕ)
+  IsPressedOnDisplay old new side key (Ok (Some (Read body))) = (next : SideOn H) × (kind : ReadKind) × (aid : ℕ)
       × (d.presses side key ≡ Answers next kind aid) × (body ≡ answer_bytes kind (d.shows side.happened) aid)
       × ComesTo new side next
-  HasPressed old new side key (Ok (Some Attention)) = (d.presses side key ≡ Signals NoOperation ATN)
+  IsPressedOnDisplay old new side key (Ok (Some Attention)) = (d.presses side key ≡ Signals NoOperation ATN)
       × d.gives side.happened new
-  HasPressed old new side key (Ok (Some SystemRequest)) = (d.presses side key ≡ Signals NoOperation SRQ)
+  IsPressedOnDisplay old new side key (Ok (Some SystemRequest)) = (d.presses side key ≡ Signals NoOperation SRQ)
       × d.gives side.happened new

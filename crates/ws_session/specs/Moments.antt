@@ -52,11 +52,6 @@ abbrev pub outcome : StationSide → List Moment → Outcome
 outcome s [] = idle_outcome s
 outcome s (m ∷ ms) = outcome_of_both (at_moment s m) (outcome (at_moment s m).side ms)
 
--- the station doesn't refuse the item
-abbrev pub goes_on : Reaction StationSide (List (Item AnswerPart)) → Bool
-goes_on (Refuses reason) = false
-goes_on (GoesOn next items) = true
-
 -- the station doesn't refuse what arrives
 abbrev pub is_taken : StationSide → Moment → Bool
 is_taken s (Arrives item) = goes_on (station_takes s item)
@@ -80,15 +75,15 @@ later n [] = []
 later n (k ∷ ks) = if nat_lt n k.0 then k ∷ ks else later n ks
 
 -- one for a record, none for a Telnet command
-abbrev pub one_record : Item Element → ℕ
-one_record (RecordItem r) = 1
-one_record (TelnetItem token) = 0
+abbrev pub records_in_item : Item Element → ℕ
+records_in_item (RecordItem r) = 1
+records_in_item (TelnetItem token) = 0
 
 -- the moments of items, where so many records have been applied before them
 abbrev pub moments_from : ℕ → List (ℕ × Key) → List (Item Element) → List Moment
 moments_from n keys [] = due n keys
 moments_from n keys (item ∷ items) =
-    due n keys ++ Arrives item ∷ moments_from (n + one_record item) (later n keys) items
+    due n keys ++ Arrives item ∷ moments_from (n + records_in_item item) (later n keys) items
 
 -- keys and items in the order in which they happen: each key behind as many records as it names
 abbrev pub moments : List (ℕ × Key) → List (Item Element) → List Moment

@@ -9,19 +9,19 @@ use Rattle.ws_stream.specs.AnswerParts.{answer_rules}
 use Rattle.ws_stream.specs.declared.element.Element.{Element}
 use Rattle.ws_keys.specs.declared.key.Key.{Key}
 use Rattle.ws_session.specs.declared.player.Player.{Player}
-use Rattle.ws_session.specs.Moments.{Outcome, later, one_record}
+use Rattle.ws_session.specs.Moments.{Outcome, later, records_in_item}
 use Rattle.ws_session.specs.StationLeads.{StationLeads}
 use Rattle.ws_session.specs.StationRun.{IsBehind, behind, run_text, refusal_count}
 
 -- how many records the items are, before which there were so many
 abbrev pub records_from : ℕ → List (Item Element) → ℕ
 records_from n [] = n
-records_from n (item ∷ items) = records_from (n + one_record item) items
+records_from n (item ∷ items) = records_from (n + records_in_item item) items
 
 -- the keys that aren't due behind the items
 abbrev pub keys_left_from : ℕ → List (ℕ × Key) → List (Item Element) → List (ℕ × Key)
 keys_left_from n keys [] = later n keys
-keys_left_from n keys (item ∷ items) = keys_left_from (n + one_record item) (later n keys) items
+keys_left_from n keys (item ∷ items) = keys_left_from (n + records_in_item item) (later n keys) items
 
 module _ {S : Type 0} (writer : Writer S) where
   -- the player has done this, and what it wrote went out
@@ -34,7 +34,7 @@ module _ {S : Type 0} (writer : Writer S) where
     pub wrote : WentOut writer from to (plain_spelling answer_rules did.written)
 
   -- the bytes have brought it here
-  pub record HasCome (terminal : TerminalType) (keys : List (ℕ
+  pub record HaveBroughtPlayer (terminal : TerminalType) (keys : List (ℕ
       × Key)) (start : S) (player : Player) (now : S) (bytes : List ℕ) (items : List (Item Element)) : Type 0 where
     pub is_behind : IsBehind terminal keys bytes items player.station
     pub refused : player.keys_refused ≡ refusal_count (behind terminal keys items).refused
@@ -48,10 +48,10 @@ module _ {S : Type 0} (writer : Writer S) where
   abbrev pub AtPlayer : List (ℕ × Key) → Player → S → ℕ → (S → TerminalType → List ℕ → Type 0) → Type 0
   AtPlayer keys player now more Holds =
       (start : S) (terminal : TerminalType) (bytes : List ℕ) (items : List (Item Element))
-      → HasCome terminal keys start player now bytes items → length bytes + more + 1 < 2 ^ 64
+      → HaveBroughtPlayer terminal keys start player now bytes items → length bytes + more + 1 < 2 ^ 64
       → Holds start terminal bytes
 
   -- the bytes have brought it here, whatever items they hold
   abbrev pub IsBrought : TerminalType → List (ℕ × Key) → S → Player → S → List ℕ → Type 0
   IsBrought terminal keys start player now bytes =
-      (items : List (Item Element)) × HasCome terminal keys start player now bytes items
+      (items : List (Item Element)) × HaveBroughtPlayer terminal keys start player now bytes items

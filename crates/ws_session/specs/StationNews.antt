@@ -6,7 +6,7 @@ use Rattle.ws_code.specs.Code.{Rules, IsChain, spelling_of}
 use Rattle.ws_telnet.specs.declared.token.Sub.{Sub as ASub}
 use Rattle.ws_telnet.specs.declared.token.Telnet.{Telnet}
 use Rattle.ws_telnet.specs.declared.token.Telnet.TheVariants as telnet
-use Rattle.ws_nego.specs.Options.{bytes_of}
+use Rattle.ws_nego.specs.Options.{telnet_bytes}
 use Rattle.ws_nego.specs.Station.{station_answer}
 use Rattle.ws_record.specs.declared.record.Item.{Item}
 use Rattle.ws_record.specs.declared.news.News.{News}
@@ -31,7 +31,7 @@ module _ {D P U H PlaceV V K R : Type 0} (rules : Rules P U) (d : DisplayOf D U 
 
   -- what a station makes of a Telnet command: it answers it
   abbrev pub IsAnsweredOn : PartsOn D P → Telnet → PartsOn D P → Result (StationStep R) Refusal → Type 0
-  IsAnsweredOn old token new result = IsMid new result (bytes_of (station_answer old.options token).reply)
+  IsAnsweredOn old token new result = IsMid new result (telnet_bytes (station_answer old.options token).reply)
       × (new ≡ record old { options = (station_answer old.options token).after })
 
   -- what a station makes of news that came with the last byte taken; a subnegotiation is taken out

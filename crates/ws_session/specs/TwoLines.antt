@@ -48,8 +48,8 @@ pub record TwoEnds : Type 0 where
   pub events : List Event
 
 -- where a running session stands
-abbrev pub ends_of : WorldParts → TwoEnds
-ends_of w = record {
+abbrev pub two_ends_of : WorldParts → TwoEnds
+two_ends_of w = record {
   station = w.station;
   host = w.host;
   to_station = drop w.at_station w.down;

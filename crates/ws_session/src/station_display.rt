@@ -7,7 +7,7 @@ ghost use Rattle.ws_screen.specs.ScreenParts.{ScreenParts};
 ghost use Rattle.ws_screen.specs.declared.read_kind.ReadKind.{ReadKind as AReadKind};
 ghost use Rattle.ws_session.specs.Alarms.{alarm_count};
 ghost use Rattle.ws_session.specs.StationSide.{answer_record};
-ghost use Rattle.ws_session.specs.Displays.{DisplayOf, SideOn, IsApplied, HasPressed};
+ghost use Rattle.ws_session.specs.Displays.{DisplayOf, SideOn, IsApplied, IsPressedOnDisplay};
 
 use ws_code::{Body, Reason};
 use ws_keys::{Answer, KeyRefusal};
@@ -70,7 +70,7 @@ pub trait StationDisplay: Drop {
     /// As `ws_keys::press`; the display is then as it was.
     fn press(&mut self, key: Self::Key) -> Result<Option<Answer>, KeyRefusal>
         ensures pressed { (side : SideOn Happened) → does.gives side.happened self.old
-            → HasPressed does self.old self.new side key result }
+            → IsPressedOnDisplay does self.old self.new side key result }
         ensures same { OnErr result (self.new ≡ self.old) };
 
     /// The screen.

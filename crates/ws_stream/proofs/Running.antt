@@ -2,7 +2,7 @@ use Rattle.std.specs.Prelude.{◌≡◌, ◌≢◌, ◌⊎◌, ℕ, List, [], �
 use Rattle.std.proofs.Common.{inl, inr, sym, ap, subst}
 use Rattle.ws_code.specs.Code.{IsSpelled, IsUnfinished}
 use Rattle.ws_code.specs.Keep.{holds_last}
-use Rattle.ws_code.specs.Run.{Reading, IsAt, RunsOn, IsRun}
+use Rattle.ws_code.specs.Run.{Reading, IsAt, RunsOn, IsRunOfValues}
 use Rattle.ws_code.specs.declared.keep.Kept.{Kept}
 use Rattle.ws_code.specs.declared.keep.Kept.TheVariants as kept
 use Rattle.ws_code.specs.declared.run.End.{End}
@@ -63,7 +63,7 @@ module _ {K : Type 0} where
       (end : End) → RunsOn element_rules holds may_answer from old values (reading_of m) mid
       → Takes holds may_answer m.place (unfinished_of m) mid b m' new end → values' ≡ values ++ b ∷ []
       → (end ≡ More → ⊥)
-      → IsRun element_rules holds may_answer from old values' (reading_of m') (standing_of m') new end
+      → IsRunOfValues element_rules holds may_answer from old values' (reading_of m') (standing_of m') new end
   takes_last m values' b m' new More on takes more ne = absurd (ne refl)
   takes_last {holds} {may_answer} {from} {old} {values} {mid} m values' b m' new Enough on takes more ne =
       elim takes [

@@ -40,11 +40,11 @@ pub record IsWaiting (old : Commands) (phase : Phase) (new : Commands) (end : En
   pub begun : unfinished_of new ≡ unfinished_in phase old.bytes old.kinds old.controls
 
 -- Behind the bytes of an element that has begun at the place, the byte goes on with it, or is refused.
-abbrev pub GoesOn : Place → List ℕ → ℕ → Commands → End → Type 0
-GoesOn place begun b machine More = IsStep element_rules place begun b machine.place (unfinished_of machine) answer.More
-GoesOn place begun b machine (Bad reason) =
+abbrev pub GoesOnWithElement : Place → List ℕ → ℕ → Commands → End → Type 0
+GoesOnWithElement place begun b machine More = IsStep element_rules place begun b machine.place (unfinished_of machine) answer.More
+GoesOnWithElement place begun b machine (Bad reason) =
     IsStep element_rules place begun b machine.place (unfinished_of machine) (answer.Bad reason)
-GoesOn place begun b machine _ = ⊥
+GoesOnWithElement place begun b machine _ = ⊥
 
 module _ {K : Type 0} where
   -- the keep has answered so to the element, and the machine stands behind it
@@ -67,6 +67,6 @@ module _ {K : Type 0} where
   abbrev pub Takes : (K → List Element → List ℕ → Type 0) → (Kept → Type 0) → Place → List ℕ → K → ℕ → Commands → K
       → End → Type 0
   Takes holds may_answer place begun old b machine new end =
-      (GoesOn place begun b machine end × (new ≡ old))
+      (GoesOnWithElement place begun b machine end × (new ≡ old))
       ⊎ ((element : Element) × IsSpelled element_rules place (begun ++ b ∷ []) element
       × IsKept holds may_answer old element machine new end)

@@ -12,7 +12,7 @@ use Rattle.ws_code.specs.Code.{IsChain, IsCut, AreBytes, spelling_of}
 use Rattle.ws_telnet.proofs.Streams.{ends_with, stream_of, stream_right, stream_asks, open_stream}
 use Rattle.ws_telnet.proofs.Streams.{left_by, ended_by, left-append, ended-append, of_parts, left_open, parted}
 use Rattle.ws_telnet.proofs.TokenLists.{chain_front}
-use Rattle.ws_telnet.specs.Streams.{IsStream, joined, EndsRecord, LastRecordMeets, EndsWith}
+use Rattle.ws_telnet.specs.Streams.{IsStream, joined, EndsRecord, LastRecordMeets, EndsWithToken}
 use Rattle.ws_telnet.specs.Token.{token_rules, token_spelling, IsToken}
 use Rattle.ws_telnet.specs.TokenLaws.{token_prefix_free, token_begins, token_nonempty}
 use Rattle.ws_telnet.specs.declared.token.Token.TheVariants.{Data, Eor, Telnet as TelnetToken}
@@ -145,7 +145,7 @@ module _ (P Q : List ℕ → Type 0) where
         ]
 
 -- the last of whole tokens, and the record bytes before it
-pub one_end : (bytes so_far other : List ℕ) (s t : Token) → EndsWith bytes so_far s → EndsWith bytes other t
+pub one_end : (bytes so_far other : List ℕ) (s t : Token) → EndsWithToken bytes so_far s → EndsWithToken bytes other t
     → (so_far ≡ other) × (s ≡ t)
 one_end bytes so_far other s t e f =
     let last = same_last _ _ s t (one_list token_rules token_prefix_free token_begins _ _ e.tokens.chain f.tokens.chain

@@ -1,6 +1,6 @@
 use Rattle.std.proofs.Common.{◌≡◌, ℕ, List, [], ◌∷◌, ◌++◌, refl, ◌<◌, ◌≢◌, ne_eqb}
 use Rattle.ws_code.specs.Code.{IsSpelled, IsUnfinished}
-use Rattle.ws_telnet.specs.Machine.{unfinished_of}
+use Rattle.ws_telnet.specs.Machine.{unfinished_token}
 use Rattle.ws_telnet.specs.Token.{token_rules, token_spelling, IsToken}
 use Rattle.ws_telnet.specs.TokenLaws.{doubled_plain, token_begins}
 use Rattle.ws_telnet.specs.Words.{IsWord}
@@ -31,13 +31,13 @@ pub plain_byte : (b : ℕ) → b < 256 → b ≢ 0xff → IsSpelled token_rules 
 plain_byte b fits ne = record
     { stands = record { is_unit = fits; may_follow = refl }; spelled = doubled_plain b (ne_eqb b 0xff ne) }
 
-pub fresh_begins : (machine : Tokens) → unfinished_of machine ≡ []
-    → IsUnfinished token_rules tt (unfinished_of machine)
+pub fresh_begins : (machine : Tokens) → unfinished_token machine ≡ []
+    → IsUnfinished token_rules tt (unfinished_token machine)
 fresh_begins machine e = rw e (token_begins tt)
 
 -- a machine is inside a token, or between two
 pub word_begun : (machine : Tokens) (begun : List ℕ) (b : ℕ) (w : Word) → IsWord begun b machine w
-    → IsUnfinished token_rules tt (unfinished_of machine)
+    → IsUnfinished token_rules tt (unfinished_token machine)
 word_begun machine begun b word.More i = i.1
 word_begun machine begun b (word.Bad reason) i = fresh_begins _ i.2
 word_begun machine begun b w i = fresh_begins _ i.1

@@ -44,7 +44,7 @@ pub record IsStream (P : List ℕ → Type 0) (bytes : List ℕ) : Type 0 where
   pub spelled : bytes ≡ spelling_of token_rules (joined parts rest)
 
 -- the bytes are whole tokens, the last of them behind these data bytes since the EOR before
-pub record EndsWith (bytes record_so_far : List ℕ) (last : Token) : Type 0 where
+pub record EndsWithToken (bytes record_so_far : List ℕ) (last : Token) : Type 0 where
   pub parts : List (List Token)
   pub rest : List Token
   pub no_eor : AllByRecursion HasNoEor parts × HasNoEor rest
@@ -54,7 +54,7 @@ pub record EndsWith (bytes record_so_far : List ℕ) (last : Token) : Type 0 whe
 
 -- The bytes end with a whole EOR command, and these are the data bytes before it, back to the EOR before that.
 abbrev pub EndsRecord : List ℕ → List ℕ → Type 0
-EndsRecord bytes ended = EndsWith bytes ended Eor
+EndsRecord bytes ended = EndsWithToken bytes ended Eor
 
 -- The bytes end elsewhere, perhaps inside a command, and these are the data bytes since the last whole EOR.
 pub record LeavesOpen (bytes record_so_far : List ℕ) : Type 0 where

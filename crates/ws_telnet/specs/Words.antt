@@ -2,7 +2,7 @@
 
 use Rattle.std.specs.Prelude.{ℕ, ◌≡◌, List, [], ◌∷◌, ◌++◌}
 use Rattle.ws_code.specs.Code.{IsSpelled, IsPrefix, IsUnfinished}
-use Rattle.ws_telnet.specs.Machine.{unfinished_of, sub_of}
+use Rattle.ws_telnet.specs.Machine.{unfinished_token, sub_of}
 use Rattle.ws_telnet.specs.Token.{token_rules, token_reason}
 use Rattle.ws_telnet.specs.declared.codes.TheConstants.{IAC}
 use Rattle.ws_telnet.specs.declared.token.Telnet.TheVariants as telnet
@@ -13,19 +13,19 @@ use Rattle.ws_telnet.specs.declared.word.Word.{Word}
 use Rattle.ws_telnet.specs.declared.word.Word.TheVariants.{More, Data, Eor, Command, Option, Sub, Bad}
 
 -- the bytes are the spelling of the token, and the machine stands between tokens
-abbrev pub IsWhole : List ℕ → Tokens → Token → Type 0
-IsWhole bytes machine token = IsSpelled token_rules tt bytes token × (unfinished_of machine ≡ [])
+abbrev pub IsWholeToken : List ℕ → Tokens → Token → Type 0
+IsWholeToken bytes machine token = IsSpelled token_rules tt bytes token × (unfinished_token machine ≡ [])
 
 -- Behind the bytes of a begun token the byte makes this word, and leaves this machine: with it the token is still
 -- unfinished, or is whole, or it is refused. Behind a whole token and a refused byte the machine stands between tokens.
 abbrev pub IsWord : List ℕ → ℕ → Tokens → Word → Type 0
 IsWord begun b machine More =
-    (unfinished_of machine ≡ begun ++ b ∷ []) × IsUnfinished token_rules tt (unfinished_of machine)
-IsWord begun b machine Data = IsWhole (begun ++ b ∷ []) machine (token.Data IAC)
-IsWord begun b machine Eor = IsWhole (begun ++ b ∷ []) machine token.Eor
-IsWord begun b machine (Command code) = IsWhole (begun ++ b ∷ []) machine (token.Telnet (telnet.Command code))
+    (unfinished_token machine ≡ begun ++ b ∷ []) × IsUnfinished token_rules tt (unfinished_token machine)
+IsWord begun b machine Data = IsWholeToken (begun ++ b ∷ []) machine (token.Data IAC)
+IsWord begun b machine Eor = IsWholeToken (begun ++ b ∷ []) machine token.Eor
+IsWord begun b machine (Command code) = IsWholeToken (begun ++ b ∷ []) machine (token.Telnet (telnet.Command code))
 IsWord begun b machine (Option verb option) =
-    IsWhole (begun ++ b ∷ []) machine (token.Telnet (telnet.Option verb option))
-IsWord begun b machine Sub = IsWhole (begun ++ b ∷ []) machine (token.Telnet (telnet.Sub (sub_of machine)))
+    IsWholeToken (begun ++ b ∷ []) machine (token.Telnet (telnet.Option verb option))
+IsWord begun b machine Sub = IsWholeToken (begun ++ b ∷ []) machine (token.Telnet (telnet.Sub (sub_of machine)))
 IsWord begun b machine (Bad reason) =
-    (IsPrefix token_rules tt (begun ++ b ∷ []) → ⊥) × (reason ≡ token_reason begun b) × (unfinished_of machine ≡ [])
+    (IsPrefix token_rules tt (begun ++ b ∷ []) → ⊥) × (reason ≡ token_reason begun b) × (unfinished_token machine ≡ [])

@@ -1,7 +1,7 @@
 ghost use Rattle.std.specs.Prelude.{◌≡◌, ◌≢◌, ◌++◌, ◌∷◌, ◌<◌, [], true, false, ◌⊎◌, IfSome, IfNone};
 ghost use Rattle.ws_telnet.specs.Token.{token_rules, token_reason, command_byte, verb_byte, doubled};
 ghost use Rattle.ws_code.specs.Code.{IsUnfinished};
-ghost use Rattle.ws_telnet.specs.Machine.{unfinished_of, sub_begun, sub_of};
+ghost use Rattle.ws_telnet.specs.Machine.{unfinished_token, sub_begun, sub_of};
 ghost use Rattle.ws_telnet.specs.Words.{IsWord};
 ghost use Rattle.ws_telnet.specs.TokenLaws.{token_nonempty, token_bytes_are, token_prefix_free, token_begins};
 
@@ -70,8 +70,8 @@ impl Tokens {
     /// Whether a token has begun and isn't whole.
     #[inline(always)]
     pub fn is_inside(&self) -> bool
-        ensures yes { result ≡ true → unfinished_of self.now ≢ [] }
-        ensures no { result ≡ false → unfinished_of self.now ≡ [] }
+        ensures yes { result ≡ true → unfinished_token self.now ≢ [] }
+        ensures no { result ≡ false → unfinished_token self.now ≡ [] }
     {
         !matches!(self.phase, Phase::Begin)
     }
@@ -79,9 +79,9 @@ impl Tokens {
     /// Takes an FF between tokens, which begins one (RFC 854, "TELNET COMMAND STRUCTURE").
     #[inline(always)]
     pub fn begin(&mut self)
-        requires { unfinished_of self.old ≡ [] }
-        ensures begun { unfinished_of self.new ≡ IAC ∷ [] }
-        ensures more { IsUnfinished token_rules tt (unfinished_of self.new) }
+        requires { unfinished_token self.old ≡ [] }
+        ensures begun { unfinished_token self.new ≡ IAC ∷ [] }
+        ensures more { IsUnfinished token_rules tt (unfinished_token self.new) }
     {
         self.phase = Phase::Iac;
     }
@@ -108,9 +108,9 @@ impl Tokens {
     /// Takes a byte of a token that has begun (RFC 854, "TELNET COMMAND STRUCTURE"; subnegotiations: RFC 855).
     #[inline(always)]
     pub fn go_on(&mut self, byte: u8) -> Word
-        requires inside { unfinished_of self.old ≢ [] }
-        requires begun { IsUnfinished token_rules tt (unfinished_of self.old) }
-        ensures { IsWord (unfinished_of self.old) byte self.new result }
+        requires inside { unfinished_token self.old ≢ [] }
+        requires begun { IsUnfinished token_rules tt (unfinished_token self.old) }
+        ensures { IsWord (unfinished_token self.old) byte self.new result }
     {
         match self.phase {
             Phase::Begin | Phase::Iac => self.after_iac(byte),
@@ -129,9 +129,9 @@ impl Tokens {
 
     /// Takes the subnegotiation that has just ended out of the machine.
     pub fn sub(&mut self) -> Sub
-        requires { unfinished_of self.old ≡ [] }
+        requires { unfinished_token self.old ≡ [] }
         ensures sub { result ≡ sub_of self.old }
-        ensures between { unfinished_of self.new ≡ [] }
+        ensures between { unfinished_token self.new ≡ [] }
     {
         Sub {
             option: self.option,
@@ -143,7 +143,7 @@ impl Tokens {
     #[inline(always)]
     fn command(&mut self, byte: u8) -> Word
         // Behind an IAC between two tokens, with a byte that goes with it alone.
-        requires between { unfinished_of self.old ≡ [] }
+        requires between { unfinished_token self.old ≡ [] }
         requires no_data { byte ≢ IAC }
         requires no_eor { byte ≢ EOR }
         requires no_sb { byte ≢ SB }
@@ -166,7 +166,7 @@ impl Tokens {
     // The option of a subnegotiation, whose data follow.
     #[inline(always)]
     fn take_option(&mut self, option: u8)
-        ensures { unfinished_of self.new ≡ IAC ∷ SB ∷ option ∷ [] }
+        ensures { unfinished_token self.new ≡ IAC ∷ SB ∷ option ∷ [] }
     {
         self.option = option;
         self.content.clear();
@@ -177,8 +177,8 @@ impl Tokens {
     #[inline(always)]
     fn after_content(&mut self, byte: u8) -> Word
         requires phase { self.old.phase ≡ Phase.Content }
-        requires begun { IsUnfinished token_rules tt (unfinished_of self.old) }
-        ensures { IsWord (unfinished_of self.old) byte self.new result }
+        requires begun { IsUnfinished token_rules tt (unfinished_token self.old) }
+        ensures { IsWord (unfinished_token self.old) byte self.new result }
     {
         if byte == IAC {
             self.phase = Phase::ContentIac;
@@ -191,8 +191,8 @@ impl Tokens {
     #[inline(always)]
     fn after_content_iac(&mut self, byte: u8) -> Word
         requires phase { self.old.phase ≡ Phase.ContentIac }
-        requires begun { IsUnfinished token_rules tt (unfinished_of self.old) }
-        ensures { IsWord (unfinished_of self.old) byte self.new result }
+        requires begun { IsUnfinished token_rules tt (unfinished_token self.old) }
+        ensures { IsWord (unfinished_token self.old) byte self.new result }
     {
         if byte == IAC {
             return self.take_content(byte);
@@ -210,10 +210,10 @@ impl Tokens {
     fn take_content(&mut self, byte: u8) -> Word
         requires begun { IsUnfinished token_rules tt
             (sub_begun self.old.option self.old.content.items) }
-        requires completes { unfinished_of self.old ++ byte ∷ []
+        requires completes { unfinished_token self.old ++ byte ∷ []
             ≡ sub_begun self.old.option self.old.content.items ++ doubled byte }
-        requires reason { token_reason (unfinished_of self.old) byte ≡ Reason.SubTooLong }
-        ensures { IsWord (unfinished_of self.old) byte self.new result }
+        requires reason { token_reason (unfinished_token self.old) byte ≡ Reason.SubTooLong }
+        ensures { IsWord (unfinished_token self.old) byte self.new result }
     {
         if self.content.is_full() {
             self.phase = Phase::Begin;
@@ -234,7 +234,7 @@ impl Code for Tokens {
 
     ghost place = { λ _. tt };
 
-    ghost unfinished = { unfinished_of };
+    ghost unfinished = { unfinished_token };
 
     ghost nonempty = { token_nonempty };
 

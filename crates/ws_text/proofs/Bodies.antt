@@ -1,7 +1,7 @@
 use Rattle.ws_text.proofs.Common.{◌≡◌, ◌≤◌, ℕ, ◌+◌, true, List, [], ◌∷◌, ◌++◌, length, sym, ap, subst, ◌∙◌, arith}
 use Rattle.ws_text.proofs.Common.{length-append, append_assoc, flat_map-append, Rules, IsChain, CanBeEncoded, Opcode}
 use Rattle.ws_text.proofs.Common.{Record}
-use Rattle.ws_text.proofs.Common.{with_more, Follows, MayStand}
+use Rattle.ws_text.proofs.Common.{with_more, StandUpTo, MayStand}
 use Rattle.ws_code.specs.Code.{place_after, spelling_of, Stands}
 use Rattle.ws_code.proofs.CodeLaws.{chain_more, place_after_more}
 use Rattle.ws_record.specs.declared.record.Item.TheVariants as an_item
@@ -18,8 +18,8 @@ module _ {Place U : Type 0} (rules : Rules Place U) where
       ≡ length (spelling_of rules us) + length (rules.spelling u)
   spelled_more us u = omega (arith, spelled_both us (u ∷ []), length-append (rules.spelling u) [])
 
-  pub follows_more : (us : List U) (u : U) (p q : Place) (n m : ℕ) → Follows rules us p n → Stands rules p u
-      → m ≡ n + length (rules.spelling u) → m ≤ 65525 → q ≡ rules.after u → Follows rules (us ++ u ∷ []) q m
+  pub follows_more : (us : List U) (u : U) (p q : Place) (n m : ℕ) → StandUpTo rules us p n → Stands rules p u
+      → m ≡ n + length (rules.spelling u) → m ≤ 65525 → q ≡ rules.after u → StandUpTo rules (us ++ u ∷ []) q m
   follows_more us u p q n m f stands total fits after =
       let at : Stands rules (place_after rules rules.first us) u =
       subst (λ (z : Place). Stands rules z u) f.leads stands in
@@ -36,7 +36,7 @@ module _ {Place U : Type 0} (rules : Rules Place U) where
   chain_cut place (u ∷ us) vs c = let cut = chain_cut (rules.after u) us vs c.1 in ((c.0, cut.0), cut.1)
 
   -- what follows can be encoded where a body may end
-  pub can_be_encoded : (r : Record U) (p : Place) (n : ℕ) → Follows rules r.body p n → rules.may_end p ≡ true
+  pub can_be_encoded : (r : Record U) (p : Place) (n : ℕ) → StandUpTo rules r.body p n → rules.may_end p ≡ true
       → CanBeEncoded rules (an_item.Record r)
   can_be_encoded r p n f ends = (
     record { chain = f.chain; ends = subst (λ (z : Place). rules.may_end z ≡ true) f.leads ends },
@@ -48,7 +48,7 @@ module _ {Place U : Type 0} (rules : Rules Place U) where
   encoded_stands r can = (can.0.chain, omega (arith, can.1))
 
   -- behind what follows, what may stand follows too
-  pub must_follow : (us : List U) (u : U) (p : Place) (n : ℕ) → Follows rules us p n → MayStand rules (us ++ u ∷ [])
+  pub must_follow : (us : List U) (u : U) (p : Place) (n : ℕ) → StandUpTo rules us p n → MayStand rules (us ++ u ∷ [])
       → (rules.may_follow p u ≡ true) × (n + length (rules.spelling u) ≤ 65525)
   must_follow us u p n f may =
       let stands = (chain_cut rules.first us (u ∷ []) may.0).1.0 in (

@@ -1,6 +1,6 @@
 use Rattle.ws_text.proofs.Common.{◌≡◌, ◌<◌, ℕ, ◌+◌, true, false, List, [], ◌∷◌, ◌++◌, length, refl, sym, ap, subst, ◌∙◌}
 use Rattle.ws_text.proofs.Common.{Result, Ok, Err, MatchResult, IfOk, IfErr, lines, append-nil, Rules, Opcode, Record}
-use Rattle.ws_text.proofs.Common.{TextFault, Line, Memory, OpenRecord, with_more, with_line, IsOpen, IsLine, Wording}
+use Rattle.ws_text.proofs.Common.{TextFault, Line, Memory, OpenRecord, with_more, with_line, IsOpenRecord, IsLine, Wording}
 use Rattle.ws_text.proofs.Common.{IsClear, PutsLine}
 use Rattle.ws_text.specs.BodyLines.{AddUnits, CanAdd, IsAddFault, new_record}
 use Rattle.ws_text.specs.Parts.Part.{Units}
@@ -34,7 +34,7 @@ module _ {Place U : Type 0} (rules : Rules Place U) (w : Wording U) where
 
     -- units that were made of so many lines
     abbrev pub BodySoFar : OpenRecord Place U → List ℕ → List ℕ → ℕ → Type 0
-    BodySoFar = SoFar (λ o units. IsOpen rules o (made_of units))
+    BodySoFar = SoFar (λ o units. IsOpenRecord rules o (made_of units))
         (λ before units. AddUnits rules w before (new_record opcode) (made_of units))
 
     pub body_goes_on : {o next : OpenRecord Place U} {text rest behind line : List ℕ}

@@ -30,18 +30,18 @@ pub use Rattle.ws_record.specs.declared.record.Record.{Record}
 pub use Rattle.ws_stream.specs.declared.answer_part.AnswerPart.{AnswerPart}
 pub use Rattle.ws_stream.specs.declared.answer_part.AnswerPart.TheVariants.{Byte, At, Head}
 pub use Rattle.ws_stream.specs.declared.element.Element.{Element}
-pub use Rattle.ws_text.specs.AnswerLines.{is_byte, part_line, run_line, runs_of, runs_with}
+pub use Rattle.ws_text.specs.AnswerLines.{is_byte, part_line, part_run_line, part_runs, part_runs_with}
 pub use Rattle.ws_text.specs.AnswerWords.{answer_wording}
-pub use Rattle.ws_text.specs.ElementWords.{ArePairs, element_wording, AreBytes, AreField, AreFill, ArePlace}
+pub use Rattle.ws_text.specs.ElementWords.{ArePairs, element_wording, AreBytesInWord, AreField, AreFill, ArePlace}
 pub use Rattle.ws_text.specs.ElementWords.{format_and_controls}
 pub use Rattle.ws_text.specs.ItemLines.{words_text, element_line, is_put, element_lines, head_text, hex_behind_blank}
-pub use Rattle.ws_text.specs.Items.{AreItems, with_more, with_line, Leads, Adds, IsScreen, Reads, EndsHere, IsTextFault}
-pub use Rattle.ws_text.specs.Names.{commands, look_up, verbs}
+pub use Rattle.ws_text.specs.Items.{AreItems, with_more, with_line, ReadsLines, Adds, IsScreen, ReadsLine, EndsHere, IsTextFault}
+pub use Rattle.ws_text.specs.Names.{telnet_commands, look_up, verbs}
 pub use Rattle.ws_text.specs.Parts.{Part as part, Part}
 pub use Rattle.ws_text.specs.Printing.{Prints}
-pub use Rattle.ws_text.specs.Reading.{IsOpen, MayStand, Puts, PutsLine, AreRead, Follows}
+pub use Rattle.ws_text.specs.Reading.{IsOpenRecord, MayStand, Puts, PutsLine, AreRead, StandUpTo}
 pub use Rattle.ws_text.specs.TextLines.{AreUnits, IsLine, IsWorded, AreTyped, IsItemLine, IsHeadText, IsTelnetText}
-pub use Rattle.ws_text.specs.TextLines.{Means, AreBehindPlace, AreEach, AreHex, IsOpcodeText, IsRun, behind_first}
+pub use Rattle.ws_text.specs.TextLines.{MeansPart, AreBehindPlace, AreEach, AreHex, IsOpcodeText, IsByteRun, behind_first}
 pub use Rattle.ws_text.specs.TextLines.AreUnits.{run, one}
 pub use Rattle.ws_text.specs.TextLines.IsHeadText.{long, short}
 pub use Rattle.ws_text.specs.TextLines.IsWorded.{item, indented}

@@ -1,5 +1,5 @@
 use Rattle.ws_text.proofs.Common.{◌≡◌, ℕ, true, List, [], ◌∷◌, ◌++◌, refl, sym, subst, arith, Rules, CanBeEncoded}
-use Rattle.ws_text.proofs.Common.{CanAllBeEncoded, Item, Part, Adds, AreItems, Leads, with_line, Follows, Wording}
+use Rattle.ws_text.proofs.Common.{CanAllBeEncoded, Item, Part, Adds, AreItems, ReadsLines, with_line, StandUpTo, Wording}
 use Rattle.ws_code.proofs.Lists.{AllByRecursion-append, AllByRecursion-front}
 use Rattle.ws_text.specs.Parts.Part.{Nothing, Head, Command, Units}
 use Rattle.ws_text.proofs.Bodies.{can_be_encoded}
@@ -8,7 +8,7 @@ use Rattle.ws_record.specs.declared.record.Item.TheVariants as an_item
 -- Items that lines spell can be encoded.
 
 module _ {Place U : Type 0} (rules : Rules Place U) (begins_whole : rules.may_end rules.first ≡ true) where
-  none_follow : Follows rules [] rules.first 0
+  none_follow : StandUpTo rules [] rules.first 0
   none_follow = record { chain = tt; leads = refl; counted = refl; fits = omega arith }
 
   with_last : (from to : List (Item U)) (last : Item U) → CanAllBeEncoded rules from
@@ -32,7 +32,7 @@ module _ {Place U : Type 0} (rules : Rules Place U) (begins_whole : rules.may_en
 
   module _ (w : Wording U) where
     leads_encoded : (lines : List (List ℕ)) (from to : List (Item U)) → CanAllBeEncoded rules from
-        → Leads rules w lines from to → CanAllBeEncoded rules to
+        → ReadsLines rules w lines from to → CanAllBeEncoded rules to
     leads_encoded [] from to can e = subst (λ (z : List (Item U)). CanAllBeEncoded rules z) (sym e) can
     leads_encoded (line ∷ lines) from to can h =
         leads_encoded lines h.0 to (adds_encoded w h.2.0 from h.0 can h.2.2) h.3

@@ -6,7 +6,7 @@ use Rattle.ws_extended.specs.declared.extended_answer_part.ExtendedAnswerPart.{E
 use Rattle.ws_extended.specs.declared.extended_answer_part.ExtendedAnswerPart.TheVariants.{Profile, QueryReply, Of}
 use Rattle.ws_extended.specs.declared.extended_element.ExtendedElement.TheVariants as elements
 use Rattle.ws_text.specs.ExtendedAnswerLines.{ToldRun, with_field, with_cell, told_runs_with, told_runs, told_run_line}
-use Rattle.ws_text.specs.ExtendedAnswerLines.{told_part_lines, told_text, told_line, kind_of, is_field, is_cell}
+use Rattle.ws_text.specs.ExtendedAnswerLines.{told_part_lines, told_part_text, told_line, kind_of, is_field, is_cell}
 use Rattle.ws_text.specs.ExtendedAnswerLines.ToldRun.{Fields, Cells}
 use Rattle.ws_text.specs.declared.extended_answer_text.ByteKind.{ByteKind}
 use Rattle.ws_text.specs.declared.extended_answer_text.ByteKind.TheVariants.{Field, Cell, Neither}
@@ -65,6 +65,6 @@ pub all_told_lines : (parts : List ExtendedAnswerPart) → lines_behind kind_of 
 all_told_lines parts = lines_by_runs Neither parts
 
 -- the front of a reply to a query
-pub reply_line : 10 ∷ codes "  QUERY-REPLY 000088003AD97080" ≡ told_text QueryReply
+pub reply_line : 10 ∷ codes "  QUERY-REPLY 000088003AD97080" ≡ told_part_text QueryReply
 unfolding encode_with
 reply_line = refl

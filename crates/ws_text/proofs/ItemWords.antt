@@ -1,5 +1,5 @@
 use Rattle.ws_text.proofs.Common.{◌≡◌, ℕ, List, [], ◌∷◌, length, refl, sym, ap, subst, ◌∙◌, arith, codes, Opcode}
-use Rattle.ws_text.proofs.Common.{IsHexPair, Part, part, IsOpcodeText, IsHeadText, IsItemLine, AreUnits, IsRun, short}
+use Rattle.ws_text.proofs.Common.{IsHexPair, Part, part, IsOpcodeText, IsHeadText, IsItemLine, AreUnits, IsByteRun, short}
 use Rattle.ws_text.proofs.Common.{long, one, run, head_of, tail_of, Wording, IsClear, RunName, ◌++◌}
 use Rattle.ws_text.proofs.Common.{Option, Some, None, MatchOption, Bor, ◌↔◌}
 use Rattle.ws_text.specs.declared.line.LineUnits.{LineUnits}
@@ -40,7 +40,7 @@ module _ {U : Type 0} where
 module _ {U : Type 0} (w : Wording U) where
   -- a run's name and its word are that run
   pub only_run : IsClear w → (name : List ℕ) (words : List (List ℕ)) (n : RunName) (hex : List ℕ) → w.IsNamed name n
-      → words ≡ (w.front n ++ hex) ∷ [] → (us : List U) → AreUnits w name words us → IsRun w n hex us
+      → words ≡ (w.front n ++ hex) ∷ [] → (us : List U) → AreUnits w name words us → IsByteRun w n hex us
   only_run clear name words n hex is e us (one x h f) = absurd (clear.no_run name words x n is h)
   only_run clear name words n hex is e us (run m other f g h) =
       run_here w clear name words m n other hex us f is g e h
@@ -56,7 +56,7 @@ module _ {U : Type 0} (w : Wording U) where
   pub units_of_run : IsClear w → (name : List ℕ) (words : List (List ℕ)) (n : RunName) (found : Option (LineUnits U))
       → w.IsNamed name n
       → MatchOption found ((hex : List ℕ) → words ≡ (w.front n ++ hex) ∷ [] → ⊥)
-      (λ f. (hex : List ℕ) × (words ≡ (w.front n ++ hex) ∷ []) × ((us : List U) → IsRun w n hex us ↔ Are w f us))
+      (λ f. (hex : List ℕ) × (words ≡ (w.front n ++ hex) ∷ []) × ((us : List U) → IsByteRun w n hex us ↔ Are w f us))
       → MatchOption found ((us : List U) → AreUnits w name words us → ⊥)
       (λ f. (us : List U) → AreUnits w name words us ↔ Are w f us)
   units_of_run clear name words n None is h = no_words clear name words n is h

@@ -1,9 +1,9 @@
 use Rattle.ws_text.proofs.Common.{◌≡◌, ◌⊎◌, inl, inr, ℕ, List, [], ◌∷◌, ◌++◌, ◌==◌, length, get_or, refl, sym, ap}
 use Rattle.ws_text.proofs.Common.{subst, ◌∙◌, arith, codes, Some, Verb, Telnet, Command, Negotiate, Sub, Opcode}
-use Rattle.ws_text.proofs.Common.{opcode_byte, words_of, IsSmall, IsHexPair, AreBytes, Part, part, IsTelnetText}
+use Rattle.ws_text.proofs.Common.{opcode_byte, words_of, IsSmall, IsHexPair, AreBytesInWord, Part, part, IsTelnetText}
 use Rattle.ws_text.proofs.Common.{IsOpcodeText, IsHeadText, IsItemLine, AreUnits, AreTyped, AreBehindPlace, IsWorded}
-use Rattle.ws_text.proofs.Common.{Means, IsLine, short, long, item, indented, empty, comment, typed, worded, head_of}
-use Rattle.ws_text.proofs.Common.{tail_of, Wording, IsClear, onto_first, look_up, commands, verbs}
+use Rattle.ws_text.proofs.Common.{MeansPart, IsLine, short, long, item, indented, empty, comment, typed, worded, head_of}
+use Rattle.ws_text.proofs.Common.{tail_of, Wording, IsClear, onto_first, look_up, telnet_commands, verbs}
 use Rattle.ws_telnet.specs.declared.token.Sub.{Sub as ASub}
 use Rattle.ws_record.proofs.Reading.{opcode_same}
 use Rattle.ws_text.specs.WordLaws.{small_same, bytes_same, some_same}
@@ -25,7 +25,7 @@ same_sub a b p q = λ i. record { option = p i; data_ = q i }
 
 telnet_same : (name : List ℕ) (words : List (List ℕ)) (s t : Telnet) → IsTelnetText name words s
     → IsTelnetText name words t → s ≡ t
-telnet_same name words (Command c) (Command d) a b = ap (λ z. Command z) (some_same c d (look_up name commands) a.1 b.1)
+telnet_same name words (Command c) (Command d) a b = ap (λ z. Command z) (some_same c d (look_up name telnet_commands) a.1 b.1)
 telnet_same name words (Command c) (Negotiate w p) a b = absurd (omega (arith, ap length (sym a.0 ∙ b.1)))
 telnet_same name words (Command c) (Sub q) a b = absurd (omega (arith, ap length (sym a.0 ∙ b.2)))
 telnet_same name words (Negotiate v o) (Command d) a b = absurd (omega (arith, ap length (sym b.0 ∙ a.1)))
@@ -40,7 +40,7 @@ telnet_same name words (Sub s) (Sub q) a b =
     let number : a.0 ≡ b.0 = ap head_of (sym a.2 ∙ b.2) in
     let more : a.1 ≡ b.1 = ap tail_of (sym a.2 ∙ b.2) in
     let option = small_same b.0 s.option q.option (subst (λ (z : List ℕ). IsSmall z s.option) number a.4) b.4 in
-    let bytes = bytes_same b.1 s.data_ q.data_ (subst (λ (z : List (List ℕ)). AreBytes z s.data_) more a.5) b.5 in
+    let bytes = bytes_same b.1 s.data_ q.data_ (subst (λ (z : List (List ℕ)). AreBytesInWord z s.data_) more a.5) b.5 in
     ap (λ z. Sub z) (same_sub s q option bytes)
 
 opcode_text_same : (m n x y : List ℕ) (o p : Opcode) → x ≡ y → IsOpcodeText m x o → IsOpcodeText n y p → o ≡ p
@@ -134,7 +134,7 @@ module _ {U : Type 0} (w : Wording U) (clear : IsClear w) where
 
   -- an empty line and a comment say nothing, and a line of characters says their units
   nothing_same : (line : List ℕ) (says : Part U) → (line ≡ []) ⊎ ((text : List ℕ) × (line ≡ codes "#" ++ text))
-      → Means w line says → says ≡ part.Nothing
+      → MeansPart w line says → says ≡ part.Nothing
   nothing_same line says is (empty e p) = p
   nothing_same line says is (comment x e p) = p
   nothing_same line says (inl none) (typed x us e a p) = absurd (omega (arith, ap length (sym none ∙ e)))
@@ -146,12 +146,12 @@ module _ {U : Type 0} (w : Wording U) (clear : IsClear w) where
       absurd (no_comment hash.0 says (subst (λ (z : List ℕ). IsWorded w (words_of z) says) hash.1 h))
 
   characters_same : (line text : List ℕ) (us : List U) (says : Part U) → line ≡ codes "  TEXT " ++ text
-      → AreTyped w text us → Means w line says → says ≡ part.Units us
+      → AreTyped w text us → MeansPart w line says → says ≡ part.Units us
   characters_same line text us says e are h =
       let found = typed_line w clear line text e says h in
       found.2 ∙ ap (λ z. part.Units z) (typed_same w text found.0 us found.1 are)
 
-  pub means_same : (line : List ℕ) (s t : Part U) → Means w line s → Means w line t → s ≡ t
+  pub means_same : (line : List ℕ) (s t : Part U) → MeansPart w line s → MeansPart w line t → s ≡ t
   means_same line s t (empty e p) h = p ∙ sym (nothing_same line t (inl e) h)
   means_same line s t (comment x e p) h = p ∙ sym (nothing_same line t (inr (x, e)) h)
   means_same line s t (typed x us e a p) h = p ∙ sym (characters_same line x us t e a h)

@@ -1,6 +1,6 @@
 use Rattle.ws_text.proofs.Common.{◌≡◌, ℕ, List, [], ◌∷◌, ◌++◌, length, refl, sym, ap, subst, ◌∙◌, arith, length-append}
 use Rattle.ws_text.proofs.Common.{Result, Ok, Err, MatchResult, IfOk, IfErr, Rules, Item, Record, TextFault, Line}
-use Rattle.ws_text.proofs.Common.{Memory, Part, Adds, AreItems, EndsHere, IsScreen, IsTextFault, Leads, Reads}
+use Rattle.ws_text.proofs.Common.{Memory, Part, Adds, AreItems, EndsHere, IsScreen, IsTextFault, ReadsLines, ReadsLine}
 use Rattle.ws_text.proofs.Common.{with_line, Wording, IsClear, Vec, Global}
 use Rattle.ws_text.specs.Parts.Part.{Nothing, Head, Command, Units}
 use Rattle.ws_text.proofs.OneLine.{one_line}
@@ -34,7 +34,7 @@ module _ {Place U : Type 0} (rules : Rules Place U) where
       ∙ ap (λ r. y.0 ++ an_item.Record (with_line w r us) ∷ []) records ∙ sym y.3
 
   module _ (w : Wording U) (clear : IsClear w) where
-    reads_same : (line : List ℕ) (from a b : List (Item U)) → Reads rules w line from a → Reads rules w line from b → a
+    reads_same : (line : List ℕ) (from a b : List (Item U)) → ReadsLine rules w line from a → ReadsLine rules w line from b → a
         ≡ b
     reads_same line from a b x y =
         adds_same w y.0 from a b (subst (λ (z : Part U). Adds rules w z from a)
@@ -46,31 +46,31 @@ module _ {Place U : Type 0} (rules : Rules Place U) where
 
     -- where lines lead to items, those behind the first ones lead there from what these lead to
     rest_leads : (read behind before after : List (List ℕ)) (from a b : List (Item U))
-        → read ++ behind ≡ before ++ after → Leads rules w read from a → EndsHere behind → Leads rules w before from b
-        → (more : List (List ℕ)) × (more ++ behind ≡ after) × Leads rules w more b a
+        → read ++ behind ≡ before ++ after → ReadsLines rules w read from a → EndsHere behind → ReadsLines rules w before from b
+        → (more : List (List ℕ)) × (more ++ behind ≡ after) × ReadsLines rules w more b a
     rest_leads read behind [] after from a b e x p y =
-        (read, e, subst (λ (z : List (Item U)). Leads rules w read z a) (sym y) x)
+        (read, e, subst (λ (z : List (Item U)). ReadsLines rules w read z a) (sym y) x)
     rest_leads [] behind (n ∷ before) after from a b e x p y = absurd (y.1 (ends_at behind n (before ++ after) e p))
     rest_leads (m ∷ read) behind (n ∷ before) after from a b e x p y =
         let head : m ≡ n = cc in
         let tail : read ++ behind ≡ before ++ after = cc in
-        let next = reads_same n from x.0 y.0 (subst (λ (z : List ℕ). Reads rules w z from x.0) head x.2) y.2 in
-        let same = subst (λ (z : List (Item U)). Leads rules w read z a) next x.3 in
+        let next = reads_same n from x.0 y.0 (subst (λ (z : List ℕ). ReadsLine rules w z from x.0) head x.2) y.2 in
+        let same = subst (λ (z : List (Item U)). ReadsLines rules w read z a) next x.3 in
         rest_leads read behind before after y.0 a b tail same p y.3
 
     none_left : (more behind after : List (List ℕ)) (a b : List (Item U)) → more ++ behind ≡ after → EndsHere after
-        → Leads rules w more b a → a ≡ b
+        → ReadsLines rules w more b a → a ≡ b
     none_left [] behind after a b e q l = l
     none_left (line ∷ more) behind after a b e q l = absurd (l.1 (ends_at after line (more ++ behind) (sym e) q))
 
     -- no line of those that spell items is bad
     no_bad : (more behind after : List (List ℕ)) (line : List ℕ) (a b : List (Item U)) → more ++ behind ≡ line ∷ after
-        → EndsHere behind → Leads rules w more b a → ¬ IsScreen line
-        → ((to : List (Item U)) → ¬ Reads rules w line b to) → ⊥
+        → EndsHere behind → ReadsLines rules w more b a → ¬ IsScreen line
+        → ((to : List (Item U)) → ¬ ReadsLine rules w line b to) → ⊥
     no_bad [] behind after line a b e p l other bad = other (ends_at behind line after e p)
     no_bad (m ∷ more) behind after line a b e p l other bad =
         let head : m ≡ line = cc in
-        bad l.0 (subst (λ (z : List ℕ). Reads rules w z b l.0) head l.2)
+        bad l.0 (subst (λ (z : List ℕ). ReadsLine rules w z b l.0) head l.2)
 
     one_list : (text : List ℕ) (a b : List (Item U)) → AreItems rules w text a → AreItems rules w text b → a ≡ b
     one_list text a b x y =

@@ -1,5 +1,5 @@
 use Rattle.ws_text.proofs.Common.{◌≡◌, ℕ, List, [], ◌∷◌, ◌++◌, map, refl, sym, ap, subst, ◌∙◌, Some, Wording, IsClear}
-use Rattle.ws_text.proofs.Common.{AreUnits, AreTyped, IsRun, RunName, behind_first, one, run, head_of}
+use Rattle.ws_text.proofs.Common.{AreUnits, AreTyped, IsByteRun, RunName, behind_first, one, run, head_of}
 use Rattle.ws_text.specs.declared.line.LineUnits.{LineUnits}
 use Rattle.ws_text.specs.declared.line.LineUnits.TheVariants.{One, Hex, Typed}
 use Rattle.ws_text.specs.Found.{Are}
@@ -25,7 +25,7 @@ behind_same (x ∷ front) a b e =
 
 module _ {U : Type 0} (w : Wording U) where
   -- a run of hex says one list of units
-  run_same : (n : RunName) (hex : List ℕ) (us vs : List U) → IsRun w n hex us → IsRun w n hex vs → us ≡ vs
+  run_same : (n : RunName) (hex : List ℕ) (us vs : List U) → IsByteRun w n hex us → IsByteRun w n hex vs → us ≡ vs
   run_same n hex us vs r s =
       let bytes = hex_same hex r.1.0 s.1.0 r.1.1 s.1.1 in
       r.2 ∙ ap (λ z. behind_first (w.first n) z) (r.1.2.1 ∙ ap (λ z. map (w.byte n) z) bytes ∙ sym s.1.2.1) ∙ sym s.2
@@ -33,10 +33,10 @@ module _ {U : Type 0} (w : Wording U) where
   -- the run of a name and its word is this one
   pub run_here : IsClear w → (name : List ℕ) (words : List (List ℕ)) (m n : RunName) (x y : List ℕ) (us : List U)
       → w.IsNamed name m → w.IsNamed name n → words ≡ (w.front m ++ x) ∷ [] → words ≡ (w.front n ++ y) ∷ []
-      → IsRun w m x us → IsRun w n y us
+      → IsByteRun w m x us → IsByteRun w n y us
   run_here clear name words m n x y us a b e f r =
-      let at : RunName → Type 0 = λ (z : RunName). words ≡ (w.front z ++ x) ∷ [] → IsRun w z x us → IsRun w n y us in
-      let here : at n = λ g s. subst (λ (z : List ℕ). IsRun w n z us)
+      let at : RunName → Type 0 = λ (z : RunName). words ≡ (w.front z ++ x) ∷ [] → IsByteRun w z x us → IsByteRun w n y us in
+      let here : at n = λ g s. subst (λ (z : List ℕ). IsByteRun w n z us)
       (behind_same (w.front n) x y (ap head_of (sym g ∙ f))) s in
       subst at (sym (clear.one_run name m n a b)) here e r
 

@@ -1,8 +1,8 @@
 use Rattle.ws_text.proofs.Common.{◌≡◌, ℕ, ◌+◌, ◌<◌, true, List, [], ◌∷◌, ◌++◌, length, refl, sym, ap, subst, ◌∙◌}
 use Rattle.ws_text.proofs.Common.{Bool, false}
 use Rattle.ws_text.proofs.Common.{arith, false≢true}
-use Rattle.ws_text.proofs.Common.{append_assoc, ◌↔◌, append-nil, Rules, CanBeEncoded, Opcode, Record, with_more, IsOpen}
-use Rattle.ws_text.proofs.Common.{AreHex, IsRun, MayStand, None, PutsLine, RunName, behind_first}
+use Rattle.ws_text.proofs.Common.{append_assoc, ◌↔◌, append-nil, Rules, CanBeEncoded, Opcode, Record, with_more, IsOpenRecord}
+use Rattle.ws_text.proofs.Common.{AreHex, IsByteRun, MayStand, None, PutsLine, RunName, behind_first}
 use Rattle.ws_text.proofs.Common.{with_line, Puts, Wording, AreOneByOne, Part, part, OpenRecord, Option, Some}
 use Rattle.ws_text.specs.declared.line.LineUnits.{LineUnits}
 use Rattle.ws_text.specs.declared.line.Found.{Found}
@@ -20,7 +20,7 @@ same_units us vs e = cc
 module _ {Place U : Type 0} (rules : Rules Place U) where
   -- a unit that may not follow
   pub no_follow : (o : OpenRecord Place U) (r : Record U) (u : U) (units : List U)
-      → (rules.may_follow o.place u ≡ true → ⊥) → IsOpen rules o r → units ≡ u ∷ []
+      → (rules.may_follow o.place u ≡ true → ⊥) → IsOpenRecord rules o r → units ≡ u ∷ []
       → MayStand rules (r.body ++ units) → ⊥
   no_follow o r u units bad is e may =
       bad (must_follow rules r.body u o.place o.size is.follows
@@ -28,7 +28,7 @@ module _ {Place U : Type 0} (rules : Rules Place U) where
 
   -- a unit for which there is no room
   pub no_room : (o : OpenRecord Place U) (r : Record U) (u : U) (units : List U) (size : ℕ)
-      → size ≡ o.size + length (rules.spelling u) → 65525 < size → IsOpen rules o r → units ≡ u ∷ []
+      → size ≡ o.size + length (rules.spelling u) → 65525 < size → IsOpenRecord rules o r → units ≡ u ∷ []
       → MayStand rules (r.body ++ units) → ⊥
   no_room o r u units size total more is e may =
       let fits = (must_follow rules r.body u o.place o.size is.follows
@@ -51,14 +51,14 @@ module _ {Place U : Type 0} (rules : Rules Place U) where
     pub record PutSoFar (Are : List U → Type 0) (old new : OpenRecord Place U) : Type 0 where
       pub units : List U
       pub so : Are units
-      pub put : (r : Record U) → IsOpen rules old r → IsOpen rules new (with_line w r units)
+      pub put : (r : Record U) → IsOpenRecord rules old r → IsOpenRecord rules new (with_line w r units)
 
   module _ (w : Wording U) (by_one : AreOneByOne w) where
     pub put_none : (Are : List U → Type 0) (old : OpenRecord Place U) → Are [] → PutSoFar w Are old old
     put_none Are old so = record {
       units = [];
       so = so;
-      put = λ r is. subst (λ (z : List U). IsOpen rules old (record r { body = z }))
+      put = λ r is. subst (λ (z : List U). IsOpenRecord rules old (record r { body = z }))
           (sym (append-nil r.body) ∙ ap (λ z. r.body ++ z) (sym (by_one.none r.body))) is;
     }
 
@@ -91,7 +91,7 @@ module _ {Place U : Type 0} (rules : Rules Place U) where
       byte_put {More = More} {new = new} byte p h step = record {
         units = p.units ++ h.0;
         so = subst (λ (z : List U). More (p.units ++ z)) (sym h.1.3) (step h.1.0 h.1.1 h.1.2);
-        put = λ r is. subst (λ (z : Record U). IsOpen rules new z) (line_and_line r p.units h.0)
+        put = λ r is. subst (λ (z : Record U). IsOpenRecord rules new z) (line_and_line r p.units h.0)
             (h.2 (with_line w r p.units) (p.put r is));
       }
 
@@ -99,7 +99,7 @@ module _ {Place U : Type 0} (rules : Rules Place U) where
       pub byte_not_put : {Are : List U → Type 0} {old mid : OpenRecord Place U} (new : OpenRecord Place U)
           (byte : Option ℕ) → (p : PutSoFar w Are old mid) → Puts rules w (IsByte byte) mid new false → (all : List U)
           → (b : ℕ) × (more : List U) × (byte ≡ Some b) × w.IsByte n b × (all ≡ p.units ++ w.byte n b ∷ more)
-          → (r : Record U) → IsOpen rules old r → MayStand rules (with_line w r all).body → ⊥
+          → (r : Record U) → IsOpenRecord rules old r → MayStand rules (with_line w r all).body → ⊥
       byte_not_put new byte p bad all next r is may =
           let us = w.byte n next.0 ∷ [] in
           bad (with_line w r p.units) us (p.put r is) (next.0, next.2, next.3, refl)
@@ -118,12 +118,12 @@ module _ {Place U : Type 0} (rules : Rules Place U) where
     led_put More new first true p h = (
       first ∷ h.0,
       (h.0, h.1, refl),
-      λ r is. subst (λ (z : Record U). IsOpen rules new z) (line_and_line r (first ∷ []) h.0)
-          (h.2 (with_line w r (first ∷ [])) (subst (λ (z : List U). IsOpen rules _ (with_line w r z)) p.1 (p.2 r is))),
+      λ r is. subst (λ (z : Record U). IsOpenRecord rules new z) (line_and_line r (first ∷ []) h.0)
+          (h.2 (with_line w r (first ∷ [])) (subst (λ (z : List U). IsOpenRecord rules _ (with_line w r z)) p.1 (p.2 r is))),
     )
     led_put More new first false p h = λ r units is led may.
         let us : List U = first ∷ [] in
-        h (with_line w r us) led.0 (subst (λ (z : List U). IsOpen rules _ (with_line w r z)) p.1 (p.2 r is)) led.1
+        h (with_line w r us) led.0 (subst (λ (z : List U). IsOpenRecord rules _ (with_line w r z)) p.1 (p.2 r is)) led.1
         (subst (λ (z : Record U). MayStand rules z.body) (sym (line_and_line r us led.0))
         (subst (λ (z : List U). MayStand rules (with_line w r z).body) led.2 may))
 
@@ -138,25 +138,25 @@ module _ {Place U : Type 0} (rules : Rules Place U) where
   pub led_run : (w : Wording U) (n : RunName) (hex : List ℕ) (first : U) (old new : OpenRecord Place U) (put : Bool)
       → Some first ≡ w.first n
       → Puts rules w (λ units. (more : List U) × AreHex w n hex more × (units ≡ first ∷ more)) old new put
-      → Puts rules w (IsRun w n hex) old new put
+      → Puts rules w (IsByteRun w n hex) old new put
   led_run w n hex first old new put is h =
-      puts_on w (λ units. (more : List U) × AreHex w n hex more × (units ≡ first ∷ more)) (IsRun w n hex) old new put
+      puts_on w (λ units. (more : List U) × AreHex w n hex more × (units ≡ first ∷ more)) (IsByteRun w n hex) old new put
       (λ us r. (r.0, r.1, r.2 ∙ ap (λ z. behind_first z r.0) is))
       (λ us r. (r.0, r.1, r.2 ∙ ap (λ z. behind_first z r.0) (sym is))) h
 
   pub bare_run : (w : Wording U) (n : RunName) (hex : List ℕ) (old new : OpenRecord Place U) (put : Bool)
-      → None ≡ w.first n → Puts rules w (AreHex w n hex) old new put → Puts rules w (IsRun w n hex) old new put
+      → None ≡ w.first n → Puts rules w (AreHex w n hex) old new put → Puts rules w (IsByteRun w n hex) old new put
   bare_run w n hex old new put is h =
-      puts_on w (AreHex w n hex) (IsRun w n hex) old new put
+      puts_on w (AreHex w n hex) (IsByteRun w n hex) old new put
       (λ us r. (us, r, ap (λ z. behind_first z us) is))
       (λ us r. subst (λ (z : List U). AreHex w n hex z)
       (sym (r.2 ∙ ap (λ z. behind_first z r.0) (sym is))) r.1) h
 
   -- a unit that is another where it stands
   pub settled_unit : (w : Wording U) {o : OpenRecord Place U} (r : Record U) (u v : U)
-      → w.behind r.body (u ∷ []) ≡ v ∷ [] → IsOpen rules o (with_more r (v ∷ []))
-      → IsOpen rules o (with_line w r (u ∷ []))
-  settled_unit w {o} r u v e is = subst (λ (z : List U). IsOpen rules o (with_more r z)) (sym e) is
+      → w.behind r.body (u ∷ []) ≡ v ∷ [] → IsOpenRecord rules o (with_more r (v ∷ []))
+      → IsOpenRecord rules o (with_line w r (u ∷ []))
+  settled_unit w {o} r u v e is = subst (λ (z : List U). IsOpenRecord rules o (with_more r z)) (sym e) is
 
   -- a line's units were put, behind which the record may end, or not
   pub line_put : (w : Wording U) (found : LineUnits U) (old new : OpenRecord Place U) (put : Bool)

@@ -1,9 +1,9 @@
 use Rattle.ws_text.proofs.Common.{◌≡◌, inr, ℕ, List, [], ◌∷◌, ◌++◌, true, false, refl, sym, subst, ◌∙◌, Option, Some}
 use Rattle.ws_text.proofs.Common.{None, Rules, Telnet, CanBeEncoded, Opcode, Item, Record, OpenRecord, Adds, with_line}
-use Rattle.ws_text.proofs.Common.{Part, part, AreRead, IsOpen, PutsLine, Wording}
+use Rattle.ws_text.proofs.Common.{Part, part, AreRead, IsOpenRecord, PutsLine, Wording}
 use Rattle.ws_text.specs.declared.line.LineUnits.{LineUnits}
 use Rattle.ws_text.specs.declared.reading.Reading.{Reading}
-use Rattle.ws_text.specs.Reading.{Holds, EndsIn, FoundAdds, Takes}
+use Rattle.ws_text.specs.Reading.{HasGathered, EndsIn, FoundAdds, GoesOnToItems}
 use Rattle.ws_text.specs.Found.{Are}
 use Rattle.ws_text.specs.declared.gathered.Gathered.{Gathered}
 use Rattle.ws_text.proofs.OneReading.{last_same, same_record}
@@ -15,8 +15,8 @@ use Rattle.ws_text.specs.declared.line.Found.TheVariants as found
 module _ {Place U : Type 0} (rules : Rules Place U) where
   module _ (w : Wording U) where
     pub head_read : (items : Gathered (Item U)) (o : OpenRecord Place U) (from : List (Item U)) (flags : ℕ)
-        (opcode : Opcode) → Holds items from → IsOpen rules o (record { flags = flags; opcode = opcode; body = [] })
-        → Takes rules (FoundAdds rules w (found.Head flags opcode) from)
+        (opcode : Opcode) → HasGathered items from → IsOpenRecord rules o (record { flags = flags; opcode = opcode; body = [] })
+        → GoesOnToItems rules (FoundAdds rules w (found.Head flags opcode) from)
         (Some (record { items = items; last = Some o }))
     head_read items o from flags opcode held is = (
       from ++ an_item.Record (record { flags = flags; opcode = opcode; body = [] }) ∷ [],
@@ -25,8 +25,8 @@ module _ {Place U : Type 0} (rules : Rules Place U) where
     )
 
     pub command_read : (items : Gathered (Item U)) (from : List (Item U)) (t : Telnet)
-        → Holds items (from ++ an_item.Telnet t ∷ [])
-        → Takes rules (FoundAdds rules w (found.Command t) from) (Some (record { items = items; last = None }))
+        → HasGathered items (from ++ an_item.Telnet t ∷ [])
+        → GoesOnToItems rules (FoundAdds rules w (found.Command t) from) (Some (record { items = items; last = None }))
     command_read items from t held =
         let to = from ++ an_item.Telnet t ∷ [] in
         (to, (part.Command t, refl, refl), record { before = to; held = held; last = (refl, inr (from, t, refl)) })
@@ -35,7 +35,7 @@ module _ {Place U : Type 0} (rules : Rules Place U) where
     pub units_read : (reading : Reading Place U) (o new : OpenRecord Place U)
         (units : LineUnits U) (from : List (Item U)) → AreRead rules reading from → reading.last ≡ Some o
         → PutsLine rules w (Are w units) o new true
-        → Takes rules (FoundAdds rules w (found.Units units) from)
+        → GoesOnToItems rules (FoundAdds rules w (found.Units units) from)
         (Some (record { items = reading.items; last = Some new }))
     units_read reading o new units from are e h =
         let last = subst (λ (z : Option (OpenRecord Place U)). EndsIn rules are.before z from) e are.last in
@@ -53,7 +53,7 @@ module _ {Place U : Type 0} (rules : Rules Place U) where
     -- units that can't stand there
     pub no_units_read : (reading : Reading Place U) (o new : OpenRecord Place U) (units : LineUnits U)
         (from : List (Item U)) → AreRead rules reading from → reading.last ≡ Some o
-        → PutsLine rules w (Are w units) o new false → Takes rules (FoundAdds rules w (found.Units units) from) None
+        → PutsLine rules w (Are w units) o new false → GoesOnToItems rules (FoundAdds rules w (found.Units units) from) None
     no_units_read reading o new units from are e bad = λ to h.
         let last = subst (λ (z : Option (OpenRecord Place U)). EndsIn rules are.before z from) e are.last in
         let adds = subst (λ (z : Part U). Adds rules w z from to) h.1.2 h.2 in
@@ -65,6 +65,6 @@ module _ {Place U : Type 0} (rules : Rules Place U) where
 
   -- items of another kind, which are these all the same
   pub takes_on : (P Q : List (Item U) → Type 0) (r : Option (Reading Place U)) → ((to : List (Item U)) → P to → Q to)
-      → ((to : List (Item U)) → Q to → P to) → Takes rules P r → Takes rules Q r
+      → ((to : List (Item U)) → Q to → P to) → GoesOnToItems rules P r → GoesOnToItems rules Q r
   takes_on P Q None to from h = λ items q. h items (from items q)
   takes_on P Q (Some new) to from h = (h.0, to h.0 h.1, h.2)

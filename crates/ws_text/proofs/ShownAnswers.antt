@@ -1,7 +1,7 @@
 use Rattle.ws_text.proofs.Common.{◌≡◌, ℕ, ◌+◌, ◌/◌, ◌%◌, List, [], ◌∷◌, ◌++◌, refl, sym, ap, ◌∙◌, arith, append_assoc}
 use Rattle.ws_text.proofs.Common.{codes, AllByRecursion, flat_map, join_with_byte, decimal, encode_upper, COLUMNS, Item}
-use Rattle.ws_text.proofs.Common.{AnswerPart, Head, Byte, At, AreItems, AreUnits, one, run, Run, Bytes, Other, run_line}
-use Rattle.ws_text.proofs.Common.{runs_of, runs_with, answer_wording}
+use Rattle.ws_text.proofs.Common.{AnswerPart, Head, Byte, At, AreItems, AreUnits, one, run, Run, Bytes, Other, part_run_line}
+use Rattle.ws_text.proofs.Common.{part_runs, part_runs_with, answer_wording}
 use Rattle.ws_stream.specs.AnswerParts.{answer_rules, IsPart}
 use Rattle.ws_text.specs.AnswerLines.{answer_text, part_text}
 use Rattle.ws_text.specs.Shown.{ShowsAnswers}
@@ -56,28 +56,28 @@ part_back (Byte byte) h =
 
 -- their runs
 with_back : (u : AnswerPart) (runs : List (Run AnswerPart)) → flat_map (run_units answer_rules answer_wording (λ us. us))
-    (runs_with u runs) ≡ u ∷ flat_map (run_units answer_rules answer_wording (λ us. us)) runs
+    (part_runs_with u runs) ≡ u ∷ flat_map (run_units answer_rules answer_wording (λ us. us)) runs
 with_back (Byte b) [] = refl
 with_back (Byte b) (Bytes bytes ∷ runs) = refl
 with_back (Byte b) (Other u ∷ runs) = refl
 with_back u runs = refl
 
-runs_back : (us : List AnswerPart) → flat_map (run_units answer_rules answer_wording (λ us. us)) (runs_of us) ≡ us
+runs_back : (us : List AnswerPart) → flat_map (run_units answer_rules answer_wording (λ us. us)) (part_runs us) ≡ us
 runs_back [] = refl
-runs_back (u ∷ us) = with_back u (runs_of us) ∙ ap (λ z. u ∷ z) (runs_back us)
+runs_back (u ∷ us) = with_back u (part_runs us) ∙ ap (λ z. u ∷ z) (runs_back us)
 
 abbrev AreRight : List (Run AnswerPart) → Type 0
 AreRight runs = AllByRecursion (IsRunRight answer_rules answer_wording) runs
 
-with_right : (u : AnswerPart) (runs : List (Run AnswerPart)) → IsPart u → AreRight runs → AreRight (runs_with u runs)
+with_right : (u : AnswerPart) (runs : List (Run AnswerPart)) → IsPart u → AreRight runs → AreRight (part_runs_with u runs)
 with_right (Byte b) [] h r = ((omega arith, (h, tt)), tt)
 with_right (Byte b) (Bytes bytes ∷ runs) h r = ((omega arith, (h, r.0.1)), r.1)
 with_right (Byte b) (Other u ∷ runs) h r = ((omega arith, (h, tt)), r)
 with_right u runs h r = (h, r)
 
-runs_right : (us : List AnswerPart) → AllByRecursion IsPart us → AreRight (runs_of us)
+runs_right : (us : List AnswerPart) → AllByRecursion IsPart us → AreRight (part_runs us)
 runs_right [] h = tt
-runs_right (u ∷ us) h = with_right u (runs_of us) h.0 (runs_right us h.1)
+runs_right (u ∷ us) h = with_right u (part_runs us) h.0 (runs_right us h.1)
 
 answers_printed : ByRuns answer_rules answer_wording
 answers_printed = record {
@@ -95,10 +95,10 @@ answers_printed = record {
   no_front = refl;
   no_first = refl;
   takes = λ bytes h. h;
-  runs_of = runs_of;
+  part_runs = part_runs;
   runs_back = runs_back;
   runs_right = runs_right;
-  run_line = run_line;
+  part_run_line = part_run_line;
   bytes_joined = λ bytes. refl;
   other_joined = λ u. ap (λ z. 10 ∷ 32 ∷ 32 ∷ z) (sym (part_joined u));
   text_of = answer_text;

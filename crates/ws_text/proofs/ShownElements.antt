@@ -11,8 +11,8 @@ use Rattle.ws_stream.specs.Parts.{is_kind}
 use Rattle.ws_stream.specs.declared.element.Element.TheVariants.{ClearUnit, ClearFormat, Write, ReadInput, ReadMdt}
 use Rattle.ws_stream.specs.declared.element.Element.TheVariants.{ReadMdtAlternate, Soh, Ra, Ea, Sba, Ic, Mc, Sf, Put}
 use Rattle.ws_text.specs.declared.kind.Kind.TheVariants as kind
-use Rattle.ws_text.specs.Shown.{Shows}
-use Rattle.ws_text.specs.ItemLines.{item_text, run_line, runs_of, runs_with, element_text, field_text, format_text}
+use Rattle.ws_text.specs.Shown.{ShowsElements}
+use Rattle.ws_text.specs.ItemLines.{item_text, run_line, runs_of, runs_with, element_text, field_order_text, format_text}
 use Rattle.ws_text.proofs.ShownBytes.{AreFrom, AreWords, literal}
 use Rattle.ws_text.proofs.ShownNumbers.{number_back, decimal_from, cell_back, row_from, column_from, hex_from, hex_back}
 use Rattle.ws_text.proofs.ShownNumbers.{byte_back, byte_from, pair_back, pair_from, hex_words, hex_words_back}
@@ -82,7 +82,7 @@ format_joined (Some w) controls more =
     append_assoc (encode_upper (two_bytes w) ++ 32 ∷ []) (words_text controls) more
     ∙ ap (λ z. z ++ (words_text controls ++ more)) (sym (append-nil (encode_upper (two_bytes w) ++ 32 ∷ [])))
 
-field_joined : (f : FieldOrder) → join_with_byte 32 (codes "SF" ∷ element_rest (Sf f)) ≡ codes "SF " ++ field_text f
+field_joined : (f : FieldOrder) → join_with_byte 32 (codes "SF" ∷ element_rest (Sf f)) ≡ codes "SF " ++ field_order_text f
 field_joined f =
     pairs_joined (codes "SF") (all_pairs f) (byte_word f.attribute) (decimal f.length)
     ∙ ap (λ z. codes "SF " ++ z) (format_joined f.format f.controls (byte_word f.attribute ++ 32 ∷ decimal f.length)
@@ -272,7 +272,7 @@ elements_printed = record {
 }
 
 -- and so are the items
-pub shown_read : (text : List ℕ) (items : List (Item Element)) → Shows text items
+pub shown_read : (text : List ℕ) (items : List (Item Element)) → ShowsElements text items
     → AreItems element_rules element_wording text items
 unfolding elements_printed
 shown_read text items s = shown_by_runs element_rules element_wording elements_printed

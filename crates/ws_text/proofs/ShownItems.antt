@@ -2,7 +2,7 @@ use Rattle.ws_text.proofs.Common.{◌≡◌, ℕ, ◌^◌, ◌<◌, List, [], �
 use Rattle.ws_text.proofs.Common.{true, append_assoc, codes, AllByRecursion, flat_map, decimal, lines, append-nil}
 use Rattle.ws_text.proofs.Common.{Rules}
 use Rattle.ws_text.proofs.Common.{CanBeEncoded, CanAllBeEncoded, Opcode, Item, head_text, AreItems, IsScreen}
-use Rattle.ws_text.proofs.Common.{Leads, Wording, AreOneByOne, part}
+use Rattle.ws_text.proofs.Common.{ReadsLines, Wording, AreOneByOne, part}
 use Rattle.ws_code.specs.Code.{place_after}
 use Rattle.ws_record.specs.Encode.{IsInRange}
 use Rattle.ws_text.specs.Shown.{ShowsItems, shown_text}
@@ -69,7 +69,7 @@ module _ {Place U : Type 0} (rules : Rules Place U) (begins_whole : rules.may_en
   leads_lines : (flags : ℕ) (opcode : Opcode) (before : List (Item U)) (us : List U) (ls : List p.Line)
       → AllByRecursion p.IsRight ls → rules.may_end (place_after rules rules.first us) ≡ true
       → CanBeEncoded rules (made flags opcode (us ++ w.behind us (units_of ls)))
-      → Leads rules w (unit_lines ls) (before ++ made flags opcode us ∷ [])
+      → ReadsLines rules w (unit_lines ls) (before ++ made flags opcode us ∷ [])
       (before ++ made flags opcode (us ++ w.behind us (units_of ls)) ∷ [])
   leads_lines flags opcode before us [] h may can =
       ap (λ z. before ++ made flags opcode z ∷ []) (ap (λ z. us ++ z) (by_one.none us) ∙ append-nil us)
@@ -93,20 +93,20 @@ module _ {Place U : Type 0} (rules : Rules Place U) (begins_whole : rules.may_en
             front_encoded rules flags opcode (us ++ first) more all ends,
           ),
         ),
-        subst (λ (z : List U). Leads rules w (unit_lines ls) (before ++ made flags opcode (us ++ first) ∷ [])
+        subst (λ (z : List U). ReadsLines rules w (unit_lines ls) (before ++ made flags opcode (us ++ first) ∷ [])
             (before ++ made flags opcode z ∷ [])) (sym same)
             (leads_lines flags opcode before (us ++ first) ls h.1 ends all),
       )
 
   leads_item : (place : ℕ) (x : Item U) (before : List (Item U)) → place < 2 ^ 64
-      → CanBeEncoded rules x → IsInRange x → Leads rules w (printed_lines place x) before (before ++ x ∷ [])
+      → CanBeEncoded rules x → IsInRange x → ReadsLines rules w (printed_lines place x) before (before ++ x ∷ [])
   leads_item place (an_item.Record r) before at can range =
       let same : w.behind [] (units_of (p.lines_of r.body)) ≡ r.body = p.back r.body can.0 in
       let all = subst (λ (z : List U). CanBeEncoded rules (made r.flags r.opcode z)) (sym same) can in (
         before ++ made r.flags r.opcode [] ∷ [],
         other_first (line_of (head_words place r.flags r.opcode)) (λ e. omega (arith, e)),
         (part.Head r.flags r.opcode, head_says w place r.flags r.opcode at range, refl),
-        subst (λ (z : List U). Leads rules w (unit_lines (p.lines_of r.body))
+        subst (λ (z : List U). ReadsLines rules w (unit_lines (p.lines_of r.body))
             (before ++ made r.flags r.opcode [] ∷ []) (before ++ made r.flags r.opcode z ∷ [])) same
             (leads_lines r.flags r.opcode before [] (p.lines_of r.body) (p.right r.body can.0) begins_whole all),
       )
@@ -136,7 +136,7 @@ module _ {Place U : Type 0} (rules : Rules Place U) (begins_whole : rules.may_en
   others x placed h = record { places = h.places.1; encoded = h.encoded.1; in_range = h.in_range.1 }
 
   all_lead : (placed : List Placed) (before : List (Item U)) → CanBeShown placed
-      → Leads rules w (all_lines placed) before (before ++ items_of placed)
+      → ReadsLines rules w (all_lines placed) before (before ++ items_of placed)
   all_lead [] before h = append-nil before
   all_lead (x ∷ placed) before h =
       let rest = all_lead placed (before ++ x.1 ∷ []) (others x placed h) in
@@ -144,7 +144,7 @@ module _ {Place U : Type 0} (rules : Rules Place U) (begins_whole : rules.may_en
       let all = before ++ items_of (x ∷ placed) in
       leads_append rules w (printed_lines x.0 x.1) (all_lines placed) before (before ++ x.1 ∷ []) all
       (leads_item x.0 x.1 before h.places.0 h.encoded.0 h.in_range.0)
-      (subst (λ (z : List (Item U)). Leads rules w (all_lines placed) (before ++ x.1 ∷ []) z) same rest)
+      (subst (λ (z : List (Item U)). ReadsLines rules w (all_lines placed) (before ++ x.1 ∷ []) z) same rest)
 
   all_back : (placed : List Placed) (rest : List ℕ) → CanBeShown placed → lines (shown_text p.text_of placed ++ rest)
       ≡ all_lines placed ++ lines rest
@@ -169,7 +169,7 @@ module _ {Place U : Type 0} (rules : Rules Place U) (begins_whole : rules.may_en
         read = all_lines s.placed;
         behind = lines s.rest;
         split = ap lines s.split ∙ all_back s.placed s.rest can;
-        leads = subst (λ (z : List (Item U)). Leads rules w (all_lines s.placed) [] z) (sym s.are_items)
+        leads = subst (λ (z : List (Item U)). ReadsLines rules w (all_lines s.placed) [] z) (sym s.are_items)
             (all_lead s.placed [] can);
         ends = s.ends;
       }

@@ -10,7 +10,7 @@ use Rattle.std.proofs.lemmas.Str.Parse.{digit_from_value}
 use Rattle.hex.proofs.HexLemmas.{decode_of-encode_upper, length-encode_with}
 use Rattle.ws_code.specs.Code.{AreBytes}
 use Rattle.ws_text.specs.TextLines.{IsPlace}
-use Rattle.ws_text.specs.ElementWords.{AreBytes as AreBytesOf}
+use Rattle.ws_text.specs.ElementWords.{AreBytesInWord as AreBytesOf}
 use Rattle.ws_text.proofs.ShownBytes.{AreFrom, AreWords}
 
 -- Printed numbers and bytes are read back.

@@ -1,12 +1,12 @@
 use Rattle.ws_text.proofs.Common.{◌≡◌, inl, ℕ, ◌^◌, ◌<◌, List, [], ◌∷◌, ◌++◌, refl, sym, ap, arith, append_assoc, codes}
 use Rattle.ws_text.proofs.Common.{Some, decimal, append-nil, Verb, Telnet, Command, Negotiate, Sub, hex_behind_blank}
-use Rattle.ws_text.proofs.Common.{IsTelnetText, IsLine, Wording, item, worded, part, look_up, commands, verbs}
+use Rattle.ws_text.proofs.Common.{IsTelnetText, IsLine, Wording, item, worded, part, look_up, telnet_commands, verbs}
 use Rattle.ws_telnet.specs.declared.token.CommandCode.{CommandCode}
 use Rattle.ws_telnet.specs.Token.{IsTelnet}
 use Rattle.ws_telnet.specs.declared.token.CommandCode.TheVariants.{Nop, DataMark, Break, InterruptProcess, AbortOutput}
 use Rattle.ws_telnet.specs.declared.token.CommandCode.TheVariants.{AreYouThere, EraseCharacter, EraseLine, GoAhead}
 use Rattle.ws_telnet.specs.declared.token.Verb.TheVariants.{Will, Wont, Do, Dont}
-use Rattle.ws_text.specs.ItemLines.{command_name, verb_name, telnet_name}
+use Rattle.ws_text.specs.ItemLines.{telnet_command_name, verb_name, telnet_name}
 use Rattle.ws_text.proofs.ShownBytes.{line_of, AreFrom, AreWords, literal, words_back, line_from, is_text}
 use Rattle.ws_text.proofs.ShownNumbers.{small_back, place_back, decimal_from, hex_words, hex_words_back, hex_words_from}
 
@@ -14,7 +14,7 @@ use Rattle.ws_text.proofs.ShownNumbers.{small_back, place_back, decimal_from, he
 
 -- a Telnet command
 abbrev pub telnet_head : Telnet → List ℕ
-telnet_head (Command code) = command_name code
+telnet_head (Command code) = telnet_command_name code
 telnet_head (Negotiate verb option) = verb_name verb
 telnet_head (Sub sub) = codes "SB"
 
@@ -33,8 +33,8 @@ telnet_joined (Command code) = refl
 telnet_joined (Negotiate verb option) = sym (append_assoc (verb_name verb) (32 ∷ []) (decimal option))
 telnet_joined (Sub sub) = sub_joined (decimal sub.option) sub.data_
 
-command_back : (code : CommandCode) → AreFrom 33 (command_name code)
-    × (look_up (command_name code) commands ≡ Some code)
+command_back : (code : CommandCode) → AreFrom 33 (telnet_command_name code)
+    × (look_up (telnet_command_name code) telnet_commands ≡ Some code)
 command_back Nop = (literal (codes "NOP") refl, refl)
 command_back DataMark = (literal (codes "DM") refl, refl)
 command_back Break = (literal (codes "BRK") refl, refl)

@@ -9,7 +9,7 @@ use Rattle.hex.specs.Hex.{encode_with}
 use Rattle.ws_stream.specs.AnswerParts.{IsPart}
 use Rattle.ws_stream.specs.declared.answer_part.AnswerPart.{AnswerPart}
 use Rattle.ws_stream.specs.declared.element.Element.TheVariants.{Put}
-use Rattle.ws_extended.specs.ExtendedAnswers.{IsAnswerPart, answer_follows, answer_may_end, behind_part}
+use Rattle.ws_extended.specs.ExtendedAnswers.{IsAnswerPart, answer_follows, answer_may_end, place_behind_part}
 use Rattle.ws_extended.specs.ExtendedAnswers.{behind_reply, extended_answer_rules}
 use Rattle.ws_extended.specs.ExtendedElements.{IsExtended}
 use Rattle.ws_extended.specs.QueryReply.{reply_head}
@@ -191,7 +191,7 @@ joined (Single (parts.AtOnce cursor)) h = cell_joined (10 ∷ codes "  IMMEDIATE
 
 -- a body may end behind it
 part_ends : (place : ExtendedAnswerPlace) (p : AnswerPart)
-    → answer_may_end (behind_part (told_settled place (parts.Profile p))) ≡ true
+    → answer_may_end (place_behind_part (told_settled place (parts.Profile p))) ≡ true
 part_ends places.Beginning p = refl
 part_ends places.Fields p = refl
 part_ends (places.InReply n) p = refl
@@ -199,14 +199,14 @@ part_ends places.Replied p = refl
 part_ends (places.InSaved at) p = refl
 
 element_ends : (place : ExtendedAnswerPlace) (e : ExtendedElement)
-    → answer_may_end (behind_part (told_settled place (parts.Of e))) ≡ true
+    → answer_may_end (place_behind_part (told_settled place (parts.Of e))) ≡ true
 element_ends places.Beginning e = refl
 element_ends places.Fields e = refl
 element_ends (places.InReply n) e = refl
 element_ends places.Replied e = refl
 element_ends (places.InSaved at) e = refl
 
-saved_ends : (place : ExtendedAnswerPlace) → answer_may_end (behind_part (told_settled place parts.Saved)) ≡ true
+saved_ends : (place : ExtendedAnswerPlace) → answer_may_end (place_behind_part (told_settled place parts.Saved)) ≡ true
 saved_ends places.Beginning = refl
 saved_ends places.Fields = refl
 saved_ends (places.InReply n) = refl
@@ -214,7 +214,7 @@ saved_ends places.Replied = refl
 saved_ends (places.InSaved at) = refl
 
 cursor_ends : (place : ExtendedAnswerPlace) (cursor : ℕ)
-    → answer_may_end (behind_part (told_settled place (parts.AtOnce cursor))) ≡ true
+    → answer_may_end (place_behind_part (told_settled place (parts.AtOnce cursor))) ≡ true
 cursor_ends places.Beginning cursor = refl
 cursor_ends places.Fields cursor = refl
 cursor_ends (places.InReply n) cursor = refl
@@ -236,13 +236,13 @@ fields_end : (place : ExtendedAnswerPlace) (bytes : List ℕ) → answer_may_end
     → answer_may_end (behind_settled place (map (told_byte Fields) bytes)) ≡ true
 fields_end place [] may = may
 fields_end place (b ∷ bytes) may =
-    fields_end (behind_part (told_settled place (parts.Profile (Byte b)))) bytes (part_ends place (Byte b))
+    fields_end (place_behind_part (told_settled place (parts.Profile (Byte b)))) bytes (part_ends place (Byte b))
 
 cells_end : (place : ExtendedAnswerPlace) (bytes : List ℕ) → answer_may_end place ≡ true
     → answer_may_end (behind_settled place (map (told_byte Cells) bytes)) ≡ true
 cells_end place [] may = may
 cells_end place (b ∷ bytes) may =
-    cells_end (behind_part (told_settled place (parts.Of (elements.Profile (Put b))))) bytes
+    cells_end (place_behind_part (told_settled place (parts.Of (elements.Profile (Put b))))) bytes
     (element_ends place (elements.Profile (Put b)))
 
 reply_ends : (n : ℕ) (bytes : List ℕ) → length bytes ≡ n + 1
@@ -257,7 +257,7 @@ line_ends : (place : ExtendedAnswerPlace) (l : Line) → IsRight l → answer_ma
 line_ends place (FieldBytes bytes) h may = fields_end place bytes may
 line_ends place (CellBytes bytes) h may = cells_end place bytes may
 line_ends place (ReplyBytes bytes) h may =
-    ap (λ z. answer_may_end (behind_settled (behind_part z) (map (told_byte Reply) bytes))) (front_settled place)
+    ap (λ z. answer_may_end (behind_settled (place_behind_part z) (map (told_byte Reply) bytes))) (front_settled place)
     ∙ reply_ends 52 bytes h.0
 line_ends place (ReplyEnd bytes) h may = absurd h
 line_ends place (Cursor name cursor) h may = cursor_ends place cursor
@@ -325,7 +325,7 @@ whole_reply ls (bytes, more, is, count, are, right) =
     subst (λ (z : List Line). AllRight (with_front z)) (sym is) ((count, are), right)
 
 part_right : (place : ExtendedAnswerPlace) (p : ExtendedAnswerPart) (rs : List ToldRun) → answer_follows place p ≡ true
-    → IsAnswerPart p → AreRightAt (behind_part p) (lines_of_runs rs)
+    → IsAnswerPart p → AreRightAt (place_behind_part p) (lines_of_runs rs)
     → AreRightAt place (lines_of_runs (told_runs_with p rs))
 part_right place (parts.Profile (Byte b)) rs f h r =
     at_place place (parts.Profile (Byte b)) (lines_of_runs (with_field b rs)) f tt (field_right b rs h r)
@@ -357,7 +357,7 @@ right_at : (place : ExtendedAnswerPlace) (ps : List ExtendedAnswerPart) → IsCh
 right_at (places.InReply n) [] c may = cc may
 right_at place [] c may = tt
 right_at place (p ∷ ps) c may =
-    part_right place p (told_runs ps) c.0.may_follow c.0.is_unit (right_at (behind_part p) ps c.1 may)
+    part_right place p (told_runs ps) c.0.may_follow c.0.is_unit (right_at (place_behind_part p) ps c.1 may)
 
 name_is_told : (whole : Bool) → (told_name whole ≡ codes "SCREEN") ⊎ (told_name whole ≡ codes "IMMEDIATE")
 name_is_told true = inl refl

@@ -1,6 +1,6 @@
 use Rattle.ws_text.proofs.Common.{◌≡◌, ℕ, List, [], ◌∷◌, ◌++◌, Bool, true, false, ◌==◌, length, get_or, drop, Bor, refl}
 use Rattle.ws_text.proofs.Common.{sym, ap, subst, ◌∙◌, arith, codes, Option, Some, None, words_of, Part, part, AreTyped}
-use Rattle.ws_text.proofs.Common.{AreUnits, IsWorded, Means, one, run, empty, comment, typed, worded, Wording, IsClear}
+use Rattle.ws_text.proofs.Common.{AreUnits, IsWorded, MeansPart, one, run, empty, comment, typed, worded, Wording, IsClear}
 use Rattle.ws_text.proofs.Common.{false≢true}
 use Rattle.ws_text.proofs.LineWords.{indented_says, IsTextStripped}
 use Rattle.ws_text.proofs.LineEnds.{is_none}
@@ -21,7 +21,7 @@ behind_seven a b e = cc
 
 -- a line of characters says their units alone
 pub typed_line : {U : Type 0} (w : Wording U) → IsClear w → (line text : List ℕ) → line ≡ codes "  TEXT " ++ text
-    → (says : Part U) → Means w line says → (us : List U) × AreTyped w text us × (says ≡ part.Units us)
+    → (says : Part U) → MeansPart w line says → (us : List U) × AreTyped w text us × (says ≡ part.Units us)
 typed_line w clear line text e says (empty f g) = absurd (omega (arith, ap length (sym f ∙ e)))
 typed_line w clear line text e says (comment other f g) =
     let first : 35 ≡ 32 = ap (λ z. get_or z 0 0) (sym f ∙ e) in
@@ -37,7 +37,7 @@ typed_line w clear line text e says (worded h) =
 -- a line that is neither empty nor a comment nor characters says what its words do
 pub only_worded : {U : Type 0} (w : Wording U) (line : List ℕ) → (line ≡ [] → ⊥)
     → ((text : List ℕ) → line ≡ codes "#" ++ text → ⊥) → ((text : List ℕ) → line ≡ codes "  TEXT " ++ text → ⊥)
-    → (says : Part U) → Means w line says → IsWorded w (words_of line) says
+    → (says : Part U) → MeansPart w line says → IsWorded w (words_of line) says
 only_worded w line some plain other says (empty f g) = absurd (some f)
 only_worded w line some plain other says (comment text f g) = absurd (plain text f)
 only_worded w line some plain other says (typed text us f h g) = absurd (other text f)

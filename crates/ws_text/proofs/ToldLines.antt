@@ -4,13 +4,13 @@ use Rattle.ws_text.proofs.Common.{COLUMNS}
 use Rattle.ws_text.proofs.Common.{if◌then◌else◌, eqb_tells, false≢true, inl, inr, IsChain, Byte, RunName}
 use Rattle.hex.specs.Hex.{encode_with}
 use Rattle.ws_stream.specs.declared.element.Element.TheVariants.{Put}
-use Rattle.ws_extended.specs.ExtendedAnswers.{answer_follows, behind_part, extended_answer_rules}
+use Rattle.ws_extended.specs.ExtendedAnswers.{answer_follows, place_behind_part, extended_answer_rules}
 use Rattle.ws_extended.specs.declared.extended_answer_part.ExtendedAnswerPart.{ExtendedAnswerPart}
 use Rattle.ws_extended.specs.declared.extended_answer_part.ExtendedAnswerPart.TheVariants as parts
 use Rattle.ws_extended.specs.declared.extended_answer_place.ExtendedAnswerPlace.{ExtendedAnswerPlace}
 use Rattle.ws_extended.specs.declared.extended_answer_place.ExtendedAnswerPlace.TheVariants.{InReply, InSaved}
 use Rattle.ws_extended.specs.declared.extended_element.ExtendedElement.TheVariants as elements
-use Rattle.ws_text.specs.ExtendedAnswerLines.{ToldRun, told_runs_with, told_runs, told_run_line, told_text, told_lines}
+use Rattle.ws_text.specs.ExtendedAnswerLines.{ToldRun, told_runs_with, told_runs, told_run_line, told_part_text, told_lines}
 use Rattle.ws_text.specs.ExtendedAnswerLines.{is_whole_screen}
 use Rattle.ws_text.specs.ExtendedAnswerLines.{ToldRun as runs}
 use Rattle.ws_text.specs.ExtendedAnswerWords.{told_byte, told_settled, told_all_settled}
@@ -68,16 +68,16 @@ body_lines ps = lines_of_runs (told_runs ps)
 abbrev pub line_text : Line → List ℕ
 line_text (FieldBytes bytes) = 10 ∷ codes "  BYTES " ++ encode_upper bytes
 line_text (CellBytes bytes) = 10 ∷ codes "  PUT " ++ encode_upper bytes
-line_text (ReplyBytes bytes) = told_text parts.QueryReply ++ encode_upper bytes
+line_text (ReplyBytes bytes) = told_part_text parts.QueryReply ++ encode_upper bytes
 line_text (ReplyEnd bytes) = encode_upper bytes
 line_text (Cursor name cursor) = 10 ∷ line_of ([] ∷ [] ∷ name ∷ cell_words cursor [])
-line_text (Single part) = told_text part
+line_text (Single part) = told_part_text part
 
-front_text : (ls : List Line) → told_text parts.QueryReply ++ flat_map line_text ls ≡ flat_map line_text (with_front ls)
+front_text : (ls : List Line) → told_part_text parts.QueryReply ++ flat_map line_text ls ≡ flat_map line_text (with_front ls)
 unfolding encode_with
 front_text (ReplyEnd bytes ∷ ls) =
-    sym (append_assoc (told_text parts.QueryReply) (encode_upper bytes) (flat_map line_text ls))
-front_text ls = ap (λ z. z ++ flat_map line_text ls) (sym (append-nil (told_text parts.QueryReply)))
+    sym (append_assoc (told_part_text parts.QueryReply) (encode_upper bytes) (flat_map line_text ls))
+front_text ls = ap (λ z. z ++ flat_map line_text ls) (sym (append-nil (told_part_text parts.QueryReply)))
 
 reply_text : (byte : ℕ) (ls : List Line) → encode_upper (byte ∷ []) ++ flat_map line_text ls
     ≡ flat_map line_text (with_reply_byte byte ls)
@@ -177,5 +177,5 @@ pub told_all_back : (place : ExtendedAnswerPlace) (ps : List ExtendedAnswerPart)
     → IsChain extended_answer_rules place ps → told_all_settled place (map written ps) ≡ ps
 told_all_back place [] c = refl
 told_all_back place (p ∷ ps) c =
-    ap (λ z. z ∷ told_all_settled (behind_part z) (map written ps)) (told_back place p c.0.may_follow)
-    ∙ ap (λ z. p ∷ z) (told_all_back (behind_part p) ps c.1)
+    ap (λ z. z ∷ told_all_settled (place_behind_part z) (map written ps)) (told_back place p c.0.may_follow)
+    ∙ ap (λ z. p ∷ z) (told_all_back (place_behind_part p) ps c.1)

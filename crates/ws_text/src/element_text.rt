@@ -78,7 +78,7 @@ pub fn put_fill<S: Sink>(
 // Format and control words where there are any, the attribute, and the length.
 fn put_field<S: Sink>(sink: &mut S, output: Output, field: &FieldStart) -> Output
     ensures { Prints S.writer sink.old sink.new output result
-        (codes "SF " ++ Shown.field_text field.now) }
+        (codes "SF " ++ Shown.field_order_text field.now) }
 {
     let output = put_text(sink, output, "SF ");
     let output = put_format(sink, output, field);

@@ -1,5 +1,5 @@
 ghost use Rattle.std.specs.Prelude.{◌≡◌, ◌∷◌, ◌++◌, [], List, IfSome};
-ghost use Rattle.ws_text.specs.Reading.{Holds};
+ghost use Rattle.ws_text.specs.Reading.{HasGathered};
 
 use std::alloc::Global;
 
@@ -13,7 +13,7 @@ pub struct Gathered<T> {
 impl<T: Drop> Gathered<T> {
     /// A list without items.
     pub fn new(alloc: Global) -> Self
-        ensures { Holds result [] }
+        ensures { HasGathered result [] }
     {
         Gathered {
             items: Vec::new(alloc),
@@ -23,7 +23,7 @@ impl<T: Drop> Gathered<T> {
 
     /// Adds an item.
     pub fn push(&mut self, item: T)
-        ensures { (items : List T) → Holds self.old items → Holds self.new (items ++ item ∷ []) }
+        ensures { (items : List T) → HasGathered self.old items → HasGathered self.new (items ++ item ∷ []) }
     {
         if self.is_whole {
             self.is_whole = self.items.push(item).is_ok();
@@ -32,8 +32,8 @@ impl<T: Drop> Gathered<T> {
 
     /// Adds an item; `None` is one that was not kept.
     pub fn push_kept(&mut self, item: Option<T>)
-        ensures { (items : List T) (x : T) → Holds self.old items → IfSome item (λ y. y ≡ x)
-            → Holds self.new (items ++ x ∷ []) }
+        ensures { (items : List T) (x : T) → HasGathered self.old items → IfSome item (λ y. y ≡ x)
+            → HasGathered self.new (items ++ x ∷ []) }
     {
         match item {
             Some(item) => self.push(item),
@@ -43,7 +43,7 @@ impl<T: Drop> Gathered<T> {
 
     /// Its items, if all were kept.
     pub fn into_whole(self) -> Option<Vec<T>>
-        ensures { (items : List T) → Holds self items → IfSome result (λ v. v.items ≡ items) }
+        ensures { (items : List T) → HasGathered self items → IfSome result (λ v. v.items ≡ items) }
     {
         if self.is_whole {
             Some(self.items)

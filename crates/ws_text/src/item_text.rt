@@ -55,7 +55,7 @@ fn put_name<S: Sink>(sink: &mut S, output: Output, telnet: &Telnet) -> Output
 }
 
 fn command_name(code: CommandCode) -> &'static str
-    ensures { result.now ≡ Shown.command_name code }
+    ensures { result.now ≡ Shown.telnet_command_name code }
 {
     match code {
         CommandCode::Nop => "NOP",

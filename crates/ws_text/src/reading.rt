@@ -1,6 +1,6 @@
 ghost use Rattle.std.specs.Prelude.{[], List};
 ghost use Rattle.ws_record.specs.declared.record.Item.{Item as AnItem};
-ghost use Rattle.ws_text.specs.Reading.{AreRead, Holds, FoundAdds, Takes};
+ghost use Rattle.ws_text.specs.Reading.{AreRead, HasGathered, FoundAdds, GoesOnToItems};
 
 use crate::gathered::Gathered;
 use crate::line::Found;
@@ -36,7 +36,7 @@ pub fn add<B: Worded>(
 ) -> Option<Reading<B::Place, B::Unit>>
     requires { (from : List (AnItem B.Unit)) × AreRead B.rules reading from }
     ensures { (from : List (AnItem B.Unit)) → AreRead B.rules reading from
-        → Takes B.rules (FoundAdds B.rules B.wording found.entry from) result }
+        → GoesOnToItems B.rules (FoundAdds B.rules B.wording found.entry from) result }
 {
     match found {
         Found::Nothing => Some(reading),
@@ -66,7 +66,7 @@ pub fn add<B: Worded>(
 
 /// The items so far, none of them open.
 pub fn finish<B: Body>(reading: Reading<B::Place, B::Unit>) -> Gathered<Item<B::Unit>>
-    ensures { (items : List (AnItem B.Unit)) → AreRead B.rules reading items → Holds result items }
+    ensures { (items : List (AnItem B.Unit)) → AreRead B.rules reading items → HasGathered result items }
 {
     let Reading { items, last } = reading;
     match last {

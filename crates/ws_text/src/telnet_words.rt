@@ -1,6 +1,6 @@
 ghost use Rattle.std.specs.Prelude.{◌≡◌, ◌≤◌, ℕ, List, length, map, MatchOption};
 ghost use Rattle.ws_telnet.specs.declared.token.Telnet.{Telnet as ATelnet};
-ghost use Rattle.ws_text.specs.ElementWords.{AreBytes};
+ghost use Rattle.ws_text.specs.ElementWords.{AreBytesInWord};
 ghost use Rattle.ws_text.specs.TextLines as Spec;
 
 use crate::kind::{command_named, verb_named};
@@ -41,8 +41,8 @@ pub fn read_telnet(name: &str, words: &[&str]) -> Option<Telnet>
 // The bytes of a subnegotiation, in one word where there are any.
 fn read_bytes(words: &[&str]) -> Option<ArrayVec<u8, 64>>
     ensures { MatchOption result
-        ((bytes : List ℕ) → AreBytes (map (λ w. w.now) words.now) bytes → length bytes ≤ 64 → ⊥)
-        (λ bytes. AreBytes (map (λ w. w.now) words.now) bytes.items × (length bytes.items ≤ 64)) }
+        ((bytes : List ℕ) → AreBytesInWord (map (λ w. w.now) words.now) bytes → length bytes ≤ 64 → ⊥)
+        (λ bytes. AreBytesInWord (map (λ w. w.now) words.now) bytes.items × (length bytes.items ≤ 64)) }
 {
     match words {
         [] => Some(ArrayVec::new()),

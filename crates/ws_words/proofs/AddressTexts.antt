@@ -8,7 +8,7 @@ use Rattle.std.proofs.lemmas.Bool.Decides.{eqb_tells}
 use Rattle.std.specs.Option.{option_map}
 use Rattle.std.specs.Str.Pattern.{FindsCharPrefix}
 use Rattle.std.specs.Prelude.{true, false, ◌==◌, MatchOption, Option, None, Some}
-use Rattle.ws_words.specs.Addresses.{IsV6, IsPlainV6, IsZone, IsZonedV6, HasNo, IsPort, IsPortOr, IsBehind, IsBracketed, IsNamed, IsHostText}
+use Rattle.ws_words.specs.Addresses.{IsV6, IsPlainV6, IsZone, IsZonedV6, HasNo, IsPort, IsPortOr, IsBehindHost, IsBracketed, IsNamed, IsHostText}
 use Rattle.ws_words.specs.Addresses.{IsHostPort, IsListening}
 use Rattle.ws_words.specs.Addresses.IsHostText.{bare, bracketed, named}
 
@@ -41,7 +41,7 @@ cut_same c (x ∷ xs) (u ∷ us) ys vs h k e =
     let both : x ∷ xs ≡ u ∷ us = cc (first, more.0) in (both, more.1)
 
 -- what stands behind a host tells its port
-pub behind_same : (behind : List ℕ) (p q : Option (List ℕ)) → IsBehind behind p → IsBehind behind q → p ≡ q
+pub behind_same : (behind : List ℕ) (p q : Option (List ℕ)) → IsBehindHost behind p → IsBehindHost behind q → p ≡ q
 behind_same behind None None e f = refl
 behind_same behind None (Some q) e f = absurd (let g : [] ≡ 58 ∷ q = sym e ∙ f in cc g)
 behind_same behind (Some p) None e f = absurd (let g : [] ≡ 58 ∷ p = sym f ∙ e in cc g)
@@ -53,7 +53,7 @@ whole_uncut xs us vs h e = uncut 58 us vs (subst (HasNo 58) (sym (append-nil xs)
 
 -- so does a name with what stands behind it
 named_same : (host hosts behind behinds : List ℕ) (p q : Option (List ℕ)) → HasNo 58 host → HasNo 58 hosts
-    → host ++ behind ≡ hosts ++ behinds → IsBehind behind p → IsBehind behinds q → p ≡ q
+    → host ++ behind ≡ hosts ++ behinds → IsBehindHost behind p → IsBehindHost behinds q → p ≡ q
 named_same host hosts behind behinds None None h k e b d = refl
 named_same host hosts behind behinds None (Some q) h k e b d =
     absurd (whole_uncut host hosts q h (ap (λ z. host ++ z) (sym b) ∙ e ∙ ap (λ z. hosts ++ z) d))
@@ -77,7 +77,7 @@ one_port text host hosts p q (bare v h e) (named other behind k f) = absurd (oth
 one_port text host hosts p q (bracketed other behind h e) (bare w k f) = absurd (other w)
 one_port text host hosts p q (bracketed other behind h e) (bracketed another behinds k f) =
     let same = bracketed_same text host hosts behind behinds h k in
-    behind_same behind p q e (subst (λ z. IsBehind z q) (sym same) f)
+    behind_same behind p q e (subst (λ z. IsBehindHost z q) (sym same) f)
 one_port text host hosts p q (bracketed other behind h e) (named another behinds k f) =
     absurd (k.unbracketed (host ++ 93 ∷ behind) h.spelled)
 one_port text host hosts p q (named other behind h e) (bare w k f) = absurd (other w)
@@ -102,7 +102,7 @@ no_parts c bs r s small e = split_parts c bs None (subst (IsSplitOnceResult c bs
 -- Within brackets. What isn't there makes no text, and what is there is it.
 module _ (inner : List ℕ) where
   pub unbracketed : HasNo 93 inner → (host behind : List ℕ) (port : Option (List ℕ))
-      → IsBracketed (91 ∷ inner) host behind → IsBehind behind port → ⊥
+      → IsBracketed (91 ∷ inner) host behind → IsBehindHost behind port → ⊥
   unbracketed none host behind port b d = uncut 93 host behind
       (subst (HasNo 93) (tail_same 91 91 inner (host ++ 93 ∷ behind) b.spelled) none)
 
@@ -112,20 +112,20 @@ module _ (inner : List ℕ) where
         (sym cut ∙ tail_same 91 91 inner (host ++ 93 ∷ behind) b.spelled)
 
     pub no_address : (IsV6 here → ⊥) → (host behind : List ℕ) (port : Option (List ℕ))
-        → IsBracketed (91 ∷ inner) host behind → IsBehind behind port → ⊥
+        → IsBracketed (91 ∷ inner) host behind → IsBehindHost behind port → ⊥
     no_address none host behind port b d = none (subst IsV6 (sym (same_cut host behind b).0) b.address)
 
     pub is_bracketed : IsV6 here → IsBracketed (91 ∷ inner) here rest
     is_bracketed address = record { spelled = ap (λ z. 91 ∷ z) cut; address = address; inside = inside }
 
-    no_behind : (rest ≢ []) → ((more : List ℕ) → rest ≢ 58 ∷ more) → (port : Option (List ℕ)) → IsBehind rest port → ⊥
+    no_behind : (rest ≢ []) → ((more : List ℕ) → rest ≢ 58 ∷ more) → (port : Option (List ℕ)) → IsBehindHost rest port → ⊥
     no_behind some other None e = some e
     no_behind some other (Some port) e = other port e
 
     pub no_port : (rest ≢ []) → ((more : List ℕ) → rest ≢ 58 ∷ more) → (host behind : List ℕ) (port : Option (List ℕ))
-        → IsBracketed (91 ∷ inner) host behind → IsBehind behind port → ⊥
+        → IsBracketed (91 ∷ inner) host behind → IsBehindHost behind port → ⊥
     no_port some other host behind port b d = no_behind some other port
-        (subst (λ z. IsBehind z port) (sym (same_cut host behind b).1) d)
+        (subst (λ z. IsBehindHost z port) (sym (same_cut host behind b).1) d)
 
 -- what `is_empty` and `strip_prefix` tell
 pub empty_text : (text : List ℕ) → true ≡ (length text == 0) → text ≡ []
@@ -169,7 +169,7 @@ module _ (text : List ℕ) (other : IsV6 text → ⊥) where
   -- with a bracket in front
   module _ (inner : List ℕ) (is : text ≡ 91 ∷ inner) where
     none_in_brackets : ((host behind : List ℕ) (port : Option (List ℕ)) → IsBracketed (91 ∷ inner) host behind
-        → IsBehind behind port → ⊥) → IsNoHost text
+        → IsBehindHost behind port → ⊥) → IsNoHost text
     none_in_brackets none host port (bare v h e) = other v
     none_in_brackets none host port (bracketed o behind b d) = none host behind port
         (subst (λ z. IsBracketed z host behind) is b) d
@@ -177,8 +177,8 @@ module _ (text : List ℕ) (other : IsV6 text → ⊥) where
 
     pub in_brackets : (r : Named)
         → MatchOption r ((host behind : List ℕ) (port : Option (List ℕ)) → IsBracketed (91 ∷ inner) host behind
-        → IsBehind behind port → ⊥) (λ parts. (behind : List ℕ) × IsBracketed (91 ∷ inner) parts.0.now behind
-        × IsBehind behind (port_of parts.1)) → IsPortSplit text r
+        → IsBehindHost behind port → ⊥) (λ parts. (behind : List ℕ) × IsBracketed (91 ∷ inner) parts.0.now behind
+        × IsBehindHost behind (port_of parts.1)) → IsPortSplit text r
     in_brackets None none = none_in_brackets none
     in_brackets (Some parts) found = bracketed other found.0
         (subst (λ z. IsBracketed z parts.0.now found.0) (sym is) found.1) found.2
@@ -186,15 +186,15 @@ module _ (text : List ℕ) (other : IsV6 text → ⊥) where
   -- without one
   module _ (plain : (more : List ℕ) → text ≢ 91 ∷ more) where
     none_without_brackets : ((host behind : List ℕ) (port : Option (List ℕ)) → IsNamed text host behind
-        → IsBehind behind port → ⊥) → IsNoHost text
+        → IsBehindHost behind port → ⊥) → IsNoHost text
     none_without_brackets none host port (bare v h e) = other v
     none_without_brackets none host port (bracketed o behind b d) = plain (host ++ 93 ∷ behind) b.spelled
     none_without_brackets none host port (named o behind b d) = none host behind port b d
 
     pub without_brackets : (r : Named)
         → MatchOption r ((host behind : List ℕ) (port : Option (List ℕ)) → IsNamed text host behind
-        → IsBehind behind port → ⊥) (λ parts. (behind : List ℕ) × IsNamed text parts.0.now behind
-        × IsBehind behind (port_of parts.1)) → IsPortSplit text r
+        → IsBehindHost behind port → ⊥) (λ parts. (behind : List ℕ) × IsNamed text parts.0.now behind
+        × IsBehindHost behind (port_of parts.1)) → IsPortSplit text r
     without_brackets None none = none_without_brackets none
     without_brackets (Some parts) found = named other found.0 found.1 found.2
 

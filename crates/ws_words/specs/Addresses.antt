@@ -37,9 +37,9 @@ abbrev pub IsV6 : List ℕ → Type 0
 IsV6 text = IsPlainV6 text ⊎ IsZonedV6 text
 
 -- what stands behind a host: nothing, or a colon and a port's text
-abbrev pub IsBehind : List ℕ → Option (List ℕ) → Type 0
-IsBehind behind None = behind ≡ []
-IsBehind behind (Some port) = behind ≡ 58 ∷ port
+abbrev pub IsBehindHost : List ℕ → Option (List ℕ) → Type 0
+IsBehindHost behind None = behind ≡ []
+IsBehindHost behind (Some port) = behind ≡ 58 ∷ port
 
 -- an address of IPv6 in brackets, and what stands behind it
 pub record IsBracketed (text host behind : List ℕ) : Type 0 where
@@ -57,9 +57,9 @@ pub record IsNamed (text host behind : List ℕ) : Type 0 where
 -- the host that a text names, and its port's text where there is one: a text that is an address of IPv6 names this
 pub data IsHostText (text host : List ℕ) (port : Option (List ℕ)) : Type 0 where
   bare : IsV6 text → host ≡ text → port ≡ None → IsHostText text host port
-  bracketed : (IsV6 text → ⊥) → (behind : List ℕ) → IsBracketed text host behind → IsBehind behind port
+  bracketed : (IsV6 text → ⊥) → (behind : List ℕ) → IsBracketed text host behind → IsBehindHost behind port
       → IsHostText text host port
-  named : (IsV6 text → ⊥) → (behind : List ℕ) → IsNamed text host behind → IsBehind behind port
+  named : (IsV6 text → ⊥) → (behind : List ℕ) → IsNamed text host behind → IsBehindHost behind port
       → IsHostText text host port
 
 -- a port to connect to, by its text: where there is none, that of Telnet (RFC 854)

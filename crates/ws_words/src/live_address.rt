@@ -1,6 +1,6 @@
 ghost use Rattle.std.specs.Prelude.{◌≡◌, ◌≢◌, ◌∷◌, ℕ, List, Option, None, Some, true, false, MatchOption};
 ghost use Rattle.std.specs.Option.{option_map};
-ghost use Rattle.ws_words.specs.Addresses.{IsPlainV6, IsV6, IsZone, IsPort, IsBehind, IsBracketed, IsNamed, IsHostText, IsHostPort, IsListening};
+ghost use Rattle.ws_words.specs.Addresses.{IsPlainV6, IsV6, IsZone, IsPort, IsBehindHost, IsBracketed, IsNamed, IsHostText, IsHostPort, IsListening};
 
 use std::net::Ipv6Addr;
 
@@ -74,9 +74,9 @@ fn split_port(text: &str) -> Option<(&str, Option<&str>)>
 fn split_bracketed(inner: &str) -> Option<(&str, Option<&str>)>
     ensures { MatchOption result
         ((host behind : List ℕ) (port : Option (List ℕ))
-        → IsBracketed (91 ∷ inner.now) host behind → IsBehind behind port → ⊥)
+        → IsBracketed (91 ∷ inner.now) host behind → IsBehindHost behind port → ⊥)
         (λ parts. (behind : List ℕ) × IsBracketed (91 ∷ inner.now) parts.0.now behind
-        × IsBehind behind (option_map (λ port. port.now) parts.1)) }
+        × IsBehindHost behind (option_map (λ port. port.now) parts.1)) }
 {
     let Some((host, behind)) = inner.split_once(']') else {
         return None;
@@ -98,9 +98,9 @@ fn split_named(text: &str) -> Option<(&str, Option<&str>)>
     requires unbracketed { (more : List ℕ) → text.now ≢ 91 ∷ more }
     ensures { MatchOption result
         ((host behind : List ℕ) (port : Option (List ℕ))
-        → IsNamed text.now host behind → IsBehind behind port → ⊥)
+        → IsNamed text.now host behind → IsBehindHost behind port → ⊥)
         (λ parts. (behind : List ℕ) × IsNamed text.now parts.0.now behind
-        × IsBehind behind (option_map (λ port. port.now) parts.1)) }
+        × IsBehindHost behind (option_map (λ port. port.now) parts.1)) }
 {
     match text.split_once(':') {
         Some((host, port)) => {

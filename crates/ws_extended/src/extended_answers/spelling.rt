@@ -1,5 +1,5 @@
 ghost use Rattle.std.specs.Prelude.{◌≡◌};
-ghost use Rattle.ws_extended.specs.ExtendedAnswers.{answer_spelling};
+ghost use Rattle.ws_extended.specs.ExtendedAnswers.{extended_part_spelling};
 
 use crate::replies::HEAD;
 use crate::telling::NO_KEY;
@@ -11,7 +11,7 @@ use ws_stream::command_code::{CLEAR_UNIT, ESCAPE, RESTORE_SCREEN};
 
 /// Replaces what the list held by a part's spelling.
 pub fn spell_part(part: &ExtendedAnswerPart, into: &mut ArrayVec<u8, 32>)
-    ensures { into.new.items ≡ answer_spelling part.now }
+    ensures { into.new.items ≡ extended_part_spelling part.now }
 {
     into.clear();
     match part {

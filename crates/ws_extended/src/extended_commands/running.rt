@@ -2,7 +2,7 @@
 ghost use Rattle.std.specs.Prelude.{◌≡◌, ◌<◌, ◌≤◌, ◌∷◌, [], true, Some, IfSome, length, take};
 ghost use Rattle.ws_code.specs.Code.{IsSpelled};
 ghost use Rattle.ws_code.specs.Keep.{KeepsOne};
-ghost use Rattle.ws_code.specs.Run.{IsAt, IsRun};
+ghost use Rattle.ws_code.specs.Run.{IsAt, IsRunOfValues};
 ghost use Rattle.ws_code.specs.declared.keep.Kept.{Kept as AKept};
 ghost use Rattle.ws_extended.specs.ExtendedElements.{extended_rules};
 ghost use Rattle.ws_extended.specs.ExtendedRuns.{GoesInside, kept_end, reading_by};
@@ -50,7 +50,7 @@ impl ExtendedCommands {
         byte: u8,
     ) -> End
         requires { IsAt extended_rules (reading_by self.old) at.old }
-        ensures { IsRun extended_rules K.holds K.may_answer (reading_by self.old) keep.old
+        ensures { IsRunOfValues extended_rules K.holds K.may_answer (reading_by self.old) keep.old
             (byte ∷ []) (reading_by self.new) at.new keep.new result }
     {
         match self.push(byte) {
@@ -103,7 +103,7 @@ impl ExtendedCommands {
         // How many are used, and the run that they make.
         ensures some { 0 < result.used }
         ensures used { result.used ≤ length values.now }
-        ensures run { IsRun extended_rules K.holds K.may_answer (reading_by self.old) keep.old
+        ensures run { IsRunOfValues extended_rules K.holds K.may_answer (reading_by self.old) keep.old
             (take result.used values.now) (reading_by self.new) at.new keep.new result.end }
     {
         let mut standing = Standing {
@@ -152,7 +152,7 @@ impl ExtendedCommands {
         // How many are used, and the run that they make.
         ensures some { 0 < result.used }
         ensures used { result.used ≤ length values.now }
-        ensures run { IsRun extended_rules K.holds K.may_answer (reading_by self.old) keep.old
+        ensures run { IsRunOfValues extended_rules K.holds K.may_answer (reading_by self.old) keep.old
             (take result.used values.now) (reading_by self.new) at.new keep.new result.end }
     {
         if self.is_of_profile(values) {
@@ -174,7 +174,7 @@ impl ExtendedCommands {
         requires at { IsAt extended_rules (reading_by self.old) at.old }
         ensures some { 0 < result.used }
         ensures used { result.used ≤ length values.now }
-        ensures run { IsRun extended_rules K.holds K.may_answer (reading_by self.old) keep.old
+        ensures run { IsRunOfValues extended_rules K.holds K.may_answer (reading_by self.old) keep.old
             (take result.used values.now) (reading_by self.new) at.new keep.new result.end }
     {
         if let Some(element) = self.data_here(values[0]) {

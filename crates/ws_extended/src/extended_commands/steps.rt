@@ -12,7 +12,7 @@ ghost use Rattle.ws_stream.specs.declared.place.Place.{Place as APlace};
 ghost use Rattle.ws_extended.specs.declared.extended_element.ExtendedElement.{ExtendedElement as AnElement};
 ghost use Rattle.ws_extended.specs.declared.extended_place.ExtendedPlace.TheVariants.{InProfile};
 ghost use Rattle.ws_extended.specs.ExtendedElements.{extended_rules, query_field};
-ghost use Rattle.ws_extended.specs.ExtendedMachine.{begun_in, inner_place, lift};
+ghost use Rattle.ws_extended.specs.ExtendedMachine.{element_begun_in, inner_place, lift};
 ghost use Rattle.ws_extended.specs.ExtendedReasons.{begin_reason, extended_reason, is_inner, takes_command, takes_first};
 
 use super::ExtendedCommands;
@@ -178,7 +178,7 @@ impl ExtendedCommands {
             ≡ extended_reason self.old.place (unfinished_of self.old.inner) byte }
         // The step is one of these commands.
         ensures { IsStep extended_rules self.old.place (unfinished_of self.old.inner) byte
-            self.new.place (begun_in self.new.phase (unfinished_of self.new.inner)) result }
+            self.new.place (element_begun_in self.new.phase (unfinished_of self.new.inner)) result }
     {
         let place = self.place;
         match hand_down(place, &mut self.inner, byte) {
@@ -204,7 +204,7 @@ impl ExtendedCommands {
     fn begin(&mut self, byte: u8) -> Push<ExtendedElement>
         requires { self.old.phase ≡ Phase.Begin }
         ensures { IsStep extended_rules self.old.place [] byte
-            self.new.place (begun_in self.new.phase (unfinished_of self.new.inner)) result }
+            self.new.place (element_begun_in self.new.phase (unfinished_of self.new.inner)) result }
     {
         // Most bytes of a long body are data.
         if let Some(unit) = data_element(self.place, byte) {
@@ -225,7 +225,7 @@ impl ExtendedCommands {
     fn escaped(&mut self, byte: u8) -> Push<ExtendedElement>
         requires { self.old.phase ≡ Phase.Escaped }
         ensures { IsStep extended_rules self.old.place (ESCAPE ∷ []) byte
-            self.new.place (begun_in self.new.phase (unfinished_of self.new.inner)) result }
+            self.new.place (element_begun_in self.new.phase (unfinished_of self.new.inner)) result }
     {
         if byte == command_code::WRITE_STRUCTURED_FIELD {
             self.phase = Phase::InQuery(0);
@@ -242,7 +242,7 @@ impl ExtendedCommands {
         requires { count < 5 }
         ensures { IsStep extended_rules self.old.place
             (ESCAPE ∷ WRITE_STRUCTURED_FIELD ∷ take count query_field) byte
-            self.new.place (begun_in self.new.phase (unfinished_of self.new.inner)) result }
+            self.new.place (element_begun_in self.new.phase (unfinished_of self.new.inner)) result }
     {
         if byte != QUERY_FIELD[usize::from(count)] {
             return Push::Bad(Reason::StructuredField);
@@ -258,10 +258,10 @@ impl ExtendedCommands {
     #[inline(always)]
     pub(super) fn step(&mut self, byte: u8) -> Push<ExtendedElement>
         requires { IsUnfinished extended_rules self.old.place
-            (begun_in self.old.phase (unfinished_of self.old.inner)) }
+            (element_begun_in self.old.phase (unfinished_of self.old.inner)) }
         ensures { IsStep extended_rules self.old.place
-            (begun_in self.old.phase (unfinished_of self.old.inner)) byte
-            self.new.place (begun_in self.new.phase (unfinished_of self.new.inner)) result }
+            (element_begun_in self.old.phase (unfinished_of self.old.inner)) byte
+            self.new.place (element_begun_in self.new.phase (unfinished_of self.new.inner)) result }
     {
         match self.phase {
             Phase::Begin => self.begin(byte),

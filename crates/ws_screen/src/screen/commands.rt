@@ -6,7 +6,7 @@ ghost use Rattle.ws_screen.specs.Events.{did};
 ghost use Rattle.ws_screen.specs.Given.{Follows, FollowsAll, ends_of, events_of};
 ghost use Rattle.ws_screen.specs.ScreenParts.{IsLegal};
 ghost use Rattle.ws_screen.specs.Reads.{read_in};
-ghost use Rattle.ws_screen.specs.Steps.{IsCarried, after_cc2, without_format};
+ghost use Rattle.ws_screen.specs.Steps.{IsControlCarriedOut, after_cc2, without_format};
 
 use crate::cells::fill;
 use crate::control::{
@@ -54,7 +54,7 @@ impl Screen {
     // Locks the keyboard, nulls fields and turns MDTs off as a CC1 says. MDTs decide while they are
     // still on.
     fn carry_cc1(&mut self, cc1: u8)
-        ensures { IsCarried cc1 self.old self.new }
+        ensures { IsControlCarriedOut cc1 self.old self.new }
     {
         self.locked = locked_after(cc1, self.locked);
         null_fields(&mut self.cells, self.table.as_slice(), cc1);

@@ -1,11 +1,11 @@
 //! A session whose bytes go over a connection.
 ghost use Rattle.std.specs.Prelude.{◌≡◌, ◌≤◌, ◌+◌, ◌∷◌, [], List as Seq, length, take, IfOk, IfErr, OnOk};
 ghost use Rattle.ws_nego.specs.declared.terminal.TerminalType.{TerminalType as ATerminal};
-ghost use Rattle.ws_session.specs.BrokenOff.{IsCut, CutsDown, CutsUp, BreaksOff, HasEndedEarly};
+ghost use Rattle.ws_session.specs.BrokenOff.{IsDeliveryCut, CutsDown, CutsUp, BreaksOff, HasEndedEarly};
 ghost use Rattle.ws_session.specs.Carried.{HasRunOver};
 ghost use Rattle.ws_session.specs.Crossings.{Crossing, AreFaithful, HaveCrossed, IsEnded, AreEnded};
 ghost use Rattle.ws_session.specs.Runs.{Runs};
-ghost use Rattle.ws_session.specs.TwoLines.{ends_of, HasMoved, ComesDown, ComesUp};
+ghost use Rattle.ws_session.specs.TwoLines.{two_ends_of, HasMoved, ComesDown, ComesUp};
 ghost use Rattle.ws_session.specs.World as spec;
 ghost use Rattle.ws_session.specs.World.{World as AWorld, after_move};
 
@@ -61,14 +61,14 @@ impl World {
         ensures taken { OnOk result ((downs ups : Seq Crossing)
             × HaveCrossed S.writer R.reader down.old downs down.new
             × HaveCrossed T.writer Q.reader up.old ups up.new
-            × HasMoved (ends_of self.old) step.now downs ups (ends_of self.new)
+            × HasMoved (two_ends_of self.old) step.now downs ups (two_ends_of self.new)
             × (AreFaithful downs → AreFaithful ups → (t : ATerminal) (w : AWorld)
             → Runs t self.old w → Runs t self.new (after_move w step.now))) }
         ensures fault { IfErr result (AreEnded S.writer R.reader
             T.writer Q.reader down.old down.new up.old up.new) }
         ensures early { IfErr result (BreaksOff S.writer R.reader
             T.writer Q.reader
-            (ends_of self.old) step.now down.old down.new up.old up.new) }
+            (two_ends_of self.old) step.now down.old down.new up.old up.new) }
     {
         match step {
             Move::Send(opcode, body) => self.order(*opcode, body.as_slice()),
@@ -86,13 +86,13 @@ impl World {
     ) -> Result<(), Fault>
         ensures came { OnOk result ((crossings : Seq Crossing)
             × HaveCrossed S.writer R.reader line.old crossings line.new
-            × ComesDown (ends_of self.old) count crossings (ends_of self.new)
+            × ComesDown (two_ends_of self.old) count crossings (two_ends_of self.new)
             × (AreFaithful crossings → (t : ATerminal) (w : AWorld)
             → Runs t self.old w → Runs t self.new (spec.bytes_to_station count w))) }
         ensures fault { IfErr result
             (IsEnded S.writer R.reader line.old line.new) }
         ensures early { IfErr result (CutsDown S.writer R.reader
-            (ends_of self.old) count line.old line.new) }
+            (two_ends_of self.old) count line.old line.new) }
     {
         let mut left = count;
         while left > 0 {
@@ -118,13 +118,13 @@ impl World {
         // What crossed, and what it led to; at a fault what had crossed before it.
         ensures came { OnOk result ((crossing : Crossing)
             × HaveCrossed S.writer R.reader line.old (crossing ∷ []) line.new
-            × ComesDown (ends_of self.old) piece (crossing ∷ []) (ends_of self.new)
+            × ComesDown (two_ends_of self.old) piece (crossing ∷ []) (two_ends_of self.new)
             × (crossing.read ≡ crossing.sent → (t : ATerminal) (w : AWorld)
             → Runs t self.old w → Runs t self.new (spec.bytes_to_station piece w))) }
         ensures fault { IfErr result
             (IsEnded S.writer R.reader line.old line.new) }
-        ensures early { IfErr result (IsCut S.writer R.reader
-            (take piece (ends_of self.old).to_station) line.old line.new) }
+        ensures early { IfErr result (IsDeliveryCut S.writer R.reader
+            (take piece (two_ends_of self.old).to_station) line.old line.new) }
     {
         self.known_wires();
         let mut taken = [0u8; PIECE];
@@ -146,13 +146,13 @@ impl World {
     ) -> Result<(), Fault>
         ensures came { OnOk result ((crossings : Seq Crossing)
             × HaveCrossed S.writer R.reader line.old crossings line.new
-            × ComesUp (ends_of self.old) count crossings (ends_of self.new)
+            × ComesUp (two_ends_of self.old) count crossings (two_ends_of self.new)
             × (AreFaithful crossings → (t : ATerminal) (w : AWorld)
             → Runs t self.old w → Runs t self.new (spec.bytes_to_host count w))) }
         ensures fault { IfErr result
             (IsEnded S.writer R.reader line.old line.new) }
         ensures early { IfErr result (CutsUp S.writer R.reader
-            (ends_of self.old) count line.old line.new) }
+            (two_ends_of self.old) count line.old line.new) }
     {
         let mut left = count;
         while left > 0 {
@@ -178,13 +178,13 @@ impl World {
         // What crossed, and what it led to; at a fault what had crossed before it.
         ensures came { OnOk result ((crossing : Crossing)
             × HaveCrossed S.writer R.reader line.old (crossing ∷ []) line.new
-            × ComesUp (ends_of self.old) piece (crossing ∷ []) (ends_of self.new)
+            × ComesUp (two_ends_of self.old) piece (crossing ∷ []) (two_ends_of self.new)
             × (crossing.read ≡ crossing.sent → (t : ATerminal) (w : AWorld)
             → Runs t self.old w → Runs t self.new (spec.bytes_to_host piece w))) }
         ensures fault { IfErr result
             (IsEnded S.writer R.reader line.old line.new) }
-        ensures early { IfErr result (IsCut S.writer R.reader
-            (take piece (ends_of self.old).to_host) line.old line.new) }
+        ensures early { IfErr result (IsDeliveryCut S.writer R.reader
+            (take piece (two_ends_of self.old).to_host) line.old line.new) }
     {
         self.known_wires();
         let mut taken = [0u8; PIECE];

@@ -3,7 +3,7 @@ ghost use Rattle.ws_code.specs.Code.{IsUnfinished};
 ghost use Rattle.ws_stream.specs.Elements.{element_rules};
 ghost use Rattle.ws_stream.specs.FieldOrder.{is_attribute};
 ghost use Rattle.ws_stream.specs.Machine.{words_bytes, front_bytes, are_words, is_front};
-ghost use Rattle.ws_stream.specs.Taking.{GoesOn, Takes};
+ghost use Rattle.ws_stream.specs.Taking.{GoesOnWithElement, Takes};
 
 use super::Commands;
 use super::phase::Phase;
@@ -15,7 +15,7 @@ impl Commands {
     #[inline(always)]
     pub(super) fn field_first(&mut self, byte: u8) -> End
         requires { IsUnfinished element_rules self.old.place (START_OF_FIELD ∷ []) }
-        ensures { GoesOn self.old.place (START_OF_FIELD ∷ []) byte self.new result }
+        ensures { GoesOnWithElement self.old.place (START_OF_FIELD ∷ []) byte self.new result }
     {
         match byte {
             0x20..=0x3f => self.wait_for(Phase::LengthHigh(None, byte)),
@@ -33,7 +33,7 @@ impl Commands {
     pub(super) fn format_low(&mut self, high: u8, byte: u8) -> End
         requires format { nat_le 0x40 high ≡ true }
         requires begun { IsUnfinished element_rules self.old.place (START_OF_FIELD ∷ high ∷ []) }
-        ensures { GoesOn self.old.place (START_OF_FIELD ∷ high ∷ []) byte self.new result }
+        ensures { GoesOnWithElement self.old.place (START_OF_FIELD ∷ high ∷ []) byte self.new result }
     {
         match Ffw::new(word(high, byte)) {
             Some(format) => {
@@ -50,7 +50,7 @@ impl Commands {
         requires words { are_words format self.old.controls ≡ true }
         requires begun { IsUnfinished element_rules self.old.place
             (START_OF_FIELD ∷ words_bytes format self.old.controls) }
-        ensures { GoesOn self.old.place
+        ensures { GoesOnWithElement self.old.place
             (START_OF_FIELD ∷ words_bytes format self.old.controls) byte self.new result }
     {
         match byte {
@@ -72,7 +72,7 @@ impl Commands {
         requires control { nat_le 0x80 high ≡ true }
         requires begun { IsUnfinished element_rules self.old.place
             (START_OF_FIELD ∷ words_bytes format self.old.controls ++ high ∷ []) }
-        ensures { GoesOn self.old.place
+        ensures { GoesOnWithElement self.old.place
             (START_OF_FIELD ∷ words_bytes format self.old.controls ++ high ∷ []) byte self.new
             result }
     {
@@ -86,7 +86,7 @@ impl Commands {
         requires attribute { is_attribute attribute ≡ true }
         requires begun { IsUnfinished element_rules self.old.place
             (START_OF_FIELD ∷ front_bytes format self.old.controls ++ attribute ∷ []) }
-        ensures { GoesOn self.old.place
+        ensures { GoesOnWithElement self.old.place
             (START_OF_FIELD ∷ front_bytes format self.old.controls ++ attribute ∷ []) byte self.new
             result }
     {

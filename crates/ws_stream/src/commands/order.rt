@@ -2,7 +2,7 @@ ghost use Rattle.std.specs.Prelude.{◌≡◌, ◌∷◌, ◌++◌, ◌+◌, [],
 ghost use Rattle.ws_code.specs.Code.{IsUnfinished};
 ghost use Rattle.ws_stream.specs.Elements.{element_rules, row_and_column};
 ghost use Rattle.ws_stream.specs.Machine.{order_byte};
-ghost use Rattle.ws_stream.specs.Taking.{GoesOn, Takes};
+ghost use Rattle.ws_stream.specs.Taking.{GoesOnWithElement, Takes};
 
 use super::Commands;
 use super::phase::{Order, Phase};
@@ -50,7 +50,7 @@ impl Commands {
     #[inline(always)]
     pub(super) fn row(&mut self, order: Order, byte: u8) -> End
         requires { IsUnfinished element_rules self.old.place (order_byte order ∷ []) }
-        ensures { GoesOn self.old.place (order_byte order ∷ []) byte self.new result }
+        ensures { GoesOnWithElement self.old.place (order_byte order ∷ []) byte self.new result }
     {
         if byte < 1 || byte > ROWS {
             return End::Bad(Reason::BadAddress);
@@ -107,7 +107,7 @@ impl Commands {
     pub(super) fn erase_length(&mut self, to: Address, byte: u8) -> End
         requires { IsUnfinished element_rules self.old.place
             (ERASE_TO_ADDRESS ∷ row_and_column to) }
-        ensures { GoesOn self.old.place
+        ensures { GoesOnWithElement self.old.place
             (ERASE_TO_ADDRESS ∷ row_and_column to) byte self.new result }
     {
         if byte < 2 || byte > 5 {

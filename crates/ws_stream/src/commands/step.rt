@@ -1,6 +1,6 @@
 ghost use Rattle.std.specs.Prelude.{◌≡◌, ◌≤◌, [], true, length, take};
 ghost use Rattle.ws_code.specs.Code.{IsUnfinished};
-ghost use Rattle.ws_code.specs.Run.{IsRun};
+ghost use Rattle.ws_code.specs.Run.{IsRunOfValues};
 ghost use Rattle.ws_code.specs.declared.run.End.{End as AnEnd};
 ghost use Rattle.ws_stream.specs.Elements.{element_rules};
 ghost use Rattle.ws_stream.specs.Machine.{is_sound};
@@ -109,7 +109,7 @@ impl Commands {
         requires { IsUnfinished element_rules self.old.place (unfinished_of self.old) }
         ensures used { result.used ≤ length values.now }
         ensures whole { result.end ≡ AnEnd.More → result.used ≡ length values.now }
-        ensures run { IsRun element_rules K.holds K.may_answer (reading_of self.old) keep.old
+        ensures run { IsRunOfValues element_rules K.holds K.may_answer (reading_of self.old) keep.old
             (take result.used values.now) (reading_of self.new)
             (standing_of self.new) keep.new result.end }
     {

@@ -2,7 +2,7 @@ use Rattle.std.proofs.Common.{ap, sym}
 use Rattle.std.proofs.lemmas.List.{take_all}
 use Rattle.ws_text.proofs.Texts.{flat_map_more}
 use Rattle.ws_text.proofs.Prints.{prints_none, prints_both, prints_same}
-use Rattle.ws_any_host.specs.AnyText.{name_byte, name_text}
+use Rattle.ws_any_host.specs.AnyText.{name_byte, terminal_name_text}
 use Rattle.ws_any_host.proofs.any_text.put_name.Goals as goal
 
 pub loop-byte-init : goal.loop-byte-init
@@ -14,5 +14,5 @@ loop-byte-preserved g c = prints_same
     (prints_both c.loop-byte.invariant c.put_name_byte-output.ensures)
 
 pub returns : goal.returns
-returns g c = prints_same (ap name_text (take_all c.loop-byte.byte-index c.args.name.now c.loop-byte-test.false))
+returns g c = prints_same (ap terminal_name_text (take_all c.loop-byte.byte-index c.args.name.now c.loop-byte-test.false))
     c.loop-byte.invariant

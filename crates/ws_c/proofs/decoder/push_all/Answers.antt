@@ -5,12 +5,12 @@ use Rattle.ws_record.specs.declared.live.Step.{Step}
 use Rattle.ws_record.specs.declared.live.Step.TheVariants.{More, Open, Unit as Whole, Close, Telnet as Command}
 use Rattle.ws_record.specs.declared.live.Step.TheVariants.{Refused as StepRefused, Failed as StepFailed}
 use Rattle.ws_c.specs.declared.status.Status.TheVariants.{Done}
-use Rattle.ws_c.specs.Decoding.{DecoderPushedOn, DecoderTakesOn, IsDecoderEndOn, IsStepToldOn, plain_step, tells}
+use Rattle.ws_c.specs.Decoding.{DecoderPushedOn, DecoderTakesOn, IsDecoderEndOn, IsStepToldOn, plain_step, tells_something}
 use Rattle.ws_c.specs.Pushes.{TakesAll}
 use Rattle.ws_c.proofs.PushLaws.{takes_more, none_left, one_left}
 use Rattle.ws_c.proofs.decoder.push_all.Goals as goal
 
-tells_else : {U : Type 0} (step : Step U) → (step ≡ More → ⊥) → tells step ≡ true
+tells_else : {U : Type 0} (step : Step U) → (step ≡ More → ⊥) → tells_something step ≡ true
 tells_else More not = absurd (not refl)
 tells_else (Open head) not = refl
 tells_else (Whole unit) not = refl

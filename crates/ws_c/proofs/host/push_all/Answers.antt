@@ -8,7 +8,7 @@ use Rattle.ws_session.specs.HostFeeds.{HasHostFed, HasHostRefused, IsHostSilent}
 use Rattle.ws_session.specs.declared.host_event.HostEvent.{HostEvent}
 use Rattle.ws_c.specs.declared.status.Status.TheVariants.{Done, NoRoom}
 use Rattle.ws_c.specs.declared.told.PushedTold.{PushedTold}
-use Rattle.ws_c.specs.Hosts.{HostTells, HostRefuses, IsHostEnd, answer_after, event_told}
+use Rattle.ws_c.specs.Hosts.{HostTells, HostRefusesWithin, IsHostEnd, answer_after, event_told}
 use Rattle.ws_c.specs.Pushes.{place_refused_at}
 use Rattle.ws_c.proofs.PushLaws.{feeding_more, none_left, one_left, put_no_more, rest_is, told_again}
 use Rattle.ws_c.proofs.FeedLaws.{HeldTakes, host_takes_none, host_takes_on, host_refuses}
@@ -147,7 +147,7 @@ returns-in-Err c =
     c.taken-before.ensures.count
     (subst (λ (x : List ℕ). m ≡ min (place_refused_at refusal c.taken-before.result c.taken.result
     - c.taken-before.result) (length x)) is c.front_length.ensures)) in
-    let refuses : HostRefuses old (drop n bytes) m refusal new =
+    let refuses : HostRefusesWithin old (drop n bytes) m refusal new =
     host_refuses old new (drop n bytes) refusal m few
     (λ b its s l fits. subst (λ (x : List ℕ). HasHostRefused old new b its s x refusal) is
     (e.refused b its s l (subst (λ (x : List ℕ). length b + length x + 1 < 2 ^ 64) (sym is) fits)))
@@ -174,7 +174,7 @@ returns-in-Err c =
             (λ _. inr (record {
               length_is = m;
               refusal = refusal;
-              refuses = subst (λ (l : List ℕ). HostRefuses old l m refusal new) one refuses;
+              refuses = subst (λ (l : List ℕ). HostRefusesWithin old l m refusal new) one refuses;
               taken_is = c.tell_push_refusal.ensures.taken;
               told_is = c.tell_push_refusal.ensures.refused;
               event_is = now.invariant.event;

@@ -8,7 +8,7 @@ use Rattle.ws_session.specs.StationSide.{profile}
 use Rattle.ws_stream.specs.Elements.{element_rules}
 use Rattle.ws_c.specs.declared.status.Status.TheVariants.{Done, NoRoom}
 use Rattle.ws_c.specs.declared.told.PushedTold.{PushedTold}
-use Rattle.ws_c.specs.Pushes.{StationTakes, StationRefuses, IsStationEnd, place_refused_at}
+use Rattle.ws_c.specs.Pushes.{StationTakes, StationRefusesWithin, IsStationEnd, place_refused_at}
 use Rattle.ws_c.proofs.PushLaws.{feeding_more, none_left, one_left, rest_is, told_again}
 use Rattle.ws_c.proofs.FeedLaws.{station_takes_none, station_takes_on, station_refuses}
 use Rattle.ws_c.proofs.station.push_all.Goals as goal
@@ -120,7 +120,7 @@ returns-in-Err c =
     c.taken-before.ensures.count
     (subst (λ (x : List ℕ). m ≡ min (place_refused_at refusal c.taken-before.result last - c.taken-before.result)
     (length x)) is c.front_length.ensures) in
-    let refuses : StationRefuses now.station (drop n bytes) m refusal new =
+    let refuses : StationRefusesWithin now.station (drop n bytes) m refusal new =
     station_refuses element_rules profile now.station new (drop n bytes) last refusal m few
     (λ b its s l fits. subst (λ (x : List ℕ). HasRefused now.station new b its s x refusal) is
     (e.refused b its s l (subst (λ (x : List ℕ). length b + length x + 1 < 2 ^ 64) (sym is) fits)))
@@ -144,7 +144,7 @@ returns-in-Err c =
             (λ _. (
               refusal,
               m,
-              subst (λ (l : List ℕ). StationRefuses now.station l m refusal new) one refuses,
+              subst (λ (l : List ℕ). StationRefusesWithin now.station l m refusal new) one refuses,
               c.tell_push_refusal.ensures.taken,
               c.tell_push_refusal.ensures.refused,
             )),

@@ -1,7 +1,7 @@
 use Rattle.std.proofs.Common.{◌++◌, List, ℕ, ap}
 use Rattle.std.specs.Prelude.{codes}
 use Rattle.std.proofs.lemmas.Result.{err_from_is_err_and}
-use Rattle.ws_live.specs.ConnectLines.{AreNamed, IsAwaited, IsCellText, IsFilling, IsRowText, IsSpanText, Means}
+use Rattle.ws_live.specs.ConnectLines.{AreNamed, IsAwaited, IsCellText, IsFilling, IsRowText, IsSpanText, MeansStationLine}
 use Rattle.ws_live.specs.ConnectLines.MeansKeys.{typed, inserted, named}
 use Rattle.ws_live.proofs.StationLines.{types_so_far, inserts_so_far, named_so_far, awaits_so_far, no_named_line}
 use Rattle.ws_live.proofs.StationLines.{no_awaited_line, no_station_command, no_cell_line, no_filling_line, fills_so_far}
@@ -14,7 +14,7 @@ returns-in_err-typed_keys-in-type-clause-fault g c =
     let p = err_from_is_err_and c.from_residual.result c.from_residual.ensures.1 in
     let command = c.args.command.now in
     let words = c.args.words.now in
-    rw (p.1, p.2) (only_memory (Means g.Q.NamedKey.words ((command ++ codes " ") ++ words)) _
+    rw (p.1, p.2) (only_memory (MeansStationLine g.Q.NamedKey.words ((command ++ codes " ") ++ words)) _
     c.in_err-typed_keys-in-type.ensures.fault
     (types_so_far g.Q.NamedKey.words command words c.in-type.is c.utf8.words))
 
@@ -24,7 +24,7 @@ returns-in_err-typed_keys-in-insert-clause-fault g c =
     c.from_residual-in_err-typed_keys-in-insert.ensures.1 in
     let command = c.args.command.now in
     let words = c.args.words.now in
-    rw (p.1, p.2) (only_memory (Means g.Q.NamedKey.words ((command ++ codes " ") ++ words)) _
+    rw (p.1, p.2) (only_memory (MeansStationLine g.Q.NamedKey.words ((command ++ codes " ") ++ words)) _
     c.in_err-typed_keys-in-insert.ensures.fault
     (inserts_so_far g.Q.NamedKey.words command words c.in-insert.is c.utf8.words))
 
@@ -34,7 +34,7 @@ returns-in_err-named_key-in-key-clause-fault g c =
     c.from_residual-in_err-named_key-in-key.ensures.1 in
     let command = c.args.command.now in
     let words = c.args.words.now in
-    rw (p.1, p.2) (fault_on (AreNamed g.Q.NamedKey.words words) (Means g.Q.NamedKey.words ((command ++ codes " ") ++
+    rw (p.1, p.2) (fault_on (AreNamed g.Q.NamedKey.words words) (MeansStationLine g.Q.NamedKey.words ((command ++ codes " ") ++
     words)) _
     (no_named_line g.Q.NamedKey.words command words c.requires.no_blank c.requires.no_comment c.in-key.is)
     (named_so_far g.Q.NamedKey.words command words c.in-key.is) c.in_err-named_key-in-key.ensures.fault)
@@ -45,7 +45,7 @@ returns-in_err-read_awaited-in-await-clause-fault g c =
     c.from_residual-in_err-read_awaited-in-await.ensures.1 in
     let command = c.args.command.now in
     let words = c.args.words.now in
-    rw (p.1, p.2) (fault_on (IsAwaited words) (Means g.Q.NamedKey.words ((command ++ codes " ") ++ words)) _
+    rw (p.1, p.2) (fault_on (IsAwaited words) (MeansStationLine g.Q.NamedKey.words ((command ++ codes " ") ++ words)) _
     (no_awaited_line g.Q.NamedKey.words command words c.requires.no_blank c.requires.no_comment c.in-await.is)
     (awaits_so_far g.Q.NamedKey.words command words c.in-await.is) c.in_err-read_awaited-in-await.ensures.fault)
 
@@ -84,7 +84,7 @@ returns-in_err-read_cell-in-cursor-clause-fault g c =
     c.from_residual-in_err-read_cell-in-cursor.ensures.1 in
     let command = c.args.command.now in
     let words = c.args.words.now in
-    rw (p.1, p.2) (fault_on (IsCellText words) (Means g.Q.NamedKey.words ((command ++ codes " ") ++ words)) _
+    rw (p.1, p.2) (fault_on (IsCellText words) (MeansStationLine g.Q.NamedKey.words ((command ++ codes " ") ++ words)) _
     (no_cell_line g.Q.NamedKey.words command words c.requires.no_blank c.requires.no_comment c.in-cursor.is)
     (λ (h : ⊥). absurd h) c.in_err-read_cell-in-cursor.ensures.fault)
 
@@ -94,7 +94,7 @@ returns-in_err-read_filling-in-field-clause-fault g c =
     c.from_residual-in_err-read_filling-in-field.ensures.1 in
     let command = c.args.command.now in
     let words = c.args.words.now in
-    rw (p.1, p.2) (fault_on (IsFilling g.Q.NamedKey.words words) (Means g.Q.NamedKey.words ((command ++ codes " ") ++
+    rw (p.1, p.2) (fault_on (IsFilling g.Q.NamedKey.words words) (MeansStationLine g.Q.NamedKey.words ((command ++ codes " ") ++
     words)) _
     (no_filling_line g.Q.NamedKey.words command words c.requires.no_blank c.requires.no_comment c.in-field.is)
     (fills_so_far g.Q.NamedKey.words command words c.in-field.is) c.in_err-read_filling-in-field.ensures.fault)
@@ -119,7 +119,7 @@ returns-in_err-read_row-in-cells-clause-fault g c =
     c.from_residual-in_err-read_row-in-cells.ensures.1 in
     let command = c.args.command.now in
     let words = c.args.words.now in
-    rw (p.1, p.2) (fault_on (IsRowText words) (Means g.Q.NamedKey.words ((command ++ codes " ") ++ words)) _
+    rw (p.1, p.2) (fault_on (IsRowText words) (MeansStationLine g.Q.NamedKey.words ((command ++ codes " ") ++ words)) _
     (no_row_line g.Q.NamedKey.words command words c.requires.no_blank c.requires.no_comment c.in-cells.is)
     (λ (h : ⊥). absurd h) c.in_err-read_row-in-cells.ensures.fault)
 
@@ -129,7 +129,7 @@ returns-in_err-read_span-in-show-clause-fault g c =
     c.from_residual-in_err-read_span-in-show.ensures.1 in
     let command = c.args.command.now in
     let words = c.args.words.now in
-    rw (p.1, p.2) (fault_on (IsSpanText words) (Means g.Q.NamedKey.words ((command ++ codes " ") ++ words)) _
+    rw (p.1, p.2) (fault_on (IsSpanText words) (MeansStationLine g.Q.NamedKey.words ((command ++ codes " ") ++ words)) _
     (no_span_line g.Q.NamedKey.words command words c.requires.no_blank c.requires.no_comment c.in-show.is)
     (λ (h : ⊥). absurd h) c.in_err-read_span-in-show.ensures.fault)
 
@@ -139,7 +139,7 @@ returns-in_err-read_note-in-note-clause-fault g c =
     c.from_residual-in_err-read_note-in-note.ensures.1 in
     let command = c.args.command.now in
     let words = c.args.words.now in
-    rw (p.1, p.2) (only_memory (Means g.Q.NamedKey.words ((command ++ codes " ") ++ words)) _
+    rw (p.1, p.2) (only_memory (MeansStationLine g.Q.NamedKey.words ((command ++ codes " ") ++ words)) _
     c.in_err-read_note-in-note.ensures.fault (notes_so_far g.Q.NamedKey.words command words c.in-note.is))
 
 pub returns-in_ok-read_row-in-cells-clause-line : goal.returns-in_ok-read_row-in-cells-clause-line

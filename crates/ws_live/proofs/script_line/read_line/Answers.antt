@@ -5,7 +5,7 @@ use Rattle.ws_session.specs.declared.world.Move.{Move}
 use Rattle.std.proofs.lemmas.List.{append-nil}
 use Rattle.std.proofs.lemmas.Result.{on_ok_weaker, IfErr-weaker}
 use Rattle.std.proofs.lemmas.Grind.{common_steps}
-use Rattle.ws_live.specs.Script.{Means, IsLine}
+use Rattle.ws_live.specs.Script.{MeansMoves, IsScriptLine}
 use Rattle.ws_live.specs.Script.Means.{comment}
 use Rattle.ws_live.specs.ScriptFaults.{IsLineFault, IsGoodSoFar}
 use Rattle.ws_live.proofs.Scripts.{fault_on}
@@ -26,20 +26,20 @@ read_word-requires-clause-no_comment c =
 pub returns-in-None-clause-ok : goal.returns-in-None-clause-ok
 returns-in-None-clause-ok c =
     on_ok_weaker c.read_word.result
-    (λ p. (p.0, (c.in-Ok.ensures.cases.1, subst (λ (z : List ℕ). Means z p.0) c.in-Ok.ensures.cases.0 p.1), p.2))
+    (λ p. (p.0, (c.in-Ok.ensures.cases.1, subst (λ (z : List ℕ). MeansMoves z p.0) c.in-Ok.ensures.cases.0 p.1), p.2))
     c.read_word.ensures.ok
 
 pub returns-in-None-clause-fault : goal.returns-in-None-clause-fault
 returns-in-None-clause-fault c =
     let text = c.in-Ok.text.now in
     let line = c.args.line.now in
-    IfErr-weaker c.read_word.result (IsLineFault (Means text) ((given : List Move) × Means text given))
-    (IsLineFault (IsLine line) (IsUtf8 line × IsGoodSoFar line))
-    (λ fault h. fault_on (Means text) (IsLine line) fault (λ refused moves l. refused moves
-    (subst (λ (z : List ℕ). Means z moves) (sym c.in-Ok.ensures.cases.0) l.1))
+    IfErr-weaker c.read_word.result (IsLineFault (MeansMoves text) ((given : List Move) × MeansMoves text given))
+    (IsLineFault (IsScriptLine line) (IsUtf8 line × IsGoodSoFar line))
+    (λ fault h. fault_on (MeansMoves text) (IsScriptLine line) fault (λ refused moves l. refused moves
+    (subst (λ (z : List ℕ). MeansMoves z moves) (sym c.in-Ok.ensures.cases.0) l.1))
     (λ good. (
       c.in-Ok.ensures.cases.1,
-      inl (good.0, subst (λ (z : List ℕ). Means z good.0) c.in-Ok.ensures.cases.0 good.1),
+      inl (good.0, subst (λ (z : List ℕ). MeansMoves z good.0) c.in-Ok.ensures.cases.0 good.1),
     )) h)
     c.read_word.ensures.fault
 
@@ -52,7 +52,7 @@ pub returns-in-Some-clause-ok : goal.returns-in-Some-clause-ok
 returns-in-Some-clause-ok c =
     let same = sym c.in-Some.ensures.0 ∙ c.in-Ok.ensures.cases.0 in
     on_ok_weaker c.read_command.result
-    (λ p. (p.0, (c.in-Ok.ensures.cases.1, subst (λ (z : List ℕ). Means z p.0) same p.1), p.2))
+    (λ p. (p.0, (c.in-Ok.ensures.cases.1, subst (λ (z : List ℕ). MeansMoves z p.0) same p.1), p.2))
     c.read_command.ensures.ok
 
 pub returns-in-Some-clause-fault : goal.returns-in-Some-clause-fault
@@ -60,10 +60,10 @@ returns-in-Some-clause-fault c =
     let text : List ℕ = (c.in-Some.command.now ++ codes " ") ++ c.in-Some.words.now in
     let line = c.args.line.now in
     let same = sym c.in-Some.ensures.0 ∙ c.in-Ok.ensures.cases.0 in
-    IfErr-weaker c.read_command.result (IsLineFault (Means text) (IsGoodSoFar text))
-    (IsLineFault (IsLine line) (IsUtf8 line × IsGoodSoFar line))
-    (λ fault h. fault_on (Means text) (IsLine line) fault (λ refused moves l. refused moves
-    (subst (λ (z : List ℕ). Means z moves) (sym same) l.1))
+    IfErr-weaker c.read_command.result (IsLineFault (MeansMoves text) (IsGoodSoFar text))
+    (IsLineFault (IsScriptLine line) (IsUtf8 line × IsGoodSoFar line))
+    (λ fault h. fault_on (MeansMoves text) (IsScriptLine line) fault (λ refused moves l. refused moves
+    (subst (λ (z : List ℕ). MeansMoves z moves) (sym same) l.1))
     (λ good. (c.in-Ok.ensures.cases.1, subst IsGoodSoFar same good)) h) c.read_command.ensures.fault
 
 pub returns-in_default-clause-ok : goal.returns-in_default-clause-ok

@@ -2,7 +2,7 @@ use Rattle.std.proofs.Common.{[], ◌∷◌, refl, arith}
 use Rattle.std.proofs.lemmas.Result.{on_ok_weaker, IfErr-weaker}
 use Rattle.std.proofs.lemmas.Grind.{common_steps}
 use Rattle.ws_session.specs.declared.world.Move.TheVariants.{Cancel}
-use Rattle.ws_live.specs.Script.{Means, settling}
+use Rattle.ws_live.specs.Script.{MeansMoves, settling}
 use Rattle.ws_live.specs.Script.Means.{one, settle}
 use Rattle.ws_live.proofs.Scripts.{only_memory}
 use Rattle.ws_live.proofs.script_line.read_word.Goals as goal
@@ -13,12 +13,12 @@ returns-in-cancel-clause-ok c = on_ok_weaker c.add.result (λ e. (Cancel ∷ [],
 
 pub returns-in-cancel-clause-fault : goal.returns-in-cancel-clause-fault
 returns-in-cancel-clause-fault c = IfErr-weaker c.add.result _ _
-    (λ fault e. only_memory (Means c.args.word.now) fault e (Cancel ∷ [], one Cancel c.in-cancel.is refl))
+    (λ fault e. only_memory (MeansMoves c.args.word.now) fault e (Cancel ∷ [], one Cancel c.in-cancel.is refl))
     c.add.ensures.fault
 
 pub returns-in-settle-clause-fault : goal.returns-in-settle-clause-fault
 returns-in-settle-clause-fault c = IfErr-weaker c.settle.result _ _
-    (λ fault e. only_memory (Means c.args.word.now) fault e (settling, settle c.in-settle.is refl))
+    (λ fault e. only_memory (MeansMoves c.args.word.now) fault e (settling, settle c.in-settle.is refl))
     c.settle.ensures.fault
 
 pub returns-in_default-clause-fault : goal.returns-in_default-clause-fault

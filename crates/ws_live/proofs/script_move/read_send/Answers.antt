@@ -1,7 +1,7 @@
 use Rattle.std.proofs.Common.{◌++◌, sym, ◌∙◌}
 use Rattle.std.specs.Prelude.{codes}
 use Rattle.std.proofs.lemmas.Result.{err_from_is_err_and}
-use Rattle.ws_live.specs.Script.{IsMove, IsOpcodeText, IsBodyText}
+use Rattle.ws_live.specs.Script.{IsMove, IsSendOpcode, IsBodyText}
 use Rattle.ws_live.proofs.Scripts.{no_send, fault_on}
 use Rattle.ws_text.proofs.LineEnds.{is_none}
 use Rattle.ws_live.proofs.script_move.read_send.Goals as goal
@@ -11,7 +11,7 @@ returns-in_err-opcode-2-clause-fault c =
     let p = err_from_is_err_and c.from_residual-in_err-opcode-2.result c.from_residual-in_err-opcode-2.ensures.1 in
     let words = c.args.words.now in
     let number = c.in-Some.number.now in
-    rw (p.1, p.2) (fault_on (IsOpcodeText number) (IsMove (codes "send " ++ words)) _
+    rw (p.1, p.2) (fault_on (IsSendOpcode number) (IsMove (codes "send " ++ words)) _
     (λ refused. no_send words number c.in-Some.hex.now c.in-Some.ensures.0 c.in-Some.ensures.1
     (λ opcode body sent some text. refused opcode sent)) (λ (h : ⊥). absurd h) c.in_err-opcode-2.ensures.fault)
 

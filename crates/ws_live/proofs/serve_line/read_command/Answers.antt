@@ -2,7 +2,7 @@ use Rattle.std.proofs.Common.{◌++◌, List, ℕ, inl, inr, sym, ap, subst}
 use Rattle.std.specs.Prelude.{codes}
 use Rattle.ws_live.specs.Script.{IsMove}
 use Rattle.ws_live.specs.ScriptFaults.{IsSendLine}
-use Rattle.ws_live.specs.ServeLines.{IsAnswerAwaited, Means}
+use Rattle.ws_live.specs.ServeLines.{IsAnswerAwaited, MeansHostLine}
 use Rattle.ws_live.specs.WireLines.{IsWireBegun, MeansWire}
 use Rattle.ws_live.proofs.LiveLines.{no_awaited_answer, no_host_command, no_send_line}
 use Rattle.ws_live.proofs.Scripts.{fault_on}
@@ -13,7 +13,7 @@ returns-in-Err-clause-fault c =
     let command = c.args.command.now in
     let words = c.args.words.now in
     let line : List ℕ = (command ++ codes " ") ++ words in
-    fault_on (IsMove line) (Means line) c.in-Err.fault
+    fault_on (IsMove line) (MeansHostLine line) c.in-Err.fault
     (no_send_line command words c.requires.no_blank c.requires.no_comment c.in-send.is)
     (λ (begun : IsSendLine line). inl begun) c.in-Err.ensures.fault
 
@@ -26,7 +26,7 @@ returns-in-Err-read_wire-clause-fault c =
     let command = c.args.command.now in
     let words = c.args.words.now in
     let line : List ℕ = (command ++ codes " ") ++ words in
-    fault_on (MeansWire c.args.line.now) (Means line) c.in-Err-read_wire.fault
+    fault_on (MeansWire c.args.line.now) (MeansHostLine line) c.in-Err-read_wire.fault
     (λ none_is. no_host_command command words c.requires.no_blank c.requires.no_comment c.in_default.not-send
     c.in_default.not-await (λ wire m. none_is wire (subst (λ (z : List ℕ). MeansWire z wire) (sym c.requires.is) m)))
     (λ begun. inr (subst IsWireBegun c.requires.is begun)) c.in-Err-read_wire.ensures.fault
@@ -43,6 +43,6 @@ returns-in-Err-read_awaited-clause-fault c =
     let command = c.args.command.now in
     let words = c.args.words.now in
     let line : List ℕ = (command ++ codes " ") ++ words in
-    fault_on (IsAnswerAwaited words) (Means line) c.in-Err-read_awaited.fault
+    fault_on (IsAnswerAwaited words) (MeansHostLine line) c.in-Err-read_awaited.fault
     (no_awaited_answer command words c.requires.no_blank c.requires.no_comment c.in-await.is)
     (λ (h : ⊥). absurd h) c.in-Err-read_awaited.ensures.fault

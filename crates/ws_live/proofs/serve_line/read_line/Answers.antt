@@ -1,7 +1,7 @@
 use Rattle.std.proofs.Common.{◌++◌, List, ℕ, sym, ◌∙◌, subst, inl, inr}
 use Rattle.std.specs.Prelude.{codes}
 use Rattle.std.proofs.lemmas.Result.{IfOk-weaker, IfErr-weaker}
-use Rattle.ws_live.specs.ServeLines.{IsHostBegun, Means, IsOneLine, IsOneSoFar}
+use Rattle.ws_live.specs.ServeLines.{IsHostBegun, MeansHostLine, IsOneLine, IsOneSoFar}
 use Rattle.ws_live.specs.ScriptFaults.{IsLineFault}
 use Rattle.ws_live.proofs.LiveLines.{host_so_far}
 use Rattle.ws_live.proofs.Scripts.{fault_on}
@@ -22,17 +22,17 @@ read_word-requires-clause-no_comment c =
 pub returns-in-None-clause-line : goal.returns-in-None-clause-line
 returns-in-None-clause-line c =
     IfOk-weaker c.read_word.result _ _
-    (λ line m. (c.in-Ok.ensures.cases.1, subst (λ (z : List ℕ). Means z line) c.in-Ok.ensures.cases.0 m))
+    (λ line m. (c.in-Ok.ensures.cases.1, subst (λ (z : List ℕ). MeansHostLine z line) c.in-Ok.ensures.cases.0 m))
     c.read_word.ensures.line
 
 pub returns-in-None-clause-fault : goal.returns-in-None-clause-fault
 returns-in-None-clause-fault c =
     let text = c.in-Ok.text.now in
     let line = c.args.line.now in
-    IfErr-weaker c.read_word.result (IsLineFault (Means text) ⊥) (IsLineFault (IsOneLine line)
+    IfErr-weaker c.read_word.result (IsLineFault (MeansHostLine text) ⊥) (IsLineFault (IsOneLine line)
     (IsOneSoFar line))
-    (λ fault h. fault_on (Means text) (IsOneLine line) fault (λ none_is read l. none_is read
-    (subst (λ (z : List ℕ). Means z read) (sym c.in-Ok.ensures.cases.0) l.1)) (λ (h : ⊥). absurd h) h)
+    (λ fault h. fault_on (MeansHostLine text) (IsOneLine line) fault (λ none_is read l. none_is read
+    (subst (λ (z : List ℕ). MeansHostLine z read) (sym c.in-Ok.ensures.cases.0) l.1)) (λ (h : ⊥). absurd h) h)
     c.read_word.ensures.fault
 
 pub read_command-requires-clause-no_comment : goal.read_command-requires-clause-no_comment
@@ -44,15 +44,15 @@ pub returns-in-Some-clause-line : goal.returns-in-Some-clause-line
 returns-in-Some-clause-line c =
     let same = sym c.in-Some.ensures.0 ∙ c.in-Ok.ensures.cases.0 in
     IfOk-weaker c.read_command.result _ _
-    (λ line m. (c.in-Ok.ensures.cases.1, subst (λ (z : List ℕ). Means z line) same m)) c.read_command.ensures.line
+    (λ line m. (c.in-Ok.ensures.cases.1, subst (λ (z : List ℕ). MeansHostLine z line) same m)) c.read_command.ensures.line
 
 pub returns-in-Some-clause-fault : goal.returns-in-Some-clause-fault
 returns-in-Some-clause-fault c =
     let text : List ℕ = (c.in-Some.command.now ++ codes " ") ++ c.in-Some.words.now in
     let line = c.args.line.now in
     let same = sym c.in-Some.ensures.0 ∙ c.in-Ok.ensures.cases.0 in
-    IfErr-weaker c.read_command.result (IsLineFault (Means text) (IsHostBegun text)) (IsLineFault (IsOneLine line)
+    IfErr-weaker c.read_command.result (IsLineFault (MeansHostLine text) (IsHostBegun text)) (IsLineFault (IsOneLine line)
     (IsOneSoFar line))
-    (λ fault h. fault_on (Means text) (IsOneLine line) fault (λ none_is read l. none_is read
-    (subst (λ (z : List ℕ). Means z read) (sym same) l.1)) (host_so_far line text same c.in-Ok.ensures.cases.1) h)
+    (λ fault h. fault_on (MeansHostLine text) (IsOneLine line) fault (λ none_is read l. none_is read
+    (subst (λ (z : List ℕ). MeansHostLine z read) (sym same) l.1)) (host_so_far line text same c.in-Ok.ensures.cases.1) h)
     c.read_command.ensures.fault

@@ -1,7 +1,7 @@
 use Rattle.std.proofs.Common.{◌≡◌, ◌++◌, ◌∷◌, [], Bool, true, List, refl, sym, ap, ◌∙◌, subst, inl, inr}
 use Rattle.ws_code.proofs.DeviceLaws.{went_out_none}
 use Rattle.ws_live.specs.Waits.{InTime}
-use Rattle.ws_live.specs.LiveText.{HaveRun, HasRun, ran_and, ran_by}
+use Rattle.ws_live.specs.LiveText.{HaveRun, HasRunLines, ran_and, ran_by}
 use Rattle.ws_live.specs.declared.live.Ran.{Ran}
 use Rattle.ws_live.proofs.LiveRuns.{goes_on, ends_here, breaks}
 use Rattle.ws_network.proofs.live_input.carry_input.Goals as goal
@@ -50,7 +50,7 @@ returns-then-ran-clause-ran g c =
     let same : c.and-ran.result ≡ ran_and c.loop.ran (ran_by c.in-Ok-carry_next.closing) = c.and-ran.ensures
     ∙ ap (λ (r : Ran). ran_and c.loop.ran r) c.ran.ensures in (
       lines,
-      subst (HasRun runs c.args.ready g.O.Sink.writer ((c.args.attached.now, c.args.ahead.now), c.args.watch.now) ((c.carry_next.new.attached, c.carry_next.new.ahead), c.carry_next.new.watch)
+      subst (HasRunLines runs c.args.ready g.O.Sink.writer ((c.args.attached.now, c.args.ahead.now), c.args.watch.now) ((c.carry_next.new.attached, c.carry_next.new.ahead), c.carry_next.new.watch)
           c.args.out.now.sink c.carry_next.new.out.sink lines) (sym same)
           (ends_here runs c.args.ready g.O.Sink.writer ((c.args.attached.now, c.args.ahead.now), c.args.watch.now) ((c.loop.attached, c.loop.ahead), c.loop.watch)
           ((c.carry_next.new.attached, c.carry_next.new.ahead), c.carry_next.new.watch) c.args.out.now.sink c.loop.out.sink c.carry_next.new.out.sink

@@ -1,7 +1,7 @@
 use Rattle.std.proofs.Common.{◌≡◌, [], ◌+◌, Bool, List, take, drop, refl, sym, ap, ◌∙◌, subst}
 use Rattle.ws_code.proofs.DeviceLaws.{went_out_none}
 use Rattle.ws_live.specs.Waits.{InTime}
-use Rattle.ws_live.specs.LiveText.{HaveRun, HasRun, ran_and, ran_by}
+use Rattle.ws_live.specs.LiveText.{HaveRun, HasRunLines, ran_and, ran_by}
 use Rattle.ws_live.specs.declared.live.Ran.{Ran}
 use Rattle.ws_live.proofs.LiveRuns.{goes_on, ends_here, breaks, split_here, taken_here}
 use Rattle.ws_network.proofs.live_input.carry_script.Goals as goal
@@ -37,7 +37,7 @@ returns-then-ran-clause-ran g c =
     let runs = InTime (g.L.LiveMove.runs g.W.Watch.tells g.W.Watch.rests c.args.paint) g.L.LiveMove.waits g.W.Watch.begins g.W.Watch.begun in
     let same : c.and-ran.result ≡ ran_and c.loop-line.ran (ran_by c.in-Ok.closing) = c.and-ran.ensures
     ∙ ap (λ (r : Ran). ran_and c.loop-line.ran r) c.ran.ensures in
-    subst (HasRun runs c.args.ready g.O.Sink.writer ((c.args.attached.now, c.args.ahead.now), c.args.watch.now) ((c.carry_next.new.attached, c.carry_next.new.ahead), c.carry_next.new.watch)
+    subst (HasRunLines runs c.args.ready g.O.Sink.writer ((c.args.attached.now, c.args.ahead.now), c.args.watch.now) ((c.carry_next.new.attached, c.carry_next.new.ahead), c.carry_next.new.watch)
     c.args.out.now.sink c.carry_next.new.out.sink lines) (sym same)
     (ends_here runs c.args.ready g.O.Sink.writer ((c.args.attached.now, c.args.ahead.now), c.args.watch.now) ((c.loop-line.attached, c.loop-line.ahead), c.loop-line.watch)
     ((c.carry_next.new.attached, c.carry_next.new.ahead), c.carry_next.new.watch) c.args.out.now.sink c.loop-line.out.sink c.carry_next.new.out.sink

@@ -1,7 +1,7 @@
 use Rattle.std.proofs.Common.{◌≡◌, ◌+◌, List, ℕ, take, drop, sym, subst, arith, take-append-drop}
 use Rattle.std.proofs.lemmas.List.{take_more, take_all}
 use Rattle.ws_code.specs.Code.{IsCut}
-use Rattle.ws_telnet.specs.Machine.{unfinished_of}
+use Rattle.ws_telnet.specs.Machine.{unfinished_token}
 use Rattle.ws_telnet.specs.Streams.{joined}
 use Rattle.ws_telnet.specs.Token.{token_rules}
 use Rattle.ws_program.specs.OpenParts.{TokensRead, NoTokensWith}
@@ -35,6 +35,6 @@ returns c = λ parts rest begun hp hr cut.
     let all : take c.loop-byte.byte-index bytes ≡ bytes =
     take_all c.loop-byte.byte-index bytes (omega (arith, c.loop-byte-test.false)) in
     let reader = c.loop-byte.reader in
-    let read = subst (λ (z : List ℕ). TokensRead (unfinished_of reader.tokens) reader.is_open z) all
+    let read = subst (λ (z : List ℕ). TokensRead (unfinished_token reader.tokens) reader.is_open z) all
     c.loop-byte.invariant in
     tokens_all read parts rest begun hp hr cut

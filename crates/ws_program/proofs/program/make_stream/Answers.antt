@@ -3,7 +3,7 @@ use Rattle.std.proofs.lemmas.Result.{err_from_is_err_and}
 use Rattle.ws_code.specs.Device.{WentOut}
 use Rattle.ws_stream.specs.Elements.{element_rules}
 use Rattle.ws_text.specs.ElementWords.{element_wording}
-use Rattle.ws_text.specs.Shown.{Shows}
+use Rattle.ws_text.specs.Shown.{ShowsElements}
 use Rattle.ws_program.specs.Making.{made_stream}
 use Rattle.ws_program.proofs.Makings.{unmade, unread}
 use Rattle.ws_program.proofs.program.make_stream.Goals as goal
@@ -20,7 +20,7 @@ returns-clause-done g c = (
 pub returns-in_err-make_stream_to-clause-fault : goal.returns-in_err-make_stream_to-clause-fault
 returns-in_err-make_stream_to-clause-fault g c =
     let p = err_from_is_err_and c.from_residual-in_err-make_stream_to.result c.from_residual-in_err-make_stream_to.ensures.1 in
-    rw (p.1, p.2) (unmade element_rules element_wording Shows g.S.Sink.writer c.args.raw c.args.sink.now
+    rw (p.1, p.2) (unmade element_rules element_wording ShowsElements g.S.Sink.writer c.args.raw c.args.sink.now
     c.make_stream_to.new.sink c.args.text.now
     c.in_ok-items.items.items c.as_slice.result.now _ c.as_slice.ensures.value
     (c.in_ok-items.ensures.ok, c.in_ok-items.ensures.shown)
@@ -29,6 +29,6 @@ returns-in_err-make_stream_to-clause-fault g c =
 pub returns-in_err-items-clause-fault : goal.returns-in_err-items-clause-fault
 returns-in_err-items-clause-fault g c =
     let p = err_from_is_err_and c.from_residual.result c.from_residual.ensures.1 in
-    rw (p.1, p.2) (unread element_rules element_wording Shows g.S.Sink.writer c.args.raw c.args.sink.now
+    rw (p.1, p.2) (unread element_rules element_wording ShowsElements g.S.Sink.writer c.args.raw c.args.sink.now
     c.args.text.now _
     c.in_err-items.ensures.fault c.in_err-items.ensures.shown)

@@ -1,7 +1,7 @@
 use Rattle.std.proofs.Common.{[], sym, arith}
 use Rattle.std.proofs.lemmas.Result.{err_from_is_err_and}
 use Rattle.ws_code.proofs.DeviceLaws.{went_out_none}
-use Rattle.ws_program.specs.StreamText.{items_of}
+use Rattle.ws_program.specs.StreamText.{items_without_places}
 use Rattle.ws_program.specs.Views.{in_paint}
 use Rattle.ws_live.specs.declared.paint.Paint.TheVariants.{Plain}
 use Rattle.ws_program.proofs.Shows.{shows_none, next_is, none_next}
@@ -21,7 +21,7 @@ loop-receiver-init g c = λ paint. (
 
 pub next_item-requires : goal.next_item-requires
 next_item-requires g c = (
-  items_of (c.loop-receiver.invariant Plain).1.placed,
+  items_without_places (c.loop-receiver.invariant Plain).1.placed,
   (c.loop-receiver.invariant Plain).1.taken,
 )
 
@@ -50,7 +50,7 @@ carry_out-requires-clause-whole g c =
 
 pub carry_out-requires-clause-known : goal.carry_out-requires-clause-known
 carry_out-requires-clause-known g c = (
-  items_of (c.loop-receiver.invariant Plain).1.placed,
+  items_without_places (c.loop-receiver.invariant Plain).1.placed,
   (c.loop-receiver.invariant Plain).1.makes_it,
 )
 
@@ -80,14 +80,14 @@ returns-in-Err-clause-ok g c = λ paint.
     c.in_ok-place.ensures.next in
     through_unapplied inv.1 g.S.Sink.writer c.args.sink.now c.loop-receiver.sink c.write_item.new.sink
     (c.in-Some.place, c.in-Some.item) c.in-Err.reason (λ text. Unit {0}) inv.2 next.complete
-    c.in_ok-write_item.ensures.ok (sym (c.in-Err.ensures.fault (items_of inv.1.placed) inv.1.makes_it))
+    c.in_ok-write_item.ensures.ok (sym (c.in-Err.ensures.fault (items_without_places inv.1.placed) inv.1.makes_it))
 
 pub loop-receiver-preserved-in_default-carry_out : goal.loop-receiver-preserved-in_default-carry_out
 loop-receiver-preserved-in_default-carry_out g c = λ paint.
     let inv = c.loop-receiver.invariant paint in
     let next = next_is inv.1 c.next_item.new.receiver _ (c.in-Some.place, c.in-Some.item) c.in-Some.is
     c.in_ok-place.ensures.next in
-    let h = items_of inv.1.placed in
+    let h = items_without_places inv.1.placed in
     let done = c.in_default-carry_out.ensures in
     goes_on g.S.Sink.writer c.args.sink.now inv.1 c.write_item.new.sink c.loop-receiver.sink
     (c.in-Some.place, c.in-Some.item) c.next_item.new.receiver c.carry_out.new.made inv.2 next
@@ -98,7 +98,7 @@ loop-receiver-preserved g c = λ paint.
     let inv = c.loop-receiver.invariant paint in
     let next = next_is inv.1 c.next_item.new.receiver _ (c.in-Some.place, c.in-Some.item) c.in-Some.is
     c.in_ok-place.ensures.next in
-    let h = items_of inv.1.placed in
+    let h = items_without_places inv.1.placed in
     let done = c.in_default-carry_out.ensures in
     goes_on g.S.Sink.writer c.args.sink.now inv.1 c.write_item.new.sink c.loop-receiver.sink
     (c.in-Some.place, c.in-Some.item) c.next_item.new.receiver c.carry_out.new.made inv.2 next
@@ -121,7 +121,7 @@ returns-in_err-finish-clause-err g c =
     let received = none_next inv.1 c.next_item.new.receiver _ c.in_default.is c.in_ok-place.ensures.next in
     stops_early g.S.Sink.writer c.args.sink.now inv.1 c.loop-receiver.sink inv.2
     c.next_item.new.receiver received _
-    (c.in_err-finish.ensures.truncated c.args.bytes.now (items_of inv.1.placed) received (omega arith)))
+    (c.in_err-finish.ensures.truncated c.args.bytes.now (items_without_places inv.1.placed) received (omega arith)))
 
 pub returns-in_err-finish-clause-halted : goal.returns-in_err-finish-clause-halted
 returns-in_err-finish-clause-halted g c =
@@ -131,11 +131,11 @@ returns-in_err-finish-clause-halted g c =
     let received = none_next inv.1 c.next_item.new.receiver _ c.in_default.is c.in_ok-place.ensures.next in
     halts_early inv.1 g.S.Sink.writer c.args.sink.now c.loop-receiver.sink inv.2
     c.next_item.new.receiver received _
-    (c.in_err-finish.ensures.truncated c.args.bytes.now (items_of inv.1.placed) received (omega arith)))
+    (c.in_err-finish.ensures.truncated c.args.bytes.now (items_without_places inv.1.placed) received (omega arith)))
 
 pub returns-clause-ok : goal.returns-clause-ok
 returns-clause-ok g c = λ paint.
     let inv = c.loop-receiver.invariant paint in
     let received = none_next inv.1 c.next_item.new.receiver _ c.in_default.is c.in_ok-place.ensures.next in
     through_all inv.1 g.S.Sink.writer c.args.sink.now c.loop-receiver.sink inv.2
-    (c.in_ok-finish.ensures.ok.1 c.args.bytes.now (items_of inv.1.placed) received)
+    (c.in_ok-finish.ensures.ok.1 c.args.bytes.now (items_without_places inv.1.placed) received)

@@ -1,11 +1,11 @@
 use Rattle.ws_record.proofs.Common.{Bool, true, false, ◌≡◌, ℕ, List, [], ◌++◌, refl, sym, ap, ◌∙◌, append-nil}
 use Rattle.ws_record.proofs.Common.{append_assoc, take-append-drop, take, drop, take-length, is_between, Rules, Reading}
-use Rattle.ws_record.proofs.Common.{HasRun, IsCut, place_after, one_cut, cut_bad, cut_unit}
+use Rattle.ws_record.proofs.Common.{HasReadValues, IsCut, place_after, one_cut, cut_bad, cut_unit}
 use Rattle.ws_record.proofs.body_reader.read_body.Goals.{then-at-via-then-at, then-at-via-else-at+then-not-may_end}
 use Rattle.ws_record.proofs.body_reader.read_body.Goals as goal
 
 -- what a run reads from where a body begins
-cut_of : {P U : Type 0} (rules : Rules P U) {from to : Reading P} {values : List ℕ} (run : HasRun rules from values to)
+cut_of : {P U : Type 0} (rules : Rules P U) {from to : Reading P} {values : List ℕ} (run : HasReadValues rules from values to)
     → from.place ≡ rules.first → from.begun ≡ []
     → IsCut rules values run.units to.begun × (to.place ≡ place_after rules rules.first run.units)
 cut_of rules {values = values} run p e = (

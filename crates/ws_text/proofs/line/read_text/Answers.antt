@@ -1,4 +1,4 @@
-use Rattle.ws_text.proofs.Common.{refl, drop, lit<, codes, part, Means, empty, comment, typed, worded}
+use Rattle.ws_text.proofs.Common.{refl, drop, lit<, codes, part, MeansPart, empty, comment, typed, worded}
 use Rattle.ws_text.proofs.LineWords.{just_one, stripped, tells_on}
 use Rattle.ws_text.proofs.OneLine.{means_same}
 use Rattle.ws_text.proofs.TextWords.{typed_line, only_worded, is_nil_by, not_nil_by, hash_first, no_hash, not_stripped}
@@ -30,7 +30,7 @@ returns-in-Some g c = λ says.
 
 pub returns-in-None : goal.returns-in-None
 returns-in-None g c =
-    tells_on g.B.Worded.wording _ (Means g.B.Worded.wording c.args.text.now) c.read_worded.result
+    tells_on g.B.Worded.wording _ (MeansPart g.B.Worded.wording c.args.text.now) c.read_worded.result
     (λ says h. worded h)
     (only_worded g.B.Worded.wording c.args.text.now
     (not_nil_by c.args.text.now c.is_empty.result c.is_empty.ensures c.if-is_empty.false)

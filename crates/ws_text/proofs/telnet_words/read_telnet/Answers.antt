@@ -1,5 +1,5 @@
 use Rattle.ws_text.proofs.Common.{arith, common_steps, ◌≤◌, List, ℕ, length, ap, ◌∙◌, sym, subst, get_or, take, drop}
-use Rattle.ws_text.proofs.Common.{◌-◌, IsSmall, AreBytes}
+use Rattle.ws_text.proofs.Common.{◌-◌, IsSmall, AreBytesInWord}
 use Rattle.ws_text.proofs.Lists.{texts, no_word, behind_one, unequal_not}
 use Rattle.ws_text.proofs.telnet_words.read_telnet.Goals as goal
 
@@ -15,7 +15,7 @@ returns-in_ok-new-in-None-verb_named c =
       unequal_not _ _ c.ne.result c.ne.ensures c.if-ne.false,
       subst (λ (n : ℕ). IsSmall (get_or c.args.words.now 0 no_word).now n) (sym option)
           c.in_ok-option-in-None-verb_named.ensures,
-      subst (λ (b : List ℕ). AreBytes (texts (take (length c.args.words.now - 1) (drop 1 c.args.words.now))) b)
+      subst (λ (b : List ℕ). AreBytesInWord (texts (take (length c.args.words.now - 1) (drop 1 c.args.words.now))) b)
           (sym bytes) c.in_ok-bytes-in-None-verb_named.ensures.0,
       subst (λ (b : List ℕ). length b ≤ 64) (sym bytes) c.in_ok-bytes-in-None-verb_named.ensures.1,
     )

@@ -7,7 +7,7 @@ use Rattle.ws_stream.specs.Reasons.{element_reason}
 use Rattle.ws_stream.specs.Taking.{reading_of}
 use Rattle.ws_stream.specs.UnfinishedElement.{unfinished_of}
 use Rattle.ws_extended.specs.ExtendedElements.{extended_rules}
-use Rattle.ws_extended.specs.ExtendedMachine.{begun_in, inner_place, is_sound}
+use Rattle.ws_extended.specs.ExtendedMachine.{element_begun_in, inner_place, fits_phase}
 use Rattle.ws_extended.specs.ExtendedReasons.{extended_reason}
 use Rattle.ws_extended.specs.declared.extended_commands.ExtendedCommands.{ExtendedCommands}
 use Rattle.ws_extended.specs.declared.extended_commands.phase.Phase.TheVariants.{Begin, Escaped}
@@ -32,7 +32,7 @@ invariant_of-self c =
     (none_yet m c.requires) c.if-byte-eq-ESCAPE.true c.push-more.ensures in
     record {
       beside = ap allows_orders taken.0 ∙ m.beside;
-      sound = subst (λ (l : List ℕ). is_sound m.place Escaped l ≡ true) (sym taken.1) refl;
+      sound = subst (λ (l : List ℕ). fits_phase m.place Escaped l ≡ true) (sym taken.1) refl;
     }
 
 pub returns-then-byte-eq-ESCAPE : goal.returns-then-byte-eq-ESCAPE
@@ -68,4 +68,4 @@ returns-in-None c =
     let m = c.args.self.now in
     let n = c.go_on.new.self in
     subst (λ (l : List ℕ). IsStep extended_rules m.place l c.args.byte n.place
-    (begun_in n.phase (unfinished_of n.inner)) c.go_on.result) (none_yet m c.requires) c.go_on.ensures
+    (element_begun_in n.phase (unfinished_of n.inner)) c.go_on.result) (none_yet m c.requires) c.go_on.ensures

@@ -6,7 +6,7 @@ use Rattle.ws_stream.specs.Reasons.{element_reason}
 use Rattle.ws_stream.specs.UnfinishedElement.{unfinished_of}
 use Rattle.ws_stream.specs.declared.command_code.TheConstants.{ESCAPE}
 use Rattle.ws_extended.specs.ExtendedElements.{extended_rules}
-use Rattle.ws_extended.specs.ExtendedMachine.{begun_in, inner_place}
+use Rattle.ws_extended.specs.ExtendedMachine.{element_begun_in, inner_place}
 use Rattle.ws_extended.specs.ExtendedReasons.{extended_reason}
 use Rattle.ws_extended.specs.declared.extended_commands.ExtendedCommands.{ExtendedCommands}
 use Rattle.ws_extended.specs.declared.extended_commands.phase.Phase.TheVariants.{Escaped}
@@ -45,4 +45,4 @@ returns-in-None c =
     let m = c.args.self.now in
     let n = c.go_on.new.self in
     subst (λ (l : List ℕ). IsStep extended_rules m.place l c.args.byte n.place
-    (begun_in n.phase (unfinished_of n.inner)) c.go_on.result) (escape_there m c.requires) c.go_on.ensures
+    (element_begun_in n.phase (unfinished_of n.inner)) c.go_on.result) (escape_there m c.requires) c.go_on.ensures

@@ -1,6 +1,6 @@
 use Rattle.std.proofs.Common.{◌≡◌, ◌++◌, ◌∙◌, List, ℕ, Bool, true, refl, sym, ap, subst}
 use Rattle.ws_stream.specs.UnfinishedElement.{unfinished_of}
-use Rattle.ws_extended.specs.ExtendedMachine.{begun_in, is_sound}
+use Rattle.ws_extended.specs.ExtendedMachine.{element_begun_in, fits_phase}
 use Rattle.ws_extended.specs.ExtendedReasons.{is_inner}
 use Rattle.ws_extended.specs.declared.extended_commands.phase.Phase.{Phase}
 use Rattle.ws_extended.specs.declared.extended_place.ExtendedPlace.{ExtendedPlace}
@@ -16,7 +16,7 @@ returns-in-Begin c = λ is.
     record {
       place = c.in-InProfile.field-0;
       is_place = c.in-InProfile.is;
-      begun = ap (λ (p : Phase). begun_in p (unfinished_of m.inner)) c.in-Begin.is ∙ sym none;
+      begun = ap (λ (p : Phase). element_begun_in p (unfinished_of m.inner)) c.in-Begin.is ∙ sym none;
       inner = rw none (c.begins_profile.ensures is c.in-InProfile.field-0);
     }
 
@@ -25,11 +25,11 @@ returns-in-Inside c = λ is.
     let m = c.args.self.now in
     let bytes : List ℕ = unfinished_of m.inner in
     let sound : is_inner m.place bytes ≡ true =
-    subst (λ (p : Phase). is_sound m.place p bytes ≡ true) c.in-Inside.is m.sound in
+    subst (λ (p : Phase). fits_phase m.place p bytes ≡ true) c.in-Inside.is m.sound in
     record {
       place = c.in-InProfile.field-0;
       is_place = c.in-InProfile.is;
-      begun = ap (λ (p : Phase). begun_in p bytes) c.in-Inside.is;
+      begun = ap (λ (p : Phase). element_begun_in p bytes) c.in-Inside.is;
       inner = subst (λ (p : ExtendedPlace). is_inner p (bytes ++ c.args.values.now) ≡ true) c.in-InProfile.is
           (inner_grows m.place bytes c.args.values.now sound);
     }

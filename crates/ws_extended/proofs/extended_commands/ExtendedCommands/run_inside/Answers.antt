@@ -1,5 +1,5 @@
 use Rattle.std.proofs.Common.{◌≡◌, ℕ, List, [], ◌++◌, take, drop, true, refl, sym, ap, subst, take-append-drop}
-use Rattle.ws_code.specs.Run.{IsRun, Reading}
+use Rattle.ws_code.specs.Run.{IsRunOfValues, Reading}
 use Rattle.ws_code.specs.declared.run.End.{End}
 use Rattle.ws_code.specs.declared.run.End.TheVariants.{More}
 use Rattle.ws_code.proofs.RunLaws.{same_reading}
@@ -8,7 +8,7 @@ use Rattle.ws_stream.specs.Taking.{reading_of}
 use Rattle.ws_stream.specs.UnfinishedElement.{unfinished_of}
 use Rattle.ws_stream.specs.declared.place.Place.{Place}
 use Rattle.ws_extended.specs.ExtendedElements.{extended_rules}
-use Rattle.ws_extended.specs.ExtendedMachine.{is_sound}
+use Rattle.ws_extended.specs.ExtendedMachine.{fits_phase}
 use Rattle.ws_extended.specs.ExtendedReasons.{is_inner}
 use Rattle.ws_extended.specs.ExtendedRuns.{reading_by}
 use Rattle.ws_extended.specs.declared.extended_commands.phase.Phase.TheVariants.{Begin}
@@ -29,7 +29,7 @@ invariant_of-self g c =
     run.new.keep run.result.end run.ensures.run c.in-Some.element c.in-Some.is in
     record {
       beside = ap allows_orders (sym whole.is_at.at_place);
-      sound = subst (λ (l : List ℕ). is_sound (InProfile run.new.at.place) Begin l ≡ true)
+      sound = subst (λ (l : List ℕ). fits_phase (InProfile run.new.at.place) Begin l ≡ true)
           (sym (ap (λ (r : Reading Place). r.begun) whole.behind)) refl;
     }
 
@@ -55,7 +55,7 @@ returns-in-Some-clause-run g c =
     let handed = c.hand_over-end.ensures in
     let there : up to ≡ behind = same_reading (InProfile to.place) (InProfile run.new.at.place) to.begun []
     (ap InProfile (sym whole.is_at.at_place)) (ap (λ (r : Reading Place). r.begun) whole.behind) in
-    subst (λ (end : End). IsRun extended_rules g.K.Keep.holds g.K.Keep.may_answer (reading_by m) c.args.keep.now values
+    subst (λ (end : End). IsRunOfValues extended_rules g.K.Keep.holds g.K.Keep.may_answer (reading_by m) c.args.keep.now values
     behind (stands_up run.new.at) c.hand_over-end.new.keep end) (sym handed.1)
     (run_at g.K.Keep.holds g.K.Keep.may_answer (up (reading_of m.inner)) (reading_by m) (up to) behind
     (both_read m c.args.values.now c.requires.inside) there c.args.keep.now c.hand_over-end.new.keep values
@@ -72,7 +72,7 @@ returns-in-More-clause-run g c =
     let more = rw c.in-More.is at run.ensures.run in
     let there : up to ≡ behind = same_reading (InProfile to.place) (InProfile run.new.at.place) to.begun to.begun
     (ap InProfile (sym more.1.at_place)) refl in
-    subst (λ (end : End). IsRun extended_rules g.K.Keep.holds g.K.Keep.may_answer (reading_by m) c.args.keep.now values
+    subst (λ (end : End). IsRunOfValues extended_rules g.K.Keep.holds g.K.Keep.may_answer (reading_by m) c.args.keep.now values
     behind (stands_up run.new.at) c.args.keep.now end) (sym c.in-More.is)
     (run_at g.K.Keep.holds g.K.Keep.may_answer (up (reading_of m.inner)) (reading_by m) (up to) behind
     (both_read m c.args.values.now c.requires.inside) there c.args.keep.now c.args.keep.now values

@@ -1,6 +1,6 @@
 use Rattle.std.proofs.Common.{ℕ, List, [], ◌∷◌, ◌++◌, false, refl, subst, sym, ◌∙◌}
 use Rattle.ws_code.specs.Code.{IsUnfinished}
-use Rattle.ws_code.specs.Run.{IsRun}
+use Rattle.ws_code.specs.Run.{IsRunOfValues}
 use Rattle.ws_code.specs.declared.run.End.{End}
 use Rattle.ws_code.specs.declared.run.Standing.{Standing}
 use Rattle.ws_code.proofs.RunLaws.{is_between, same_reading}
@@ -30,7 +30,7 @@ returns-in-Unit g c =
     (extended_begins to.place) in
     let standing : Standing ExtendedPlace = record { place = c.after-place.result; is_inside = false } in
     let at = is_between extended_rules to standing unfinished (sym c.restart.ensures.place) refl fresh in
-    subst (λ (end : End). IsRun extended_rules g.K.Keep.holds g.K.Keep.may_answer from c.args.keep.now (b ∷ []) to
+    subst (λ (end : End). IsRunOfValues extended_rules g.K.Keep.holds g.K.Keep.may_answer from c.args.keep.now (b ∷ []) to
     standing c.hand_over.new.keep end) (sym handed.1)
     (run_unit extended_rules extended_begins g.K.Keep.holds g.K.Keep.may_answer from to c.args.keep.now
     c.hand_over.new.keep b standing handed.0 element c.requires.unfinished c.in-Unit.ensures handed.2 handed.3

@@ -1,5 +1,5 @@
 use Rattle.std.proofs.Common.{◌≡◌, ℕ, ◌+◌, ◌≤◌, List, [], take, length, subst, arith}
-use Rattle.ws_code.specs.Run.{IsRun, RunsOn}
+use Rattle.ws_code.specs.Run.{IsRunOfValues, RunsOn}
 use Rattle.ws_code.specs.declared.run.End.TheVariants.{More}
 use Rattle.ws_code.proofs.DeviceLaws.{length_rest}
 use Rattle.ws_code.proofs.Pieces.{bytes_on, left_of}
@@ -48,7 +48,7 @@ returns-in_default g c =
     record {
       used = omega (arith, run.ensures.used, length_rest values i, now.invariant.inside);
       whole = λ e. absurd (c.in_default.not-More e);
-      run = subst (λ (xs : List ℕ). IsRun extended_rules g.K.Keep.holds g.K.Keep.may_answer
+      run = subst (λ (xs : List ℕ). IsRunOfValues extended_rules g.K.Keep.holds g.K.Keep.may_answer
           (reading_by c.args.self.now) c.args.keep.now xs to run.new.at run.new.keep run.result.end)
           (bytes_on [] values i k) all;
     }

@@ -1,5 +1,5 @@
 use Rattle.std.proofs.Common.{◌++◌, ℕ, List, true, refl, sym, ap, ◌∙◌, subst}
-use Rattle.ws_live.specs.ConnectText.{KeysRun, Shows, StationRuns, rested, waited_outcome, waited_text}
+use Rattle.ws_live.specs.ConnectText.{KeysRun, ShowsStation, StationRuns, rested, waited_outcome, waited_text}
 use Rattle.ws_live.specs.FieldLines.{AreFieldLines}
 use Rattle.ws_live.specs.ScreenLines.{IsDisplayText}
 use Rattle.ws_text.proofs.Prints.{prints_both, prints_same}
@@ -30,7 +30,7 @@ returns-in-Fields-clause-runs g c =
     let t = c.take_what_came-ended.ensures.taken in
     let p = c.put_field_lines-output.ensures in
     let text : List ℕ = p.0 ++ waited_text (rested true t.1) in
-    let shows : Shows g.D.Commands.Code.rules g.D.StationDisplay.does g.K.Sink.writer g.S.Source.reader g.W.Watch.tells (λ station. AreFieldLines (g.D.StationDisplay.does.shown station.screen))
+    let shows : ShowsStation g.D.Commands.Code.rules g.D.StationDisplay.does g.K.Sink.writer g.S.Source.reader g.W.Watch.tells (λ station. AreFieldLines (g.D.StationDisplay.does.shown station.screen))
     (c.args.attached.now, c.args.ahead.now) c.put_waited-in-Fields.result.outcome text
     (c.take_what_came-ended.new.attached, c.take_what_came-ended.new.ahead) = record {
       told = t.0;
@@ -56,7 +56,7 @@ returns-in-Show-clause-runs g c =
     let t = c.take_what_came-ended-in-Show.ensures.taken in
     let p = c.put_display-output.ensures in
     let text : List ℕ = p.0 ++ waited_text (rested true t.1) in
-    let shows : Shows g.D.Commands.Code.rules g.D.StationDisplay.does g.K.Sink.writer g.S.Source.reader g.W.Watch.tells (λ station. IsDisplayText c.args.paint (g.D.StationDisplay.does.shown station.screen)
+    let shows : ShowsStation g.D.Commands.Code.rules g.D.StationDisplay.does g.K.Sink.writer g.S.Source.reader g.W.Watch.tells (λ station. IsDisplayText c.args.paint (g.D.StationDisplay.does.shown station.screen)
     (g.D.OperatedDisplay.operated.behind station.screen))
     (c.args.attached.now, c.args.ahead.now) c.put_waited-in-Show.result.outcome text
     (c.take_what_came-ended-in-Show.new.attached, c.take_what_came-ended-in-Show.new.ahead) = record {

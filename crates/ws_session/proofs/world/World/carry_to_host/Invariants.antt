@@ -1,5 +1,5 @@
 use Rattle.ws_session.proofs.Common.{◌≡◌, ◌+◌, ℕ, List, TerminalType, Crossing, AreFaithful, HaveCrossed, Runs}
-use Rattle.ws_session.proofs.Common.{ends_of, ComesUp, World, bytes_to_host}
+use Rattle.ws_session.proofs.Common.{two_ends_of, ComesUp, World, bytes_to_host}
 use Rattle.ws_session.proofs.world.World.carry_to_host.Given as goal
 
 abbrev pub decreases-loop-left : goal.decreases-loop-left
@@ -13,7 +13,7 @@ invariant-loop-left g l = record {
   crossings : List Crossing;
   crossed : HaveCrossed g.S.Sink.writer g.R.Source.reader l.fn.line crossings
       l.line;
-  heard : ComesUp (ends_of l.fn.self) gone crossings (ends_of l.self);
+  heard : ComesUp (two_ends_of l.fn.self) gone crossings (two_ends_of l.self);
   runs : AreFaithful crossings → (t : TerminalType) (w : World) → Runs t l.fn.self w
       → Runs t l.self (bytes_to_host gone w);
 }

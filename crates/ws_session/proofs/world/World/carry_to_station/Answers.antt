@@ -1,5 +1,5 @@
 use Rattle.ws_session.proofs.Common.{◌≡◌, ◌≤◌, ◌+◌, ◌-◌, [], ◌∷◌, ◌++◌, length, refl, arith, drop_all}
-use Rattle.ws_session.proofs.Common.{err_from_is_err_and, bytes_to_station, ends_of}
+use Rattle.ws_session.proofs.Common.{err_from_is_err_and, bytes_to_station, two_ends_of}
 use Rattle.ws_session.proofs.LineMoves.{down_none, down_more, down_all, crossed_on, stopped_behind, faithful_front}
 use Rattle.ws_session.proofs.LineMoves.{faithful_back, cut_of_more}
 use Rattle.ws_session.proofs.ByteSteps.{stops, none_comes, bytes_on}
@@ -26,8 +26,8 @@ loop-left-preserved g c =
       crossings = i.crossings ++ q.0 ∷ [];
       crossed = crossed_on g.S.Sink.writer g.R.Source.reader
           c.args.line.now c.loop-left.line c.piece_to_station.new.line i.crossings (q.0 ∷ []) i.crossed q.1;
-      heard = down_more (ends_of c.args.self.now)
-          (ends_of c.loop-left.self) (ends_of c.piece_to_station.new.self) i.gone n i.crossings (q.0 ∷ []) i.heard q.2;
+      heard = down_more (two_ends_of c.args.self.now)
+          (two_ends_of c.loop-left.self) (two_ends_of c.piece_to_station.new.self) i.gone n i.crossings (q.0 ∷ []) i.heard q.2;
       runs = λ f t w r. rw (← bytes_on i.gone n w) (q.3 (faithful_back i.crossings (q.0 ∷ []) f).0 t
           (bytes_to_station i.gone w) (i.runs (faithful_front i.crossings (q.0 ∷ []) f) t w r));
     }
@@ -46,7 +46,7 @@ returns-then-piece-eq0-clause-came g c =
     )) in (
       i.crossings,
       i.crossed,
-      down_all (ends_of c.args.self.now) (ends_of now) i.gone c.args.count i.crossings (omega (arith, i.all))
+      down_all (two_ends_of c.args.self.now) (two_ends_of now) i.gone c.args.count i.crossings (omega (arith, i.all))
           (drop_all now.at_station now.down all) i.heard,
       (λ f t w r. rw (stops i.gone c.args.count (omega (arith, i.all)) w
           (none_comes (i.runs f t w r) all)) (i.runs f t w r)),
@@ -72,11 +72,11 @@ returns-in_err-piece_to_station-clause-early g c =
     rw (p.1, p.2) (record {
       fewer = i.gone;
       crossings = i.crossings;
-      ends = ends_of c.loop-left.self;
+      ends = two_ends_of c.loop-left.self;
       last = c.loop-left.line;
       within = omega (arith, i.all);
       crossed = i.crossed;
       came = i.heard;
-      cut = cut_of_more _ _ (ends_of c.loop-left.self).to_station c.min-piece.result (c.args.count - i.gone) _ _ _
+      cut = cut_of_more _ _ (two_ends_of c.loop-left.self).to_station c.min-piece.result (c.args.count - i.gone) _ _ _
           (omega (arith, i.all, c.min-piece.ensures, c.min.ensures)) c.in_err-piece_to_station.ensures.early;
     })

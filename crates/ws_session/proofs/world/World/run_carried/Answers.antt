@@ -1,7 +1,7 @@
 use Rattle.ws_session.proofs.Common.{length, ◌^◌, ◌<◌, ◌+◌, [], ◌∷◌, ◌++◌, take, drop, inl, inr, refl, sym, subst}
 use Rattle.ws_session.proofs.Common.{take_all}
 use Rattle.ws_session.proofs.Common.{◌∙◌, ap, append-nil, append_assoc, take-append-drop}
-use Rattle.ws_session.proofs.Common.{err_from_is_err_and, IfErr-weaker, TwoEnds, ends_of, all_read, StationIsLed}
+use Rattle.ws_session.proofs.Common.{err_from_is_err_and, IfErr-weaker, TwoEnds, two_ends_of, all_read, StationIsLed}
 use Rattle.ws_session.proofs.Common.{HostIsLed, new_world, after_moves, longer_by}
 use Rattle.ws_session.proofs.LineLeads.{station_is_led, host_is_led}
 use Rattle.ws_session.proofs.LineMoves.{both_if_ok, begun, moved_on, crossed_on, either_behind, faithful_front}
@@ -58,9 +58,9 @@ returns-clause-done g c =
       i.went_up,
       rw q.1 ran,
       subst (λ (z : TwoEnds). length (all_read i.downs) + 1 < 2 ^ 64 → StationIsLed z.station (all_read i.downs))
-          (sym q.1) (station_is_led t moves i.downs i.ups (ends_of c.loop-step.world) ran),
+          (sym q.1) (station_is_led t moves i.downs i.ups (two_ends_of c.loop-step.world) ran),
       subst (λ (z : TwoEnds). length (all_read i.ups) + 1 < 2 ^ 64 → HostIsLed z.host (all_read i.ups)) (sym q.1)
-          (host_is_led t moves i.downs i.ups (ends_of c.loop-step.world) ran),
+          (host_is_led t moves i.downs i.ups (two_ends_of c.loop-step.world) ran),
       (λ f h. q.0 t (after_moves (new_world t) moves) (rw all at (i.runs f h))),
     )) (both_if_ok c.report.result _ _ c.report.ensures.reported c.report.ensures.ends)
 
@@ -89,7 +89,7 @@ returns-in_err-take_carried-clause-early g c =
           ∙ append_assoc (take n moves) (_ ∷ []) left;
       downs = i.downs;
       ups = i.ups;
-      now = ends_of c.loop-step.world;
+      now = two_ends_of c.loop-step.world;
       ran = i.moved;
       last_down = c.loop-step.down;
       last_up = c.loop-step.up;
@@ -109,7 +109,7 @@ returns-clause-early g c =
       split = sym (append-nil moves);
       downs = i.downs;
       ups = i.ups;
-      now = ends_of c.loop-step.world;
+      now = two_ends_of c.loop-step.world;
       ran = rw all at i.moved;
       last_down = c.loop-step.down;
       last_up = c.loop-step.up;

@@ -1,4 +1,4 @@
-use Rattle.ws_session.proofs.Common.{List, take, Crossing, AreFaithful, HaveCrossed, Runs, ends_of, HasRun}
+use Rattle.ws_session.proofs.Common.{List, take, Crossing, AreFaithful, HaveCrossed, Runs, two_ends_of, HasRun}
 use Rattle.ws_session.proofs.Common.{new_world, after_moves}
 use Rattle.ws_session.proofs.world.World.run_carried.Given as goal
 
@@ -9,7 +9,7 @@ invariant-loop-step g l = record {
   ups : List Crossing;
   went_down : HaveCrossed g.S.Sink.writer g.R.Source.reader l.fn.down downs l.down;
   went_up : HaveCrossed g.T.Sink.writer g.Q.Source.reader l.fn.up ups l.up;
-  moved : HasRun l.fn.terminal (take l.step-index l.moves) downs ups (ends_of l.world);
+  moved : HasRun l.fn.terminal (take l.step-index l.moves) downs ups (two_ends_of l.world);
   runs : AreFaithful downs → AreFaithful ups → Runs l.fn.terminal l.world (after_moves (new_world l.fn.terminal)
       (take l.step-index l.moves));
 }
