@@ -1,25 +1,25 @@
 use Rattle.std.proofs.Common.{◌≡◌, ℕ, List, [], ◌∷◌, ◌++◌, false, refl, subst}
 use Rattle.std.specs.Prelude.{Some}
-use Rattle.ws_code.specs.Device.{Writer, Reader}
+use Rattle.ws_code.specs.Device.{Writer, Reader, Devices}
 use Rattle.ws_session.specs.Attachments.{AttachedParts, HasHeard}
-use Rattle.ws_any_host.specs.AnyLeads.{AnyParts, AnyGoes, AnyRefuses}
+use Rattle.ws_any_host.specs.AnyLeads.{AnyParts, any_conduct}
 use Rattle.ws_any_host.specs.AnyText.{HaveToldBeforeKey, is_by}
 use Rattle.ws_any_host.specs.declared.any_event.AnyEvent.{AnyEvent}
 
 -- Waits for a record by a key.
 
-module _ {S K : Type 0} (writer : Writer K) (reader : Reader S) where
+module _ {S K : Type 0} (devices : Devices S K) where
   abbrev Parts : Type 0
   Parts = AttachedParts AnyParts S K
 
   -- one thing more is told that isn't by the key
   pub told_behind : (aid : ℕ) (from mid to : Parts) (told : List AnyEvent) (one : AnyEvent)
-      → HaveToldBeforeKey writer reader aid from told mid
-      → HasHeard AnyGoes AnyRefuses writer reader mid to (Some one) → is_by aid one ≡ false
-      → HaveToldBeforeKey writer reader aid from (told ++ one ∷ []) to
+      → HaveToldBeforeKey devices aid from told mid
+      → HasHeard any_conduct devices mid to (Some one) → is_by aid one ≡ false
+      → HaveToldBeforeKey devices aid from (told ++ one ∷ []) to
   told_behind aid from mid to [] one h heard other = (
     to,
-    subst (λ (z : Parts). HasHeard AnyGoes AnyRefuses writer reader z to (Some one)) h heard,
+    subst (λ (z : Parts). HasHeard any_conduct devices z to (Some one)) h heard,
     other,
     refl,
   )

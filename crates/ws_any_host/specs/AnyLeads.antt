@@ -24,6 +24,7 @@ use Rattle.ws_session.specs.declared.send_fault.SendFault.TheVariants.{Failed as
 use Rattle.ws_any_host.specs.AnyOptions.{Negotiated}
 use Rattle.ws_any_host.specs.AnySide.{AnyOutput, any_takes, any_manner, send_fault}
 use Rattle.ws_any_host.specs.declared.any_event.AnyEvent.{AnyEvent}
+use Rattle.ws_session.specs.Conduct.{Conduct}
 
 -- what a host keeps: a receiver, its options, and why it takes no more bytes
 pub record AnyParts : Type 0 where
@@ -122,6 +123,15 @@ AnyRefuses old front byte refusal new = (front ≡ []) × AnyRefusesByte old byt
 -- for the same reason it takes none in silence before the one that it takes
 abbrev pub AnyStaysSilent : AnyParts → List ℕ → Type 0
 AnyStaysSilent old came = came ≡ []
+
+-- how the host conducts itself
+abbrev pub any_conduct : Conduct AnyParts (Record ℕ) AnyEvent
+any_conduct = record {
+  goes = AnyGoes;
+  refuses = AnyRefuses;
+  silent = AnyStaysSilent;
+  over = λ host. IsSome host.ended;
+}
 
 -- the host refuses to send a record, for this reason, by all that came before; or since it is shut
 pub record IsAnySendRefusal (host : AnyParts) (r : Record ℕ) (why : SendFault) : Type 0 where

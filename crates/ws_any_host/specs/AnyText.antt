@@ -5,7 +5,7 @@ use Rattle.std.specs.Prelude.{Option, None, Some, IfSome, IfNone, Result, Ok, Er
 use Rattle.std.specs.List.{flat_map}
 use Rattle.std.specs.Fmt.{decimal}
 use Rattle.hex.specs.Hex.{encode_upper}
-use Rattle.ws_code.specs.Device.{Writer, Reader, most_reads}
+use Rattle.ws_code.specs.Device.{Writer, Reader, most_reads, Devices}
 use Rattle.ws_code.specs.declared.fault.Fault.{Fault}
 use Rattle.ws_code.specs.declared.fault.Fault.TheVariants as fault
 use Rattle.ws_record.specs.Grammar.{two_bytes, opcode_byte}
@@ -21,7 +21,7 @@ use Rattle.ws_live.specs.declared.live.Closing.{Closing}
 use Rattle.ws_live.specs.declared.live.Closing.TheVariants.{Nothing, Done, Ended}
 use Rattle.ws_live.specs.declared.watch.WaitSpan.{WaitSpan}
 use Rattle.ws_live.specs.declared.watch.WaitSpan.TheVariants.{Whole}
-use Rattle.ws_any_host.specs.AnyLeads.{AnyParts, AnyGoes, AnyRefuses, IsAnySendRefusal, IsAnySendTaken}
+use Rattle.ws_any_host.specs.AnyLeads.{AnyParts, any_conduct, IsAnySendRefusal, IsAnySendTaken}
 use Rattle.ws_any_host.specs.declared.any_event.AnyEvent.{AnyEvent}
 use Rattle.ws_any_host.specs.declared.any_event.AnyEvent.TheVariants.{Ready, Record as Came}
 use Rattle.ws_any_host.specs.declared.any_line.AnyLine.{AnyLine}
@@ -62,14 +62,14 @@ any_waits Await = Some Whole
 any_waits (AwaitKey aid) = Some Whole
 any_waits line = None
 
-module _ {S K : Type 0} (writer : Writer K) (reader : Reader S) where
+module _ {S K : Type 0} (devices : Devices S K) where
   -- such a host on a source and a sink
   abbrev pub AttachedAnyHost : Type 0
   AttachedAnyHost = AttachedParts AnyParts S K
 
   -- the record was written, or refused, and nothing is changed; no byte was read or taken
   pub record IsAnySendDone (r : Record ℕ) (from : AttachedAnyHost) (refused : Option SendFault) (to : AttachedAnyHost) : Type 0 where
-    pub led : HaveLed AnyGoes AnyRefuses writer reader from to (Did r ∷ []) []
+    pub led : HaveLed any_conduct devices from to (Did r ∷ []) []
     pub same : IfSome refused (λ why. to ≡ from)
     pub why : IfSome refused (IsAnySendRefusal from.end r)
     pub taken : IfNone refused (IsAnySendTaken from.end r)
@@ -80,13 +80,13 @@ module _ {S K : Type 0} (writer : Writer K) (reader : Reader S) where
   abbrev pub IsAnySendGiven : Record ℕ → AttachedAnyHost → Result (Option SendFault) Fault → AttachedAnyHost → Type 0
   IsAnySendGiven r from (Ok refused) to = IsAnySendDone r from refused to
   IsAnySendGiven r from (Err why) to =
-      IsSendFailure AnyGoes AnyRefuses writer reader from to (Did r ∷ []) why
+      IsSendFailure any_conduct devices from to (Did r ∷ []) why
 
   -- things were told one after another, none of which is a record by the key
   abbrev pub HaveToldBeforeKey : ℕ → AttachedAnyHost → List AnyEvent → AttachedAnyHost → Type 0
   HaveToldBeforeKey aid from [] to = to ≡ from
   HaveToldBeforeKey aid from (event ∷ more) to = (mid : AttachedAnyHost)
-      × HasHeard AnyGoes AnyRefuses writer reader from mid (Some event)
+      × HasHeard any_conduct devices from mid (Some event)
       × (is_by aid event ≡ false) × HaveToldBeforeKey aid mid more to
 
   -- What a wait comes to, at a watch that tells of a source whether the read that failed was late.
@@ -94,23 +94,23 @@ module _ {S K : Type 0} (writer : Writer K) (reader : Reader S) where
     -- the host heard the station, and tells nothing more: the station closed, or a fault came
     abbrev pub AnyHearsNone : AttachedAnyHost → Result Closing Fault → List ℕ → AttachedAnyHost → Type 0
     AnyHearsNone from outcome text to =
-        (HasHeard AnyGoes AnyRefuses writer reader from to None
+        (HasHeard any_conduct devices from to None
         × (outcome ≡ Ok Ended) × (text ≡ []))
-        ⊎ ((why : Fault) × (late : Bool) × IsHearFault AnyGoes AnyRefuses writer reader from to why
+        ⊎ ((why : Fault) × (late : Bool) × IsHearFault any_conduct devices from to why
         × (why ≡ fault.Read → tells to.source late)
         × (outcome ≡ unheard_outcome late why) × (text ≡ unheard_text why))
 
     -- the host heard the station up to the first thing that it tells, which is printed, or none came
     abbrev pub AnyHearsOne : AttachedAnyHost → Result Closing Fault → List ℕ → AttachedAnyHost → Type 0
     AnyHearsOne from outcome text to =
-        ((event : AnyEvent) × HasHeard AnyGoes AnyRefuses writer reader from to (Some event)
+        ((event : AnyEvent) × HasHeard any_conduct devices from to (Some event)
         × (outcome ≡ Ok Done) × (text ≡ any_event_text event))
         ⊎ AnyHearsNone from outcome text to
 
     -- behind so many things a record by the key is told; or none more is; or as many were told as one wait takes
     abbrev pub KeyComes : ℕ → ℕ → AttachedAnyHost → Result Closing Fault → List ℕ → AttachedAnyHost → Type 0
     KeyComes aid told from outcome text to =
-        ((event : AnyEvent) × HasHeard AnyGoes AnyRefuses writer reader from to (Some event)
+        ((event : AnyEvent) × HasHeard any_conduct devices from to (Some event)
         × (is_by aid event ≡ true) × (outcome ≡ Ok Done) × (text ≡ any_event_text event))
         ⊎ (AnyHearsNone from outcome text to
         ⊎ ((told ≡ most_reads) × (to ≡ from) × (outcome ≡ Err fault.Read) × (text ≡ [])))
@@ -132,7 +132,7 @@ module _ {S K : Type 0} (writer : Writer K) (reader : Reader S) where
         × (outcome ≡ given_outcome given) × (text ≡ given_text given)
     AnyDoes Await from outcome text to = AnyHearsOne from outcome text to
     AnyDoes (AwaitKey aid) from outcome text to = HearsKey aid from outcome text to
-    AnyDoes (Wire line) from outcome text to = WireRuns writer line from outcome to × (text ≡ [])
+    AnyDoes (Wire line) from outcome text to = WireRuns devices.writer line from outcome to × (text ≡ [])
     AnyDoes (Bad cause) from outcome text to = (to ≡ from) × (outcome ≡ bad_outcome)
         × (text ≡ bad_text (string_bytes cause))
 

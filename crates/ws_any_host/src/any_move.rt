@@ -3,6 +3,7 @@ ghost use Rattle.std.specs.Prelude.{◌≡◌, false, Bool, List, ℕ, IfOk};
 ghost use Rattle.ws_text.specs.Printing.{Prints};
 ghost use Rattle.ws_live.specs.LiveText.{stops};
 ghost use Rattle.ws_any_host.specs.AnyText as Spec;
+ghost use Rattle.ws_code.specs.Device.{on_devices};
 
 use crate::any_text::put_any_event;
 use crate::{AnyEvent, AnyHost, AnyLine};
@@ -16,7 +17,7 @@ use ws_text::Output;
 
 impl<S: Source, K: Sink> LiveMove<AnyHost, S, K> for AnyLine {
     ghost runs = { λ tells rests paint.
-        Spec.AnyRuns K.writer S.reader tells };
+        Spec.AnyRuns (on_devices K.writer S.reader) tells };
 
     ghost waits = { Spec.any_waits };
 
@@ -59,7 +60,7 @@ fn give<S: Source, K: Sink>(
     record_: &Record<u8>,
 ) -> Result<Option<SendFault>, Fault>
     requires works { attached.old.broken ≡ false }
-    ensures given { Spec.IsAnySendGiven K.writer S.reader record_.now
+    ensures given { Spec.IsAnySendGiven (on_devices K.writer S.reader) record_.now
         attached.old result attached.new }
     ensures works { IfOk result (λ refused. attached.new.broken ≡ false) }
 {
@@ -77,7 +78,7 @@ fn hear_event<S: Source, K: Sink, W: Watch<S>, O: Sink>(
     output: Output,
 ) -> Carried
     requires works { attached.old.broken ≡ false }
-    ensures heard { (text : List ℕ) × Spec.AnyHearsOne K.writer S.reader
+    ensures heard { (text : List ℕ) × Spec.AnyHearsOne (on_devices K.writer S.reader)
         W.tells attached.old result.outcome text attached.new
         × Prints O.writer out.old out.new output result.output text }
     ensures works { IfOk result.outcome (λ closing.
@@ -105,7 +106,7 @@ fn hear_key<S: Source, K: Sink, W: Watch<S>, O: Sink>(
     output: Output,
 ) -> Carried
     requires works { attached.old.broken ≡ false }
-    ensures heard { (text : List ℕ) × Spec.HearsKey K.writer S.reader
+    ensures heard { (text : List ℕ) × Spec.HearsKey (on_devices K.writer S.reader)
         W.tells aid attached.old result.outcome text attached.new
         × Prints O.writer out.old out.new output result.output text }
     ensures works { IfOk result.outcome (λ closing.

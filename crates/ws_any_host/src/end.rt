@@ -1,8 +1,7 @@
 //! A host that takes any record, as an end of a session.
-ghost use Rattle.std.specs.Prelude.{IsSome};
 ghost use Rattle.ws_record.specs.RawBody.{raw_rules};
 ghost use Rattle.ws_session.specs.ActLaws.{goes_none, goes_on};
-ghost use Rattle.ws_any_host.specs.AnyLeads.{AnyGoes, AnyLeads, AnyRefuses, AnyStaysSilent, IsAnyShut, IsAnySendRefusal, IsAnySendTaken};
+ghost use Rattle.ws_any_host.specs.AnyLeads.{AnyLeads, any_conduct, IsAnyShut, IsAnySendRefusal, IsAnySendTaken};
 ghost use Rattle.ws_any_host.specs.AnySide.{any_manner};
 
 use crate::{AnyEvent, AnyHost};
@@ -17,13 +16,7 @@ impl End for AnyHost {
 
     type Reply = Reply;
 
-    ghost goes = { AnyGoes };
-
-    ghost refuses = { AnyRefuses };
-
-    ghost silent = { AnyStaysSilent };
-
-    ghost over = { λ host. IsSome host.ended };
+    ghost conduct = { any_conduct };
 
     ghost written = { λ host reply. reply };
 

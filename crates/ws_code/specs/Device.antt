@@ -31,6 +31,15 @@ pub record Reader (S : Type 0) : Type 1 where
   pub gives : MayGive S
   pub failures : S → ℕ
 
+-- an end's two devices: the source that it reads from, and the sink that it writes into
+pub record Devices (S K : Type 0) : Type 1 where
+  pub reader : Reader S
+  pub writer : Writer K
+
+-- this sink and this source
+abbrev pub on_devices : {S K : Type 0} → Writer K → Reader S → Devices S K
+on_devices writer reader = record { reader = reader; writer = writer }
+
 -- a count after one failure more, up to the greatest value of 64 bits
 abbrev pub one_more : ℕ → ℕ
 one_more count = min (count + 1) (2 ^ 64 - 1)

@@ -6,7 +6,7 @@ use Rattle.std.proofs.Math.Seq.{drop-cons}
 use Rattle.std.proofs.lemmas.Bool.{cases_lt}
 use Rattle.std.proofs.lemmas.List.{append-nil, take_more}
 use Rattle.ws_code.specs.Code.{Rules}
-use Rattle.ws_code.specs.Device.{Writer, Reader, one_more}
+use Rattle.ws_code.specs.Device.{Writer, Reader, one_more, Devices}
 use Rattle.ws_code.specs.declared.fault.Fault.{Fault}
 use Rattle.ws_code.specs.declared.fault.Fault.TheVariants as fault
 use Rattle.ws_session.specs.Attachments.{AttachedParts}
@@ -80,21 +80,21 @@ both_pressed true b = refl
 both_pressed false b = refl
 
 module _ {D P U H PlaceV V Q R S K : Type 0} (rules : Rules P U) (d : DisplayOf D U H PlaceV V Q R)
-    (writer : Writer K) (reader : Reader S) (w : KeyWords Q) where
+    (devices : Devices S K) (w : KeyWords Q) where
   abbrev Ends : Type 0
   Ends = AttachedParts (PartsOn D P) S K
 
   pub pressed_more : (from mid to : Ends) (keys : List Q) (key : Q) (refused : Option KeyFault) (well : Bool)
-      (text : List ℕ) → ArePressed rules d writer reader w from keys well text mid
-      → IsKeyPressed rules d writer reader key mid refused to
-      → ArePressed rules d writer reader w from (keys ++ key ∷ []) (well && is_none refused)
+      (text : List ℕ) → ArePressed rules d devices w from keys well text mid
+      → IsKeyPressed rules d devices key mid refused to
+      → ArePressed rules d devices w from (keys ++ key ∷ []) (well && is_none refused)
       (text ++ key_refused_text (w.entered key) refused) to
   pressed_more from mid to [] key refused well text h p = (
     refused,
     to,
     true,
     [],
-    subst (λ (z : Ends). IsKeyPressed rules d writer reader key z refused to) h.0 p,
+    subst (λ (z : Ends). IsKeyPressed rules d devices key z refused to) h.0 p,
     (refl, refl, refl),
     ap (λ b. b && is_none refused) h.1 ∙ sym (and_true (is_none refused)),
     ap (λ z. z ++ key_refused_text (w.entered key) refused) h.2 ∙ sym (append-nil (key_refused_text (w.entered key) refused)),
@@ -114,20 +114,20 @@ module _ {D P U H PlaceV V Q R S K : Type 0} (rules : Rules P U) (d : DisplayOf 
   module _ (from mid to : Ends) (keys : List Q) (i : ℕ) (key : Q) (inside : i < length keys)
       (is : key ≡ get_or keys i key) where
     pub pressed_on : (refused : Option KeyFault) (well : Bool) (text : List ℕ)
-        → ArePressed rules d writer reader w from (take i keys) well text mid
-        → IsKeyPressed rules d writer reader key mid refused to
-        → ArePressed rules d writer reader w from (take (i + 1) keys) (well && is_none refused)
+        → ArePressed rules d devices w from (take i keys) well text mid
+        → IsKeyPressed rules d devices key mid refused to
+        → ArePressed rules d devices w from (take (i + 1) keys) (well && is_none refused)
         (text ++ key_refused_text (w.entered key) refused) to
     pressed_on refused well text h p =
         let next : take i keys ++ key ∷ [] ≡ take (i + 1) keys = ap (λ z. take i keys ++ z ∷ []) is
         ∙ sym (take_more keys i key inside) in
-        subst (λ (z : List Q). ArePressed rules d writer reader w from z (well && is_none refused)
+        subst (λ (z : List Q). ArePressed rules d devices w from z (well && is_none refused)
         (text ++ key_refused_text (w.entered key) refused) to) next (pressed_more from mid to (take i keys) key refused well text h p)
 
     pub unwritten_at : (well : Bool) (text : List ℕ) (outcome : Result Closing Fault)
-        → ArePressed rules d writer reader w from (take i keys) well text mid
-        → IsKeyUnwritten rules d writer reader key mid to → outcome
-        ≡ Err fault.Write → KeysRun rules d writer reader w keys from outcome text to
+        → ArePressed rules d devices w from (take i keys) well text mid
+        → IsKeyUnwritten rules d devices key mid to → outcome
+        ≡ Err fault.Write → KeysRun rules d devices w keys from outcome text to
     unwritten_at well text outcome h led e = let n : suc i ≡ i + 1 = omega arith in inr (
       take i keys,
       key,
@@ -143,14 +143,14 @@ module _ {D P U H PlaceV V Q R S K : Type 0} (rules : Rules P U) (d : DisplayOf 
 
     -- one key more, and how they close then
     pub key_more : (well : Bool) (text last : List ℕ) (closing next : Closing)
-        → ArePressed rules d writer reader w from (take i keys) well text mid → closing ≡ pressed well
-        → KeyRuns rules d writer reader w key mid (Ok next) last to
-        → (more : Bool) × ArePressed rules d writer reader w from (take (i + 1) keys) more (text ++ last) to
+        → ArePressed rules d devices w from (take i keys) well text mid → closing ≡ pressed well
+        → KeyRuns rules d devices w key mid (Ok next) last to
+        → (more : Bool) × ArePressed rules d devices w from (take (i + 1) keys) more (text ++ last) to
         × (closing_of_both closing next ≡ pressed more)
     key_more well text last closing next h e (inl r) =
         let same : next ≡ pressed (is_none r.0) = ok_same next (pressed (is_none r.0)) r.2 in (
           well && is_none r.0,
-          subst (λ (z : List ℕ). ArePressed rules d writer reader w from (take (i + 1) keys)
+          subst (λ (z : List ℕ). ArePressed rules d devices w from (take (i + 1) keys)
               (well && is_none r.0) (text ++ z) to) (sym r.3) (pressed_on r.0 well text h r.1),
           ap (λ z. closing_of_both z next) e ∙ ap (λ z. closing_of_both (pressed well) z) same ∙ both_pressed well
               (is_none r.0),
@@ -158,25 +158,25 @@ module _ {D P U H PlaceV V Q R S K : Type 0} (rules : Rules P U) (d : DisplayOf 
     key_more well text last closing next h e (inr r) = absurd (ok_no_err next fault.Write r.1)
 
     pub key_stops : (well : Bool) (text last : List ℕ) (why : Fault)
-        → ArePressed rules d writer reader w from (take i keys) well text mid
-        → KeyRuns rules d writer reader w key mid (Err why) last to
-        → KeysRun rules d writer reader w keys from (Err why) (text ++ last) to
+        → ArePressed rules d devices w from (take i keys) well text mid
+        → KeyRuns rules d devices w key mid (Err why) last to
+        → KeysRun rules d devices w keys from (Err why) (text ++ last) to
     key_stops well text last why h (inl r) = absurd (ok_no_err (pressed (is_none r.0)) why (sym r.2))
     key_stops well text last why h (inr r) =
         let all : text ≡ text ++ last = sym (append-nil text) ∙ ap (λ z. text ++ z) (sym r.2) in
-        subst (λ (z : List ℕ). KeysRun rules d writer reader w keys from (Err why) z to) all
+        subst (λ (z : List ℕ). KeysRun rules d devices w keys from (Err why) z to) all
         (unwritten_at well text (Err why) h r.0 r.1)
 
 module _ {D P U H PlaceV V Q R S K : Type 0} (rules : Rules P U) (d : DisplayOf D U H PlaceV V Q R)
-    (writer : Writer K) (reader : Reader S) where
+    (devices : Devices S K) where
   abbrev Parts : Type 0
   Parts = AttachedParts (PartsOn D P) S K
 
   pub is_waited : (tells rests : S → Bool → Type 0) (operated : OperatedOn D) (from to : Parts) (ahead : ℕ)
       (awaited : Awaited) (waited : Waited) → (awaited ≡ awaits.Record → ⊥)
       → ((time : ℕ) → awaited ≡ awaits.Quiet time → ⊥)
-      → WaitsFor rules d writer reader tells (IsMet d.shown operated awaited) from waited to
-      → IsWaited rules d writer reader tells rests operated awaited (from, ahead) waited to
+      → WaitsFor rules d devices tells (IsMet d.shown operated awaited) from waited to
+      → IsWaited rules d devices tells rests operated awaited (from, ahead) waited to
   is_waited tells rests operated from to ahead awaits.Turn waited other loud h = h
   is_waited tells rests operated from to ahead (awaits.Text text) waited other loud h = h
   is_waited tells rests operated from to ahead (awaits.At cell text) waited other loud h = h
@@ -186,9 +186,9 @@ module _ {D P U H PlaceV V Q R S K : Type 0} (rules : Rules P U) (d : DisplayOf 
   -- a report that is no note
   pub reports : (tells : S → Bool → Type 0) (report : Report) (from to : Parts × ℕ) (outcome : Result Closing Fault)
       (text : List ℕ) → ((note : List ℕ) → report ≡ reported.Note note → ⊥)
-      → ShowsStation rules d writer reader tells (λ station. IsReportText (d.shown station.screen)
+      → ShowsStation rules d devices tells (λ station. IsReportText (d.shown station.screen)
       (station_allows_records station.options) station.records station.live.taken report) from outcome text to
-      → Reports rules d writer reader tells report from outcome text to
+      → Reports rules d devices tells report from outcome text to
   reports tells reported.Status from to outcome text other h = h
   reports tells (reported.Cells cell) from to outcome text other h = h
   reports tells (reported.Text span) from to outcome text other h = h
@@ -196,13 +196,13 @@ module _ {D P U H PlaceV V Q R S K : Type 0} (rules : Rules P U) (d : DisplayOf 
 
   module _ (Met : D → Type 0) where
     pub waited_more : (from mid to : Parts) (told : List Applied) (one : Applied)
-        → HasWaited rules d writer reader Met from told mid → (Met mid.end.screen → ⊥)
-        → Hears rules d writer reader mid (Some one) to
-        → HasWaited rules d writer reader Met from (told ++ one ∷ []) to
+        → HasWaited rules d devices Met from told mid → (Met mid.end.screen → ⊥)
+        → Hears rules d devices mid (Some one) to
+        → HasWaited rules d devices Met from (told ++ one ∷ []) to
     waited_more from mid to [] one h unmet heard = (
       to,
       subst (λ (z : Parts). Met z.end.screen → ⊥) h unmet,
-      subst (λ (z : Parts). Hears rules d writer reader z (Some one) to) h heard,
+      subst (λ (z : Parts). Hears rules d devices z (Some one) to) h heard,
       refl,
     )
     waited_more from mid to (first ∷ told) one h unmet heard =
@@ -214,8 +214,8 @@ module _ {D P U H PlaceV V Q R S K : Type 0} (rules : Rules P U) (d : DisplayOf 
 
   -- what isn't a record
   pub hears_none : (tells : S → Bool → Type 0) (from to : Parts) (waited : Waited)
-      → HearsOne rules d writer reader tells from waited to → (waited ≡ waits.Met → ⊥)
-      → HearsNone rules d writer reader tells from waited to
+      → HearsOne rules d devices tells from waited to → (waited ≡ waits.Met → ⊥)
+      → HearsNone rules d devices tells from waited to
   hears_none tells from to waits.Met h other = absurd (other refl)
   hears_none tells from to waits.Late h other = h
   hears_none tells from to waits.Ended h other = h

@@ -3,7 +3,7 @@ use Rattle.std.proofs.Common.{◌∙◌, subst}
 use Rattle.std.specs.Prelude.{Result, Ok, Err, Option, Some, IfOk, IfErr, IfSome, IfNone, not, replicate}
 use Rattle.std.proofs.lemmas.Bool.{false≢true}
 use Rattle.std.proofs.lemmas.List.{append-nil, replicate-append-replicate}
-use Rattle.ws_code.specs.Device.{Writer, Reader, WentOut, most_reads}
+use Rattle.ws_code.specs.Device.{Writer, Reader, WentOut, most_reads, Devices}
 use Rattle.ws_code.proofs.DeviceLaws.{went_out_both}
 use Rattle.ws_code.proofs.Parts.{fails_last}
 use Rattle.ws_code.specs.declared.fault.Fault.{Fault}
@@ -15,7 +15,8 @@ use Rattle.ws_record.specs.declared.opcode.Opcode.TheVariants.{MessageLightOn, M
 use Rattle.ws_session.specs.Acts.{Did}
 use Rattle.ws_session.specs.Attachments.{AttachedParts, HasHeard, HaveLed, HaveLedUnwritten, IsSendFailure}
 use Rattle.ws_session.specs.HostLeads.{HostParts}
-use Rattle.ws_session.specs.Manners.{HostGoes, HostRefuses, IsSendRefusal, IsSendTaken}
+use Rattle.ws_session.specs.Conducts.{host_conduct}
+use Rattle.ws_session.specs.Manners.{IsSendRefusal, IsSendTaken}
 use Rattle.ws_session.specs.declared.end_step.Order.{Order}
 use Rattle.ws_session.specs.declared.end_step.Order.TheVariants.{Send}
 use Rattle.ws_session.specs.declared.host_event.HostEvent.{HostEvent}
@@ -67,7 +68,7 @@ told_done Closed e = absurd (false≢true e)
 pub told_goes : (closing : Closing) → is_told closing ≡ true → stops closing ≡ false
 told_goes closing e = ap stops (told_done closing e)
 
-module _ {S K : Type 0} (writer : Writer K) (reader : Reader S) where
+module _ {S K : Type 0} (devices : Devices S K) where
   abbrev Parts : Type 0
   Parts = AttachedParts HostParts S K
 
@@ -76,17 +77,17 @@ module _ {S K : Type 0} (writer : Writer K) (reader : Reader S) where
 
   module _ (order deed : Order) (is : deed_of order ≡ deed) (from to : Parts) where
     abbrev Unsent : Order → Fault → Type 0
-    Unsent done = IsSendFailure HostGoes HostRefuses writer reader from to (Did done ∷ [])
+    Unsent done = IsSendFailure host_conduct devices from to (Did done ∷ [])
 
     pub is_given : (given : Result (Option SendFault) Fault)
-        → IfOk given (λ refused. HaveLed HostGoes HostRefuses writer reader from to (Did deed ∷ []) [])
+        → IfOk given (λ refused. HaveLed host_conduct devices from to (Did deed ∷ []) [])
         → IfOk given (λ refused. IfSome refused (λ why. to ≡ from))
         → IfOk given (λ refused. IfSome refused (IsSendRefusal from.end (reaction_to deed)))
         → IfOk given (λ refused. IfNone refused (IsSendTaken from.end (reaction_to deed)))
         → IfErr given (Unsent deed) → to.waiting ≡ from.waiting → to.source ≡ from.source
-        → IsGiven writer reader order from given to
+        → IsGiven devices order from given to
     is_given (Ok refused) led same why taken failure waiting unread =
-        let done : IsDone writer reader deed from refused to = record {
+        let done : IsDone devices deed from refused to = record {
           led = led;
           same = same;
           why = why;
@@ -94,11 +95,11 @@ module _ {S K : Type 0} (writer : Writer K) (reader : Reader S) where
           waiting = waiting;
           unread = unread;
         } in
-        subst (λ (d : Order). IsDone writer reader d from refused to) (sym is) done
+        subst (λ (d : Order). IsDone devices d from refused to) (sym is) done
     is_given (Err why) led same told taken failure waiting unread = subst (λ (d : Order). Unsent d why) (sym is) failure
 
     pub cancel_fails : (given : Result (Option SendFault) Fault)
-        → IfErr given (λ why. (why ≡ fault.Write) × HaveLedUnwritten HostGoes HostRefuses writer reader
+        → IfErr given (λ why. (why ≡ fault.Write) × HaveLedUnwritten host_conduct devices
         from to (Did deed ∷ []))
         → IfErr given (λ why. to.broken ≡ true) → IfErr given (Unsent deed)
     cancel_fails (Ok refused) h b = tt
@@ -106,12 +107,12 @@ module _ {S K : Type 0} (writer : Writer K) (reader : Reader S) where
 
   -- one thing more is told that isn't the answer
   pub told_behind : (awaited : AnswerAwaited) (from mid to : Parts) (told : List HostEvent) (one : HostEvent)
-      → HaveToldBeforeAnswer writer reader awaited from told mid
-      → HasHeard HostGoes HostRefuses writer reader mid to (Some one) → is_awaited awaited one ≡ false
-      → HaveToldBeforeAnswer writer reader awaited from (told ++ one ∷ []) to
+      → HaveToldBeforeAnswer devices awaited from told mid
+      → HasHeard host_conduct devices mid to (Some one) → is_awaited awaited one ≡ false
+      → HaveToldBeforeAnswer devices awaited from (told ++ one ∷ []) to
   told_behind awaited from mid to [] one h heard other = (
     to,
-    subst (λ (z : Parts). HasHeard HostGoes HostRefuses writer reader z to (Some one)) h heard,
+    subst (λ (z : Parts). HasHeard host_conduct devices z to (Some one)) h heard,
     other,
     refl,
   )
@@ -120,11 +121,11 @@ module _ {S K : Type 0} (writer : Writer K) (reader : Reader S) where
 
   module _ {W : Type 0} (tells : S → Bool → Type 0) (begins : W → S → WaitSpan → W → Type 0) (begun : W → ℕ) where
     abbrev Runs : HostLine → (Ends × W) → Result Closing Fault → List ℕ → (Ends × W) → Type 0
-    Runs = InTime (HostRuns writer reader tells) host_waits begins begun
+    Runs = InTime (HostRuns devices tells) host_waits begins begun
 
     -- one thing more is told
     pub told_more : (from mid to : Ends × W) (count : ℕ) (printed last : List ℕ) → HaveRun Runs false from
-        (replicate count Await) true printed mid → AwaitsNext writer reader tells begins begun mid (Ok Done) last to
+        (replicate count Await) true printed mid → AwaitsNext devices tells begins begun mid (Ok Done) last to
         → HaveRun Runs false from (replicate (count + 1) Await) true (printed ++ last) to
     told_more from mid to count printed last h r =
         let longer : replicate count Await ++ Await ∷ [] ≡ replicate (count + 1) Await = replicate-append-replicate
@@ -140,8 +141,8 @@ module _ {S K : Type 0} (writer : Writer K) (reader : Reader S) where
         (h : HaveRun Runs false from (replicate count Await) true printed mid)
         (out : WentOut printer old between printed) where
       answers : (outcome : Result Closing Fault) (last : List ℕ)
-          → AwaitsNext writer reader tells begins begun mid outcome last to
-          → AnswersOn writer reader tells begins begun from to outcome (printed ++ last)
+          → AwaitsNext devices tells begins begun mid outcome last to
+          → AnswersOn devices tells begins begun from to outcome (printed ++ last)
       answers outcome last came = record {
         count = count;
         printed = printed;
@@ -152,13 +153,13 @@ module _ {S K : Type 0} (writer : Writer K) (reader : Reader S) where
         all = refl;
       }
 
-      pub one_told : (closing : Closing) → HasAnsweredOnce writer reader tells begins begun printer mid to
+      pub one_told : (closing : Closing) → HasAnsweredOnce devices tells begins begun printer mid to
           between new closing → is_told closing ≡ true
           → (text : List ℕ) × HaveRun Runs false from (replicate (count + 1) Await) true text to
           × WentOut printer old new text
       one_told closing one told =
-          let came : AwaitsNext writer reader tells begins begun mid (Ok Done) one.0 to = subst
-          (λ (k : Closing). AwaitsNext writer reader tells begins begun mid (Ok k) one.0 to)
+          let came : AwaitsNext devices tells begins begun mid (Ok Done) one.0 to = subst
+          (λ (k : Closing). AwaitsNext devices tells begins begun mid (Ok k) one.0 to)
           (told_done closing told) one.1 in (
             printed ++ one.0,
             told_more from mid to count printed one.0 h came,
@@ -166,9 +167,9 @@ module _ {S K : Type 0} (writer : Writer K) (reader : Reader S) where
           )
 
       pub none_told : (closing : Closing) (well : Bool)
-          → HasAnsweredOnce writer reader tells begins begun printer mid to between new closing
+          → HasAnsweredOnce devices tells begins begun printer mid to between new closing
           → is_told closing ≡ false → well ≡ not (stops closing)
-          → HasAnsweredOn writer reader tells begins begun printer from to old new well
+          → HasAnsweredOn devices tells begins begun printer from to old new well
       none_told closing well one untold e = (
         printed ++ one.0,
         (closing, answers (Ok closing) one.0 one.1, untold, e),
@@ -180,8 +181,8 @@ module _ {S K : Type 0} (writer : Writer K) (reader : Reader S) where
       out_both Open last w = went_out_both printer old between new printed last out w
       out_both Unwritten last f = fails_last printer old between new printed last out f
 
-      pub answer_fails : (told : Fault) → IsAnswerOnceFault writer reader tells begins begun printer mid to
-          between new told → IsAnswerOnFault writer reader tells begins begun printer from to old new told
+      pub answer_fails : (told : Fault) → IsAnswerOnceFault devices tells begins begun printer mid to
+          between new told → IsAnswerOnFault devices tells begins begun printer from to old new told
       answer_fails told (inl b) = inl (printed ++ b.0, b.1, answers (Err told) b.0 b.2, out_both b.1 b.0 b.3)
       answer_fails told (inr p) = let w = p.1 in
           inr (inl (
@@ -198,7 +199,7 @@ module _ {S K : Type 0} (writer : Writer K) (reader : Reader S) where
         (printed : List ℕ) where
       pub too_much_told : (count : ℕ) → HaveRun Runs false from (replicate count Await) true printed to
           → WentOut printer old new printed → count ≡ most_reads
-          → IsAnswerOnFault writer reader tells begins begun printer from to old new fault.Read
+          → IsAnswerOnFault devices tells begins begun printer from to old new fault.Read
       too_much_told count h out all =
           inr (inr (
             refl,
@@ -212,7 +213,7 @@ module _ {S K : Type 0} (writer : Writer K) (reader : Reader S) where
 
     module _ (ready : Bool) (from mid : Ends × W) (lines : List HostLine) (ran : Ran) (printed : List ℕ)
         (h : IsLiveText Runs ready from lines ran printed mid) where
-      pub stopped_text : ran.is_over ≡ true → IsServeText writer reader tells begins begun ready from lines
+      pub stopped_text : ran.is_over ≡ true → IsServeText devices tells begins begun ready from lines
           ran.all_well printed mid
       stopped_text over = elim h [
         | inl all ↦ absurd (false≢true (sym all.1 ∙ over))
@@ -226,8 +227,8 @@ module _ {S K : Type 0} (writer : Writer K) (reader : Reader S) where
       ]
 
       pub answered_text : (to : Ends × W) (is_well : Bool) (told : List ℕ) → ran.is_over ≡ false
-          → IsAnsweringText writer reader tells begins begun mid is_well told to
-          → IsServeText writer reader tells begins begun ready from lines (ran.all_well && is_well)
+          → IsAnsweringText devices tells begins begun mid is_well told to
+          → IsServeText devices tells begins begun ready from lines (ran.all_well && is_well)
           (printed ++ told) to
       answered_text to is_well told going answers = inl (
         ran.all_well,

@@ -6,7 +6,7 @@ use Rattle.std.proofs.Math.Seq.{drop-cons}
 use Rattle.std.proofs.lemmas.Grind.{flat_map-append}
 use Rattle.std.proofs.lemmas.List.{append-nil, map-append, take_more, replicate-append-replicate}
 use Rattle.ws_code.specs.Code.{Rules}
-use Rattle.ws_code.specs.Device.{Writer, Reader}
+use Rattle.ws_code.specs.Device.{Writer, Reader, Devices}
 use Rattle.ws_code.specs.declared.fault.Fault.{Fault}
 use Rattle.ws_keys.specs.Strokes.{keys_of}
 use Rattle.ws_keys.specs.declared.key.Key.{Key}
@@ -84,15 +84,15 @@ no_keys_behind (Fill f) other = absurd (other f refl)
 -- KEYS THAT ARE PRESSED
 
 module _ {D P U H PlaceV V Q R S K : Type 0} (rules : Rules P U) (d : DisplayOf D U H PlaceV V Q R)
-    (writer : Writer K) (reader : Reader S) (w : KeyWords Q) where
+    (devices : Devices S K) (w : KeyWords Q) where
   abbrev Parts : Type 0
   Parts = AttachedParts (PartsOn D P) S K
 
   abbrev Runs : Q → Parts → Result Closing Fault → List ℕ → Parts → Type 0
-  Runs = KeyRuns rules d writer reader w
+  Runs = KeyRuns rules d devices w
 
   abbrev Until : List Q → Parts → Result Closing Fault → List ℕ → Parts → Type 0
-  Until = KeysUntil rules d writer reader w
+  Until = KeysUntil rules d devices w
 
   -- a key that is taken prints nothing
   quiet : (entered : Option ℕ) (refused : Option KeyFault)
@@ -184,16 +184,16 @@ module _ {D P U H PlaceV V Q R S K : Type 0} (rules : Rules P U) (d : DisplayOf 
   module _ (s : ScreenParts) (stroke : Stroke Q) (from to : Parts) (outcome : Result Closing Fault)
       (text : List ℕ) where
     abbrev Strokes : Option (List KeyRun) → Type 0
-    Strokes runs = StrokeRuns rules d writer reader w
+    Strokes runs = StrokeRuns rules d devices w
         (option_map (λ runs. map w.profile (keys_of runs) ++ keys_behind stroke) runs) from outcome text to
 
     -- a stroke whose field there is
     pub stroke_some : (runs : List KeyRun) → Some runs ≡ stroke_runs s stroke
         → Until (map w.profile (keys_of runs) ++ keys_behind stroke) from outcome text to
-        → StrokeRuns rules d writer reader w (stroke_keys w s stroke) from outcome text to
+        → StrokeRuns rules d devices w (stroke_keys w s stroke) from outcome text to
     stroke_some runs e h = subst Strokes e h
 
     -- one whose field there isn't
     pub stroke_none : None ≡ stroke_runs s stroke → to ≡ from → outcome ≡ Ok Declined → text ≡ no_field_text
-        → StrokeRuns rules d writer reader w (stroke_keys w s stroke) from outcome text to
+        → StrokeRuns rules d devices w (stroke_keys w s stroke) from outcome text to
     stroke_none e same declined printed = subst Strokes e (same, declined, printed)

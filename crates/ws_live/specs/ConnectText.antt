@@ -4,7 +4,7 @@ use Rattle.std.specs.Prelude.{◌≡◌, ◌≢◌, ℕ, ◌<◌, List, [], ◌�
 use Rattle.std.specs.Prelude.{Some, IfSome, IfNone, is_none}
 use Rattle.std.specs.Prelude.{Result, Ok, Err, string_bytes, length, if◌then◌else◌, codes, encode_utf8}
 use Rattle.ws_code.specs.Code.{Rules}
-use Rattle.ws_code.specs.Device.{Writer, Reader, most_reads, one_more}
+use Rattle.ws_code.specs.Device.{Writer, Reader, most_reads, one_more, Devices}
 use Rattle.ws_code.specs.declared.fault.Fault.{Fault}
 use Rattle.ws_code.specs.declared.fault.Fault.TheVariants as fault
 use Rattle.ws_nego.specs.Station.{station_allows_records}
@@ -13,7 +13,8 @@ use Rattle.ws_session.specs.Acts.{Did}
 use Rattle.ws_session.specs.Attachments.{AttachedParts, HaveLed, HaveLedUnwritten, HasHeard, IsHearFault}
 use Rattle.ws_session.specs.Displays.{DisplayOf}
 use Rattle.ws_session.specs.PartsOn.{PartsOn}
-use Rattle.ws_session.specs.StationActs.{GoesOnDisplay, RefusesOn, IsKeyRefusalOn, IsKeyTakenOn}
+use Rattle.ws_session.specs.Conducts.{station_conduct}
+use Rattle.ws_session.specs.StationActs.{IsKeyRefusalOn, IsKeyTakenOn}
 use Rattle.ws_session.specs.declared.end_step.Applied.{Applied}
 use Rattle.ws_session.specs.declared.key_fault.KeyFault.{KeyFault}
 use Rattle.ws_session.specs.declared.world.Event.TheVariants.{StationRefused}
@@ -125,23 +126,23 @@ IsMet shown operated Record display = Unit {0}
 IsMet shown operated (Quiet time) display = ⊥
 
 module _ {D P U H PlaceV V Q R : Type 0} (rules : Rules P U) (d : DisplayOf D U H PlaceV V Q R) where
-  module _ {S K : Type 0} (writer : Writer K) (reader : Reader S) where
+  module _ {S K : Type 0} (devices : Devices S K) where
     -- a station on such a display, on a source and a sink
     abbrev pub AttachedStation : Type 0
     AttachedStation = AttachedParts (PartsOn D P) S K
 
     -- one call of `hear` leads from there to there, and tells this
     abbrev pub Hears : AttachedStation → Option Applied → AttachedStation → Type 0
-    Hears from heard to = HasHeard (GoesOnDisplay rules d) (RefusesOn rules d) writer reader from to heard
+    Hears from heard to = HasHeard (station_conduct rules d) devices from to heard
 
     -- one call of `hear` failed for this
     abbrev pub HearsFault : AttachedStation → Fault → AttachedStation → Type 0
     HearsFault from why to =
-        IsHearFault (GoesOnDisplay rules d) (RefusesOn rules d) writer reader from to why
+        IsHearFault (station_conduct rules d) devices from to why
 
     -- a key was pressed: what it sends went out, or it was refused, and nothing is changed; no byte was read or taken
     pub record IsKeyPressed (key : Q) (from : AttachedStation) (refused : Option KeyFault) (to : AttachedStation) : Type 0 where
-      pub led : HaveLed (GoesOnDisplay rules d) (RefusesOn rules d) writer reader from to
+      pub led : HaveLed (station_conduct rules d) devices from to
           (Did key ∷ []) []
       pub same : IfSome refused (λ why. to ≡ from)
       pub why : IfSome refused (IsKeyRefusalOn rules d from.end key)
@@ -152,7 +153,7 @@ module _ {D P U H PlaceV V Q R : Type 0} (rules : Rules P U) (d : DisplayOf D U 
     -- a key was pressed, and what it sends didn't go out
     abbrev pub IsKeyUnwritten : Q → AttachedStation → AttachedStation → Type 0
     IsKeyUnwritten key from to =
-        HaveLedUnwritten (GoesOnDisplay rules d) (RefusesOn rules d) writer reader from to (Did key ∷ [])
+        HaveLedUnwritten (station_conduct rules d) devices from to (Did key ∷ [])
 
     -- Keys by these words.
     module _ (w : KeyWords Q) where

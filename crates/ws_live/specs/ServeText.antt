@@ -4,14 +4,15 @@ use Rattle.std.specs.Prelude.{◌≡◌, ℕ, List, [], ◌∷◌, ◌++◌, ◌
 use Rattle.std.specs.Prelude.{IfSome, IfNone, not, ◌&&◌, ◌==◌, length, replicate, string_bytes}
 use Rattle.std.specs.List.{flat_map}
 use Rattle.std.specs.Prelude.{Result, Ok, Err}
-use Rattle.ws_code.specs.Device.{Writer, Reader, WentOut, FailedWithin, most_reads}
+use Rattle.ws_code.specs.Device.{Writer, Reader, WentOut, FailedWithin, most_reads, Devices}
 use Rattle.ws_code.specs.declared.fault.Fault.{Fault}
 use Rattle.ws_code.specs.declared.fault.Fault.TheVariants as fault
 use Rattle.ws_session.specs.Acts.{Did}
 use Rattle.ws_session.specs.Attachments.{AttachedParts, HaveLed, IsSendFailure, HasHeard, IsHearFault}
 use Rattle.ws_session.specs.HostLeads.{HostParts}
 use Rattle.ws_session.specs.HostSide.{HostSide, SendReaction, host_send, host_cancel}
-use Rattle.ws_session.specs.Manners.{HostGoes, HostRefuses, IsSendRefusal, IsSendTaken}
+use Rattle.ws_session.specs.Conducts.{host_conduct}
+use Rattle.ws_session.specs.Manners.{IsSendRefusal, IsSendTaken}
 use Rattle.ws_record.specs.declared.opcode.Opcode.TheVariants.{CancelInvite}
 use Rattle.ws_session.specs.declared.end_step.Order.{Order}
 use Rattle.ws_session.specs.declared.end_step.Order.TheVariants.{Send, Cancel}
@@ -92,7 +93,7 @@ abbrev pub reaction_to : Order → HostSide → SendReaction
 reaction_to (Send opcode body) side = host_send side opcode body
 reaction_to Cancel side = host_cancel side
 
-module _ {S K : Type 0} (writer : Writer K) (reader : Reader S) where
+module _ {S K : Type 0} (devices : Devices S K) where
   -- a host end on a source and a sink
   abbrev pub AttachedHost : Type 0
   AttachedHost = AttachedParts HostParts S K
@@ -103,7 +104,7 @@ module _ {S K : Type 0} (writer : Writer K) (reader : Reader S) where
 
   -- the host end did this: it was written, or refused, and nothing is changed; no byte was read or taken
   pub record IsDone (order : Order) (from : AttachedHost) (refused : Option SendFault) (to : AttachedHost) : Type 0 where
-    pub led : HaveLed HostGoes HostRefuses writer reader from to (Did order ∷ []) []
+    pub led : HaveLed host_conduct devices from to (Did order ∷ []) []
     pub same : IfSome refused (λ why. to ≡ from)
     pub why : IfSome refused (IsSendRefusal from.end (reaction_to order))
     pub taken : IfNone refused (IsSendTaken from.end (reaction_to order))
@@ -113,14 +114,14 @@ module _ {S K : Type 0} (writer : Writer K) (reader : Reader S) where
   -- what the host end was told to do is done, or a write failed, or for want of memory nothing is
   abbrev pub IsGiven : Order → AttachedHost → Result (Option SendFault) Fault → AttachedHost → Type 0
   IsGiven order from (Ok refused) to = IsDone (deed_of order) from refused to
-  IsGiven order from (Err why) to = IsSendFailure HostGoes HostRefuses writer reader from to
+  IsGiven order from (Err why) to = IsSendFailure host_conduct devices from to
       (Did (deed_of order) ∷ []) why
 
   -- things were told one after another, none of which is the answer that is awaited
   abbrev pub HaveToldBeforeAnswer : AnswerAwaited → AttachedHost → List HostEvent → AttachedHost → Type 0
   HaveToldBeforeAnswer awaited from [] to = to ≡ from
   HaveToldBeforeAnswer awaited from (event ∷ more) to = (mid : AttachedHost)
-      × HasHeard HostGoes HostRefuses writer reader from mid (Some event)
+      × HasHeard host_conduct devices from mid (Some event)
       × (is_awaited awaited event ≡ false) × HaveToldBeforeAnswer awaited mid more to
 
   -- What a wait comes to, at a watch that tells of a source whether the read that failed was late.
@@ -128,16 +129,16 @@ module _ {S K : Type 0} (writer : Writer K) (reader : Reader S) where
     -- the host end heard the station, and tells nothing more: the station closed, or a fault came
     abbrev pub HostHearsNone : AttachedHost → Result Closing Fault → List ℕ → AttachedHost → Type 0
     HostHearsNone from outcome text to =
-        (HasHeard HostGoes HostRefuses writer reader from to None
+        (HasHeard host_conduct devices from to None
         × (outcome ≡ Ok Ended) × (text ≡ []))
         ⊎ ((why : Fault) × (late : Bool)
-        × IsHearFault HostGoes HostRefuses writer reader from to why × (why ≡ fault.Read → tells to.source late)
+        × IsHearFault host_conduct devices from to why × (why ≡ fault.Read → tells to.source late)
         × (outcome ≡ unheard_outcome late why) × (text ≡ unheard_text why))
 
     -- the host end heard the station up to the first thing that it tells, which is printed, or none came
     abbrev pub HostHearsOne : AttachedHost → Result Closing Fault → List ℕ → AttachedHost → Type 0
     HostHearsOne from outcome text to =
-        ((event : HostEvent) × HasHeard HostGoes HostRefuses writer reader from to (Some event)
+        ((event : HostEvent) × HasHeard host_conduct devices from to (Some event)
         × (outcome ≡ Ok Done) × (text ≡ told_text event))
         ⊎ HostHearsNone from outcome text to
 
@@ -146,7 +147,7 @@ module _ {S K : Type 0} (writer : Writer K) (reader : Reader S) where
       -- behind so many things the answer is told; or none more is; or as many were told as one wait takes
       abbrev pub AnswerComes : ℕ → AttachedHost → Result Closing Fault → List ℕ → AttachedHost → Type 0
       AnswerComes told from outcome text to =
-          ((event : HostEvent) × HasHeard HostGoes HostRefuses writer reader from to (Some event)
+          ((event : HostEvent) × HasHeard host_conduct devices from to (Some event)
           × (is_awaited awaited event ≡ true) × (outcome ≡ Ok Done) × (text ≡ told_text event))
           ⊎ (HostHearsNone from outcome text to
           ⊎ ((told ≡ most_reads) × (to ≡ from) × (outcome ≡ Err fault.Read) × (text ≡ [])))
@@ -168,7 +169,7 @@ module _ {S K : Type 0} (writer : Writer K) (reader : Reader S) where
     HostDoes Await from outcome text to = HostHearsOne from outcome text to
     HostDoes (AwaitAnswer awaited) from outcome text to = HearsAnswer awaited from outcome text to
     HostDoes Show from outcome text to = (to ≡ from) × (outcome ≡ Ok Done) × IsScreenText Plain from.end.screen text
-    HostDoes (Wire line) from outcome text to = WireRuns writer line from outcome to × (text ≡ [])
+    HostDoes (Wire line) from outcome text to = WireRuns devices.writer line from outcome to × (text ≡ [])
     HostDoes (Bad cause) from outcome text to = (to ≡ from) × (outcome ≡ bad_outcome)
         × (text ≡ bad_text (string_bytes cause))
 

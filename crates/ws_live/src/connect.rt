@@ -5,6 +5,7 @@ ghost use Rattle.ws_live.specs.LiveText.{stops};
 ghost use Rattle.ws_live.specs.Waits.{HasBegun, HasBegunIf};
 ghost use Rattle.ws_live.specs.declared.watch.WaitSpan.TheVariants.{AtOnce};
 ghost use Rattle.ws_text.specs.Printing.{Prints};
+ghost use Rattle.ws_code.specs.Device.{on_devices};
 
 use crate::connect_line::{Awaited, StationLine};
 use crate::field_lines::put_field_lines;
@@ -37,7 +38,7 @@ where
     D::Key: NamedKey,
 {
     ghost runs = { λ tells rests. Spec.StationRuns D.Commands.rules D.does
-        K.writer S.reader tells rests D.operated D.Key.words };
+        (on_devices K.writer S.reader) tells rests D.operated D.Key.words };
 
     ghost waits = { Spec.station_waits };
 
@@ -94,8 +95,7 @@ fn put_what<D: OperatedDisplay, S: Source, K: Sink, W: Watch<S>, O: Sink>(
     output: Output,
 ) -> Carried
     requires works { attached.old.broken ≡ false }
-    ensures runs { (text : List ℕ) × Spec.Reports D.Commands.rules D.does K.writer
-        S.reader W.tells report.now
+    ensures runs { (text : List ℕ) × Spec.Reports D.Commands.rules D.does (on_devices K.writer S.reader) W.tells report.now
         (attached.old, ahead.old) result.outcome text (attached.new, ahead.new)
         × Prints O.writer out.old out.new output result.output text }
     ensures begun { HasBegunIf W.begins W.begun (Spec.report_waits report.now)
@@ -126,8 +126,7 @@ fn press_keys<D: OperatedDisplay, S: Source, K: Sink, O: Sink>(
 where
     D::Key: NamedKey,
     requires works { attached.old.broken ≡ false }
-    ensures runs { (text : List ℕ) × Spec.KeysRun D.Commands.rules D.does K.writer
-        S.reader D.Key.words keys.now attached.old result.outcome text attached.new
+    ensures runs { (text : List ℕ) × Spec.KeysRun D.Commands.rules D.does (on_devices K.writer S.reader) D.Key.words keys.now attached.old result.outcome text attached.new
         × Prints O.writer out.old out.new output result.output text }
     ensures works { IfOk result.outcome (λ closing. attached.new.broken ≡ false) }
 {
@@ -168,7 +167,7 @@ fn wait<D: OperatedDisplay, S: Source, K: Sink, W: Watch<S>>(
     awaited: &Awaited,
 ) -> Waited
     requires works { attached.old.broken ≡ false }
-    ensures waited { Spec.IsWaited D.Commands.rules D.does K.writer S.reader
+    ensures waited { Spec.IsWaited D.Commands.rules D.does (on_devices K.writer S.reader)
         W.tells W.rests D.operated awaited.now (attached.old, ahead) result attached.new }
     ensures begun { HasBegun W.begins W.begun attached.old.source (Spec.span_of awaited.now)
         watch.old watch.new }
@@ -199,7 +198,7 @@ fn hear_next<D: OperatedDisplay, S: Source, K: Sink, W: Watch<S>>(
     watch: &W,
 ) -> Waited
     requires works { attached.old.broken ≡ false }
-    ensures waited { Spec.WaitsForRecord D.Commands.rules D.does K.writer S.reader
+    ensures waited { Spec.WaitsForRecord D.Commands.rules D.does (on_devices K.writer S.reader)
         W.tells ahead attached.old result attached.new }
     ensures works { Spec.IsWorking result attached.new.broken }
 {
@@ -215,7 +214,7 @@ fn wait_for_quiet<D: OperatedDisplay, S: Source, K: Sink, W: Watch<S>>(
     watch: &W,
 ) -> Waited
     requires works { attached.old.broken ≡ false }
-    ensures waited { Spec.IsQuieted D.Commands.rules D.does K.writer S.reader
+    ensures waited { Spec.IsQuieted D.Commands.rules D.does (on_devices K.writer S.reader)
         W.tells W.rests attached.old result attached.new }
     ensures works { Spec.IsWorking result attached.new.broken }
 {
@@ -233,7 +232,7 @@ fn take_what_came<D: OperatedDisplay, S: Source, K: Sink, W: Watch<S>>(
 ) -> Waited
     requires works { attached.old.broken ≡ false }
     ensures taken { (told : List Applied) × (ended : Waited)
-        × Spec.AppliesAll D.Commands.rules D.does K.writer S.reader
+        × Spec.AppliesAll D.Commands.rules D.does (on_devices K.writer S.reader)
         W.tells attached.old told ended attached.new
         × (ahead.new ≡ Spec.more_ahead ahead.old told) × (result ≡ Spec.rested true ended) }
     ensures begun { HasBegun W.begins W.begun attached.old.source AtOnce watch.old watch.new }
@@ -266,7 +265,7 @@ fn take_all<D: OperatedDisplay, S: Source, K: Sink, W: Watch<S>>(
 ) -> Waited
     requires works { attached.old.broken ≡ false }
     ensures taken { (told : List Applied) × Spec.AppliesAll D.Commands.rules D.does
-        K.writer S.reader W.tells attached.old told result attached.new
+        (on_devices K.writer S.reader) W.tells attached.old told result attached.new
         × (ahead.new ≡ Spec.more_ahead ahead.old told) }
     ensures works { Spec.IsWorking result attached.new.broken }
 {
@@ -286,7 +285,7 @@ fn wait_for<D: OperatedDisplay, S: Source, K: Sink, W: Watch<S>>(
     awaited: &Awaited,
 ) -> Waited
     requires works { attached.old.broken ≡ false }
-    ensures waited { Spec.WaitsFor D.Commands.rules D.does K.writer S.reader
+    ensures waited { Spec.WaitsFor D.Commands.rules D.does (on_devices K.writer S.reader)
         W.tells (Spec.IsMet D.does.shown D.operated awaited.now)
         attached.old result attached.new }
     ensures same { watch.new ≡ watch.old }
@@ -326,7 +325,7 @@ fn hear_record<D: OperatedDisplay, S: Source, K: Sink, W: Watch<S>>(
     watch: &W,
 ) -> Waited
     requires works { attached.old.broken ≡ false }
-    ensures heard { Spec.HearsOne D.Commands.rules D.does K.writer S.reader
+    ensures heard { Spec.HearsOne D.Commands.rules D.does (on_devices K.writer S.reader)
         W.tells attached.old result attached.new }
     ensures works { Spec.IsWorking result attached.new.broken }
 {

@@ -4,6 +4,7 @@ ghost use Rattle.ws_session.specs.declared.end_step.Order.TheVariants.{Send};
 ghost use Rattle.ws_live.specs.ServeText as Spec;
 ghost use Rattle.ws_live.specs.LiveText.{stops};
 ghost use Rattle.ws_text.specs.Printing.{Prints};
+ghost use Rattle.ws_code.specs.Device.{on_devices};
 
 use crate::buffered_sink::BufferedSink;
 use crate::host_closing::{put_given, put_unheard};
@@ -22,7 +23,7 @@ use ws_text::Output;
 
 impl<S: Source, K: Sink> LiveMove<HostEnd, S, K> for HostLine {
     ghost runs = { λ tells rests paint.
-        Spec.HostRuns K.writer S.reader tells };
+        Spec.HostRuns (on_devices K.writer S.reader) tells };
 
     ghost waits = { Spec.host_waits };
 
@@ -69,7 +70,7 @@ fn give<S: Source, K: Sink>(
     order: &Order,
 ) -> Result<Option<SendFault>, Fault>
     requires works { attached.old.broken ≡ false }
-    ensures given { Spec.IsGiven K.writer S.reader order.now
+    ensures given { Spec.IsGiven (on_devices K.writer S.reader) order.now
         attached.old result attached.new }
     ensures works { IfOk result (λ refused. attached.new.broken ≡ false) }
 {
@@ -86,7 +87,7 @@ fn give_record<S: Source, K: Sink>(
     body: &[Element],
 ) -> Result<Option<SendFault>, Fault>
     requires works { attached.old.broken ≡ false }
-    ensures given { Spec.IsGiven K.writer S.reader (Send opcode body.now)
+    ensures given { Spec.IsGiven (on_devices K.writer S.reader) (Send opcode body.now)
         attached.old result attached.new }
     ensures works { IfOk result (λ refused. attached.new.broken ≡ false) }
 {
@@ -104,7 +105,7 @@ fn hear_event<S: Source, K: Sink, W: Watch<S>, O: Sink>(
     output: Output,
 ) -> Carried
     requires works { attached.old.broken ≡ false }
-    ensures heard { (text : List ℕ) × Spec.HostHearsOne K.writer S.reader
+    ensures heard { (text : List ℕ) × Spec.HostHearsOne (on_devices K.writer S.reader)
         W.tells attached.old result.outcome text attached.new
         × Prints O.writer out.old out.new output result.output text }
     ensures works { IfOk result.outcome (λ closing.
@@ -132,7 +133,7 @@ fn hear_answer<S: Source, K: Sink, W: Watch<S>, O: Sink>(
     output: Output,
 ) -> Carried
     requires works { attached.old.broken ≡ false }
-    ensures heard { (text : List ℕ) × Spec.HearsAnswer K.writer S.reader
+    ensures heard { (text : List ℕ) × Spec.HearsAnswer (on_devices K.writer S.reader)
         W.tells awaited.now attached.old result.outcome text attached.new
         × Prints O.writer out.old out.new output result.output text }
     ensures works { IfOk result.outcome (λ closing.
@@ -191,11 +192,11 @@ pub fn answer_on<S: Source, K: Sink, W: Watch<S>, O: Sink>(
     requires works { attached.old.broken ≡ false }
     requires empty { out.old.held ≡ [] }
     // What was printed, or why not all; what was is out.
-    ensures answered { IfOk result (Spec.HasAnsweredOn K.writer S.reader
+    ensures answered { IfOk result (Spec.HasAnsweredOn (on_devices K.writer S.reader)
         W.tells W.begins W.begun O.writer
         ((attached.old, ahead.old), watch.old) ((attached.new, ahead.new), watch.new)
         out.old.sink out.new.sink) }
-    ensures fault { IfErr result (Spec.IsAnswerOnFault K.writer S.reader
+    ensures fault { IfErr result (Spec.IsAnswerOnFault (on_devices K.writer S.reader)
         W.tells W.begins W.begun O.writer
         ((attached.old, ahead.old), watch.old) ((attached.new, ahead.new), watch.new)
         out.old.sink out.new.sink) }
@@ -225,11 +226,11 @@ fn answer_once<S: Source, K: Sink, W: Watch<S>, O: Sink>(
     requires works { attached.old.broken ≡ false }
     requires empty { out.old.held ≡ [] }
     // What was printed, or why not all.
-    ensures answered { IfOk result (Spec.HasAnsweredOnce K.writer S.reader
+    ensures answered { IfOk result (Spec.HasAnsweredOnce (on_devices K.writer S.reader)
         W.tells W.begins W.begun O.writer
         ((attached.old, ahead.old), watch.old) ((attached.new, ahead.new), watch.new)
         out.old.sink out.new.sink) }
-    ensures fault { IfErr result (Spec.IsAnswerOnceFault K.writer S.reader
+    ensures fault { IfErr result (Spec.IsAnswerOnceFault (on_devices K.writer S.reader)
         W.tells W.begins W.begun O.writer
         ((attached.old, ahead.old), watch.old) ((attached.new, ahead.new), watch.new)
         out.old.sink out.new.sink) }

@@ -1,5 +1,5 @@
 use Rattle.std.proofs.Common.{◌≡◌, ℕ, List, Bool, false, inr}
-use Rattle.ws_code.specs.Device.{Writer, Reader, WentOut}
+use Rattle.ws_code.specs.Device.{Writer, Reader, WentOut, Devices}
 use Rattle.ws_code.specs.declared.fault.Fault.{Fault}
 use Rattle.ws_live.specs.LiveText.{IsLiveText}
 use Rattle.ws_live.specs.ServeText.{AttachedHost, HostRunsInTime, IsAnswerOnFault}
@@ -13,23 +13,23 @@ use Rattle.ws_program.specs.declared.fault.ToldFault.{ToldFault}
 
 -- What was told behind the lines didn't go out, or a device or memory failed.
 
-pub unanswered : {S K W O : Type 0} (writer : Writer K) (reader : Reader S)
+pub unanswered : {S K W O : Type 0} (devices : Devices S K)
     (tells : S → Bool → Type 0) (begins : W → S → WaitSpan → W → Type 0) (begun : W → ℕ) (ready : Bool)
-    (from mid : (AttachedHost writer reader × ℕ) × W) (lines : List HostLine)
+    (from mid : (AttachedHost devices × ℕ) × W) (lines : List HostLine)
     (ran : Ran) (printed : List ℕ)
-    → IsLiveText (HostRunsInTime writer reader tells begins begun) ready from lines ran printed mid → (printer : Writer O) (to : (AttachedHost writer reader × ℕ) × W) (old between new : O) (has_script : Bool)
+    → IsLiveText (HostRunsInTime devices tells begins begun) ready from lines ran printed mid → (printer : Writer O) (to : (AttachedHost devices × ℕ) × W) (old between new : O) (has_script : Bool)
     (told : ToldFault) (why : Fault) → told ≡ told_fault why
     → ran.is_over ≡ false → WentOut printer old between printed
-    → IsAnswerOnFault writer reader tells begins begun printer mid to between new why
-    → IsServeFault writer reader tells begins begun printer ready from to old new has_script lines told
-unanswered writer reader tells begins begun ready from mid lines ran printed h printer to old between new
+    → IsAnswerOnFault devices tells begins begun printer mid to between new why
+    → IsServeFault devices tells begins begun printer ready from to old new has_script lines told
+unanswered devices tells begins begun ready from mid lines ran printed h printer to old between new
     has_script told why is going out fault =
     inr (
       ran.all_well,
       printed,
       mid,
       between,
-      all_run writer reader tells begins begun ready from mid lines ran
+      all_run devices tells begins begun ready from mid lines ran
           printed h going,
       out,
       (why, fault, is),

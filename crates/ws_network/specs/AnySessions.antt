@@ -1,7 +1,7 @@
 -- What the sessions of `serve --any` come to: those of a host that takes any record.
 
 use Rattle.std.specs.Prelude.{◌≡◌, ℕ, List, [], ◌∷◌, ◌++◌, ◌⊎◌, Bool, ◌&&◌, Result}
-use Rattle.ws_code.specs.Device.{Writer, Reader, WentOut}
+use Rattle.ws_code.specs.Device.{Writer, Reader, WentOut, Devices}
 use Rattle.ws_code.specs.declared.fault.Fault.{Fault}
 use Rattle.ws_nego.specs.Host.{opening}
 use Rattle.ws_record.specs.Encode.{plain_spelling}
@@ -45,7 +45,7 @@ module _ {L P : Type 0} (runs : L → P → Result Closing Fault → List ℕ �
         × HaveRun runs ready from lines well printed mid × WentOut printer old between printed
         × ((why : Fault) × IsCarryOnFault runs on printer mid to between new why × (told ≡ told_fault why)))
 
-module _ {S K W : Type 0} (writer : Writer K) (reader : Reader S)
+module _ {S K W : Type 0} (devices : Devices S K)
     (says : S → Bool → Type 0) (starts : W → S → WaitSpan → W → Type 0) (begun : W → ℕ) where
   -- what a line does at a host that takes any record, and a watch
   abbrev pub RunsAny : AnyLine → ((AttachedParts AnyParts S K × ℕ) × W) → Result Closing Fault → List ℕ

@@ -1,7 +1,7 @@
 -- Why a live session ended early, as the program's own fault.
 
 use Rattle.std.specs.Prelude.{◌≡◌, ℕ, List, ◌⊎◌, Bool, false, Result}
-use Rattle.ws_code.specs.Device.{Writer, Reader, WentOut}
+use Rattle.ws_code.specs.Device.{Writer, Reader, WentOut, Devices}
 use Rattle.ws_code.specs.declared.fault.Fault.{Fault}
 use Rattle.ws_live.specs.LiveText.{HaveRun, IsLiveFault}
 use Rattle.ws_live.specs.ServeText.{AttachedHost, HostRunsInTime, IsAnswerOnFault}
@@ -25,15 +25,15 @@ module _ {L P : Type 0} (runs : L → P → Result Closing Fault → List ℕ �
         ((why : Fault) × IsLiveFault runs ready writer from to old new lines why × (told ≡ told_fault why))
         ⊎ ((has_script ≡ false) × IsOutOfLines lines × IsInputFault ready told)
 
-module _ {S K : Type 0} (writer : Writer K) (reader : Reader S) where
+module _ {S K : Type 0} (devices : Devices S K) where
   module _ {W : Type 0} (tells : S → Bool → Type 0) (begins : W → S → WaitSpan → W → Type 0) (begun : W → ℕ) where
     module _ {O : Type 0} (printer : Writer O) where
       -- why a session at a host ended early: in its lines, or behind them, when what they print is out
-      abbrev pub IsServeFault : Bool → ((AttachedHost writer reader × ℕ) × W)
-          → ((AttachedHost writer reader × ℕ) × W) → O → O → Bool → List HostLine → ToldFault → Type 0
+      abbrev pub IsServeFault : Bool → ((AttachedHost devices × ℕ) × W)
+          → ((AttachedHost devices × ℕ) × W) → O → O → Bool → List HostLine → ToldFault → Type 0
       IsServeFault ready from to old new has_script lines told =
-          IsSessionFault (HostRunsInTime writer reader tells begins begun) ready printer from to old new has_script lines told
-          ⊎ ((well : Bool) × (printed : List ℕ) × (mid : (AttachedHost writer reader × ℕ) × W) × (between : O)
-          × HaveRun (HostRunsInTime writer reader tells begins begun) ready from lines well printed mid × WentOut printer old between printed
-          × ((why : Fault) × IsAnswerOnFault writer reader tells begins begun printer mid to between new why
+          IsSessionFault (HostRunsInTime devices tells begins begun) ready printer from to old new has_script lines told
+          ⊎ ((well : Bool) × (printed : List ℕ) × (mid : (AttachedHost devices × ℕ) × W) × (between : O)
+          × HaveRun (HostRunsInTime devices tells begins begun) ready from lines well printed mid × WentOut printer old between printed
+          × ((why : Fault) × IsAnswerOnFault devices tells begins begun printer mid to between new why
           × (told ≡ told_fault why)))

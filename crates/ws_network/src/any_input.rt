@@ -1,7 +1,7 @@
 //! The lines of a live session at a host that takes any record.
 ghost use Rattle.std.specs.Prelude.{◌≡◌, [], List, ℕ, false, IfOk, IfErr, MatchOption};
 ghost use Rattle.std.specs.Option.{is_some};
-ghost use Rattle.ws_code.specs.Device.{WentOut};
+ghost use Rattle.ws_code.specs.Device.{WentOut, on_devices};
 ghost use Rattle.ws_any_host.specs.declared.any_line.AnyLine.{AnyLine as AnAnyLine};
 ghost use Rattle.ws_any_host.specs.declared.any_line.AnyLine.TheVariants.{Await};
 ghost use Rattle.ws_network.specs.AnySessions.{IsTextAndOn, IsFaultThenOrOn, RunsAny};
@@ -40,14 +40,14 @@ where
     // What was printed, or why not all; what was is out.
     ensures ran { IfOk result (λ all_well. (lines : List AnAnyLine) × (text : List ℕ)
         × MatchOption script.entry (Unit {0}) (λ asked. lines ≡ asked.now)
-        × IsTextAndOn (RunsAny K.writer S.reader W.tells W.begins W.begun)
+        × IsTextAndOn (RunsAny (on_devices K.writer S.reader) W.tells W.begins W.begun)
         Await ready ((attached.old, ahead.old), watch.old) lines all_well text
         ((attached.new, ahead.new), watch.new)
         × WentOut O.writer out.old.sink out.new.sink text) }
     ensures held { out.new.held ≡ [] }
     ensures fault { IfErr result (λ fault. (lines : List AnAnyLine)
         × MatchOption script.entry (Unit {0}) (λ asked. lines ≡ asked.now)
-        × IsFaultThenOrOn (RunsAny K.writer S.reader W.tells W.begins W.begun)
+        × IsFaultThenOrOn (RunsAny (on_devices K.writer S.reader) W.tells W.begins W.begun)
         Await ready O.writer ((attached.old, ahead.old), watch.old)
         ((attached.new, ahead.new), watch.new)
         out.old.sink out.new.sink (is_some script.entry) lines fault) }

@@ -1,7 +1,7 @@
 //! The lines of a live session: those of a script, or of standard input one by one.
 ghost use Rattle.std.specs.Prelude.{◌≡◌, [], List, ℕ, false, IfOk, IfErr, MatchOption};
 ghost use Rattle.std.specs.Option.{is_some};
-ghost use Rattle.ws_code.specs.Device.{WentOut};
+ghost use Rattle.ws_code.specs.Device.{WentOut, on_devices};
 ghost use Rattle.ws_live.specs.ConnectText.{IsConnectText, StationRuns, station_waits};
 ghost use Rattle.ws_live.specs.Waits.{InTime};
 ghost use Rattle.ws_live.specs.LiveText as Spec;
@@ -50,7 +50,7 @@ where
     requires empty { out.old.held ≡ [] }
     ensures ran { IfOk result (λ all_well. (lines : List (AStationLine D.Key)) × (text : List ℕ)
         × MatchOption script.entry (Unit {0}) (λ asked. lines ≡ asked.now)
-        × IsConnectText D.Commands.rules D.does K.writer S.reader
+        × IsConnectText D.Commands.rules D.does (on_devices K.writer S.reader)
         W.tells W.rests D.operated D.Key.words W.begins W.begun
         paint ready ((attached.old, ahead.old), watch.old) lines all_well text
         ((attached.new, ahead.new), watch.new)
@@ -58,7 +58,7 @@ where
     ensures fault { IfErr result (λ fault. (lines : List (AStationLine D.Key))
         × MatchOption script.entry (Unit {0}) (λ asked. lines ≡ asked.now)
         × IsSessionFault
-        (InTime (StationRuns D.Commands.rules D.does K.writer S.reader
+        (InTime (StationRuns D.Commands.rules D.does (on_devices K.writer S.reader)
         W.tells W.rests D.operated D.Key.words paint)
         station_waits W.begins W.begun) ready O.writer
         ((attached.old, ahead.old), watch.old) ((attached.new, ahead.new), watch.new) out.old.sink out.new.sink
@@ -97,14 +97,14 @@ where
     // What was printed, or why not all; what was is out.
     ensures ran { IfOk result (λ all_well. (lines : List AHostLine) × (text : List ℕ)
         × MatchOption script.entry (Unit {0}) (λ asked. lines ≡ asked.now)
-        × IsServeText K.writer S.reader W.tells W.begins W.begun
+        × IsServeText (on_devices K.writer S.reader) W.tells W.begins W.begun
         ready ((attached.old, ahead.old), watch.old) lines all_well text
         ((attached.new, ahead.new), watch.new)
         × WentOut O.writer out.old.sink out.new.sink text) }
     ensures held { out.new.held ≡ [] }
     ensures fault { IfErr result (λ fault. (lines : List AHostLine)
         × MatchOption script.entry (Unit {0}) (λ asked. lines ≡ asked.now)
-        × IsServeFault K.writer S.reader W.tells W.begins W.begun
+        × IsServeFault (on_devices K.writer S.reader) W.tells W.begins W.begun
         O.writer ready ((attached.old, ahead.old), watch.old) ((attached.new, ahead.new), watch.new)
         out.old.sink out.new.sink (is_some script.entry) lines fault) }
 {

@@ -5,6 +5,7 @@ ghost use Rattle.ws_session.specs.Reports.{IsReport};
 ghost use Rattle.ws_session.specs.TwoLines.{HasRun};
 ghost use Rattle.ws_session.specs.World.{new_world, after_moves};
 ghost use Rattle.ws_program.specs.RunFaults.{tcp_fault};
+ghost use Rattle.ws_code.specs.Device.{on_devices};
 
 use std::alloc::Global;
 use std::io;
@@ -102,8 +103,8 @@ pub fn play_over<S: Sink, R: Source, T: Sink, Q: Source>(
     // These pieces crossed the lines, and what came out of them arrived. Where it is what went in, the session is
     // that of `World::run`.
     ensures done { IfOk result (λ r. (downs ups : Seq Crossing)
-        × HaveCrossed S.writer R.reader down.old downs down.new
-        × HaveCrossed T.writer Q.reader up.old ups up.new
+        × HaveCrossed (on_devices S.writer R.reader) down.old downs down.new
+        × HaveCrossed (on_devices T.writer Q.reader) up.old ups up.new
         × HasRun terminal moves.now downs ups (record {
           station = r.station;
           host = r.host;
@@ -114,7 +115,7 @@ pub fn play_over<S: Sink, R: Source, T: Sink, Q: Source>(
         × (AreFaithful downs → AreFaithful ups → IsReport r.events r.station r.host
         r.to_station r.to_host (after_moves (new_world terminal) moves.now))) }
     ensures fault { IfErr result (λ told. (fault : AFault) × (told ≡ tcp_fault fault)
-        × AreEnded S.writer R.reader T.writer Q.reader
+        × AreEnded (on_devices S.writer R.reader) (on_devices T.writer Q.reader)
         down.old down.new up.old up.new fault) }
 {
     Ok(World::run_carried(alloc, terminal, moves, down, up)?)

@@ -3,20 +3,20 @@ use C.{length-append, append_assoc, AreDelivered, length-take, length-drop, leng
 use C.{WireParts, take_all, reported, flat_map, flat_map-append, cases_lt, add-zero, Refusal, Reason, length, arith}
 use C.{Comes, Through, Event, subst, None, List, ℕ, refl, Some, Option, drop, take, min, ◌++◌, ◌≡◌, ◌^◌, ◌≤◌, sym, ◌∷◌}
 use C.{◌<◌, ◌∙◌, Act, ◌-◌, inl, inr, ◌+◌, [], ap, all_came, came_append, take-add, take-take, drop-drop, At}
-use Rattle.ws_session.specs.Wires.{HasCome}
+use Rattle.ws_session.specs.Wires.{HasCome, Telling}
+use Rattle.ws_session.specs.Conduct.{Conduct}
 
 -- Bytes that arrive at an end, piece by piece.
 
-module _ {E Deed Told : Type 0} (goes : E → List (Act Deed) → List ℕ → List Told → E → Type 0) (refuses : E → List ℕ
-    → ℕ → Refusal → E → Type 0) (over : E → Type 0) (tells : Told → List Event) (refusal : ℕ → Reason → Event) where
+module _ {E Deed Told : Type 0} (conduct : Conduct E Deed Told) (telling : Telling Told) where
   -- bytes at which the end goes on
   pub goes_come : (old new : E) (bytes : List ℕ) (reply : List ℕ)
-      (told : List Told) (to to' : WireParts) (events events' : List Event) → goes old (all_came bytes) reply told new
-      → (over old → ⊥) → to' ≡ record to { bytes = to.bytes ++ reply } → events' ≡ events ++ flat_map tells told
-      → HasCome goes refuses over tells refusal old bytes new to to' events events'
+      (told : List Told) (to to' : WireParts) (events events' : List Event) → conduct.goes old (all_came bytes) reply told new
+      → (conduct.over old → ⊥) → to' ≡ record to { bytes = to.bytes ++ reply } → events' ≡ events ++ flat_map telling.tells told
+      → HasCome conduct telling old bytes new to to' events events'
   goes_come old new bytes reply told to to' events events' led works t e = record {
     written = reply;
-    events = flat_map tells told;
+    events = flat_map telling.tells told;
     comes = record {
       told = told;
       why = None;
@@ -30,15 +30,15 @@ module _ {E Deed Told : Type 0} (goes : E → List (Act Deed) → List ℕ → L
   }
 
   -- bytes of which it refuses one
-  pub refused_come : (stays : (e : E) → goes e [] [] [] e) (old new : E) (bytes front after : List ℕ) (byte : ℕ)
+  pub refused_come : (stays : (e : E) → conduct.goes e [] [] [] e) (old new : E) (bytes front after : List ℕ) (byte : ℕ)
       (why : Refusal) → bytes ≡ front ++ byte ∷ after
-      → HasMemory (Some why) → (to : WireParts) (events events' : List Event) → refuses old front byte why new
-      → over new → (over old → (new ≡ old) × (reported goes refuses over tells refusal [] (Some why) ≡ []))
-      → events' ≡ events ++ reported goes refuses over tells refusal [] (Some why)
-      → HasCome goes refuses over tells refusal old bytes new to to events events'
+      → HasMemory (Some why) → (to : WireParts) (events events' : List Event) → conduct.refuses old front byte why new
+      → conduct.over new → (conduct.over old → (new ≡ old) × (reported conduct telling [] (Some why) ≡ []))
+      → events' ≡ events ++ reported conduct telling [] (Some why)
+      → HasCome conduct telling old bytes new to to events events'
   refused_come stays old new bytes front after byte why split memory to events events' r o same e = record {
     written = [];
-    events = reported goes refuses over tells refusal [] (Some why);
+    events = reported conduct telling [] (Some why);
     comes = record {
       told = [];
       why = Some why;
@@ -62,7 +62,7 @@ module _ {E Deed Told : Type 0} (goes : E → List (Act Deed) → List ℕ → L
   }
 
   -- no byte
-  pub none_comes : ((e : E) → goes e [] [] [] e) → (e : E) → Comes goes refuses over tells refusal e [] e [] []
+  pub none_comes : ((e : E) → conduct.goes e [] [] [] e) → (e : E) → Comes conduct telling e [] e [] []
   none_comes stays e = record {
     told = [];
     why = None;
@@ -72,35 +72,35 @@ module _ {E Deed Told : Type 0} (goes : E → List (Act Deed) → List ℕ → L
     stays = λ o. (refl, refl, refl);
   }
 
-  reported_behind : (told more : List Told) (why : Option Refusal) → flat_map tells told
-      ++ reported goes refuses over tells refusal more why ≡ reported goes refuses over tells refusal (told ++ more) why
-  reported_behind told more None = sym (flat_map-append tells told more)
+  reported_behind : (told more : List Told) (why : Option Refusal) → flat_map telling.tells told
+      ++ reported conduct telling more why ≡ reported conduct telling (told ++ more) why
+  reported_behind told more None = sym (flat_map-append telling.tells told more)
   reported_behind told more (Some (At place reason)) =
-      sym (append_assoc (flat_map tells told) (flat_map tells more) (refusal place reason ∷ []))
-      ∙ ap (λ z. z ++ refusal place reason ∷ []) (sym (flat_map-append tells told more))
-  reported_behind told more (Some why) = sym (flat_map-append tells told more)
+      sym (append_assoc (flat_map telling.tells told) (flat_map telling.tells more) (telling.refusal place reason ∷ []))
+      ∙ ap (λ z. z ++ telling.refusal place reason ∷ []) (sym (flat_map-append telling.tells told more))
+  reported_behind told more (Some why) = sym (flat_map-append telling.tells told more)
 
-  module _ (follows : (a b c : E) (xs ys : List (Act Deed)) (v w : List ℕ) (s t : List Told) → goes a xs v s b
-      → goes b ys w t c → goes a (xs ++ ys) (v ++ w) (s ++ t) c) where
+  module _ (follows : (a b c : E) (xs ys : List (Act Deed)) (v w : List ℕ) (s t : List Told) → conduct.goes a xs v s b
+      → conduct.goes b ys w t c → conduct.goes a (xs ++ ys) (v ++ w) (s ++ t) c) where
     -- bytes, and then further ones
     pub come_on : (a b c : E) (xs ys : List ℕ) (v w : List ℕ) (s t : List Event)
-        → Comes goes refuses over tells refusal a xs b v s → Comes goes refuses over tells refusal b ys c w t
-        → Comes goes refuses over tells refusal a (xs ++ ys) c (v ++ w) (s ++ t)
+        → Comes conduct telling a xs b v s → Comes conduct telling b ys c w t
+        → Comes conduct telling a (xs ++ ys) c (v ++ w) (s ++ t)
     come_on a b c xs ys v w s t p q = first p.why p.through p.reports p.has_memory where
-      both : over a → (c ≡ a) × (v ++ w ≡ []) × (s ++ t ≡ [])
+      both : conduct.over a → (c ≡ a) × (v ++ w ≡ []) × (s ++ t ≡ [])
       both o =
           let n = p.stays o in
-          let m = q.stays (subst over (sym n.0) o) in
+          let m = q.stays (subst conduct.over (sym n.0) o) in
           (m.0 ∙ n.0, ap (λ z. z ++ w) n.1 ∙ m.1, ap (λ z. z ++ t) n.2 ∙ m.2)
 
-      second : (why : Option Refusal) → Through goes refuses over b ys w q.told why c
-          → t ≡ reported goes refuses over tells refusal q.told why → HasMemory why
-          → goes a (all_came xs) v p.told b → s ≡ flat_map tells p.told
-          → Comes goes refuses over tells refusal a (xs ++ ys) c (v ++ w) (s ++ t)
+      second : (why : Option Refusal) → Through conduct b ys w q.told why c
+          → t ≡ reported conduct telling q.told why → HasMemory why
+          → conduct.goes a (all_came xs) v p.told b → s ≡ flat_map telling.tells p.told
+          → Comes conduct telling a (xs ++ ys) c (v ++ w) (s ++ t)
       second None h f memory g e = record {
         told = p.told ++ q.told;
         why = None;
-        through = rw (came_append xs ys) (follows a b c (all_came xs) (all_came ys) v w p.told q.told g h);
+        through = subst (λ (z : List (Act Deed)). conduct.goes a z (v ++ w) (p.told ++ q.told) c) (sym (came_append xs ys)) (follows a b c (all_came xs) (all_came ys) v w p.told q.told g h);
         reports = rw (e, f) (reported_behind p.told q.told None);
         has_memory = tt;
         stays = both;
@@ -125,9 +125,9 @@ module _ {E Deed Told : Type 0} (goes : E → List (Act Deed) → List ℕ → L
         stays = both;
       }
 
-      first : (why : Option Refusal) → Through goes refuses over a xs v p.told why b
-          → s ≡ reported goes refuses over tells refusal p.told why → HasMemory why
-          → Comes goes refuses over tells refusal a (xs ++ ys) c (v ++ w) (s ++ t)
+      first : (why : Option Refusal) → Through conduct a xs v p.told why b
+          → s ≡ reported conduct telling p.told why → HasMemory why
+          → Comes conduct telling a (xs ++ ys) c (v ++ w) (s ++ t)
       first None g e memory = second q.why q.through q.reports q.has_memory g e
       first (Some why) h e memory =
           let n = q.stays h.is_over in
@@ -151,8 +151,8 @@ module _ {E Deed Told : Type 0} (goes : E → List (Act Deed) → List ℕ → L
             stays = both;
           }
 
-  pub none_delivered : ((e : E) → goes e [] [] [] e) → (e : E) (from to : WireParts) (told : List Event)
-      → length from.bytes + 1 < 2 ^ 64 → AreDelivered goes refuses over tells refusal e e from from to to told told 0
+  pub none_delivered : ((e : E) → conduct.goes e [] [] [] e) → (e : E) (from to : WireParts) (told : List Event)
+      → length from.bytes + 1 < 2 ^ 64 → AreDelivered conduct telling e e from from to to told told 0
   none_delivered stays e from to told few = record {
     bytes = [];
     written = [];
@@ -166,7 +166,7 @@ module _ {E Deed Told : Type 0} (goes : E → List (Act Deed) → List ℕ → L
   }
 
   module _ (a b : E) (from f to t : WireParts) (told e : List Event) (n : ℕ)
-      (d : AreDelivered goes refuses over tells refusal a b from f to t told e n) where
+      (d : AreDelivered conduct telling a b from f to t told e n) where
     -- so many came, and no byte more was written
     came : (f.at ≡ from.at + min n (length from.bytes - from.at)) × (length f.bytes ≡ length from.bytes)
         × (length d.bytes ≡ min n (length from.bytes - from.at))
@@ -181,7 +181,7 @@ module _ {E Deed Told : Type 0} (goes : E → List (Act Deed) → List ℕ → L
 
     -- all have come
     pub all_delivered : (m : ℕ) → n ≤ m → length f.bytes ≤ f.at
-        → AreDelivered goes refuses over tells refusal a b from f to t told e m
+        → AreDelivered conduct telling a b from f to t told e m
     all_delivered m le all =
         let rest : List ℕ = drop from.at from.bytes in
         let whole : length rest ≤ n = omega (arith, all, came, length-drop from.at from.bytes) in
@@ -199,19 +199,19 @@ module _ {E Deed Told : Type 0} (goes : E → List (Act Deed) → List ℕ → L
 
     -- so many, or all that were in flight
     pub all_come : (k m : ℕ) → from.at + k ≡ length from.bytes → n ≡ min m k
-        → AreDelivered goes refuses over tells refusal a b from f to t told e m
+        → AreDelivered conduct telling a b from f to t told e m
     all_come k m all is = elim (cases_lt m k) [
       | inl h ↦ rw (← (let q : n ≡ m = omega (arith, is, h) in q)) d
       | inr h ↦ all_delivered m (omega (arith, is, h)) (omega (arith, h, is, all, came))
     ]
 
     -- a piece more
-    pub some_delivered : ((a b c : E) (xs ys : List (Act Deed)) (v w : List ℕ) (s t : List Told) → goes a xs v s b
-        → goes b ys w t c → goes a (xs ++ ys) (v ++ w) (s ++ t) c) → (k left used : ℕ)
+    pub some_delivered : ((a b c : E) (xs ys : List (Act Deed)) (v w : List ℕ) (s t : List Told) → conduct.goes a xs v s b
+        → conduct.goes b ys w t c → conduct.goes a (xs ++ ys) (v ++ w) (s ++ t) c) → (k left used : ℕ)
         → from.at + k ≡ length from.bytes → n + left ≤ k → used ≤ left → (xs : List ℕ)
         → xs ≡ take used (take left (drop f.at f.bytes)) → (f' : WireParts) → f' ≡ record f { at = f.at + used }
-        → (c : E) (t' : WireParts) (e' : List Event) → HasCome goes refuses over tells refusal b xs c t t' e e'
-        → AreDelivered goes refuses over tells refusal a c from f' to t' told e' (n + used)
+        → (c : E) (t' : WireParts) (e' : List Event) → HasCome conduct telling b xs c t t' e e'
+        → AreDelivered conduct telling a c from f' to t' told e' (n + used)
     some_delivered follows k left used all more within xs is f' on c t' e' h =
         let rest : List ℕ = drop from.at from.bytes in
         let count : length d.bytes ≡ n = omega (arith, all, more, came) in

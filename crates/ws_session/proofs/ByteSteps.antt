@@ -17,6 +17,12 @@ use Rattle.ws_session.proofs.Writables.{host_writes_well, answers_writable, Writ
 use Rattle.ws_session.proofs.Bytes.{byte_down, byte_up}
 use Rattle.ws_session.proofs.Reached.{station_writes, going_station, host_writes, going_host, is_sound, OfStation, OfHost}
 use Rattle.ws_stream.specs.AnswerLaws.{part_prefix_free, part_begins, part_bytes}
+use Rattle.ws_session.specs.Conducts.{host_conduct}
+use Rattle.ws_session.specs.Conducts.{profile_conduct}
+use Rattle.ws_session.specs.HostFeeds.{HostStaysSilent}
+use Rattle.ws_session.specs.StationActs.{StaysSilentOn}
+use Rattle.ws_session.specs.Wires.{host_telling, station_telling}
+use Rattle.ws_session.specs.StationSide.{profile}
 
 -- A byte comes to the station of a running session.
 
@@ -174,8 +180,7 @@ bytes_on = many_on byte_to_station bytes_to_station (λ w. refl) (λ n w. refl)
 -- so many of the bytes in flight, or all that are
 pub station_delivered : {t : TerminalType} {w : World} {old : WorldParts}
     → Runs t old w → {station : StationParts} {from to : WireParts} {events : List Event} {count : ℕ} → AreDelivered
-    StationGoes StationRefuses (λ (e : StationParts). IsSome e.ended) (λ (a : Applied). let z : List Event = [] in z)
-    (λ place reason. StationRefused place reason) old.station station (record { bytes = old.down; at = old.at_station })
+    profile_conduct station_telling old.station station (record { bytes = old.down; at = old.at_station })
     from (record { bytes = old.up; at = old.at_host }) to old.events events count → Runs t (record old {
       station = station;
       down = from.bytes;
@@ -193,7 +198,7 @@ station_delivered {t} {w} {old} r {station} {from} {to} {events} {count} d =
     (λ A n up told w' h. (_, _, _, h.station))
     (λ Then x xs v said n up told w' h more is. station_next Then x xs v said h more is)
     (λ A n up told w' h all. none_comes h all) StationLeads IsShutOn StationRefuses
-    (λ (e : StationParts). IsSome e.ended) (λ place reason. StationRefused place reason)
+    (StaysSilentOn element_rules profile) (λ (e : StationParts). IsSome e.ended) (λ place reason. StationRefused place reason)
     (λ e byte why e' b i s. IsPushed e e' b i s byte (Err why))
     (λ e front byte why e' refuses b i s l few. refuses.led b i s l few)
     (λ e byte why e' n up told w' h more is memory. station_never h more byte is e e' why h.station)
@@ -361,8 +366,7 @@ host_bytes_on = many_on byte_to_host bytes_to_host (λ w. refl) (λ n w. refl)
 -- so many of the bytes in flight, or all that are
 pub host_delivered : {t : TerminalType} {w : World} {old : WorldParts}
     → Runs t old w → {host : HostParts} {from to : WireParts} {events : List Event} {count : ℕ}
-    → AreDelivered HostGoes HostRefuses (λ (e : HostParts). IsSome e.ended) host_tells
-    (λ place reason. HostRefused place reason) old.host host (record { bytes = old.up; at = old.at_host }) from
+    → AreDelivered host_conduct host_telling old.host host (record { bytes = old.up; at = old.at_host }) from
     (record { bytes = old.down; at = old.at_station }) to old.events events count → Runs t (record old {
       host = host;
       up = from.bytes;
@@ -380,7 +384,7 @@ host_delivered {t} {w} {old} r {host} {from} {to} {events} {count} d =
     (λ A n down told w' h. (_, _, _, h.host))
     (λ Then x xs v said n down told w' h more is. host_next Then x xs v said h more is)
     (λ A n down told w' h all. none_comes_up h all) HostLeads IsHostShut HostRefuses
-    (λ (e : HostParts). IsSome e.ended) (λ place reason. HostRefused place reason)
+    HostStaysSilent (λ (e : HostParts). IsSome e.ended) (λ place reason. HostRefused place reason)
     (λ e byte why e' b i s. IsHostPushed e e' b i s byte (Err why))
     (λ e front byte why e' refuses b i s l few. refuses.led b i s l few)
     (λ e byte why e' n down told w' h more is memory. host_never h more byte is e e' why h.host memory)

@@ -4,6 +4,7 @@ use C.{subst, Some, None, Option, refl, List, ℕ, [], ◌++◌, sym, ◌∙◌,
 use C.{Result, Ok, Err, length-take-le, take-take}
 use Rattle.ws_session.specs.Attachments.{IfTold, TellsAtLast, TakesFirst, HearsFirst}
 use Rattle.ws_code.specs.declared.fault.Fault.TheVariants as fault
+use Rattle.ws_session.specs.Conduct.{Conduct}
 
 -- Nothing was told before the last of the bytes that were taken.
 
@@ -29,12 +30,11 @@ untold_refusal {Event} P why refusal is = rw is (known refusal) where
   known (At place reason) = tt
   known refusal = tt
 
-module _ {E Deed Event : Type 0} (goes : E → List (Act Deed) → List ℕ → List Event → E → Type 0) (silent : E → List ℕ
-    → Type 0) where
+module _ {E Deed Event : Type 0} (conduct : Conduct E Deed Event) where
   -- so many bytes of a piece, of which nothing is told before the last
   pub tells_at_once : (old new : E) (piece : List ℕ) (used : ℕ) (written : List ℕ) (told : List Event)
-      → used ≤ length piece → goes old [] [] [] old → goes old (all_came (take used piece)) written told new
-      → ((n : ℕ) → n < used → silent old (take n piece)) → TellsAtLast goes silent old new (take used piece) told
+      → used ≤ length piece → conduct.goes old [] [] [] old → conduct.goes old (all_came (take used piece)) written told new
+      → ((n : ℕ) → n < used → conduct.silent old (take n piece)) → TellsAtLast conduct old new (take used piece) told
   tells_at_once old new piece used written told within stays led first = record {
     heard = [];
     others = take used piece;
@@ -52,19 +52,19 @@ module _ {E Deed Event : Type 0} (goes : E → List (Act Deed) → List ℕ → 
   -- of the bytes that waited
   pub takes_first : {S K : Type 0} (now from to : AttachedParts E S K) → from ≡ now → (bytes : List ℕ)
       → now.waiting ≡ bytes ++ to.waiting → to.source ≡ now.source → (told : List Event)
-      → TellsAtLast goes silent from.end to.end bytes told → TakesFirst goes silent now to told
+      → TellsAtLast conduct from.end to.end bytes told → TakesFirst conduct now to told
   takes_first {S} {K} now from to is bytes kept unread told tells = record {
     bytes = bytes;
-    tells = subst (λ (z : AttachedParts E S K). TellsAtLast goes silent z.end to.end bytes told) is tells;
+    tells = subst (λ (z : AttachedParts E S K). TellsAtLast conduct z.end to.end bytes told) is tells;
     kept = kept;
     unread = unread;
   }
 
-  module _ (follows : (a b c : E) (xs ys : List (Act Deed)) (v w : List ℕ) (s t : List Event) → goes a xs v s b
-      → goes b ys w t c → goes a (xs ++ ys) (v ++ w) (s ++ t) c) where
+  module _ (follows : (a b c : E) (xs ys : List (Act Deed)) (v w : List ℕ) (s t : List Event) → conduct.goes a xs v s b
+      → conduct.goes b ys w t c → conduct.goes a (xs ++ ys) (v ++ w) (s ++ t) c) where
     -- behind bytes at which nothing was told
-    tells_behind : (a b c : E) (xs ys w : List ℕ) (told : List Event) → goes a (all_came xs) w [] b
-        → TellsAtLast goes silent b c ys told → TellsAtLast goes silent a c (xs ++ ys) told
+    tells_behind : (a b c : E) (xs ys w : List ℕ) (told : List Event) → conduct.goes a (all_came xs) w [] b
+        → TellsAtLast conduct b c ys told → TellsAtLast conduct a c (xs ++ ys) told
     tells_behind a b c xs ys w told led t = record {
       heard = xs ++ t.heard;
       others = t.others;
@@ -79,9 +79,9 @@ module _ {E Deed Event : Type 0} (goes : E → List (Act Deed) → List ℕ → 
     }
 
     module _ {S K : Type 0} where
-      pub takes_behind : (a b c : AttachedParts E S K) (xs w : List ℕ) → goes a.end (all_came xs) w [] b.end
-          → a.waiting ≡ xs ++ b.waiting → b.source ≡ a.source → (told : List Event) → TakesFirst goes silent b c told
-          → TakesFirst goes silent a c told
+      pub takes_behind : (a b c : AttachedParts E S K) (xs w : List ℕ) → conduct.goes a.end (all_came xs) w [] b.end
+          → a.waiting ≡ xs ++ b.waiting → b.source ≡ a.source → (told : List Event) → TakesFirst conduct b c told
+          → TakesFirst conduct a c told
       takes_behind a b c xs w led left same told p = record {
         bytes = xs ++ p.bytes;
         tells = tells_behind a.end b.end c.end xs p.bytes w told led p.tells;
@@ -91,7 +91,7 @@ module _ {E Deed Event : Type 0} (goes : E → List (Act Deed) → List ℕ → 
 
       -- before the first read
       pub hears_at_once : (reader : Reader S) (a c : AttachedParts E S K) (told : List Event)
-          → TakesFirst goes silent a c told → HearsFirst goes silent reader a c told
+          → TakesFirst conduct a c told → HearsFirst conduct reader a c told
       hears_at_once reader a c told p = record {
         bytes = p.bytes;
         given = [];
@@ -110,10 +110,10 @@ module _ {E Deed Event : Type 0} (goes : E → List (Act Deed) → List ℕ → 
 
       -- behind a read
       pub hears_behind : (reader : Reader S) (a now inside c : AttachedParts E S K) → inside ≡ now
-          → (xs given w piece : List ℕ) (source : S) (reads : ℕ) → goes a.end (all_came xs) w [] now.end
+          → (xs given w piece : List ℕ) (source : S) (reads : ℕ) → conduct.goes a.end (all_came xs) w [] now.end
           → a.waiting ++ given ≡ xs → Gave reader a.source source reads (given ++ piece) → (told : List Event)
-          → TakesFirst goes silent (record inside { waiting = piece; source = source }) c told
-          → HearsFirst goes silent reader a c told
+          → TakesFirst conduct (record inside { waiting = piece; source = source }) c told
+          → HearsFirst conduct reader a c told
       hears_behind reader a now inside c is xs given w piece source reads led left gave told p = record {
         bytes = xs ++ p.bytes;
         given = given ++ piece;

@@ -7,15 +7,22 @@ use C.{Option, ToHost, length, IsSome, Manner, Rules, subst, Press, doing, Comes
 use C.{bytes_came, all_came, Goes, List, None, ◌++◌, Item, ◌∷◌, sym, ◌∙◌, ◌+◌, Did, ◌≡◌, inl, inr, ◌⊎◌, ◌<◌, [], ap, ℕ}
 use Rattle.ws_session.specs.declared.world.Move.TheVariants.{Send}
 use Rattle.ws_session.specs.Acts.{bytes_of}
-use Rattle.ws_session.specs.StationActs.{IsShutOn}
+use Rattle.ws_session.specs.StationActs.{IsShutOn, StaysSilentOn}
 use Rattle.ws_session.specs.Manners.{IsHostShut}
+use Rattle.ws_session.specs.HostFeeds.{HostStaysSilent}
+use Rattle.ws_session.specs.StationSide.{profile}
+use Rattle.ws_session.specs.Wires.{Telling, host_telling, station_telling}
+use Rattle.ws_session.specs.Conduct.{Conduct}
 
 -- What crossed a line leads to its end, or the end has refused a byte of it.
 
 module _ {Place PlaceV Side U V Deed Told E : Type 0} (rules : Rules Place U) (out : Rules PlaceV V)
     (manner : Manner Side U V Deed Told)
-    (leads : E → List ℕ → List (Item U) → Side → Type 0) (refuses : E → List ℕ → ℕ → Refusal → E → Type 0) (over : E → Type 0)
-    (tells : Told → List Event) (refusal : ℕ → Reason → Event) (is_shut : E → Type 0) where
+    (leads : E → List ℕ → List (Item U) → Side → Type 0) (refuses : E → List ℕ → ℕ → Refusal → E → Type 0) (silent : E → List ℕ → Type 0)
+    (over : E → Type 0) (telling : Telling Told) (is_shut : E → Type 0) where
+  abbrev conduct : Conduct E Deed Told
+  conduct = record { goes = Goes rules out manner leads is_shut; refuses = refuses; silent = silent; over = over }
+
   abbrev Led : E → List ℕ → Type 0
   Led e bytes = ((items : List (Item U)) × (side : Side) × leads e bytes items side) ⊎ over e
 
@@ -33,11 +40,11 @@ module _ {Place PlaceV Side U V Deed Told E : Type 0} (rules : Rules Place U) (o
   act_led a b deed w t front goes same few (inr o) = inr (subst over (sym (same o)) o)
 
   bytes_led : (a b : E) (xs : List ℕ) (w : List ℕ) (s : List Event) (front : List ℕ)
-      → Comes (Goes rules out manner leads is_shut) refuses over tells refusal a xs b w s
+      → Comes conduct telling a xs b w s
       → length front + length xs + 1 < 2 ^ 64 → Led a front → Led b (front ++ xs)
   bytes_led a b xs w s front c few (inr o) = inr (subst over (sym (c.stays o).0) o)
   bytes_led a b xs w s front c few (inl l) = by c.why c.through where
-    by : (why : Option Refusal) → Through (Goes rules out manner leads is_shut) refuses over a xs w c.told why b
+    by : (why : Option Refusal) → Through conduct a xs w c.told why b
         → Led b (front ++ xs)
     by None goes =
         let came : bytes_of (all_came {Deed = Deed} xs) ≡ xs = bytes_came Deed xs in
@@ -65,12 +72,12 @@ station_moved a b Cancel ds us front p few l = stays StationIsLed a.station b.st
 station_moved a b (ToHost n) ds us front p few l = stays StationIsLed a.station b.station ds front p.0
     (ap (λ (z : TwoEnds). z.station) p.1.3) l
 station_moved a b (ToStation n) ds us front p few l = bytes_led element_rules answer_rules station_manner StationLeads
-    StationRefuses (λ (s : StationParts). IsSome s.ended) (λ (t : Applied). let none : List Event = [] in none)
-    (λ place reason. StationRefused place reason) IsShutOn a.station b.station (all_read ds) p.1.0 p.1.1 front
+    StationRefuses
+    (StaysSilentOn element_rules profile) (λ (s : StationParts). IsSome s.ended) station_telling IsShutOn a.station b.station (all_read ds) p.1.0 p.1.1 front
     p.1.2.come few l
 station_moved a b (Press key) ds us front p few l = stays StationIsLed b.station b.station ds front p.0 refl
-    (act_led element_rules answer_rules station_manner StationLeads StationRefuses (λ (s : StationParts).
-    IsSome s.ended) (λ (t : Applied). let none : List Event = [] in none) (λ place reason. StationRefused place reason)
+    (act_led element_rules answer_rules station_manner StationLeads StationRefuses
+    (StaysSilentOn element_rules profile) (λ (s : StationParts). IsSome s.ended) station_telling
     IsShutOn a.station b.station key p.2.0 [] front p.2.2.led (λ o. (p.2.2.stays (inl o)).0) (omega (arith, few)) l)
 
 host_moved : (a b : TwoEnds) (move : Move) (ds us : List Crossing) (front : List ℕ) → HasMoved a move ds us b → length
@@ -79,16 +86,15 @@ host_moved a b (Press key) ds us front p few l = stays HostIsLed a.host b.host u
     (ap (λ (z : TwoEnds). z.host) p.2.3) l
 host_moved a b (ToStation n) ds us front p few l = stays HostIsLed a.host b.host us front p.0
     (ap (λ (z : TwoEnds). z.host) p.1.3) l
-host_moved a b (ToHost n) ds us front p few l = bytes_led answer_rules element_rules host_manner HostLeads HostRefuses
-    (λ (h : HostParts). IsSome h.ended) (λ (e : HostEvent). Host e ∷ [])
-    (λ place reason. HostRefused place reason) IsHostShut a.host b.host (all_read us) p.1.0 p.1.1 front p.1.2.come few l
+host_moved a b (ToHost n) ds us front p few l = bytes_led answer_rules element_rules host_manner HostLeads HostRefuses HostStaysSilent
+    (λ (h : HostParts). IsSome h.ended) host_telling IsHostShut a.host b.host (all_read us) p.1.0 p.1.1 front p.1.2.come few l
 host_moved a b (Send opcode body) ds us front p few l = stays HostIsLed b.host b.host us front p.1 refl
-    (act_led answer_rules element_rules host_manner HostLeads HostRefuses (λ (h : HostParts). IsSome h.ended)
-    (λ (e : HostEvent). Host e ∷ []) (λ place reason. HostRefused place reason) IsHostShut a.host
+    (act_led answer_rules element_rules host_manner HostLeads HostRefuses HostStaysSilent
+    (λ (h : HostParts). IsSome h.ended) host_telling IsHostShut a.host
     b.host (order_of opcode body) p.2.0 [] front p.2.2.led (λ o. (p.2.2.stays (inl o)).0) (omega (arith, few)) l)
 host_moved a b Cancel ds us front p few l = stays HostIsLed b.host b.host us front p.1 refl
-    (act_led answer_rules element_rules host_manner HostLeads HostRefuses (λ (h : HostParts). IsSome h.ended)
-    (λ (e : HostEvent). Host e ∷ []) (λ place reason. HostRefused place reason) IsHostShut a.host
+    (act_led answer_rules element_rules host_manner HostLeads HostRefuses HostStaysSilent
+    (λ (h : HostParts). IsSome h.ended) host_telling IsHostShut a.host
     b.host _ p.2.0 [] front p.2.2.led (λ o. (p.2.2.stays (inl o)).0) (omega (arith, few)) l)
 
 reads_append : (cs ds : List Crossing) → all_read (cs ++ ds) ≡ all_read cs ++ all_read ds

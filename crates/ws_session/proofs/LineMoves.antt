@@ -15,6 +15,9 @@ use Rattle.ws_session.specs.Manners.{IsHostShut}
 use Rattle.ws_session.specs.StationActs.{IsShutOn}
 use Rattle.ws_session.specs.declared.end_step.Order.{Order}
 use Rattle.ws_session.proofs.Arriving.{come_on, none_comes}
+use Rattle.ws_code.specs.Device.{Devices}
+use Rattle.ws_session.specs.Conduct.{Conduct}
+use Rattle.ws_session.specs.Wires.{Telling}
 
 -- Moves of a session whose bytes go over two lines.
 
@@ -53,23 +56,21 @@ pieces_append : (cs ds : List Crossing) → AreSmall cs → AreSmall ds → AreS
 pieces_append [] ds p q = q
 pieces_append (c ∷ cs) ds p q = (p.0, pieces_append cs ds p.1 q)
 
-module _ {E Deed Told : Type 0} (goes : E → List (Act Deed) → List ℕ → List Told → E → Type 0) (refuses : E → List ℕ
-    → ℕ → Refusal → E → Type 0) (over : E → Type 0) (tells : Told → List Event) (refusal : ℕ → Reason → Event) where
-  pub none_come : ((e : E) → goes e [] [] [] e) → (e : E) (flight : List ℕ)
-      → HaveCome goes refuses over tells refusal 0 [] flight flight e e [] []
+module _ {E Deed Told : Type 0} (conduct : Conduct E Deed Told) (telling : Telling Told) where
+  pub none_come : ((e : E) → conduct.goes e [] [] [] e) → (e : E) (flight : List ℕ)
+      → HaveCome conduct telling 0 [] flight flight e e [] []
   none_come stays e flight = record {
     sent = refl;
     pieces = tt;
     as_many = refl;
     left = refl;
-    come = none_comes goes refuses over tells refusal stays e;
+    come = none_comes conduct telling stays e;
   }
 
   -- a piece that crossed
   pub piece_comes : (old new : E) (bytes : List ℕ) (at n : ℕ) (read : List ℕ) (from' to to' : WireParts)
-      (told told' : List Event) → length read ≡ n → at + n ≤ length bytes → n ≤ 4096 → (d : AreDelivered goes refuses
-      over tells refusal old new (record { bytes = with_piece_at bytes at read; at = at }) from' to to' told told' n)
-      → HaveCome goes refuses over tells refusal n (record { sent = take n (drop at bytes); read = read } ∷ [])
+      (told told' : List Event) → length read ≡ n → at + n ≤ length bytes → n ≤ 4096 → (d : AreDelivered conduct telling old new (record { bytes = with_piece_at bytes at read; at = at }) from' to to' told told' n)
+      → HaveCome conduct telling n (record { sent = take n (drop at bytes); read = read } ∷ [])
       (drop at bytes) (drop from'.at from'.bytes) old new d.written d.events
   piece_comes old new bytes at n read from' to to' told told' is fits small d =
       let room : at + length read ≤ length bytes = omega (arith, is, fits) in
@@ -90,10 +91,10 @@ module _ {E Deed Told : Type 0} (goes : E → List (Act Deed) → List ℕ → L
       }
 
   module _ (a b : ℕ) (cs ds : List Crossing) (f g h : List ℕ) (old mid new : E) (v w : List ℕ) (s t : List Event) where
-    pub more_come : ((a b c : E) (xs ys : List (Act Deed)) (v w : List ℕ) (s t : List Told) → goes a xs v s b
-        → goes b ys w t c → goes a (xs ++ ys) (v ++ w) (s ++ t) c) → HaveCome goes refuses over tells refusal a cs f g old mid v s
-        → HaveCome goes refuses over tells refusal b ds g h mid new w t
-        → HaveCome goes refuses over tells refusal (a + b) (cs ++ ds) f h old new (v ++ w) (s ++ t)
+    pub more_come : ((a b c : E) (xs ys : List (Act Deed)) (v w : List ℕ) (s t : List Told) → conduct.goes a xs v s b
+        → conduct.goes b ys w t c → conduct.goes a (xs ++ ys) (v ++ w) (s ++ t) c) → HaveCome conduct telling a cs f g old mid v s
+        → HaveCome conduct telling b ds g h mid new w t
+        → HaveCome conduct telling (a + b) (cs ++ ds) f h old new (v ++ w) (s ++ t)
     more_come follows p q =
         let sents : all_sent
         (cs ++ ds) ≡ all_sent cs ++ all_sent ds = flat_map-append (λ (c : Crossing). c.sent) cs ds in
@@ -114,13 +115,13 @@ module _ {E Deed Told : Type 0} (goes : E → List (Act Deed) → List ℕ → L
           );
           left = q.left ∙ ap (drop b) p.left ∙ drop-drop b a f;
           come = rw reads
-              (come_on goes refuses over tells refusal follows old mid new (all_read cs) (all_read ds) v w s t p.come q.come);
+              (come_on conduct telling follows old mid new (all_read cs) (all_read ds) v w s t p.come q.come);
         }
 
   -- all that were in flight have come
   pub all_have_come : (a b : ℕ) (cs : List Crossing) (f g : List ℕ) (old new : E) (v : List ℕ) (s : List Event)
-      → a ≤ b → g ≡ [] → HaveCome goes refuses over tells refusal a cs f g old new v s
-      → HaveCome goes refuses over tells refusal b cs f g old new v s
+      → a ≤ b → g ≡ [] → HaveCome conduct telling a cs f g old new v s
+      → HaveCome conduct telling b cs f g old new v s
   all_have_come a b cs f g old new v s le none p =
       let few : length f ≤ a = omega (arith, ap (λ (z : List ℕ). length z) (sym p.left ∙ none), length-drop a f) in
       record {
@@ -156,10 +157,10 @@ host_follows = goes_on answer_rules element_rules host_manner HostLeads IsHostSh
 -- bytes down
 
 pub down_none : (now : WorldParts) → ComesDown (two_ends_of now) 0 [] (two_ends_of now)
-down_none now = ([], [], none_come _ _ _ _ _ station_stays _ _, rw (append-nil (drop now.at_host now.up), append-nil now.events))
+down_none now = ([], [], none_come _ _ station_stays _ _, rw (append-nil (drop now.at_host now.up), append-nil now.events))
 
 pub up_none : (now : WorldParts) → ComesUp (two_ends_of now) 0 [] (two_ends_of now)
-up_none now = ([], [], none_come _ _ _ _ _ host_stays _ _, rw (append-nil (drop now.at_station now.down), append-nil now.events))
+up_none now = ([], [], none_come _ _ host_stays _ _, rw (append-nil (drop now.at_station now.down), append-nil now.events))
 
 -- what went over a line, written in the place of the bytes in flight
 module _ (old new : WorldParts) (n : ℕ) (read : List ℕ) (is : length read ≡ n) where
@@ -171,7 +172,7 @@ module _ (old new : WorldParts) (n : ℕ) (read : List ℕ) (is : length read �
       ap (λ (z : WireParts). drop z.at z.bytes) d.0.to_is ∙ drop-append-le old.at_host old.up d.0.written room in (
         d.0.written,
         d.0.events,
-        piece_comes _ _ _ _ _ _ _ _ _ n read _ _ _ _ _ is
+        piece_comes _ _ _ _ _ _ n read _ _ _ _ _ is
             fits small d.0,
         same_ends refl d.1 refl upward d.0.told_is,
       )
@@ -184,7 +185,7 @@ module _ (old new : WorldParts) (n : ℕ) (read : List ℕ) (is : length read �
       ap (λ (z : WireParts). drop z.at z.bytes) d.0.to_is ∙ drop-append-le old.at_station old.down d.0.written room in (
         d.0.written,
         d.0.events,
-        piece_comes _ _ _ _ _ _ _ _ _ n read _ _ _ _ _ is fits small d.0,
+        piece_comes _ _ _ _ _ _ n read _ _ _ _ _ is fits small d.0,
         same_ends d.1 refl downward refl d.0.told_is,
       )
 
@@ -193,7 +194,7 @@ module _ (x y z : TwoEnds) (a b : ℕ) (cs ds : List Crossing) where
   down_more p q = (
     p.0 ++ q.0,
     p.1 ++ q.1,
-    more_come _ _ _ _ _ a b cs ds _ _ _ _ _ _ p.0 q.0 p.1 q.1 station_follows p.2 q.2,
+    more_come _ _ a b cs ds _ _ _ _ _ _ p.0 q.0 p.1 q.1 station_follows p.2 q.2,
     cc (q.3, p.3, append_assoc x.to_host p.0 q.0, append_assoc x.events p.1 q.1),
   )
 
@@ -201,16 +202,16 @@ module _ (x y z : TwoEnds) (a b : ℕ) (cs ds : List Crossing) where
   up_more p q = (
     p.0 ++ q.0,
     p.1 ++ q.1,
-    more_come _ _ _ _ _ a b cs ds _ _ _ _ _ _ p.0 q.0 p.1 q.1 host_follows p.2 q.2,
+    more_come _ _ a b cs ds _ _ _ _ _ _ p.0 q.0 p.1 q.1 host_follows p.2 q.2,
     cc (q.3, p.3, append_assoc x.to_station p.0 q.0, append_assoc x.events p.1 q.1),
   )
 
 module _ (x y : TwoEnds) (a b : ℕ) (cs : List Crossing) (le : a ≤ b) where
   pub down_all : y.to_station ≡ [] → ComesDown x a cs y → ComesDown x b cs y
-  down_all none p = (p.0, p.1, all_have_come _ _ _ _ _ a b cs _ _ _ _ p.0 p.1 le none p.2, p.3)
+  down_all none p = (p.0, p.1, all_have_come _ _ a b cs _ _ _ _ p.0 p.1 le none p.2, p.3)
 
   pub up_all : y.to_host ≡ [] → ComesUp x a cs y → ComesUp x b cs y
-  up_all none p = (p.0, p.1, all_have_come _ _ _ _ _ a b cs _ _ _ _ p.0 p.1 le none p.2, p.3)
+  up_all none p = (p.0, p.1, all_have_come _ _ a b cs _ _ _ _ p.0 p.1 le none p.2, p.3)
 
 -- the next of some bytes are the next of more
 next_of_more : (bytes flight : List ℕ) (n m : ℕ) → n ≤ m → AreNext bytes (take n flight) → AreNext bytes (take m flight)
@@ -224,13 +225,13 @@ next_of_more bytes flight n m le next =
     )
 
 -- what is cut of some bytes is cut of more
-pub cut_of_more : {S R : Type 0} (writer : Writer S) (reader : Reader R)
+pub cut_of_more : {S R : Type 0} (devices : Devices R S)
     (flight : List ℕ) (n m : ℕ) (from to : Line S R) (fault : Fault) → n ≤ m
-    → IsDeliveryCut writer reader (take n flight) from to fault
-    → IsDeliveryCut writer reader (take m flight) from to fault
-cut_of_more writer reader flight n m from to fault le (inl c) =
+    → IsDeliveryCut devices (take n flight) from to fault
+    → IsDeliveryCut devices (take m flight) from to fault
+cut_of_more devices flight n m from to fault le (inl c) =
     inl (c.0, c.1, next_of_more c.1.sent flight n m le c.2, c.3)
-cut_of_more writer reader flight n m from to fault le (inr c) =
+cut_of_more devices flight n m from to fault le (inr c) =
     inr (c.0, c.1, next_of_more c.0 flight n m le c.2, c.3)
 
 -- one move more
@@ -262,19 +263,19 @@ begun t now r = (
 
 -- What has crossed a line
 
-module _ {S R : Type 0} (writer : Writer S) (reader : Reader R) where
+module _ {S R : Type 0} (devices : Devices R S) where
   -- pieces, and then further ones
-  pub crossed_on : (a b c : Line S R) (cs ds : List Crossing) → HaveCrossed writer reader a cs b
-      → HaveCrossed writer reader b ds c → HaveCrossed writer reader a (cs ++ ds) c
+  pub crossed_on : (a b c : Line S R) (cs ds : List Crossing) → HaveCrossed devices a cs b
+      → HaveCrossed devices b ds c → HaveCrossed devices a (cs ++ ds) c
   crossed_on a b c [] ds p q = rw p q
   crossed_on a b c (x ∷ cs) ds p q = (p.0, p.1, crossed_on p.0 b c cs ds p.2 q)
 
-  pub crossed_behind : (a b c : Line S R) (cs : List Crossing) → HaveCrossed writer reader a cs b
-      → HasCrossed writer reader b c → HasCrossed writer reader a c
+  pub crossed_behind : (a b c : Line S R) (cs : List Crossing) → HaveCrossed devices a cs b
+      → HasCrossed devices b c → HasCrossed devices a c
   crossed_behind a b c cs p q = (cs ++ q.0, crossed_on a b c cs q.0 p q.1)
 
   -- a stop behind pieces that crossed
-  pub stop_behind : (a b c : Line S R) (cs : List Crossing) (fault : Fault) → HaveCrossed writer reader a cs b → IsStopped writer reader b c fault → IsStopped writer reader a c fault
+  pub stop_behind : (a b c : Line S R) (cs : List Crossing) (fault : Fault) → HaveCrossed devices a cs b → IsStopped devices b c fault → IsStopped devices a c fault
   stop_behind a b c cs fault p q = record {
     crossings = cs ++ q.crossings;
     last = q.last;
@@ -284,31 +285,29 @@ module _ {S R : Type 0} (writer : Writer S) (reader : Reader R) where
     failed = q.failed;
   }
 
-  pub stopped_behind : (a b c : Line S R) (cs : List Crossing) (fault : Fault) → HaveCrossed writer reader a cs b → IsEnded writer reader b c fault → IsEnded writer reader a c fault
+  pub stopped_behind : (a b c : Line S R) (cs : List Crossing) (fault : Fault) → HaveCrossed devices a cs b → IsEnded devices b c fault → IsEnded devices a c fault
   stopped_behind a b c cs fault p (inl m) = inl (m.0, crossed_behind a b c cs p m.1)
   stopped_behind a b c cs fault p (inr k) = inr (stop_behind a b c cs fault p k)
 
 -- one of two lines stops
-module _ {S R T Q : Type 0} (writer : Writer S) (reader : Reader R)
-    (writer' : Writer T) (reader' : Reader Q) where
+module _ {S R T Q : Type 0} (devices : Devices R S)
+    (devices' : Devices Q T) where
   pub either_behind : (a b c : Line S R) (cs : List Crossing) (a' b' c' : Line T Q) (cs' : List Crossing)
-      (fault : Fault) → HaveCrossed writer reader a cs b → HaveCrossed writer'
-      reader' a' cs' b' → AreEnded writer reader writer' reader' b c b' c' fault
-      → AreEnded writer reader writer' reader' a c a' c' fault
+      (fault : Fault) → HaveCrossed devices a cs b → HaveCrossed devices' a' cs' b' → AreEnded devices devices' b c b' c' fault
+      → AreEnded devices devices' a c a' c' fault
   either_behind a b c cs a' b' c' cs' fault p p'
-      (inl m) = inl (m.0, crossed_behind writer reader a b c cs p m.1, crossed_behind _ _ a' b' c' cs' p' m.2)
+      (inl m) = inl (m.0, crossed_behind devices a b c cs p m.1, crossed_behind _ a' b' c' cs' p' m.2)
   either_behind a b c cs a' b' c' cs' fault p p' (inr (inl k)) =
-      inr (inl (stop_behind writer reader a b c cs fault p k.0, crossed_behind _ _ a' b' c' cs' p' k.1))
+      inr (inl (stop_behind devices a b c cs fault p k.0, crossed_behind _ a' b' c' cs' p' k.1))
   either_behind a b c cs a' b' c' cs' fault p p' (inr (inr k)) =
-      inr (inr (crossed_behind writer reader a b c cs p k.0, stop_behind _ _ a' b' c' cs' fault p' k.1))
+      inr (inr (crossed_behind devices a b c cs p k.0, stop_behind _ a' b' c' cs' fault p' k.1))
 
-  pub first_stops : (a c : Line S R) (a' : Line T Q) (fault : Fault) → IsEnded writer reader a c fault
-      → AreEnded writer reader writer' reader' a c a' a' fault
+  pub first_stops : (a c : Line S R) (a' : Line T Q) (fault : Fault) → IsEnded devices a c fault
+      → AreEnded devices devices' a c a' a' fault
   first_stops a c a' fault (inl m) = inl (m.0, m.1, ([], refl))
   first_stops a c a' fault (inr k) = inr (inl (k, ([], refl)))
 
-  pub second_stops : (a : Line S R) (a' c' : Line T Q) (fault : Fault) → IsEnded writer'
-      reader' a' c' fault → AreEnded writer reader writer' reader' a a a' c' fault
+  pub second_stops : (a : Line S R) (a' c' : Line T Q) (fault : Fault) → IsEnded devices' a' c' fault → AreEnded devices devices' a a a' c' fault
   second_stops a a' c' fault (inl m) = inl (m.0, ([], refl), m.1)
   second_stops a a' c' fault (inr k) = inr (inr (([], refl), k))
 

@@ -7,6 +7,8 @@ use C.{Item, Rules, Manner, Arrives, HoldsItems, Happening, Happen, AllTaken, pl
 use C.{bytes_came, item_spelling, Goes, subst₂, true, ◌⊎◌, drop-append_seam}
 use Rattle.ws_session.specs.Acts.{bytes_of}
 use Rattle.ws_session.proofs.EndSteps.{gone_none}
+use Rattle.ws_session.specs.Conduct.{Conduct}
+use Rattle.ws_session.specs.Wires.{Telling}
 
 -- Bytes that come to an end, one by one.
 
@@ -158,7 +160,7 @@ module _ (one : World → World) (many : ℕ → World → World) (none : (w : W
         says all))
 
     module _ {E : Type 0} (leads : E → List ℕ → List (Item U) → Side → Type 0) (is_shut : E → Type 0)
-        (refuses : E → List ℕ → ℕ → Refusal → E → Type 0) (over : E → Type 0) (refusal : ℕ → Reason → Event)
+        (refuses : E → List ℕ → ℕ → Refusal → E → Type 0) (silent : E → List ℕ → Type 0) (over : E → Type 0) (refusal : ℕ → Reason → Event)
         (AtLast : E → ℕ → Refusal → E → List ℕ → List (Item U) → Side → Type 0)
         (stops : (e : E) (front : List ℕ) (byte : ℕ) (why : Refusal) (e' : E) → refuses e front byte why e'
         → (b : List ℕ) (i : List (Item U)) (s : Side) → leads e b i s → length b + length front + 1 < 2 ^ 64
@@ -166,6 +168,12 @@ module _ (one : World → World) (many : ℕ → World → World) (none : (w : W
         (never : (e : E) (byte : ℕ) (why : Refusal) (e' : E) (at : ℕ) (wrote : List ℕ) (said : List Event) (w : World)
         → Stands (AtLast e byte why e') at wrote said w → at < length bytes → byte ≡ get_or bytes at byte
         → HasMemory (Some why) → ⊥) where
+      abbrev conduct : Conduct E Deed Told
+      conduct = record { goes = Goes rules out manner leads is_shut; refuses = refuses; silent = silent; over = over }
+
+      abbrev telling : Telling Told
+      telling = record { tells = tells; refusal = refusal }
+
       -- the bytes that came, as acts that led on
       led_by : (e e' : E) (xs rest v : List ℕ) (t : List Told) (at : ℕ) (wrote : List ℕ) (said : List Event) (w : World)
           → length bytes + 1 < 2 ^ 64 → Stands (leads e) at wrote said w → drop at bytes ≡ xs ++ rest
@@ -187,7 +195,7 @@ module _ (one : World → World) (many : ℕ → World → World) (none : (w : W
       none_refused : (e e' : E) (xs rest v : List ℕ) (t : List Told) (why : Refusal) (at : ℕ) (wrote : List ℕ)
           (said : List Event) (w : World) → length bytes + 1 < 2 ^ 64 → Stands (leads e) at wrote said w
           → drop at bytes ≡ xs ++ rest → HasMemory (Some why)
-          → HasRefusedIn (Goes rules out manner leads is_shut) refuses over e xs v t why e' → ⊥
+          → HasRefusedIn conduct e xs v t why e' → ⊥
       none_refused e e' xs rest v t why at wrote said w few h split memory r =
           let whole : drop at bytes ≡ r.before ++ (r.front ++ ((r.byte ∷ r.after) ++ rest)) =
           split ∙ ap (λ z. z ++ rest) r.split ∙ append_assoc r.before (r.front ++ r.byte ∷ r.after) rest
@@ -209,7 +217,7 @@ module _ (one : World → World) (many : ℕ → World → World) (none : (w : W
       -- so many of the bytes in flight, or all that are
       pub delivered : (e : E) (at : ℕ) (wrote : List ℕ) (said : List Event) (w : World) → Stands (leads e) at wrote said w
           → (e' : E) (from to : WireParts) (k : ℕ) (said' : List Event) (count : ℕ)
-          → (d : AreDelivered (Goes rules out manner leads is_shut) refuses over tells refusal e e'
+          → (d : AreDelivered conduct telling e e'
           (record { bytes = bytes; at = at }) from (record { bytes = wrote; at = k }) to said said' count)
           → Stands (leads e') (at + length d.bytes) (wrote ++ d.written) (said ++ d.events) (many count w)
       delivered e at wrote said w h e' from to k said' count d =
@@ -225,9 +233,9 @@ module _ (one : World → World) (many : ℕ → World → World) (none : (w : W
                 (stays (leads e') _ _ _ _ now (omega (arith, lt, size, length-drop at bytes))))) now
             | inr ge ↦ (let e : length d.bytes ≡ count = omega (arith, ge, size) in rw (← e) now)
           ] where
-            by : (why : Option Refusal) → Through (Goes rules out manner leads is_shut) refuses over e d.bytes d.written
+            by : (why : Option Refusal) → Through conduct e d.bytes d.written
                 d.come.told why e'
-                → d.events ≡ reported (Goes rules out manner leads is_shut) refuses over tells refusal d.come.told why
+                → d.events ≡ reported conduct telling d.come.told why
                 → HasMemory why → drop at bytes ≡ d.bytes ++ drop count (drop at bytes)
                 → Stands (leads e') (at + length d.bytes) (wrote ++ d.written) (said ++ d.events)
                 (many (length d.bytes) w)

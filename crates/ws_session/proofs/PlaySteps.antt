@@ -7,12 +7,13 @@ use C.{at_moment, fault_of, run_text, AreTaken, Writer, HasDone, HaveBroughtPlay
 use C.{WentOut, Refused, Presses, Refusal, outcome, moments, behind, nat_lt, length, Player}
 use C.{arith, subst, Write, later, drop, refl, Item, List, ◌++◌, ◌∙◌, min, ◌^◌, sym, ◌≡◌}
 use C.{◌<◌, ◌∷◌, Key, inl, ◌-◌, ◌+◌, inr, due, ◌≤◌, [], At, ap}
-use Rattle.ws_session.specs.Moments.{goes_on, Arrives}
+use Rattle.ws_session.specs.Moments.{Arrives}
 use Rattle.ws_session.specs.StationNews.{IsFrontedOn}
 use Rattle.ws_session.specs.StationSide.{profile}
 use Rattle.ws_session.specs.Stations.{TakesItemOn}
 use Rattle.ws_session.proofs.Plays.{outcome_append, text_append, later_by, none_due, text_of}
 use Rattle.std.proofs.lemmas.Bool.{cases_Bool}
+use Rattle.ws_session.specs.StationManners.{goes_on}
 
 -- What a front of a piece makes of a run's player.
 

@@ -7,6 +7,7 @@ use C.{Outcome, Applied, Writer, HasDone, Element, Presses, outcome, Moment, fal
 use C.{at_key, nat_lt, length, get_or, Player, arith, later, drop, refl, true, Item, List, Bool, ◌++◌, suc, min, ◌^◌, ℕ}
 use C.{sym, ◌≡◌, ◌<◌, ◌∷◌, Key, ◌-◌, ◌+◌, Did, ap₂, due, ◌≤◌, [], ap}
 use Rattle.ws_session.proofs.EndDeeds.{key_did}
+use Rattle.ws_session.specs.Conducts.{profile_conduct}
 
 -- What the keys of a run make of its player.
 
@@ -67,7 +68,7 @@ module _ {S : Type 0} (writer : Writer S) (old : Player) (bytes : List ℕ)
   pressed text told goes = by_act _ bytes items side text (station_key side key)
       (key_did _ bytes items side key text told (goes.led bytes items side l (omega (arith, few))))
 
-  pub taken_done : HasWritten StationGoes writer old.station station from to (Did key ∷ []) []
+  pub taken_done : HasWritten profile_conduct writer old.station station from to (Did key ∷ []) []
       → IsKeyTaken old.station key
       → HasDone writer bytes items old (record old { station = station }) from to (at_moment side (Presses key))
   taken_done h taken =
@@ -80,7 +81,7 @@ module _ {S : Type 0} (writer : Writer S) (old : Player) (bytes : List ℕ)
         wrote = rw (← p.0) h.wrote;
       }
 
-  pub press_failed : HasWrittenFront StationGoes writer old.station station from to (Did key ∷ [])
+  pub press_failed : HasWrittenFront profile_conduct writer old.station station from to (Did key ∷ [])
       → FailedWithin writer from to (text_of (at_moment side (Presses key)).written)
   press_failed h = rw (← (pressed _ _ h.led).0) h.failed
 

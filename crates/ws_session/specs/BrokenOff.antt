@@ -3,7 +3,7 @@
 use Rattle.std.specs.Prelude.{◌≡◌, ℕ, ◌-◌, ◌≤◌, ◌⊎◌, List, [], ◌∷◌, ◌++◌, length, take}
 use Rattle.ws_code.specs.declared.fault.Fault.{Fault}
 use Rattle.ws_code.specs.declared.fault.Fault.TheVariants.{Memory}
-use Rattle.ws_code.specs.Device.{Writer, Reader}
+use Rattle.ws_code.specs.Device.{Writer, Reader, Devices}
 use Rattle.ws_nego.specs.declared.terminal.TerminalType.{TerminalType}
 use Rattle.ws_session.specs.declared.line.Line.{Line}
 use Rattle.ws_session.specs.declared.world.Move.{Move}
@@ -16,15 +16,15 @@ use Rattle.ws_session.specs.TwoLines.{TwoEnds, ComesDown, ComesUp, HasRun}
 abbrev pub AreNext : List ℕ → List ℕ → Type 0
 AreNext bytes due = (later : List ℕ) × (due ≡ bytes ++ later) × (length bytes ≤ 4096)
 
-module _ {S R : Type 0} (writer : Writer S) (reader : Reader R) where
+module _ {S R : Type 0} (devices : Devices R S) where
   -- The next of these bytes, at most 4,096, went into the line. They crossed, and then memory was wanting; or they did
   -- not.
   abbrev pub IsDeliveryCut : List ℕ → Line S R → Line S R → Fault → Type 0
   IsDeliveryCut due from to fault =
       ((fault ≡ Memory) × (piece : Crossing) × AreNext piece.sent due
-      × HaveCrossed writer reader from (piece ∷ []) to)
+      × HaveCrossed devices from (piece ∷ []) to)
       ⊎ ((bytes : List ℕ) × (slice : List ℕ) × AreNext bytes due
-      × IsCarryFault writer from.sink to.sink reader from.source to.source bytes slice fault)
+      × IsCarryFault devices.writer from.sink to.sink devices.reader from.source to.source bytes slice fault)
 
   -- a delivery to the station: fewer of its bytes came, and the next of the others were cut
   pub record CutsDown (old : TwoEnds) (count : ℕ) (from to : Line S R) (fault : Fault) : Type 0 where
@@ -33,7 +33,7 @@ module _ {S R : Type 0} (writer : Writer S) (reader : Reader R) where
     pub ends : TwoEnds
     pub last : Line S R
     pub within : fewer ≤ count
-    pub crossed : HaveCrossed writer reader from crossings last
+    pub crossed : HaveCrossed devices from crossings last
     pub came : ComesDown old fewer crossings ends
     pub cut : IsDeliveryCut (take (count - fewer) ends.to_station) last to fault
 
@@ -44,12 +44,12 @@ module _ {S R : Type 0} (writer : Writer S) (reader : Reader R) where
     pub ends : TwoEnds
     pub last : Line S R
     pub within : fewer ≤ count
-    pub crossed : HaveCrossed writer reader from crossings last
+    pub crossed : HaveCrossed devices from crossings last
     pub came : ComesUp old fewer crossings ends
     pub cut : IsDeliveryCut (take (count - fewer) ends.to_host) last to fault
 
-module _ {S R T Q : Type 0} (writer : Writer S) (reader : Reader R)
-    (writer' : Writer T) (reader' : Reader Q) where
+module _ {S R T Q : Type 0} (devices : Devices R S)
+    (devices' : Devices Q T) where
   -- memory was wanting, and nothing more went into either line
   abbrev pub WantsMemory : Line S R → Line S R → Line T Q → Line T Q → Fault → Type 0
   WantsMemory down down' up up' fault = (fault ≡ Memory) × (down' ≡ down) × (up' ≡ up)
@@ -57,9 +57,9 @@ module _ {S R T Q : Type 0} (writer : Writer S) (reader : Reader R)
   -- why a move was not done to its end: a delivery was cut, or memory was wanting
   abbrev pub BreaksOff : TwoEnds → Move → Line S R → Line S R → Line T Q → Line T Q → Fault → Type 0
   BreaksOff old (ToStation count) down down' up up' fault =
-      CutsDown writer reader old count down down' fault × (up' ≡ up)
+      CutsDown devices old count down down' fault × (up' ≡ up)
   BreaksOff old (ToHost count) down down' up up' fault =
-      CutsUp writer' reader' old count up up' fault × (down' ≡ down)
+      CutsUp devices' old count up up' fault × (down' ≡ down)
   BreaksOff old move down down' up up' fault = WantsMemory down down' up up' fault
 
   -- the first of the moves left was not done to its end; or none is left, and memory was wanting for the report
@@ -80,8 +80,8 @@ module _ {S R T Q : Type 0} (writer : Writer S) (reader : Reader R)
     pub ran : HasRun terminal front downs ups now
     pub last_down : Line S R
     pub last_up : Line T Q
-    pub crossed_down : HaveCrossed writer reader down downs last_down
-    pub crossed_up : HaveCrossed writer' reader' up ups last_up
+    pub crossed_down : HaveCrossed devices down downs last_down
+    pub crossed_up : HaveCrossed devices' up ups last_up
     pub breaks : BreaksAt now left last_down down' last_up up' fault
 
   -- a session ended early: it broke off, or memory was wanting before its first move

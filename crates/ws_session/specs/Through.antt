@@ -2,10 +2,10 @@
 
 use Rattle.std.specs.Prelude.{◌≡◌, ℕ, List, ◌∷◌, ◌++◌, Option, Some, None}
 use Rattle.ws_session.specs.declared.refusal.Refusal.{Refusal}
-use Rattle.ws_session.specs.Acts.{Act, all_came}
+use Rattle.ws_session.specs.Acts.{all_came}
+use Rattle.ws_session.specs.Conduct.{Conduct}
 
-module _ {E Deed Told : Type 0} (goes : E → List (Act Deed) → List ℕ → List Told → E → Type 0) (refuses : E → List ℕ
-    → ℕ → Refusal → E → Type 0) (over : E → Type 0) where
+module _ {E Deed Told : Type 0} (conduct : Conduct E Deed Told) where
   -- the bytes led on up to one that it refused; those behind it changed nothing
   pub record HasRefusedIn (old : E) (bytes written : List ℕ) (told : List Told) (why : Refusal) (new : E) : Type 0 where
     pub before : List ℕ
@@ -14,11 +14,11 @@ module _ {E Deed Told : Type 0} (goes : E → List (Act Deed) → List ℕ → L
     pub after : List ℕ
     pub split : bytes ≡ before ++ (front ++ byte ∷ after)
     pub last : E
-    pub led : goes old (all_came before) written told last
-    pub refused : refuses last front byte why new
-    pub is_over : over new
+    pub led : conduct.goes old (all_came before) written told last
+    pub refused : conduct.refuses last front byte why new
+    pub is_over : conduct.over new
 
   -- an end behind bytes: what it has written and told at them, and why it goes on no more, if it doesn't
   abbrev pub Through : E → List ℕ → List ℕ → List Told → Option Refusal → E → Type 0
-  Through old bytes written told None new = goes old (all_came bytes) written told new
+  Through old bytes written told None new = conduct.goes old (all_came bytes) written told new
   Through old bytes written told (Some why) new = HasRefusedIn old bytes written told why new

@@ -3,7 +3,6 @@
 use Rattle.std.specs.Prelude.{◌≡◌, ℕ, ◌+◌, ◌^◌, ◌<◌, ◌≤◌, ◌⊎◌, List, [], ◌∷◌, ◌++◌, IsSome, flat_map}
 use Rattle.std.specs.Prelude.{length, take, drop}
 use Rattle.std.specs.List.{AllByRecursion}
-use Rattle.ws_code.specs.declared.reason.Reason.{Reason}
 use Rattle.ws_nego.specs.declared.terminal.TerminalType.{TerminalType}
 use Rattle.ws_nego.specs.Host.{opening}
 use Rattle.ws_record.specs.declared.opcode.Opcode.{Opcode}
@@ -20,23 +19,23 @@ use Rattle.ws_session.specs.declared.end_step.Order.{Order}
 use Rattle.ws_session.specs.declared.end_step.Order.TheVariants.{Send as Sending, Cancel as Cancelling}
 use Rattle.ws_session.specs.declared.host_event.HostEvent.{HostEvent}
 use Rattle.ws_session.specs.declared.key_fault.KeyFault.TheVariants.{Failed as KeyFailed}
-use Rattle.ws_session.specs.declared.refusal.Refusal.{Refusal}
 use Rattle.ws_session.specs.declared.send_fault.SendFault.TheVariants.{Failed as SendFailed}
 use Rattle.ws_session.specs.declared.world.Event.{Event}
-use Rattle.ws_session.specs.declared.world.Event.TheVariants.{Host, KeyRefused, SendRefused, StationRefused}
-use Rattle.ws_session.specs.declared.world.Event.TheVariants.{HostRefused}
+use Rattle.ws_session.specs.declared.world.Event.TheVariants.{KeyRefused, SendRefused}
 use Rattle.ws_session.specs.declared.world.Move.{Move}
 use Rattle.ws_session.specs.declared.world.Move.TheVariants.{Send, Cancel, ToStation, ToHost, Key as Press}
-use Rattle.ws_session.specs.Acts.{Act, Did}
+use Rattle.ws_session.specs.Acts.{Did}
+use Rattle.ws_session.specs.Conduct.{Conduct}
+use Rattle.ws_session.specs.Conducts.{host_conduct, profile_conduct}
 use Rattle.ws_session.specs.Crossings.{Crossing}
 use Rattle.ws_session.specs.HostLeads.{AtHost, HostParts, HostLeads}
 use Rattle.ws_session.specs.HostSide.{HostSide, new_host_side, host_cancel, SendReaction, RefusesSend}
 use Rattle.ws_session.specs.StationActs.{IsShutOn}
-use Rattle.ws_session.specs.Manners.{StationGoes, StationRefuses, HostGoes, HostRefuses, IsHostShut}
+use Rattle.ws_session.specs.Manners.{StationGoes, HostGoes, IsHostShut}
 use Rattle.ws_session.specs.Runs.{WorldParts}
 use Rattle.ws_session.specs.StationLeads.{AtStation, StationParts, StationLeads}
 use Rattle.ws_session.specs.StationSide.{StationSide, new_station_side, station_key, KeyReaction, RefusesKey}
-use Rattle.ws_session.specs.Wires.{WireParts, Comes, AreDelivered}
+use Rattle.ws_session.specs.Wires.{WireParts, Telling, station_telling, host_telling, Comes, AreDelivered}
 use Rattle.ws_session.specs.World.{host_sends}
 
 -- where a session stands: both ends, the bytes in flight to each, and what was told
@@ -73,8 +72,7 @@ all_sent crossings = flat_map (λ (c : Crossing). c.sent) crossings
 abbrev pub all_read : List Crossing → List ℕ
 all_read crossings = flat_map (λ (c : Crossing). c.read) crossings
 
-module _ {E Deed Told : Type 0} (goes : E → List (Act Deed) → List ℕ → List Told → E → Type 0) (refuses : E → List ℕ
-    → ℕ → Refusal → E → Type 0) (over : E → Type 0) (tells : Told → List Event) (refusal : ℕ → Reason → Event) where
+module _ {E Deed Told : Type 0} (conduct : Conduct E Deed Told) (telling : Telling Told) where
   -- So many of the bytes in flight go into the line, or all where there are fewer. As many that came out of it come
   -- to the end, whatever they are; what it writes and tells at them is this.
   pub record HaveCome (count : ℕ) (crossings : List Crossing) (flight flight' : List ℕ) (old new : E)
@@ -84,18 +82,16 @@ module _ {E Deed Told : Type 0} (goes : E → List (Act Deed) → List ℕ → L
     pub pieces : AllByRecursion (λ (c : Crossing). length c.sent ≤ 4096) crossings
     pub as_many : length (all_read crossings) ≡ length (all_sent crossings)
     pub left : flight' ≡ drop count flight
-    pub come : Comes goes refuses over tells refusal old (all_read crossings) new written told
+    pub come : Comes conduct telling old (all_read crossings) new written told
 
 -- bytes come to the station: it tells a refusal alone
 abbrev pub StationHears : ℕ → List Crossing → List ℕ → List ℕ → StationParts → StationParts → List ℕ → List Event
     → Type 0
-StationHears = HaveCome StationGoes StationRefuses (λ (s : StationParts). IsSome s.ended)
-    (λ (a : Applied). let none : List Event = [] in none) (λ place reason. StationRefused place reason)
+StationHears = HaveCome profile_conduct station_telling
 
 -- bytes come to the host end: its events are told, and a refusal
 abbrev pub HostHears : ℕ → List Crossing → List ℕ → List ℕ → HostParts → HostParts → List ℕ → List Event → Type 0
-HostHears = HaveCome HostGoes HostRefuses (λ (h : HostParts). IsSome h.ended)
-    (λ (e : HostEvent). Host e ∷ []) (λ place reason. HostRefused place reason)
+HostHears = HaveCome host_conduct host_telling
 
 -- what is told of a key: that it was refused, and why; or nothing
 abbrev pub key_told : KeyReaction → List Event
@@ -218,15 +214,13 @@ up_wire w = record { bytes = w.up; at = w.at_host }
 -- so many of the bytes in flight, as they stand there, have come to the station
 abbrev pub IsDeliveredDown : WorldParts → ℕ → WorldParts → Type 0
 IsDeliveredDown old count new =
-    AreDelivered StationGoes StationRefuses (λ (s : StationParts). IsSome s.ended)
-    (λ (a : Applied). let none : List Event = [] in none) (λ place reason. StationRefused place reason)
+    AreDelivered profile_conduct station_telling
     old.station new.station (down_wire old) (down_wire new) (up_wire old) (up_wire new) old.events new.events count
     × (new.host ≡ old.host)
 
 -- so many of the bytes in flight, as they stand there, have come to the host end
 abbrev pub IsDeliveredUp : WorldParts → ℕ → WorldParts → Type 0
 IsDeliveredUp old count new =
-    AreDelivered HostGoes HostRefuses (λ (h : HostParts). IsSome h.ended)
-    (λ (e : HostEvent). Host e ∷ []) (λ place reason. HostRefused place reason)
+    AreDelivered host_conduct host_telling
     old.host new.host (up_wire old) (up_wire new) (down_wire old) (down_wire new) old.events new.events count
     × (new.station ≡ old.station)

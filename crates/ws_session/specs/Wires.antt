@@ -4,8 +4,11 @@ use Rattle.std.specs.Prelude.{◌≡◌, ℕ, ◌+◌, ◌^◌, ◌<◌, List, [
 use Rattle.ws_code.specs.declared.reason.Reason.{Reason}
 use Rattle.ws_session.specs.declared.refusal.Refusal.{Refusal}
 use Rattle.ws_session.specs.declared.refusal.Refusal.TheVariants.{At, Memory}
+use Rattle.ws_session.specs.declared.end_step.Applied.{Applied}
+use Rattle.ws_session.specs.declared.host_event.HostEvent.{HostEvent}
 use Rattle.ws_session.specs.declared.world.Event.{Event}
-use Rattle.ws_session.specs.Acts.{Act}
+use Rattle.ws_session.specs.declared.world.Event.TheVariants.{Host, StationRefused, HostRefused}
+use Rattle.ws_session.specs.Conduct.{Conduct}
 use Rattle.ws_session.specs.Through.{Through}
 
 -- all that one end has written for the other, and how many bytes of it have arrived
@@ -18,21 +21,33 @@ abbrev pub HasMemory : Option Refusal → Type 0
 HasMemory (Some Memory) = ⊥
 HasMemory why = Unit {0}
 
-module _ {E Deed Told : Type 0} (goes : E → List (Act Deed) → List ℕ → List Told → E → Type 0) (refuses : E → List ℕ
-    → ℕ → Refusal → E → Type 0) (over : E → Type 0) (tells : Told → List Event) (refusal : ℕ → Reason → Event) where
+-- what a session tells of an end: what the end tells, and a byte that it refuses
+pub record Telling (Told : Type 0) : Type 0 where
+  pub tells : Told → List Event
+  pub refusal : ℕ → Reason → Event
+
+-- of a station, a refusal alone
+abbrev pub station_telling : Telling Applied
+station_telling = record { tells = λ applied. []; refusal = λ place reason. StationRefused place reason }
+
+-- of a host end, its events and a refusal
+abbrev pub host_telling : Telling HostEvent
+host_telling = record { tells = λ event. Host event ∷ []; refusal = λ place reason. HostRefused place reason }
+
+module _ {E Deed Told : Type 0} (conduct : Conduct E Deed Told) (telling : Telling Told) where
   -- what a report tells of it
   abbrev pub reported : List Told → Option Refusal → List Event
-  reported told (Some (At place reason)) = flat_map tells told ++ refusal place reason ∷ []
-  reported told why = flat_map tells told
+  reported told (Some (At place reason)) = flat_map telling.tells told ++ telling.refusal place reason ∷ []
+  reported told why = flat_map telling.tells told
 
   -- Bytes come: the end goes on, or refuses one of them. One that has refused a byte stays as it is.
   pub record Comes (old : E) (bytes : List ℕ) (new : E) (written : List ℕ) (events : List Event) : Type 0 where
     pub told : List Told
     pub why : Option Refusal
-    pub through : Through goes refuses over old bytes written told why new
+    pub through : Through conduct old bytes written told why new
     pub reports : events ≡ reported told why
     pub has_memory : HasMemory why
-    pub stays : over old → (new ≡ old) × (written ≡ []) × (events ≡ [])
+    pub stays : conduct.over old → (new ≡ old) × (written ≡ []) × (events ≡ [])
 
   -- bytes came to it, and what it wrote is on its way
   pub record HasCome (old : E) (bytes : List ℕ) (new : E) (to to' : WireParts) (told told' : List Event) : Type 0 where

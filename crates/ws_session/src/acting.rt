@@ -21,12 +21,12 @@ pub trait Acting: End {
     fn act(&mut self, deed: &Self::Deed) -> Result<Vec<u8>, SendFault>
         // What is written; it was taken.
         ensures done { IfOk result (λ bytes.
-            Self.goes self.old (Did deed.now ∷ []) bytes.items [] self.new) }
+            Self.conduct.goes self.old (Did deed.now ∷ []) bytes.items [] self.new) }
         ensures taken { OnOk result (acts self.old deed.now) }
         // Why not: then nothing has happened, or memory was wanting for what it takes.
         ensures refused { IfErr result (λ fault. fault ≢ SendFault.Memory
             → refrains self.old deed.now fault
-            × Self.goes self.old (Did deed.now ∷ []) [] [] self.new) }
+            × Self.conduct.goes self.old (Did deed.now ∷ []) [] [] self.new) }
         ensures wanting { result ≡ Err SendFault.Memory → acts self.old deed.now }
         ensures same { OnErr result (self.new ≡ self.old) };
 }

@@ -4,7 +4,8 @@ ghost use Rattle.std.specs.Prelude.{◌≡◌, ◌<◌, ◌≤◌, ◌∷◌, []
 ghost use Rattle.ws_session.specs.Acts.{Did, all_came, as_list};
 ghost use Rattle.ws_session.specs.Attachments as spec;
 ghost use Rattle.ws_session.specs.Attachments.{breaks, IfTold, TellsAtLast};
-ghost use Rattle.ws_session.specs.StationActs.{GoesOnDisplay, IsKeyRefusalOn, IsKeyTakenOn};
+ghost use Rattle.ws_session.specs.Conducts.{station_conduct};
+ghost use Rattle.ws_session.specs.StationActs.{IsKeyRefusalOn, IsKeyTakenOn};
 ghost use Rattle.ws_session.specs.Written.{HasWritten, HasWrittenFront, IsUnheard};
 
 use crate::end::End;
@@ -30,12 +31,12 @@ pub(crate) fn hear_piece<E: End, K: Sink>(
     ensures within { result.used ≤ length piece.now }
     ensures some { 0 < result.used }
     // What was written, and that nothing was told before the last byte.
-    ensures heard { IfOk result.told (λ told. HasWritten E.goes K.writer
+    ensures heard { IfOk result.told (λ told. HasWritten E.conduct K.writer
         end.old end.new sink.old sink.new (all_came (take result.used piece.now)) (as_list told)) }
     ensures first { IfTold result.told
-        (TellsAtLast E.goes E.silent end.old end.new (take result.used piece.now)) }
+        (TellsAtLast E.conduct end.old end.new (take result.used piece.now)) }
     // What stopped it, which breaks the end.
-    ensures fault { IfErr result.told (IsUnheard E.goes E.refuses K.writer
+    ensures fault { IfErr result.told (IsUnheard E.conduct K.writer
         end.old end.new sink.old sink.new (take result.used piece.now)) }
     ensures breaks { IfErr result.told (λ fault. breaks fault ≡ true) }
 {
@@ -78,7 +79,7 @@ pub(crate) fn press_key<D: StationDisplay, K: Sink>(
 ) -> Result<Option<KeyFault>, Fault>
     // What is written of a key that is taken.
     ensures pressed { IfOk result (λ refused.
-        HasWritten (GoesOnDisplay D.Commands.rules D.does) K.writer
+        HasWritten (station_conduct D.Commands.rules D.does) K.writer
         station.old station.new sink.old sink.new (Did key ∷ []) []) }
     // Which keys are refused, and why, and which are taken.
     ensures refused { IfOk result (λ refused. IfSome refused
@@ -89,7 +90,7 @@ pub(crate) fn press_key<D: StationDisplay, K: Sink>(
         (IsKeyTakenOn D.Commands.rules D.does station.old key)) }
     // What a failed write leaves.
     ensures fault { IfErr result (λ fault. (fault ≡ Fault.Write)
-        × HasWrittenFront (GoesOnDisplay D.Commands.rules D.does) K.writer
+        × HasWrittenFront (station_conduct D.Commands.rules D.does) K.writer
         station.old station.new sink.old sink.new (Did key ∷ [])) }
 {
     match station.key(key) {

@@ -8,6 +8,7 @@ ghost use Rattle.ws_session.specs.Runs.{Runs};
 ghost use Rattle.ws_session.specs.TwoLines.{two_ends_of, HasMoved, ComesDown, ComesUp};
 ghost use Rattle.ws_session.specs.World as spec;
 ghost use Rattle.ws_session.specs.World.{World as AWorld, after_move};
+ghost use Rattle.ws_code.specs.Device.{on_devices};
 
 use super::{Move, Report, World};
 use crate::{Line, carry};
@@ -36,13 +37,13 @@ impl World {
     ) -> Result<Report, Fault>
         // What came out of a line is what arrived at its end, whatever was written.
         ensures done { IfOk result (HasRunOver terminal moves.now
-            (λ downs. HaveCrossed S.writer R.reader down.old downs down.new)
-            (λ ups. HaveCrossed T.writer Q.reader up.old ups up.new)) }
-        ensures fault { IfErr result (AreEnded S.writer R.reader
-            T.writer Q.reader down.old down.new up.old up.new) }
+            (λ downs. HaveCrossed (on_devices S.writer R.reader) down.old downs down.new)
+            (λ ups. HaveCrossed (on_devices T.writer Q.reader) up.old ups up.new)) }
+        ensures fault { IfErr result (AreEnded (on_devices S.writer R.reader)
+            (on_devices T.writer Q.reader) down.old down.new up.old up.new) }
         // What went into the lines before it is what the session of a front of the moves writes.
-        ensures early { IfErr result (HasEndedEarly S.writer R.reader
-            T.writer Q.reader
+        ensures early { IfErr result (HasEndedEarly (on_devices S.writer R.reader)
+            (on_devices T.writer Q.reader)
             terminal moves.now down.old down.new up.old up.new) }
     {
         let mut world = World::new(alloc, terminal)?;
@@ -59,15 +60,15 @@ impl World {
         up: &mut Line<T, Q>,
     ) -> Result<(), Fault>
         ensures taken { OnOk result ((downs ups : Seq Crossing)
-            × HaveCrossed S.writer R.reader down.old downs down.new
-            × HaveCrossed T.writer Q.reader up.old ups up.new
+            × HaveCrossed (on_devices S.writer R.reader) down.old downs down.new
+            × HaveCrossed (on_devices T.writer Q.reader) up.old ups up.new
             × HasMoved (two_ends_of self.old) step.now downs ups (two_ends_of self.new)
             × (AreFaithful downs → AreFaithful ups → (t : ATerminal) (w : AWorld)
             → Runs t self.old w → Runs t self.new (after_move w step.now))) }
-        ensures fault { IfErr result (AreEnded S.writer R.reader
-            T.writer Q.reader down.old down.new up.old up.new) }
-        ensures early { IfErr result (BreaksOff S.writer R.reader
-            T.writer Q.reader
+        ensures fault { IfErr result (AreEnded (on_devices S.writer R.reader)
+            (on_devices T.writer Q.reader) down.old down.new up.old up.new) }
+        ensures early { IfErr result (BreaksOff (on_devices S.writer R.reader)
+            (on_devices T.writer Q.reader)
             (two_ends_of self.old) step.now down.old down.new up.old up.new) }
     {
         match step {
@@ -85,13 +86,13 @@ impl World {
         count: usize,
     ) -> Result<(), Fault>
         ensures came { OnOk result ((crossings : Seq Crossing)
-            × HaveCrossed S.writer R.reader line.old crossings line.new
+            × HaveCrossed (on_devices S.writer R.reader) line.old crossings line.new
             × ComesDown (two_ends_of self.old) count crossings (two_ends_of self.new)
             × (AreFaithful crossings → (t : ATerminal) (w : AWorld)
             → Runs t self.old w → Runs t self.new (spec.bytes_to_station count w))) }
         ensures fault { IfErr result
-            (IsEnded S.writer R.reader line.old line.new) }
-        ensures early { IfErr result (CutsDown S.writer R.reader
+            (IsEnded (on_devices S.writer R.reader) line.old line.new) }
+        ensures early { IfErr result (CutsDown (on_devices S.writer R.reader)
             (two_ends_of self.old) count line.old line.new) }
     {
         let mut left = count;
@@ -117,13 +118,13 @@ impl World {
         requires small { piece ≤ 4096 }
         // What crossed, and what it led to; at a fault what had crossed before it.
         ensures came { OnOk result ((crossing : Crossing)
-            × HaveCrossed S.writer R.reader line.old (crossing ∷ []) line.new
+            × HaveCrossed (on_devices S.writer R.reader) line.old (crossing ∷ []) line.new
             × ComesDown (two_ends_of self.old) piece (crossing ∷ []) (two_ends_of self.new)
             × (crossing.read ≡ crossing.sent → (t : ATerminal) (w : AWorld)
             → Runs t self.old w → Runs t self.new (spec.bytes_to_station piece w))) }
         ensures fault { IfErr result
-            (IsEnded S.writer R.reader line.old line.new) }
-        ensures early { IfErr result (IsDeliveryCut S.writer R.reader
+            (IsEnded (on_devices S.writer R.reader) line.old line.new) }
+        ensures early { IfErr result (IsDeliveryCut (on_devices S.writer R.reader)
             (take piece (two_ends_of self.old).to_station) line.old line.new) }
     {
         self.known_wires();
@@ -145,13 +146,13 @@ impl World {
         count: usize,
     ) -> Result<(), Fault>
         ensures came { OnOk result ((crossings : Seq Crossing)
-            × HaveCrossed S.writer R.reader line.old crossings line.new
+            × HaveCrossed (on_devices S.writer R.reader) line.old crossings line.new
             × ComesUp (two_ends_of self.old) count crossings (two_ends_of self.new)
             × (AreFaithful crossings → (t : ATerminal) (w : AWorld)
             → Runs t self.old w → Runs t self.new (spec.bytes_to_host count w))) }
         ensures fault { IfErr result
-            (IsEnded S.writer R.reader line.old line.new) }
-        ensures early { IfErr result (CutsUp S.writer R.reader
+            (IsEnded (on_devices S.writer R.reader) line.old line.new) }
+        ensures early { IfErr result (CutsUp (on_devices S.writer R.reader)
             (two_ends_of self.old) count line.old line.new) }
     {
         let mut left = count;
@@ -177,13 +178,13 @@ impl World {
         requires small { piece ≤ 4096 }
         // What crossed, and what it led to; at a fault what had crossed before it.
         ensures came { OnOk result ((crossing : Crossing)
-            × HaveCrossed S.writer R.reader line.old (crossing ∷ []) line.new
+            × HaveCrossed (on_devices S.writer R.reader) line.old (crossing ∷ []) line.new
             × ComesUp (two_ends_of self.old) piece (crossing ∷ []) (two_ends_of self.new)
             × (crossing.read ≡ crossing.sent → (t : ATerminal) (w : AWorld)
             → Runs t self.old w → Runs t self.new (spec.bytes_to_host piece w))) }
         ensures fault { IfErr result
-            (IsEnded S.writer R.reader line.old line.new) }
-        ensures early { IfErr result (IsDeliveryCut S.writer R.reader
+            (IsEnded (on_devices S.writer R.reader) line.old line.new) }
+        ensures early { IfErr result (IsDeliveryCut (on_devices S.writer R.reader)
             (take piece (two_ends_of self.old).to_host) line.old line.new) }
     {
         self.known_wires();

@@ -1,10 +1,8 @@
 //! Bytes in flight that arrive at an end of a session.
-ghost use Rattle.std.specs.Prelude.{◌≡◌, ◌<◌, ◌≤◌, ◌++◌, ◌∷◌, [], ℕ, List as Seq, flat_map, Some, length, take, IfErr, IfOk, OnOk};
-ghost use Rattle.ws_code.specs.declared.reason.Reason.{Reason as AReason};
+ghost use Rattle.std.specs.Prelude.{◌≡◌, ◌<◌, ◌≤◌, ◌++◌, ◌∷◌, [], flat_map, Some, length, take, IfErr, IfOk, OnOk};
 ghost use Rattle.ws_session.specs.Acts.{as_list};
-ghost use Rattle.ws_session.specs.Wires.{HasCome, HasMemory, AreDelivered, reported};
-ghost use Rattle.ws_session.specs.declared.world.Event.{Event as AnEvent};
-ghost use Rattle.ws_session.specs.declared.world.Event.TheVariants.{Host as HostEventOf, StationRefused, HostRefused};
+ghost use Rattle.ws_session.specs.Wires.{HasCome, HasMemory, AreDelivered, Telling, host_telling, reported, station_telling};
+ghost use Rattle.ws_session.specs.declared.world.Event.TheVariants.{Host as HostEventOf};
 
 use super::Event;
 use crate::end::End;
@@ -15,23 +13,19 @@ use ws_code::{Fault, Reason};
 
 // An end of a session, and what a report tells of it.
 pub(crate) trait Reported: End {
-    ghost tells: { Self.Event → Seq AnEvent };
-
-    ghost refusal: { ℕ → AReason → AnEvent };
+    ghost telling: { Telling Self.Event };
 
     // What the end tells.
     fn event(event: Option<Self::Event>) -> Option<Event>
-        ensures told { as_list result ≡ flat_map tells (as_list event) };
+        ensures told { as_list result ≡ flat_map telling.tells (as_list event) };
 
     // That it has refused a byte.
     fn refused(place: u64, reason: Reason) -> Event
-        ensures refused { result ≡ refusal place reason };
+        ensures refused { result ≡ telling.refusal place reason };
 }
 
 impl Reported for Station {
-    ghost tells = { λ applied. [] };
-
-    ghost refusal = { λ place reason. StationRefused place reason };
+    ghost telling = { station_telling };
 
     fn event(_event: Option<Applied>) -> Option<Event>
         ensures told { as_list result ≡ flat_map (λ applied. []) (as_list _event) }
@@ -45,9 +39,7 @@ impl Reported for Station {
 }
 
 impl Reported for HostEnd {
-    ghost tells = { λ event. HostEventOf event ∷ [] };
-
-    ghost refusal = { λ place reason. HostRefused place reason };
+    ghost telling = { host_telling };
 
     fn event(event: Option<HostEvent>) -> Option<Event>
         ensures told { as_list result
@@ -72,7 +64,7 @@ pub(crate) fn deliver<E: Reported>(
     events: &mut Vec<Event>,
     count: usize,
 ) -> Result<(), Fault>
-    ensures come { OnOk result (AreDelivered E.goes E.refuses E.over E.tells E.refusal
+    ensures come { OnOk result (AreDelivered E.conduct E.telling
         end.old end.new from.old from.new to.old to.new events.old.items events.new.items count) }
     ensures fault { IfErr result (λ fault. fault ≡ Fault.Memory) }
 {
@@ -97,7 +89,7 @@ fn come<E: Reported>(
     ensures within { IfOk result (λ used. used ≤ length piece.now) }
     ensures some { IfOk result (λ used. 0 < used) }
     // What it brings; memory alone may be wanting.
-    ensures come { IfOk result (λ used. HasCome E.goes E.refuses E.over E.tells E.refusal
+    ensures come { IfOk result (λ used. HasCome E.conduct E.telling
         end.old (take used piece.now) end.new to.old to.new events.old.items events.new.items) }
     ensures fault { IfErr result (λ fault. fault ≡ Fault.Memory) }
 {
@@ -118,7 +110,7 @@ fn come<E: Reported>(
 // What a report tells of a refusal. One for want of memory ends the session.
 fn refused<E: Reported>(refusal: Refusal) -> Result<Option<Event>, Fault>
     ensures told { IfOk result (λ event. as_list event
-        ≡ reported E.goes E.refuses E.over E.tells E.refusal [] (Some refusal)) }
+        ≡ reported E.conduct E.telling [] (Some refusal)) }
     ensures memory { OnOk result (HasMemory (Some refusal)) }
     ensures fault { IfErr result (λ fault. fault ≡ Fault.Memory) }
 {

@@ -10,13 +10,13 @@ use Rattle.ws_nego.specs.Station.{station_allows_records}
 use Rattle.ws_text.proofs.Prints.{prints_both, prints_same}
 use Rattle.ws_live.proofs.ConnectRuns.{report_span, reports}
 use Rattle.ws_live.proofs.connect.put_what.Goals as goal
+use Rattle.ws_code.specs.Device.{on_devices}
 
 pub returns-in-Note-clause-runs : goal.returns-in-Note-clause-runs
 returns-in-Note-clause-runs g c =
     let text = note_line c.in-Note.note in (
       text,
-      subst (λ (r : Report). Reports g.D.Commands.Code.rules g.D.StationDisplay.does g.K.Sink.writer
-          g.S.Source.reader g.W.Watch.tells r (c.args.attached.now, c.args.ahead.now) (Ok Done) text
+      subst (λ (r : Report). Reports g.D.Commands.Code.rules g.D.StationDisplay.does (on_devices g.K.Sink.writer g.S.Source.reader) g.W.Watch.tells r (c.args.attached.now, c.args.ahead.now) (Ok Done) text
           (c.args.attached.now, c.args.ahead.now)) (sym c.in-Note.is) (refl, refl, refl),
       prints_same (ap note_line c.as_slice.ensures) c.put_note.ensures,
     )
@@ -26,7 +26,7 @@ returns-in_default-clause-runs g c =
     let t = c.take_what_came-ended.ensures.taken in
     let p = c.put_report-output.ensures in (
       p.0 ++ waited_text (rested true t.1),
-      reports g.D.Commands.Code.rules g.D.StationDisplay.does g.K.Sink.writer g.S.Source.reader g.W.Watch.tells c.args.report.now (c.args.attached.now, c.args.ahead.now)
+      reports g.D.Commands.Code.rules g.D.StationDisplay.does (on_devices g.K.Sink.writer g.S.Source.reader) g.W.Watch.tells c.args.report.now (c.args.attached.now, c.args.ahead.now)
           (c.take_what_came-ended.new.attached, c.take_what_came-ended.new.ahead) c.put_waited.result.outcome
           (p.0 ++ waited_text (rested true t.1)) c.in_default.not-Note (record {
             told = t.0;

@@ -8,6 +8,7 @@ use Rattle.ws_live.proofs.StrokeRuns.{cut_times, prints_nothing, until_more, unt
 use Rattle.ws_text.specs.Printing.{Prints}
 use Rattle.ws_text.proofs.Prints.{prints_both}
 use Rattle.ws_live.proofs.pressing.press_times.Goals as goal
+use Rattle.ws_code.specs.Device.{on_devices}
 
 pub returns-then-not-is_done-clause-runs : goal.returns-then-not-is_done-clause-runs
 returns-then-not-is_done-clause-runs g c =
@@ -16,7 +17,7 @@ returns-then-not-is_done-clause-runs g c =
     let i = c.loop.counter in
     let key = c.args.key in (
       one.0,
-      until_one g.D.Commands.Code.rules g.D.StationDisplay.does g.K.Sink.writer g.S.Source.reader g.D.Key.NamedKey.words (replicate i key) (replicate (c.args.times - (i + 1)) key) (replicate c.args.times key)
+      until_one g.D.Commands.Code.rules g.D.StationDisplay.does (on_devices g.K.Sink.writer g.S.Source.reader) g.D.Key.NamedKey.words (replicate i key) (replicate (c.args.times - (i + 1)) key) (replicate c.args.times key)
           key c.args.attached.now c.loop.attached c.press_key-carried.new.attached
           c.press_key-carried.result.outcome one.0 (cut_times c.args.times i key c.loop-test.true) so_far.0
           (c.is_done.ensures.undone c.if-not-is_done.true) one.1,
@@ -31,10 +32,9 @@ loop-preserved g c =
     let key = c.args.key in
     let to = c.press_key-carried.new.attached in
     let done = c.is_done.ensures.done c.if-not-is_done.false in
-    let quiet = prints_nothing g.D.Commands.Code.rules g.D.StationDisplay.does g.K.Sink.writer
-    g.S.Source.reader g.D.Key.NamedKey.words key c.loop.attached to one.0
-    (subst (λ (o : Result Closing Fault). KeyRuns g.D.Commands.Code.rules g.D.StationDisplay.does g.K.Sink.writer g.S.Source.reader g.D.Key.NamedKey.words key c.loop.attached o one.0 to) done one.1) in (
-      until_more g.D.Commands.Code.rules g.D.StationDisplay.does g.K.Sink.writer g.S.Source.reader g.D.Key.NamedKey.words (replicate i key) (replicate (i + 1) key) key c.args.attached.now c.loop.attached to
+    let quiet = prints_nothing g.D.Commands.Code.rules g.D.StationDisplay.does (on_devices g.K.Sink.writer g.S.Source.reader) g.D.Key.NamedKey.words key c.loop.attached to one.0
+    (subst (λ (o : Result Closing Fault). KeyRuns g.D.Commands.Code.rules g.D.StationDisplay.does (on_devices g.K.Sink.writer g.S.Source.reader) g.D.Key.NamedKey.words key c.loop.attached o one.0 to) done one.1) in (
+      until_more g.D.Commands.Code.rules g.D.StationDisplay.does (on_devices g.K.Sink.writer g.S.Source.reader) g.D.Key.NamedKey.words (replicate i key) (replicate (i + 1) key) key c.args.attached.now c.loop.attached to
           c.press_key-carried.result.outcome one.0 (replicate_more i key) so_far.0 done one.1,
       prints_both so_far.1 (subst (λ (z : List ℕ). Prints g.O.Sink.writer c.loop.out
           c.press_key-carried.new.out c.loop.output c.press_key-carried.result.output z) quiet one.2),

@@ -4,10 +4,10 @@ use Rattle.ws_live.specs.ConnectText.{KeysUntil}
 use Rattle.ws_live.specs.declared.live.Closing.TheVariants.{Done}
 use Rattle.ws_text.specs.Printing.{Prints}
 use Rattle.ws_live.proofs.pressing.press_until.Given as goal
+use Rattle.ws_code.specs.Device.{on_devices}
 
 -- the keys so far were taken, and printed nothing
 abbrev pub invariant-loop-key : goal.invariant-loop-key
-invariant-loop-key g l = KeysUntil g.D.Commands.Code.rules g.D.StationDisplay.does g.K.Sink.writer
-    g.S.Source.reader g.D.Key.NamedKey.words (take l.key-index l.keys) l.fn.attached (Ok Done) [] l.attached
+invariant-loop-key g l = KeysUntil g.D.Commands.Code.rules g.D.StationDisplay.does (on_devices g.K.Sink.writer g.S.Source.reader) g.D.Key.NamedKey.words (take l.key-index l.keys) l.fn.attached (Ok Done) [] l.attached
     × Prints g.O.Sink.writer l.fn.out l.out l.fn.output l.output []
     × (l.attached.broken ≡ false)

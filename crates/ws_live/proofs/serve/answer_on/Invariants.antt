@@ -1,6 +1,6 @@
 use Rattle.std.proofs.Common.{◌≡◌, ℕ, List, [], true, false}
 use Rattle.std.specs.Prelude.{replicate}
-use Rattle.ws_code.specs.Device.{WentOut}
+use Rattle.ws_code.specs.Device.{WentOut, on_devices}
 use Rattle.ws_live.specs.LiveText.{HaveRun}
 use Rattle.ws_live.specs.ServeText.{HostRunsInTime}
 use Rattle.ws_live.specs.declared.serve_line.HostLine.TheVariants.{Await}
@@ -9,7 +9,7 @@ use Rattle.ws_live.proofs.serve.answer_on.Given as goal
 -- so many things were told and printed
 abbrev pub invariant-loop : goal.invariant-loop
 invariant-loop g l = (text : List ℕ)
-    × HaveRun (HostRunsInTime g.K.Sink.writer g.S.Source.reader
+    × HaveRun (HostRunsInTime (on_devices g.K.Sink.writer g.S.Source.reader)
     g.W.Watch.tells g.W.Watch.begins g.W.Watch.begun) false ((l.fn.attached, l.fn.ahead), l.fn.watch) (replicate l.counter Await) true
     text ((l.attached, l.ahead), l.watch)
     × WentOut g.O.Sink.writer l.fn.out.sink l.out.sink text × (l.attached.broken ≡ false)

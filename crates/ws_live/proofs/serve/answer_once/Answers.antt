@@ -8,13 +8,14 @@ use Rattle.ws_live.specs.declared.serve_line.HostLine.TheVariants.{Await}
 use Rattle.ws_text.specs.declared.output.Output.{Output}
 use Rattle.ws_text.proofs.Prints.{whole_out}
 use Rattle.ws_live.proofs.serve.answer_once.Goals as goal
+use Rattle.ws_code.specs.Device.{on_devices}
 
 pub returns-in-Open-clause-answered : goal.returns-in-Open-clause-answered
 returns-in-Open-clause-answered g c =
     let e = c.carry_out-carried.ensures.runs in (
       e.0,
       (
-        subst (λ (o : Result Closing Fault). HostRuns g.K.Sink.writer g.S.Source.reader g.W.Watch.tells Await (c.args.attached.now, c.args.ahead.now) o e.0
+        subst (λ (o : Result Closing Fault). HostRuns (on_devices g.K.Sink.writer g.S.Source.reader) g.W.Watch.tells Await (c.args.attached.now, c.args.ahead.now) o e.0
             (c.carry_out-carried.new.attached, c.carry_out-carried.new._ahead)) c.in-Ok.is e.1,
         c.carry_out-carried.ensures.begun,
       ),
@@ -32,7 +33,7 @@ returns-in-Failed-clause-fault g c =
         c.in-Ok.closing,
         e.0,
         (
-          subst (λ (o : Result Closing Fault). HostRuns g.K.Sink.writer g.S.Source.reader g.W.Watch.tells Await (c.args.attached.now, c.args.ahead.now) o e.0
+          subst (λ (o : Result Closing Fault). HostRuns (on_devices g.K.Sink.writer g.S.Source.reader) g.W.Watch.tells Await (c.args.attached.now, c.args.ahead.now) o e.0
               (c.carry_out-carried.new.attached, c.carry_out-carried.new._ahead)) c.in-Ok.is e.1,
           c.carry_out-carried.ensures.begun,
         ),
@@ -49,7 +50,7 @@ returns-in-Err-clause-fault g c =
       e.0,
       c.hand_on-output.result,
       (
-        subst (λ (o : Result Closing Fault). HostRuns g.K.Sink.writer g.S.Source.reader g.W.Watch.tells Await (c.args.attached.now, c.args.ahead.now) o e.0
+        subst (λ (o : Result Closing Fault). HostRuns (on_devices g.K.Sink.writer g.S.Source.reader) g.W.Watch.tells Await (c.args.attached.now, c.args.ahead.now) o e.0
             (c.carry_out-carried.new.attached, c.carry_out-carried.new._ahead)) c.in-Err.is e.1,
         c.carry_out-carried.ensures.begun,
       ),

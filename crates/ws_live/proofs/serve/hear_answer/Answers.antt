@@ -1,7 +1,7 @@
 use Rattle.std.proofs.Common.{◌≡◌, ◌++◌, ◌∷◌, [], length, true, false, refl, sym, ◌∙◌, subst, inl, inr, arith}
 use Rattle.std.specs.List.{flat_map}
 use Rattle.std.proofs.lemmas.List.{append-nil, flat_map_more, length-append}
-use Rattle.ws_code.specs.Device.{most_reads}
+use Rattle.ws_code.specs.Device.{most_reads, on_devices}
 use Rattle.ws_live.specs.ToldLines.{told_text}
 use Rattle.ws_live.specs.ServeText.{is_awaited, unheard_text}
 use Rattle.ws_text.proofs.Prints.{prints_none, prints_both, prints_same}
@@ -82,7 +82,7 @@ loop-preserved g c =
     let heard = rw c.in-Ok-Some.field-0-is at c.in-Ok-Some.ensures.heard in
     let other : is_awaited c.args.awaited.now event ≡ false = sym c.is_awaited.ensures ∙ c.if-is_awaited.false in (
       so_far.0 ++ event ∷ [],
-      told_behind g.K.Sink.writer g.S.Source.reader c.args.awaited.now
+      told_behind (on_devices g.K.Sink.writer g.S.Source.reader) c.args.awaited.now
           c.args.attached.now c.loop.attached c.hear.new.self so_far.0 event so_far.1 heard other,
       omega (arith, so_far.2, length-append so_far.0 (event ∷ [])),
       prints_same (flat_map_more told_text [] so_far.0 event)

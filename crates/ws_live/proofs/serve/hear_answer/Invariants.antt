@@ -5,11 +5,12 @@ use Rattle.ws_live.specs.ToldLines.{told_text}
 use Rattle.ws_live.specs.ServeText.{HaveToldBeforeAnswer}
 use Rattle.ws_text.specs.Printing.{Prints}
 use Rattle.ws_live.proofs.serve.hear_answer.Given as goal
+use Rattle.ws_code.specs.Device.{on_devices}
 
 -- what was told and printed so far, none of which is the answer
 abbrev pub invariant-loop : goal.invariant-loop
 invariant-loop g l = (told : List HostEvent)
-    × HaveToldBeforeAnswer g.K.Sink.writer g.S.Source.reader l.awaited l.fn.attached told l.attached
+    × HaveToldBeforeAnswer (on_devices g.K.Sink.writer g.S.Source.reader) l.awaited l.fn.attached told l.attached
     × (length told ≡ l.counter)
     × Prints g.O.Sink.writer l.fn.out l.out l.fn.output l.output (flat_map told_text told)
     × (l.attached.broken ≡ false)

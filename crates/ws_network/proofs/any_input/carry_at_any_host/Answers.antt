@@ -6,13 +6,14 @@ use Rattle.ws_network.specs.AnySessions.{IsTextAndOn, RunsAny}
 use Rattle.ws_network.proofs.AnySessionLaws.{stopped_text, carried_text, uncarried}
 use Rattle.ws_network.proofs.any_input.carry_at_any_host.Goals as goal
 use Rattle.ws_network.proofs.any_input.carry_at_any_host.Goals.{then-ran-2, else-ran-2}
+use Rattle.ws_code.specs.Device.{on_devices}
 
 pub returns-in-Err-clause-fault : goal.returns-in-Err-clause-fault
 returns-in-Err-clause-fault g c = let e = c.in-Err.ensures.fault in (e.0, e.1, inl e.2)
 
 pub returns-then-ran-clause-ran : goal.returns-then-ran-clause-ran
 returns-then-ran-clause-ran g c =
-    let runs = RunsAny g.K.Sink.writer g.S.Source.reader g.W.Watch.tells
+    let runs = RunsAny (on_devices g.K.Sink.writer g.S.Source.reader) g.W.Watch.tells
     g.W.Watch.begins g.W.Watch.begun in
     let e = c.in-Ok.ensures.ran in (
       e.0,
@@ -25,7 +26,7 @@ returns-then-ran-clause-ran g c =
 
 pub returns-after-ran-2-clause-ran : goal.returns-after-ran-2-clause-ran
 returns-after-ran-2-clause-ran g c =
-    let runs = RunsAny g.K.Sink.writer g.S.Source.reader g.W.Watch.tells
+    let runs = RunsAny (on_devices g.K.Sink.writer g.S.Source.reader) g.W.Watch.tells
     g.W.Watch.begins g.W.Watch.begun in
     let e = c.in-Ok.ensures.ran in
     let a = c.in-Ok-carry_on.ensures.carried in
@@ -49,7 +50,7 @@ returns-after-ran-2-clause-ran g c =
 
 pub returns-in-Err-carry_on-clause-fault : goal.returns-in-Err-carry_on-clause-fault
 returns-in-Err-carry_on-clause-fault g c =
-    let runs = RunsAny g.K.Sink.writer g.S.Source.reader g.W.Watch.tells
+    let runs = RunsAny (on_devices g.K.Sink.writer g.S.Source.reader) g.W.Watch.tells
     g.W.Watch.begins g.W.Watch.begun in
     let e = c.in-Ok.ensures.ran in (
       e.0,

@@ -6,6 +6,7 @@ use Rattle.ws_live.proofs.ServeRuns.{stopped_text, answered_text}
 use Rattle.ws_network.proofs.LiveFaults.{unanswered}
 use Rattle.ws_network.proofs.live_input.carry_at_host.Goals as goal
 use Rattle.ws_network.proofs.live_input.carry_at_host.Goals.{then-ran-2, else-ran-2}
+use Rattle.ws_code.specs.Device.{on_devices}
 
 pub returns-in-Err-clause-fault : goal.returns-in-Err-clause-fault
 returns-in-Err-clause-fault g c = let e = c.in-Err.ensures.fault in (e.0, e.1, inl e.2)
@@ -16,7 +17,7 @@ returns-then-ran-clause-ran g c =
       e.0,
       e.2.0,
       e.1,
-      stopped_text g.K.Sink.writer g.S.Source.reader
+      stopped_text (on_devices g.K.Sink.writer g.S.Source.reader)
           g.W.Watch.tells g.W.Watch.begins g.W.Watch.begun c.args.ready ((c.args.attached.now, c.args.ahead.now), c.args.watch.now) ((c.carry_session.new.attached, c.carry_session.new.ahead), c.carry_session.new.watch) e.0
           c.in-Ok.ran e.2.0 e.2.1 c.if-ran.true,
       e.2.2,
@@ -35,10 +36,10 @@ returns-after-ran-2-clause-ran g c =
       e.0,
       text,
       e.1,
-      subst (λ (b : Bool). IsServeText g.K.Sink.writer g.S.Source.reader
+      subst (λ (b : Bool). IsServeText (on_devices g.K.Sink.writer g.S.Source.reader)
           g.W.Watch.tells g.W.Watch.begins g.W.Watch.begun c.args.ready ((c.args.attached.now, c.args.ahead.now), c.args.watch.now) e.0 b text ((c.answer_on.new.attached, c.answer_on.new.ahead), c.answer_on.new.watch))
           same
-          (answered_text g.K.Sink.writer g.S.Source.reader
+          (answered_text (on_devices g.K.Sink.writer g.S.Source.reader)
           g.W.Watch.tells g.W.Watch.begins g.W.Watch.begun c.args.ready ((c.args.attached.now, c.args.ahead.now), c.args.watch.now) ((c.carry_session.new.attached, c.carry_session.new.ahead), c.carry_session.new.watch) e.0
           c.in-Ok.ran e.2.0 e.2.1 ((c.answer_on.new.attached, c.answer_on.new.ahead), c.answer_on.new.watch) well a.0 c.if-ran.false a.1),
       went_out_both g.O.Sink.writer c.args.out.now.sink c.carry_session.new.out.sink
@@ -50,7 +51,7 @@ returns-in-Err-answer_on-clause-fault g c =
     let e = c.in-Ok.ensures.ran in (
       e.0,
       e.1,
-      unanswered g.K.Sink.writer g.S.Source.reader
+      unanswered (on_devices g.K.Sink.writer g.S.Source.reader)
           g.W.Watch.tells g.W.Watch.begins g.W.Watch.begun c.args.ready ((c.args.attached.now, c.args.ahead.now), c.args.watch.now) ((c.carry_session.new.attached, c.carry_session.new.ahead), c.carry_session.new.watch) e.0
           c.in-Ok.ran e.2.0 e.2.1 g.O.Sink.writer ((c.answer_on.new.attached, c.answer_on.new.ahead), c.answer_on.new.watch) c.args.out.now.sink
           c.carry_session.new.out.sink c.answer_on.new.out.sink

@@ -35,9 +35,9 @@ returns-in-Err-clause-fault g c =
 pub returns-in-Ok-write_whole-clause-first : goal.returns-in-Ok-write_whole-clause-first
 returns-in-Ok-write_whole-clause-first g c =
     let used = c.feed-used.result.used in
-    if_told_ok (TellsAtLast g.E.End.goes g.E.End.silent c.args.end.now c.feed-used.new.self
+    if_told_ok (TellsAtLast g.E.End.conduct c.args.end.now c.feed-used.new.self
     (take used c.args.piece.now)) c.in-Ok.step.event
-    (tells_at_once _ _ _ _ c.args.piece.now used _ _ c.feed-used.ensures.within (g.met.E.End.stays _)
+    (tells_at_once _ _ _ c.args.piece.now used _ _ c.feed-used.ensures.within (g.met.E.End.stays _)
     (rw c.in-Ok.is at c.feed-used.ensures.fed) (rw c.in-Ok.is at c.feed-used.ensures.first))
 
 pub returns-in-Err-write_whole-clause-first : goal.returns-in-Err-write_whole-clause-first
@@ -45,7 +45,7 @@ returns-in-Err-write_whole-clause-first g c =
     let used = c.feed-used.result.used in
     rw c.in-Err-write_whole.ensures.err.0 (
       as_list c.in-Ok.step.event,
-      tells_at_once _ _ _ _ c.args.piece.now used _ _ c.feed-used.ensures.within (g.met.E.End.stays _)
+      tells_at_once _ _ _ c.args.piece.now used _ _ c.feed-used.ensures.within (g.met.E.End.stays _)
           (rw c.in-Ok.is at c.feed-used.ensures.fed) (rw c.in-Ok.is at c.feed-used.ensures.first),
     )
 

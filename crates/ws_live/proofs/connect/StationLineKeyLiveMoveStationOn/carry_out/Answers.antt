@@ -5,6 +5,7 @@ use Rattle.ws_live.specs.ScreenLines.{IsDisplayText}
 use Rattle.ws_text.proofs.Prints.{prints_both, prints_same}
 use Rattle.ws_live.specs.declared.connect_line.StationLine.{StationLine}
 use Rattle.ws_live.proofs.connect.StationLineKeyLiveMoveStationOn.carry_out.Goals as goal
+use Rattle.ws_code.specs.Device.{on_devices}
 
 pub returns-in-Press-clause-runs : goal.returns-in-Press-clause-runs
 returns-in-Press-clause-runs g c =
@@ -14,11 +15,11 @@ returns-in-Press-clause-runs g c =
     let to = c.press_keys.new.attached in (
       e.0,
       subst (λ (line : StationLine g.row.D-Key.Denot). StationRuns g.D.Commands.Code.rules g.D.StationDisplay.does
-          g.K.Sink.writer g.S.Source.reader
+          (on_devices g.K.Sink.writer g.S.Source.reader)
           g.W.Watch.tells g.W.Watch.rests g.D.OperatedDisplay.operated g.D.Key.NamedKey.words c.args.paint line
           (from, c.args.ahead.now) outcome e.0 (to, 0)) (sym c.in-Press.is) (
             subst (λ (keys : List g.row.D-Key.Denot). KeysRun g.D.Commands.Code.rules g.D.StationDisplay.does
-                g.K.Sink.writer g.S.Source.reader g.D.Key.NamedKey.words
+                (on_devices g.K.Sink.writer g.S.Source.reader) g.D.Key.NamedKey.words
                 keys from outcome e.0 to) c.as_slice.ensures e.1,
             refl,
           ),
@@ -30,7 +31,7 @@ returns-in-Fields-clause-runs g c =
     let t = c.take_what_came-ended.ensures.taken in
     let p = c.put_field_lines-output.ensures in
     let text : List ℕ = p.0 ++ waited_text (rested true t.1) in
-    let shows : ShowsStation g.D.Commands.Code.rules g.D.StationDisplay.does g.K.Sink.writer g.S.Source.reader g.W.Watch.tells (λ station. AreFieldLines (g.D.StationDisplay.does.shown station.screen))
+    let shows : ShowsStation g.D.Commands.Code.rules g.D.StationDisplay.does (on_devices g.K.Sink.writer g.S.Source.reader) g.W.Watch.tells (λ station. AreFieldLines (g.D.StationDisplay.does.shown station.screen))
     (c.args.attached.now, c.args.ahead.now) c.put_waited-in-Fields.result.outcome text
     (c.take_what_came-ended.new.attached, c.take_what_came-ended.new.ahead) = record {
       told = t.0;
@@ -44,7 +45,7 @@ returns-in-Fields-clause-runs g c =
     } in (
       text,
       subst (λ (line : StationLine g.row.D-Key.Denot). StationRuns g.D.Commands.Code.rules g.D.StationDisplay.does
-          g.K.Sink.writer g.S.Source.reader
+          (on_devices g.K.Sink.writer g.S.Source.reader)
           g.W.Watch.tells g.W.Watch.rests g.D.OperatedDisplay.operated g.D.Key.NamedKey.words c.args.paint line
           (c.args.attached.now, c.args.ahead.now) c.put_waited-in-Fields.result.outcome text
           (c.take_what_came-ended.new.attached, c.take_what_came-ended.new.ahead)) (sym c.in-Fields.is) shows,
@@ -56,7 +57,7 @@ returns-in-Show-clause-runs g c =
     let t = c.take_what_came-ended-in-Show.ensures.taken in
     let p = c.put_display-output.ensures in
     let text : List ℕ = p.0 ++ waited_text (rested true t.1) in
-    let shows : ShowsStation g.D.Commands.Code.rules g.D.StationDisplay.does g.K.Sink.writer g.S.Source.reader g.W.Watch.tells (λ station. IsDisplayText c.args.paint (g.D.StationDisplay.does.shown station.screen)
+    let shows : ShowsStation g.D.Commands.Code.rules g.D.StationDisplay.does (on_devices g.K.Sink.writer g.S.Source.reader) g.W.Watch.tells (λ station. IsDisplayText c.args.paint (g.D.StationDisplay.does.shown station.screen)
     (g.D.OperatedDisplay.operated.behind station.screen))
     (c.args.attached.now, c.args.ahead.now) c.put_waited-in-Show.result.outcome text
     (c.take_what_came-ended-in-Show.new.attached, c.take_what_came-ended-in-Show.new.ahead) = record {
@@ -72,7 +73,7 @@ returns-in-Show-clause-runs g c =
     } in (
       text,
       subst (λ (line : StationLine g.row.D-Key.Denot). StationRuns g.D.Commands.Code.rules g.D.StationDisplay.does
-          g.K.Sink.writer g.S.Source.reader
+          (on_devices g.K.Sink.writer g.S.Source.reader)
           g.W.Watch.tells g.W.Watch.rests g.D.OperatedDisplay.operated g.D.Key.NamedKey.words c.args.paint line
           (c.args.attached.now, c.args.ahead.now) c.put_waited-in-Show.result.outcome text
           (c.take_what_came-ended-in-Show.new.attached, c.take_what_came-ended-in-Show.new.ahead)) (sym c.in-Show.is) shows,

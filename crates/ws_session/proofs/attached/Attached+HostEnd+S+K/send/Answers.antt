@@ -7,17 +7,18 @@ use Rattle.ws_session.specs.declared.send_fault.SendFault.TheVariants.{Memory}
 use Rattle.ws_session.proofs.EndDeeds.{deed_led, send_fails, order_goes, order_refused_goes, sends_as, send_taken}
 use Rattle.ws_session.proofs.EndDeeds.{refrains_as}
 use Rattle.ws_session.proofs.attached.Attached+HostEnd+S+K.send.Goals as goal
+use Rattle.ws_code.specs.Device.{on_devices}
+use Rattle.ws_session.specs.Conducts.{host_conduct}
 
 pub returns-in-Err-write_whole-clause-fault : goal.returns-in-Err-write_whole-clause-fault
-returns-in-Err-write_whole-clause-fault g c = λ works. send_fails HostGoes HostRefuses g.K.Sink.writer
-    g.S.Source.reader c.args.self.now _ _ c.self.view_is (Send c.args.opcode c.args.body.now)
+returns-in-Err-write_whole-clause-fault g c = λ works. send_fails host_conduct (on_devices g.K.Sink.writer g.S.Source.reader) c.args.self.now _ _ c.self.view_is (Send c.args.opcode c.args.body.now)
     c.in-Ok.bytes.items (order_goes c.self.inside.end c.send.new.self _ c.in-Ok.bytes.items
     (sends_as c.self.inside.end c.args.opcode c.args.body.now c.requires.other _ _ c.in-Ok.ensures.sent)
     (not_shut _ _ SendFailed _ c.in-Ok.ensures.failed c.in-Ok.ensures.full))
     (rw c.as_slice.ensures.value at c.in-Err-write_whole.ensures.err.1) _ c.in-Err-write_whole.ensures.err.0 refl
 
 pub returns-in_default-clause-sent : goal.returns-in_default-clause-sent
-returns-in_default-clause-sent g c = deed_led HostGoes HostRefuses g.K.Sink.writer g.S.Source.reader c.args.self.now _ _ c.self.view_is (Send c.args.opcode c.args.body.now) c.in-Ok.bytes.items
+returns-in_default-clause-sent g c = deed_led host_conduct (on_devices g.K.Sink.writer g.S.Source.reader) c.args.self.now _ _ c.self.view_is (Send c.args.opcode c.args.body.now) c.in-Ok.bytes.items
     (order_goes c.self.inside.end c.send.new.self _ c.in-Ok.bytes.items (sends_as c.self.inside.end c.args.opcode
     c.args.body.now c.requires.other _ _ c.in-Ok.ensures.sent)
     (not_shut _ _ SendFailed _ c.in-Ok.ensures.failed c.in-Ok.ensures.full))
@@ -26,7 +27,7 @@ returns-in_default-clause-sent g c = deed_led HostGoes HostRefuses g.K.Sink.writ
 pub returns-else-eq-clause-sent : goal.returns-else-eq-clause-sent
 returns-else-eq-clause-sent g c =
     let ne : c.in-Err.fault ≡ Memory → ⊥ = search rules in
-    deed_led HostGoes HostRefuses g.K.Sink.writer g.S.Source.reader
+    deed_led host_conduct (on_devices g.K.Sink.writer g.S.Source.reader)
     c.args.self.now _ _ c.self.view_is (Send c.args.opcode c.args.body.now) [] (order_refused_goes c.self.inside.end
     c.send.new.self _ c.in-Err.fault c.in-Err.ensures.same (refrains_as c.self.inside.end c.args.opcode c.args.body.now
     c.requires.other _ ne c.in-Err.ensures.sent)) (went_out_none g.K.Sink.writer c.self.inside.sink)

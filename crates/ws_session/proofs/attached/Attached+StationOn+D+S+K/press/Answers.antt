@@ -8,7 +8,7 @@ use Rattle.ws_session.proofs.attached.Attached+StationOn+D+S+K.press.Goals as go
 
 pub returns-in-Ok-clause-pressed : goal.returns-in-Ok-clause-pressed
 returns-in-Ok-clause-pressed g c =
-    has_led _ _ _ _ c.args.self.now _ _ c.self.view_is (Did c.args.key ∷ []) [] c.in-Ok.ensures.pressed
+    has_led _ _ c.args.self.now _ _ c.self.view_is (Did c.args.key ∷ []) [] c.in-Ok.ensures.pressed
 
 pub returns-in-Ok-clause-refused : goal.returns-in-Ok-clause-refused
 returns-in-Ok-clause-refused g c = IfSome_then c.in-Ok.refused c.in-Ok.ensures.refused (λ fault same.
@@ -25,5 +25,5 @@ returns-in-Ok-clause-taken g c = subst (λ (z : AttachedParts (PartsOn _ _) _ _)
 pub returns-in-Err-clause-fault : goal.returns-in-Err-clause-fault
 returns-in-Err-clause-fault g c = λ works. (
   c.in-Err.ensures.fault.0,
-  has_led_unwritten _ _ _ _ c.args.self.now _ _ c.self.view_is (Did c.args.key ∷ []) c.in-Err.ensures.fault.1,
+  has_led_unwritten _ _ c.args.self.now _ _ c.self.view_is (Did c.args.key ∷ []) c.in-Err.ensures.fault.1,
 )

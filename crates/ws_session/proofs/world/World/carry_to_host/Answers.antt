@@ -4,6 +4,7 @@ use Rattle.ws_session.proofs.LineMoves.{up_none, up_more, up_all, crossed_on, st
 use Rattle.ws_session.proofs.LineMoves.{faithful_back, cut_of_more}
 use Rattle.ws_session.proofs.ByteSteps.{host_stops, none_comes_up, host_bytes_on}
 use Rattle.ws_session.proofs.world.World.carry_to_host.Goals as goal
+use Rattle.ws_code.specs.Device.{on_devices}
 
 pub loop-left-init : goal.loop-left-init
 loop-left-init g c = record {
@@ -24,7 +25,7 @@ loop-left-preserved g c =
       gone = i.gone + n;
       all = omega (arith, i.all, c.min-piece.ensures, c.min.ensures);
       crossings = i.crossings ++ q.0 ∷ [];
-      crossed = crossed_on g.S.Sink.writer g.R.Source.reader
+      crossed = crossed_on (on_devices g.S.Sink.writer g.R.Source.reader)
           c.args.line.now c.loop-left.line c.piece_to_host.new.line i.crossings (q.0 ∷ []) i.crossed q.1;
       heard = up_more (two_ends_of c.args.self.now)
           (two_ends_of c.loop-left.self) (two_ends_of c.piece_to_host.new.self) i.gone n i.crossings (q.0 ∷ []) i.heard q.2;
@@ -56,7 +57,7 @@ pub returns-in_err-piece_to_host-clause-fault : goal.returns-in_err-piece_to_hos
 returns-in_err-piece_to_host-clause-fault g c =
     let i = c.loop-left.invariant in
     let p = err_from_is_err_and c.from_residual.result c.from_residual.ensures.1 in
-    rw (p.1, p.2) (stopped_behind _ _ _
+    rw (p.1, p.2) (stopped_behind _ _
     c.loop-left.line _ i.crossings _ i.crossed c.in_err-piece_to_host.ensures.fault)
 
 pub returns-clause-came : goal.returns-clause-came
@@ -77,6 +78,6 @@ returns-in_err-piece_to_host-clause-early g c =
       within = omega (arith, i.all);
       crossed = i.crossed;
       came = i.heard;
-      cut = cut_of_more _ _ (two_ends_of c.loop-left.self).to_host c.min-piece.result (c.args.count - i.gone) _ _ _
+      cut = cut_of_more _ (two_ends_of c.loop-left.self).to_host c.min-piece.result (c.args.count - i.gone) _ _ _
           (omega (arith, i.all, c.min-piece.ensures, c.min.ensures)) c.in_err-piece_to_host.ensures.early;
     })

@@ -1,6 +1,7 @@
 use Rattle.ws_session.proofs.Common.{◌≡◌, ◌+◌, ℕ, List, TerminalType, Crossing, AreFaithful, HaveCrossed, Runs}
 use Rattle.ws_session.proofs.Common.{two_ends_of, ComesDown, World, bytes_to_station}
 use Rattle.ws_session.proofs.world.World.carry_to_station.Given as goal
+use Rattle.ws_code.specs.Device.{on_devices}
 
 abbrev pub decreases-loop-left : goal.decreases-loop-left
 decreases-loop-left g l = l.left
@@ -11,7 +12,7 @@ invariant-loop-left g l = record {
   gone : ℕ;
   all : gone + l.left ≡ l.fn.count;
   crossings : List Crossing;
-  crossed : HaveCrossed g.S.Sink.writer g.R.Source.reader l.fn.line crossings
+  crossed : HaveCrossed (on_devices g.S.Sink.writer g.R.Source.reader) l.fn.line crossings
       l.line;
   heard : ComesDown (two_ends_of l.fn.self) gone crossings (two_ends_of l.self);
   runs : AreFaithful crossings → (t : TerminalType) (w : World) → Runs t l.fn.self w

@@ -30,8 +30,8 @@ loop-step-preserved g c =
     record {
       downs = i.downs ++ q.0;
       ups = i.ups ++ q.1;
-      went_down = crossed_on _ _ _ _ _ _ q.0 i.went_down q.2;
-      went_up = crossed_on _ _ _ _ _ i.ups q.1 i.went_up q.3;
+      went_down = crossed_on _ _ _ _ _ q.0 i.went_down q.2;
+      went_up = crossed_on _ _ _ _ i.ups q.1 i.went_up q.3;
       moved = (i.moved.0, i.moved.1, rw longer (moved_on _ _ _ _ _ _ i.ups q.0 q.1 i.moved.2 q.4));
       runs = λ f h. rw (longer, more_moves _ _ _) (q.5 (faithful_back _ q.0 f) (faithful_back i.ups q.1 h) t
           (after_moves (new_world t) (take n moves)) (i.runs (faithful_front _ q.0 f) (faithful_front i.ups q.1 h)));
@@ -42,7 +42,7 @@ returns-in_err-take_carried-clause-fault g c =
     let i = c.loop-step.invariant in
     let p =
     err_from_is_err_and c.from_residual-in_err-take_carried.result c.from_residual-in_err-take_carried.ensures.1 in
-    rw (p.1, p.2) (either_behind _ _ _ _ _ c.loop-step.down _ i.downs _ c.loop-step.up _ i.ups _ i.went_down i.went_up c.in_err-take_carried.ensures.fault)
+    rw (p.1, p.2) (either_behind _ _ _ c.loop-step.down _ i.downs _ c.loop-step.up _ i.ups _ i.went_down i.went_up c.in_err-take_carried.ensures.fault)
 
 pub returns-clause-done : goal.returns-clause-done
 returns-clause-done g c =

@@ -9,7 +9,7 @@ returns-in-ToStation-clause-taken g c = on_ok_weaker c.carry_to_station.result
 
 pub returns-in-ToStation-clause-fault : goal.returns-in-ToStation-clause-fault
 returns-in-ToStation-clause-fault g c = IfErr-weaker c.carry_to_station.result _ _
-    (λ fault k. first_stops _ _ _ _ _ _ _ fault k) c.carry_to_station.ensures.fault
+    (λ fault k. first_stops _ _ _ _ _ fault k) c.carry_to_station.ensures.fault
 
 pub returns-in-ToHost-clause-taken : goal.returns-in-ToHost-clause-taken
 returns-in-ToHost-clause-taken g c = on_ok_weaker c.carry_to_host.result
@@ -18,7 +18,7 @@ returns-in-ToHost-clause-taken g c = on_ok_weaker c.carry_to_host.result
 
 pub returns-in-ToHost-clause-fault : goal.returns-in-ToHost-clause-fault
 returns-in-ToHost-clause-fault g c = IfErr-weaker c.carry_to_host.result _ _
-    (λ fault k. second_stops _ _ _ _ _ _ _ fault k) c.carry_to_host.ensures.fault
+    (λ fault k. second_stops _ _ _ _ _ fault k) c.carry_to_host.ensures.fault
 
 pub returns-in-Send-clause-taken : goal.returns-in-Send-clause-taken
 returns-in-Send-clause-taken g c = on_ok_weaker c.order.result (λ q. (

@@ -3,7 +3,7 @@ use Rattle.ws_session.proofs.Arriving.{goes_come, refused_come}
 use Rattle.ws_session.proofs.world.delivery.come.Goals as goal
 
 pub returns-in_ok-tell-in-Ok-clause-come : goal.returns-in_ok-tell-in-Ok-clause-come
-returns-in_ok-tell-in-Ok-clause-come g c = goes_come _ _ _ _ _ _ _ _ _ _ _ _ _ _
+returns-in_ok-tell-in-Ok-clause-come g c = goes_come _ _ _ _ _ _ _ _ _ _ _
     (rw c.in-Ok.is at c.feed-used.ensures.fed)
     (λ o. absurd (let e : Ok c.in-Ok.step ≡ Err Failed = rw c.in-Ok.is at (c.feed-used.ensures.over o).0 in cc))
     (rw c.bytes.ensures.value at c.in_ok-write-in-Ok.ensures.written)
@@ -14,7 +14,7 @@ returns-in_ok-tell-in-Err-clause-come g c =
     let piece = c.args.piece.now in
     let why : Refusal = c.in-Err.refusal in
     let r = rw c.in-Err.is at c.feed-used.ensures.refused in
-    refused_come g.E.End.goes g.E.End.refuses g.E.End.over g.E.Reported.tells g.E.Reported.refusal g.met.E.End.stays
+    refused_come g.E.End.conduct g.E.Reported.telling g.met.E.End.stays
     c.args.end.now c.feed-used.new.self (take (length piece) piece) (take c.feed-used.result.used piece) r.1 r.0 why
     (take_all (length piece) piece (omega arith) ∙ r.2) c.in_ok-refused-in-Err.ensures.memory c.args.to.now
     c.args.events.now.items c.tell-in-Err.new.events.items r.3 (rw c.in-Err.is at c.feed-used.ensures.after)

@@ -6,7 +6,7 @@ pub loop-left-init : goal.loop-left-init
 loop-left-init g c = record {
   gone = 0;
   all = omega (arith, c.min-left.ensures, c.in_flight.ensures.left);
-  come = none_delivered _ _ _ _ _ g.met.E.End.stays _ _ _ _ c.in_flight.ensures.few;
+  come = none_delivered _ _ g.met.E.End.stays _ _ _ _ c.in_flight.ensures.few;
 }
 
 pub loop-left-preserved : goal.loop-left-preserved
@@ -18,7 +18,7 @@ loop-left-preserved g c =
     record {
       gone = i.gone + used;
       all = omega (arith, i.all, within);
-      come = some_delivered g.E.End.goes g.E.End.refuses g.E.End.over g.E.Reported.tells g.E.Reported.refusal
+      come = some_delivered g.E.End.conduct g.E.Reported.telling
           c.args.end.now l.end c.args.from.now l.from c.args.to.now l.to c.args.events.now.items l.events.items i.gone
           i.come g.met.E.End.follows c.in_flight.result l.left used c.in_flight.ensures.left
           (omega (arith, i.all, c.in_flight.ensures.left)) within (take used (take l.left c.waiting.result.now))
@@ -30,6 +30,6 @@ pub returns-clause-come : goal.returns-clause-come
 returns-clause-come g c =
     let l = c.loop-left in
     let i = l.invariant in
-    all_come g.E.End.goes g.E.End.refuses g.E.End.over g.E.Reported.tells g.E.Reported.refusal c.args.end.now l.end
+    all_come g.E.End.conduct g.E.Reported.telling c.args.end.now l.end
     c.args.from.now l.from c.args.to.now l.to c.args.events.now.items l.events.items i.gone i.come c.in_flight.result
     c.args.count c.in_flight.ensures.left (omega (arith, i.all, c.loop-left-test.false, c.in_flight.ensures.left))

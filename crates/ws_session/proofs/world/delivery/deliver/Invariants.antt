@@ -9,6 +9,6 @@ abbrev pub invariant-loop-left : goal.invariant-loop-left
 invariant-loop-left g l = record {
   gone : ℕ;
   all : gone + l.left ≡ min l.count (length l.fn.from.bytes - l.fn.from.at);
-  come : AreDelivered g.E.End.goes g.E.End.refuses g.E.End.over g.E.Reported.tells g.E.Reported.refusal
+  come : AreDelivered g.E.End.conduct g.E.Reported.telling
       l.fn.end l.end l.fn.from l.from l.fn.to l.to l.fn.events.items l.events.items gone;
 }
