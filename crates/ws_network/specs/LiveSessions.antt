@@ -7,9 +7,9 @@ use Rattle.ws_live.specs.ServeLines.{IsHostLine, OpensHostBlock}
 use Rattle.ws_network.specs.AnySessions.{IsAnyServed}
 use Rattle.ws_network.specs.ManySessions.{HasServedBy}
 use Rattle.ws_network.specs.Sessions.{HasConnected, IsServed}
-use Rattle.ws_words.specs.declared.live_command.Live.{Live}
-use Rattle.ws_words.specs.declared.live_command.Live.TheVariants.{Connect, Serve}
-use Rattle.ws_words.specs.declared.live_command.ServeAsked.{ServeAsked}
+use Rattle.ws_live.specs.declared.live_asked.Live.{Live}
+use Rattle.ws_live.specs.declared.live_asked.Live.TheVariants.{Connect, Serve}
+use Rattle.ws_live.specs.declared.live_asked.ServeAsked.{ServeAsked}
 
 module _ {O : Type 0} (prints : MayTake O) (misprints : O → ℕ) (old new : O) where
   -- what a session of `serve` came to, at a host that takes any record or at one that doesn't

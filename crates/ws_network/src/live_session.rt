@@ -19,10 +19,11 @@ use std::time::Duration;
 use ws_any_host::AnyLine;
 use ws_code::Sink;
 use ws_extended_station::ExtendedDisplay;
-use ws_live::{BufferedSink, HostLine, NamedKey, OperatedDisplay, StationLine};
-use ws_program::{OpenStreams, ToldFault, Vocabulary};
+use ws_live::{
+    BufferedSink, ConnectAsked, HostLine, Live, NamedKey, OpenStreams, OperatedDisplay, ServeAsked,
+    StationLine, ToldFault, Vocabulary,
+};
 use ws_session::{Attached, ProfileDisplay, StationOn};
-use ws_words::{ConnectAsked, Live, ServeAsked};
 
 /// Carries a live session out: true where all went well.
 ///

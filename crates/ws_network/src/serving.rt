@@ -5,7 +5,7 @@ ghost use Rattle.ws_network.specs.AnySessions.{IsAnyServed};
 ghost use Rattle.ws_network.specs.ManySessions.{AreMany, HasServedBy, number_line, session_line};
 ghost use Rattle.ws_network.specs.Sessions.{IsServed};
 ghost use Rattle.ws_text.specs.Printing.{Prints};
-ghost use Rattle.ws_words.specs.declared.live_command.ServeAsked.{ServeAsked as AnAsked};
+ghost use Rattle.ws_live.specs.declared.live_asked.ServeAsked.{ServeAsked as AnAsked};
 
 use crate::any_input::carry_at_any_host;
 use crate::files::{lines_of, make_record, read_script_file};
@@ -21,11 +21,12 @@ use std::rt::{Files, Runtime};
 use std::time::Duration;
 use ws_any_host::{AnyHost, AnyLine};
 use ws_code::{Sink, write_whole};
-use ws_live::{BufferedSink, HostLine, LiveLine, hand_on};
-use ws_program::{OpenStreams, RunFault, ToldFault, Vocabulary};
+use ws_live::{
+    BufferedSink, HostLine, LiveLine, OpenStreams, RunFault, ServeAsked, ToldFault, Vocabulary,
+    hand_on,
+};
 use ws_session::{Attached, HostEnd};
 use ws_text::{Output, put_number, put_text};
-use ws_words::ServeAsked;
 
 /// Lines that are carried out at a host, new for each station.
 pub trait ServedLine: LiveLine {

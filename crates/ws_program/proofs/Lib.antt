@@ -17,4 +17,3 @@ pub mod ViewLaws
 pub mod ReadBack
 pub mod Recordings
 pub mod WholeItems
-pub mod CauseTexts
