@@ -56,7 +56,7 @@ pub fn check_file<R: Files<File = File> + Input, S: Sink>(
     requires empty { sink.old.held ≡ [] }
     // The bytes that were read are those of a raw input.
     ensures done { IfOk result (HasRunInput S.takes S.failures sink.old.sink sink.new.sink
-        streams.output (Asked.Check file.entry StreamForm.Raw cut from)) }
+        streams (Asked.Check file.entry StreamForm.Raw cut from)) }
     ensures fault { IfErr result (λ fault. ((sink.new.sink ≡ sink.old.sink) × IsUnread fault)
         ⊎ ((input : Seq ℕ) × IsOpenFault S.takes S.failures sink.old.sink sink.new.sink
         streams.output (Asked.Check file.entry StreamForm.Raw cut from) input fault)) }

@@ -1,6 +1,6 @@
 //! What the program does by the words of its command line.
 ghost use Rattle.std.specs.Prelude.{◌≡◌, [], IfOk, IfErr};
-ghost use Rattle.ws_program.specs.Runs.{HasRunInput, HasRunTask, IsInputFault, IsRunFault, IsTaskFault};
+ghost use Rattle.ws_program.specs.Runs.{HasRunInput, HasRunTask, IsFaultOfInput, IsFaultOfRun, IsFaultOfTask};
 ghost use Rattle.ws_program.specs.declared.words.command_line.Task.{Task as ATask};
 
 use crate::command_fault::CommandFault;
@@ -30,9 +30,9 @@ where
     S: Sink,
     requires empty { sink.old.held ≡ [] }
     ensures done { IfOk result (λ accepted. (task : ATask) × HasRunTask
-        S.takes S.failures sink.old.sink sink.new.sink streams.output task accepted) }
+        S.takes S.failures sink.old.sink sink.new.sink streams task accepted) }
     ensures fault { IfErr result
-        (IsRunFault S.takes S.failures sink.old.sink sink.new.sink streams.output) }
+        (IsFaultOfRun S.takes S.failures sink.old.sink sink.new.sink streams) }
 {
     let words = given_words(rt)?;
     let task = read_words(rt.alloc(), words.as_slice())?;
@@ -54,9 +54,9 @@ where
     S: Sink,
     requires empty { sink.old.held ≡ [] }
     ensures done { IfOk result (HasRunTask
-        S.takes S.failures sink.old.sink sink.new.sink streams.output task.entry) }
-    ensures fault { IfErr result (IsTaskFault
-        S.takes S.failures sink.old.sink sink.new.sink streams.output task.entry) }
+        S.takes S.failures sink.old.sink sink.new.sink streams task.entry) }
+    ensures fault { IfErr result (IsFaultOfTask
+        S.takes S.failures sink.old.sink sink.new.sink streams task.entry) }
 {
     match task {
         Task::Input(asked) => run_input(rt, asked, streams, sink),
@@ -76,9 +76,9 @@ where
     S: Sink,
     requires empty { sink.old.held ≡ [] }
     ensures done { IfOk result (HasRunInput
-        S.takes S.failures sink.old.sink sink.new.sink streams.output asked.entry) }
-    ensures fault { IfErr result (IsInputFault
-        S.takes S.failures sink.old.sink sink.new.sink streams.output asked.entry) }
+        S.takes S.failures sink.old.sink sink.new.sink streams asked.entry) }
+    ensures fault { IfErr result (IsFaultOfInput
+        S.takes S.failures sink.old.sink sink.new.sink streams asked.entry) }
 {
     if let Asked::Check {
         file,
@@ -91,7 +91,8 @@ where
             return Ok(check_file(rt, file, cut, from, streams, sink)?);
         }
     }
-    let text = read_input(rt, asked.file())?;
-    let outcome = answer_openly(rt, rt.alloc(), asked, text.as_slice(), streams, sink);
-    with_cause(rt.alloc(), asked, text.as_slice(), outcome)
+    let input = read_input(rt, asked.file())?;
+    let text = input.as_slice();
+    let outcome = answer_openly(rt, rt.alloc(), asked, text, streams, sink);
+    with_cause(rt.alloc(), asked, text, outcome)
 }

@@ -1,5 +1,5 @@
 //! Faults with their causes.
-ghost use Rattle.std.specs.Prelude.{◌≡◌, Ok, IfOk, IfErr};
+ghost use Rattle.std.specs.Prelude.{◌≡◌, Ok, IfOk, IfErr, IsErrAnd};
 ghost use Rattle.ws_program.specs.ToldFaults.{IsToldOf};
 
 use crate::words::Asked;
@@ -14,7 +14,7 @@ pub fn with_cause(
     outcome: Result<bool, RunFault>,
 ) -> Result<bool, ToldFault>
     ensures done { IfOk result (λ accepted. outcome ≡ Ok accepted) }
-    ensures fault { IfErr result (λ fault. IfErr outcome (IsToldOf asked.entry text.now fault)) }
+    ensures fault { IfErr result (λ fault. IsErrAnd outcome (IsToldOf asked.entry text.now fault)) }
 {
     match outcome {
         Ok(accepted) => Ok(accepted),
