@@ -24,7 +24,7 @@ WRITTEN = [
     ("c/ribbonscarp.h", r"^#define RIBBON_VERSION_MAJOR (.*)$", MAJOR),
     ("c/ribbonscarp.h", r"^#define RIBBON_VERSION_MINOR (.*)$", MINOR),
     ("c/ribbonscarp.h", r"^#define RIBBON_VERSION_PATCH (.*)$", PATCH),
-    ("crates/ws_words/src/command_line.rt", r'\.version\("(.*)"\)$', VERSION),
+    ("crates/ws_program/src/words/command_line.rt", r'\.version\("(.*)"\)$', VERSION),
     ("docs/DRIVING.md", r"`libribbonscarp\.so\.(\d+)`", MAJOR),
 ]
 

@@ -3,9 +3,8 @@ use crate::same_at;
 use std::net::{Net, TcpListener, TcpStream};
 use std::process::Abort;
 use ws_code::{Sink, VecSink};
-use ws_live::BufferedSink;
-use ws_program::{RunFault, answer, answer_buffered};
-use ws_words::{Task, read_words};
+use ws_live::{BufferedSink, RunFault};
+use ws_program::{Task, answer, answer_buffered, read_words};
 
 // What the program comes to, and what the sink is given.
 pub fn answer_words<

@@ -2,7 +2,7 @@
 use crate::answers::buffered_outcome;
 use crate::same_at;
 use ws_code::FailingSink;
-use ws_program::RunFault;
+use ws_live::RunFault;
 
 const CHECK: &[&str] = &["t5250", "check"];
 

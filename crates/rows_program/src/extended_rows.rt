@@ -2,8 +2,8 @@
 use crate::answers::expect_answer;
 use crate::same_at;
 use std::alloc::Global;
-use ws_program::RunFault;
-use ws_words::read_words;
+use ws_live::RunFault;
+use ws_program::read_words;
 
 const CHECK: &[&str] = &["t5250", "check"];
 

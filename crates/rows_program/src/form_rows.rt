@@ -5,12 +5,12 @@ use std::alloc::Global;
 use std::num::NonZeroU16;
 use std::process::Abort;
 use ws_code::{FailingSink, FailingSource, Fault, SliceSource, VecSink};
-use ws_live::{BufferedSink, Paint};
+use ws_live::{BufferedSink, OpenStreams, Paint, RunFault, Sender};
 use ws_program::{
-    OpenStreams, RecordingFault, RunFault, check_from, check_source_openly, recorded_bytes,
+    Asked, RecordedEnd, RecordingFault, StreamForm, Task, check_from, check_source_openly,
+    read_words, recorded_bytes,
 };
 use ws_stream::Commands;
-use ws_words::{Asked, RecordedEnd, Sender, StreamForm, Task, read_words};
 
 const FILE: Option<&str> = Some("a.rec");
 

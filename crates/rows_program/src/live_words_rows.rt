@@ -3,9 +3,9 @@
 use crate::same_at;
 use std::alloc::Global;
 use std::process::Abort;
-use ws_live::Paint;
+use ws_live::{ConnectAsked, HostPort, Live, Paint, ServeAsked};
 use ws_nego::TerminalType;
-use ws_words::{ConnectAsked, HostPort, Live, ServeAsked, Task, read_words};
+use ws_program::{Task, read_words};
 
 // A station at a host by its words alone.
 const CONNECT: ConnectAsked = ConnectAsked {

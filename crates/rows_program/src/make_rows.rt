@@ -2,8 +2,8 @@
 use crate::answers::{answer_words, expect_answer};
 use crate::{holds, same, same_at, same_bytes};
 use ws_code::{FailingSink, VecSink};
-use ws_program::{RunFault, answer};
-use ws_words::{Asked, Sender};
+use ws_live::{RunFault, Sender};
+use ws_program::{Asked, answer};
 
 const MAKE: &[&str] = &["t5250", "make"];
 

@@ -3,11 +3,10 @@ use std::alloc::Global;
 use std::process::Abort;
 use ws_code::{FailingSink, Fault, List, Reason, VecSink};
 use ws_keys::KeyRefusal;
-use ws_live::{Paint, play_to};
+use ws_live::{Paint, RunFault, play_to};
 use ws_nego::TerminalType;
-use ws_program::{RunFault, answer, status};
+use ws_program::{Asked, answer, status};
 use ws_session::{Event, HostEnd, KeyFault, Report, SendFault, Station};
-use ws_words::Asked;
 
 // A script, whether the screen is asked for, and what is written.
 pub type Row<'a> = (&'a str, &'a str, bool, &'a str);

@@ -5,11 +5,10 @@ use std::io;
 use std::num::NonZeroU16;
 use std::process::Abort;
 use ws_code::{FailingSink, Fault, Reason, VecSink};
-use ws_live::Paint;
-use ws_program::{RunFault, TextFault, check_to, hex_bytes, status};
+use ws_live::{Paint, RunFault, Sender};
+use ws_program::{Asked, StreamForm, Task, TextFault, check_to, hex_bytes, read_words, status};
 use ws_record::RawBody;
 use ws_text::TextFault as ItemsFault;
-use ws_words::{Asked, Sender, StreamForm, Task, read_words};
 
 fn expect_bytes(rt: &impl Abort, alloc: Global, text: &[u8], bytes: &[u8]) {
     let read = hex_bytes(alloc, text).expect(rt, "bytes");

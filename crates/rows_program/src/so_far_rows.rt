@@ -1,9 +1,8 @@
 use crate::answers::answer_words;
 use crate::{holds, same_at};
 use ws_code::VecSink;
-use ws_live::Paint;
-use ws_program::{RunFault, answer};
-use ws_words::{Asked, Sender, StreamForm};
+use ws_live::{Paint, RunFault, Sender};
+use ws_program::{Asked, StreamForm, answer};
 
 // What it is of, the words, a hex text, what is written, and whether the stream is accepted.
 type Row<'a> = (&'a str, &'a [&'a str], &'a str, &'a str, bool);

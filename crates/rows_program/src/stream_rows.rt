@@ -4,9 +4,8 @@ use std::io;
 use std::net::{Net, SocketAddr, TcpListener, TcpStream};
 use std::process::Abort;
 use ws_code::VecSink;
-use ws_live::BufferedSink;
-use ws_program::{OpenStreams, RunFault, answer_openly};
-use ws_words::{Task, read_words};
+use ws_live::{BufferedSink, OpenStreams, RunFault};
+use ws_program::{Task, answer_openly, read_words};
 
 // Whether standard input and standard output are open, whether the command reads the first, and what it lacks.
 const NEEDS: [(bool, bool, bool, Result<(), RunFault>); 8] = [

@@ -5,9 +5,9 @@ use std::io;
 use std::net::{Net, Shutdown, SocketAddr, TcpListener, TcpStream};
 use std::process::Abort;
 use ws_code::{Fault, VecSink};
-use ws_live::{play_to, read_script};
+use ws_live::{RunFault, play_to, read_script};
 use ws_nego::TerminalType;
-use ws_program::{RunFault, TcpFault, play_tcp};
+use ws_network::{TcpFault, play_tcp};
 use ws_session::{Move, Report, World};
 
 const TERMINAL: TerminalType = TerminalType::Ibm3179Model2;

@@ -10,53 +10,18 @@
 mod standard_streams;
 
 use crate::standard_streams::StandardStreams;
-use std::fs::File;
 use std::io;
-use std::net::{Net, TcpListener, TcpStream};
 use std::process::ExitCode;
-use std::rt::{Files, Runtime};
 use ws_code::WriteSink;
-use ws_live::BufferedSink;
-use ws_network::run_live;
-use ws_program::{
-    CommandFault, OpenStreams, RunFault, ToldFault, answer_openly, check_file, given_words,
-    read_input, status, with_cause,
-};
-use ws_words::{Asked, StreamForm, Task, read_words};
+use ws_live::{BufferedSink, RunFault, ToldFault};
+use ws_program::{CommandFault, run, status};
 
-// Reads the command line and the input, and writes what is asked for: true where all was accepted. All of the input is
-// read first, but for a check of raw bytes, which holds none of them.
-fn run<R>(rt: &R, streams: OpenStreams) -> Result<bool, CommandFault>
-where
-    R: Runtime + AllocGlobal + Files<File = File> + Net<Listener = TcpListener, Stream = TcpStream>,
-{
-    let words = given_words(rt)?;
-    let asked = read_words(rt.alloc(), words.as_slice())?;
-    let mut sink = BufferedSink::new(WriteSink::new(io::writer(rt)));
-    let asked = match asked {
-        Task::Live(asked) => return Ok(run_live(rt, asked, streams, &mut sink)?),
-        Task::Input(asked) => asked,
-    };
-    if let Asked::Check {
-        file,
-        form,
-        cut,
-        from,
-    } = asked
-    {
-        if let StreamForm::Raw = form {
-            return Ok(check_file(rt, file, cut, from, streams, &mut sink)?);
-        }
-    }
-    let text = read_input(rt, asked.file())?;
-    let outcome = answer_openly(rt, rt.alloc(), asked, text.as_slice(), streams, &mut sink);
-    Ok(with_cause(rt.alloc(), asked, text.as_slice(), outcome)?)
-}
-
-// The same, with no standard stream's descriptor free, as long as it runs.
+// Does what the command line asks for, with no standard stream's descriptor free as long as it runs: true where all was
+// accepted.
 fn run_filled(rt: &HostRuntime) -> Result<bool, CommandFault> {
     let streams = StandardStreams::new(rt)?;
-    run(rt, streams.open)
+    let mut sink = BufferedSink::new(WriteSink::new(io::writer(rt)));
+    run(rt, streams.open, &mut sink)
 }
 
 // Tells of a fault in its line, of a wrong command line in the text of `clap`, both on standard error. Help

@@ -4,7 +4,7 @@ use Rattle.std.proofs.Common.{lit≤, inl, inr}
 use Rattle.std.proofs.lemmas.List.{append-nil, nil_from_length, length-take, length-take-le, take-append-le}
 use Rattle.std.proofs.Math.Seq.{take-append-add, take-length, drop-nil}
 use Rattle.std.proofs.lemmas.Grind.{flat_map-append}
-use Rattle.ws_code.specs.Device.{MayTake, MayGive, Writer, Reader, Taken, Given, bytes_taken, Writes, WentOut, FailedAfter}
+use Rattle.ws_code.specs.Device.{Writer, Reader, Taken, Given, bytes_taken, Writes, WentOut, FailedAfter}
 use Rattle.ws_code.specs.Device.{FailedWithin, IsWriteFailure, Reads, bytes_given, most_reads, Gave, GaveAll}
 use Rattle.ws_code.specs.Device.{ReadFault, list_gives, list_reader, Held, held_takes, held_writer}
 

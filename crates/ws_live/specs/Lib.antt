@@ -1,4 +1,7 @@
+pub mod Addresses
 pub mod Buffering
+pub mod Causes
+pub mod CauseTexts
 pub mod ColoredRows
 pub mod ConnectLines
 pub mod ConnectText
@@ -9,10 +12,12 @@ pub mod KeyNames
 pub mod KeyWords
 pub mod LiveScript
 pub mod LiveText
+pub mod OpenStreams
 pub mod Operating
 pub mod PlaceAndReason
 pub mod PlayLines
 pub mod ReportLines
+pub mod RunFaults
 pub mod ScreenLines
 pub mod Script
 pub mod ScriptFaults
@@ -20,6 +25,8 @@ pub mod ServeLines
 pub mod ServeText
 pub mod ShownTexts
 pub mod Stroking
+pub mod ToldCauses
 pub mod ToldLines
+pub mod Vocabularies
 pub mod Waits
 pub mod WireLines

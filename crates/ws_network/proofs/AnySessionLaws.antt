@@ -19,9 +19,9 @@ use Rattle.ws_any_host.specs.declared.any_line.AnyLine.TheVariants.{Await}
 use Rattle.ws_network.specs.AnySessions.{IsAnyServed, IsTextAndOn, IsFaultThenOrOn, RunsAny}
 use Rattle.ws_network.specs.Times.{ConnectionReads, ConnectionWrites, no_reads, no_writes, timed_reader, timed_writer, tells, begins}
 use Rattle.ws_network.proofs.SessionLaws.{new_at}
-use Rattle.ws_program.specs.RunFaults.{told_fault}
-use Rattle.ws_program.specs.declared.fault.ToldFault.{ToldFault}
-use Rattle.ws_words.specs.declared.live_command.ServeAsked.{ServeAsked}
+use Rattle.ws_live.specs.RunFaults.{told_fault}
+use Rattle.ws_live.specs.declared.fault.ToldFault.{ToldFault}
+use Rattle.ws_live.specs.declared.live_asked.ServeAsked.{ServeAsked}
 
 -- A session at a host that takes any record.
 

@@ -8,8 +8,8 @@ use Rattle.ws_live.specs.declared.serve_line.HostLine.{HostLine}
 use Rattle.ws_live.specs.declared.watch.WaitSpan.{WaitSpan}
 use Rattle.ws_live.proofs.ServeRuns.{all_run}
 use Rattle.ws_network.specs.LiveFaults.{IsServeFault}
-use Rattle.ws_program.specs.RunFaults.{told_fault}
-use Rattle.ws_program.specs.declared.fault.ToldFault.{ToldFault}
+use Rattle.ws_live.specs.RunFaults.{told_fault}
+use Rattle.ws_live.specs.declared.fault.ToldFault.{ToldFault}
 
 -- What was told behind the lines didn't go out, or a device or memory failed.
 

@@ -23,9 +23,9 @@ use Rattle.ws_live.specs.ServeText.{IsServeText}
 use Rattle.ws_live.specs.declared.connect_line.StationLine.{StationLine}
 use Rattle.ws_live.specs.declared.serve_line.HostLine.{HostLine}
 use Rattle.ws_network.specs.Sessions.{AreFromScript, IsConnected, IsServed}
-use Rattle.ws_network.specs.Times.{ConnectionReads, ConnectionWrites, no_reads, no_writes, timed_reader, timed_writer, tells, rests, begins}
-use Rattle.ws_words.specs.declared.live_command.ConnectAsked.{ConnectAsked}
-use Rattle.ws_words.specs.declared.live_command.ServeAsked.{ServeAsked}
+use Rattle.ws_network.specs.Times.{ConnectionReads, ConnectionWrites, no_reads, no_writes, gives, takes, tells, rests, begins}
+use Rattle.ws_live.specs.declared.live_asked.ConnectAsked.{ConnectAsked}
+use Rattle.ws_live.specs.declared.live_asked.ServeAsked.{ServeAsked}
 
 -- what follows from what a session came to, of what is told of it
 pub judged : {T E : Type 0} (P Q : T → Type 0) (outcome told : Result T E) → IfOk outcome P

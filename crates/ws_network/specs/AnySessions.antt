@@ -21,10 +21,10 @@ use Rattle.ws_any_host.specs.declared.any_line.AnyLine.{AnyLine}
 use Rattle.ws_any_host.specs.declared.any_line.AnyLine.TheVariants.{Await}
 use Rattle.ws_network.specs.LiveFaults.{IsSessionFault}
 use Rattle.ws_network.specs.Sessions.{at_connection}
-use Rattle.ws_network.specs.Times.{ConnectionReads, ConnectionWrites, no_writes, timed_reader, timed_writer, tells, begins}
-use Rattle.ws_program.specs.RunFaults.{told_fault}
-use Rattle.ws_program.specs.declared.fault.ToldFault.{ToldFault}
-use Rattle.ws_words.specs.declared.live_command.ServeAsked.{ServeAsked}
+use Rattle.ws_network.specs.Times.{ConnectionReads, ConnectionWrites, no_writes, gives, takes, tells, begins}
+use Rattle.ws_live.specs.RunFaults.{told_fault}
+use Rattle.ws_live.specs.declared.fault.ToldFault.{ToldFault}
+use Rattle.ws_live.specs.declared.live_asked.ServeAsked.{ServeAsked}
 
 -- lines, and behind them one that is carried out again and again
 module _ {L P : Type 0} (runs : L → P → Result Closing Fault → List ℕ → P → Type 0) (on : L) (ready : Bool) where

@@ -7,5 +7,6 @@ pub mod ManySessions
 pub mod Recordings
 pub mod ScriptFiles
 pub mod Sessions
+pub mod TcpFaults
 pub mod Times
 pub mod Turns

@@ -9,8 +9,8 @@ use Rattle.ws_live.specs.declared.live.Closing.{Closing}
 use Rattle.ws_live.specs.declared.serve_line.HostLine.{HostLine}
 use Rattle.ws_live.specs.declared.watch.WaitSpan.{WaitSpan}
 use Rattle.ws_network.specs.InputLines.{IsInputFault}
-use Rattle.ws_program.specs.RunFaults.{told_fault}
-use Rattle.ws_program.specs.declared.fault.ToldFault.{ToldFault}
+use Rattle.ws_live.specs.RunFaults.{told_fault}
+use Rattle.ws_live.specs.declared.fault.ToldFault.{ToldFault}
 
 module _ {L P : Type 0} (runs : L → P → Result Closing Fault → List ℕ → P → Type 0) (ready : Bool) where
   module _ {O : Type 0} (writer : Writer O) (from to : P) (old new : O) where

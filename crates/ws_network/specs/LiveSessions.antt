@@ -1,15 +1,21 @@
 -- What a live session comes to that doesn't end early, by the words that asked for it.
 
-use Rattle.std.specs.Prelude.{ℕ, Bool, true, false}
+use Rattle.std.specs.Prelude.{ℕ, List, Bool, true, false, Option}
+use Rattle.std.specs.Borrow.{Bor}
 use Rattle.ws_code.specs.Device.{Writer}
 use Rattle.ws_any_host.specs.AnyLines.{IsAnyLine, OpensAnyBlock}
 use Rattle.ws_live.specs.ServeLines.{IsHostLine, OpensHostBlock}
 use Rattle.ws_network.specs.AnySessions.{IsAnyServed}
 use Rattle.ws_network.specs.ManySessions.{HasServedBy}
 use Rattle.ws_network.specs.Sessions.{HasConnected, IsServed}
-use Rattle.ws_words.specs.declared.live_command.Live.{Live}
-use Rattle.ws_words.specs.declared.live_command.Live.TheVariants.{Connect, Serve}
-use Rattle.ws_words.specs.declared.live_command.ServeAsked.{ServeAsked}
+use Rattle.ws_live.specs.declared.live_asked.Live.{Live}
+use Rattle.ws_live.specs.declared.live_asked.Live.TheVariants.{Connect, Serve}
+use Rattle.ws_live.specs.declared.live_asked.ServeAsked.{ServeAsked}
+
+-- the script that is named for a live session, if one is
+abbrev pub script_of : Live → Option (Bor (List ℕ))
+script_of (Connect asked) = asked.script
+script_of (Serve asked) = asked.script
 
 module _ {O : Type 0} (printer : Writer O) (old new : O) where
   -- what a session of `serve` came to, at a host that takes any record or at one that doesn't

@@ -27,9 +27,9 @@ use Rattle.ws_live.specs.Operating.{OperatedOn, operated_profile}
 use Rattle.ws_live.specs.ServeText.{IsServeText}
 use Rattle.ws_live.specs.declared.connect_line.StationLine.{StationLine}
 use Rattle.ws_live.specs.declared.serve_line.HostLine.{HostLine}
-use Rattle.ws_network.specs.Times.{ConnectionReads, ConnectionWrites, no_reads, no_writes, timed_reader, timed_writer, tells, rests, begins}
-use Rattle.ws_words.specs.declared.live_command.ConnectAsked.{ConnectAsked}
-use Rattle.ws_words.specs.declared.live_command.ServeAsked.{ServeAsked}
+use Rattle.ws_network.specs.Times.{ConnectionReads, ConnectionWrites, no_reads, no_writes, gives, takes, tells, rests, begins}
+use Rattle.ws_live.specs.declared.live_asked.ConnectAsked.{ConnectAsked}
+use Rattle.ws_live.specs.declared.live_asked.ServeAsked.{ServeAsked}
 
 -- where a script is named, the lines are those that its file, whatever it holds, means
 abbrev pub AreFromScript : {L : Type 0} → (List ℕ → List (List ℕ) → L → Type 0) → (List ℕ → Type 0)

@@ -11,8 +11,7 @@ use crate::timer::LineWatch;
 use std::rt::Runtime;
 use ws_any_host::{AnyHost, AnyLine, carry_on};
 use ws_code::{Sink, Source};
-use ws_live::{BufferedSink, Paint};
-use ws_program::{ToldFault, Vocabulary};
+use ws_live::{BufferedSink, Paint, ToldFault, Vocabulary};
 use ws_session::Attached;
 
 /// Carries out the lines of a script at a host that takes any record, or without one those of standard input, and then

@@ -9,8 +9,7 @@ use crate::recording::make_file;
 use std::fs;
 use std::fs::File;
 use std::rt::Files;
-use ws_live::{LiveLine, ScriptFault, read_lines};
-use ws_program::{RunFault, ToldFault, Vocabulary, bad_line};
+use ws_live::{LiveLine, RunFault, ScriptFault, ToldFault, Vocabulary, bad_line, read_lines};
 
 /// The lines of a script, where one is named.
 ///

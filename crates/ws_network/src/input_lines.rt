@@ -7,8 +7,9 @@ ghost use Rattle.ws_network.specs.InputLines.{IsInputFault, TellsBadLine, IsNext
 use std::alloc::Global;
 use std::io::{BufRead, ErrorKind};
 use std::marker::Model;
-use ws_live::{LiveLine, ScriptFault, is_indented};
-use ws_program::{RunFault, ToldFault, Vocabulary, cause_in_block, cause_text};
+use ws_live::{
+    LiveLine, RunFault, ScriptFault, ToldFault, Vocabulary, cause_in_block, cause_text, is_indented,
+};
 use ws_text::first_line;
 
 /// Reads the next line of standard input with those that belong to it; `None` behind the last. Where the session tells

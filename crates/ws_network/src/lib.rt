@@ -11,9 +11,11 @@ mod live_input;
 mod live_session;
 mod recording;
 mod serving;
+mod tcp;
 mod timed_sink;
 mod timed_source;
 mod timer;
 mod turns;
 
 pub use live_session::run_live;
+pub use tcp::{TcpFault, play_tcp};

@@ -16,10 +16,9 @@ use std::io::BufReader;
 use std::rt::Runtime;
 use ws_code::{Fault, Sink, Source};
 use ws_live::{
-    BufferedSink, Closing, HostLine, LiveMove, NamedKey, OperatedDisplay, Paint, Ran, StationLine,
-    answer_on, carry_line,
+    BufferedSink, Closing, HostLine, LiveMove, NamedKey, OperatedDisplay, Paint, Ran, RunFault,
+    StationLine, ToldFault, Vocabulary, answer_on, carry_line,
 };
-use ws_program::{RunFault, ToldFault, Vocabulary};
 use ws_session::{Attached, HostEnd, StationOn};
 
 /// Carries out the lines of a script at a station, or without one those of standard input: true where all went well.

@@ -1,7 +1,10 @@
 //! Live sessions over a connection: the sockets and the script. What the lines do at an end, and what they print, is
 //! said where they are carried out.
-ghost use Rattle.std.specs.Prelude.{◌≡◌, [], IfOk};
-ghost use Rattle.ws_network.specs.LiveSessions.{HasServedAs, HasRunLive};
+ghost use Rattle.std.specs.Prelude.{◌≡◌, [], Some, IfOk, IsErr};
+ghost use Rattle.std.specs.Option.{is_none};
+ghost use Rattle.ws_live.specs.OpenStreams.{missing};
+ghost use Rattle.ws_live.specs.declared.fault.RunFault.{RunFault as AFault};
+ghost use Rattle.ws_network.specs.LiveSessions.{HasServedAs, HasRunLive, script_of};
 ghost use Rattle.ws_network.specs.Sessions.{HasConnected, HasConnectedOn};
 
 use crate::connecting::connect_to;
@@ -19,10 +22,11 @@ use std::time::Duration;
 use ws_any_host::AnyLine;
 use ws_code::Sink;
 use ws_extended_station::ExtendedDisplay;
-use ws_live::{BufferedSink, HostLine, NamedKey, OperatedDisplay, StationLine};
-use ws_program::{OpenStreams, ToldFault, Vocabulary};
+use ws_live::{
+    BufferedSink, ConnectAsked, HostLine, Live, NamedKey, OpenStreams, OperatedDisplay, ServeAsked,
+    StationLine, ToldFault, Vocabulary,
+};
 use ws_session::{Attached, ProfileDisplay, StationOn};
-use ws_words::{ConnectAsked, Live, ServeAsked};
 
 /// Carries a live session out: true where all went well.
 ///
@@ -41,8 +45,11 @@ where
     R: Runtime + AllocGlobal + Files<File = File> + Net<Listener = TcpListener, Stream = TcpStream>,
     O: Sink,
     requires empty { out.old.held ≡ [] }
-    ensures { IfOk result
+    ensures ran { IfOk result
         (HasRunLive O.writer out.old.sink out.new.sink asked.entry) }
+    // Where a stream that it needs is closed it isn't begun, and nothing is printed.
+    ensures closed { (why : AFault) → missing streams (is_none (script_of asked.entry)) ≡ Some why
+        → IsErr result × (out.new.sink ≡ out.old.sink) }
 {
     match asked {
         Live::Connect(asked) => connect(rt, &asked, streams, out),
@@ -61,8 +68,10 @@ where
     R: Runtime + AllocGlobal + Files<File = File> + Net<Listener = TcpListener, Stream = TcpStream>,
     O: Sink,
     requires empty { out.old.held ≡ [] }
-    ensures { IfOk result
+    ensures ran { IfOk result
         (HasConnected O.writer out.old.sink out.new.sink asked.now) }
+    ensures closed { (why : AFault) → missing streams (is_none asked.now.script) ≡ Some why
+        → IsErr result × (out.new.sink ≡ out.old.sink) }
 {
     if asked.extended {
         connect_on::<ExtendedDisplay, R, O>(rt, asked, streams, out)
@@ -84,8 +93,10 @@ where
     R: Runtime + AllocGlobal + Files<File = File> + Net<Listener = TcpListener, Stream = TcpStream>,
     O: Sink,
     requires empty { out.old.held ≡ [] }
-    ensures { IfOk result (HasConnectedOn O.writer out.old.sink out.new.sink
+    ensures ran { IfOk result (HasConnectedOn O.writer out.old.sink out.new.sink
         D.Commands.rules D.does D.operated D.Key.words asked.now) }
+    ensures closed { (why : AFault) → missing streams (is_none asked.now.script) ≡ Some why
+        → IsErr result × (out.new.sink ≡ out.old.sink) }
 {
     let vocabulary = vocabulary_of(asked);
     let script = read_script_file::<R, StationLine<D::Key>>(rt, asked.script, vocabulary)?;
@@ -136,8 +147,10 @@ where
     R: Runtime + AllocGlobal + Files<File = File> + Net<Listener = TcpListener, Stream = TcpStream>,
     O: Sink,
     requires empty { out.old.held ≡ [] }
-    ensures { IfOk result (HasServedAs O.writer out.old.sink out.new.sink
+    ensures ran { IfOk result (HasServedAs O.writer out.old.sink out.new.sink
         asked.now.any asked.now) }
+    ensures closed { (why : AFault) → missing streams (is_none asked.now.script) ≡ Some why
+        → IsErr result × (out.new.sink ≡ out.old.sink) }
 {
     if asked.any {
         serve_lines::<R, AnyLine, O>(rt, asked, Vocabulary::AnyHost, streams, out)

@@ -1,7 +1,7 @@
 //! Recordings of what both ends sent: a line `MILLISECONDS host|station HEX` for each piece.
 ghost use Rattle.std.specs.Prelude.{◌≡◌, ◌⊎◌, IfOk, IfErr, Ok, Err};
-ghost use Rattle.ws_program.specs.declared.fault.RunFault.TheVariants as run;
-ghost use Rattle.ws_program.specs.declared.fault.ToldFault.TheVariants as told;
+ghost use Rattle.ws_live.specs.declared.fault.RunFault.TheVariants as run;
+ghost use Rattle.ws_live.specs.declared.fault.ToldFault.TheVariants as told;
 ghost use Rattle.ws_network.specs.Recordings as Spec;
 ghost use Rattle.ws_text.specs.Printing.{Prints};
 
@@ -13,8 +13,7 @@ use std::rt::Files;
 use std::time::{Clock, Instant};
 use std::{fs, io};
 use ws_code::{Sink, WriteSink};
-use ws_live::{BufferedSink, hand_on};
-use ws_program::{RunFault, ToldFault};
+use ws_live::{BufferedSink, RunFault, ToldFault, hand_on};
 use ws_text::{Output, put_hex, put_number, put_text};
 
 // How many names are tried for a file that isn't there yet.

@@ -1,11 +1,14 @@
 //! `serve`: hosts for stations, one after another at a listener.
-ghost use Rattle.std.specs.Prelude.{◌≡◌, ◌++◌, [], ℕ, List, Bool, IfOk, OnOk, MatchOption};
+ghost use Rattle.std.specs.Prelude.{◌≡◌, ◌++◌, [], ℕ, List, Bool, Some, IfOk, IsErr, OnOk, MatchOption};
+ghost use Rattle.std.specs.Option.{is_none};
 ghost use Rattle.ws_code.specs.Device.{WentOut};
 ghost use Rattle.ws_network.specs.AnySessions.{IsAnyServed};
 ghost use Rattle.ws_network.specs.ManySessions.{AreMany, HasServedBy, number_line, session_line};
 ghost use Rattle.ws_network.specs.Sessions.{IsServed};
 ghost use Rattle.ws_text.specs.Printing.{Prints};
-ghost use Rattle.ws_words.specs.declared.live_command.ServeAsked.{ServeAsked as AnAsked};
+ghost use Rattle.ws_live.specs.OpenStreams.{missing};
+ghost use Rattle.ws_live.specs.declared.fault.RunFault.{RunFault as AFault};
+ghost use Rattle.ws_live.specs.declared.live_asked.ServeAsked.{ServeAsked as AnAsked};
 
 use crate::any_input::carry_at_any_host;
 use crate::files::{lines_of, make_record, read_script_file};
@@ -21,11 +24,12 @@ use std::rt::{Files, Runtime};
 use std::time::Duration;
 use ws_any_host::{AnyHost, AnyLine};
 use ws_code::{Sink, write_whole};
-use ws_live::{BufferedSink, HostLine, LiveLine, hand_on};
-use ws_program::{OpenStreams, RunFault, ToldFault, Vocabulary};
+use ws_live::{
+    BufferedSink, HostLine, LiveLine, OpenStreams, RunFault, ServeAsked, ToldFault, Vocabulary,
+    hand_on,
+};
 use ws_session::{Attached, HostEnd};
 use ws_text::{Output, put_number, put_text};
-use ws_words::ServeAsked;
 
 /// Lines that are carried out at a host, new for each station.
 pub trait ServedLine: LiveLine {
@@ -65,8 +69,10 @@ where
     L: ServedLine,
     O: Sink,
     requires empty { out.old.held ≡ [] }
-    ensures { IfOk result (HasServedBy L.means L.opener L.served O.writer
+    ensures ran { IfOk result (HasServedBy L.means L.opener L.served O.writer
         out.old.sink out.new.sink asked.now) }
+    ensures closed { (why : AFault) → missing streams (is_none asked.now.script) ≡ Some why
+        → IsErr result × (out.new.sink ≡ out.old.sink) }
 {
     let script = read_script_file::<R, L>(rt, asked.script, vocabulary)?;
     streams.suffice(script.is_none())?;

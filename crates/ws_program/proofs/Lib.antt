@@ -14,7 +14,7 @@ pub mod SourceAnswers
 pub mod SourceReads
 pub mod UnflushedBuffers
 pub mod ViewLaws
+pub mod RawRuns
 pub mod ReadBack
 pub mod Recordings
 pub mod WholeItems
-pub mod CauseTexts

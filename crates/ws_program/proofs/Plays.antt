@@ -13,10 +13,11 @@ use Rattle.ws_session.specs.World.{World, new_world, after_moves}
 use Rattle.ws_session.specs.Reports.{IsReport}
 use Rattle.ws_program.specs.Answering.{IsSessionText, IsPlayFault, IsTcpPlayFault}
 use Rattle.ws_live.specs.declared.paint.Paint.{Paint}
-use Rattle.ws_program.specs.declared.tcp.TcpFault.{TcpFault}
-use Rattle.ws_program.specs.declared.tcp.TcpFault.TheVariants.{NoConnection, Write, Read, Memory}
+use Rattle.ws_network.specs.declared.tcp.TcpFault.{TcpFault}
+use Rattle.ws_network.specs.declared.tcp.TcpFault.TheVariants.{NoConnection, Write, Read, Memory}
 use Rattle.ws_live.specs.PlayLines.{IsPaintedPlayText, no_end_refuses}
-use Rattle.ws_program.specs.RunFaults.{script_run_fault, tcp_run_fault}
+use Rattle.ws_live.specs.RunFaults.{script_run_fault}
+use Rattle.ws_network.specs.TcpFaults.{tcp_run_fault}
 use Rattle.ws_live.specs.Script.{IsScript}
 use Rattle.ws_live.specs.ScriptFaults.{IsScriptFault}
 use Rattle.ws_live.specs.declared.script.ScriptFault.{ScriptFault}

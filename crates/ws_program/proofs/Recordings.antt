@@ -12,8 +12,8 @@ use Rattle.hex.specs.Hex.{decode_of}
 use Rattle.hex.specs.declared.error.FromHexError.{FromHexError}
 use Rattle.ws_program.specs.HexText.{without_blanks}
 use Rattle.ws_program.specs.Recorded.{IsPieceLine, IsOtherLine, AreSent, IsSentIn, IsFirstOther, end_word, piece_of}
-use Rattle.ws_words.specs.declared.command_line.RecordedEnd.{RecordedEnd}
-use Rattle.ws_words.specs.declared.command_line.RecordedEnd.TheVariants.{Host, Station}
+use Rattle.ws_program.specs.declared.words.command_line.RecordedEnd.{RecordedEnd}
+use Rattle.ws_program.specs.declared.words.command_line.RecordedEnd.TheVariants.{Host, Station}
 
 -- The lines of a recording.
 

@@ -5,13 +5,13 @@ use Rattle.ws_code.specs.declared.fault.Fault.{Fault}
 use Rattle.ws_code.specs.declared.fault.Fault.TheVariants as device
 use Rattle.ws_live.specs.Buffering.{Buffering, buffered_writer}
 use Rattle.ws_program.specs.Answering.{HasCheckedBy, IsCheckFaultBy}
-use Rattle.ws_program.specs.RunFaults.{run_fault}
+use Rattle.ws_live.specs.RunFaults.{run_fault}
 use Rattle.ws_program.specs.SourceChecks.{command_outcome}
 use Rattle.ws_program.proofs.Buffers.{unchanged, check_by_flushed, check_fault_by_flushed}
 use Rattle.ws_program.proofs.UnflushedBuffers.{unheld, check_by_unflushed, check_fault_by_unflushed}
-use Rattle.ws_program.specs.declared.fault.RunFault.{RunFault}
-use Rattle.ws_program.specs.declared.fault.RunFault.TheVariants.{Read, Write}
-use Rattle.ws_words.specs.declared.command_line.Sender.{Sender}
+use Rattle.ws_live.specs.declared.fault.RunFault.{RunFault}
+use Rattle.ws_live.specs.declared.fault.RunFault.TheVariants.{Read, Write}
+use Rattle.ws_live.specs.declared.sender.Sender.{Sender}
 
 -- what a check came to that met a fault, and what the program comes to by one
 abbrev pub met : Fault → Result Bool Fault

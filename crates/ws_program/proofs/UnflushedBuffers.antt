@@ -27,16 +27,16 @@ use Rattle.ws_program.specs.StreamText.{View, Placed, lines_of, AreShown, AreFir
 use Rattle.ws_program.specs.ExtendedView.{extended_view}
 use Rattle.ws_program.specs.Views.{painted_host_view, answer_view, told_view}
 use Rattle.ws_live.specs.declared.paint.Paint.{Paint}
-use Rattle.ws_words.specs.declared.command_line.Asked.{Asked}
-use Rattle.ws_words.specs.declared.command_line.Asked.TheVariants.{Check, Show, Play, Make}
-use Rattle.ws_words.specs.declared.command_line.Sender.{Sender}
-use Rattle.ws_words.specs.declared.command_line.Sender.TheVariants.{Host, ExtendedHost, Station, ExtendedStation}
-use Rattle.ws_words.specs.declared.command_line.StreamForm.{StreamForm}
+use Rattle.ws_program.specs.declared.words.command_line.Asked.{Asked}
+use Rattle.ws_program.specs.declared.words.command_line.Asked.TheVariants.{Check, Show, Play, Make}
+use Rattle.ws_live.specs.declared.sender.Sender.{Sender}
+use Rattle.ws_live.specs.declared.sender.Sender.TheVariants.{Host, ExtendedHost, Station, ExtendedStation}
+use Rattle.ws_program.specs.declared.words.command_line.StreamForm.{StreamForm}
 use Rattle.ws_program.proofs.Buffers.{none_held, none_fails}
-use Rattle.ws_program.specs.declared.fault.RunFault.{RunFault}
-use Rattle.ws_program.specs.declared.fault.RunFault.TheVariants.{Read, NotHex, Line, Memory}
-use Rattle.ws_program.specs.declared.fault.RunFault.TheVariants.{Write, NoConnection, Refused}
-use Rattle.ws_program.specs.declared.fault.RunFault.TheVariants.{Truncated, Failed}
+use Rattle.ws_live.specs.declared.fault.RunFault.{RunFault}
+use Rattle.ws_live.specs.declared.fault.RunFault.TheVariants.{Read, NotHex, Line, Memory}
+use Rattle.ws_live.specs.declared.fault.RunFault.TheVariants.{Write, NoConnection, Refused}
+use Rattle.ws_live.specs.declared.fault.RunFault.TheVariants.{Truncated, Failed}
 
 -- the lines of items are first lines
 first_lines : {Place U : Type 0} {rules : Rules Place U} {view : View U} {bytes : List ℕ} (placed : List (Placed U))

@@ -16,20 +16,20 @@ use Rattle.ws_text.specs.ExtendedAnswerWords.{told_wording}
 use Rattle.ws_text.specs.ExtendedWords.{extended_wording}
 use Rattle.ws_text.specs.Shown.{ShowsElements, ShowsAnswers, ShowsExtended, ShowsTold}
 use Rattle.ws_program.specs.Making.{HasMade, IsMakeFault}
-use Rattle.ws_program.specs.RunFaults.{run_fault}
+use Rattle.ws_live.specs.RunFaults.{run_fault}
 use Rattle.ws_program.specs.SoFar.{IsShownWith, IsShowFaultWith}
 use Rattle.ws_program.specs.StreamBytes.{AreBytesOf, IsFormFault}
 use Rattle.ws_program.specs.StreamText.{View}
 use Rattle.ws_program.specs.ExtendedView.{extended_view}
 use Rattle.ws_program.specs.Views.{painted_host_view, answer_view, told_view}
 use Rattle.ws_live.specs.declared.paint.Paint.{Paint}
-use Rattle.ws_words.specs.declared.command_line.Asked.{Asked}
-use Rattle.ws_words.specs.declared.command_line.Asked.TheVariants.{Check, Show, Play, Make}
-use Rattle.ws_words.specs.declared.command_line.Sender.{Sender}
-use Rattle.ws_words.specs.declared.command_line.Sender.TheVariants.{Host, ExtendedHost, Station, ExtendedStation}
-use Rattle.ws_words.specs.declared.command_line.StreamForm.{StreamForm}
-use Rattle.ws_program.specs.declared.fault.RunFault.{RunFault}
-use Rattle.ws_program.specs.declared.fault.RunFault.TheVariants.{Read, Line, Memory, Write, NoConnection}
+use Rattle.ws_program.specs.declared.words.command_line.Asked.{Asked}
+use Rattle.ws_program.specs.declared.words.command_line.Asked.TheVariants.{Check, Show, Play, Make}
+use Rattle.ws_live.specs.declared.sender.Sender.{Sender}
+use Rattle.ws_live.specs.declared.sender.Sender.TheVariants.{Host, ExtendedHost, Station, ExtendedStation}
+use Rattle.ws_program.specs.declared.words.command_line.StreamForm.{StreamForm}
+use Rattle.ws_live.specs.declared.fault.RunFault.{RunFault}
+use Rattle.ws_live.specs.declared.fault.RunFault.TheVariants.{Read, Line, Memory, Write, NoConnection}
 use Rattle.ws_program.specs.declared.verdict.Verdict.{Verdict}
 use Rattle.ws_nego.specs.declared.terminal.TerminalType.TheVariants.{Ibm3179Model2}
 use Rattle.ws_session.specs.declared.world.Move.{Move}

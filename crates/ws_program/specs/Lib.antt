@@ -3,9 +3,10 @@ pub mod CheckLine
 pub mod Checking
 pub mod ExtendedView
 pub mod HexText
+pub mod InputFaults
 pub mod OpenParts
 pub mod Recorded
-pub mod RunFaults
+pub mod Runs
 pub mod SoFar
 pub mod SourceChecks
 pub mod StreamBytes
@@ -13,7 +14,4 @@ pub mod StreamText
 pub mod Streams
 pub mod Views
 pub mod Making
-pub mod Vocabularies
-pub mod Causes
-pub mod CauseTexts
 pub mod ToldFaults

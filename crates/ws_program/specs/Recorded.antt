@@ -7,8 +7,8 @@ use Rattle.std.specs.Str.Lines.{lines}
 use Rattle.ws_program.specs.HexText.{IsHexOf}
 use Rattle.ws_program.specs.declared.recorded.RecordingFault.{RecordingFault}
 use Rattle.ws_program.specs.declared.recorded.RecordingFault.TheVariants.{Line, Memory}
-use Rattle.ws_words.specs.declared.command_line.RecordedEnd.{RecordedEnd}
-use Rattle.ws_words.specs.declared.command_line.RecordedEnd.TheVariants.{Host, Station}
+use Rattle.ws_program.specs.declared.words.command_line.RecordedEnd.{RecordedEnd}
+use Rattle.ws_program.specs.declared.words.command_line.RecordedEnd.TheVariants.{Host, Station}
 
 -- who sent a piece, in its line
 abbrev pub end_word : RecordedEnd → List ℕ

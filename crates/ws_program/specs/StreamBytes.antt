@@ -4,12 +4,12 @@ use Rattle.std.specs.Prelude.{◌≡◌, ℕ, List, IsErr}
 use Rattle.hex.specs.Hex.{decode_of}
 use Rattle.ws_program.specs.HexText.{IsHexOf, without_blanks}
 use Rattle.ws_program.specs.Recorded.{IsSentIn, IsFirstOther}
-use Rattle.ws_program.specs.declared.fault.RunFault.{RunFault}
-use Rattle.ws_program.specs.declared.fault.RunFault.TheVariants.{NotHex, Line, Memory}
+use Rattle.ws_live.specs.declared.fault.RunFault.{RunFault}
+use Rattle.ws_live.specs.declared.fault.RunFault.TheVariants.{NotHex, Line, Memory}
 use Rattle.ws_program.specs.declared.stream_bytes.StreamBytes.{StreamBytes}
 use Rattle.ws_program.specs.declared.stream_bytes.StreamBytes.TheVariants.{Given, Read}
-use Rattle.ws_words.specs.declared.command_line.StreamForm.{StreamForm}
-use Rattle.ws_words.specs.declared.command_line.StreamForm.TheVariants.{Hex, Recorded, Raw}
+use Rattle.ws_program.specs.declared.words.command_line.StreamForm.{StreamForm}
+use Rattle.ws_program.specs.declared.words.command_line.StreamForm.TheVariants.{Hex, Recorded, Raw}
 
 -- the bytes that an input tells: those of its hex text, what an end sent by its lines, or its own
 abbrev pub AreBytesOf : StreamForm → List ℕ → List ℕ → Type 0

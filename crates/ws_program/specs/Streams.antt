@@ -1,18 +1,12 @@
 -- What a command comes to whose standard streams may have been closed when the program began.
 
-use Rattle.std.specs.Prelude.{◌≡◌, ℕ, List, Bool, true, false, Option, None, Some, ◌⊎◌, ◌&&◌, not, if◌then◌else◌}
+use Rattle.std.specs.Prelude.{◌≡◌, ℕ, List, Bool, true, false, ◌⊎◌}
 use Rattle.ws_code.specs.Device.{Writer}
-use Rattle.ws_words.specs.declared.command_line.Asked.{Asked}
-use Rattle.ws_words.specs.declared.command_line.Asked.TheVariants.{Check, Show, Play, Make}
+use Rattle.ws_program.specs.declared.words.command_line.Asked.{Asked}
+use Rattle.ws_program.specs.declared.words.command_line.Asked.TheVariants.{Check, Show, Play, Make}
 use Rattle.ws_program.specs.Answering.{HasAnswered, IsAnswerFault}
-use Rattle.ws_program.specs.declared.fault.RunFault.{RunFault}
-use Rattle.ws_program.specs.declared.fault.RunFault.TheVariants.{Read, Write}
-use Rattle.ws_program.specs.declared.open_streams.OpenStreams.{OpenStreams}
-
--- what a command lacks where standard streams were closed: standard input, where it reads that; or standard output
-abbrev pub missing : OpenStreams → Bool → Option RunFault
-missing open_ reads_input = if reads_input && not open_.input then Some Read
-    else (if open_.output then None else Some Write)
+use Rattle.ws_live.specs.declared.fault.RunFault.{RunFault}
+use Rattle.ws_live.specs.declared.fault.RunFault.TheVariants.{Write}
 
 -- what is asked for, without a connection
 abbrev pub in_one_place : Asked → Asked

@@ -1,9 +1,11 @@
 ghost use Rattle.std.specs.Prelude.{◌≡◌, List, ℕ, true, false, IfOk, IfErr, IsErr};
 ghost use Rattle.hex.specs.Hex.{decode_of};
+ghost use Rattle.ws_program.specs.InputFaults.{text_run_fault};
 ghost use Rattle.ws_program.specs.HexText.{is_blank_byte, without_blanks, IsHexOf, IsHexTextFault};
 
 use std::alloc::{AllocError, Global};
 use thiserror::Error;
+use ws_live::RunFault;
 
 /// Why a text gives no bytes.
 #[derive(Clone, Copy, Debug, PartialEq, Eq, Error)]
@@ -12,6 +14,17 @@ pub enum TextFault {
     NotHex,
     #[error("memory")]
     Memory,
+}
+
+impl From<TextFault> for RunFault {
+    ghost from_gives = { λ fault told. told ≡ text_run_fault fault };
+
+    fn from(fault: TextFault) -> Self {
+        match fault {
+            TextFault::NotHex => RunFault::NotHex,
+            TextFault::Memory => RunFault::Memory,
+        }
+    }
 }
 
 // A blank, a tab, CR or LF. Digits are told from them by the first comparison.

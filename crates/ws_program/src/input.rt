@@ -1,19 +1,22 @@
-ghost use Rattle.std.specs.Prelude.{◌≡◌, []};
+ghost use Rattle.std.specs.Prelude.{◌≡◌, ◌⊎◌, [], List as Seq, ℕ, IfOk, IfErr};
+ghost use Rattle.ws_program.specs.Runs.{HasRunInput, IsUnread, IsWordsFault};
+ghost use Rattle.ws_program.specs.Streams.{IsOpenFault};
 
-use crate::fault::{CommandFault, RunFault};
-use crate::open_streams::OpenStreams;
+use crate::command_fault::CommandFault;
 use crate::source_check::check_source_openly;
+use crate::words::{Asked, StreamForm, no_text};
 use std::fs::File;
 use std::io::Read;
 use std::num::NonZeroU16;
 use std::rt::{Env, Files};
 use std::{env, fs, io};
 use ws_code::{ReadSource, Sink};
-use ws_live::BufferedSink;
-use ws_words::{Sender, no_text};
+use ws_live::{BufferedSink, OpenStreams, RunFault, Sender};
 
 /// The words of the command line, the program's name first.
-pub fn given_words<R: Env + AllocGlobal>(rt: &R) -> Result<Vec<String>, CommandFault> {
+pub fn given_words<R: Env + AllocGlobal>(rt: &R) -> Result<Vec<String>, CommandFault>
+    ensures { IfErr result IsWordsFault }
+{
     let words = match env::args(rt) {
         Ok(words) => words.collect(rt.alloc()),
         Err(error) if error.kind() == io::ErrorKind::OutOfMemory => {
@@ -28,7 +31,9 @@ pub fn given_words<R: Env + AllocGlobal>(rt: &R) -> Result<Vec<String>, CommandF
 pub fn read_input<R: Files + Input + AllocGlobal>(
     rt: &R,
     file: Option<&str>,
-) -> Result<Vec<u8>, RunFault> {
+) -> Result<Vec<u8>, RunFault>
+    ensures { IfErr result IsUnread }
+{
     match file {
         Some(path) => Ok(fs::read(rt, path)?),
         None => {
@@ -49,6 +54,12 @@ pub fn check_file<R: Files<File = File> + Input, S: Sink>(
     sink: &mut BufferedSink<S>,
 ) -> Result<bool, RunFault>
     requires empty { sink.old.held ≡ [] }
+    // The bytes that were read are those of a raw input.
+    ensures done { IfOk result (HasRunInput S.writer sink.old.sink sink.new.sink
+        streams (Asked.Check file.entry StreamForm.Raw cut from)) }
+    ensures fault { IfErr result (λ fault. ((sink.new.sink ≡ sink.old.sink) × IsUnread fault)
+        ⊎ ((input : Seq ℕ) × IsOpenFault S.writer sink.old.sink sink.new.sink
+        streams.output (Asked.Check file.entry StreamForm.Raw cut from) input fault)) }
 {
     match file {
         Some(path) => {

@@ -17,22 +17,20 @@ ghost use Rattle.ws_program.specs.Streams.{HasAnsweredOpenly, IsOpenFault, in_on
 ghost use Rattle.std.specs.Prelude.{List as Seq, ℕ};
 
 use crate::check::check_to;
-use crate::fault::RunFault;
 use crate::make::make_stream_to;
-use crate::open_streams::OpenStreams;
 use crate::show::show_with;
 use crate::stream_bytes::bytes_of;
-use crate::tcp::play_tcp;
+use crate::words::{Asked, StreamForm};
 use std::alloc::Global;
 use std::net::{Net, TcpListener, TcpStream};
 use ws_code::{Fault, Sink};
 use ws_extended::{ExtendedAnswers, ExtendedCommands};
-use ws_live::{BufferedSink, Paint, play_painted_to, read_script};
+use ws_live::{BufferedSink, OpenStreams, Paint, RunFault, Sender, play_painted_to, read_script};
 use ws_nego::TerminalType;
+use ws_network::play_tcp;
 use ws_session::World;
 use ws_stream::{Answers, Commands};
 use ws_text::{read_answer_items, read_extended_answer_items, read_extended_items, read_items};
-use ws_words::{Asked, Sender, StreamForm};
 
 /// Does what the program was asked for with the whole of its input: true where all was accepted.
 ///

@@ -4,15 +4,15 @@ ghost use Rattle.std.specs.Char.{is_ascii_digit};
 ghost use Rattle.std.specs.List.{position_or_len};
 ghost use Rattle.ws_program.specs.HexText.{IsHexOf};
 ghost use Rattle.ws_program.specs.Recorded.{IsSentIn, IsRecordingFault, IsOtherLine, IsTime, piece_of, end_word};
-ghost use Rattle.ws_program.specs.RunFaults.{recording_run_fault};
-ghost use Rattle.ws_words.specs.declared.command_line.RecordedEnd.{RecordedEnd as AnEnd};
+ghost use Rattle.ws_program.specs.InputFaults.{recording_run_fault};
+ghost use Rattle.ws_program.specs.declared.words.command_line.RecordedEnd.{RecordedEnd as AnEnd};
 
-use crate::fault::RunFault;
 use crate::hex_text::{hex_bytes, is_hex};
+use crate::words::RecordedEnd;
 use std::alloc::Global;
 use thiserror::Error;
+use ws_live::RunFault;
 use ws_text::first_line;
-use ws_words::RecordedEnd;
 
 /// Why a recording gives no bytes.
 #[derive(Clone, Copy, Debug, PartialEq, Eq, Error)]

@@ -5,14 +5,11 @@ ghost use Rattle.ws_program.specs.SourceChecks.{HasRefusalBy, GaveEnough, Failed
 ghost use Rattle.ws_code.specs.declared.fault.Fault.TheVariants as device;
 
 use crate::check::check_from;
-use crate::fault::RunFault;
-use crate::open_streams::OpenStreams;
 use std::num::NonZeroU16;
 use ws_code::{Fault, Sink, Source};
 use ws_extended::{ExtendedAnswers, ExtendedCommands};
-use ws_live::BufferedSink;
+use ws_live::{BufferedSink, OpenStreams, RunFault, Sender};
 use ws_stream::{Answers, Commands};
-use ws_words::Sender;
 
 /// Writes the line of a check of what the source gives, as those of a sender, and hands on what the buffer before the
 /// sink holds. Standard output may have been closed when the program began.

@@ -2,11 +2,11 @@
 ghost use Rattle.std.specs.Prelude.{◌≡◌, IfOk, IfErr};
 ghost use Rattle.ws_program.specs.StreamBytes.{AreBytesOf, IsFormFault, held_bytes as the_bytes};
 
-use crate::fault::RunFault;
 use crate::hex_text::hex_bytes;
 use crate::recorded::recorded_bytes;
+use crate::words::StreamForm;
 use std::alloc::Global;
-use ws_words::StreamForm;
+use ws_live::RunFault;
 
 /// The bytes of a stream: an input's own, which aren't copied, or read from its text.
 #[derive(Drop)]

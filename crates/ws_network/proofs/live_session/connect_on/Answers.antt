@@ -2,8 +2,8 @@ use Rattle.ws_network.proofs.SessionLaws.{judged, from_script, connected}
 use Rattle.ws_network.specs.Sessions.{station_means}
 use Rattle.ws_network.proofs.live_session.connect_on.Goals as goal
 
-pub returns : goal.returns
-returns g c = judged _ _ c.carry_at_station-outcome.result c.judge.result c.carry_at_station-outcome.ensures.ran c.judge.ensures.done
+pub returns-clause-ran : goal.returns-clause-ran
+returns-clause-ran g c = judged _ _ c.carry_at_station-outcome.result c.judge.result c.carry_at_station-outcome.ensures.ran c.judge.ensures.done
     (λ all_well ran. (
       ran.0,
       ran.1,

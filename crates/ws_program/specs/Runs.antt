@@ -1,0 +1,64 @@
+-- What a run of the program comes to: what it printed, and how it ended.
+
+use Rattle.std.specs.Prelude.{◌≡◌, ℕ, List, Bool, Option, None, Some, ◌⊎◌}
+use Rattle.std.specs.Option.{is_none}
+use Rattle.ws_code.specs.Device.{Writer}
+use Rattle.ws_live.specs.declared.fault.RunFault.{RunFault}
+use Rattle.ws_live.specs.declared.fault.RunFault.TheVariants.{Read, Memory}
+use Rattle.ws_live.specs.declared.fault.ToldFault.{ToldFault}
+use Rattle.ws_live.specs.declared.fault.ToldFault.TheVariants as told
+use Rattle.ws_live.specs.declared.live_asked.Live.{Live as ALive}
+use Rattle.ws_live.specs.declared.open_streams.OpenStreams.{OpenStreams}
+use Rattle.ws_live.specs.OpenStreams.{missing}
+use Rattle.ws_network.specs.LiveSessions.{HasRunLive, script_of}
+use Rattle.ws_program.specs.Streams.{HasAnsweredOpenly, IsOpenFault}
+use Rattle.ws_program.specs.ToldFaults.{IsToldOf}
+use Rattle.ws_program.specs.declared.command_fault.CommandFault.{CommandFault}
+use Rattle.ws_program.specs.declared.command_fault.CommandFault.TheVariants.{Words, Run, Told}
+use Rattle.ws_program.specs.declared.words.command_line.Asked.{Asked}
+use Rattle.ws_program.specs.declared.words.command_line.Task.{Task}
+use Rattle.ws_program.specs.declared.words.command_line.Task.TheVariants.{Input, Live}
+
+-- the words ask for nothing that the program knows, or for help; or a growth was refused
+abbrev pub IsWordsFault : CommandFault → Type 0
+IsWordsFault (Words why) = Unit {0}
+IsWordsFault (Run fault) = fault ≡ Memory
+IsWordsFault (Told fault) = ⊥
+
+-- an input can't be read, or a growth was refused in reading it
+abbrev pub IsUnread : RunFault → Type 0
+IsUnread fault = (fault ≡ Read) ⊎ (fault ≡ Memory)
+
+-- what a live session lacks: without a script it reads standard input
+abbrev pub missing_live : OpenStreams → ALive → Option RunFault
+missing_live streams asked = missing streams (is_none (script_of asked))
+
+module _ {S : Type 0} (writer : Writer S) (from to : S) (streams : OpenStreams) where
+  -- what is asked of an input was done, with the bytes that were read of it
+  abbrev pub HasRunInput : Asked → Bool → Type 0
+  HasRunInput asked accepted = (input : List ℕ)
+      × HasAnsweredOpenly writer from to streams.output asked input accepted
+
+  -- Why it wasn't done. The input can't be read, and nothing was written; or this was met with the bytes that were
+  -- read of it, and is told with its cause.
+  abbrev pub IsFaultOfInput : Asked → ToldFault → Type 0
+  IsFaultOfInput asked fault = ((why : RunFault) × (to ≡ from) × IsUnread why × (fault ≡ told.Run why))
+      ⊎ ((why : RunFault) × ((input : List ℕ) × IsOpenFault writer from to streams.output asked input why
+      × IsToldOf asked input fault why))
+
+  -- the task of a command line was done: something of an input, or a live session
+  abbrev pub HasRunTask : Task → Bool → Type 0
+  HasRunTask (Input asked) accepted = HasRunInput asked accepted
+  HasRunTask (Live asked) accepted = (missing_live streams asked ≡ None)
+      × HasRunLive writer from to asked accepted
+
+  -- why it wasn't done; where a live session lacks a stream, nothing was written
+  abbrev pub IsFaultOfTask : Task → ToldFault → Type 0
+  IsFaultOfTask (Input asked) fault = IsFaultOfInput asked fault
+  IsFaultOfTask (Live asked) fault = (why : RunFault) → missing_live streams asked ≡ Some why → to ≡ from
+
+  -- why the program didn't do what its words ask for: where the fault is in the words, nothing was written
+  abbrev pub IsFaultOfRun : CommandFault → Type 0
+  IsFaultOfRun (Words why) = to ≡ from
+  IsFaultOfRun (Run fault) = (to ≡ from) × (fault ≡ Memory)
+  IsFaultOfRun (Told fault) = (task : Task) × IsFaultOfTask task fault

@@ -1,0 +1,296 @@
+use crate::words::command_parts::{CommandParts, fault, flag, place};
+use crate::words::input_help::{
+    ANSWERS_HELP, CHECK_EXAMPLES, EXTENDED_HELP, HEX_AND_STATUS, ITEMS_HELP, MAKE_EXAMPLES,
+    OF_HELP, PLAY_EXAMPLES, RAW_HELP, RAW_OUT_HELP, SCREEN_HELP, SCRIPT_HELP, SHOW_EXAMPLES,
+    SO_FAR_HELP, STREAM_HELP, TCP_HELP,
+};
+use crate::words::live_command::{
+    COLOR_HELP, connect_asked, connect_command, paint_asked, serve_asked, serve_command,
+};
+use clap::error::ErrorKind;
+use clap::{Arg, ArgAction, ArgMatches, Command, value_parser};
+use std::alloc::{AllocError, Global};
+use std::convert::AsStr;
+use std::num::NonZeroU16;
+use ws_live::{Live, Paint, Sender};
+
+/// What a command line asks for.
+#[derive(Clone, Copy, Debug, PartialEq, Eq)]
+pub enum Task<'a> {
+    /// Something of an input that is read first.
+    Input(Asked<'a>),
+    /// A live session.
+    Live(Live<'a>),
+}
+
+/// Whose lines of a recording are read.
+#[derive(Clone, Copy, Debug, PartialEq, Eq)]
+pub enum RecordedEnd {
+    Host,
+    Station,
+}
+
+/// How an input tells the bytes of a stream.
+#[derive(Clone, Copy, Debug, PartialEq, Eq)]
+pub enum StreamForm {
+    /// As hex text.
+    Hex,
+    /// As a recording, a line a piece, of which one end's pieces are the stream.
+    Recorded(RecordedEnd),
+    /// It is the bytes.
+    Raw,
+}
+
+/// What is asked for of an input.
+#[derive(Clone, Copy, Debug, PartialEq, Eq)]
+pub enum Asked<'a> {
+    /// To check the bytes that an input tells in a form, in pieces of `cut` bytes: as a host's commands, or as a
+    /// station's answers.
+    Check {
+        file: Option<&'a str>,
+        form: StreamForm,
+        cut: NonZeroU16,
+        from: Sender,
+    },
+    /// To show the items of such bytes: as a host's commands, with the screen that they make in a paint, or as a
+    /// station's answers. With `so_far` also what has come of the record that is open where the bytes stop.
+    Show {
+        file: Option<&'a str>,
+        form: StreamForm,
+        from: Sender,
+        paint: Paint,
+        so_far: bool,
+    },
+    /// To play a script with both ends, and to tell what happens; with `screen` also the station's screen at the end,
+    /// in a paint. With `tcp` their bytes go over a connection.
+    Play {
+        file: Option<&'a str>,
+        screen: bool,
+        tcp: bool,
+        paint: Paint,
+    },
+    /// To write the stream whose items a text spells: as a host's commands, or as a station's answers; with `raw` its
+    /// bytes, else as hex text.
+    Make {
+        file: Option<&'a str>,
+        from: Sender,
+        raw: bool,
+    },
+}
+
+impl<'a> Asked<'a> {
+    /// The file that is to be read; without it, standard input is.
+    pub fn file(self) -> Option<&'a str> {
+        match self {
+            Asked::Check { file, .. }
+            | Asked::Show { file, .. }
+            | Asked::Play { file, .. }
+            | Asked::Make { file, .. } => file,
+        }
+    }
+}
+
+// The commands that the program knows.
+fn program<'a>(alloc: Global) -> Result<Command<'a>, AllocError> {
+    CommandParts::of(bare_program(alloc))
+        .below(check_command(alloc))
+        .below(show_command(alloc))
+        .below(play_command(alloc))
+        .below(make_command(alloc))
+        .below(connect_command(alloc))
+        .below(serve_command(alloc))
+        .finish()
+}
+
+fn bare_program<'a>(alloc: Global) -> Command<'a> {
+    Command::new(alloc, "t5250")
+        .version("3.0.0")
+        .about("Reads recorded IBM 5250 streams over Telnet (RFC 1205)")
+        .after_help(HEX_AND_STATUS)
+        .subcommand_required(true)
+}
+
+fn check_command<'a>(alloc: Global) -> CommandParts<'a> {
+    CommandParts::new(
+        alloc,
+        "check",
+        "Tells whether a stream is accepted, refused or truncated",
+        CHECK_EXAMPLES,
+    )
+    .word(flag(alloc, "answers", ANSWERS_HELP))
+    .word(flag(alloc, "extended", EXTENDED_HELP))
+    .word(cut(alloc))
+    .word(of(alloc))
+    .made_word(raw(alloc))
+    .word(place(alloc, "FILE", STREAM_HELP, false))
+}
+
+fn show_command<'a>(alloc: Global) -> CommandParts<'a> {
+    CommandParts::new(
+        alloc,
+        "show",
+        "Prints a stream's records and Telnet commands, and the screen that they make",
+        SHOW_EXAMPLES,
+    )
+    .word(flag(alloc, "answers", ANSWERS_HELP))
+    .word(flag(alloc, "extended", EXTENDED_HELP))
+    .word(flag(alloc, "color", COLOR_HELP))
+    .word(flag(alloc, "so-far", SO_FAR_HELP))
+    .word(of(alloc))
+    .made_word(raw(alloc))
+    .word(place(alloc, "FILE", STREAM_HELP, false))
+}
+
+fn play_command<'a>(alloc: Global) -> CommandParts<'a> {
+    CommandParts::new(
+        alloc,
+        "play",
+        "Plays a script of sends, keys and deliveries with both ends",
+        PLAY_EXAMPLES,
+    )
+    .word(flag(alloc, "screen", SCREEN_HELP))
+    .word(flag(alloc, "color", COLOR_HELP))
+    .word(flag(alloc, "tcp", TCP_HELP))
+    .word(place(alloc, "SCRIPT", SCRIPT_HELP, false))
+}
+
+fn make_command<'a>(alloc: Global) -> CommandParts<'a> {
+    CommandParts::new(
+        alloc,
+        "make",
+        "Prints a stream as hex text, from the lines that show prints",
+        MAKE_EXAMPLES,
+    )
+    .word(flag(alloc, "answers", ANSWERS_HELP))
+    .word(flag(alloc, "extended", EXTENDED_HELP))
+    .word(flag(alloc, "raw", RAW_OUT_HELP))
+    .word(place(alloc, "FILE", ITEMS_HELP, false))
+}
+
+fn cut<'a>(alloc: Global) -> Arg<'a> {
+    Arg::new(alloc, "cut")
+        .long("cut")
+        .value_name("N")
+        .help("Reads the bytes in pieces of N, from 1 to 65535; the line stays the same")
+        .value_parser(value_parser!(u16).range(1..=65535))
+        .action(ArgAction::Set)
+}
+
+// The ends by name, the host first.
+const ENDS: [&str; 2] = ["host", "station"];
+
+fn of<'a>(alloc: Global) -> Arg<'a> {
+    Arg::new(alloc, "of")
+        .long("of")
+        .value_name("END")
+        .help(OF_HELP)
+        .value_parser(ENDS.as_slice())
+        .action(ArgAction::Set)
+}
+
+// An input is no recording and raw bytes at once.
+fn raw<'a>(alloc: Global) -> Result<Arg<'a>, AllocError> {
+    flag(alloc, "raw", RAW_HELP).conflicts_with("of")
+}
+
+/// The fault of words that the program can't even take as text.
+pub fn no_text(alloc: Global) -> Result<clap::Error, clap::Error> {
+    let mut program = program(alloc)?;
+    Ok(fault(&mut program, ErrorKind::InvalidValue, "a word isn't UTF-8"))
+}
+
+/// What the words ask for, of which the first is the program's name.
+///
+/// Without `--cut` the bytes are read in the largest pieces.
+pub fn read_words<'a, S: AsStr>(alloc: Global, words: &'a [S]) -> Result<Task<'a>, clap::Error> {
+    let mut program = program(alloc)?;
+    let matches = program.try_get_matches_from_mut(words)?;
+    task_asked(&mut program, &matches)
+}
+
+// What these words ask for.
+fn task_asked<'a>(
+    program: &mut Command<'a>,
+    words: &ArgMatches<'a>,
+) -> Result<Task<'a>, clap::Error> {
+    let (name, words) = words.subcommand().unwrap_or(("", words));
+    match name {
+        "connect" => Ok(Task::Live(Live::Connect(connect_asked(program, words)?))),
+        "serve" => Ok(Task::Live(Live::Serve(serve_asked(program, words)?))),
+        _ => match input_asked(name, words) {
+            Some(asked) => Ok(Task::Input(asked)),
+            None => Err(fault(program, ErrorKind::MissingSubcommand, "no subcommand")),
+        },
+    }
+}
+
+// What the words of this command ask for of an input; nothing where it is none of these.
+fn input_asked<'a>(name: &str, words: &ArgMatches<'a>) -> Option<Asked<'a>> {
+    match name {
+        "check" => Some(check_asked(words)),
+        "show" => Some(show_asked(words)),
+        "play" => Some(play_asked(words)),
+        "make" => Some(make_asked(words)),
+        _ => None,
+    }
+}
+
+fn check_asked<'a>(words: &ArgMatches<'a>) -> Asked<'a> {
+    // The parser of `--cut` lets no 0 through.
+    let cut = words.get_one::<u16>("cut").unwrap_or(u16::MAX);
+    Asked::Check {
+        file: words.get_str("FILE"),
+        form: form_asked(words),
+        cut: NonZeroU16::new(cut).unwrap_or(NonZeroU16::MAX),
+        from: sender_asked(words),
+    }
+}
+
+// How the input tells the bytes. The parser of `--of` lets no other name through, and none beside `--raw`.
+fn form_asked(words: &ArgMatches<'_>) -> StreamForm {
+    if words.get_flag("raw") {
+        return StreamForm::Raw;
+    }
+    match words.get_str("of") {
+        None => StreamForm::Hex,
+        Some("host") => StreamForm::Recorded(RecordedEnd::Host),
+        Some(_) => StreamForm::Recorded(RecordedEnd::Station),
+    }
+}
+
+// Whose stream is read.
+fn sender_asked(words: &ArgMatches<'_>) -> Sender {
+    match (words.get_flag("answers"), words.get_flag("extended")) {
+        (false, false) => Sender::Host,
+        (false, true) => Sender::ExtendedHost,
+        (true, false) => Sender::Station,
+        (true, true) => Sender::ExtendedStation,
+    }
+}
+
+fn show_asked<'a>(words: &ArgMatches<'a>) -> Asked<'a> {
+    Asked::Show {
+        file: words.get_str("FILE"),
+        form: form_asked(words),
+        from: sender_asked(words),
+        paint: paint_asked(words),
+        so_far: words.get_flag("so-far"),
+    }
+}
+
+fn play_asked<'a>(words: &ArgMatches<'a>) -> Asked<'a> {
+    Asked::Play {
+        file: words.get_str("SCRIPT"),
+        screen: words.get_flag("screen"),
+        tcp: words.get_flag("tcp"),
+        paint: paint_asked(words),
+    }
+}
+
+fn make_asked<'a>(words: &ArgMatches<'a>) -> Asked<'a> {
+    Asked::Make {
+        file: words.get_str("FILE"),
+        from: sender_asked(words),
+        raw: words.get_flag("raw"),
+    }
+}

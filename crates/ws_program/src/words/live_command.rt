@@ -1,0 +1,274 @@
+use crate::words::command_parts::{CommandParts, fault, flag, place};
+use clap::error::ErrorKind;
+use clap::{Arg, ArgAction, ArgMatches, Command, value_parser};
+use std::alloc::{AllocError, Global};
+use ws_live::{ConnectAsked, Paint, ServeAsked, host_and_port, listening_address};
+use ws_nego::TerminalType;
+
+const CONNECT_EXAMPLES: &str = "\
+A script has a line for each step, and is read before anything is sent. Without
+one a line of standard input is carried out before the next is read:
+  type TEXT    keys for the characters; insert TEXT inserts them
+  key NAME     a key, such as Enter, F3, FieldExit or Tab
+  cursor R C   the cursor goes to that cell; newline goes to a row below
+  field N TEXT the cursor goes to field N, as fields counts, and fills it
+  erase        empties the field from the cursor on
+  await        goes on until the keyboard is unlocked
+  await record, await text TEXT, await at R C TEXT
+               until one more record was applied, a row shows TEXT, or it begins
+               at that cell
+  await quiet MS
+               until nothing has come for MS milliseconds, at most 3600000
+  show         prints the screen; show R C LENGTH the text of so many cells
+  fields       prints each field: field ROW COLUMN LENGTH FORMAT TEXT
+  cells R      prints a row's bytes and attributes
+  status       prints `status unlocked ready 6 53 field 1 records 3 bytes 128`
+  note TEXT    prints TEXT
+Those that show something first take what has come.
+
+A bad line is `bad line: CAUSE` with --ready, and the session goes on; else it
+ends, as a script with one does, by `script line N: CAUSE`.
+
+A refused key is told as `key refused REASON`, behind it a character that it
+enters. A wait that runs out prints `late`, and the session goes on; one whose
+host has closed prints `ended`.
+`station refused at P: reason K NAME` is the last line.
+
+With --record, FILE has a line `MILLISECONDS host|station HEX` for each piece
+that crossed the connection. It holds what was typed into hidden fields,
+passwords too, so none but its owner can read it.
+
+With --extended, `key Reset` takes an error away that a host shows. Until then
+`await` goes on too, and `show` ends with `error row R`.
+
+Exit status:
+  0  every line was carried out, none was late or ended, nothing was refused
+  1  one was, or bad, or the station refused a byte
+  2  a fault, told in one line on standard error
+
+Examples:
+  t5250 connect pub400.com examples/inquiry.connect
+  t5250 connect --color --wait 5 '[::1]:5250' < examples/inquiry.connect
+  t5250 connect --extended pub400.com examples/live-host.connect
+  t5250 connect --ready --terminal IBM-5251-11 127.0.0.1:5250";
+
+const SERVE_EXAMPLES: &str = "\
+It prints `listening ADDRESS`, and takes one connection. Port 0 takes a free
+port. A script has a line for each step, and is read before anything is sent.
+Without one a line of standard input is carried out before the next is read:
+  send K HEX   sends a record of opcode K, with the body HEX
+  send K       sends one without a body, or with the elements of the lines
+               behind it, as `show` prints them and `make` reads them:
+    WRITE 00 08
+    TEXT Sign On
+  cancel       cancels the read that is asked
+  await        goes on until the station has told something, and prints it
+               as `play` does
+  await answer, await KEY
+               until it has answered, or answered by that key, such as F3
+  show         prints the screen that the host keeps
+  raw HEX      writes these bytes as they are
+  telnet WORDS writes a Telnet command, as `make` reads it: telnet DO 39
+  pause MS     lets MS milliseconds go by, at most 3600000
+  close        closes the connection; no line is carried out behind it
+  end          ends the lines of a `send K`
+
+On standard input `send K` is carried out when the next line comes that doesn't
+begin with two blanks; `end` or an empty one belongs to it, and has no `ok` of
+its own. Bad lines are told as connect tells them.
+
+A refused send is told as `send refused REASON`. A wait that runs out prints
+`late`, and the session goes on; one whose station has closed prints `ended`.
+`host refused at P: reason K NAME` is the last line. Behind the last line of a
+script it answers on until the station closes, or the wait is over.
+
+With --record, FILE has a line `MILLISECONDS host|station HEX` for each piece
+that crossed the connection. It holds what was typed into hidden fields,
+passwords too, so none but its owner can read it.
+
+With --sessions it serves so many stations one after another, each by the script
+from its first line on, with a line `session N` between them.
+
+With --any, for tests of emulators, it judges no terminal name and no record. It
+prints `terminal NAME` and `record flags FFFF opcode K HEX`; `send K` takes any
+bytes, and the elements of live hosts; `await KEY` goes on until a record by
+that key; there is no `cancel`, `await answer` or `show`.
+
+Exit status: as of connect.
+
+Examples:
+  t5250 serve 127.0.0.1:5250 examples/inquiry.serve
+  t5250 serve --ready --wait 5 '[::1]:0'
+  t5250 serve --any 127.0.0.1:5250 examples/live-host.serve";
+
+// What help says of the words of a command.
+/// Of the flag for screens in colour.
+pub const COLOR_HELP: &str = "Prints the rows of a screen in colour, by sequences of ECMA-48";
+
+/// Of the flag for what is beside the profile.
+const EXTENDED_HELP: &str =
+    "Takes also what live hosts send beside the profile, such as Query and Save Screen";
+
+const ANY_HELP: &str = "Takes any terminal name and any record, for tests of emulators";
+
+const HOST_HELP: &str =
+    "A name or an address; one of IPv6 in brackets before a port, its zone as in fe80::1%eth0; port 23 where none is named";
+
+const ADDRESS_HELP: &str =
+    "Where it listens: HOST:PORT, with an address of IPv6 in brackets; port 0 takes a free one";
+
+const READY_HELP: &str =
+    "Prints `ok` behind each line's output, for a program that drives the session";
+
+const SCRIPT_HELP: &str = "A script; without it, standard input is read a line at a time";
+
+/// The commands of live sessions.
+pub fn connect_command<'a>(alloc: Global) -> CommandParts<'a> {
+    let connect = CommandParts::new(
+        alloc,
+        "connect",
+        "Is a station at a host, by a script or line by line",
+        CONNECT_EXAMPLES,
+    )
+    .word(flag(alloc, "color", COLOR_HELP))
+    .word(flag(alloc, "extended", EXTENDED_HELP))
+    .word(terminal(alloc))
+    .word(place(alloc, "HOST[:PORT]", HOST_HELP, true));
+    with_script(alloc, connect)
+}
+
+pub fn serve_command<'a>(alloc: Global) -> CommandParts<'a> {
+    let serve = CommandParts::new(
+        alloc,
+        "serve",
+        "Is a host for one station, by a script or line by line",
+        SERVE_EXAMPLES,
+    );
+    with_script(
+        alloc,
+        serve
+            .word(flag(alloc, "any", ANY_HELP))
+            .made_word(sessions(alloc))
+            .word(place(alloc, "ADDRESS", ADDRESS_HELP, true)),
+    )
+}
+
+fn terminal<'a>(alloc: Global) -> Arg<'a> {
+    Arg::new(alloc, "terminal")
+        .long("terminal")
+        .value_name("NAME")
+        .help(
+            "The terminal's type: IBM-3179-2 without it, IBM-5251-11, IBM-5291-1, IBM-5292-2 or IBM-3196-A1",
+        )
+        .action(ArgAction::Set)
+}
+
+/// The paint of screens that these words ask for.
+pub fn paint_asked(words: &ArgMatches<'_>) -> Paint {
+    if words.get_flag("color") {
+        Paint::Color
+    } else {
+        Paint::Plain
+    }
+}
+
+// What both sessions take: the time of a wait, whether `ok` is told, a recording, and a script.
+fn with_script<'a>(alloc: Global, command: CommandParts<'a>) -> CommandParts<'a> {
+    command
+        .word(wait(alloc))
+        .word(flag(alloc, "ready", READY_HELP))
+        .word(record(alloc))
+        .word(place(alloc, "SCRIPT", SCRIPT_HELP, false))
+}
+
+fn sessions<'a>(alloc: Global) -> Result<Arg<'a>, AllocError> {
+    Arg::new(alloc, "sessions")
+        .long("sessions")
+        .value_name("N")
+        .help("Serves N stations one after another by the script, N from 1 to 1000000")
+        .value_parser(value_parser!(u32).range(1..=1_000_000))
+        .action(ArgAction::Set)
+        .requires_arg("SCRIPT")
+}
+
+fn record<'a>(alloc: Global) -> Arg<'a> {
+    Arg::new(alloc, "record")
+        .long("record")
+        .value_name("FILE")
+        .help("Records what both ends send; FILE-1, FILE-2 .. where FILE is there already")
+        .action(ArgAction::Set)
+}
+
+fn wait<'a>(alloc: Global) -> Arg<'a> {
+    Arg::new(alloc, "wait")
+        .long("wait")
+        .value_name("SECONDS")
+        .help(
+            "The time of a whole await, of connecting and of a write, from 1 to 86400; 30 without it",
+        )
+        .value_parser(value_parser!(u32).range(1..=86400))
+        .action(ArgAction::Set)
+}
+
+/// The session that these words of `connect` ask for.
+pub fn connect_asked<'a>(
+    program: &mut Command<'a>,
+    words: &ArgMatches<'a>,
+) -> Result<ConnectAsked<'a>, clap::Error> {
+    let Some(host) = host_and_port(words.get_str("HOST[:PORT]").unwrap_or("")) else {
+        return Err(fault(
+            program,
+            ErrorKind::InvalidValue,
+            "no host is named so: HOST, HOST:PORT, [V6]:PORT",
+        ));
+    };
+    let terminal = match words.get_str("terminal") {
+        None => TerminalType::default(),
+        Some(name) => match TerminalType::from_name(name.as_bytes()) {
+            Some(terminal) => terminal,
+            None => return Err(fault(
+                program,
+                ErrorKind::InvalidValue,
+                "no terminal has this name",
+            )),
+        },
+    };
+    Ok(ConnectAsked {
+        host,
+        terminal,
+        wait: seconds(words),
+        ready: words.get_flag("ready"),
+        paint: paint_asked(words),
+        extended: words.get_flag("extended"),
+        record: words.get_str("record"),
+        script: words.get_str("SCRIPT"),
+    })
+}
+
+/// The session that these words of `serve` ask for.
+pub fn serve_asked<'a>(
+    program: &mut Command<'a>,
+    words: &ArgMatches<'a>,
+) -> Result<ServeAsked<'a>, clap::Error> {
+    let Some(address) = listening_address(words.get_str("ADDRESS").unwrap_or("")) else {
+        return Err(fault(
+            program,
+            ErrorKind::InvalidValue,
+            "no address to listen at: HOST:PORT, [V6]:PORT",
+        ));
+    };
+    Ok(ServeAsked {
+        address,
+        wait: seconds(words),
+        ready: words.get_flag("ready"),
+        any: words.get_flag("any"),
+        sessions: words.get_one::<u32>("sessions"),
+        record: words.get_str("record"),
+        script: words.get_str("SCRIPT"),
+    })
+}
+
+// The time of a wait. No 0 comes through.
+fn seconds(words: &ArgMatches<'_>) -> u32 {
+    words.get_one::<u32>("wait").unwrap_or(30).max(1)
+}
