@@ -17,7 +17,7 @@ use Rattle.ws_any_host.specs.CarryingOn.{IsCarriedText, IsCarryOnFault}
 use Rattle.ws_any_host.specs.declared.any_line.AnyLine.{AnyLine}
 use Rattle.ws_any_host.specs.declared.any_line.AnyLine.TheVariants.{Await}
 use Rattle.ws_network.specs.AnySessions.{IsAnyServed, IsTextAndOn, IsFaultThenOrOn, RunsAny}
-use Rattle.ws_network.specs.Times.{ConnectionReads, ConnectionWrites, no_reads, no_writes, timed_reader, timed_writer, tells, begins}
+use Rattle.ws_network.specs.Times.{ConnectionReads, ConnectionWrites, no_reads, no_writes, timed_devices, timed_writer, tells, begins}
 use Rattle.ws_network.proofs.SessionLaws.{new_at}
 use Rattle.ws_live.specs.RunFaults.{told_fault}
 use Rattle.ws_live.specs.declared.fault.ToldFault.{ToldFault}
@@ -59,7 +59,7 @@ module _ {L P : Type 0} (runs : L → P → Result Closing Fault → List ℕ �
 module _ (asked : ServeAsked) (lines : List AnyLine) (all_well : Bool) (text : List ℕ)
     (to : (AttachedParts AnyParts ConnectionReads ConnectionWrites × ℕ) × ℕ) where
   abbrev RanAny : AttachedParts AnyParts ConnectionReads ConnectionWrites → ℕ → Type 0
-  RanAny attached begun = IsTextAndOn (RunsAny timed_writer timed_reader tells begins (λ n. n))
+  RanAny attached begun = IsTextAndOn (RunsAny timed_devices tells begins (λ n. n))
       Await asked.ready ((attached, 0), begun) lines all_well text to
 
   abbrev Told : ConnectionWrites → ConnectionWrites → List ℕ → Type 0

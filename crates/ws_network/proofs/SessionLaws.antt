@@ -64,7 +64,7 @@ module _ {D P U H PlaceV V Q R : Type 0} (rules : Rules P U) (d : DisplayOf D U 
     (operated : OperatedOn D) (words : KeyWords Q) (asked : ConnectAsked) (lines : List (StationLine Q)) (all_well : Bool) (text : List ℕ)
     (to : (AttachedParts (PartsOn D P) ConnectionReads ConnectionWrites × ℕ) × ℕ) where
   abbrev Ran : AttachedParts (PartsOn D P) ConnectionReads ConnectionWrites → ℕ → Type 0
-  Ran attached begun = IsConnectText rules d timed_writer timed_reader tells rests operated words
+  Ran attached begun = IsConnectText rules d timed_devices tells rests operated words
       begins (λ n. n) asked.paint asked.ready ((attached, 0), begun) lines all_well text to
 
   pub connected : (station : PartsOn D P) (source : ConnectionReads) (sink : ConnectionWrites)
@@ -84,7 +84,7 @@ module _ {D P U H PlaceV V Q R : Type 0} (rules : Rules P U) (d : DisplayOf D U 
 module _ (asked : ServeAsked) (lines : List HostLine) (all_well : Bool) (text : List ℕ)
     (to : (AttachedParts HostParts ConnectionReads ConnectionWrites × ℕ) × ℕ) where
   abbrev RanServe : AttachedParts HostParts ConnectionReads ConnectionWrites → ℕ → Type 0
-  RanServe attached begun = IsServeText timed_writer timed_reader tells begins (λ n. n)
+  RanServe attached begun = IsServeText timed_devices tells begins (λ n. n)
       asked.ready ((attached, 0), begun) lines all_well text to
 
   abbrev Told : ConnectionWrites → ConnectionWrites → List ℕ → Type 0

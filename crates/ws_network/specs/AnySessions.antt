@@ -50,7 +50,7 @@ module _ {S K W : Type 0} (devices : Devices S K)
   -- what a line does at a host that takes any record, and a watch
   abbrev pub RunsAny : AnyLine → ((AttachedParts AnyParts S K × ℕ) × W) → Result Closing Fault → List ℕ
       → ((AttachedParts AnyParts S K × ℕ) × W) → Type 0
-  RunsAny = InTime (AnyRuns writes failures reads misses says) any_waits starts begun
+  RunsAny = InTime (AnyRuns devices says) any_waits starts begun
 
 -- a host whose opening went out carried out the lines, and then took what came
 pub record IsAnyServed (asked : ServeAsked) (lines : List AnyLine) (all_well : Bool) (text : List ℕ) : Type 0 where
@@ -59,5 +59,5 @@ pub record IsAnyServed (asked : ServeAsked) (lines : List AnyLine) (all_well : B
   pub sink : ConnectionWrites
   pub told : WentOut timed_writer no_writes sink (plain_spelling raw_rules (Telnet opening ∷ []))
   pub to : (AttachedParts AnyParts ConnectionReads ConnectionWrites × ℕ) × ℕ
-  pub ran : IsTextAndOn (RunsAny timed_writer timed_reader tells begins (λ begun. begun)) Await
+  pub ran : IsTextAndOn (RunsAny timed_devices tells begins (λ begun. begun)) Await
       asked.ready ((at_connection host sink, 0), 0) lines all_well text to

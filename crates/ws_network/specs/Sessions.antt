@@ -54,7 +54,7 @@ module _ {D P U H PlaceV V Q R : Type 0} (rules : Rules P U) (d : DisplayOf D U 
     pub station : PartsOn D P
     pub new : LeadsOn rules d station [] [] (new_side_on d asked.terminal)
     pub to : (AttachedParts (PartsOn D P) ConnectionReads ConnectionWrites × ℕ) × ℕ
-    pub ran : IsConnectText rules d timed_writer timed_reader tells rests operated words
+    pub ran : IsConnectText rules d timed_devices tells rests operated words
         begins (λ begun. begun) asked.paint asked.ready ((at_connection station no_writes, 0), 0) lines all_well text to
 
 -- a host end whose opening went out carried out the lines and answered on
@@ -65,7 +65,7 @@ pub record IsServed (asked : ServeAsked) (lines : List HostLine) (all_well : Boo
   pub told : WentOut timed_writer no_writes sink
       (plain_spelling element_rules (Telnet opening ∷ []))
   pub to : (AttachedParts HostParts ConnectionReads ConnectionWrites × ℕ) × ℕ
-  pub ran : IsServeText timed_writer timed_reader tells begins (λ begun. begun) asked.ready
+  pub ran : IsServeText timed_devices tells begins (λ begun. begun) asked.ready
       ((at_connection host sink, 0), 0) lines all_well text to
 
 module _ {O : Type 0} (printer : Writer O) (old new : O) where

@@ -3,7 +3,7 @@
 use Rattle.std.specs.Prelude.{◌≡◌, ℕ, List, Bool, true, false, Option, None, Some, IfNone}
 use Rattle.std.specs.Option.{is_some}
 use Rattle.std_io.specs.declared.io.kind.ErrorKind.{ErrorKind}
-use Rattle.ws_code.specs.Device.{Reader, Writer}
+use Rattle.ws_code.specs.Device.{Devices, Reader, Writer, on_devices}
 use Rattle.ws_live.specs.declared.watch.WaitSpan.{WaitSpan}
 use Rattle.std_io.specs.declared.io.kind.ErrorKind.TheVariants.{WouldBlock, TimedOut}
 
@@ -36,6 +36,10 @@ timed_reader = record {
 -- a write may take any bytes
 abbrev pub timed_writer : Writer ConnectionWrites
 timed_writer = record { takes = λ from bytes taken to. Unit {0}; failures = λ writes. writes.failures }
+
+-- a connection
+abbrev pub timed_devices : Devices ConnectionReads ConnectionWrites
+timed_devices = on_devices timed_writer timed_reader
 
 -- the errors by which the system says that a call took longer than its time
 abbrev pub is_want_of_time : ErrorKind → Bool

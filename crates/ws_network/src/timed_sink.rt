@@ -90,7 +90,7 @@ impl<'a, C: Clock> TimedSink<'a, C> {
 }
 
 impl<'a, C: Clock> Sink for TimedSink<'a, C> {
-    ghost writer = { timed_writer };
+    ghost writer = { Spec.timed_writer };
 
     fn write(&mut self, bytes: &[u8]) -> Result<usize, DeviceFailed> {
         // What didn't go out of a text comes again.

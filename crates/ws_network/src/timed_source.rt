@@ -145,7 +145,7 @@ impl<'a, C: Clock> TimedSource<'a, C> {
 }
 
 impl<'a, C: Clock> Source for TimedSource<'a, C> {
-    ghost reader = { timed_reader };
+    ghost reader = { Spec.timed_reader };
 
     fn read(&mut self, into: &mut [u8]) -> Result<usize, DeviceFailed> {
         let outcome = self.read_piece(into);
