@@ -21,7 +21,7 @@ use Rattle.ws_any_host.specs.declared.any_line.AnyLine.{AnyLine}
 use Rattle.ws_any_host.specs.declared.any_line.AnyLine.TheVariants.{Await}
 use Rattle.ws_network.specs.LiveFaults.{IsSessionFault}
 use Rattle.ws_network.specs.Sessions.{at_connection}
-use Rattle.ws_network.specs.Times.{ConnectionReads, ConnectionWrites, no_writes, gives, takes, tells, begins}
+use Rattle.ws_network.specs.Times.{ConnectionReads, ConnectionWrites, no_writes, timed_devices, timed_writer, tells, begins}
 use Rattle.ws_live.specs.RunFaults.{told_fault}
 use Rattle.ws_live.specs.declared.fault.ToldFault.{ToldFault}
 use Rattle.ws_live.specs.declared.live_asked.ServeAsked.{ServeAsked}

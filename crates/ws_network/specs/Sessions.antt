@@ -27,7 +27,7 @@ use Rattle.ws_live.specs.Operating.{OperatedOn, operated_profile}
 use Rattle.ws_live.specs.ServeText.{IsServeText}
 use Rattle.ws_live.specs.declared.connect_line.StationLine.{StationLine}
 use Rattle.ws_live.specs.declared.serve_line.HostLine.{HostLine}
-use Rattle.ws_network.specs.Times.{ConnectionReads, ConnectionWrites, no_reads, no_writes, gives, takes, tells, rests, begins}
+use Rattle.ws_network.specs.Times.{ConnectionReads, ConnectionWrites, no_reads, no_writes, timed_devices, timed_writer, tells, rests, begins}
 use Rattle.ws_live.specs.declared.live_asked.ConnectAsked.{ConnectAsked}
 use Rattle.ws_live.specs.declared.live_asked.ServeAsked.{ServeAsked}
 
